@@ -1,0 +1,99 @@
+//! The program `dlmsfw`: its command line, its exit statuses, and the printing of its faults.
+#![tactic(auto)]
+
+ghost use Rattle.std.specs.Prelude.{◌≡◌};
+ghost use Rattle.std.specs.Process.{exit_status};
+ghost use Rattle.clap.specs.Values.{kind_of};
+ghost use Rattle.dlmsfw.specs.Status.{EndsParse, EndsWith};
+
+mod options;
+
+use clap::error::ErrorKind;
+use fw_cli::{Fault, run_answer};
+use std::process::ExitCode;
+use std::rt::Env;
+use std::{env, io};
+
+/// The status of work that is done.
+const GOOD: u8 = 0;
+
+/// The status of a fault.
+const FAULT: u8 = 1;
+
+/// The status of a wrong command line.
+const WRONG_COMMAND_LINE: u8 = 2;
+
+/// What ends the program before its work is done.
+#[derive(Drop)]
+enum Ending {
+    /// A fault of the command.
+    Fault(Fault),
+    /// A wrong command line, or one that asks for help or the version.
+    CommandLine(clap::Error),
+    /// A command line that is no UTF-8 text.
+    NoText,
+}
+
+fn main(rt: HostRuntime) -> ExitCode {
+    match run(&rt) {
+        Ok(()) => ExitCode::from(GOOD),
+        Err(ending) => report(&rt, ending),
+    }
+}
+
+/// Runs the command that the command line asks for.
+fn run<R: AllocGlobal + Env + Input + Print>(rt: &R) -> Result<(), Ending> {
+    let words = words(rt)?;
+    let options = options::parse(rt.alloc(), &words).map_err(Ending::CommandLine)?;
+    run_answer(rt.alloc(), &mut rt.reader(), &mut io::writer(rt), &options).map_err(Ending::Fault)
+}
+
+/// The words of the command line, the first of which is the program's name.
+fn words<R: AllocGlobal + Env>(rt: &R) -> Result<Vec<String>, Ending> {
+    let words = env::args(rt).map_err(|error| match error.kind() {
+        io::ErrorKind::OutOfMemory => Ending::Fault(Fault::OutOfMemory),
+        _ => Ending::NoText,
+    })?;
+    words
+        .collect(rt.alloc())
+        .map_err(|_| Ending::Fault(Fault::OutOfMemory))
+}
+
+/// Prints why the program ends, and gives its status. Where standard error can't be written, the status alone tells.
+fn report(rt: &(impl Print + Eprint), ending: Ending) -> ExitCode
+    ensures { EndsWith ending (exit_status result) }
+{
+    match ending {
+        Ending::Fault(fault) => fail(rt, fault),
+        Ending::CommandLine(error) => report_parse(rt, error),
+        Ending::NoText => {
+            let _ = eprintln!(rt; "error: invalid UTF-8 was detected in one or more arguments");
+            ExitCode::from(WRONG_COMMAND_LINE)
+        }
+    }
+}
+
+/// Prints what the parser of the command line ended with: the help, the version or what is wrong.
+fn report_parse(rt: &(impl Print + Eprint), error: clap::Error) -> ExitCode
+    ensures { EndsParse (kind_of error) (exit_status result) }
+{
+    match error.kind() {
+        ErrorKind::OutOfMemory => fail(rt, Fault::OutOfMemory),
+        ErrorKind::DisplayHelp | ErrorKind::DisplayVersion => match error.print(rt) {
+            Ok(()) => ExitCode::from(GOOD),
+            Err(_) => fail(rt, Fault::Output),
+        },
+        _ => {
+            let _ = error.print(rt);
+            ExitCode::from(WRONG_COMMAND_LINE)
+        }
+    }
+}
+
+/// Prints the fault's name, and gives its status.
+fn fail(rt: &impl Eprint, fault: Fault) -> ExitCode
+    ensures { exit_status result ≡ 1 }
+{
+    let _ = eprintln!(rt; "dlmsfw: {fault}");
+    ExitCode::from(FAULT)
+}

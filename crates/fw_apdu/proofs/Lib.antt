@@ -1,0 +1,5 @@
+pub mod Heads
+pub mod Tails
+pub mod Requests
+pub mod Responses
+pub mod Written

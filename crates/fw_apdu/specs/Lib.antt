@@ -1,0 +1,7 @@
+pub mod Cause
+pub mod Request
+pub mod Response
+pub mod Fault
+pub mod View
+pub mod Reading
+pub mod Laws

@@ -1,0 +1,59 @@
+//! Why bytes are no APDU, or an APDU has no spelling.
+
+ghost use Rattle.std.specs.Prelude.{◌≡◌};
+ghost use Rattle.fw_apdu.specs.declared.error.ApduError.TheVariants.{OutOfMemory};
+ghost use Rattle.fw_apdu.specs.Cause.{fault_from};
+
+use fw_axdr::AxdrError;
+use std::alloc::{AllocError, AllocFailed};
+use thiserror::Error;
+
+/// The refusals of reading and writing. Of the faults of a byte string the leftmost one is given.
+#[derive(Clone, Copy, Debug, PartialEq, Eq, Error)]
+pub enum ApduError {
+    /// A byte is missing.
+    #[error("Truncated")]
+    Truncated,
+    /// The first byte is that of no service that is read here.
+    #[error("UnknownService")]
+    UnknownService,
+    /// The service is not in its normal form, or asks for selective access.
+    #[error("UnsupportedForm")]
+    UnsupportedForm,
+    /// The Data in it is refused, or has no spelling.
+    #[error("{0}")]
+    BadData(AxdrError),
+    /// A byte follows the end.
+    #[error("Trailing")]
+    Trailing,
+    /// Memory was refused.
+    #[error("OutOfMemory")]
+    OutOfMemory,
+}
+
+impl From<AllocError> for ApduError {
+    ghost from_gives = { λ _ e. e ≡ OutOfMemory };
+
+    fn from(_error: AllocError) -> ApduError {
+        ApduError::OutOfMemory
+    }
+}
+
+impl<T: Drop> From<AllocFailed<T>> for ApduError {
+    ghost from_gives = { λ _ e. e ≡ OutOfMemory };
+
+    fn from(_error: AllocFailed<T>) -> ApduError {
+        ApduError::OutOfMemory
+    }
+}
+
+impl From<AxdrError> for ApduError {
+    ghost from_gives = { λ fault e. e ≡ fault_from fault };
+
+    fn from(fault: AxdrError) -> ApduError {
+        match fault {
+            AxdrError::OutOfMemory => ApduError::OutOfMemory,
+            _ => ApduError::BadData(fault),
+        }
+    }
+}

@@ -1,0 +1,14 @@
+//! The services GET, SET and ACTION of COSEM in their normal forms, with logical names (IEC 62056-5-3).
+#![tactic(auto)]
+
+mod error;
+mod fields;
+pub mod laws;
+mod places;
+mod request;
+mod response;
+
+pub use error::ApduError;
+pub use fields::{Invoke, LogicalName};
+pub use request::{Request, read_request, write_request};
+pub use response::{GetDataResult, Response, read_response, write_response};

@@ -1,0 +1,10 @@
+pub mod Tags
+pub mod Lengths
+pub mod Cuts
+pub mod Counts
+pub mod Loop
+pub mod Spellings
+pub mod Again
+pub mod Writes
+pub mod Shorts
+pub mod Faults

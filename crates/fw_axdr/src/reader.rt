@@ -1,0 +1,122 @@
+//! The bytes that are still to be read, and the numbers and lengths at their front.
+
+ghost use Rattle.std.specs.Prelude.{◌≡◌, length, IfOk};
+ghost use Rattle.fw_axdr.specs.Reading.{Gives, length_at, bytes_at, number_at};
+
+use crate::error::AxdrError;
+use std::marker::Model;
+
+/// The bytes that are still to be read.
+#[derive(Drop)]
+pub(crate) struct Reader<'a> {
+    rest: &'a [u8],
+}
+
+impl<'a> Model for Reader<'a> {
+    ghost use Rattle.std.specs.Prelude.{ℕ, List};
+
+    ghost Value = { List ℕ };
+
+    ghost view = { λ r. r.rest.now };
+}
+
+impl<'a> Reader<'a> {
+    pub(crate) fn new(bytes: &'a [u8]) -> Self
+        ensures { result ≡ bytes.now }
+    {
+        Reader { rest: bytes }
+    }
+
+    /// How many bytes are left.
+    pub(crate) fn len(&self) -> usize
+        ensures { result ≡ length self.now }
+    {
+        self.rest.len()
+    }
+
+    #[tactic(auto, unfolding(crate::specs::Reading::number_at))]
+    pub(crate) fn u8(&mut self) -> Result<u8, AxdrError>
+        ensures { Gives (λ n. n) result self.new (number_at 1 self.old) }
+    {
+        let [a, rest @ ..] = self.rest else {
+            return Err(AxdrError::Truncated);
+        };
+        self.rest = rest;
+        Ok(*a)
+    }
+
+    #[tactic(auto, unfolding(crate::specs::Reading::number_at))]
+    pub(crate) fn u16(&mut self) -> Result<u16, AxdrError>
+        ensures { Gives (λ n. n) result self.new (number_at 2 self.old) }
+    {
+        let [a, b, rest @ ..] = self.rest else {
+            return Err(AxdrError::Truncated);
+        };
+        self.rest = rest;
+        Ok(u16::from_be_bytes([*a, *b]))
+    }
+
+    /// A number of three bytes.
+    #[tactic(auto, unfolding(crate::specs::Reading::number_at))]
+    fn u24(&mut self) -> Result<u32, AxdrError>
+        ensures { Gives (λ n. n) result self.new (number_at 3 self.old) }
+    {
+        let [a, b, c, rest @ ..] = self.rest else {
+            return Err(AxdrError::Truncated);
+        };
+        self.rest = rest;
+        Ok(u32::from_be_bytes([0, *a, *b, *c]))
+    }
+
+    #[tactic(auto, unfolding(crate::specs::Reading::number_at))]
+    pub(crate) fn u32(&mut self) -> Result<u32, AxdrError>
+        ensures { Gives (λ n. n) result self.new (number_at 4 self.old) }
+    {
+        let [a, b, c, d, rest @ ..] = self.rest else {
+            return Err(AxdrError::Truncated);
+        };
+        self.rest = rest;
+        Ok(u32::from_be_bytes([*a, *b, *c, *d]))
+    }
+
+    #[tactic(auto, unfolding(crate::specs::Reading::number_at))]
+    pub(crate) fn u64(&mut self) -> Result<u64, AxdrError>
+        ensures { Gives (λ n. n) result self.new (number_at 8 self.old) }
+    {
+        let [a, b, c, d, e, f, g, h, rest @ ..] = self.rest else {
+            return Err(AxdrError::Truncated);
+        };
+        self.rest = rest;
+        Ok(u64::from_be_bytes([*a, *b, *c, *d, *e, *f, *g, *h]))
+    }
+
+    /// So many bytes, where they are: nothing is copied.
+    #[tactic(auto, unfolding(crate::specs::Reading::bytes_at))]
+    pub(crate) fn bytes(&mut self, len: usize) -> Result<&'a [u8], AxdrError>
+        ensures exact { Gives (λ x. x.now) result self.new (bytes_at len self.old) }
+        ensures len { IfOk result (λ x. length x.now ≡ len) }
+    {
+        if self.rest.len() < len {
+            return Err(AxdrError::Truncated);
+        }
+        let (front, rest) = self.rest.split_at(len);
+        self.rest = rest;
+        Ok(front)
+    }
+
+    /// A length: one byte below 80 (hexadecimal), or 81 to 84 and the 1 to 4 bytes that hold it.
+    #[tactic(auto, unfolding(crate::specs::Reading::length_at))]
+    pub(crate) fn length(&mut self) -> Result<usize, AxdrError>
+        ensures { Gives (λ n. n) result self.new (length_at self.old) }
+    {
+        let first = self.u8()?;
+        match first {
+            0..=0x7f => Ok(usize::from(first)),
+            0x81 => Ok(usize::from(self.u8()?)),
+            0x82 => Ok(usize::from(self.u16()?)),
+            0x83 => Ok(self.u24()? as usize),
+            0x84 => Ok(self.u32()? as usize),
+            0x80 | 0x85..=0xff => Err(AxdrError::BadLength),
+        }
+    }
+}

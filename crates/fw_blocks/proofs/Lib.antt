@@ -1,0 +1,4 @@
+pub mod CutLemmas
+pub mod MemberLemmas
+pub mod WindowLemmas
+pub mod Packing

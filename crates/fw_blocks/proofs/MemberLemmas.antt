@@ -1,0 +1,96 @@
+-- Sets of block numbers: the least absent number.
+use Rattle.std.proofs.Common.{◌≡◌, ℕ, zero, suc, ◌+◌, ◌<◌, ◌≤◌, Bool, true, false, List, [], ◌∷◌, length, set, replicate, refl, ap, ◌∙◌, inl, inr, arith}
+use Rattle.std.proofs.lemmas.Bool.{cases_lt}
+use Rattle.fw_blocks.specs.Members.{has, IsComplete, first_missing, IsFirstMissing}
+
+-- a member is below the count
+pub has-below : (members : List Bool) (i : ℕ) → has members i ≡ true → i < length members
+has-below [] i h = cc
+has-below (b ∷ bs) zero h = omega arith
+has-below (b ∷ bs) (suc i) h = omega (arith, has-below bs i h)
+
+pub first_missing-within : (members : List Bool) → first_missing members ≤ length members
+first_missing-within [] = omega arith
+first_missing-within (true ∷ bs) = omega (arith, first_missing-within bs)
+first_missing-within (false ∷ bs) = omega arith
+
+-- all numbers before it are members
+pub first_missing-before : (members : List Bool) (i : ℕ) → i < first_missing members → has members i ≡ true
+first_missing-before [] i h = absurd (omega arith)
+first_missing-before (true ∷ bs) zero h = refl
+first_missing-before (true ∷ bs) (suc i) h = first_missing-before bs i (omega arith)
+first_missing-before (false ∷ bs) i h = absurd (omega arith)
+
+-- it is no member itself
+pub first_missing-absent : (members : List Bool) → has members (first_missing members) ≡ false
+first_missing-absent [] = refl
+first_missing-absent (true ∷ bs) =
+    let next : 1 + first_missing bs ≡ suc (first_missing bs) = omega arith in
+    ap (has (true ∷ bs)) next ∙ first_missing-absent bs
+first_missing-absent (false ∷ bs) = refl
+
+pub is_first_missing : (members : List Bool) → IsFirstMissing members (first_missing members)
+is_first_missing bs = record {
+  within = first_missing-within bs;
+  all_before = first_missing-before bs;
+  absent = λ below. record { below = below; absent = first_missing-absent bs };
+}
+
+pub first_missing-replicate : (n : ℕ) → first_missing (replicate n false) ≡ 0
+first_missing-replicate zero = refl
+first_missing-replicate (suc n) = refl
+
+-- a mark lowers it never
+pub first_missing-set : (members : List Bool) (i : ℕ) → first_missing members ≤ first_missing (set members i true)
+first_missing-set [] i = omega arith
+first_missing-set (true ∷ bs) zero = omega arith
+first_missing-set (false ∷ bs) zero = omega arith
+first_missing-set (true ∷ bs) (suc i) = omega (arith, first_missing-set bs i)
+first_missing-set (false ∷ bs) (suc i) = omega arith
+
+-- past a member it is further on
+pub first_missing-past : (members : List Bool) (i : ℕ) → i ≤ first_missing members → has members i ≡ true → i + 1 ≤ first_missing members
+first_missing-past [] i h member = cc
+first_missing-past (true ∷ bs) zero h member = omega arith
+first_missing-past (false ∷ bs) zero h member = cc
+first_missing-past (true ∷ bs) (suc i) h member = omega (arith, first_missing-past bs i (omega arith) member)
+first_missing-past (false ∷ bs) (suc i) h member = absurd (omega arith)
+
+-- where there is no member, it is there
+pub first_missing-here : (members : List Bool) (i : ℕ) → i ≤ first_missing members → has members i ≡ false → i ≡ first_missing members
+first_missing-here [] i h absent = omega arith
+first_missing-here (true ∷ bs) zero h absent = cc
+first_missing-here (false ∷ bs) zero h absent = refl
+first_missing-here (true ∷ bs) (suc i) h absent = omega (arith, first_missing-here bs i (omega arith) absent)
+first_missing-here (false ∷ bs) (suc i) h absent = absurd (omega arith)
+
+-- no other number is the least absent one
+pub only_first_missing : (members : List Bool) (n : ℕ) → IsFirstMissing members n → n ≡ first_missing members
+only_first_missing bs n f =
+    elim (cases_lt (first_missing bs) n) [
+      | inl early ↦
+          let member = f.all_before (first_missing bs) early in
+          let absent = first_missing-absent bs in
+          cc
+      | inr late ↦ elim (cases_lt n (first_missing bs)) [
+        | inl later ↦
+            let member = first_missing-before bs n later in
+            let within : n < length bs = omega (arith, first_missing-within bs) in
+            let absent = (f.absent within).absent in
+            cc
+        | inr same ↦ omega arith
+      ]
+    ]
+
+pub complete_first_missing : (members : List Bool) → IsComplete members → first_missing members ≡ length members
+complete_first_missing bs all =
+    elim (cases_lt (first_missing bs) (length bs)) [
+      | inl within ↦
+          let member = all (first_missing bs) within in
+          let absent = first_missing-absent bs in
+          cc
+      | inr past ↦ omega (arith, first_missing-within bs)
+    ]
+
+pub first_missing_complete : (members : List Bool) → first_missing members ≡ length members → IsComplete members
+first_missing_complete bs none i below = first_missing-before bs i (omega arith)

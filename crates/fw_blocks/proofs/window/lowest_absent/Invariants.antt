@@ -1,0 +1,5 @@
+use Rattle.fw_blocks.proofs.WindowLemmas.{Found}
+use Rattle.fw_blocks.proofs.window.lowest_absent.Given as goal
+
+abbrev pub invariant-loop-number : goal.invariant-loop-number
+invariant-loop-number l = Found l.set l.width l.number l.numbers l.len

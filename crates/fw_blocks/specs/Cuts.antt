@@ -1,0 +1,40 @@
+-- Public vocabulary: block cuts (IEC 62056-6-2, Image transfer). An image is a byte string, cut into blocks of one size that are
+-- numbered from 0.
+use Rattle.std.specs.Prelude.{ℕ, ◌+◌, ◌*◌, ◌≤◌, List, length, min, slice_range}
+use Rattle.std.specs.Int.{div_ceil}
+
+-- a block size and an image's size, in bytes
+pub record Partition : Type 0 where
+  pub block_size : ℕ
+  pub size : ℕ
+
+-- where block i begins
+abbrev pub block_start : ℕ → ℕ → ℕ
+block_start block_size i = i * block_size
+
+-- where block i of so many bytes ends: where the next one begins, or with the last byte
+abbrev pub block_end : ℕ → ℕ → ℕ → ℕ
+block_end block_size size i = min ((i + 1) * block_size) size
+
+-- block i of a byte string
+abbrev pub cut : ℕ → List ℕ → ℕ → List ℕ
+cut block_size bytes i = slice_range bytes (block_start block_size i) (block_end block_size (length bytes) i)
+
+-- how many blocks of so many bytes have a byte: the size over the block size, rounded up
+abbrev pub block_count : ℕ → ℕ → ℕ
+block_count block_size size = div_ceil size block_size
+
+-- ---- limits (own)
+
+abbrev pub max_block_size : ℕ
+max_block_size = 1024
+
+abbrev pub max_blocks : ℕ
+max_blocks = 4096
+
+-- blocks of 1 to 1,024 bytes, and 1 to 4,096 of them
+pub record IsWithinLimits (block_size size : ℕ) : Type 0 where
+  pub block_begins : 1 ≤ block_size
+  pub block_ends : block_size ≤ max_block_size
+  pub begins : 1 ≤ size
+  pub few : block_count block_size size ≤ max_blocks

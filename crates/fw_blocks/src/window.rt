@@ -1,0 +1,121 @@
+//! Windows: the blocks to be sent next.
+
+ghost use Rattle.std.specs.Prelude.{◌≡◌, ℕ, ◌<◌, ◌≤◌, length, SomeIff, All, Contains};
+ghost use Rattle.std.specs.List.Sorted.{IsStrictlyIncreasing};
+ghost use Rattle.fw_blocks.specs.Members.{IsAbsent, window};
+ghost use Rattle.fw_blocks.specs.Width.{IsWidth, max_width};
+
+use crate::block_set::BlockSet;
+use std::marker::Model;
+
+/// The most numbers that a window has.
+pub const MAX_WIDTH: u8 = 15;
+
+/// The number of array places of a window.
+const PLACES: usize = MAX_WIDTH as usize;
+
+/// How many numbers a window has at most: 1 to 15.
+#[derive(Clone, Copy, Debug, PartialEq, Eq, PartialOrd, Ord)]
+pub struct Width {
+    number: u8,
+}
+
+impl Model for Width {
+    ghost use Rattle.std.specs.Prelude.{ℕ};
+    ghost use Rattle.fw_blocks.specs.Width.{IsWidth};
+
+    ghost Value = { ℕ };
+
+    ghost view = { λ w. w.number };
+
+    ghost invariant = { λ w. IsWidth w.number };
+
+    ghost inverse = { λ n. record { number = n } };
+}
+
+impl Width {
+    /// A width of this number, and `None` for 0 and above 15.
+    pub fn new(number: u8) -> Option<Width>
+        ensures { SomeIff result (IsWidth number) number }
+    {
+        if number == 0 || MAX_WIDTH < number {
+            return None;
+        }
+        Some(Width { number })
+    }
+
+    /// The number: 1 to 15.
+    pub fn number(self) -> u8
+        ensures value { result ≡ self }
+        ensures limits { IsWidth result }
+    {
+        self.number
+    }
+}
+
+/// The numbers of the blocks that are sent next, lowest first. It has room for 15 in itself, and takes
+/// no memory.
+#[derive(Clone, Copy, Debug, PartialEq, Eq)]
+pub struct Window {
+    numbers: [u32; PLACES],
+    len: usize,
+}
+
+// Contracts see the list of the numbers.
+impl Model for Window {
+    ghost use Rattle.std.specs.Prelude.{ℕ, ◌++◌, ◌-◌, List, length, refl, replicate, take};
+    ghost use Rattle.fw_blocks.specs.Kept.{HoldsFew};
+    ghost use Rattle.fw_blocks.specs.Width.{max_width};
+
+    ghost Value = { List ℕ };
+
+    ghost view = { λ w. take w.len w.numbers };
+
+    ghost invariant = { λ w. HoldsFew w.numbers w.len };
+
+    ghost inverse = { λ numbers. record { numbers = numbers ++ replicate (max_width - length numbers) 0; len = length numbers } };
+
+    ghost inverse_ok = { λ w h. rw (h.few, ← h.rest) refl };
+}
+
+impl Window {
+    /// The lowest numbers that are not in the set, ascending, at most as many as the width.
+    pub fn next(set: &BlockSet, width: Width) -> Window
+        ensures value { result ≡ window set.now width }
+        ensures ascending { IsStrictlyIncreasing result }
+        ensures absent { All (IsAbsent set.now) result }
+        ensures few { length result ≤ width }
+
+        // Where an absent number stands outside, the window is full, and all its numbers are below.
+        ensures lowest { (number : ℕ) → IsAbsent set.now number → ¬ Contains result number →
+            (length result ≡ width) × All (λ lower. lower < number) result }
+    {
+        lowest_absent(set, usize::from(width.number()))
+    }
+
+    /// The numbers, ascending.
+    pub fn as_slice(&self) -> &[u32]
+        ensures { result.now ≡ self.now }
+    {
+        &self.numbers[..self.len]
+    }
+}
+
+// The lowest absent numbers, as many as the width, looked for from the first missing one on.
+fn lowest_absent(set: &BlockSet, width: usize) -> Window
+    requires { width ≤ PLACES }
+    ensures { result ≡ window set.now width }
+{
+    let mut numbers = [0; PLACES];
+    let mut len = 0;
+    for number in set.first_missing()..set.count() {
+        if len == width {
+            break;
+        }
+        if !set.has(number) {
+            numbers[len] = number;
+            len += 1;
+        }
+    }
+    Window { numbers, len }
+}

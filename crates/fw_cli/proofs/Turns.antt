@@ -1,0 +1,59 @@
+-- A session as far as it has come, one line after another.
+use Rattle.std.proofs.Common.{◌≡◌, ℕ, ◌+◌, List, [], ◌∷◌, ◌++◌, length, None, Some, refl, sym, ap, subst, ◌∙◌, append_assoc, append-nil, arith, length-append}
+use Rattle.std.specs.Prelude.{IsErr}
+use Rattle.hex.specs.Hex.{decode_of}
+use Rattle.fw_meter.specs.Meter.{Meter}
+use Rattle.fw_cli.specs.Lines.{lines_of}
+use Rattle.fw_cli.specs.Session.{AnswersLine, AnswersLines, Session}
+
+-- The first meter answered some lines of the input by the text and became this meter. The line of this number is the
+-- first of the rest.
+pub record SoFar (first : Meter) (input text : List ℕ) (meter : Meter) (number : ℕ) (rest : List ℕ) : Type 0 where
+  pub answered : List (List ℕ)
+  pub lines : lines_of input ≡ answered ++ lines_of rest
+  pub answers : AnswersLines first answered text meter
+  pub counted : number ≡ length answered + 1
+
+-- one line more is answered
+answers_more : (first meter next : Meter) (answered : List (List ℕ)) (line text told : List ℕ) → AnswersLines first answered text meter → AnswersLine meter line told next
+    → AnswersLines first (answered ++ line ∷ []) (text ++ told) next
+answers_more first meter next [] line text told (none, same) turn =
+    let last : AnswersLine first line told next = subst (λ (m : Meter). AnswersLine m line told next) same turn in
+    (told, [], next, last, (refl, refl), ap (λ (t : List ℕ). t ++ told) none ∙ sym (append-nil told))
+answers_more first meter next (l ∷ answered) line text told (front, back, middle, one, others, whole) turn =
+    (front, back ++ told, middle, one, answers_more middle meter next answered line back told others turn, ap (λ (t : List ℕ). t ++ told) whole ∙ append_assoc front back told)
+
+pub begins : (meter : Meter) (input : List ℕ) → SoFar meter input [] meter 1 input
+begins meter input = record { answered = []; lines = refl; answers = (refl, refl); counted = refl }
+
+pub goes_on : (first meter next : Meter) (input text line told rest after : List ℕ) (number : ℕ) → SoFar first input text meter number rest → lines_of rest ≡ line ∷ lines_of after
+    → AnswersLine meter line told next → SoFar first input (text ++ told) next (number + 1) after
+goes_on first meter next input text line told rest after number so_far cut turn = record {
+  answered = so_far.answered ++ line ∷ [];
+  lines = so_far.lines ∙ ap (λ (ls : List (List ℕ)). so_far.answered ++ ls) cut ∙ sym (append_assoc so_far.answered (line ∷ []) (lines_of after));
+  answers = answers_more first meter next so_far.answered line text told so_far.answers turn;
+  counted = omega (arith, so_far.counted, length-append so_far.answered (line ∷ []));
+}
+
+-- no line is left
+pub ends : (first meter : Meter) (input text rest : List ℕ) (number : ℕ) → SoFar first input text meter number rest → lines_of rest ≡ [] → Session first input text None
+ends first meter input text rest number so_far none = record {
+  answered = so_far.answered;
+  left = [];
+  after = meter;
+  lines = so_far.lines ∙ ap (λ (ls : List (List ℕ)). so_far.answered ++ ls) none;
+  answers = so_far.answers;
+  ends = refl;
+}
+
+-- a bad line is met
+pub stops : (first meter : Meter) (input text line rest after : List ℕ) (number : ℕ) → SoFar first input text meter number rest → lines_of rest ≡ line ∷ lines_of after → IsErr (decode_of line)
+    → Session first input text (Some number)
+stops first meter input text line rest after number so_far cut bad = record {
+  answered = so_far.answered;
+  left = line ∷ lines_of after;
+  after = meter;
+  lines = so_far.lines ∙ ap (λ (ls : List (List ℕ)). so_far.answered ++ ls) cut;
+  answers = so_far.answers;
+  ends = (bad, ap Some so_far.counted);
+}

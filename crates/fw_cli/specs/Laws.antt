@@ -1,0 +1,29 @@
+-- What the laws say.
+use Rattle.std.specs.Prelude.{◌≡◌, ◌≢◌, ℕ, List, [], ◌∷◌, ◌++◌, Option, All}
+use Rattle.fw_meter.specs.Meter.{Meter}
+use Rattle.fw_cli.specs.declared.answer.AnswerOptions.{AnswerOptions}
+use Rattle.fw_cli.specs.Lines.{lines_of}
+use Rattle.fw_cli.specs.Options.{Describes}
+use Rattle.fw_cli.specs.Session.{Session}
+
+-- a line holds no line feed
+abbrev pub IsLine : List ℕ → Type 0
+IsLine line = All (λ byte. byte ≢ 10) line
+
+-- the text of these lines, each with a line feed behind it
+abbrev pub text_of : List (List ℕ) → List ℕ
+text_of [] = []
+text_of (line ∷ lines) = line ++ 10 ∷ text_of lines
+
+-- A text is cut into the lines that it was made of. The last line may lack its line feed, unless it is empty.
+abbrev pub LinesAreCut : Type 0
+LinesAreCut = (lines : List (List ℕ)) → All IsLine lines
+    → (lines_of (text_of lines) ≡ lines)
+    × ((last : List ℕ) → IsLine last → last ≢ [] → lines_of (text_of lines ++ last) ≡ lines ++ last ∷ [])
+
+-- The options and the input determine the text that answers it and the bad line.
+abbrev pub OneAnswer : Type 0
+OneAnswer = (options : AnswerOptions) (meter second : Meter) (input text other : List ℕ) (bad_line another : Option ℕ)
+    → Describes options meter → Session meter input text bad_line
+    → Describes options second → Session second input other another
+    → (text ≡ other) × (bad_line ≡ another)

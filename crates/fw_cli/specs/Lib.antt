@@ -1,0 +1,6 @@
+pub mod Lines
+pub mod Options
+pub mod Session
+pub mod Reading
+pub mod Answering
+pub mod Laws

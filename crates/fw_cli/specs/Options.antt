@@ -1,0 +1,16 @@
+-- The meter that the options of `answer` describe.
+use Rattle.std.specs.Prelude.{◌≡◌, ℕ, List, Ok}
+use Rattle.hex.specs.Hex.{decode_of}
+use Rattle.fw_meter.specs.Meter.{Meter, IsSetup, fresh_meter}
+use Rattle.fw_cli.specs.declared.answer.AnswerOptions.{AnswerOptions}
+
+-- The options describe a meter: it is new, and runs the factory image that the hexadecimal digits spell.
+pub record Describes (options : AnswerOptions) (meter : Meter) : Type 0 where
+  pub factory : List ℕ
+  pub spelled : decode_of options.factory.now ≡ Ok factory
+  pub setup : IsSetup options.block_size options.capacity factory
+  pub fresh : meter ≡ fresh_meter options.block_size options.capacity factory
+
+-- the options describe no meter
+abbrev pub DescribesNone : AnswerOptions → Type 0
+DescribesNone options = (meter : Meter) → ¬ Describes options meter

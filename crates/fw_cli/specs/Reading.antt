@@ -1,0 +1,17 @@
+-- What a command takes from its reader, where the bytes that the reader has left are known: those before and those after.
+use Rattle.std.specs.Prelude.{ℕ, ◌≤◌, ◌*◌, List, length, Option}
+use Rattle.std.specs.Io.KnownBytes.{Consumes, IsAtEnd}
+
+-- the most bytes that a command reads: 64 MiB
+abbrev pub max_input : ℕ
+max_input = 64 * 1024 * 1024
+
+-- The reader gave this input and has nothing left, and the input isn't too long.
+pub record ReadsAll (before after : Option (List ℕ)) (input : List ℕ) : Type 0 where
+  pub given : Consumes before after input
+  pub at_end : IsAtEnd after
+  pub within : length input ≤ max_input
+
+-- The reader gave some bytes, so many that P holds of their number.
+abbrev pub Gives : Option (List ℕ) → Option (List ℕ) → (ℕ → Type 0) → Type 0
+Gives before after P = (bytes : List ℕ) × Consumes before after bytes × P (length bytes)

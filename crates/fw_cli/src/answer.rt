@@ -1,0 +1,183 @@
+//! The command `answer`: a new meter answers datagrams, one a line.
+
+ghost use Rattle.std.specs.Prelude.{◌≡◌, ◌≢◌, ◌<◌, ◌≤◌, ◌⊎◌, ◌++◌, ℕ, List, None, Some, length, IfOk, IfErr, IsErr, IsErrAnd, MatchOption, OnOk};
+ghost use Rattle.std.specs.Io.KnownBytes.{Keeps};
+ghost use Rattle.hex.specs.Hex.{decode_of};
+ghost use Rattle.fw_meter.specs.Handling.{reply_bytes};
+ghost use Rattle.fw_cli.specs.Options.{Describes, DescribesNone};
+ghost use Rattle.fw_cli.specs.Session.{Session, line_for};
+ghost use Rattle.fw_cli.specs.Reading.{Gives, ReadsAll, max_input};
+ghost use Rattle.fw_cli.specs.Answering.{Answers, ComesBeforeOutput, Serves};
+
+use crate::fault::Fault;
+use crate::input::read_input;
+use crate::lines::first_line;
+use fw_meter::{MeterCore, SetupError};
+use hex::FromHexError;
+use std::alloc::{AllocError, Global};
+use std::io::{Read, Write};
+
+/// The options of the command: the limits of the meter, and the image that it runs.
+#[derive(Clone, Copy, Debug)]
+pub struct AnswerOptions<'a> {
+    /// Bytes per block of an image transfer, 1 to 1,024.
+    pub block_size: u64,
+    /// Bytes of the longest image, at most 4,194,304.
+    pub capacity: u64,
+    /// The image that a new meter runs, in hexadecimal: 1 byte to the capacity.
+    pub factory: &'a str,
+}
+
+/// What the meter answers to its input, and the number of the line that ended that, if one did.
+#[derive(Drop)]
+struct Transcript {
+    text: Vec<u8>,
+    bad_line: Option<u64>,
+}
+
+/// A new meter answers each line that the reader has. A line is a datagram of IEC 62056-4-7 in hexadecimal of either
+/// case; an empty line is an empty datagram. For each the writer gets a line: the reply in lower-case hexadecimal, or
+/// `-` where there is none.
+///
+/// All input is read before anything is written, and what is written is flushed, also before a `BadLine`.
+///
+/// # Errors
+///
+/// - `BadSetup`: the options describe no meter. Nothing was read.
+/// - `Input` or `TooMuchInput`, whichever the reading meets first.
+/// - `BadLine`: this line is no hexadecimal, or of an odd number of digits. Those before it were answered.
+/// - `Output`: the writer failed. What it holds then is open.
+/// - `OutOfMemory`: nothing was written.
+pub fn run_answer<R: Read, W: Write>(
+    alloc: Global,
+    reader: &mut R,
+    writer: &mut W,
+    options: &AnswerOptions<'_>,
+) -> Result<(), Fault>
+    // Each line is answered, or those before the bad one.
+    ensures ok { OnOk result (Answers options.now None (R.remaining reader.old) (R.remaining reader.new)
+        (W.contents writer.old) (W.contents writer.new)) }
+    ensures bad_line { (number : ℕ) → result ≡ Err (Fault.BadLine number)
+        → Answers options.now (Some number) (R.remaining reader.old) (R.remaining reader.new)
+        (W.contents writer.old) (W.contents writer.new) }
+
+    // Options that describe no meter are refused before anything is read, and no others are.
+    ensures bad_setup { result ≡ Err Fault.BadSetup → DescribesNone options.now }
+    ensures setup_first { DescribesNone options.now
+        → IsErrAnd result (λ f. (f ≡ Fault.BadSetup) ⊎ (f ≡ Fault.OutOfMemory))
+        × Keeps (R.remaining reader.old) (R.remaining reader.new) }
+
+    // How far the reading was.
+    ensures input { result ≡ Err Fault.Input
+        → Gives (R.remaining reader.old) (R.remaining reader.new) (λ count. count ≤ max_input) }
+    ensures too_much_input { result ≡ Err Fault.TooMuchInput
+        → Gives (R.remaining reader.old) (R.remaining reader.new) (λ count. max_input < count) }
+    ensures output { result ≡ Err Fault.Output
+        → (input : List ℕ) × ReadsAll (R.remaining reader.old) (R.remaining reader.new) input }
+
+    ensures silent { IfErr result (λ f. ComesBeforeOutput f → Keeps (W.contents writer.old) (W.contents writer.new)) }
+{
+    let meter = set_up(alloc, options)?;
+    serve(alloc, meter, reader, writer)
+}
+
+/// The meter that the options describe.
+fn set_up(alloc: Global, options: &AnswerOptions<'_>) -> Result<MeterCore, Fault>
+    ensures ok { IfOk result (λ meter. Describes options.now meter) }
+    ensures bad_setup { result ≡ Err Fault.BadSetup → DescribesNone options.now }
+    ensures only { IfErr result (λ f. (f ≡ Fault.BadSetup) ⊎ (f ≡ Fault.OutOfMemory)) }
+{
+    let factory = bytes_of(alloc, options.factory.as_bytes())?.ok_or(Fault::BadSetup)?;
+    let block_size = u32::try_from(options.block_size).map_err(|_| Fault::BadSetup)?;
+    let capacity = u32::try_from(options.capacity).map_err(|_| Fault::BadSetup)?;
+    match MeterCore::fresh(alloc, block_size, capacity, &factory) {
+        Ok(meter) => Ok(meter),
+        Err(SetupError::BadSetup) => Err(Fault::BadSetup),
+        Err(SetupError::OutOfMemory) => Err(Fault::OutOfMemory),
+    }
+}
+
+/// The meter answers what the reader has.
+fn serve<R: Read, W: Write>(
+    alloc: Global,
+    meter: MeterCore,
+    reader: &mut R,
+    writer: &mut W,
+) -> Result<(), Fault>
+    ensures ok { OnOk result (Serves meter None (R.remaining reader.old) (R.remaining reader.new)
+        (W.contents writer.old) (W.contents writer.new)) }
+    ensures bad_line { (number : ℕ) → result ≡ Err (Fault.BadLine number)
+        → Serves meter (Some number) (R.remaining reader.old) (R.remaining reader.new)
+        (W.contents writer.old) (W.contents writer.new) }
+    ensures not_setup { result ≢ Err Fault.BadSetup }
+    ensures input { result ≡ Err Fault.Input
+        → Gives (R.remaining reader.old) (R.remaining reader.new) (λ count. count ≤ max_input) }
+    ensures too_much_input { result ≡ Err Fault.TooMuchInput
+        → Gives (R.remaining reader.old) (R.remaining reader.new) (λ count. max_input < count) }
+    ensures output { result ≡ Err Fault.Output
+        → (input : List ℕ) × ReadsAll (R.remaining reader.old) (R.remaining reader.new) input }
+    ensures silent { IfErr result (λ f. ComesBeforeOutput f → Keeps (W.contents writer.old) (W.contents writer.new)) }
+{
+    let input = read_input(alloc, reader)?;
+    let transcript = answer_lines(alloc, meter, &input)?;
+    writer
+        .write_all(&transcript.text)
+        .map_err(|_| Fault::Output)?;
+    writer.flush().map_err(|_| Fault::Output)?;
+    match transcript.bad_line {
+        None => Ok(()),
+        Some(number) => Err(Fault::BadLine(number)),
+    }
+}
+
+/// What the meter answers to the lines of the input, up to the first that is no datagram in hexadecimal.
+fn answer_lines(alloc: Global, mut meter: MeterCore, input: &[u8]) -> Result<Transcript, Fault>
+    requires { length input.now ≤ max_input }
+    ensures ok { IfOk result (λ t. Session meter input.now t.text.items t.bad_line) }
+    ensures err { IfErr result (λ f. f ≡ Fault.OutOfMemory) }
+{
+    let mut text = Vec::new(alloc);
+    let mut rest = input;
+    let mut number = 1u64;
+    while let Some((line, after)) = first_line(rest) {
+        let Some(datagram) = bytes_of(alloc, line)? else {
+            return Ok(Transcript {
+                text,
+                bad_line: Some(number),
+            });
+        };
+        let handled = meter.handle(alloc, &datagram)?;
+        append_line(alloc, &mut text, &handled.reply)?;
+        rest = after;
+        number += 1;
+    }
+    Ok(Transcript {
+        text,
+        bad_line: None,
+    })
+}
+
+/// Appends the line that tells a reply.
+fn append_line(alloc: Global, text: &mut Vec<u8>, reply: &Option<Vec<u8>>) -> Result<(), AllocError>
+    ensures { OnOk result (text.new.items ≡ text.old.items ++ line_for (reply_bytes reply.now)) }
+{
+    match reply {
+        None => text.extend_from_slice(b"-\n"),
+        Some(reply) => {
+            let digits = hex::encode(alloc, reply.as_slice())?;
+            text.extend_from_slice(digits.as_bytes())?;
+            text.extend_from_slice(b"\n")
+        }
+    }
+}
+
+/// The bytes that hexadecimal digits spell, if the text is such digits.
+fn bytes_of(alloc: Global, text: &[u8]) -> Result<Option<Vec<u8>>, AllocError>
+    ensures { IfOk result (λ r. MatchOption r (IsErr (decode_of text.now)) (λ bytes. decode_of text.now ≡ Ok bytes.items)) }
+{
+    match hex::decode(alloc, text) {
+        Ok(bytes) => Ok(Some(bytes)),
+        Err(FromHexError::OutOfMemory) => Err(AllocError),
+        Err(_) => Ok(None),
+    }
+}

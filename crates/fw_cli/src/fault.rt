@@ -1,0 +1,54 @@
+//! What ends a command early.
+
+ghost use Rattle.std.specs.Prelude.{◌≡◌};
+ghost use Rattle.fw_cli.specs.declared.fault.Fault.TheVariants.{OutOfMemory};
+
+use std::alloc::{AllocError, AllocFailed};
+use thiserror::Error;
+
+/// Why a command ended early. It prints its name, and of a bad line the number too.
+#[derive(Clone, Copy, Debug, PartialEq, Eq, Error)]
+pub enum Fault {
+    /// The options describe no meter.
+    #[error("BadSetup")]
+    BadSetup,
+    /// The reader failed, or came to no end within 2^32 reads.
+    #[error("Input")]
+    Input,
+    /// The reader had more than 64 MiB.
+    #[error("TooMuchInput")]
+    TooMuchInput,
+    /// The line of this number, counted from 1, is not in the form that the command reads.
+    #[error("BadLine {0}")]
+    BadLine(u64),
+    /// The writer failed.
+    #[error("Output")]
+    Output,
+    /// Memory ran out.
+    #[error("OutOfMemory")]
+    OutOfMemory,
+}
+
+impl From<AllocError> for Fault {
+    ghost from_gives = { λ _ e. e ≡ OutOfMemory };
+
+    fn from(_error: AllocError) -> Fault {
+        Fault::OutOfMemory
+    }
+}
+
+impl<T: Drop> From<AllocFailed<T>> for Fault {
+    ghost from_gives = { λ _ e. e ≡ OutOfMemory };
+
+    fn from(_error: AllocFailed<T>) -> Fault {
+        Fault::OutOfMemory
+    }
+}
+
+impl From<fw_meter::OutOfMemory> for Fault {
+    ghost from_gives = { λ _ e. e ≡ OutOfMemory };
+
+    fn from(_error: fw_meter::OutOfMemory) -> Fault {
+        Fault::OutOfMemory
+    }
+}

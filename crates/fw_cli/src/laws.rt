@@ -1,0 +1,15 @@
+//! Laws of the definitions that the contracts cite. A caller cites a law by calling it: nothing is done.
+
+ghost use Rattle.fw_cli.specs.Laws.{LinesAreCut, OneAnswer};
+
+/// A text is cut into the lines that it was made of, whether or not a line feed ends the last.
+pub fn lines_are_cut()
+    ensures { LinesAreCut }
+{}
+
+/// There is one answer to an input, and one line at which it ends, since a step of a meter has one reply.
+pub fn one_answer()
+    ensures { OneAnswer }
+{
+    fw_meter::laws::one_answer();
+}

@@ -1,0 +1,6 @@
+pub mod Meter
+pub mod Meaning
+pub mod Step
+pub mod Handling
+pub mod View
+pub mod Laws

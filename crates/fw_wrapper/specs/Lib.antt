@@ -1,0 +1,2 @@
+pub mod Wrapper
+pub mod Laws

@@ -1,0 +1,9 @@
+//! The wrapper over UDP (IEC 62056-4-7): a header of eight bytes in front of each APDU.
+#![tactic(auto)]
+
+mod error;
+mod frame;
+pub mod laws;
+
+pub use error::WrapError;
+pub use frame::{Frame, MAX_APDU, join, split};

@@ -1,0 +1,10 @@
+//! Tests of the meter, and of the command that serves it, through their public calls. Expected replies are worked out by
+//! hand from the standards, and SHA-256 values are the published ones.
+#![tactic(auto)]
+
+#[cfg(test)]
+mod answering;
+#[cfg(test)]
+mod handling;
+#[cfg(test)]
+mod setup;
