@@ -7,7 +7,7 @@ use Rattle.fw_meter.specs.Meter.{Meter, fresh_meter}
 use Rattle.fw_cli.specs.declared.answer.AnswerOptions.{AnswerOptions}
 use Rattle.fw_cli.specs.Options.{Describes}
 use Rattle.fw_cli.specs.Session.{AnswersLine, AnswersLines, EndsAt, line_for}
-use Rattle.fw_meter.specs.Laws as meter
+use Rattle.fw_meter.specs.Laws as meter_laws
 use Rattle.fw_cli.specs.Laws.{OneAnswer}
 
 -- the options describe one meter
@@ -29,7 +29,7 @@ answered_is_not_bad old new line told lines left number bad_line turn first ends
     not_both (decode_of line) turn.datagram turn.spelled bad.0
 
 -- a line is answered in one way
-one_turn : meter.OneAnswer → (old new next : Meter) (line other told text : List ℕ) → AnswersLine old line told new → AnswersLine old other text next → line ≡ other
+one_turn : meter_laws.OneAnswer → (old new next : Meter) (line other told text : List ℕ) → AnswersLine old line told new → AnswersLine old other text next → line ≡ other
     → (told ≡ text) × (new ≡ next)
 one_turn determined old new next line other told text a b same =
     let spelled : a.datagram ≡ b.datagram = cc (a.spelled, ap decode_of same, b.spelled) in
@@ -42,7 +42,7 @@ pub record Same (one two left rest : List (List ℕ)) (text other : List ℕ) : 
   pub same_left : left ≡ rest
   pub told : text ≡ other
 
-one_run : meter.OneAnswer → (one two left rest : List (List ℕ)) (old new next : Meter) (text other : List ℕ) (m n : ℕ) (bad_line another : Option ℕ)
+one_run : meter_laws.OneAnswer → (one two left rest : List (List ℕ)) (old new next : Meter) (text other : List ℕ) (m n : ℕ) (bad_line another : Option ℕ)
     → AnswersLines old one text new → AnswersLines old two other next → EndsAt m left bad_line → EndsAt n rest another → one ++ left ≡ two ++ rest → Same one two left rest text other
 one_run determined [] [] left rest old new next text other m n bad_line another a b e f whole = record { answered = refl; same_left = whole; told = a.0 ∙ sym b.0 }
 one_run determined [] (k ∷ two) left rest old new next text other m n bad_line another a (first, back, middle, turn, more, told) e f whole =
@@ -65,7 +65,7 @@ one_end : (number : ℕ) (left : List (List ℕ)) (bad_line another : Option ℕ
 one_end number [] bad_line another a b = a ∙ sym b
 one_end number (line ∷ lines) bad_line another a b = a.1 ∙ sym b.1
 
-pub one_answer : meter.OneAnswer → OneAnswer
+pub one_answer : meter_laws.OneAnswer → OneAnswer
 one_answer determined options meter second input text other bad_line another a s b t =
     let one = one_meter options meter second a b in
     let run = one_run determined s.answered t.answered s.left t.left second s.after t.after text other (length s.answered + 1) (length t.answered + 1) bad_line another

@@ -21,7 +21,7 @@ LinesAreCut = (lines : List (List ℕ)) → All IsLine lines
     → (lines_of (text_of lines) ≡ lines)
     × ((last : List ℕ) → IsLine last → last ≢ [] → lines_of (text_of lines ++ last) ≡ lines ++ last ∷ [])
 
--- The options and the input determine the text that answers it and the bad line.
+-- The options and the input determine the text that answers it, and the bad line.
 abbrev pub OneAnswer : Type 0
 OneAnswer = (options : AnswerOptions) (meter second : Meter) (input text other : List ℕ) (bad_line another : Option ℕ)
     → Describes options meter → Session meter input text bad_line

@@ -7,7 +7,7 @@ pub fn lines_are_cut()
     ensures { LinesAreCut }
 {}
 
-/// There is one answer to an input, and one line at which it ends, since a step of a meter has one reply.
+/// The options and the input determine the text that answers it, and the line that ends it.
 pub fn one_answer()
     ensures { OneAnswer }
 {

@@ -153,6 +153,29 @@ fn a_reader_with_too_many_bytes_is_refused(rt: HostRuntime) {
     assert_eq!(rt; written.len(), 0);
 }
 
+/// Interrupted without end. It counts how often it is asked.
+#[derive(Drop)]
+struct InterruptedReader {
+    reads: u64,
+}
+
+impl Read for InterruptedReader {
+    fn read(&mut self, _buf: &mut [u8]) -> io::Result<usize> {
+        self.reads = self.reads.wrapping_add(1);
+        Err(io::Error::from(ErrorKind::Interrupted))
+    }
+}
+
+#[test]
+fn a_reader_is_asked_so_often_at_most(rt: HostRuntime) {
+    let mut reader = InterruptedReader { reads: 0 };
+    let mut written = Vec::new(rt.alloc());
+    let result = run_answer(rt.alloc(), &mut reader, &mut written, &DEFAULTS);
+    assert_eq!(rt; result, Err(Fault::Input));
+    assert_eq!(rt; reader.reads, 4_294_967_296);
+    assert_eq!(rt; written.len(), 0);
+}
+
 /// Takes so many bytes, and then fails.
 #[derive(Drop)]
 struct FullWriter {
