@@ -96,6 +96,15 @@ IfFault UnsupportedForm P = P
 IfFault (BadData fault) P = P
 IfFault Trailing P = P
 
+-- P, where the error is want of memory
+abbrev pub IfMemory : ApduError → Type 0 → Type 0
+IfMemory OutOfMemory P = P
+IfMemory Truncated P = Unit {0}
+IfMemory UnknownService P = Unit {0}
+IfMemory UnsupportedForm P = Unit {0}
+IfMemory (BadData fault) P = Unit {0}
+IfMemory Trailing P = Unit {0}
+
 -- what has this unwritable part is refused for it
 abbrev pub IsBadData : Option AxdrError → ApduError → Type 0
 IsBadData None e = ⊥

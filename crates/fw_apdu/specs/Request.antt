@@ -1,6 +1,6 @@
 -- What a client asks of a server, and the byte strings that spell it (IEC 62056-5-3, the normal forms of GET, SET and
 -- ACTION with logical names). "Own" marks a rule of this profile.
-use Rattle.std.specs.Prelude.{◌≡◌, ◌≢◌, ℕ, ℤ, Bool, ◌==◌, ◌/◌, ◌%◌, ◌<◌, ◌^◌, List, [], ◌∷◌, ◌++◌, length, Option, Some, None, FitsSigned}
+use Rattle.std.specs.Prelude.{◌≡◌, ◌≢◌, ◌⊎◌, ℕ, ℤ, Bool, ◌==◌, ◌/◌, ◌%◌, ◌<◌, ◌^◌, List, [], ◌∷◌, ◌++◌, length, Option, Some, None, FitsSigned}
 use Rattle.std.specs.Int.{w8, w16, to_be_bytes, cast_unsigned}
 use Rattle.fw_axdr.specs.Value.{Value}
 use Rattle.fw_axdr.specs.Spelling.{IsData, max_depth, short}
@@ -61,6 +61,11 @@ unwritable_request (get_request d) = None
 unwritable_request (set_request d v) = unwritable v max_depth
 unwritable_request (action_request d None) = None
 unwritable_request (action_request d (Some v)) = unwritable v max_depth
+
+-- by its first byte the request may hold a Data: it is a SET or an ACTION
+abbrev pub MayHoldData : List ℕ → Type 0
+MayHoldData [] = ⊥
+MayHoldData (b ∷ s) = (b ≡ 0xc1) ⊎ (b ≡ 0xc3)
 
 -- the byte string spells no request
 abbrev pub NoRequest : List ℕ → Type 0

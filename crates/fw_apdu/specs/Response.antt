@@ -1,6 +1,6 @@
 -- What a server answers, and the byte strings that spell it (IEC 62056-5-3, the normal forms of GET, SET and ACTION).
 -- A response repeats the invoke byte of its request (own).
-use Rattle.std.specs.Prelude.{◌≡◌, ◌≢◌, ℕ, List, [], ◌∷◌, Option, Some, None}
+use Rattle.std.specs.Prelude.{◌≡◌, ◌≢◌, ◌⊎◌, ℕ, List, [], ◌∷◌, Option, Some, None}
 use Rattle.fw_axdr.specs.Value.{Value}
 use Rattle.fw_axdr.specs.Spelling.{IsData, max_depth, short}
 use Rattle.fw_axdr.specs.Fault.{unwritable}
@@ -29,6 +29,11 @@ SpellsResponse s invoke (set_response c) = s ≡ 0xc5 ∷ 0x01 ∷ invoke ∷ c 
 SpellsResponse s invoke (action_response c None) = s ≡ 0xc7 ∷ 0x01 ∷ invoke ∷ c ∷ 0x00 ∷ []
 SpellsResponse s invoke (action_response c (Some r)) =
     (present : ℕ) × (body : List ℕ) × (s ≡ 0xc7 ∷ 0x01 ∷ invoke ∷ c ∷ present ∷ body) × (present ≢ 0) × SpellsResult body r
+
+-- by its first byte the response may hold a Data: it answers a GET or an ACTION
+abbrev pub MayReturnData : List ℕ → Type 0
+MayReturnData [] = ⊥
+MayReturnData (b ∷ s) = (b ≡ 0xc4) ⊎ (b ≡ 0xc7)
 
 -- the byte string spells no response
 abbrev pub NoResponse : List ℕ → Type 0

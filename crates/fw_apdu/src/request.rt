@@ -5,8 +5,8 @@ ghost use Rattle.std.specs.Option.{option_map};
 ghost use Rattle.fw_axdr.specs.Spelling.{IsData, max_depth, short};
 ghost use Rattle.fw_axdr.specs.Fault.{unwritable};
 ghost use Rattle.fw_axdr.specs.View.{value_of};
-ghost use Rattle.fw_apdu.specs.Request.{IsDescriptor, SpellsRequest, NoRequest, request_descriptor, head_bytes, request_bytes, unwritable_request};
-ghost use Rattle.fw_apdu.specs.Fault.{RequestFails, GetFails, SetFails, ActionFails, ParameterFails, IfFault, IsBadData};
+ghost use Rattle.fw_apdu.specs.Request.{IsDescriptor, SpellsRequest, NoRequest, MayHoldData, request_descriptor, head_bytes, request_bytes, unwritable_request};
+ghost use Rattle.fw_apdu.specs.Fault.{RequestFails, GetFails, SetFails, ActionFails, ParameterFails, IfFault, IfMemory, IsBadData};
 ghost use Rattle.fw_apdu.specs.View.{request_content, request_invoke};
 ghost use Rattle.fw_apdu.specs.Reading.{descriptor_of, HeadRead, HeadStops, SelectionStops, IsParameter};
 
@@ -132,12 +132,14 @@ const PRESENT: u8 = 0x01;
 /// # Errors
 ///
 /// The leftmost fault of the bytes: `Truncated`, `UnknownService`, `UnsupportedForm`, `BadData` or `Trailing`. Otherwise
-/// `OutOfMemory` alone.
+/// `OutOfMemory` alone, and only in a SET or an ACTION.
 pub fn read_request(alloc: Global, apdu: &[u8]) -> Result<Request, ApduError>
     ensures found { IfOk result (λ r. SpellsRequest apdu.now (request_invoke r) (request_content r)) }
     // A fault is the leftmost one, and comes only where the bytes spell no request.
     ensures none { IfErr result (λ e. IfFault e (NoRequest apdu.now)) }
     ensures fault { IfErr result (λ e. IfFault e (RequestFails apdu.now e)) }
+    // A GET is read without memory.
+    ensures memory { IfErr result (λ e. IfMemory e (MayHoldData apdu.now)) }
 {
     laws::one_request_fault();
     request_at(alloc, apdu)
@@ -147,6 +149,7 @@ pub fn read_request(alloc: Global, apdu: &[u8]) -> Result<Request, ApduError>
 fn request_at(alloc: Global, bytes: &[u8]) -> Result<Request, ApduError>
     ensures found { IfOk result (λ r. SpellsRequest bytes.now (request_invoke r) (request_content r)) }
     ensures fault { IfErr result (λ e. IfFault e (RequestFails bytes.now e)) }
+    ensures memory { IfErr result (λ e. IfMemory e (MayHoldData bytes.now)) }
 {
     let [service, rest @ ..] = bytes else {
         return Err(ApduError::Truncated);

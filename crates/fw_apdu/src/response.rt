@@ -2,8 +2,8 @@
 
 ghost use Rattle.std.specs.Prelude.{◌≡◌, ◌∷◌, ◌++◌, IfOk, IfErr, OnOk};
 ghost use Rattle.std.specs.Option.{option_map};
-ghost use Rattle.fw_apdu.specs.Response.{SpellsResult, NoResponse, SpellsResponse, response_bytes, result_bytes, unwritable_response, unwritable_result};
-ghost use Rattle.fw_apdu.specs.Fault.{ResponseFails, GetAnswerFails, SetAnswerFails, ActionAnswerFails, ReturnedFails, ResultFails, IfFault, IsBadData};
+ghost use Rattle.fw_apdu.specs.Response.{SpellsResult, NoResponse, SpellsResponse, MayReturnData, response_bytes, result_bytes, unwritable_response, unwritable_result};
+ghost use Rattle.fw_apdu.specs.Fault.{ResponseFails, GetAnswerFails, SetAnswerFails, ActionAnswerFails, ReturnedFails, ResultFails, IfFault, IfMemory, IsBadData};
 ghost use Rattle.fw_apdu.specs.Reading.{AnswerRead, AnswerStops, CodeStops, IsReturned};
 ghost use Rattle.fw_apdu.specs.View.{response_content, response_invoke, result_of};
 
@@ -63,12 +63,14 @@ const PRESENT: u8 = 0x01;
 /// # Errors
 ///
 /// The leftmost fault of the bytes: `Truncated`, `UnknownService`, `UnsupportedForm`, `BadData` or `Trailing`. Otherwise
-/// `OutOfMemory` alone.
+/// `OutOfMemory` alone, and only in the answer to a GET or an ACTION.
 pub fn read_response(alloc: Global, apdu: &[u8]) -> Result<Response, ApduError>
     ensures found { IfOk result (λ r. SpellsResponse apdu.now (response_invoke r) (response_content r)) }
     // A fault is the leftmost one, and comes only where the bytes spell no response.
     ensures none { IfErr result (λ e. IfFault e (NoResponse apdu.now)) }
     ensures fault { IfErr result (λ e. IfFault e (ResponseFails apdu.now e)) }
+    // The answer to a SET is read without memory.
+    ensures memory { IfErr result (λ e. IfMemory e (MayReturnData apdu.now)) }
 {
     laws::one_response_fault();
     response_at(alloc, apdu)
@@ -78,6 +80,7 @@ pub fn read_response(alloc: Global, apdu: &[u8]) -> Result<Response, ApduError>
 fn response_at(alloc: Global, bytes: &[u8]) -> Result<Response, ApduError>
     ensures found { IfOk result (λ r. SpellsResponse bytes.now (response_invoke r) (response_content r)) }
     ensures fault { IfErr result (λ e. IfFault e (ResponseFails bytes.now e)) }
+    ensures memory { IfErr result (λ e. IfMemory e (MayReturnData bytes.now)) }
 {
     let [service, rest @ ..] = bytes else {
         return Err(ApduError::Truncated);

@@ -1,4 +1,5 @@
 pub mod CutLemmas
 pub mod MemberLemmas
+pub mod WindowSearch
 pub mod WindowLemmas
 pub mod Packing

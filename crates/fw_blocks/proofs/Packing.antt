@@ -114,4 +114,5 @@ packed_into-more zero bs = refl
 packed_into-more (suc n) bs =
     let next : 8 + 8 * n ≡ 8 * suc n = omega arith in
     let behind : drop (8 * n) (drop 8 bs) ≡ drop (8 * suc n) bs = drop-drop (8 * n) 8 bs ∙ ap (λ (k : ℕ). drop k bs) next in
-    ap (λ (rest : List ℕ). byte_of bs ∷ rest) (packed_into-more n (drop 8 bs) ∙ ap (λ (at : List Bool). packed_into n (drop 8 bs) ++ byte_of at ∷ []) behind)
+    ap (λ (rest : List ℕ). byte_of bs ∷ rest)
+    (packed_into-more n (drop 8 bs) ∙ ap (λ (at : List Bool). packed_into n (drop 8 bs) ++ byte_of at ∷ []) behind)

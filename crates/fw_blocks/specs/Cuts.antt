@@ -20,7 +20,8 @@ block_end block_size size i = min ((i + 1) * block_size) size
 abbrev pub cut : ℕ → List ℕ → ℕ → List ℕ
 cut block_size bytes i = slice_range bytes (block_start block_size i) (block_end block_size (length bytes) i)
 
--- how many blocks of so many bytes have a byte: the size over the block size, rounded up
+-- how many blocks of so many bytes have a byte: the size over the block size, rounded up. That the cuts below it are those that
+-- are not empty is the law `NonemptyBelowCount`.
 abbrev pub block_count : ℕ → ℕ → ℕ
 block_count block_size size = div_ceil size block_size
 

@@ -1,25 +1,43 @@
 -- Public vocabulary: the laws of block cuts and of sets of block numbers. They speak of definitions alone, and of byte strings and
 -- sets of any size.
-use Rattle.std.specs.Prelude.{◌≡◌, ◌≢◌, ◌↔◌, ℕ, ◌+◌, ◌-◌, ◌<◌, ◌≤◌, Bool, List, [], length, take, drop}
+use Rattle.std.specs.Prelude.{◌≡◌, ◌≢◌, ◌↔◌, ℕ, ◌+◌, ◌-◌, ◌<◌, ◌≤◌, Bool, List, [], ◌++◌, length, take, drop, slice_range}
 use Rattle.std.specs.List.{flat_map, range_with_len}
 use Rattle.fw_blocks.specs.Cuts.{block_start, block_end, cut, block_count}
 use Rattle.fw_blocks.specs.Members.{IsComplete, IsFirstMissing, first_missing}
 
 -- a cut is not empty exactly where its number is below the count
 abbrev pub NonemptyBelowCount : Type 0
-NonemptyBelowCount = (block_size i : ℕ) (bytes : List ℕ) → 1 ≤ block_size → (cut block_size bytes i ≢ []) ↔ (i < block_count block_size (length bytes))
+NonemptyBelowCount = (block_size i : ℕ) (bytes : List ℕ) → 1 ≤ block_size
+    → (cut block_size bytes i ≢ []) ↔ (i < block_count block_size (length bytes))
+
+-- that is where its block begins within the bytes
+abbrev pub BeginsWithin : Type 0
+BeginsWithin = (block_size i size : ℕ) → 1 ≤ block_size → (i < block_count block_size size) ↔ (block_start block_size i < size)
 
 -- the cuts below the count, joined in order, are the byte string
 abbrev pub CutsJoin : Type 0
-CutsJoin = (block_size : ℕ) (bytes : List ℕ) → 1 ≤ block_size → flat_map (cut block_size bytes) (range_with_len 0 (block_count block_size (length bytes))) ≡ bytes
+CutsJoin = (block_size : ℕ) (bytes : List ℕ) → 1 ≤ block_size
+    → flat_map (cut block_size bytes) (range_with_len 0 (block_count block_size (length bytes))) ≡ bytes
+
+-- the bytes in front of a block, and then the block, are the bytes in front of the next one
+abbrev pub NextJoins : Type 0
+NextJoins = (block_size i : ℕ) (bytes : List ℕ)
+    → take (block_start block_size i) bytes ++ cut block_size bytes i ≡ take (block_start block_size (i + 1)) bytes
 
 -- each block but the last has exactly the block size
 abbrev pub WholeButTheLast : Type 0
-WholeButTheLast = (block_size i : ℕ) (bytes : List ℕ) → i + 1 < block_count block_size (length bytes) → length (cut block_size bytes i) ≡ block_size
+WholeButTheLast = (block_size i : ℕ) (bytes : List ℕ) → i + 1 < block_count block_size (length bytes)
+    → length (cut block_size bytes i) ≡ block_size
 
 -- a block has as many bytes as lie between its ends
 abbrev pub CutSize : Type 0
-CutSize = (block_size i : ℕ) (bytes : List ℕ) → length (cut block_size bytes i) ≡ block_end block_size (length bytes) i - block_start block_size i
+CutSize = (block_size i : ℕ) (bytes : List ℕ)
+    → length (cut block_size bytes i) ≡ block_end block_size (length bytes) i - block_start block_size i
+
+-- a block of the front of a longer byte string, such as a slot of a store, lies between the same ends in that one
+abbrev pub CutOfFront : Type 0
+CutOfFront = (block_size i size : ℕ) (bytes : List ℕ) → size ≤ length bytes
+    → cut block_size (take size bytes) i ≡ slice_range bytes (block_start block_size i) (block_end block_size size i)
 
 -- where two byte strings are the same before block i of the one and behind it, every other block is the same
 abbrev pub OtherBlocksStay : Type 0

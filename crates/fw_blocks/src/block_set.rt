@@ -1,6 +1,6 @@
 //! Sets of block numbers.
 
-ghost use Rattle.std.specs.Prelude.{◌≡◌, ◌<◌, ◌≤◌, ◌^◌, ◌+◌, Bool, true, false, length, replicate, slice_set, slice_index_or, IfOk, SomeIff, if◌then◌else◌, drop};
+ghost use Rattle.std.specs.Prelude.{◌≡◌, ◌<◌, ◌≤◌, ◌^◌, true, false, length, replicate, slice_set, slice_index_or, IfOk, SomeIff, if◌then◌else◌};
 ghost use Rattle.fw_axdr.specs.Bits.{packed, byte_of};
 ghost use Rattle.fw_blocks.specs.Members.{has, first_missing, IsFirstMissing};
 
@@ -76,8 +76,9 @@ impl BlockSet {
         self.first
     }
 
-    /// The set as a bit-string: bit i tells whether number i is in it, and there are as many bits as
-    /// blocks. Its one error is want of memory.
+    /// The set as a bit-string, as a meter shows it (IEC 62056-6-2, image_transferred_blocks_status): bit
+    /// i tells whether number i is in it, and there are as many bits as blocks. Its one error is want of
+    /// memory.
     pub fn to_bits(&self, alloc: Global) -> Result<Bits, AllocError>
         ensures { IfOk result (λ bits. bits ≡ self.now) }
     {
@@ -106,7 +107,7 @@ fn has_bit(members: &[bool], number: u32) -> bool
     members.get(number as usize) == Some(&true)
 }
 
-// The least number that is not a member, or the count, from a number on that isn't above it.
+// The least number that is not a member, or the count, looked for from a number on that isn't above it.
 fn first_missing_from(members: &[bool], from: u32) -> u32
     requires small { length members.now < 2 ^ 32 }
     requires before { from ≤ first_missing members.now }
@@ -146,20 +147,24 @@ fn packed_bytes(alloc: Global, bits: &[bool]) -> Result<Vec<u8>, AllocError>
 fn first_byte(bits: &[bool]) -> u8
     ensures { result ≡ byte_of bits.now }
 {
-    worth(bits, 0, 128)
-        + worth(bits, 1, 64)
-        + worth(bits, 2, 32)
-        + worth(bits, 3, 16)
-        + worth(bits, 4, 8)
-        + worth(bits, 5, 4)
-        + worth(bits, 6, 2)
-        + worth(bits, 7, 1)
+    worth_of(bits, 0, 128)
+        + worth_of(bits, 1, 64)
+        + worth_of(bits, 2, 32)
+        + worth_of(bits, 3, 16)
+        + worth_of(bits, 4, 8)
+        + worth_of(bits, 5, 4)
+        + worth_of(bits, 6, 2)
+        + worth_of(bits, 7, 1)
 }
 
-// What a bit adds to its byte.
-fn worth(bits: &[bool], i: usize, worth: u8) -> u8
-    ensures value { result ≡ (if slice_index_or bits.now i false then worth else 0) }
+// What the bit at an index adds to its byte: so much if it is there and set.
+fn worth_of(bits: &[bool], index: usize, worth: u8) -> u8
+    ensures value { result ≡ (if slice_index_or bits.now index false then worth else 0) }
     ensures most { result ≤ worth }
 {
-    if bits.get(i) == Some(&true) { worth } else { 0 }
+    if bits.get(index) == Some(&true) {
+        worth
+    } else {
+        0
+    }
 }

@@ -1,15 +1,25 @@
 //! Laws of block cuts and of sets of block numbers, over the definitions alone.
 
-ghost use Rattle.fw_blocks.specs.Laws.{NonemptyBelowCount, CutsJoin, WholeButTheLast, CutSize, OtherBlocksStay, OneFirstMissing, CompleteWithoutMissing};
+ghost use Rattle.fw_blocks.specs.Laws.{NonemptyBelowCount, BeginsWithin, CutsJoin, NextJoins, WholeButTheLast, CutSize, CutOfFront, OtherBlocksStay, OneFirstMissing, CompleteWithoutMissing};
 
 /// A cut has a byte exactly where its number is below the count.
 pub fn nonempty_below_count()
     ensures { NonemptyBelowCount }
 {}
 
+/// A block begins within the image exactly where its number is below the count.
+pub fn begins_within()
+    ensures { BeginsWithin }
+{}
+
 /// The cuts below the count, joined in order, are the byte string.
 pub fn cuts_join()
     ensures { CutsJoin }
+{}
+
+/// The bytes in front of a block, and then the block, are the bytes in front of the next one.
+pub fn next_joins()
+    ensures { NextJoins }
 {}
 
 /// Each block but the last has exactly the block size.
@@ -20,6 +30,11 @@ pub fn whole_but_the_last()
 /// A block has as many bytes as lie between its ends.
 pub fn cut_size()
     ensures { CutSize }
+{}
+
+/// A block of the front of a longer byte string lies there between the same ends.
+pub fn cut_of_front()
+    ensures { CutOfFront }
 {}
 
 /// Where a byte string is written within one block alone, every other block stays as it was.

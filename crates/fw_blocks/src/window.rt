@@ -11,7 +11,7 @@ use std::marker::Model;
 /// The most numbers that a window has.
 pub const MAX_WIDTH: u8 = 15;
 
-/// The number of array places of a window.
+/// The places in the array of a window.
 const PLACES: usize = MAX_WIDTH as usize;
 
 /// How many numbers a window has at most: 1 to 15.
@@ -93,9 +93,10 @@ impl Window {
         lowest_absent(set, usize::from(width.number()))
     }
 
-    /// The numbers, ascending.
+    /// The numbers, ascending: 15 at most.
     pub fn as_slice(&self) -> &[u32]
-        ensures { result.now ≡ self.now }
+        ensures value { result.now ≡ self.now }
+        ensures few { length result.now ≤ max_width }
     {
         &self.numbers[..self.len]
     }

@@ -16,6 +16,10 @@ pub record Brings (datagram : List ℕ) (source invoke : ℕ) (content : Request
   pub wraps : Wraps datagram source 1 apdu
   pub spells : SpellsRequest apdu invoke content
 
+-- a datagram carries an APDU to that wPort, whatever it spells
+abbrev pub IsForMeter : List ℕ → Type 0
+IsForMeter datagram = (source : ℕ) × (apdu : List ℕ) × Wraps datagram source 1 apdu
+
 abbrev pub BringsNothing : List ℕ → Type 0
 BringsNothing datagram = (source invoke : ℕ) (content : RequestContent) → Brings datagram source invoke content → ⊥
 

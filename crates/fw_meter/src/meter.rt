@@ -3,7 +3,7 @@
 ghost use Rattle.std.specs.Prelude.{◌≡◌, None, IfOk, OnOk, OnErr, IsErrOf};
 ghost use Rattle.fw_meter.specs.Meter.{IsSetup, fresh_meter};
 ghost use Rattle.fw_meter.specs.Step.{MeterStep};
-ghost use Rattle.fw_meter.specs.Handling.{Handles, reply_bytes};
+ghost use Rattle.fw_meter.specs.Handling.{Handles, IsForMeter, reply_bytes};
 ghost use Rattle.fw_meter.specs.View.{planned_meaning, outcome_of, IsServed};
 
 use crate::error::{OutOfMemory, SetupError};
@@ -64,6 +64,7 @@ impl MeterCore {
         ensures fresh { IfOk result (λ meter. meter ≡ fresh_meter block_size capacity factory.now) }
         ensures setup { OnOk result (IsSetup block_size capacity factory.now) }
         ensures bad_setup { IsErrOf result SetupError.BadSetup → ¬ IsSetup block_size capacity factory.now }
+        ensures memory { IsErrOf result SetupError.OutOfMemory → IsSetup block_size capacity factory.now }
     {
         let blocks_fit = (1..=MAX_BLOCK_SIZE).contains(&block_size);
         let room_fits = (1..=MAX_CAPACITY).contains(&capacity);
@@ -84,12 +85,14 @@ impl MeterCore {
     ///
     /// # Errors
     ///
-    /// `OutOfMemory`, and the meter is as before.
+    /// `OutOfMemory`, for a datagram that carries an APDU to wPort 1 alone, and the meter is as before.
     pub fn handle(&mut self, alloc: Global, datagram: &[u8]) -> Result<Handled, OutOfMemory>
         ensures step { IfOk result (λ h. Handles self.old datagram.now (reply_bytes h.reply) self.new) }
         // No request switches to another image yet.
         ensures activated { IfOk result (λ h. h.activated ≡ None) }
         ensures err { OnErr result (self.new ≡ self.old) }
+        // Any other datagram is dropped without memory.
+        ensures memory { OnErr result (IsForMeter datagram.now) }
     {
         match hear(alloc, datagram)? {
             None => Ok(Handled {

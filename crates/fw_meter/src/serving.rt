@@ -1,8 +1,8 @@
 //! From a datagram to the request in it, and from an outcome to the datagram that replies.
 
-ghost use Rattle.std.specs.Prelude.{◌≡◌, IfOk};
+ghost use Rattle.std.specs.Prelude.{◌≡◌, IfOk, OnErr};
 ghost use Rattle.fw_apdu.specs.View.{request_content, request_invoke};
-ghost use Rattle.fw_meter.specs.Handling.{reply_to, reply_bytes};
+ghost use Rattle.fw_meter.specs.Handling.{IsForMeter, reply_to, reply_bytes};
 ghost use Rattle.fw_meter.specs.View.{IsHeard, outcome_of};
 
 use crate::error::OutOfMemory;
@@ -23,7 +23,8 @@ pub(crate) struct Heard {
 
 /// The request that a datagram brings, if it carries one to the meter's wPort.
 pub(crate) fn hear(alloc: Global, datagram: &[u8]) -> Result<Option<Heard>, OutOfMemory>
-    ensures { IfOk result (λ heard. IsHeard datagram.now heard) }
+    ensures heard { IfOk result (λ heard. IsHeard datagram.now heard) }
+    ensures memory { OnErr result (IsForMeter datagram.now) }
 {
     let Ok(frame) = split(datagram) else {
         return Ok(None);

@@ -5,5 +5,8 @@ use Rattle.fw_blocks.proofs.block_set.packed_bytes.Goals as goal
 
 pub loop-i-preserved : goal.loop-i-preserved
 loop-i-preserved c =
-    let next : c.loop-i.i + 1 ≡ suc c.loop-i.i = omega arith in
-    rw (next, packed_into-more c.loop-i.i c.args.bits.now, c.in_ok-push.ensures.items, c.loop-i.invariant, c.first_byte.ensures, take_rest c.args.bits.now (8 * c.loop-i.i)) refl
+    let i = c.loop-i.i in
+    let bits = c.args.bits.now in
+    let next : i + 1 ≡ suc i = omega arith in
+    rw (next, packed_into-more i bits, c.in_ok-push.ensures.items, c.loop-i.invariant)
+    (rw (c.first_byte.ensures, take_rest bits (8 * i)) refl)

@@ -1,4 +1,4 @@
-use Rattle.fw_blocks.proofs.WindowLemmas.{Found}
+use Rattle.fw_blocks.proofs.WindowSearch.{Found}
 use Rattle.fw_blocks.proofs.window.lowest_absent.Given as goal
 
 abbrev pub invariant-loop-number : goal.invariant-loop-number

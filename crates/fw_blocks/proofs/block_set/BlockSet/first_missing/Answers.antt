@@ -4,4 +4,6 @@ use Rattle.fw_blocks.proofs.MemberLemmas.{is_first_missing}
 use Rattle.fw_blocks.proofs.block_set.BlockSet.first_missing.Goals as goal
 
 pub returns-clause-least : goal.returns-clause-least
-returns-clause-least c = subst (IsFirstMissing c.args.self.now) (sym c.self.invariant.least) (rw (← c.self.view_is) (is_first_missing c.self.inside.members.items))
+returns-clause-least c =
+    subst (IsFirstMissing c.args.self.now) (sym c.self.invariant.least)
+    (rw (← c.self.view_is) (is_first_missing c.self.inside.members.items))

@@ -4,7 +4,11 @@ use Rattle.fw_blocks.proofs.Packing.{packed_bits, length-packed_into}
 use Rattle.fw_blocks.proofs.block_set.BlockSet.to_bits.Goals as goal
 
 pub from_vec-requires : goal.from_vec-requires
-from_vec-requires c = rw c.in_ok-packed_bytes.ensures (length-packed_into (bytes_for (length c.as_slice-members.result.now)) c.as_slice-members.result.now)
+from_vec-requires c =
+    let members = c.as_slice-members.result.now in
+    rw c.in_ok-packed_bytes.ensures (length-packed_into (bytes_for (length members)) members)
 
 pub returns : goal.returns
-returns c = rw (c.from_vec.ensures, c.in_ok-packed_bytes.ensures, packed_bits c.as_slice-members.result.now, c.as_slice-members.ensures.value, c.self.view_is) refl
+returns c =
+    let members = c.as_slice-members.result.now in
+    rw (c.from_vec.ensures, c.in_ok-packed_bytes.ensures, packed_bits members, c.as_slice-members.ensures.value, c.self.view_is) refl
