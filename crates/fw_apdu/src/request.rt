@@ -68,6 +68,17 @@ impl Request {
         }
     }
 
+    /// The logical name of the object that is addressed.
+    pub fn instance(&self) -> LogicalName
+        ensures { result.0 ≡ (request_descriptor (request_content self.now)).instance }
+    {
+        match self {
+            Request::Get { instance, .. }
+            | Request::Set { instance, .. }
+            | Request::Action { instance, .. } => *instance,
+        }
+    }
+
     /// The number of the attribute or the method that is addressed.
     fn number(&self) -> i8
         ensures { result ≡ (request_descriptor (request_content self.now)).number }
@@ -78,6 +89,7 @@ impl Request {
         }
     }
 
+    /// What the request has behind its first byte.
     fn head(&self) -> Head
         ensures invoke { result.invoke.0 ≡ request_invoke self.now }
         ensures descriptor { descriptor_of result ≡ request_descriptor (request_content self.now) }
@@ -87,17 +99,6 @@ impl Request {
             class: self.class(),
             instance: self.instance(),
             number: self.number(),
-        }
-    }
-
-    /// The logical name of the object that is addressed.
-    pub fn instance(&self) -> LogicalName
-        ensures { result.0 ≡ (request_descriptor (request_content self.now)).instance }
-    {
-        match self {
-            Request::Get { instance, .. }
-            | Request::Set { instance, .. }
-            | Request::Action { instance, .. } => *instance,
         }
     }
 }
@@ -115,6 +116,9 @@ pub(crate) const NORMAL: u8 = 0x01;
 /// No selective access, and no parameter.
 pub(crate) const ABSENT: u8 = 0x00;
 
+/// A parameter follows.
+const PRESENT: u8 = 0x01;
+
 /// What every request has behind its first byte.
 #[derive(Clone, Copy)]
 struct Head {
@@ -123,9 +127,6 @@ struct Head {
     instance: LogicalName,
     number: i8,
 }
-
-/// A parameter follows.
-const PRESENT: u8 = 0x01;
 
 /// The request that an APDU is, all of it.
 ///

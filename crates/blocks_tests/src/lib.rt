@@ -1,0 +1,11 @@
+//! Tests of the blocks of an image, of sets of their numbers and of windows, through the public calls alone.
+#![tactic(auto)]
+
+#[cfg(test)]
+mod geometry_tests;
+#[cfg(test)]
+mod set_tests;
+#[cfg(test)]
+mod support;
+#[cfg(test)]
+mod window_tests;
