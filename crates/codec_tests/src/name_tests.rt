@@ -1,0 +1,123 @@
+//! Names of images: 01, the head end's number, the campaign's serial number, and the SHA-256 (FIPS 180-4) of the image.
+
+use crate::support::joined;
+use fw_names::{CampaignId, HeadId, ImageName, MeterId, factory_name, name_of};
+use std::alloc::{AllocError, Global};
+use std::test::Fail;
+
+/// The SHA-256 of `abc`, from the examples of FIPS 180-4.
+const ABC: [u8; 32] = [
+    0xba, 0x78, 0x16, 0xbf, 0x8f, 0x01, 0xcf, 0xea, 0x41, 0x41, 0x40, 0xde, 0x5d, 0xae, 0x22, 0x23,
+    0xb0, 0x03, 0x61, 0xa3, 0x96, 0x17, 0x7a, 0x9c, 0xb4, 0x10, 0xff, 0x61, 0xf2, 0x00, 0x15, 0xad,
+];
+
+/// First bytes, and whether a name begins with them.
+const FRONTS: &[(&[u8], bool)] = &[
+    (
+        &[0x01, 0x00, 0x00, 0x00, 0x07, 0x00, 0x00, 0x00, 0x01],
+        true,
+    ),
+    (
+        &[0x01, 0x00, 0x00, 0x00, 0x00, 0x00, 0x00, 0x00, 0x00],
+        true,
+    ),
+    (
+        &[0x01, 0x01, 0x02, 0x03, 0x04, 0xff, 0xff, 0xff, 0xff],
+        true,
+    ),
+    // Another first byte.
+    (
+        &[0x00, 0x00, 0x00, 0x00, 0x07, 0x00, 0x00, 0x00, 0x01],
+        false,
+    ),
+    (
+        &[0x02, 0x00, 0x00, 0x00, 0x07, 0x00, 0x00, 0x00, 0x01],
+        false,
+    ),
+    // One of the two numbers is 0.
+    (
+        &[0x01, 0x00, 0x00, 0x00, 0x00, 0x00, 0x00, 0x00, 0x01],
+        false,
+    ),
+    (
+        &[0x01, 0x00, 0x00, 0x00, 0x01, 0x00, 0x00, 0x00, 0x00],
+        false,
+    ),
+    (
+        &[0x01, 0x00, 0x00, 0x00, 0x00, 0xff, 0x00, 0x00, 0x00],
+        false,
+    ),
+    (
+        &[0x01, 0xff, 0x00, 0x00, 0x00, 0x00, 0x00, 0x00, 0x00],
+        false,
+    ),
+    // 40 and 42 bytes.
+    (&[0x01, 0x00, 0x00, 0x00, 0x07, 0x00, 0x00, 0x01], false),
+    (
+        &[0x01, 0x00, 0x00, 0x00, 0x07, 0x00, 0x00, 0x00, 0x01, 0xba],
+        false,
+    ),
+];
+
+/// Whether the front and a digest spell a name, whose spelling they then are.
+fn is_name(alloc: Global, front: &[u8]) -> Result<bool, AllocError> {
+    let bytes = joined(alloc, &[front, &ABC])?;
+    let Some(name) = ImageName::from_bytes(&bytes) else {
+        return Ok(false);
+    };
+    Ok(bytes.as_slice() == name.to_bytes().as_slice())
+}
+
+#[test]
+fn reads_names_alone(rt: HostRuntime) {
+    for (front, wanted) in FRONTS {
+        assert_eq!(rt; is_name(rt.alloc(), front), Ok(*wanted), "at {front:?}");
+    }
+}
+
+/// The name under which a head end's campaign offers `abc`.
+fn offered(head: u32, serial: u32) -> Option<ImageName> {
+    let campaign = CampaignId::new(HeadId::new(head)?, serial)?;
+    Some(name_of(campaign, b"abc"))
+}
+
+/// The spelling of the name under which campaign 1 of head end 7 offers `abc`.
+const OFFERED: [u8; 41] = [
+    0x01, 0x00, 0x00, 0x00, 0x07, 0x00, 0x00, 0x00, 0x01, 0xba, 0x78, 0x16, 0xbf, 0x8f, 0x01, 0xcf,
+    0xea, 0x41, 0x41, 0x40, 0xde, 0x5d, 0xae, 0x22, 0x23, 0xb0, 0x03, 0x61, 0xa3, 0x96, 0x17, 0x7a,
+    0x9c, 0xb4, 0x10, 0xff, 0x61, 0xf2, 0x00, 0x15, 0xad,
+];
+
+/// The spelling of the name of `abc` as a factory image.
+const FACTORY: [u8; 41] = [
+    0x01, 0x00, 0x00, 0x00, 0x00, 0x00, 0x00, 0x00, 0x00, 0xba, 0x78, 0x16, 0xbf, 0x8f, 0x01, 0xcf,
+    0xea, 0x41, 0x41, 0x40, 0xde, 0x5d, 0xae, 0x22, 0x23, 0xb0, 0x03, 0x61, 0xa3, 0x96, 0x17, 0x7a,
+    0x9c, 0xb4, 0x10, 0xff, 0x61, 0xf2, 0x00, 0x15, 0xad,
+];
+
+#[test]
+fn the_name_of_an_image(rt: HostRuntime) {
+    assert_eq!(rt; offered(7, 1).map(|name| name.to_bytes()), Some(OFFERED));
+    assert_eq!(rt; factory_name(b"abc").to_bytes(), FACTORY);
+}
+
+#[test]
+fn heads_and_serials_begin_at_1_and_meters_at_0(rt: HostRuntime) {
+    assert_eq!(rt; offered(0, 1), None);
+    assert_eq!(rt; offered(1, 0), None);
+    assert_eq!(rt; HeadId::new(1).map(HeadId::number), Some(1));
+    assert_eq!(rt; MeterId::new(0).map(MeterId::number), Some(0));
+}
+
+#[test]
+fn a_campaign_has_a_head_and_a_serial(rt: HostRuntime) -> Result<(), Fail> {
+    let head = HeadId::new(u32::MAX).ok_or("a head end")?;
+    let campaign = CampaignId::new(head, 9).ok_or("a campaign")?;
+    assert_eq!(rt; (campaign.head(), campaign.serial()), (Some(head), 9));
+    assert_eq!(rt;
+        [campaign.is_factory(), CampaignId::FACTORY.is_factory()],
+        [false, true]
+    );
+    assert_eq!(rt; CampaignId::FACTORY.head(), None);
+    Ok(())
+}
