@@ -1,8 +1,10 @@
-//! Tests of the blocks of an image, of sets of their numbers and of windows, through the public calls alone.
+//! Tests of the blocks of an image, of sets of their numbers, of marks and of windows, through the public calls alone.
 #![tactic(auto)]
 
 #[cfg(test)]
 mod geometry_tests;
+#[cfg(test)]
+mod marks_tests;
 #[cfg(test)]
 mod set_tests;
 #[cfg(test)]

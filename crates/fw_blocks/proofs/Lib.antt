@@ -3,3 +3,4 @@ pub mod MemberLemmas
 pub mod WindowSearch
 pub mod WindowLemmas
 pub mod Packing
+pub mod MarkLemmas

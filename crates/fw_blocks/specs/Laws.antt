@@ -2,6 +2,7 @@
 -- sets of any size.
 use Rattle.std.specs.Prelude.{◌≡◌, ◌≢◌, ◌↔◌, ℕ, ◌+◌, ◌-◌, ◌<◌, ◌≤◌, Bool, List, [], ◌++◌, length, take, drop, slice_range}
 use Rattle.std.specs.List.{flat_map, range_with_len}
+use Rattle.fw_axdr.specs.Bits.{packed}
 use Rattle.fw_blocks.specs.Cuts.{block_start, block_end, cut, block_count}
 use Rattle.fw_blocks.specs.Members.{IsComplete, IsFirstMissing, first_missing}
 
@@ -53,3 +54,7 @@ OneFirstMissing = (set : List Bool) (n : ℕ) → IsFirstMissing set n ↔ (n �
 -- every number is there exactly where the first missing one is the count
 abbrev pub CompleteWithoutMissing : Type 0
 CompleteWithoutMissing = (set : List Bool) → IsComplete set ↔ (first_missing set ≡ length set)
+
+-- two sets with the same count are the same where the same bytes hold their bits
+abbrev pub OneSetForBytes : Type 0
+OneSetForBytes = (a b : List Bool) → length a ≡ length b → packed a ≡ packed b → a ≡ b

@@ -3,5 +3,5 @@ pub mod Cuts
 pub mod Members
 pub mod Width
 pub mod Laws
--- For the models of `BlockSet` and `Window` alone: no public clause cites it.
+-- For the models of `BlockSet`, `Marks` and `Window` alone: no public clause cites it.
 pub mod Kept

@@ -1,6 +1,6 @@
 //! Laws of block cuts and of sets of block numbers, over the definitions alone.
 
-ghost use Rattle.fw_blocks.specs.Laws.{NonemptyBelowCount, BeginsWithin, CutsJoin, NextJoins, WholeButTheLast, CutSize, CutOfFront, OtherBlocksStay, OneFirstMissing, CompleteWithoutMissing};
+ghost use Rattle.fw_blocks.specs.Laws.{NonemptyBelowCount, BeginsWithin, CutsJoin, NextJoins, WholeButTheLast, CutSize, CutOfFront, OtherBlocksStay, OneFirstMissing, CompleteWithoutMissing, OneSetForBytes};
 
 /// A cut has a byte exactly where its number is below the count.
 pub fn nonempty_below_count()
@@ -50,4 +50,9 @@ pub fn one_first_missing()
 /// Every number is in the set exactly where the first missing one is the count.
 pub fn complete_without_missing()
     ensures { CompleteWithoutMissing }
+{}
+
+/// Two sets with the same count are the same where the same bytes hold their bits.
+pub fn one_set_for_bytes()
+    ensures { OneSetForBytes }
 {}

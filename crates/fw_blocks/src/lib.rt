@@ -10,8 +10,10 @@
 mod block_set;
 mod geometry;
 pub mod laws;
+mod marks;
 mod window;
 
 pub use block_set::BlockSet;
 pub use geometry::{Geometry, MAX_BLOCK_SIZE, MAX_BLOCKS};
+pub use marks::{MARKS_SIZE, Marks};
 pub use window::{MAX_WIDTH, Width, Window};

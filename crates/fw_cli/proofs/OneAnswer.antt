@@ -33,8 +33,8 @@ one_turn : meter_laws.OneAnswer → (old new next : Meter) (line other told text
     → (told ≡ text) × (new ≡ next)
 one_turn determined old new next line other told text a b same =
     let spelled : a.datagram ≡ b.datagram = cc (a.spelled, ap decode_of same, b.spelled) in
-    let step = determined old new next b.datagram a.reply b.reply (rw spelled at a.step) b.step in
-    (a.told ∙ ap line_for step.0 ∙ sym b.told, step.1)
+    let step = determined old new next b.datagram a.reply b.reply a.activated b.activated (rw spelled at a.step) b.step in
+    (a.told ∙ ap line_for step.0 ∙ sym b.told, step.2)
 
 -- the lines of one input are answered in one way, and as far
 pub record Same (one two left rest : List (List ℕ)) (text other : List ℕ) : Type 0 where

@@ -6,6 +6,7 @@ ghost use Rattle.fw_meter.specs.Laws.{OneAnswer};
 pub fn one_answer()
     ensures { OneAnswer }
 {
+    fw_names::laws::one_name();
     fw_wrapper::laws::one_frame();
     fw_apdu::laws::one_request();
 }

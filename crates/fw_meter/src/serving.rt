@@ -3,7 +3,7 @@
 ghost use Rattle.std.specs.Prelude.{◌≡◌, IfOk, OnErr};
 ghost use Rattle.fw_apdu.specs.View.{request_content, request_invoke};
 ghost use Rattle.fw_meter.specs.Handling.{IsForMeter, reply_to, reply_bytes};
-ghost use Rattle.fw_meter.specs.View.{IsHeard, outcome_of};
+ghost use Rattle.fw_meter.specs.View.{IsHeard, IsShort, outcome_of};
 
 use crate::error::OutOfMemory;
 use crate::outcome::Outcome;
@@ -49,13 +49,14 @@ impl Heard {
         alloc: Global,
         outcome: Outcome,
     ) -> Result<Option<Vec<u8>>, OutOfMemory>
+        requires { IsShort (outcome_of outcome) }
         ensures { IfOk result (λ reply. reply_bytes reply
             ≡ reply_to self.now.source (request_invoke self.now.request) (request_content self.now.request) (outcome_of outcome)) }
     {
         if !self.request.invoke().confirmed() {
             return Ok(None);
         }
-        let response = outcome.response(alloc, &self.request)?;
+        let response = outcome.response(&self.request);
         let apdu = match write_response(alloc, &response) {
             Ok(apdu) => apdu,
             Err(ApduError::OutOfMemory) => return Err(OutOfMemory),

@@ -1,43 +1,16 @@
-//! What a meter replies to datagrams.
+//! The datagrams round requests: ports, invoke bytes, confirmation, and what brings no request.
 
-use fw_meter::MeterCore;
-use std::alloc::Global;
+use crate::apdus::*;
+use crate::wire::{Exchange, Part, session};
 use std::test::Fail;
 
-/// A meter whose factory image is `abc`.
-fn fresh(alloc: Global) -> Result<MeterCore, Fail> {
-    Ok(MeterCore::fresh(alloc, 2, 64, b"abc")?)
-}
-
-/// The reply to a datagram in hexadecimal, or `-` where there is none.
-fn reply_to(alloc: Global, meter: &mut MeterCore, datagram: &str) -> Result<String, Fail> {
-    let bytes = hex::decode(alloc, datagram)?;
-    let handled = meter.handle(alloc, &bytes)?;
-    match handled.reply {
-        Some(reply) => Ok(hex::encode(alloc, reply.as_slice())?),
-        None => Ok(String::from_str(alloc, "-")?),
-    }
-}
-
-/// A datagram to the meter, and what it replies.
-type Exchange = (&'static str, &'static str);
-
-const GET_NAME: &str = "000100010001000dc001c100010100000200ff0200";
-
-/// The name of `abc` as a factory image, in a GET.response to that.
-const NAME: &str =
-    "000100010001002fc401c1000929010000000000000000ba7816bf8f01cfea414140de5dae2223b00361a396177a9cb410ff61f20015ad";
-
-/// With ample memory a meter answers, so a body that always lacks memory is refused here.
-#[test]
-fn always_out_of_memory(rt: HostRuntime) -> Result<(), Fail> {
-    let mut meter = fresh(rt.alloc())?;
-    let reply = reply_to(rt.alloc(), &mut meter, GET_NAME)?;
-    assert_eq!(rt; reply.as_str(), NAME);
-    Ok(())
-}
-
-const SERVED: [Exchange; 3] = [
+/// Datagrams to a meter, and what it replies.
+const SERVED: &[Exchange] = &[
+    // the name of `abc` as a factory image
+    (
+        "000100010001000dc001c100010100000200ff0200",
+        "000100010001002fc401c1000929010000000000000000ba7816bf8f01cfea414140de5dae2223b00361a396177a9cb410ff61f20015ad",
+    ),
     // the logical name
     (
         "000100010001000dc001c100010100000200ff0100",
@@ -53,114 +26,124 @@ const SERVED: [Exchange; 3] = [
         "000100010001000dc0017f00010100000200ff0100",
         "000100010001000cc4017f0009060100000200ff",
     ),
-];
-
-#[test]
-fn serves_reads(rt: HostRuntime) -> Result<(), Fail> {
-    let mut meter = fresh(rt.alloc())?;
-    for (datagram, want) in SERVED {
-        let reply = reply_to(rt.alloc(), &mut meter, datagram)?;
-        assert_eq!(rt; reply.as_str(), want, "to {datagram}");
-    }
-    Ok(())
-}
-
-/// The first that applies of: unknown instance 4, another class 9, unknown attribute or method 3.
-const REFUSED: [Exchange; 10] = [
+    // both, and image_transfer_enabled set to false
     (
-        "000100010001000dc001c100120100000201ff0900",
-        "0001000100010005c401c10104",
-    ),
-    (
-        "000100010001000dc001c100120100000200ff0900",
-        "0001000100010005c401c10109",
-    ),
-    (
-        "000100010001000dc001c100010100000200ff0300",
-        "0001000100010005c401c10103",
-    ),
-    (
-        "000100010001000dc001c100010100000200ffff00",
-        "0001000100010005c401c10103",
-    ),
-    (
-        "000100010001000dc001c100010100000200ff0000",
-        "0001000100010005c401c10103",
-    ),
-    // SET: each attribute is denied
-    (
-        "0001000100010010c101c100010100000200ff0200090161",
-        "0001000100010004c501c103",
-    ),
-    (
-        "0001000100010010c101c100010100000201ff0200090161",
-        "0001000100010004c501c104",
-    ),
-    (
-        "0001000100010010c101c100120100000200ff0200090161",
-        "0001000100010004c501c109",
-    ),
-    // ACTION: a Data object has no methods
-    (
-        "000100010001000dc301c100010100000200ff0100",
-        "0001000100010005c701c10300",
-    ),
-    (
-        "000100010001000fc301c100120100000200ff01010f00",
-        "0001000100010005c701c10900",
+        "0001ffff0001000fc1014f001200002c0000ff05000300",
+        "00010001ffff0004c5014f00",
     ),
 ];
 
-#[test]
-fn refuses_by_the_first_line_that_applies(rt: HostRuntime) -> Result<(), Fail> {
-    let mut meter = fresh(rt.alloc())?;
-    for (datagram, want) in REFUSED {
-        let reply = reply_to(rt.alloc(), &mut meter, datagram)?;
-        assert_eq!(rt; reply.as_str(), want, "to {datagram}");
-    }
-    Ok(())
-}
-
-const DROPPED: [&str; 12] = [
+/// Datagrams that have no reply.
+const DROPPED: &[Exchange] = &[
     // a wrong length, and none that fits
-    "000100010001000cc001c100010100000200ff0200",
-    "000100010001000ec001c100010100000200ff0200",
+    ("000100010001000cc001c100010100000200ff0200", "-"),
+    ("000100010001000ec001c100010100000200ff0200", "-"),
     // nothing, half a header, and a header alone
-    "",
-    "00010001",
-    "0001000100010000",
+    ("", "-"),
+    ("00010001", "-"),
+    ("0001000100010000", "-"),
     // another version
-    "000200010001000dc001c100010100000200ff0200",
+    ("000200010001000dc001c100010100000200ff0200", "-"),
     // another wPort
-    "000100010002000dc001c100010100000200ff0200",
+    ("000100010002000dc001c100010100000200ff0200", "-"),
+    ("000100010002000fc101c1001200002c0000ff05000300", "-"),
+    ("000100010000000fc301c1001200002c0000ff04010f00", "-"),
     // no confirmation wanted
-    "000100010001000dc0018100010100000200ff0200",
+    ("000100010001000dc0018100010100000200ff0200", "-"),
     // a byte after the request
-    "000100010001000ec001c100010100000200ff020000",
+    ("000100010001000ec001c100010100000200ff020000", "-"),
+    ("0001000100010010c101c1001200002c0000ff0500030000", "-"),
+    ("000100010001000ec301c1001200002c0000ff04000f", "-"),
     // another form, and selective access
-    "000100010001000dc002c100010100000200ff0200",
-    "000100010001000dc001c100010100000200ff0201",
-    // a response
-    "0001000100010005c401c10103",
+    ("000100010001000dc002c100010100000200ff0200", "-"),
+    ("000100010001000dc001c100010100000200ff0201", "-"),
+    ("000100010001000fc101c1001200002c0000ff05010300", "-"),
+    // data that is cut off, and of no type
+    ("000100010001000ec301c1001200002c0000ff04010f", "-"),
+    ("000100010001000fc301c1001200002c0000ff04010700", "-"),
+    // responses
+    ("0001000100010005c401c10103", "-"),
+    ("0001000100010004c501c100", "-"),
+    ("0001000100010005c701c10000", "-"),
 ];
 
+/// Requests with the invoke byte 81, and reads between them with c1.
+const UNCONFIRMED: &[Exchange] = &[
+    ("c10181001200002c0000ff05000301", "-"),
+    (GET_ENABLED, "c401c1000301"),
+    (
+        "c30181001200002c0000ff010102020929010000000700000001ba7816bf8f01cfea414140de5dae2223b00361a396177a9cb410ff61f20015ad0600000003",
+        "-",
+    ),
+    (GET_STATUS, INITIATED),
+    // too early, so nothing is done
+    ("c30181001200002c0000ff03010f00", "-"),
+    (GET_STATUS, INITIATED),
+    ("c30181001200002c0000ff02010202060000000009026162", "-"),
+    (GET_BLOCKS, "c401c100040280"),
+    ("c30181001200002c0000ff020102020600000001090163", "-"),
+    ("c00181001200002c0000ff0300", "-"),
+    (GET_BLOCKS, "c401c1000402c0"),
+    ("c30181001200002c0000ff03010f00", "-"),
+    (GET_STATUS, VERIFIED),
+    ("c30181001200002c0000ff04010f00", "-"),
+    (GET_STATUS, ACTIVATED),
+    (GET_NAME, ABC_NAME),
+    ("c30181001200002c0000ff04010f00", "-"),
+];
+
+/// Forms that aren't written but are read: true as ff, longer lengths, any byte but 00 for a parameter, any integer.
+const OTHER_FORMS: &[Exchange] = &[
+    ("c101c1001200002c0000ff050003ff", SET_DONE),
+    (GET_ENABLED, "c401c1000301"),
+    (
+        "c301c1001200002c0000ff010202810209820029010000000700000001ba7816bf8f01cfea414140de5dae2223b00361a396177a9cb410ff61f20015ad0600000003",
+        DONE,
+    ),
+    (
+        "c301c1001200002c0000ff02ff028400000002060000000009830000026162",
+        DONE,
+    ),
+    (C_AT_1, DONE),
+    ("c301c1001200002c0000ff03800fff", DONE),
+    ("c301c1001200002c0000ff04010f80", DONE),
+    (GET_NAME, ABC_NAME),
+];
+
+/// With ample memory a meter answers, so a body that always lacks memory is refused here.
 #[test]
-fn drops_what_asks_for_no_reply(rt: HostRuntime) -> Result<(), Fail> {
-    let mut meter = fresh(rt.alloc())?;
-    for datagram in DROPPED {
-        let reply = reply_to(rt.alloc(), &mut meter, datagram)?;
-        assert_eq!(rt; reply.as_str(), "-", "to {datagram}");
-    }
-    let reply = reply_to(rt.alloc(), &mut meter, GET_NAME)?;
-    assert_eq!(rt; reply.as_str(), NAME);
-    Ok(())
+fn replies_to_where_the_request_comes_from(rt: HostRuntime) -> Result<(), Fail> {
+    session(&rt, &[Part::Says(SERVED)])
+}
+
+/// Here of a meter that could be disabled, and that could switch.
+#[test]
+fn drops_what_brings_no_request(rt: HostRuntime) -> Result<(), Fail> {
+    session(
+        &rt,
+        &[
+            Part::Says(&[(ENABLE, SET_DONE), (INITIATE_ABC, DONE)]),
+            Part::Says(&[(AB_AT_0, DONE), (C_AT_1, DONE), (VERIFY, DONE)]),
+            Part::SaysInVain(DROPPED),
+        ],
+    )
+}
+
+/// Of an activate too, which tells the name all the same.
+#[test]
+fn an_unconfirmed_request_is_served_without_a_reply(rt: HostRuntime) -> Result<(), Fail> {
+    session(
+        &rt,
+        &[
+            Part::Says(UNCONFIRMED),
+            Part::Shows(
+                "runs 616263 of 7 1 ba7816bf, enabled true, ActivationSuccessful, no goal, marks, switched to 7 1 ba7816bf",
+            ),
+        ],
+    )
 }
 
 #[test]
-fn activates_nothing(rt: HostRuntime) -> Result<(), Fail> {
-    let mut meter = fresh(rt.alloc())?;
-    let bytes = hex::decode(rt.alloc(), GET_NAME)?;
-    let handled = meter.handle(rt.alloc(), &bytes)?;
-    assert!(rt; handled.activated.is_none());
-    Ok(())
+fn other_forms_are_read(rt: HostRuntime) -> Result<(), Fail> {
+    session(&rt, &[Part::Says(OTHER_FORMS)])
 }

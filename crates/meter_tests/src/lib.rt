@@ -5,6 +5,20 @@
 #[cfg(test)]
 mod answering;
 #[cfg(test)]
+mod apdus;
+#[cfg(test)]
 mod handling;
 #[cfg(test)]
+mod limits;
+#[cfg(test)]
+mod lines;
+#[cfg(test)]
+mod results;
+#[cfg(test)]
+mod sessions;
+#[cfg(test)]
 mod setup;
+#[cfg(test)]
+mod transfer;
+#[cfg(test)]
+mod wire;

@@ -10,6 +10,7 @@ loop-line-preserved c =
     let turn : AnswersLine c.loop-line.meter c.in-Some.line.now (line_for reply) c.handle.new.self = record {
       datagram = c.in-Some-2.datagram.items;
       reply = reply;
+      activated = c.in_ok-handled.handled.activated;
       spelled = rw c.in-Some-2.is at c.in_ok-datagram.ensures;
       step = rw c.deref.ensures.value at c.in_ok-handled.ensures.step;
       told = refl;

@@ -1,4 +1,5 @@
-use Rattle.std.proofs.Common.{◌≡◌, ◌∙◌, ap, Err}
+use Rattle.std.proofs.Common.{◌≡◌, ◌∙◌, ap, Result, Ok, Err}
+use Rattle.std.specs.Prelude.{OnOk}
 use Rattle.std.proofs.lemmas.Result.{err_from_is_err_and}
 use Rattle.fw_cli.specs.declared.fault.Fault.TheVariants.{BadSetup}
 use Rattle.fw_cli.proofs.answer.run_answer.Goals as goal
@@ -8,3 +9,14 @@ returns-in_err-meter-clause-bad_setup g c = λ bad.
     let passed = err_from_is_err_and c.from_residual.result c.from_residual.ensures.1 in
     let cause : c.in_err-meter.field-0.0 ≡ BadSetup = cc (passed.1, passed.2, bad) in
     c.set_up.ensures.bad_setup (c.in_err-meter.was ∙ ap Err cause)
+
+-- what holds on success, said otherwise
+on_ok : {A B : Type 0} (r : Result A B) (P Q : Type 0) → (P → Q) → OnOk r P → OnOk r Q
+on_ok (Ok x) P Q told h = told h
+on_ok (Err x) P Q told h = h
+
+pub returns-clause-ok : goal.returns-clause-ok
+returns-clause-ok g c = on_ok c.serve.result _ _ (λ serves. (c.in_ok-meter.meter, c.in_ok-meter.ensures.ok, serves)) c.serve.ensures.ok
+
+pub returns-clause-bad_line : goal.returns-clause-bad_line
+returns-clause-bad_line g c = λ number bad. (c.in_ok-meter.meter, c.in_ok-meter.ensures.ok, c.serve.ensures.bad_line number bad)

@@ -1,0 +1,5 @@
+pub mod Pairs
+pub mod Packing
+pub mod Sizes
+pub mod OnlyName
+pub mod OnlyIdentifier

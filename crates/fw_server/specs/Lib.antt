@@ -1,0 +1,4 @@
+pub mod Meaning
+pub mod Answer
+pub mod View
+pub mod Laws

@@ -1,0 +1,13 @@
+//! Laws of what is read of a meter, over the definitions alone.
+
+ghost use Rattle.fw_server.specs.Laws.{OnlyActiveName, OnlyIdentifier};
+
+/// Of what can be read, the active name and nothing else has an octet-string of 41 bytes for its value.
+pub fn only_active_name()
+    ensures { OnlyActiveName }
+{}
+
+/// A GET reads the active name exactly where it is of attribute 2, value, of the active firmware identifier.
+pub fn only_identifier()
+    ensures { OnlyIdentifier }
+{}

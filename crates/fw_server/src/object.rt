@@ -1,0 +1,130 @@
+//! The COSEM objects of a meter, and what can be read of them (IEC 62056-6-2).
+
+ghost use Rattle.std.specs.Prelude.{◌≡◌};
+ghost use Rattle.std.specs.Option.{option_map};
+ghost use Rattle.fw_server.specs.Meaning.{attribute_of, image_attribute, data_attribute, instance_at, instance_bytes, class_of};
+ghost use Rattle.fw_server.specs.View.{instance_of, reading_of};
+
+use fw_apdu::LogicalName;
+
+/// The COSEM objects of a meter.
+#[derive(Clone, Copy, Debug, PartialEq, Eq)]
+pub enum Object {
+    /// Image transfer, 0-0:44.0.0.255.
+    ImageTransfer,
+    /// The active firmware identifier, 1-0:0.2.0.255.
+    ActiveIdentifier,
+    /// The active firmware signature, 1-0:0.2.8.255.
+    ActiveSignature,
+}
+
+const IMAGE_TRANSFER: LogicalName = LogicalName([0, 0, 44, 0, 0, 255]);
+
+const ACTIVE_IDENTIFIER: LogicalName = LogicalName([1, 0, 0, 2, 0, 255]);
+
+const ACTIVE_SIGNATURE: LogicalName = LogicalName([1, 0, 0, 2, 8, 255]);
+
+/// The class_id of Data objects.
+const DATA: u16 = 1;
+
+/// The class_id of Image transfer.
+const IMAGE_TRANSFER_CLASS: u16 = 18;
+
+impl Object {
+    /// The object of this logical name.
+    pub(crate) fn named(name: LogicalName) -> Option<Object>
+        ensures { option_map instance_of result ≡ instance_at name.0 }
+    {
+        if name == IMAGE_TRANSFER {
+            Some(Object::ImageTransfer)
+        } else if name == ACTIVE_IDENTIFIER {
+            Some(Object::ActiveIdentifier)
+        } else if name == ACTIVE_SIGNATURE {
+            Some(Object::ActiveSignature)
+        } else {
+            None
+        }
+    }
+
+    /// Attribute 1 of the object.
+    pub fn logical_name(self) -> LogicalName
+        ensures { result.0 ≡ instance_bytes (instance_of self) }
+    {
+        match self {
+            Object::ImageTransfer => IMAGE_TRANSFER,
+            Object::ActiveIdentifier => ACTIVE_IDENTIFIER,
+            Object::ActiveSignature => ACTIVE_SIGNATURE,
+        }
+    }
+
+    /// The class_id.
+    pub(crate) fn class(self) -> u16
+        ensures { result ≡ class_of (instance_of self) }
+    {
+        match self {
+            Object::ImageTransfer => IMAGE_TRANSFER_CLASS,
+            Object::ActiveIdentifier | Object::ActiveSignature => DATA,
+        }
+    }
+
+    /// What an attribute of the object is.
+    pub(crate) fn attribute(self, number: i8) -> Option<Reading>
+        ensures { option_map reading_of result ≡ attribute_of (instance_of self) number }
+    {
+        match self {
+            Object::ImageTransfer => image_attribute(number),
+            Object::ActiveIdentifier => data_attribute(self, Reading::ActiveName, number),
+            Object::ActiveSignature => data_attribute(self, Reading::ActiveDigest, number),
+        }
+    }
+}
+
+/// What an attribute of Image transfer is.
+fn image_attribute(number: i8) -> Option<Reading>
+    ensures { option_map reading_of result ≡ image_attribute number }
+{
+    match number {
+        1 => Some(Reading::LogicalName(Object::ImageTransfer)),
+        2 => Some(Reading::BlockSize),
+        3 => Some(Reading::TransferredBlocks),
+        4 => Some(Reading::FirstNotTransferred),
+        5 => Some(Reading::TransferEnabled),
+        6 => Some(Reading::TransferStatus),
+        7 => Some(Reading::ToActivate),
+        _ => None,
+    }
+}
+
+/// What an attribute of a Data object is, by what its value is.
+fn data_attribute(object: Object, value: Reading, number: i8) -> Option<Reading>
+    ensures { option_map reading_of result ≡ data_attribute (instance_of object) (reading_of value) number }
+{
+    match number {
+        1 => Some(Reading::LogicalName(object)),
+        2 => Some(value),
+        _ => None,
+    }
+}
+
+/// What can be read of a meter: each attribute that its objects have.
+#[derive(Clone, Copy, Debug, PartialEq, Eq)]
+pub enum Reading {
+    /// Attribute 1 of each object, logical_name.
+    LogicalName(Object),
+    /// Attribute 2 of Image transfer, image_block_size.
+    BlockSize,
+    /// Attribute 3, image_transferred_blocks_status.
+    TransferredBlocks,
+    /// Attribute 4, image_first_not_transferred_block_number.
+    FirstNotTransferred,
+    /// Attribute 5, image_transfer_enabled.
+    TransferEnabled,
+    /// Attribute 6, image_transfer_status.
+    TransferStatus,
+    /// Attribute 7, image_to_activate_info.
+    ToActivate,
+    /// Attribute 2 of the active firmware identifier, value: the name of the image that runs (own).
+    ActiveName,
+    /// Attribute 2 of the active firmware signature, value: the SHA-256 of that image (own).
+    ActiveDigest,
+}

@@ -1,0 +1,209 @@
+//! What a request asks, before any meter is looked at.
+
+ghost use Rattle.std.specs.Prelude.{◌≡◌};
+ghost use Rattle.std.specs.Option.{option_map, option_copied};
+ghost use Rattle.fw_axdr.specs.View.{value_of};
+ghost use Rattle.fw_apdu.specs.View.{request_content};
+ghost use Rattle.fw_server.specs.Meaning.{meaning_of, asked_of, method_of, initiate_of, block_of, enable_of, order_of, verify, activate, or_refused, type_unmatched, octets_in, number_in, two_in, two_of, code_number};
+ghost use Rattle.fw_server.specs.View.{instance_of, code_of, planned_meaning};
+
+use crate::object::{Object, Reading};
+use fw_apdu::Request;
+use fw_axdr::{Data, Items};
+
+/// The codes of a Data-Access-Result or an Action-Result by which a request alone is refused, whatever the meter's state
+/// (IEC 62056-5-3). Requests are judged in this order, and the first that applies is given (own).
+#[derive(Clone, Copy, Debug, PartialEq, Eq)]
+pub enum Refusal {
+    /// The meter has no object of the logical name.
+    ObjectUndefined = 4,
+    /// The object is of another class.
+    ObjectClassInconsistent = 9,
+    /// The object has no such attribute or method, or the attribute can't be set.
+    ReadWriteDenied = 3,
+    /// The parameter or the new value is absent or of another shape.
+    TypeUnmatched = 12,
+}
+
+impl Refusal {
+    /// The number of the code.
+    pub fn code(self) -> u8
+        ensures { result ≡ code_number (code_of self) }
+    {
+        self as u8
+    }
+}
+
+/// What a request asks for, with what it borrows from it.
+#[derive(Clone, Copy, Debug, PartialEq, Eq)]
+pub enum Planned<'a> {
+    /// GET of an attribute.
+    Read(Reading),
+    /// SET of image_transfer_enabled, attribute 5 of Image transfer.
+    Enable(bool),
+    /// ACTION of image_transfer_initiate, its method 1: the image's identifier, and its size in bytes.
+    Initiate { identifier: &'a [u8], size: u32 },
+    /// image_block_transfer, method 2: the number of a block, from 0 on, and its bytes.
+    Block { number: u32, value: &'a [u8] },
+    /// image_verify, method 3.
+    Verify,
+    /// image_activate, method 4.
+    Activate,
+    /// None of these.
+    Refused(Refusal),
+}
+
+/// The operation that a request asks for, or the code that refuses it where the request alone decides. No meter is looked
+/// at, and no memory is taken.
+pub fn plan(request: &Request) -> Planned<'_>
+    ensures { planned_meaning result ≡ meaning_of (request_content request.now) }
+{
+    let Some(object) = Object::named(request.instance()) else {
+        return Planned::Refused(Refusal::ObjectUndefined);
+    };
+    if request.class() != object.class() {
+        return Planned::Refused(Refusal::ObjectClassInconsistent);
+    }
+    asked(object, request)
+}
+
+/// What a request asks of an object.
+fn asked(object: Object, request: &Request) -> Planned<'_>
+    ensures { planned_meaning result ≡ asked_of (instance_of object) (request_content request.now) }
+{
+    match (object, request) {
+        (_, Request::Get { attribute, .. }) => match object.attribute(*attribute) {
+            Some(reading) => Planned::Read(reading),
+            None => Planned::Refused(Refusal::ReadWriteDenied),
+        },
+        (
+            Object::ImageTransfer,
+            Request::Set {
+                attribute: 5,
+                value,
+                ..
+            },
+        ) => or_unmatched(enable(value)),
+        (
+            Object::ImageTransfer,
+            Request::Action {
+                method,
+                parameter,
+                ..
+            },
+        ) => method_of(*method, parameter),
+        _ => Planned::Refused(Refusal::ReadWriteDenied),
+    }
+}
+
+/// What a method of Image transfer does with a parameter.
+fn method_of(method: i8, parameter: &Option<Data>) -> Planned<'_>
+    ensures { planned_meaning result ≡ method_of method (option_map value_of parameter.now) }
+{
+    match method {
+        1 => or_unmatched(parameter.as_ref().and_then(initiate)),
+        2 => or_unmatched(parameter.as_ref().and_then(block)),
+        3 => or_unmatched(parameter.as_ref().and_then(verify)),
+        4 => or_unmatched(parameter.as_ref().and_then(activate)),
+        _ => Planned::Refused(Refusal::ReadWriteDenied),
+    }
+}
+
+/// The operation, or the refusal of a parameter of another shape.
+fn or_unmatched(planned: Option<Planned<'_>>) -> Planned<'_>
+    ensures { planned_meaning result ≡ or_refused type_unmatched (option_map planned_meaning planned.entry) }
+{
+    match planned {
+        Some(planned) => planned,
+        None => Planned::Refused(Refusal::TypeUnmatched),
+    }
+}
+
+/// image_verify, of any integer.
+fn verify(parameter: &Data) -> Option<Planned<'_>>
+    ensures { option_map planned_meaning result ≡ order_of verify (value_of parameter.now) }
+{
+    match parameter {
+        Data::Integer(_) => Some(Planned::Verify),
+        _ => None,
+    }
+}
+
+/// image_activate, of any integer.
+fn activate(parameter: &Data) -> Option<Planned<'_>>
+    ensures { option_map planned_meaning result ≡ order_of activate (value_of parameter.now) }
+{
+    match parameter {
+        Data::Integer(_) => Some(Planned::Activate),
+        _ => None,
+    }
+}
+
+/// image_transfer_initiate, of the structure of an identifier and a size.
+fn initiate(parameter: &Data) -> Option<Planned<'_>>
+    ensures { option_map planned_meaning result ≡ initiate_of (value_of parameter.now) }
+{
+    let (first, second) = two(parameter)?;
+    let identifier = octets(first)?;
+    let size = number(second)?;
+    Some(Planned::Initiate { identifier, size })
+}
+
+/// image_block_transfer, of the structure of a block number and the block's bytes.
+fn block(parameter: &Data) -> Option<Planned<'_>>
+    ensures { option_map planned_meaning result ≡ block_of (value_of parameter.now) }
+{
+    let (first, second) = two(parameter)?;
+    let number = number(first)?;
+    let value = octets(second)?;
+    Some(Planned::Block { number, value })
+}
+
+/// A new value of image_transfer_enabled.
+fn enable(value: &Data) -> Option<Planned<'_>>
+    ensures { option_map planned_meaning result ≡ enable_of (value_of value.now) }
+{
+    match value {
+        Data::Boolean(enabled) => Some(Planned::Enable(*enabled)),
+        _ => None,
+    }
+}
+
+/// The two elements of a structure.
+fn two(value: &Data) -> Option<(&Data, &Data)>
+    ensures { option_map (λ x. (value_of x.0.now, value_of x.1.now)) result ≡ two_in (value_of value.now) }
+{
+    match value {
+        Data::Structure(items) => two_items(items),
+        _ => None,
+    }
+}
+
+#[tactic(auto, using(crate::proofs::Pairs::no_pair))]
+fn two_items(items: &Items) -> Option<(&Data, &Data)>
+    ensures { option_map (λ x. (value_of x.0.now, value_of x.1.now)) result ≡ two_of items.now }
+{
+    match items.as_slice() {
+        [first, second] => Some((first, second)),
+        [] | [_] => None,
+        [_, _, _, ..] => None,
+    }
+}
+
+fn octets(value: &Data) -> Option<&[u8]>
+    ensures { option_copied result ≡ octets_in (value_of value.now) }
+{
+    match value {
+        Data::OctetString(octets) => Some(octets.as_slice()),
+        _ => None,
+    }
+}
+
+fn number(value: &Data) -> Option<u32>
+    ensures { result ≡ number_in (value_of value.now) }
+{
+    match value {
+        Data::DoubleLongUnsigned(number) => Some(*number),
+        _ => None,
+    }
+}

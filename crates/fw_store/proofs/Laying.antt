@@ -1,0 +1,86 @@
+-- A store that is laid out on a device, part by part.
+use Rattle.std.proofs.Common.{◌≡◌, ℕ, ◌+◌, ◌-◌, ◌≤◌, List, [], ◌++◌, length, take, drop, replicate, refl, sym, ap, ◌∙◌, arith, append_assoc, length-append}
+use Rattle.std.proofs.lemmas.List.{length-replicate, replicate-append-replicate, take_at, drop_at, take_all}
+use Rattle.std.proofs.Math.Seq.{drop-append-add}
+use Rattle.fw_store.specs.Device.{splice, padded}
+use Rattle.fw_store.specs.Contents.{resized}
+use Rattle.fw_store.specs.StoreBytes.{store_size}
+use Rattle.fw_store.proofs.SliceLemmas.{length-splice}
+
+-- bytes in place of as many others
+splice_between : (front middle back : List ℕ) (at : ℕ) (xs : List ℕ) → length front ≡ at → length middle ≡ length xs
+    → splice (front ++ (middle ++ back)) at xs ≡ front ++ (xs ++ back)
+splice_between front middle back at xs begins size =
+    let rest = middle ++ back in
+    let there : at + length xs ≡ length front + length middle = omega arith in
+    let left : take at (front ++ rest) ≡ front = take_at front rest at begins in
+    let right : drop (at + length xs) (front ++ rest) ≡ back =
+    ap (λ (n : ℕ). drop n (front ++ rest)) there
+    ∙ drop-append-add front rest (length middle)
+    ∙ drop_at middle back (length middle) refl in
+    ap (λ (l : List ℕ). (l ++ xs) ++ drop (at + length xs) (front ++ rest)) left
+    ∙ ap (λ (l : List ℕ). (front ++ xs) ++ l) right
+    ∙ append_assoc front xs back
+
+-- a length that is set to 0 and then raised leaves zeros
+pub cleared : (old : List ℕ) (len : ℕ) → resized (resized old 0) len ≡ replicate len 0
+cleared old len =
+    let none : 0 - length old ≡ 0 = omega arith in
+    let empty : resized old 0 ≡ [] = ap (λ (n : ℕ). replicate n 0) none in
+    let all : len - 0 ≡ len = omega arith in
+    let short : 0 ≤ len = omega arith in
+    ap (λ (l : List ℕ). resized l len) empty
+    ∙ ap (λ (l : List ℕ). l ++ replicate (len - 0) 0) (take_all len [] short)
+    ∙ ap (λ (n : ℕ). replicate n 0) all
+
+abbrev zeros : ℕ → List ℕ
+zeros n = replicate n 0
+
+-- the zeros of a store, parted by its fields
+parted : (capacity n : ℕ) → n ≤ capacity
+    → zeros (store_size capacity) ≡ (zeros 4 ++ zeros 614) ++ (zeros n ++ (zeros (capacity - n) ++ zeros capacity))
+parted capacity n fits =
+    let z : ℕ = 0 in
+    let total : store_size capacity ≡ 618 + (n + (capacity - n + capacity)) = omega arith in
+    ap (λ (k : ℕ). replicate k z) total
+    ∙ sym (replicate-append-replicate 618 (n + (capacity - n + capacity)) z)
+    ∙ ap (λ (l : List ℕ). replicate 618 z ++ l)
+    (sym (replicate-append-replicate n (capacity - n + capacity) z)
+    ∙ ap (λ (l : List ℕ). replicate n z ++ l) (sym (replicate-append-replicate (capacity - n) capacity z)))
+    ∙ ap (λ (l : List ℕ). l ++ (replicate n z ++ (replicate (capacity - n) z ++ replicate capacity z)))
+    (sym (replicate-append-replicate 4 614 z))
+
+pub laid : (capacity : ℕ) (blank slots headed whole number head image : List ℕ) → blank ≡ zeros (store_size capacity)
+    → slots ≡ splice blank 618 image → headed ≡ splice slots 4 head → whole ≡ splice headed 0 number
+    → length number ≡ 4 → length head ≡ 614 → length image ≤ capacity
+    → whole ≡ number ++ head ++ padded image capacity ++ zeros capacity
+laid capacity blank slots headed whole number head image empty s h w four long fits =
+    let n : ℕ = length image in
+    let z : ℕ = 0 in
+    let Z4 = replicate 4 z in
+    let Z614 = replicate 614 z in
+    let back = replicate (capacity - n) z ++ replicate capacity z in
+    let l4 : length Z4 ≡ 4 = length-replicate 4 z in
+    let l614 : length Z614 ≡ 614 = length-replicate 614 z in
+    let both : length (Z4 ++ Z614) ≡ 618 = omega (arith, length-append Z4 Z614) in
+    let same_4 : length Z4 ≡ length number = omega arith in
+    let same_614 : length Z614 ≡ length head = omega arith in
+    let slots_are : slots ≡ Z4 ++ (Z614 ++ (image ++ back)) =
+    s ∙ ap (λ (l : List ℕ). splice l 618 image) (empty ∙ parted capacity n fits)
+    ∙ splice_between (Z4 ++ Z614) (replicate n z) back 618 image both (length-replicate n z)
+    ∙ append_assoc Z4 Z614 (image ++ back) in
+    let headed_is : headed ≡ Z4 ++ (head ++ (image ++ back)) =
+    h ∙ ap (λ (l : List ℕ). splice l 4 head) slots_are
+    ∙ splice_between Z4 Z614 (image ++ back) 4 head l4 same_614 in
+    let whole_is : whole ≡ number ++ (head ++ (image ++ back)) =
+    w ∙ ap (λ (l : List ℕ). splice l 0 number) headed_is
+    ∙ splice_between [] Z4 (head ++ (image ++ back)) 0 number refl same_4 in
+    whole_is ∙ simp append_assoc
+
+-- what is laid out so far has the size of a store
+pub slots_size : (capacity : ℕ) (blank image : List ℕ) → blank ≡ zeros (store_size capacity) → length image ≤ capacity
+    → length (splice blank 618 image) ≡ store_size capacity
+slots_size capacity blank image empty fits =
+    let z : ℕ = 0 in
+    let size : length blank ≡ store_size capacity = ap length empty ∙ length-replicate (store_size capacity) z in
+    length-splice blank 618 image (omega arith) ∙ size

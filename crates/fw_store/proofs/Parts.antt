@@ -1,0 +1,166 @@
+-- The parts of a header's bytes, one behind another, and that each gives its field back.
+use Rattle.std.proofs.Common.{◌≡◌, ◌≢◌, ℕ, zero, suc, ◌<◌, ◌^◌, List, ◌++◌, length, take, drop, get_or, Bool, true, false, cond, eqb, Option, Some, None, refl, sym, ap, ◌∙◌, arith, append_assoc}
+use Rattle.std.specs.Int.{w32, to_be_bytes, from_be_bytes}
+use Rattle.std.specs.Prelude.{is_some, IfSome}
+use Rattle.std.proofs.lemmas.Nat.{from_be_bytes-to_be_bytes_4}
+use Rattle.std.proofs.lemmas.List.{length-append, take_all, drop-drop}
+use Rattle.std.proofs.Math.Nat.{suc-ne-zero}
+use Rattle.std.proofs.Math.Seq.{take-append_seam, drop-append_seam}
+use Rattle.fw_axdr.specs.Bits.{bytes_for, packed_into, packed}
+use Rattle.fw_names.specs.Name.{Name, IsName, name_bytes}
+use Rattle.fw_names.specs.Laws.{OneName}
+use Rattle.fw_blocks.specs.Laws.{OneSetForBytes}
+use Rattle.fw_blocks.specs.Cuts.{max_blocks}
+use Rattle.fw_store.specs.declared.slot.Slot.{Slot}
+use Rattle.fw_store.specs.declared.slot.Slot.TheVariants.{First, Second}
+use Rattle.fw_store.specs.declared.header.TransferStatus.{TransferStatus}
+use Rattle.fw_store.specs.declared.header.TransferStatus.TheVariants.{NotInitiated, Initiated, VerificationSuccessful, VerificationFailed, ActivationSuccessful}
+use Rattle.fw_store.specs.declared.header.Goal.{Goal}
+use Rattle.fw_store.specs.declared.header.Header.{Header}
+use Rattle.fw_store.specs.Layout.{flag, slot_number, status_number, goal_bytes, header_bytes}
+use Rattle.fw_store.specs.Header.{GoalFieldsFit, FieldsFit}
+
+-- the bytes of a header, part by part
+pub record Parts (bytes : List ℕ) (h : Header) : Type 0 where
+  pub enabled : get_or bytes 4 0 ≡ flag h.enabled
+  pub running_slot : get_or bytes 5 0 ≡ slot_number h.running_slot
+  pub status : get_or bytes 6 0 ≡ status_number h.status
+  pub has_goal : get_or bytes 7 0 ≡ flag (is_some h.goal)
+  pub block_size : take 4 (drop 8 bytes) ≡ to_be_bytes w32 h.block_size
+  pub running_size : take 4 (drop 12 bytes) ≡ to_be_bytes w32 h.running_size
+  pub running_name : take 41 (drop 16 bytes) ≡ name_bytes h.running_name
+  pub goal : take 45 (drop 57 bytes) ≡ goal_bytes h.goal
+  pub marks : take 512 (drop 102 bytes) ≡ packed h.marks
+
+front_of : (xs rest : List ℕ) (n : ℕ) → length xs ≡ n → take n (xs ++ rest) ≡ xs
+front_of xs rest n e = ap (λ (k : ℕ). take k (xs ++ rest)) (sym e) ∙ take-append_seam xs rest
+
+back_of : (xs rest : List ℕ) (n : ℕ) → length xs ≡ n → drop n (xs ++ rest) ≡ rest
+back_of xs rest n e = ap (λ (k : ℕ). drop k (xs ++ rest)) (sym e) ∙ drop-append_seam xs rest
+
+name_size : (name : Name) → IsName name → length (name_bytes name) ≡ 41
+name_size name is = let size = is.digest_size in omega arith
+
+goal_size : (goal : Option Goal) → IfSome goal GoalFieldsFit → length (goal_bytes goal) ≡ 45
+goal_size None fits = refl
+goal_size (Some goal) fits = let size = fits.name.digest_size in omega arith
+
+length-packed_into : (n : ℕ) (bs : List Bool) → length (packed_into n bs) ≡ n
+length-packed_into zero bs = refl
+length-packed_into (suc n) bs = ap suc (length-packed_into n (drop 8 bs))
+
+marks_size : (marks : List Bool) → length marks ≡ max_blocks → length (packed marks) ≡ 512
+marks_size marks count = omega (arith, length-packed_into (bytes_for (length marks)) marks)
+
+pub parts : (h : Header) → FieldsFit h → Parts (header_bytes h) h
+unfolding header_bytes
+parts h fits =
+    let name : List ℕ = name_bytes h.running_name in
+    let goal : List ℕ = goal_bytes h.goal in
+    let marks : List ℕ = packed h.marks in
+    let joined : (name ++ goal) ++ marks ≡ name ++ (goal ++ marks) = append_assoc name goal marks in
+    let behind_name : drop 57 (header_bytes h) ≡ goal ++ marks =
+    ap (drop 41) joined ∙ back_of name (goal ++ marks) 41 (name_size h.running_name fits.running_name) in
+    let behind_goal : drop 102 (header_bytes h) ≡ marks =
+    sym (drop-drop 45 57 (header_bytes h)) ∙ ap (drop 45) behind_name ∙ back_of goal marks 45 (goal_size h.goal fits.goal) in
+    record {
+      enabled = refl;
+      running_slot = refl;
+      status = refl;
+      has_goal = refl;
+      block_size = refl;
+      running_size = refl;
+      running_name = ap (take 41) joined ∙ front_of name (goal ++ marks) 41 (name_size h.running_name fits.running_name);
+      goal = ap (take 45) behind_name ∙ front_of goal marks 45 (goal_size h.goal fits.goal);
+      marks = ap (take 512) behind_goal ∙ take_all 512 marks (omega (arith, marks_size h.marks fits.marks));
+    }
+
+pub header_size : (h : Header) → FieldsFit h → length (header_bytes h) ≡ 614
+unfolding header_bytes
+header_size h fits =
+    let name = fits.running_name.digest_size in
+    let goal = goal_size h.goal fits.goal in
+    let marks = marks_size h.marks fits.marks in
+    omega (arith, length-append (h.running_name.digest ++ goal_bytes h.goal) (packed h.marks), length-append h.running_name.digest (goal_bytes h.goal))
+
+-- ---- each byte or part gives its field back
+
+pub flag_again : (b : Bool) → eqb (flag b) 1 ≡ b
+flag_again true = refl
+flag_again false = refl
+
+slot_at : ℕ → Slot
+slot_at n = cond (eqb n 0) First Second
+
+slot_again : (slot : Slot) → slot_at (slot_number slot) ≡ slot
+unfolding slot_at
+slot_again First = refl
+slot_again Second = refl
+
+status_at : ℕ → TransferStatus
+status_at n = cond (eqb n 0) NotInitiated (cond (eqb n 1) Initiated (cond (eqb n 3) VerificationSuccessful (cond (eqb n 4) VerificationFailed ActivationSuccessful)))
+
+status_again : (status : TransferStatus) → status_at (status_number status) ≡ status
+unfolding status_at
+status_again NotInitiated = refl
+status_again Initiated = refl
+status_again VerificationSuccessful = refl
+status_again VerificationFailed = refl
+status_again ActivationSuccessful = refl
+
+pub number_again : (n : ℕ) → n < 2 ^ 32 → from_be_bytes w32 (to_be_bytes w32 n) ≡ n
+number_again n fits = from_be_bytes-to_be_bytes_4 n fits
+
+same_number : (m n : ℕ) → m < 2 ^ 32 → n < 2 ^ 32 → to_be_bytes w32 m ≡ to_be_bytes w32 n → m ≡ n
+same_number m n fits fits' e = sym (number_again m fits) ∙ ap (from_be_bytes w32) e ∙ number_again n fits'
+
+same_name : OneName → (a b : Name) → IsName a → IsName b → name_bytes a ≡ name_bytes b → a ≡ b
+same_name law a b is is' e = law (name_bytes a) a b (record { is_name = is; spelled = refl }) (record { is_name = is'; spelled = e })
+
+-- zeros are no goal's bytes: a name begins with 1
+no_goal : (goal : Goal) → goal_bytes None ≡ goal_bytes (Some goal) → ⊥
+no_goal goal e = suc-ne-zero 0 (ap (λ (bytes : List ℕ). get_or bytes 4 0) (sym e))
+
+same_goal : OneName → (a b : Option Goal) → IfSome a GoalFieldsFit → IfSome b GoalFieldsFit → goal_bytes a ≡ goal_bytes b → a ≡ b
+same_goal law None None fits fits' e = refl
+same_goal law None (Some b) fits fits' e = absurd (no_goal b e)
+same_goal law (Some a) None fits fits' e = absurd (no_goal a (sym e))
+same_goal law (Some a) (Some b) fits fits' e =
+    let size = same_number a.size b.size fits.size fits'.size (ap (take 4) e) in
+    let name = same_name law a.name b.name fits.name fits'.name (ap (drop 4) e) in
+    λ i. Some (record { name = name i; size = size i })
+
+-- a byte string is at most one header's
+pub same_header : OneName → OneSetForBytes → (bytes : List ℕ) (a b : Header) → FieldsFit a → FieldsFit b → Parts bytes a → Parts bytes b → a ≡ b
+same_header law marks_law bytes a b fits fits' p q =
+    let enabled = sym (flag_again a.enabled) ∙ ap (λ (n : ℕ). eqb n 1) (sym p.enabled ∙ q.enabled) ∙ flag_again b.enabled in
+    let slot = sym (slot_again a.running_slot) ∙ ap slot_at (sym p.running_slot ∙ q.running_slot) ∙ slot_again b.running_slot in
+    let status = sym (status_again a.status) ∙ ap status_at (sym p.status ∙ q.status) ∙ status_again b.status in
+    let block_size = same_number a.block_size b.block_size fits.block_size fits'.block_size (sym p.block_size ∙ q.block_size) in
+    let running_size = same_number a.running_size b.running_size fits.running_size fits'.running_size (sym p.running_size ∙ q.running_size) in
+    let name = same_name law a.running_name b.running_name fits.running_name fits'.running_name (sym p.running_name ∙ q.running_name) in
+    let goal = same_goal law a.goal b.goal fits.goal fits'.goal (sym p.goal ∙ q.goal) in
+    let marks = marks_law a.marks b.marks (fits.marks ∙ sym fits'.marks) (sym p.marks ∙ q.marks) in
+    λ i. record {
+      enabled = enabled i;
+      running_slot = slot i;
+      status = status i;
+      block_size = block_size i;
+      running_size = running_size i;
+      running_name = name i;
+      goal = goal i;
+      marks = marks i;
+    }
+
+-- ---- what is read in the code
+
+-- where the goal is there and bytes of a goal are read as that goal, it is the header's
+pub goal_read : (goal result : Option Goal) (byte : ℕ) (bytes : List ℕ) → IfSome goal GoalFieldsFit → byte ≡ flag (is_some goal) → byte ≡ 1 → bytes ≡ goal_bytes goal
+    → ((one : Goal) → GoalFieldsFit one → goal_bytes (Some one) ≡ bytes → result ≡ Some one) → result ≡ goal
+goal_read None result byte bytes fits present there e read = absurd (suc-ne-zero 0 (sym there ∙ present))
+goal_read (Some one) result byte bytes fits present there e read = read one fits (sym e)
+
+-- where it is not there, there is none
+pub no_goal_read : (goal : Option Goal) (byte : ℕ) → byte ≡ flag (is_some goal) → byte ≢ 1 → None ≡ goal
+no_goal_read None byte present other = refl
+no_goal_read (Some one) byte present other = absurd (other present)

@@ -1,0 +1,79 @@
+-- Public vocabulary: which headers a store can have (own rules), and the header of a new store.
+use Rattle.std.specs.Prelude.{◌≡◌, ◌≢◌, ℕ, ◌<◌, ◌≤◌, ◌^◌, length, Bool, true, false, Option, Some, None, is_some, IsTrue, IfSome, replicate}
+use Rattle.fw_blocks.specs.Cuts.{IsWithinLimits, block_count, max_block_size, max_blocks}
+use Rattle.fw_blocks.specs.Members.{has}
+use Rattle.fw_names.specs.Name.{Name, IsName, factory}
+use Rattle.fw_store.specs.declared.slot.Slot.TheVariants.{First}
+use Rattle.fw_store.specs.declared.header.TransferStatus.{TransferStatus}
+use Rattle.fw_store.specs.declared.header.TransferStatus.TheVariants.{NotInitiated, Initiated, VerificationSuccessful, VerificationFailed, ActivationSuccessful}
+use Rattle.fw_store.specs.declared.header.Goal.{Goal}
+use Rattle.fw_store.specs.declared.header.Header.{Header}
+
+-- ---- what the fields of every header in the code hold: names that have a spelling, numbers of four bytes, and 4,096 marks
+
+pub record GoalFieldsFit (goal : Goal) : Type 0 where
+  pub name : IsName goal.name
+  pub size : goal.size < 2 ^ 32
+
+pub record FieldsFit (h : Header) : Type 0 where
+  pub block_size : h.block_size < 2 ^ 32
+  pub running_size : h.running_size < 2 ^ 32
+  pub running_name : IsName h.running_name
+  pub goal : IfSome h.goal GoalFieldsFit
+  pub marks : length h.marks ≡ max_blocks
+
+-- ---- what a store can have
+
+-- whether there is a goal in a status: it is being received, or was verified
+abbrev pub has_goal : TransferStatus → Bool
+has_goal NotInitiated = false
+has_goal Initiated = true
+has_goal VerificationSuccessful = true
+has_goal VerificationFailed = true
+has_goal ActivationSuccessful = false
+
+-- whether the goal was verified, with either result
+abbrev pub is_verified : TransferStatus → Bool
+is_verified NotInitiated = false
+is_verified Initiated = false
+is_verified VerificationSuccessful = true
+is_verified VerificationFailed = true
+is_verified ActivationSuccessful = false
+
+-- a goal of a store of so many bytes a slot: a head end's campaign offers it, it fits a slot, and its blocks are within the limits
+pub record IsGoal (capacity block_size : ℕ) (goal : Goal) : Type 0 where
+  pub offered : goal.name.campaign ≢ factory
+  pub fits : goal.size ≤ capacity
+  pub blocks : IsWithinLimits block_size goal.size
+
+-- how many blocks the goal has, 0 where there is none
+abbrev pub goal_count : ℕ → Option Goal → ℕ
+goal_count block_size None = 0
+goal_count block_size (Some goal) = block_count block_size goal.size
+
+-- a header that a store of so many bytes a slot can have
+pub record IsHeader (capacity : ℕ) (h : Header) : Type 0 where
+  pub fields : FieldsFit h
+  pub block_size_begins : 1 ≤ h.block_size
+  pub block_size_ends : h.block_size ≤ max_block_size
+  pub running_size_begins : 1 ≤ h.running_size
+  pub running_size_fits : h.running_size ≤ capacity
+  pub goal_by_status : is_some h.goal ≡ has_goal h.status
+  pub goal : IfSome h.goal (IsGoal capacity h.block_size)
+  -- no number at or above the count is marked, and so none at all where there is no goal
+  pub unmarked : (i : ℕ) → goal_count h.block_size h.goal ≤ i → has h.marks i ≡ false
+  -- a goal that was verified is there with all its blocks
+  pub marked : IsTrue (is_verified h.status) → (i : ℕ) → i < goal_count h.block_size h.goal → has h.marks i ≡ true
+
+-- the header of a new store, whose first slot has an image of this size and name
+abbrev pub fresh_header : ℕ → ℕ → Name → Header
+fresh_header block_size running_size running_name = record {
+  enabled = false;
+  running_slot = First;
+  status = NotInitiated;
+  block_size = block_size;
+  running_size = running_size;
+  running_name = running_name;
+  goal = None;
+  marks = replicate max_blocks false;
+}

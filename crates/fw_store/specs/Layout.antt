@@ -1,0 +1,50 @@
+-- Public vocabulary: the bytes of a header (own format, version 1). Numbers have the high byte first.
+use Rattle.std.specs.Prelude.{ℕ, List, [], ◌∷◌, ◌++◌, Bool, if◌then◌else◌, Option, Some, None, is_some, replicate}
+use Rattle.std.specs.Int.{w32, to_be_bytes}
+use Rattle.fw_axdr.specs.Bits.{packed}
+use Rattle.fw_names.specs.Name.{name_bytes}
+use Rattle.fw_store.specs.declared.slot.Slot.{Slot}
+use Rattle.fw_store.specs.declared.slot.Slot.TheVariants.{First, Second}
+use Rattle.fw_store.specs.declared.header.TransferStatus.{TransferStatus}
+use Rattle.fw_store.specs.declared.header.TransferStatus.TheVariants.{NotInitiated, Initiated, VerificationSuccessful, VerificationFailed, ActivationSuccessful}
+use Rattle.fw_store.specs.declared.header.Goal.{Goal}
+use Rattle.fw_store.specs.declared.header.Header.{Header}
+
+-- `FWH1`, which every header begins with
+abbrev pub form : List ℕ
+form = 0x46 ∷ 0x57 ∷ 0x48 ∷ 0x31 ∷ []
+
+-- the byte of a flag
+abbrev pub flag : Bool → ℕ
+flag is_set = if is_set then 1 else 0
+
+-- the byte of a slot
+abbrev pub slot_number : Slot → ℕ
+slot_number First = 0
+slot_number Second = 1
+
+-- the byte of a status: its number in the standard (IEC 62056-6-2, Image transfer: image_transfer_status)
+abbrev pub status_number : TransferStatus → ℕ
+status_number NotInitiated = 0
+status_number Initiated = 1
+status_number VerificationSuccessful = 3
+status_number VerificationFailed = 4
+status_number ActivationSuccessful = 6
+
+-- a goal: its size in four bytes, and its name in 41; zeros where there is none
+abbrev pub goal_bytes : Option Goal → List ℕ
+goal_bytes None = replicate 45 0
+goal_bytes (Some goal) = to_be_bytes w32 goal.size ++ name_bytes goal.name
+
+-- the 614 bytes of a header: the form; whether transfer is enabled, the running slot, the status and whether there is a goal, a
+-- byte each; the block size and the running size in four bytes each; the running name; the goal; and a bit for each block, number 0
+-- first
+unfoldable pub header_bytes : Header → List ℕ
+header_bytes h =
+    form
+    ++ (flag h.enabled ∷ slot_number h.running_slot ∷ status_number h.status ∷ flag (is_some h.goal) ∷ [])
+    ++ to_be_bytes w32 h.block_size
+    ++ to_be_bytes w32 h.running_size
+    ++ name_bytes h.running_name
+    ++ goal_bytes h.goal
+    ++ packed h.marks

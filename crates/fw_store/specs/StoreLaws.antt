@@ -1,0 +1,37 @@
+-- Public vocabulary: the laws of what stores hold. They speak of definitions alone.
+use Rattle.std.specs.Prelude.{◌≡◌, ◌≢◌, ◌⊎◌, ℕ, ◌+◌, ◌≤◌, List, length, slice_range}
+use Rattle.fw_store.specs.Device.{Device, slot_bytes, with_head, written}
+use Rattle.fw_store.specs.StoreBytes.{IsStore, store_bytes, device_at}
+use Rattle.fw_store.specs.declared.slot.Slot.{Slot}
+
+-- what was written is read
+abbrev pub WrittenIsRead : Type 0
+WrittenIsRead = (d : Device) (slot : Slot) (at : ℕ) (bytes : List ℕ) → at + length bytes ≤ length (slot_bytes d slot)
+    → slice_range (slot_bytes (written d slot at bytes) slot) at (at + length bytes) ≡ bytes
+
+-- before it and behind it, what is read is as before
+abbrev pub OthersAreRead : Type 0
+OthersAreRead = (d : Device) (slot : Slot) (at from to : ℕ) (bytes : List ℕ) → at + length bytes ≤ length (slot_bytes d slot)
+    → (from ≤ to × to ≤ at) ⊎ (at + length bytes ≤ from)
+    → slice_range (slot_bytes (written d slot at bytes) slot) from to ≡ slice_range (slot_bytes d slot) from to
+
+-- a write leaves the other slot, and the header
+abbrev pub OtherSlotStays : Type 0
+OtherSlotStays = (d : Device) (slot other : Slot) (at : ℕ) (bytes : List ℕ) → other ≢ slot
+    → slot_bytes (written d slot at bytes) other ≡ slot_bytes d other
+
+abbrev pub HeaderStays : Type 0
+HeaderStays = (d : Device) (slot : Slot) (at : ℕ) (bytes : List ℕ) → (written d slot at bytes).head ≡ d.head
+
+-- a header write leaves the slots
+abbrev pub SlotsStay : Type 0
+SlotsStay = (d : Device) (slot : Slot) (head : List ℕ) → slot_bytes (with_head d head) slot ≡ slot_bytes d slot
+
+-- a store's bytes are its fields, one behind the other
+abbrev pub FieldsJoin : Type 0
+FieldsJoin = (bytes : List ℕ) (capacity : ℕ) → IsStore bytes capacity → bytes ≡ store_bytes capacity (device_at capacity bytes)
+
+-- and from them the device is read back
+abbrev pub DeviceIsRead : Type 0
+DeviceIsRead = (d : Device) (capacity : ℕ) → length d.head ≡ 614 → length d.first ≡ capacity → length d.second ≡ capacity
+    → device_at capacity (store_bytes capacity d) ≡ d

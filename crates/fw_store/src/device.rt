@@ -1,0 +1,85 @@
+//! What a device of bytes is.
+
+ghost use Rattle.std.specs.Prelude.{◌≡◌, ◌+◌, ◌≤◌, ℕ, Bool, List, IsTrue, IsOk, IfOk, OnOk, OnErr, length, slice_range};
+ghost use Rattle.fw_store.specs.Device.{splice};
+ghost use Rattle.fw_store.specs.Contents.{resized, TornAt, KeepsDevice};
+
+use thiserror::Error;
+
+/// A device of bytes refused a call.
+#[derive(Clone, Copy, Debug, PartialEq, Eq, Error)]
+#[error("DeviceFault")]
+pub struct DeviceFault;
+
+/// Bytes that are read and written at positions, as those of a file. Of an honest device contents are known: reads give
+/// what was last written, and a write that fails leaves any bytes in its own range and nowhere else.
+pub trait ByteDevice {
+    /// Whether the device keeps what is written, as said below.
+    ghost honest: { Self → Bool };
+
+    /// Whether no call fails, but for one that sets the length.
+    ghost sound: { Self → Bool };
+
+    /// The bytes of an honest device.
+    ghost contents: { Self → List ℕ };
+
+    /// How many bytes there are.
+    ///
+    /// # Errors
+    ///
+    /// `DeviceFault` where the device failed.
+    fn len(&mut self) -> Result<u64, DeviceFault>
+        ensures done { IsTrue (honest self.old) → IfOk result (λ n. n ≡ length (contents self.old)) }
+        ensures same { IsTrue (honest self.old) → contents self.new ≡ contents self.old }
+        ensures kept { KeepsDevice honest sound self.old self.new }
+        ensures never { IsTrue (sound self.old) → IsOk result };
+
+    /// Cuts the bytes to this length, or adds zeros up to it.
+    ///
+    /// # Errors
+    ///
+    /// `DeviceFault` where the device failed, or has no room. It may then have any bytes.
+    fn set_len(&mut self, len: u64) -> Result<(), DeviceFault>
+        ensures done { IsTrue (honest self.old) → OnOk result (contents self.new ≡ resized (contents self.old) len) }
+        ensures kept { KeepsDevice honest sound self.old self.new };
+
+    /// Fills `out` with the bytes from `at` on.
+    ///
+    /// # Errors
+    ///
+    /// `DeviceFault` where the device failed. `out` may then have any bytes.
+    fn read_at(&mut self, at: u64, out: &mut [u8]) -> Result<(), DeviceFault>
+        requires { IsTrue (honest self.old) → at + length out.old ≤ length (contents self.old) }
+        ensures done { IsTrue (honest self.old)
+            → OnOk result (out.new ≡ slice_range (contents self.old) at (at + length out.old)) }
+        ensures same { IsTrue (honest self.old) → contents self.new ≡ contents self.old }
+        ensures kept { KeepsDevice honest sound self.old self.new }
+        ensures never { IsTrue (sound self.old) → IsOk result };
+
+    /// Writes bytes over those from `at` on.
+    ///
+    /// # Errors
+    ///
+    /// `DeviceFault` where the device failed. Any bytes may then stand in their place.
+    fn write_at(&mut self, at: u64, bytes: &[u8]) -> Result<(), DeviceFault>
+        requires { IsTrue (honest self.old) → at + length bytes.now ≤ length (contents self.old) }
+        ensures done { IsTrue (honest self.old)
+            → OnOk result (contents self.new ≡ splice (contents self.old) at bytes.now) }
+        ensures torn { IsTrue (honest self.old)
+            → OnErr result (TornAt (contents self.old) at (length bytes.now) (contents self.new)) }
+        ensures kept { KeepsDevice honest sound self.old self.new }
+        ensures never { IsTrue (sound self.old) → IsOk result };
+
+    /// Writes bytes over those from `at` on, all of them or none.
+    ///
+    /// # Errors
+    ///
+    /// `DeviceFault` where the device failed. The old bytes then stand.
+    fn replace_at(&mut self, at: u64, bytes: &[u8]) -> Result<(), DeviceFault>
+        requires { IsTrue (honest self.old) → at + length bytes.now ≤ length (contents self.old) }
+        ensures done { IsTrue (honest self.old)
+            → OnOk result (contents self.new ≡ splice (contents self.old) at bytes.now) }
+        ensures same { IsTrue (honest self.old) → OnErr result (contents self.new ≡ contents self.old) }
+        ensures kept { KeepsDevice honest sound self.old self.new }
+        ensures never { IsTrue (sound self.old) → IsOk result };
+}

@@ -1,0 +1,58 @@
+//! Why a store or a device failed, or could not be made.
+
+ghost use Rattle.std.specs.Prelude.{◌≡◌};
+ghost use Rattle.fw_store.specs.declared.error.SetupError.TheVariants as setup;
+ghost use Rattle.fw_store.specs.declared.error.FileStoreError.TheVariants as file;
+
+use crate::device::DeviceFault;
+use std::alloc::AllocError;
+use thiserror::Error;
+
+/// A store's device failed. The store has counted it.
+#[derive(Clone, Copy, Debug, PartialEq, Eq, Error)]
+#[error("StoreFault")]
+pub struct StoreFault;
+
+/// The refusals of a new store in memory.
+#[derive(Clone, Copy, Debug, PartialEq, Eq, Error)]
+pub enum SetupError {
+    /// A number is outside its limits, or the factory image is empty or above the capacity.
+    #[error("BadSetup")]
+    BadSetup,
+    /// Memory was refused.
+    #[error("OutOfMemory")]
+    OutOfMemory,
+}
+
+impl From<AllocError> for SetupError {
+    ghost from_gives = { λ _ e. e ≡ setup.OutOfMemory };
+
+    fn from(_error: AllocError) -> SetupError {
+        SetupError::OutOfMemory
+    }
+}
+
+/// The refusals of a new store, or of one that is there, on a device of bytes or in a file.
+#[derive(Clone, Copy, Debug, PartialEq, Eq, Error)]
+pub enum FileStoreError {
+    /// The device failed, or the file can't be made, opened, read or written.
+    #[error("StoreFault")]
+    StoreFault,
+    /// A number is outside its limits, or the factory image is empty or above the capacity.
+    #[error("BadSetup")]
+    BadSetup,
+    /// Memory was refused. The calls of this crate take none, and never answer it.
+    #[error("OutOfMemory")]
+    OutOfMemory,
+    /// The bytes don't begin with a capacity of 1 to 4,194,304, or aren't as many as those of a store of that capacity.
+    #[error("BadFile")]
+    BadFile,
+}
+
+impl From<DeviceFault> for FileStoreError {
+    ghost from_gives = { λ _ e. e ≡ file.StoreFault };
+
+    fn from(_fault: DeviceFault) -> FileStoreError {
+        FileStoreError::StoreFault
+    }
+}

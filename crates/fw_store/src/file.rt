@@ -1,0 +1,131 @@
+//! Stores in files of the operating system.
+
+ghost use Rattle.std.specs.Prelude.{◌≡◌, IfOk, IfErr, OnOk, IsErrOf};
+ghost use Rattle.fw_store.specs.Refusals.{IsCreateRefusal, IsReopenRefusal};
+ghost use Rattle.fw_store.specs.Setup.{IsCapacity, IsSetup};
+
+use crate::device::{ByteDevice, DeviceFault};
+use crate::device_store::DeviceStore;
+use crate::error::FileStoreError;
+use crate::setup::is_setup;
+use crate::store::ImageStore;
+use std::fs::{File, OpenOptions};
+use std::io;
+use std::os::unix::fs::FileExt;
+use std::path::AsPath;
+use std::rt::Files;
+
+/// The bytes of an open file. Nothing is known of what a file holds or gives, so it is neither honest nor sound.
+#[derive(Drop)]
+pub struct FileDevice {
+    file: File,
+}
+
+/// A store in a file.
+pub type FileStore = DeviceStore<FileDevice>;
+
+// What the operating system refused.
+fn refused(_error: io::Error) -> DeviceFault {
+    DeviceFault
+}
+
+impl FileDevice {
+    // Makes a file, in place of one that is there.
+    fn create<R: Files<File = File>, P: AsPath>(
+        rt: &R,
+        path: P,
+    ) -> Result<FileDevice, DeviceFault> {
+        let mut options = OpenOptions::new();
+        options.read(true).write(true).create(true).truncate(true);
+        let file = options.open(rt, path).map_err(refused)?;
+        Ok(FileDevice { file })
+    }
+
+    // Opens a file that is there.
+    fn open<R: Files<File = File>, P: AsPath>(rt: &R, path: P) -> Result<FileDevice, DeviceFault> {
+        let mut options = OpenOptions::new();
+        options.read(true).write(true);
+        let file = options.open(rt, path).map_err(refused)?;
+        Ok(FileDevice { file })
+    }
+}
+
+impl DeviceStore<FileDevice> {
+    /// A new store in a file, in place of one that is there: the factory image is in its first slot, with zeros behind it
+    /// and in the other one. `capacity` is the size of a slot in bytes, 1 to 4,194,304, and `block_size` that of a block, 1
+    /// to 1,024. The image has 1 to `capacity` bytes.
+    ///
+    /// # Errors
+    ///
+    /// `BadSetup` where one of these doesn't hold, and no file is made. Otherwise `StoreFault` alone, where the file can't
+    /// be made or written. It may then have any bytes.
+    pub fn create<R: Files<File = File>, P: AsPath>(
+        rt: &R,
+        path: P,
+        capacity: u32,
+        block_size: u32,
+        factory: &[u8],
+    ) -> Result<FileStore, FileStoreError>
+        ensures size { IfOk result (λ store. ⟦<DeviceStore<FileDevice> as ImageStore>⟧.capacity store ≡ capacity) }
+        ensures faultless { IfOk result (λ store. ⟦<DeviceStore<FileDevice> as ImageStore>⟧.faults store ≡ 0) }
+        ensures setup { OnOk result (IsSetup block_size capacity factory.now) }
+        ensures bad_setup { IsErrOf result FileStoreError.BadSetup → ¬ IsSetup block_size capacity factory.now }
+        ensures fault { IsErrOf result FileStoreError.StoreFault → IsSetup block_size capacity factory.now }
+        ensures refusals { IfErr result IsCreateRefusal }
+    {
+        if !is_setup(capacity, block_size, factory) {
+            return Err(FileStoreError::BadSetup);
+        }
+        let device = FileDevice::create(rt, path)?;
+        DeviceStore::create_on(device, capacity, block_size, factory)
+    }
+
+    /// The store in a file that is there.
+    ///
+    /// # Errors
+    ///
+    /// `StoreFault` where the file can't be opened or read, and `BadFile` where its bytes don't begin with a capacity of 1
+    /// to 4,194,304, or aren't as many as those of a store of that capacity.
+    pub fn reopen<R: Files<File = File>, P: AsPath>(
+        rt: &R,
+        path: P,
+    ) -> Result<FileStore, FileStoreError>
+        ensures size { IfOk result (λ store. IsCapacity (⟦<DeviceStore<FileDevice> as ImageStore>⟧.capacity store)) }
+        ensures faultless { IfOk result (λ store. ⟦<DeviceStore<FileDevice> as ImageStore>⟧.faults store ≡ 0) }
+        ensures refusals { IfErr result IsReopenRefusal }
+    {
+        let device = FileDevice::open(rt, path)?;
+        DeviceStore::reopen_on(device)
+    }
+}
+
+impl ByteDevice for FileDevice {
+    ghost use Rattle.std.specs.Prelude.{false, []};
+
+    ghost honest = { λ _. false };
+
+    ghost sound = { λ _. false };
+
+    ghost contents = { λ _. [] };
+
+    fn len(&mut self) -> Result<u64, DeviceFault> {
+        let metadata = self.file.metadata().map_err(refused)?;
+        Ok(metadata.len())
+    }
+
+    fn set_len(&mut self, len: u64) -> Result<(), DeviceFault> {
+        self.file.set_len(len).map_err(refused)
+    }
+
+    fn read_at(&mut self, at: u64, out: &mut [u8]) -> Result<(), DeviceFault> {
+        self.file.read_exact_at(out, at).map_err(refused)
+    }
+
+    fn write_at(&mut self, at: u64, bytes: &[u8]) -> Result<(), DeviceFault> {
+        self.file.write_all_at(bytes, at).map_err(refused)
+    }
+
+    fn replace_at(&mut self, at: u64, bytes: &[u8]) -> Result<(), DeviceFault> {
+        self.file.write_all_at(bytes, at).map_err(refused)
+    }
+}

@@ -1,0 +1,319 @@
+//! The header of a store, and its bytes.
+
+ghost use Rattle.std.specs.Prelude.{◌≡◌, ◌≢◌, ◌+◌, ◌≤◌, ◌++◌, ◌↔◌, ℕ, Some, false, length, take, IsTrue, IfSome, IfNone};
+ghost use Rattle.std.specs.Int.{w32, from_be_bytes};
+ghost use Rattle.fw_blocks.specs.Members.{has};
+ghost use Rattle.fw_store.specs.declared.header.Goal.{Goal};
+ghost use Rattle.fw_store.specs.declared.header.Header.{Header};
+ghost use Rattle.fw_store.specs.declared.header.TransferStatus.{TransferStatus};
+ghost use Rattle.fw_store.specs.declared.slot.Slot.{Slot};
+ghost use Rattle.fw_store.specs.Layout.{status_number, slot_number, goal_bytes, header_bytes};
+ghost use Rattle.fw_store.specs.Header.{GoalFieldsFit, FieldsFit, IsGoal, IsHeader, fresh_header, goal_count, has_goal, is_verified};
+
+use crate::slot::Slot;
+use fw_blocks::{Geometry, MARKS_SIZE, MAX_BLOCK_SIZE, MAX_BLOCKS, Marks};
+use fw_names::{ImageName, NAME_SIZE};
+
+/// The number of bytes of every header.
+pub const HEADER_SIZE: usize = 614;
+
+/// The bytes that every header begins with: the form, version 1.
+const FORM: [u8; 4] = *b"FWH1";
+
+/// The bytes of a goal: its size and its name.
+const GOAL_SIZE: usize = 4 + NAME_SIZE;
+
+/// How far a transfer is (IEC 62056-6-2, Image transfer: image_transfer_status). Of the standard's values these are
+/// the ones that a header keeps.
+#[derive(Clone, Copy, Debug, PartialEq, Eq)]
+pub enum TransferStatus {
+    /// Nothing was initiated since the meter was made.
+    NotInitiated = 0,
+    /// Blocks are being received.
+    Initiated = 1,
+    /// The image is there and has its name's digest.
+    VerificationSuccessful = 3,
+    /// The image is there and has another digest.
+    VerificationFailed = 4,
+    /// The image was activated, and runs.
+    ActivationSuccessful = 6,
+}
+
+/// The image that is to be received.
+#[derive(Clone, Copy, Debug, PartialEq, Eq)]
+pub struct Goal {
+    /// The image's name.
+    pub name: ImageName,
+    /// The image's bytes.
+    pub size: u32,
+}
+
+/// What a store keeps beside its two slots: the state of Image transfer, and which image runs.
+#[derive(Clone, Copy, Debug, PartialEq, Eq)]
+pub struct Header {
+    /// Whether image transfer is enabled (image_transfer_enabled).
+    pub enabled: bool,
+    /// The slot of the image that runs. The other is the spare one.
+    pub running_slot: Slot,
+    /// How far the transfer is.
+    pub status: TransferStatus,
+    /// The bytes of a block (image_block_size).
+    pub block_size: u32,
+    /// The bytes of the image that runs.
+    pub running_size: u32,
+    /// The name of the image that runs.
+    pub running_name: ImageName,
+    /// The image that is to be received, or was received and is not yet activated.
+    pub goal: Option<Goal>,
+    /// Which blocks of the goal are there (image_transferred_blocks_status).
+    pub marks: Marks,
+}
+
+impl TransferStatus {
+    /// The standard's number.
+    pub fn number(self) -> u8
+        ensures { result ≡ status_number self }
+    {
+        self as u8
+    }
+
+    // The status with this number, if there is one.
+    fn from_number(number: u8) -> Option<TransferStatus>
+        ensures { (status : TransferStatus) → status_number status ≡ number → result ≡ Some status }
+    {
+        match number {
+            0 => Some(TransferStatus::NotInitiated),
+            1 => Some(TransferStatus::Initiated),
+            3 => Some(TransferStatus::VerificationSuccessful),
+            4 => Some(TransferStatus::VerificationFailed),
+            6 => Some(TransferStatus::ActivationSuccessful),
+            _ => None,
+        }
+    }
+
+    // Whether there is a goal in this status.
+    fn has_goal(self) -> bool
+        ensures { result ≡ has_goal self }
+    {
+        match self {
+            TransferStatus::NotInitiated | TransferStatus::ActivationSuccessful => false,
+            TransferStatus::Initiated
+            | TransferStatus::VerificationSuccessful
+            | TransferStatus::VerificationFailed => true,
+        }
+    }
+
+    // Whether the goal was verified, with either result.
+    fn is_verified(self) -> bool
+        ensures { result ≡ is_verified self }
+    {
+        match self {
+            TransferStatus::VerificationSuccessful | TransferStatus::VerificationFailed => true,
+            TransferStatus::NotInitiated
+            | TransferStatus::Initiated
+            | TransferStatus::ActivationSuccessful => false,
+        }
+    }
+}
+
+impl Header {
+    /// The header of a new store of this block size, in bytes, with an image of this size and name in its first
+    /// slot: image transfer is disabled, and nothing was initiated.
+    pub fn fresh(block_size: u32, running_size: u32, running_name: ImageName) -> Header
+        ensures { result ≡ fresh_header block_size running_size running_name }
+    {
+        Header {
+            enabled: false,
+            running_slot: Slot::First,
+            status: TransferStatus::NotInitiated,
+            block_size,
+            running_size,
+            running_name,
+            goal: None,
+            marks: Marks::none(),
+        }
+    }
+
+    /// The header's bytes, whether a store can have it or not.
+    #[tactic(auto, unfolding(crate::specs::Layout::header_bytes))]
+    pub fn to_bytes(&self) -> [u8; HEADER_SIZE]
+        ensures value { result ≡ header_bytes self.now }
+        ensures fields { FieldsFit self.now }
+    {
+        let mut bytes = [0; HEADER_SIZE];
+        let at = put(&mut bytes, 0, &FORM);
+        let flags = [
+            u8::from(self.enabled),
+            slot_number(self.running_slot),
+            self.status.number(),
+            u8::from(self.goal.is_some()),
+        ];
+        let at = put(&mut bytes, at, &flags);
+        let at = put(&mut bytes, at, &self.block_size.to_be_bytes());
+        let at = put(&mut bytes, at, &self.running_size.to_be_bytes());
+        let at = put(&mut bytes, at, &self.running_name.to_bytes());
+        let at = put(&mut bytes, at, &goal_to_bytes(self.goal));
+        put(&mut bytes, at, &self.marks.to_bytes());
+        bytes
+    }
+
+    /// The header that has these bytes, and `None` where there is none that a store with this capacity, in bytes a
+    /// slot, can have.
+    pub fn from_bytes(capacity: u32, bytes: &[u8; HEADER_SIZE]) -> Option<Header>
+        ensures some { IfSome result (λ header.
+            IsHeader capacity header × (header_bytes header ≡ bytes.now)) }
+        ensures none { IfNone result ((header : Header) →
+            IsHeader capacity header → header_bytes header ≢ bytes.now) }
+    {
+        let header = read(bytes)?;
+        if header.to_bytes() == *bytes && header.is_for(capacity) {
+            Some(header)
+        } else {
+            None
+        }
+    }
+
+    // Whether a store of this capacity can have the header.
+    fn is_for(&self, capacity: u32) -> bool
+        requires { FieldsFit self.now }
+        ensures { IsTrue result ↔ IsHeader capacity self.now }
+    {
+        if self.block_size == 0 || MAX_BLOCK_SIZE < self.block_size {
+            return false;
+        }
+        if self.running_size == 0 || capacity < self.running_size {
+            return false;
+        }
+        if self.goal.is_some() != self.status.has_goal() {
+            return false;
+        }
+        if !goal_fits(&self.goal, capacity, self.block_size) {
+            return false;
+        }
+        let count = goal_count(self.goal, self.block_size);
+        if !is_unmarked_from(&self.marks, count) {
+            return false;
+        }
+        !self.status.is_verified() || count <= self.marks.first_missing()
+    }
+}
+
+// Whether the goal, if there is one, fits a store of this capacity.
+fn goal_fits(goal: &Option<Goal>, capacity: u32, block_size: u32) -> bool
+    ensures { IsTrue result ↔ IfSome goal.now (IsGoal capacity block_size) }
+{
+    match goal {
+        None => true,
+        Some(goal) => {
+            !goal.name.campaign.is_factory()
+                && goal.size <= capacity
+                && Geometry::new(block_size, goal.size).is_some()
+        }
+    }
+}
+
+// How many blocks the goal has, 0 where there is none.
+fn goal_count(goal: Option<Goal>, block_size: u32) -> u32
+    requires { 1 ≤ block_size }
+    ensures { result ≡ goal_count block_size goal }
+{
+    match goal {
+        None => 0,
+        Some(goal) => goal.size.div_ceil(block_size),
+    }
+}
+
+// Whether no number from this one on is marked.
+fn is_unmarked_from(marks: &Marks, first: u32) -> bool
+    requires { length marks.now ≡ MAX_BLOCKS }
+    ensures { IsTrue result ↔ ((i : ℕ) → first ≤ i → has marks.now i ≡ false) }
+{
+    (first..MAX_BLOCKS).all(|number| !marks.has(number))
+}
+
+// The byte of a slot.
+fn slot_number(slot: Slot) -> u8
+    ensures { result ≡ slot_number slot }
+{
+    match slot {
+        Slot::First => 0,
+        Slot::Second => 1,
+    }
+}
+
+// The bytes of a goal, zeros where there is none.
+fn goal_to_bytes(goal: Option<Goal>) -> [u8; GOAL_SIZE]
+    ensures value { result ≡ goal_bytes goal }
+    ensures fields { IfSome goal GoalFieldsFit }
+{
+    let mut bytes = [0; GOAL_SIZE];
+    if let Some(goal) = goal {
+        bytes[..4].copy_from_slice(&goal.size.to_be_bytes());
+        bytes[4..].copy_from_slice(&goal.name.to_bytes());
+    }
+    bytes
+}
+
+// Writes a part of a header behind those that are there, and answers where it ends.
+fn put(bytes: &mut [u8; HEADER_SIZE], at: usize, part: &[u8]) -> usize
+    requires { at + length part.now ≤ HEADER_SIZE }
+    ensures next { result ≡ at + length part.now }
+    ensures front { take result bytes.new ≡ take at bytes.old ++ part.now }
+{
+    let end = at + part.len();
+    bytes[at..end].copy_from_slice(part);
+    end
+}
+
+// What the bytes are read as. A header's bytes are read as that header; others may be read as some header too, which
+// has other bytes.
+fn read(bytes: &[u8; HEADER_SIZE]) -> Option<Header>
+    ensures { (header : Header) → FieldsFit header →
+        header_bytes header ≡ bytes.now → result ≡ Some header }
+{
+    let mut marks = [0; MARKS_SIZE];
+    marks.copy_from_slice(&bytes[102..]);
+    let goal = if bytes[7] == 1 {
+        Some(read_goal(&bytes[57..102])?)
+    } else {
+        None
+    };
+    Some(Header {
+        enabled: bytes[4] == 1,
+        running_slot: slot_at(bytes[5]),
+        status: TransferStatus::from_number(bytes[6])?,
+        block_size: number_at(&bytes[8..12]),
+        running_size: number_at(&bytes[12..16]),
+        running_name: ImageName::from_bytes(&bytes[16..57])?,
+        goal,
+        marks: Marks::from_bytes(&marks),
+    })
+}
+
+// The goal that the bytes are read as.
+fn read_goal(bytes: &[u8]) -> Option<Goal>
+    requires { length bytes.now ≡ GOAL_SIZE }
+    ensures { (goal : Goal) → GoalFieldsFit goal →
+        goal_bytes (Some goal) ≡ bytes.now → result ≡ Some goal }
+{
+    let (size, name) = bytes.split_at(4);
+    Some(Goal {
+        name: ImageName::from_bytes(name)?,
+        size: number_at(size),
+    })
+}
+
+// The number in four bytes.
+fn number_at(bytes: &[u8]) -> u32
+    requires { length bytes.now ≡ 4 }
+    ensures { result ≡ from_be_bytes w32 bytes.now }
+{
+    u32::from_be_bytes([bytes[0], bytes[1], bytes[2], bytes[3]])
+}
+
+// The slot that a byte is read as.
+fn slot_at(byte: u8) -> Slot
+    ensures { (slot : Slot) → slot_number slot ≡ byte → result ≡ slot }
+{
+    if byte == 0 { Slot::First } else { Slot::Second }
+}

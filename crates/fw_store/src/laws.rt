@@ -1,0 +1,64 @@
+//! Laws of headers and of what stores hold, over the definitions alone.
+
+ghost use Rattle.fw_store.specs.Laws.{OneHeader, HeaderSize, FreshIsHeader, VerifiedIsComplete};
+ghost use Rattle.fw_store.specs.StoreLaws.{WrittenIsRead, OthersAreRead, OtherSlotStays, HeaderStays, SlotsStay, FieldsJoin, DeviceIsRead};
+
+/// A byte string is at most one header's.
+pub fn one_header()
+    ensures { OneHeader }
+{
+    fw_names::laws::one_name();
+    fw_blocks::laws::one_set_for_bytes();
+}
+
+/// Every header has 614 bytes.
+pub fn header_size()
+    ensures { HeaderSize }
+{}
+
+/// A new store can have its header, where block size and running size are within their limits.
+pub fn fresh_is_header()
+    ensures { FreshIsHeader }
+{}
+
+/// Of a goal that was verified, no block is missing.
+pub fn verified_is_complete()
+    ensures { VerifiedIsComplete }
+{
+    fw_blocks::laws::one_first_missing();
+}
+
+/// What was written into a slot is read there.
+pub fn written_is_read()
+    ensures { WrittenIsRead }
+{}
+
+/// What is read before a write, or behind it, is as it was.
+pub fn others_are_read()
+    ensures { OthersAreRead }
+{}
+
+/// A write into one slot leaves the other.
+pub fn other_slot_stays()
+    ensures { OtherSlotStays }
+{}
+
+/// A write into a slot leaves the header.
+pub fn header_stays()
+    ensures { HeaderStays }
+{}
+
+/// A header write leaves the slots.
+pub fn slots_stay()
+    ensures { SlotsStay }
+{}
+
+/// The bytes of a store are its capacity, its header and its slots, one behind the other.
+pub fn fields_join()
+    ensures { FieldsJoin }
+{}
+
+/// From a store's bytes its device is read back.
+pub fn device_is_read()
+    ensures { DeviceIsRead }
+{}

@@ -1,0 +1,28 @@
+//! The store of a meter with COSEM Image transfer (IEC 62056-6-2): a header and two slots for images.
+//!
+//! A header has one spelling of 614 bytes, and the headers that a store can have are those of specs/Header.antt. What a
+//! store promises is said at [`ImageStore`]. There is one in memory, and one over a device of bytes, such as a file, whose
+//! bytes are those of specs/StoreBytes.antt. The forms are own ones.
+#![tactic(auto)]
+
+mod device;
+mod device_store;
+mod error;
+mod file;
+mod fuse;
+mod header;
+pub mod laws;
+mod memory;
+mod setup;
+mod slot;
+mod store;
+
+pub use device::{ByteDevice, DeviceFault};
+pub use device_store::DeviceStore;
+pub use error::{FileStoreError, SetupError, StoreFault};
+pub use file::{FileDevice, FileStore};
+pub use header::{Goal, HEADER_SIZE, Header, TransferStatus};
+pub use memory::MemoryStore;
+pub use setup::MAX_CAPACITY;
+pub use slot::Slot;
+pub use store::ImageStore;

@@ -1,0 +1,189 @@
+//! A store in memory, with a fuse that makes it fail.
+
+ghost use Rattle.std.specs.Prelude.{◌≡◌, ◌+◌, ◌≤◌, length, IfOk, OnOk, OnErr, is_ok, slice_range};
+ghost use Rattle.fw_store.specs.Device.{slot_bytes, with_head, written, Torn};
+ghost use Rattle.fw_store.specs.Faults.{Keeps, HasCause};
+ghost use Rattle.fw_store.specs.Fuse.{torn_of, half_torn};
+
+use crate::error::{SetupError, StoreFault};
+use crate::fuse::{Fuse, burn, overwrite, tear, torn_byte};
+use crate::header::HEADER_SIZE;
+use crate::setup::{fresh_bytes, is_setup};
+use crate::slot::Slot;
+use crate::store::ImageStore;
+use std::alloc::Global;
+
+/// A store in memory. It fails only where a fuse makes it fail, and takes no memory but when it is made.
+#[derive(Drop)]
+pub struct MemoryStore {
+    capacity: u32,
+    head: [u8; HEADER_SIZE],
+    first: Vec<u8>,
+    second: Vec<u8>,
+    fault_count: u64,
+    fuse: Option<Fuse>,
+    ghost first_size: { length first.items ≡ capacity },
+    ghost second_size: { length second.items ≡ capacity },
+}
+
+impl MemoryStore {
+    ghost use Rattle.std.specs.Prelude.{◌↔◌, IsTrue, IsErrOf, Some, None};
+    ghost use Rattle.fw_store.specs.Setup.{IsSetup};
+    ghost use Rattle.fw_store.specs.Fresh.{fresh_device};
+    ghost use Rattle.fw_store.specs.Memory.{device_of, capacity_of, faults_of, fuse_of, KeepsAllButFuse, IsSame};
+
+    /// A new store: the factory image is in its first slot, with zeros behind it and in the other one. `capacity` is the
+    /// size of a slot in bytes, 1 to 4,194,304, and `block_size` that of a block, 1 to 1,024. The image has 1 to `capacity`
+    /// bytes. No fuse is set.
+    ///
+    /// # Errors
+    ///
+    /// `BadSetup` where one of these doesn't hold, and otherwise `OutOfMemory` alone.
+    pub fn new(
+        alloc: Global,
+        capacity: u32,
+        block_size: u32,
+        factory: &[u8],
+    ) -> Result<MemoryStore, SetupError>
+        ensures fresh { IfOk result (λ m. device_of m ≡ fresh_device block_size capacity factory.now) }
+        ensures size { IfOk result (λ m. capacity_of m ≡ capacity) }
+        ensures unfused { IfOk result (λ m. fuse_of m ≡ None) }
+        ensures faultless { IfOk result (λ m. faults_of m ≡ 0) }
+        ensures setup { OnOk result (IsSetup block_size capacity factory.now) }
+        ensures bad_setup { IsErrOf result SetupError.BadSetup → ¬ IsSetup block_size capacity factory.now }
+        ensures memory { IsErrOf result SetupError.OutOfMemory → IsSetup block_size capacity factory.now }
+    {
+        if !is_setup(capacity, block_size, factory) {
+            return Err(SetupError::BadSetup);
+        }
+        let head = fresh_bytes(block_size, factory);
+        let mut first = factory.to_vec(alloc)?;
+        first.resize(capacity as usize, 0)?;
+        let second = vec![in alloc; 0; capacity as usize]?;
+        Ok(MemoryStore {
+            capacity,
+            head,
+            first,
+            second,
+            fault_count: 0,
+            fuse: None,
+        })
+    }
+
+    /// The next `calls` calls of the device succeed, and all later ones fail until `unfuse`: `header`, `write_header`,
+    /// `read` and `write` are calls of the device. A `write` that fails leaves the first half of its bytes, rounded down,
+    /// and `torn` in the rest of its range.
+    pub fn fuse(&mut self, calls: u64, torn: u8)
+        ensures set { fuse_of self.new ≡ Some (record { calls = calls; torn = torn }) }
+        ensures rest { KeepsAllButFuse self.old self.new }
+    {
+        self.fuse = Some(Fuse { calls, torn });
+    }
+
+    /// From now on no call fails.
+    pub fn unfuse(&mut self)
+        ensures set { fuse_of self.new ≡ None }
+        ensures rest { KeepsAllButFuse self.old self.new }
+    {
+        self.fuse = None;
+    }
+
+    /// Whether the two have the same capacity, header and slots. Their fuses and counts of faults may differ.
+    pub fn same(&self, other: &MemoryStore) -> bool
+        ensures { IsTrue result ↔ IsSame self.now other.now }
+    {
+        self.capacity == other.capacity
+            && self.head == other.head
+            && self.first == other.first
+            && self.second == other.second
+    }
+}
+
+// Each call of the device has two more clauses than any store's: `fused` says exactly when it fails, and `halves` what a
+// failing write leaves.
+impl ImageStore for MemoryStore {
+    ghost use Rattle.std.specs.Prelude.{true};
+    ghost use Rattle.fw_store.specs.Memory.{device_of, capacity_of, faults_of, fuse_of, is_sound, slot_size, IsFused};
+
+    ghost honest = { λ _. true };
+
+    ghost sound = { is_sound };
+
+    ghost device = { device_of };
+
+    ghost capacity = { capacity_of };
+
+    ghost faults = { faults_of };
+
+    ghost sized = { λ m slot _. slot_size m slot };
+
+    fn capacity(&self) -> u32 {
+        self.capacity
+    }
+
+    fn faults(&self) -> u64 {
+        self.fault_count
+    }
+
+    fn header(&mut self) -> Result<[u8; HEADER_SIZE], StoreFault>
+        ensures done { IfOk result (λ bytes. bytes ≡ (device_of self.old).head) }
+        ensures same { device_of self.new ≡ device_of self.old }
+        ensures kept { Keeps (λ _. true) is_sound capacity_of faults_of self.old self.new }
+        ensures cause { HasCause (is_sound self.old) (faults_of self.old) (faults_of self.new) result }
+        ensures fused { IsFused self.old self.new (is_ok result) }
+    {
+        burn(&mut self.fuse, &mut self.fault_count)?;
+        Ok(self.head)
+    }
+
+    fn write_header(&mut self, bytes: &[u8; HEADER_SIZE]) -> Result<(), StoreFault>
+        ensures done { OnOk result (device_of self.new ≡ with_head (device_of self.old) bytes.now) }
+        ensures same { OnErr result (device_of self.new ≡ device_of self.old) }
+        ensures kept { Keeps (λ _. true) is_sound capacity_of faults_of self.old self.new }
+        ensures cause { HasCause (is_sound self.old) (faults_of self.old) (faults_of self.new) result }
+        ensures fused { IsFused self.old self.new (is_ok result) }
+    {
+        burn(&mut self.fuse, &mut self.fault_count)?;
+        self.head = *bytes;
+        Ok(())
+    }
+
+    fn read(&mut self, slot: Slot, at: u32, out: &mut [u8]) -> Result<(), StoreFault>
+        requires { at + length out.old ≤ capacity_of self.old }
+        ensures done { OnOk result (out.new ≡ slice_range (slot_bytes (device_of self.old) slot) at (at + length out.old)) }
+        ensures same { device_of self.new ≡ device_of self.old }
+        ensures kept { Keeps (λ _. true) is_sound capacity_of faults_of self.old self.new }
+        ensures cause { HasCause (is_sound self.old) (faults_of self.old) (faults_of self.new) result }
+        ensures fused { IsFused self.old self.new (is_ok result) }
+    {
+        burn(&mut self.fuse, &mut self.fault_count)?;
+        let at = at as usize;
+        match slot {
+            Slot::First => out.copy_from_slice(&self.first[at..at + out.len()]),
+            Slot::Second => out.copy_from_slice(&self.second[at..at + out.len()]),
+        }
+        Ok(())
+    }
+
+    fn write(&mut self, slot: Slot, at: u32, bytes: &[u8]) -> Result<(), StoreFault>
+        requires { at + length bytes.now ≤ capacity_of self.old }
+        ensures done { OnOk result (device_of self.new ≡ written (device_of self.old) slot at bytes.now) }
+        ensures torn { OnErr result (Torn (device_of self.old) slot at (length bytes.now) (device_of self.new)) }
+        ensures kept { Keeps (λ _. true) is_sound capacity_of faults_of self.old self.new }
+        ensures cause { HasCause (is_sound self.old) (faults_of self.old) (faults_of self.new) result }
+        ensures fused { IsFused self.old self.new (is_ok result) }
+        ensures halves { OnErr result (device_of self.new
+            ≡ written (device_of self.old) slot at (half_torn bytes.now (torn_of (fuse_of self.old)))) }
+    {
+        let torn = torn_byte(&self.fuse);
+        let passed = burn(&mut self.fuse, &mut self.fault_count);
+        let at = at as usize;
+        match (slot, passed) {
+            (Slot::First, Ok(())) => overwrite(&mut self.first, at, bytes),
+            (Slot::First, Err(_)) => tear(&mut self.first, at, bytes, torn),
+            (Slot::Second, Ok(())) => overwrite(&mut self.second, at, bytes),
+            (Slot::Second, Err(_)) => tear(&mut self.second, at, bytes, torn),
+        }
+        passed
+    }
+}

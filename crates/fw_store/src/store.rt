@@ -1,0 +1,91 @@
+//! What an image store is.
+
+ghost use Rattle.std.specs.Prelude.{◌≡◌, ◌+◌, ◌≤◌, ℕ, Bool, IsTrue, IfOk, OnOk, OnErr, length, slice_range};
+ghost use Rattle.fw_store.specs.Device.{Device, slot_bytes, with_head, written, Torn};
+ghost use Rattle.fw_store.specs.Faults.{Keeps, HasCause};
+ghost use Rattle.fw_store.specs.declared.slot.Slot.{Slot};
+
+use crate::error::StoreFault;
+use crate::header::HEADER_SIZE;
+use crate::slot::Slot;
+
+/// A device with a header of 614 bytes and two slots, which have as many bytes as the capacity. Its calls take no memory.
+///
+/// Of each call two things are said. What holds of every store: it answers `StoreFault` only where the count of faults
+/// rose in that call, or stood at its greatest number before. And what holds of an honest one, of which contents are
+/// known: reads give what was last written, the header is written whole or not at all, and a write that fails leaves any
+/// bytes in its own range and nowhere else.
+pub trait ImageStore {
+    /// Whether the store keeps what is written, as said below.
+    ghost honest: { Self → Bool };
+
+    /// Whether no call fails.
+    ghost sound: { Self → Bool };
+
+    /// What an honest store holds.
+    ghost device: { Self → Device };
+
+    ghost capacity: { Self → ℕ };
+
+    ghost faults: { Self → ℕ };
+
+    /// The size of each slot in bytes.
+    fn capacity(&self) -> u32
+        ensures { result ≡ capacity self.now };
+
+    /// How often the device has failed, up to 2^64 - 1.
+    fn faults(&self) -> u64
+        ensures { result ≡ faults self.now };
+
+    /// The header.
+    ///
+    /// # Errors
+    ///
+    /// `StoreFault` where the device failed.
+    fn header(&mut self) -> Result<[u8; HEADER_SIZE], StoreFault>
+        ensures done { IsTrue (honest self.old) → IfOk result (λ bytes. bytes ≡ (device self.old).head) }
+        ensures same { IsTrue (honest self.old) → device self.new ≡ device self.old }
+        ensures kept { Keeps honest sound capacity faults self.old self.new }
+        ensures cause { HasCause (sound self.old) (faults self.old) (faults self.new) result };
+
+    /// Replaces the header.
+    ///
+    /// # Errors
+    ///
+    /// `StoreFault` where the device failed. The old header then stands.
+    fn write_header(&mut self, bytes: &[u8; HEADER_SIZE]) -> Result<(), StoreFault>
+        ensures done { IsTrue (honest self.old) → OnOk result (device self.new ≡ with_head (device self.old) bytes.now) }
+        ensures same { IsTrue (honest self.old) → OnErr result (device self.new ≡ device self.old) }
+        ensures kept { Keeps honest sound capacity faults self.old self.new }
+        ensures cause { HasCause (sound self.old) (faults self.old) (faults self.new) result };
+
+    /// Fills `out` with the bytes of a slot from `at` on.
+    ///
+    /// # Errors
+    ///
+    /// `StoreFault` where the device failed. `out` may then have any bytes.
+    fn read(&mut self, slot: Slot, at: u32, out: &mut [u8]) -> Result<(), StoreFault>
+        requires { at + length out.old ≤ capacity self.old }
+        ensures done { IsTrue (honest self.old)
+            → OnOk result (out.new ≡ slice_range (slot_bytes (device self.old) slot) at (at + length out.old)) }
+        ensures same { IsTrue (honest self.old) → device self.new ≡ device self.old }
+        ensures kept { Keeps honest sound capacity faults self.old self.new }
+        ensures cause { HasCause (sound self.old) (faults self.old) (faults self.new) result };
+
+    /// Writes bytes into a slot from `at` on.
+    ///
+    /// # Errors
+    ///
+    /// `StoreFault` where the device failed. Any bytes may then stand in their place.
+    fn write(&mut self, slot: Slot, at: u32, bytes: &[u8]) -> Result<(), StoreFault>
+        requires { at + length bytes.now ≤ capacity self.old }
+        ensures done { IsTrue (honest self.old)
+            → OnOk result (device self.new ≡ written (device self.old) slot at bytes.now) }
+        ensures torn { IsTrue (honest self.old)
+            → OnErr result (Torn (device self.old) slot at (length bytes.now) (device self.new)) }
+        ensures kept { Keeps honest sound capacity faults self.old self.new }
+        ensures cause { HasCause (sound self.old) (faults self.old) (faults self.new) result };
+
+    /// Each slot of an honest store has the capacity.
+    ghost sized: { (s : Self) (slot : Slot) → IsTrue (honest s) → length (slot_bytes (device s) slot) ≡ capacity s };
+}

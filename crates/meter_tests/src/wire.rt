@@ -1,0 +1,180 @@
+//! Sessions with a meter, in hexadecimal.
+
+use fw_meter::{Goal, MeterCore, MeterView};
+use fw_names::ImageName;
+use std::alloc::{AllocError, Global};
+use std::process::Abort;
+use std::test::Fail;
+
+/// A request, and the reply to it, or `-` where there is none. APDUs go from wPort 1 to wPort 1; what begins with another
+/// digit than `c` is a whole datagram.
+pub(crate) type Exchange = (&'static str, &'static str);
+
+/// A part of a session.
+pub(crate) enum Part {
+    /// Each request gets its reply.
+    Says(&'static [Exchange]),
+    /// Each request gets its reply, and changes nothing that can be seen.
+    SaysInVain(&'static [Exchange]),
+    /// What can be seen of the meter, as `Wire::sight` tells it.
+    Shows(&'static str),
+}
+
+/// A session with a new meter that runs `abc`, with blocks of two bytes and room for 64.
+pub(crate) fn session<R: AllocGlobal + Abort>(rt: &R, parts: &[Part]) -> Result<(), Fail> {
+    session_with(rt, 2, 64, parts)
+}
+
+/// A session with a new meter that runs `abc`.
+pub(crate) fn session_with<R: AllocGlobal + Abort>(
+    rt: &R,
+    block_size: u32,
+    capacity: u32,
+    parts: &[Part],
+) -> Result<(), Fail> {
+    let mut wire = Wire {
+        meter: MeterCore::fresh(rt.alloc(), block_size, capacity, b"abc")?,
+        told: String::new(rt.alloc()),
+    };
+    parts.iter().try_for_each(|part| wire.take(rt, part))
+}
+
+/// A meter, and the names that it told of when it switched to their images.
+#[derive(Drop)]
+struct Wire {
+    meter: MeterCore,
+    told: String,
+}
+
+impl Wire {
+    fn take<R: AllocGlobal + Abort>(&mut self, rt: &R, part: &Part) -> Result<(), Fail> {
+        match part {
+            Part::Says(exchanges) => exchanges
+                .iter()
+                .try_for_each(|exchange| self.says(rt, exchange)),
+            Part::SaysInVain(exchanges) => exchanges
+                .iter()
+                .try_for_each(|exchange| self.says_in_vain(rt, exchange)),
+            Part::Shows(want) => self.shows(rt, want),
+        }
+    }
+
+    fn says<R: AllocGlobal + Abort>(&mut self, rt: &R, exchange: &Exchange) -> Result<(), Fail> {
+        let (request, want) = exchange;
+        let reply = self.reply_to(rt.alloc(), request)?;
+        let want = datagram(rt.alloc(), want)?;
+        assert_eq!(rt; reply.as_str(), want.as_str(), "to {request}");
+        Ok(())
+    }
+
+    fn says_in_vain<R: AllocGlobal + Abort>(
+        &mut self,
+        rt: &R,
+        exchange: &Exchange,
+    ) -> Result<(), Fail> {
+        let before = self.sight(rt.alloc())?;
+        self.says(rt, exchange)?;
+        self.shows(rt, &before)
+    }
+
+    fn shows<R: AllocGlobal + Abort>(&self, rt: &R, want: &str) -> Result<(), Fail> {
+        let sight = self.sight(rt.alloc())?;
+        assert_eq!(rt; sight.as_str(), want);
+        Ok(())
+    }
+
+    /// The reply to a request, or `-` where there is none.
+    fn reply_to(&mut self, alloc: Global, request: &str) -> Result<String, Fail> {
+        let datagram = hex::decode(alloc, datagram(alloc, request)?.as_str())?;
+        let handled = self.meter.handle(alloc, &datagram)?;
+        if let Some(name) = handled.activated {
+            self.tell(alloc, name)?;
+        }
+        Ok(reply_text(alloc, handled.reply)?)
+    }
+
+    fn tell(&mut self, alloc: Global, name: ImageName) -> Result<(), AllocError> {
+        let name = name_text(alloc, name)?;
+        self.told.push_str(", switched to ")?;
+        self.told.push_str(&name)
+    }
+
+    /// What can be seen: the image that runs and its name, whether transfer is enabled, the status, the goal's size and
+    /// name, the blocks that are marked, and the names that the meter has told of.
+    fn sight(&self, alloc: Global) -> Result<String, AllocError> {
+        let view = self.meter.view();
+        let image = self.running(alloc)?;
+        let name = name_text(alloc, view.active)?;
+        let transfer = transfer_text(alloc, &view)?;
+        let told = self.told.as_str();
+        format!(in alloc; "runs {image} of {name}, {transfer}{told}")
+    }
+
+    /// The image that runs.
+    fn running(&self, alloc: Global) -> Result<String, AllocError> {
+        let mut image = vec![in alloc; 0; self.meter.view().active_size as usize]?;
+        self.meter.read_running(&mut image);
+        hex::encode(alloc, image.as_slice())
+    }
+}
+
+fn reply_text(alloc: Global, reply: Option<Vec<u8>>) -> Result<String, AllocError> {
+    match reply {
+        Some(reply) => hex::encode(alloc, reply.as_slice()),
+        None => String::from_str(alloc, "-"),
+    }
+}
+
+/// What can be seen of a transfer.
+fn transfer_text(alloc: Global, view: &MeterView) -> Result<String, AllocError> {
+    let goal = goal_text(alloc, view.goal)?;
+    let marks = marks_text(alloc, view)?;
+    let MeterView {
+        enabled,
+        status,
+        ..
+    } = view;
+    format!(in alloc; "enabled {enabled}, {status:?}, {goal}, marks{marks}")
+}
+
+/// The numbers of the head end and the campaign, and the first four bytes of the digest.
+fn name_text(alloc: Global, name: ImageName) -> Result<String, AllocError> {
+    let head = name.campaign.head().map_or(0, |head| head.number());
+    let serial = name.campaign.serial();
+    let [a, b, c, d, ..] = name.digest;
+    let digest = u32::from_be_bytes([a, b, c, d]);
+    format!(in alloc; "{head} {serial} {digest:08x}")
+}
+
+fn goal_text(alloc: Global, goal: Option<Goal>) -> Result<String, AllocError> {
+    match goal {
+        None => String::from_str(alloc, "no goal"),
+        Some(goal) => {
+            let name = name_text(alloc, goal.name)?;
+            let size = goal.size;
+            format!(in alloc; "goal {size} of {name}")
+        }
+    }
+}
+
+/// The numbers of the blocks that are marked: block i by bit i, the first bit the top bit of the first byte.
+fn marks_text(alloc: Global, view: &MeterView) -> Result<String, AllocError> {
+    let mut marks = String::new(alloc);
+    for number in 0..4096usize {
+        if view.marked[number / 8] & (0x80u8 >> (number % 8)) != 0 {
+            let mark = format!(in alloc; " {number}")?;
+            marks.push_str(&mark)?;
+        }
+    }
+    Ok(marks)
+}
+
+/// The datagram that carries an APDU from wPort 1 to wPort 1. All else is kept.
+pub(crate) fn datagram(alloc: Global, text: &str) -> Result<String, AllocError> {
+    if text.starts_with('c') {
+        let size = text.len() / 2;
+        format!(in alloc; "000100010001{size:04x}{text}")
+    } else {
+        String::from_str(alloc, text)
+    }
+}
