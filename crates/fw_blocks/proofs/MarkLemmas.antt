@@ -149,3 +149,19 @@ pub packed-bits_set : (bytes : List ℕ) (j y : ℕ) → packed (bits bytes) ≡
 packed-bits_set bytes j y holds small =
     let before : IsBytes bytes = subst IsBytes holds (IsBytes-packed_into (bytes_for (length (bits bytes))) (bits bytes)) in
     packed-bits (set bytes j y) (IsBytes-set bytes j y before small)
+
+-- ---- the first of them
+
+-- the first bits need the first bytes alone
+pub take-bits : (bytes : List ℕ) (k n : ℕ) → n ≤ 8 * k → take n (bits (take k bytes)) ≡ take n (bits bytes)
+take-bits bytes k zero h = refl
+take-bits bytes zero (suc n) h = absurd (omega arith)
+take-bits [] (suc k) (suc n) h = refl
+take-bits (y ∷ ys) (suc k) (suc zero) h = refl
+take-bits (y ∷ ys) (suc k) (suc (suc zero)) h = refl
+take-bits (y ∷ ys) (suc k) (suc (suc (suc zero))) h = refl
+take-bits (y ∷ ys) (suc k) (suc (suc (suc (suc zero)))) h = refl
+take-bits (y ∷ ys) (suc k) (suc (suc (suc (suc (suc zero))))) h = refl
+take-bits (y ∷ ys) (suc k) (suc (suc (suc (suc (suc (suc zero)))))) h = refl
+take-bits (y ∷ ys) (suc k) (suc (suc (suc (suc (suc (suc (suc zero))))))) h = refl
+take-bits (y ∷ ys) (suc k) (suc (suc (suc (suc (suc (suc (suc (suc n)))))))) h = rw (take-bits ys k n (omega arith)) refl

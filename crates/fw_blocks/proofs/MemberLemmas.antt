@@ -1,5 +1,5 @@
 -- Sets of block numbers: the least absent number.
-use Rattle.std.proofs.Common.{◌≡◌, ℕ, zero, suc, ◌+◌, ◌<◌, ◌≤◌, Bool, true, false, List, [], ◌∷◌, length, set, replicate, refl, ap, ◌∙◌, inl, inr, arith}
+use Rattle.std.proofs.Common.{◌≡◌, ℕ, zero, suc, ◌+◌, ◌<◌, ◌≤◌, Bool, true, false, List, [], ◌∷◌, length, set, take, replicate, refl, ap, ◌∙◌, inl, inr, arith}
 use Rattle.std.proofs.lemmas.Bool.{cases_lt}
 use Rattle.fw_blocks.specs.Members.{has, IsComplete, first_missing, IsFirstMissing}
 
@@ -63,6 +63,22 @@ first_missing-here (true ∷ bs) zero h absent = cc
 first_missing-here (false ∷ bs) zero h absent = refl
 first_missing-here (true ∷ bs) (suc i) h absent = omega (arith, first_missing-here bs i (omega arith) absent)
 first_missing-here (false ∷ bs) (suc i) h absent = absurd (omega arith)
+
+-- among the numbers below a count
+
+pub first_missing-take : (members : List Bool) (n : ℕ) → first_missing members ≤ n → first_missing (take n members) ≡ first_missing members
+first_missing-take [] zero h = refl
+first_missing-take [] (suc n) h = refl
+first_missing-take (true ∷ bs) zero h = absurd (omega arith)
+first_missing-take (true ∷ bs) (suc n) h = omega (arith, first_missing-take bs n (omega arith))
+first_missing-take (false ∷ bs) zero h = refl
+first_missing-take (false ∷ bs) (suc n) h = refl
+
+pub first_missing-take_all : (members : List Bool) (n : ℕ) → n ≤ first_missing members → first_missing (take n members) ≡ n
+first_missing-take_all bs zero h = refl
+first_missing-take_all [] (suc n) h = absurd (omega arith)
+first_missing-take_all (true ∷ bs) (suc n) h = omega (arith, first_missing-take_all bs n (omega arith))
+first_missing-take_all (false ∷ bs) (suc n) h = absurd (omega arith)
 
 -- no other number is the least absent one
 pub only_first_missing : (members : List Bool) (n : ℕ) → IsFirstMissing members n → n ≡ first_missing members

@@ -1,11 +1,13 @@
 //! Sets of block numbers as a store keeps them: so many bytes, and no memory beside them.
 
-ghost use Rattle.std.specs.Prelude.{◌≡◌, Bool, List, ◌<◌, ◌≤◌, ◌/◌, true, false, length, replicate, slice_set};
+ghost use Rattle.std.specs.Prelude.{◌≡◌, Bool, List, ◌<◌, ◌≤◌, ◌/◌, true, false, length, take, replicate, slice_set, IfOk};
 ghost use Rattle.fw_axdr.specs.Bits.{bits, packed};
 ghost use Rattle.fw_blocks.specs.Cuts.{max_blocks};
 ghost use Rattle.fw_blocks.specs.Members.{has, first_missing, IsFirstMissing};
 
 use crate::geometry::MAX_BLOCKS;
+use fw_axdr::Bits;
+use std::alloc::{AllocError, Global};
 use std::marker::Model;
 
 /// The bytes of a set of marks: eight marks each.
@@ -77,6 +79,25 @@ impl Marks {
         ensures size { length self.now ≡ max_blocks }
     {
         self.first
+    }
+
+    /// The least number below a count that is not marked, or the count where all below it are.
+    pub fn first_missing_below(&self, count: u32) -> u32
+        requires { count ≤ max_blocks }
+        ensures { result ≡ first_missing (take count self.now) }
+    {
+        self.first.min(count)
+    }
+
+    /// The marks of the numbers below a count as a bit-string, as a meter shows them (IEC 62056-6-2,
+    /// image_transferred_blocks_status). Its one error is want of memory.
+    pub fn to_bits(&self, alloc: Global, count: u32) -> Result<Bits, AllocError>
+        requires { count ≤ max_blocks }
+        ensures { IfOk result (λ bits. bits ≡ take count self.now) }
+    {
+        let size = count.div_ceil(8) as usize;
+        let bytes = self.bytes[..size].to_vec(alloc)?;
+        Ok(Bits::from_vec(bytes, count as usize))
     }
 
     /// The marks as bytes: number i at bit i, the first bit the top bit of the first byte.

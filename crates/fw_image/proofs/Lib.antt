@@ -1,0 +1,8 @@
+mod Splices
+mod Blocks
+mod Meters
+mod Moves
+mod Puts
+mod Openings
+mod Fresh
+mod OneStep

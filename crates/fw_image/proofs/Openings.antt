@@ -1,0 +1,107 @@
+-- What a store is opened as, and what is shown of it.
+use Rattle.std.proofs.Common.{◌≡◌, ℕ, ◌+◌, ◌-◌, ◌<◌, ◌≤◌, ◌↔◌, Bool, false, IsTrue, List, ◌++◌, length, take, drop, replicate, Some, None, Option, refl, sym, ap, subst, ◌∙◌, arith}
+use Rattle.std.proofs.lemmas.List.{length-take-le, length-drop, length-replicate, take-append-drop, ext_get_or, get_or-drop, get_or-replicate}
+use Rattle.sha2.specs.Sha256.{sha256}
+use Rattle.fw_blocks.specs.Cuts.{max_blocks}
+use Rattle.fw_blocks.specs.Members.{has}
+use Rattle.fw_blocks.specs.Laws.{CutsJoin}
+use Rattle.std.specs.Prelude.{IfSome}
+use Rattle.fw_store.specs.Device.{Device, slot_bytes}
+use Rattle.fw_store.specs.Faults.{Keeps}
+use Rattle.fw_store.specs.Slot.{other}
+use Rattle.fw_store.specs.Layout.{header_bytes}
+use Rattle.fw_store.specs.Header.{IsHeader, IsGoal, goal_count}
+use Rattle.fw_store.specs.Laws.{OneHeader}
+use Rattle.fw_store.specs.declared.slot.Slot.{Slot}
+use Rattle.fw_store.specs.declared.store.ImageStore.{Ghosts}
+use Rattle.fw_store.specs.declared.header.Header.{Header}
+use Rattle.fw_store.specs.declared.header.Goal.{Goal}
+use Rattle.fw_store.specs.declared.header.TransferStatus.TheVariants.{VerificationSuccessful}
+use Rattle.fw_image.specs.Meter.{Meter, IsTrusted, status_of, goal_of, goal_bytes}
+use Rattle.fw_image.specs.Shown.{all_marks}
+use Rattle.fw_image.specs.Stored.{phase_of, meter_of, seen, IsHeld, IsMeterOf, Refused}
+use Rattle.fw_image.specs.Moves.{IsVerifiedGenuine}
+use Rattle.fw_image.specs.declared.error.OpenError.{OpenError}
+use Rattle.fw_image.specs.declared.error.OpenError.TheVariants.{Fault, BadHeader, BadImage}
+use Rattle.fw_image.proofs.Meters.{goal_again, status_again, seen_real}
+use Rattle.fw_image.proofs.Moves.{verified_bytes, genuine_with, genuine_from}
+
+-- ---- the marks that a view has
+
+marks_whole : (all n : ℕ) (marks : List Bool) → length marks ≡ all → n ≤ all → ((i : ℕ) → n ≤ i → has marks i ≡ false) → take n marks ++ replicate (all - length (take n marks)) false ≡ marks
+marks_whole all n marks count within none =
+    let front : length (take n marks) ≡ n = length-take-le n marks (omega arith) in
+    let back : length (replicate (all - n) false) ≡ length (drop n marks) = omega (arith, length-replicate (all - n) false, length-drop n marks) in
+    let rest : replicate (all - n) false ≡ drop n marks = ext_get_or false (replicate (all - n) false) (drop n marks) back (λ i below.
+    let here : i < all - n = omega (arith, length-replicate (all - n) false) in
+    let past : n ≤ n + i = omega arith in
+    get_or-replicate (all - n) i false false here ∙ sym (get_or-drop n marks i false ∙ none (n + i) past)) in
+    ap (λ (k : ℕ). take n marks ++ replicate (all - k) false) front ∙ ap (λ (l : List Bool). take n marks ++ l) rest ∙ take-append-drop n marks
+
+count_within : (capacity b : ℕ) (goal : Option Goal) → IfSome goal (IsGoal capacity b) → goal_count b goal ≤ max_blocks
+count_within capacity b None is = omega arith
+count_within capacity b (Some goal) is = is.blocks.few
+
+pub marks_shown : (capacity : ℕ) (h : Header) → IsHeader capacity h → all_marks (take (goal_count h.block_size h.goal) h.marks) ≡ h.marks
+marks_shown capacity h is = marks_whole max_blocks (goal_count h.block_size h.goal) h.marks is.fields.marks (count_within capacity h.block_size h.goal is.goal) is.unmarked
+
+-- ---- one device is one meter
+
+pub same_header : OneHeader → (capacity capacity' : ℕ) (h h' : Header) (d d' : Device) → IsHeader capacity h → IsHeader capacity' h' → header_bytes h ≡ d.head → header_bytes h' ≡ d'.head → d ≡ d' → h ≡ h'
+same_header law capacity capacity' h h' d d' is is' spelled spelled' e = law h h' is.fields is'.fields (spelled ∙ ap (λ (x : Device). x.head) e ∙ sym spelled')
+
+pub same_meter : OneHeader → (capacity capacity' : ℕ) (h h' : Header) (d d' : Device) → IsHeader capacity h → IsHeader capacity' h' → header_bytes h ≡ d.head → header_bytes h' ≡ d'.head → capacity ≡ capacity' → d ≡ d'
+    → meter_of capacity h d ≡ meter_of capacity' h' d'
+same_meter law capacity capacity' h h' d d' is is' spelled spelled' size e =
+    let header : h ≡ h' = same_header law capacity capacity' h h' d d' is is' spelled spelled' e in
+    λ i. meter_of (size i) (header i) (e i)
+
+pub one_meter : OneHeader → (capacity : ℕ) (d : Device) (a b : Meter) → IsMeterOf capacity d a → IsMeterOf capacity d b → a ≡ b
+one_meter law capacity d a b p q =
+    p.means ∙ same_meter law capacity capacity p.header q.header d d p.valid q.valid p.spelled q.spelled refl refl ∙ sym q.means
+
+-- ---- images
+
+-- the goal's bytes as the spare slot has them
+pub verified_iff : CutsJoin → (capacity : ℕ) (h : Header) (d : Device) (goal : Goal) → IsHeader capacity h → ((slot : Slot) → length (slot_bytes d slot) ≡ capacity) → h.status ≡ VerificationSuccessful → h.goal ≡ Some goal
+    → (sha256 (take goal.size (slot_bytes d (other h.running_slot))) ≡ goal.name.digest) ↔ IsVerifiedGenuine (meter_of capacity h d)
+verified_iff cuts capacity h d goal is sized status there =
+    let m = meter_of capacity h d in
+    let bytes = take goal.size (slot_bytes d (other h.running_slot)) in
+    let verified : status_of (phase_of h.status h.goal) ≡ VerificationSuccessful = status_again h.status h.goal is.goal_by_status ∙ status in
+    let whole = verified_bytes cuts capacity h d goal is sized verified there in
+    let has_goal = goal_again h.status h.goal is.goal_by_status ∙ there in
+    (λ same _. genuine_from goal bytes (goal_of m.phase) (goal_bytes m) has_goal whole same, λ genuine. genuine_with goal bytes (goal_of m.phase) (goal_bytes m) has_goal whole (genuine verified))
+
+pub refused_image : {S : Type 0} (t : Ghosts S) (s s' : S) (h : Header) → Keeps t.honest t.sound t.capacity t.faults s s' → (IsTrue (t.honest s) → t.device s' ≡ t.device s) → IsHeader (t.capacity s) h
+    → (IsTrue (t.honest s) → header_bytes h ≡ (t.device s).head) → (IsTrue (t.honest s) → ¬ IsTrusted (meter_of (t.capacity s) h (t.device s)))
+    → Refused t.honest t.sound t.capacity t.faults t.device s BadImage s'
+refused_image t s s' h kept same valid spelled differs = record {
+  reason = λ b.
+      let is : IsMeterOf (t.capacity s) (t.device s) (meter_of (t.capacity s) h (t.device s)) = record { header = h; valid = valid; spelled = spelled b; means = refl } in
+      (meter_of (t.capacity s) h (t.device s), is, differs b);
+  cause = λ e. absurd cc;
+  never = λ _ e. cc;
+  same = same;
+  kept = kept;
+}
+
+-- ---- what holds a meter is opened as it
+
+pub opened_again : {S : Type 0} (t : Ghosts S) (s s' : S) (h : Header) (meter : Meter) → OneHeader → Keeps t.honest t.sound t.capacity t.faults s s' → (IsTrue (t.honest s) → t.device s' ≡ t.device s)
+    → IsHeld t.honest t.capacity t.device s' h → IsMeterOf (t.capacity s) (t.device s) meter → IsTrue (t.honest s)
+    → meter_of (t.capacity s') h (seen (t.honest s') (t.capacity s') (t.device s')) ≡ meter
+opened_again t s s' h meter law kept same held was honest =
+    let still : IsTrue (t.honest s') = kept.honesty ∙ honest in
+    ap (meter_of (t.capacity s') h) (seen_real (t.honest s') (t.capacity s') (t.device s') still)
+    ∙ same_meter law (t.capacity s') (t.capacity s) h was.header (t.device s') (t.device s) held.valid was.valid (held.stored still) was.spelled kept.size (same honest)
+    ∙ sym was.means
+
+pub not_refused : {S : Type 0} (t : Ghosts S) (s s' : S) (error : OpenError) (meter : Meter) → OneHeader → Refused t.honest t.sound t.capacity t.faults t.device s error s'
+    → IsMeterOf (t.capacity s) (t.device s) meter → IsTrusted meter → IsTrue (t.honest s) → IsTrue (t.sound s) → ⊥
+not_refused t s s' Fault meter law refused is trusted honest sound = refused.never sound refl
+not_refused t s s' BadHeader meter law refused is trusted honest sound = refused.reason honest meter is
+not_refused t s s' BadImage meter law refused is trusted honest sound =
+    let reason = refused.reason honest in
+    let same : meter ≡ reason.0 = one_meter law (t.capacity s) (t.device s) meter reason.0 is reason.1 in
+    reason.2 (subst IsTrusted same trusted)

@@ -1,0 +1,105 @@
+use Rattle.std.proofs.Common.{◌≡◌, IsTrue, true, false, length, refl, sym, ◌∙◌}
+use Rattle.fw_store.specs.Device.{slot_bytes, Torn}
+use Rattle.fw_store.specs.declared.slot.Slot.{Slot}
+use Rattle.fw_store.specs.declared.header.TransferStatus.TheVariants.{Initiated}
+use Rattle.fw_image.specs.Meter.{status_of}
+use Rattle.fw_image.specs.Step.{block, done, refused}
+use Rattle.fw_image.specs.Stored.{meter_of, phase_of, seen}
+use Rattle.fw_image.specs.declared.error.Refusal.TheVariants.{Fault}
+use Rattle.fw_image.proofs.Blocks.{mark_more, mark_again}
+use Rattle.fw_image.proofs.Meters.{seen_size, headed}
+use Rattle.fw_image.proofs.Moves.{makes_served, keeps_twice, fault_told, is_receiving, counted_after}
+use Rattle.fw_image.proofs.Puts.{leaves_put, tears_put, served_block, marks_in, valid_marked, wrote, wrote_then}
+use Rattle.fw_image.proofs.held.Held.block.Goals as goal
+
+pub returns-in_err-write-clause-makes : goal.returns-in_err-write-clause-makes
+returns-in_err-write-clause-makes g c =
+    let s = g.S.ImageStore in
+    let store = c.self.inside.store in
+    let h = c.self.inside.header in
+    let valid = c.self.invariant.valid in
+    let status : status_of (phase_of h.status h.goal) ≡ Initiated = rw (← c.self.view_is) at c.requires in
+    let place = c.in-Some.ensures.found in
+    let phase = is_receiving _ h place.goal valid status place.there in
+    let m = meter_of (s.capacity store) h (seen (s.honest store) (s.capacity store) (s.device store)) in
+    let sized = seen_size (s.honest store) (s.capacity store) (s.device store) (g.met.S.ImageStore.sized store) in
+    let told = c.in_err-write.ensures in
+    let ok : IsTrue (s.sound store) → false ≡ true = λ sound. told.cause.never sound in
+    rw (← c.self.view_is, fault_told c.from_residual.result c.from_residual.ensures.1)
+    (makes_served s store c.write.new.self h h (block c.args.number c.args.value.now) (refused Fault) told.kept (λ _. (told.cause.counted (refl {a = true}), λ sound. let bad = ok sound in cc))
+    (served_block m place.goal c.args.number c.args.value.now c.if-not-self.false phase place.is_block)
+    (tears_put c.other_blocks_stay.ensures c.begins_within.ensures (s.honest store) (s.capacity store) h (s.device store) (s.device c.write.new.self) c.other-spare.result c.args.number c.in-Some.start c.args.value.now
+    valid sized place c.other-spare.ensures told.torn))
+
+pub returns-then-has-clause-makes : goal.returns-then-has-clause-makes
+returns-then-has-clause-makes g c =
+    let s = g.S.ImageStore in
+    let store = c.self.inside.store in
+    let h = c.self.inside.header in
+    let valid = c.self.invariant.valid in
+    let status : status_of (phase_of h.status h.goal) ≡ Initiated = rw (← c.self.view_is) at c.requires in
+    let place = c.in-Some.ensures.found in
+    let phase = is_receiving _ h place.goal valid status place.there in
+    let m = meter_of (s.capacity store) h (seen (s.honest store) (s.capacity store) (s.device store)) in
+    let sized = seen_size (s.honest store) (s.capacity store) (s.device store) (g.met.S.ImageStore.sized store) in
+    let told = c.in_ok-write.ensures in
+    let after : (slot : Slot) → IsTrue (s.honest store) → length (slot_bytes (s.device c.write.new.self) slot) ≡ s.capacity store =
+    λ slot honest. g.met.S.ImageStore.sized c.write.new.self slot (told.kept.honesty ∙ honest) ∙ told.kept.size in
+    let sized' = seen_size (s.honest store) (s.capacity store) (s.device c.write.new.self) after in
+    let marked = sym c.has.ensures ∙ c.if-has.true in
+    rw (← c.self.view_is)
+    (makes_served s store c.write.new.self h h (block c.args.number c.args.value.now) done told.kept (λ e. absurd cc)
+    (served_block m place.goal c.args.number c.args.value.now c.if-not-self.false phase place.is_block)
+    (leaves_put c.other_blocks_stay.ensures c.begins_within.ensures (s.honest store) (s.capacity store) h (s.device store) (s.device c.write.new.self) c.args.number c.in-Some.start c.args.value.now h.marks
+    valid valid sized sized' place (mark_again h.marks c.args.number marked) (λ honest. wrote h c.other-spare.result c.in-Some.start c.args.value.now _ _ c.other-spare.ensures (told.done honest))))
+
+pub returns-in_err-replace-clause-makes : goal.returns-in_err-replace-clause-makes
+returns-in_err-replace-clause-makes g c =
+    let s = g.S.ImageStore in
+    let store = c.self.inside.store in
+    let h = c.self.inside.header in
+    let valid = c.self.invariant.valid in
+    let status : status_of (phase_of h.status h.goal) ≡ Initiated = rw (← c.self.view_is) at c.requires in
+    let place = c.in-Some.ensures.found in
+    let phase = is_receiving _ h place.goal valid status place.there in
+    let m = meter_of (s.capacity store) h (seen (s.honest store) (s.capacity store) (s.device store)) in
+    let sized = seen_size (s.honest store) (s.capacity store) (s.device store) (g.met.S.ImageStore.sized store) in
+    let first = c.in_ok-write.ensures in
+    let told = c.in_err-replace.ensures in
+    let still : IsTrue (s.honest store) → IsTrue (s.honest c.write.new.self) = λ honest. first.kept.honesty ∙ honest in
+    let ok : IsTrue (s.sound store) → false ≡ true = λ sound. told.cause.never (first.kept.soundness sound) in
+    let torn : IsTrue (s.honest store) → Torn (s.device store) c.other-spare.result c.in-Some.start (length c.args.value.now) (s.device c.replace.new.store) =
+    λ honest. record { left = c.args.value.now; size = refl; stands = told.same (still honest) ∙ first.done honest } in
+    rw (← c.self.view_is, fault_told c.from_residual-in_err-replace.result c.from_residual-in_err-replace.ensures.1, told.failed)
+    (makes_served s store c.replace.new.store h h (block c.args.number c.args.value.now) (refused Fault) (keeps_twice s store c.write.new.self c.replace.new.store first.kept told.kept)
+    (λ _. (counted_after _ _ _ first.kept.later told.kept.later (told.cause.counted (refl {a = true})), λ sound. let bad = ok sound in cc))
+    (served_block m place.goal c.args.number c.args.value.now c.if-not-self.false phase place.is_block)
+    (tears_put c.other_blocks_stay.ensures c.begins_within.ensures (s.honest store) (s.capacity store) h (s.device store) (s.device c.replace.new.store) c.other-spare.result c.args.number c.in-Some.start c.args.value.now
+    valid sized place c.other-spare.ensures torn))
+
+pub returns-clause-makes : goal.returns-clause-makes
+returns-clause-makes g c =
+    let s = g.S.ImageStore in
+    let store = c.self.inside.store in
+    let h = c.self.inside.header in
+    let valid = c.self.invariant.valid in
+    let status : status_of (phase_of h.status h.goal) ≡ Initiated = rw (← c.self.view_is) at c.requires in
+    let place = c.in-Some.ensures.found in
+    let phase = is_receiving _ h place.goal valid status place.there in
+    let m = meter_of (s.capacity store) h (seen (s.honest store) (s.capacity store) (s.device store)) in
+    let sized = seen_size (s.honest store) (s.capacity store) (s.device store) (g.met.S.ImageStore.sized store) in
+    let first = c.in_ok-write.ensures in
+    let told = c.in_ok-replace.ensures in
+    let kept = keeps_twice s store c.write.new.self c.replace.new.store first.kept told.kept in
+    let still : IsTrue (s.honest store) → IsTrue (s.honest c.write.new.self) = λ honest. first.kept.honesty ∙ honest in
+    let after : (slot : Slot) → IsTrue (s.honest store) → length (slot_bytes (s.device c.replace.new.store) slot) ≡ s.capacity store =
+    λ slot honest. g.met.S.ImageStore.sized c.replace.new.store slot (kept.honesty ∙ honest) ∙ kept.size in
+    let sized' = seen_size (s.honest store) (s.capacity store) (s.device c.replace.new.store) after in
+    let marked = mark_more h.marks c.mark.new.self c.args.number (marks_in _ h c.args.number c.in-Some.start c.args.value.now valid place) c.mark.ensures in
+    let valid' = valid_marked _ h c.args.number c.in-Some.start c.args.value.now c.mark.new.self valid status place marked told.fits in
+    rw (← c.self.view_is, told.done)
+    (makes_served s store c.replace.new.store h (record h { marks = c.mark.new.self }) (block c.args.number c.args.value.now) done kept (λ e. absurd cc)
+    (served_block m place.goal c.args.number c.args.value.now c.if-not-self.false phase place.is_block)
+    (leaves_put c.other_blocks_stay.ensures c.begins_within.ensures (s.honest store) (s.capacity store) h (s.device store) (s.device c.replace.new.store) c.args.number c.in-Some.start c.args.value.now c.mark.new.self
+    valid valid' sized sized' place marked (λ honest.
+    wrote_then h c.in-Some.start c.args.value.now (s.device store) (s.device c.write.new.self) (s.device c.replace.new.store) (wrote h c.other-spare.result c.in-Some.start c.args.value.now (s.device store) (s.device c.write.new.self) c.other-spare.ensures (first.done honest)) (headed (s.device c.write.new.self) (s.device c.replace.new.store) _ (told.written (still honest))))))

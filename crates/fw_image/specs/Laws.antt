@@ -1,0 +1,25 @@
+-- Public vocabulary: the laws of meters in stores. They speak of definitions alone.
+use Rattle.std.specs.Prelude.{◌≡◌, ◌≢◌, ℕ, true, List}
+use Rattle.fw_store.specs.Device.{Device}
+use Rattle.fw_store.specs.Fresh.{fresh_device}
+use Rattle.fw_store.specs.Setup.{IsSetup}
+use Rattle.fw_image.specs.Fresh.{fresh_meter}
+use Rattle.fw_image.specs.Meter.{Meter, IsTrusted}
+use Rattle.fw_image.specs.Step.{Operation, Outcome, refused, Step}
+use Rattle.fw_image.specs.Stored.{IsMeterOf}
+use Rattle.fw_image.specs.declared.error.Refusal.TheVariants.{Fault}
+
+-- a device is one meter at most
+abbrev pub OneMeter : Type 0
+OneMeter = (capacity : ℕ) (d : Device) (a b : Meter) → IsMeterOf capacity d a → IsMeterOf capacity d b → a ≡ b
+
+-- a new store holds a new meter, whose image has the digest of its name
+abbrev pub FreshIsMeter : Type 0
+FreshIsMeter = (block_size capacity : ℕ) (factory : List ℕ) → IsSetup block_size capacity factory
+    → IsMeterOf capacity (fresh_device block_size capacity factory) (fresh_meter block_size capacity factory)
+    × IsTrusted (fresh_meter block_size capacity factory)
+
+-- over an honest store, where no call of it failed, a meter and an operation determine what is told and the meter afterwards
+abbrev pub OneStep : Type 0
+OneStep = (old new other : Meter) (operation : Operation) (a b : Outcome) → Step true old operation a new → Step true old operation b other
+    → a ≢ refused Fault → b ≢ refused Fault → (a ≡ b) × (new ≡ other)

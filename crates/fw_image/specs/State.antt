@@ -1,0 +1,45 @@
+-- Public vocabulary: a meter and the store that holds it, as callers see them.
+use Rattle.std.specs.Prelude.{◌≡◌, ◌≢◌, ◌≤◌, ℕ, Bool, IsTrue, Result, Ok, Err}
+use Rattle.fw_store.specs.Device.{Device}
+use Rattle.fw_store.specs.Faults.{Counted}
+use Rattle.fw_image.specs.Meter.{Meter}
+use Rattle.fw_image.specs.Step.{Operation, Outcome, done, refused, Refuses, Step}
+use Rattle.fw_image.specs.declared.error.Refusal.{Refusal}
+use Rattle.fw_image.specs.declared.error.Refusal.TheVariants.{Fault}
+
+pub record State : Type 0 where
+  -- what the header and the slots mean
+  pub meter : Meter
+  -- what the store holds, as far as that is known
+  pub device : Device
+  -- the store gives what was written
+  pub honest : Bool
+  -- no call of the store fails
+  pub sound : Bool
+  -- how often the store has failed
+  pub faults : ℕ
+
+-- what every call keeps, whatever it answers
+pub record Follows (old new : State) : Type 0 where
+  pub honesty : new.honest ≡ old.honest
+  pub soundness : IsTrue old.sound → IsTrue new.sound
+  pub later : old.faults ≤ new.faults
+
+-- From old, a state makes the step of this operation with this outcome and goes on to new. What a line refuses makes no call of the
+-- store. The store is blamed only where it failed.
+pub record Makes (old : State) (operation : Operation) (outcome : Outcome) (new : State) : Type 0 where
+  pub step : Step old.honest old.meter operation outcome new.meter
+  pub untouched : (r : Refusal) → Refuses old.meter operation r → new ≡ old
+  pub follows : Follows old new
+  pub cause : outcome ≡ refused Fault → Counted old.faults new.faults
+  pub never : IsTrue old.sound → outcome ≢ refused Fault
+
+-- ---- what a call answers, and the state that it leaves
+
+abbrev pub told : {A B : Type 0} → Result A (Refusal × B) → Outcome
+told (Ok next) = done
+told (Err e) = refused e.0
+
+abbrev pub left : Result State (Refusal × State) → State
+left (Ok next) = next
+left (Err e) = e.1

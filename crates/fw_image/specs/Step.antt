@@ -1,0 +1,129 @@
+-- Public vocabulary: the step of a meter on an operation of Image transfer (IEC 62056-6-2, the methods and their effects). Refusals
+-- are own; of several that apply the first in the order here is given.
+use Rattle.std.specs.Prelude.{◌≡◌, ℕ, ◌-◌, ◌<◌, ◌≤◌, Bool, true, false, IsTrue, List, length, Option, Some, ◌⊎◌}
+use Rattle.std.specs.FinMap.{insert, empty, get}
+use Rattle.fw_names.specs.Name.{Name, IsOpened}
+use Rattle.fw_blocks.specs.Cuts.{IsWithinLimits, block_start, block_end, block_count}
+use Rattle.fw_image.specs.Meter.{Meter, Phase, receiving, sealed, spoilt, switched, goal_of, goal_bytes, IsGenuine}
+use Rattle.fw_image.specs.Shown.{shown_of}
+use Rattle.fw_image.specs.declared.error.Refusal.{Refusal}
+use Rattle.fw_image.specs.declared.error.Refusal.TheVariants.{Disabled, BadInitiate, BadBlock, Missing, Fault, Differs}
+
+pub data Operation : Type 0 where
+  enable : Bool → Operation
+  initiate : Name → ℕ → Operation
+  block : ℕ → List ℕ → Operation
+  verify : Operation
+  activate : Operation
+
+-- an operation is done, or refused
+pub data Outcome : Type 0 where
+  done : Outcome
+  refused : Refusal → Outcome
+
+-- ---- the lines before any call of the store
+
+-- what can be initiated: an image that a campaign offers, of a size within the limits
+pub record IsOffer (block_size capacity : ℕ) (name : Name) (size : ℕ) : Type 0 where
+  pub opened : IsOpened name.campaign
+  pub fits : size ≤ capacity
+  pub limits : IsWithinLimits block_size size
+
+-- a block of an image of so many bytes: its number, and just its length
+pub record IsBlock (block_size size number : ℕ) (value : List ℕ) : Type 0 where
+  pub below : number < block_count block_size size
+  pub long : length value ≡ block_end block_size size number - block_start block_size number
+
+-- What a phase admits: an initiate in each, a block and a verify while blocks are received, an activate of a verified image.
+abbrev pub Admits : Meter → Phase → Operation → Type 0
+Admits m phase (enable b) = Unit {0}
+Admits m phase (initiate name size) = IsOffer m.block_size m.capacity name size
+Admits m (receiving goal) (block i value) = IsBlock m.block_size goal.size i value
+Admits m phase (block i value) = ⊥
+Admits m (receiving goal) verify = (bytes : List ℕ) × (goal_bytes m ≡ Some bytes)
+Admits m phase verify = ⊥
+Admits m (sealed goal) activate = Unit {0}
+Admits m phase activate = ⊥
+
+-- by which an operation is refused that a phase doesn't admit
+abbrev pub refusal_in : Phase → Operation → Refusal
+refusal_in phase (initiate name size) = BadInitiate
+refusal_in (receiving goal) (block i value) = BadBlock
+refusal_in phase operation = Missing
+
+-- the first line that refuses an operation: while transfer is disabled, no method is served
+abbrev pub Refuses : Meter → Operation → Refusal → Type 0
+Refuses m (enable b) r = ⊥
+Refuses m operation r =
+    ((m.enabled ≡ false) × (r ≡ Disabled))
+    ⊎ ((m.enabled ≡ true) × (r ≡ refusal_in m.phase operation) × ¬ Admits m m.phase operation)
+
+-- no line refuses it
+abbrev pub Serves : Meter → Operation → Type 0
+Serves m (enable b) = Unit {0}
+Serves m operation = (m.enabled ≡ true) × Admits m m.phase operation
+
+-- ---- what an operation does that none of them refuses
+
+abbrev pub begun : Meter → Name → ℕ → Meter
+begun m name size = record m { phase = receiving (record { name = name; size = size }); cells = empty }
+
+abbrev pub with_cell : Meter → ℕ → List ℕ → Meter
+with_cell m i value = record m { cells = insert m.cells i value }
+
+-- the goal is verified
+abbrev pub sealed_phase : Phase → Phase
+sealed_phase (receiving goal) = sealed goal
+sealed_phase phase = phase
+
+-- the goal's bytes are not its name's
+abbrev pub spoilt_phase : Phase → Phase
+spoilt_phase (receiving goal) = spoilt goal
+spoilt_phase phase = phase
+
+-- the goal's image runs
+abbrev pub switched_to : Meter → Phase → Option (List ℕ) → Meter
+switched_to m (sealed goal) (Some bytes) = record m { phase = switched; cells = empty; running = record { name = goal.name; bytes = bytes } }
+switched_to m phase bytes = m
+
+-- The meter afterwards shows what this one does, and is this one where the store is honest.
+pub record Leaves (honest : Bool) (this new : Meter) : Type 0 where
+  pub shows : shown_of new ≡ shown_of this
+  pub is : IsTrue honest → new ≡ this
+
+-- A block write that failed leaves any bytes of its length in its cell, if that cell was there, and the meter as it was otherwise.
+abbrev pub Tears : Bool → Meter → ℕ → List ℕ → Meter → Type 0
+Tears honest old i value new =
+    Leaves honest old new
+    ⊎ ((there any : List ℕ) × (get old.cells i ≡ Some there) × (length any ≡ length value) × Leaves honest (with_cell old i any) new)
+
+abbrev pub Does : Bool → Meter → Operation → Outcome → Meter → Type 0
+Does honest old (enable b) done new = Leaves honest (record old { enabled = b }) new
+Does honest old (initiate name size) done new = Leaves honest (begun old name size) new
+Does honest old (block i value) done new = Leaves honest (with_cell old i value) new
+Does honest old verify done new =
+    Leaves honest (record old { phase = sealed_phase old.phase }) new × (IsTrue honest → IsGenuine (goal_of old.phase) (goal_bytes old))
+Does honest old activate done new = Leaves honest (switched_to old old.phase (goal_bytes old)) new
+Does honest old verify (refused Differs) new =
+    Leaves honest (record old { phase = spoilt_phase old.phase }) new × (IsTrue honest → ¬ IsGenuine (goal_of old.phase) (goal_bytes old))
+Does honest old (block i value) (refused Fault) new = Tears honest old i value new
+Does honest old operation (refused Fault) new = Leaves honest old new
+Does honest old operation (refused r) new = ⊥
+
+-- ---- the step
+
+-- a line refuses the operation, and the meter is as it was
+pub record IsRefused (honest : Bool) (old : Meter) (operation : Operation) (outcome : Outcome) (new : Meter) : Type 0 where
+  pub refusal : Refusal
+  pub line : Refuses old operation refusal
+  pub told : outcome ≡ refused refusal
+  pub same : Leaves honest old new
+
+-- no line refuses it
+pub record IsServed (honest : Bool) (old : Meter) (operation : Operation) (outcome : Outcome) (new : Meter) : Type 0 where
+  pub serves : Serves old operation
+  pub does : Does honest old operation outcome new
+
+-- From old, a meter over a store that is honest or not comes to this on an operation, and goes on to new.
+abbrev pub Step : Bool → Meter → Operation → Outcome → Meter → Type 0
+Step honest old operation outcome new = IsRefused honest old operation outcome new ⊎ IsServed honest old operation outcome new

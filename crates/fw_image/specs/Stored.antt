@@ -1,0 +1,108 @@
+-- Public vocabulary: the meter that a header and two slots are.
+use Rattle.std.specs.Prelude.{◌≡◌, ◌≢◌, ℕ, zero, suc, Bool, true, false, IsTrue, if◌then◌else◌, List, [], take, replicate, Option, Some, None}
+use Rattle.std.specs.FinMap.{insert, empty}
+use Rattle.fw_blocks.specs.Cuts.{cut, block_count}
+use Rattle.fw_blocks.specs.Members.{has}
+use Rattle.fw_store.specs.Device.{Device, slot_bytes}
+use Rattle.fw_store.specs.Faults.{Keeps, Counted}
+use Rattle.fw_store.specs.Slot.{other}
+use Rattle.fw_store.specs.Layout.{header_bytes}
+use Rattle.fw_store.specs.Header.{IsHeader}
+use Rattle.fw_store.specs.declared.header.Header.{Header}
+use Rattle.fw_store.specs.declared.header.Goal.{Goal}
+use Rattle.fw_store.specs.declared.header.TransferStatus.{TransferStatus}
+use Rattle.fw_store.specs.declared.header.TransferStatus.TheVariants.{NotInitiated, Initiated, VerificationSuccessful, VerificationFailed, ActivationSuccessful}
+use Rattle.fw_image.specs.Meter.{Meter, Phase, idle, receiving, sealed, spoilt, switched, Cells, IsTrusted}
+use Rattle.fw_image.specs.State.{State}
+use Rattle.fw_image.specs.declared.error.OpenError.{OpenError}
+use Rattle.fw_image.specs.declared.error.OpenError.TheVariants.{Fault, BadHeader, BadImage}
+
+-- the phase of a status and a goal: a header that a store can have has a goal in just the statuses whose phase has one
+abbrev pub phase_of : TransferStatus → Option Goal → Phase
+phase_of NotInitiated goal = idle
+phase_of ActivationSuccessful goal = switched
+phase_of Initiated (Some goal) = receiving goal
+phase_of VerificationSuccessful (Some goal) = sealed goal
+phase_of VerificationFailed (Some goal) = spoilt goal
+phase_of status None = idle
+
+-- the marked blocks below a number, each with its bytes
+abbrev pub blocks_below : ℕ → List Bool → List ℕ → ℕ → Cells
+blocks_below block_size marks bytes zero = empty
+blocks_below block_size marks bytes (suc n) =
+    let fewer = blocks_below block_size marks bytes n in
+    if has marks n then insert fewer n (cut block_size bytes n) else fewer
+
+-- the marked blocks of a goal, whose bytes the spare slot begins with
+abbrev pub cells_of : ℕ → List Bool → List ℕ → Option Goal → Cells
+cells_of block_size marks spare None = empty
+cells_of block_size marks spare (Some goal) = blocks_below block_size marks (take goal.size spare) (block_count block_size goal.size)
+
+-- the meter of a header and a device with slots of so many bytes
+abbrev pub meter_of : ℕ → Header → Device → Meter
+meter_of capacity h d = record {
+  block_size = h.block_size;
+  capacity = capacity;
+  enabled = h.enabled;
+  phase = phase_of h.status h.goal;
+  cells = cells_of h.block_size h.marks (slot_bytes d (other h.running_slot)) h.goal;
+  running = record { name = h.running_name; bytes = take h.running_size (slot_bytes d h.running_slot) };
+}
+
+-- what is known of a device: its bytes where the store is honest, and else nothing, for which zeros stand
+abbrev pub seen : Bool → ℕ → Device → Device
+seen true capacity d = d
+seen false capacity d = record { head = []; first = replicate capacity 0; second = replicate capacity 0 }
+
+-- the state of a store and the header that it was given
+abbrev pub state_of : {S : Type 0} → (S → Bool) → (S → Bool) → (S → ℕ) → (S → ℕ) → (S → Device) → S → Header → State
+state_of honest sound capacity faults device store h =
+    let d = seen (honest store) (capacity store) (device store) in record {
+      meter = meter_of (capacity store) h d;
+      device = d;
+      honest = honest store;
+      sound = sound store;
+      faults = faults store;
+    }
+
+-- The header is one that a store can have. Where the store is honest it stands there, and the images have their names' digests.
+pub record IsHeld {S : Type 0} (honest : S → Bool) (capacity : S → ℕ) (device : S → Device) (store : S) (h : Header) : Type 0 where
+  pub valid : IsHeader (capacity store) h
+  pub stored : IsTrue (honest store) → header_bytes h ≡ (device store).head
+  pub trusted : IsTrue (honest store) → IsTrusted (meter_of (capacity store) h (device store))
+
+-- A device with slots of so many bytes is this meter: its header is spelled there, and is one that a store can have.
+pub record IsMeterOf (capacity : ℕ) (d : Device) (m : Meter) : Type 0 where
+  pub header : Header
+  pub valid : IsHeader capacity header
+  pub spelled : header_bytes header ≡ d.head
+  pub means : m ≡ meter_of capacity header d
+
+-- A store holds a state: they are as honest and as large as each other, and where the store is honest its device is the meter, whose
+-- images have the digests of their names.
+pub record Holds {S : Type 0} (honest : S → Bool) (capacity : S → ℕ) (device : S → Device) (store : S) (state : State) : Type 0 where
+  pub honesty : state.honest ≡ honest store
+  pub size : state.meter.capacity ≡ capacity store
+  pub contents : IsTrue (honest store) → state.device ≡ device store
+  pub means : IsTrue (honest store) → IsMeterOf (capacity store) (device store) state.meter
+  pub trusted : IsTrue (honest store) → IsTrusted state.meter
+
+-- Why a store was not opened. Where it is honest: its header is none that it can have, or it is a meter, and an image has not the digest
+-- of its name.
+abbrev pub IsCause : OpenError → ℕ → Device → Type 0
+IsCause Fault capacity d = Unit {0}
+IsCause BadHeader capacity d = (m : Meter) → ¬ IsMeterOf capacity d m
+IsCause BadImage capacity d = (m : Meter) × IsMeterOf capacity d m × ¬ IsTrusted m
+
+-- A store was not opened for this reason, and is handed back. A fault is told only where it failed.
+pub record Refused {S : Type 0} (honest sound : S → Bool) (capacity faults : S → ℕ) (device : S → Device) (store : S) (error : OpenError) (back : S) : Type 0 where
+  pub reason : IsTrue (honest store) → IsCause error (capacity store) (device store)
+  pub cause : error ≡ Fault → Counted (faults store) (faults back)
+  pub never : IsTrue (sound store) → error ≢ Fault
+  pub same : IsTrue (honest store) → device back ≡ device store
+  pub kept : Keeps honest sound capacity faults store back
+
+-- two stores have the same capacity, header and slots
+pub record IsSameStore (a b : State) : Type 0 where
+  pub size : a.meter.capacity ≡ b.meter.capacity
+  pub device : a.device ≡ b.device

@@ -1,0 +1,405 @@
+//! The header of a meter beside its store, and what the operations of Image transfer do to the two.
+
+ghost use Rattle.std.specs.Prelude.{◌≡◌, ◌≢◌, ◌≤◌, ◌↔◌, IsTrue, IfSome, IfNone, IfOk, IfErr, OnOk, OnErr, IsOkAnd, true, false, length, take, if◌then◌else◌};
+ghost use Rattle.sha2.specs.Sha256.{sha256};
+ghost use Rattle.fw_blocks.specs.Cuts.{IsWithinLimits, block_count, max_blocks};
+ghost use Rattle.fw_store.specs.Device.{with_head, slot_bytes};
+ghost use Rattle.fw_store.specs.Faults.{Keeps, HasCause};
+ghost use Rattle.fw_store.specs.Header.{FieldsFit, IsHeader};
+ghost use Rattle.fw_store.specs.Layout.{header_bytes};
+ghost use Rattle.fw_store.specs.declared.header.Goal.{Goal};
+ghost use Rattle.fw_store.specs.declared.header.TransferStatus.TheVariants.{Initiated, VerificationSuccessful, VerificationFailed, ActivationSuccessful};
+ghost use Rattle.fw_image.specs.Meter.{Meter, status_of, count_of, marks_of, IsTrusted};
+ghost use Rattle.fw_image.specs.Shown.{shown_of, IsView};
+ghost use Rattle.fw_image.specs.Step.{enable, initiate, block, verify, activate, IsOffer, IsBlock};
+ghost use Rattle.fw_image.specs.State.{Makes, Follows};
+ghost use Rattle.fw_image.specs.Stored.{meter_of, IsHeld, IsMeterOf, Holds, Refused, IsSameStore};
+ghost use Rattle.fw_image.specs.Moves.{outcome_of, IsPlace, IsWholeGoal, LacksBlock, IsVerifiedGenuine};
+
+use crate::error::{OpenError, Refusal};
+use crate::view::MeterView;
+use fw_blocks::{Geometry, Marks, laws};
+use fw_names::ImageName;
+use fw_store::{
+    Goal, Header, ImageStore, MemoryStore, Slot, StoreFault, TransferStatus, laws as store_laws,
+};
+use fw_verify::digest;
+use std::marker::Model;
+
+/// A store, and the header that stands in it.
+#[derive(Drop)]
+pub(crate) struct Held<S: ImageStore> {
+    store: S,
+    header: Header,
+}
+
+impl<S: ImageStore> Model for Held<S> {
+    ghost use Rattle.std.specs.Coded.{codes};
+    ghost use Rattle.fw_image.specs.Meter.{cells_code};
+    ghost use Rattle.fw_image.specs.State.{State};
+
+    ghost Value = { State };
+
+    ghost coded = { Prim.hlevel (codes, cells_code) };
+
+    ghost use Rattle.fw_image.specs.Stored.{state_of, IsHeld};
+
+    ghost view = { λ s. state_of S.honest S.sound S.capacity S.faults S.device s.store s.header };
+
+    ghost invariant = { λ s. IsHeld S.honest S.capacity S.device s.store s.header };
+}
+
+impl<S: ImageStore> Held<S> {
+    /// Enables transfer, or disables it.
+    pub(crate) fn set_enabled(&mut self, enabled: bool) -> Result<(), Refusal>
+        ensures makes { Makes self.old (enable enabled) (outcome_of result) self.new }
+        ensures stays { self.new.meter.phase ≡ self.old.meter.phase }
+    {
+        let next = Header {
+            enabled,
+            ..self.header
+        };
+        replace(&mut self.store, &mut self.header, next)?;
+        Ok(())
+    }
+
+    /// Begins to receive an image.
+    pub(crate) fn initiate(&mut self, name: ImageName, size: u32) -> Result<(), Refusal>
+        ensures makes { Makes self.old (initiate name size) (outcome_of result) self.new }
+        ensures begins { OnOk result (status_of self.new.meter.phase ≡ Initiated) }
+        ensures stays { OnErr result (self.new.meter.phase ≡ self.old.meter.phase) }
+    {
+        if !self.header.enabled {
+            return Err(Refusal::Disabled);
+        }
+        if !is_offer(self.header.block_size, self.store.capacity(), name, size) {
+            return Err(Refusal::BadInitiate);
+        }
+        let next = Header {
+            status: TransferStatus::Initiated,
+            goal: Some(Goal { name, size }),
+            marks: Marks::none(),
+            ..self.header
+        };
+        replace(&mut self.store, &mut self.header, next)?;
+        Ok(())
+    }
+
+    /// Stores a block, and marks it.
+    pub(crate) fn block(&mut self, number: u32, value: &[u8]) -> Result<(), Refusal>
+        requires { status_of self.old.meter.phase ≡ Initiated }
+        ensures makes { Makes self.old (block number value.now) (outcome_of result) self.new }
+        ensures stays { self.new.meter.phase ≡ self.old.meter.phase }
+    {
+        laws::other_blocks_stay();
+        laws::begins_within();
+        if !self.header.enabled {
+            return Err(Refusal::Disabled);
+        }
+        let Some(start) = place_of(&self.header, number, value) else {
+            return Err(Refusal::BadBlock);
+        };
+        let spare = self.header.running_slot.other();
+        self.store.write(spare, start, value)?;
+        if self.header.marks.has(number) {
+            return Ok(());
+        }
+        let mut next = self.header;
+        next.marks.mark(number);
+        replace(&mut self.store, &mut self.header, next)?;
+        Ok(())
+    }
+
+    /// Judges the image by the digest of what is stored.
+    pub(crate) fn verify(&mut self) -> Result<(), Refusal>
+        requires { status_of self.old.meter.phase ≡ Initiated }
+        ensures makes { Makes self.old verify (outcome_of result) self.new }
+        ensures verified { OnOk result (status_of self.new.meter.phase ≡ VerificationSuccessful) }
+        ensures differs { result ≡ Err Refusal.Differs → status_of self.new.meter.phase ≡ VerificationFailed }
+        ensures stays { IfErr result (λ r. r ≢ Refusal.Differs → self.new.meter.phase ≡ self.old.meter.phase) }
+    {
+        laws::cuts_join();
+        if !self.header.enabled {
+            return Err(Refusal::Disabled);
+        }
+        let Some(goal) = whole_goal(&self.header) else {
+            return Err(Refusal::Missing);
+        };
+        let spare = self.header.running_slot.other();
+        let genuine = is_genuine(&mut self.store, spare, goal.size, goal.name)?;
+        let next = Header {
+            status: judged(genuine),
+            ..self.header
+        };
+        replace(&mut self.store, &mut self.header, next)?;
+        if genuine {
+            Ok(())
+        } else {
+            Err(Refusal::Differs)
+        }
+    }
+
+    /// Makes the verified image the one that runs.
+    pub(crate) fn activate(&mut self) -> Result<(), Refusal>
+        requires { status_of self.old.meter.phase ≡ VerificationSuccessful }
+        ensures makes { Makes self.old activate (outcome_of result) self.new }
+        ensures switches { OnOk result (status_of self.new.meter.phase ≡ ActivationSuccessful) }
+        ensures stays { OnErr result (self.new.meter.phase ≡ self.old.meter.phase) }
+    {
+        laws::cuts_join();
+        if !self.header.enabled {
+            return Err(Refusal::Disabled);
+        }
+        let Some(goal) = self.header.goal else {
+            return Err(Refusal::Missing);
+        };
+        let next = Header {
+            running_slot: self.header.running_slot.other(),
+            status: TransferStatus::ActivationSuccessful,
+            running_size: goal.size,
+            running_name: goal.name,
+            goal: None,
+            marks: Marks::none(),
+            ..self.header
+        };
+        replace(&mut self.store, &mut self.header, next)?;
+        Ok(())
+    }
+
+    /// Opens a store. A store that is refused is handed back, and its device is as it was.
+    pub(crate) fn open(mut store: S) -> Result<Held<S>, (OpenError, S)>
+        ensures opened { IfOk result (λ next. Holds S.honest S.capacity S.device store next) }
+        ensures sound { IfOk result (λ next. IsTrue (S.sound store) → IsTrue next.sound) }
+        ensures later { IfOk result (λ next. S.faults store ≤ next.faults) }
+        ensures refused { IfErr result (λ e. Refused S.honest S.sound S.capacity S.faults S.device store e.0 e.1) }
+        ensures again { (meter : Meter) → IsMeterOf (S.capacity store) (S.device store) meter → IsTrusted meter
+            → IsTrue (S.honest store) → IsTrue (S.sound store) → IsOkAnd result (λ next. next.meter ≡ meter) }
+    {
+        store_laws::one_header();
+        match examine(&mut store) {
+            Ok(header) => Ok(Held { store, header }),
+            Err(error) => Err((error, store)),
+        }
+    }
+
+    /// The status of the transfer.
+    pub(crate) fn status(&self) -> TransferStatus
+        ensures { result ≡ status_of self.now.meter.phase }
+    {
+        self.header.status
+    }
+
+    /// How many bytes a block has.
+    pub(crate) fn block_size(&self) -> u32
+        ensures { result ≡ self.now.meter.block_size }
+    {
+        self.header.block_size
+    }
+
+    /// How many blocks the goal has, 0 where there is none.
+    pub(crate) fn block_count(&self) -> u32
+        ensures value { result ≡ count_of self.now.meter }
+        ensures few { result ≤ max_blocks }
+    {
+        match self.header.goal {
+            Some(goal) => goal.size.div_ceil(self.header.block_size),
+            None => 0,
+        }
+    }
+
+    /// The blocks that are there.
+    pub(crate) fn marks(&self) -> &Marks
+        ensures { take (count_of self.now.meter) result.now ≡ marks_of self.now.meter.cells (count_of self.now.meter) }
+    {
+        &self.header.marks
+    }
+
+    /// What the meter shows.
+    pub(crate) fn view(&self) -> MeterView
+        ensures view { IsView result (shown_of self.now.meter) }
+        ensures trusted { IsTrue self.now.honest → IsTrusted self.now.meter }
+    {
+        let header = &self.header;
+        MeterView {
+            enabled: header.enabled,
+            status: header.status,
+            active: header.running_name,
+            active_size: header.running_size,
+            goal: header.goal,
+            marked: header.marks.to_bytes(),
+        }
+    }
+
+    /// Reads the image that runs.
+    pub(crate) fn read_running(&mut self, out: &mut [u8]) -> Result<(), StoreFault>
+        requires { length out.old ≡ length self.old.meter.running.bytes }
+        ensures done { IsTrue self.old.honest → OnOk result (out.new ≡ self.old.meter.running.bytes) }
+        ensures meter { self.new.meter ≡ self.old.meter }
+        ensures device { self.new.device ≡ self.old.device }
+        ensures follows { Follows self.old self.new }
+        ensures cause { HasCause self.old.sound self.old.faults self.new.faults result }
+    {
+        self.store.read(self.header.running_slot, 0, out)
+    }
+
+    /// The store.
+    pub(crate) fn into_store(self) -> S
+        ensures held { Holds S.honest S.capacity S.device result self }
+        ensures sound { S.sound result ≡ self.sound }
+        ensures faults { S.faults result ≡ self.faults }
+    {
+        let Held { store, .. } = self;
+        store
+    }
+}
+
+impl Held<MemoryStore> {
+    /// Sets the store's fuse.
+    pub(crate) fn fuse(&mut self, calls: u64, torn: u8)
+        ensures { self.new ≡ record self.old { sound = false } }
+    {
+        self.store.fuse(calls, torn);
+    }
+
+    /// Removes the store's fuse.
+    pub(crate) fn unfuse(&mut self)
+        ensures { self.new ≡ record self.old { sound = true } }
+    {
+        self.store.unfuse();
+    }
+
+    /// Whether the two stores have the same capacity, header and slots.
+    pub(crate) fn same(&self, other: &Held<MemoryStore>) -> bool
+        ensures stores { IsTrue result ↔ IsSameStore self.now other.now }
+        ensures meters { IsTrue result → self.now.meter ≡ other.now.meter }
+    {
+        store_laws::one_header();
+        self.store.same(&other.store)
+    }
+}
+
+// Writes a header to a store, and keeps it where that succeeded.
+fn replace<S: ImageStore>(
+    store: &mut S,
+    header: &mut Header,
+    next: Header,
+) -> Result<(), StoreFault>
+    ensures done { OnOk result (header.new ≡ next) }
+    ensures failed { OnErr result (header.new ≡ header.old) }
+    ensures written { IsTrue (S.honest store.old)
+        → OnOk result (S.device store.new ≡ with_head (S.device store.old) (header_bytes next)) }
+    ensures same { IsTrue (S.honest store.old) → OnErr result (S.device store.new ≡ S.device store.old) }
+    ensures fits { FieldsFit next }
+    ensures kept { Keeps S.honest S.sound S.capacity S.faults store.old store.new }
+    ensures cause { HasCause (S.sound store.old) (S.faults store.old) (S.faults store.new) result }
+{
+    store.write_header(&next.to_bytes())?;
+    *header = next;
+    Ok(())
+}
+
+// Whether an image of this name and size can be received.
+fn is_offer(block_size: u32, capacity: u32, name: ImageName, size: u32) -> bool
+    ensures { IsTrue result ↔ IsOffer block_size capacity name size }
+{
+    !name.campaign.is_factory() && size <= capacity && Geometry::new(block_size, size).is_some()
+}
+
+// Where in the image a block begins, if the goal has that block, and of just this length.
+fn place_of(header: &Header, number: u32, value: &[u8]) -> Option<u32>
+    requires { IfSome header.now.goal (λ goal. IsWithinLimits header.now.block_size goal.size) }
+    ensures found { IfSome result (IsPlace header.now number value.now) }
+    ensures none { IfNone result ((goal : Goal) → header.now.goal ≡ Some goal
+        → ¬ IsBlock header.now.block_size goal.size number value.now) }
+{
+    let goal = header.goal?;
+    let (start, end) = Geometry::new(header.block_size, goal.size)?.range(number)?;
+    if value.len() == (end - start) as usize {
+        Some(start)
+    } else {
+        None
+    }
+}
+
+// The goal, if all its blocks are there.
+fn whole_goal(header: &Header) -> Option<Goal>
+    requires some { 1 ≤ header.now.block_size }
+    requires few { IfSome header.now.goal (λ goal. block_count header.now.block_size goal.size ≤ max_blocks) }
+    ensures found { IfSome result (IsWholeGoal header.now) }
+    ensures none { IfNone result ((goal : Goal) → header.now.goal ≡ Some goal → LacksBlock header.now goal) }
+{
+    let goal = header.goal?;
+    if header.marks.first_missing() < goal.size.div_ceil(header.block_size) {
+        return None;
+    }
+    Some(goal)
+}
+
+// Whether the first bytes of a slot have the digest of a name.
+fn is_genuine<S: ImageStore>(
+    store: &mut S,
+    slot: Slot,
+    size: u32,
+    name: ImageName,
+) -> Result<bool, StoreFault>
+    requires { size ≤ S.capacity store.old }
+    ensures digest { IsTrue (S.honest store.old)
+        → IfOk result (λ same. IsTrue same ↔ (sha256 (take size (slot_bytes (S.device store.old) slot)) ≡ name.digest)) }
+    ensures same { IsTrue (S.honest store.old) → S.device store.new ≡ S.device store.old }
+    ensures kept { Keeps S.honest S.sound S.capacity S.faults store.old store.new }
+    ensures cause { HasCause (S.sound store.old) (S.faults store.old) (S.faults store.new) result }
+{
+    let found = digest(store, slot, size)?;
+    Ok(found == name.digest)
+}
+
+// The status after the image was judged.
+fn judged(genuine: bool) -> TransferStatus
+    ensures { result ≡ (if genuine then VerificationSuccessful else VerificationFailed) }
+{
+    if genuine {
+        TransferStatus::VerificationSuccessful
+    } else {
+        TransferStatus::VerificationFailed
+    }
+}
+
+// Reads the header of a store, and checks it and the images.
+fn examine<S: ImageStore>(store: &mut S) -> Result<Header, OpenError>
+    ensures held { IfOk result (IsHeld S.honest S.capacity S.device store.new) }
+    ensures same { IsTrue (S.honest store.old) → S.device store.new ≡ S.device store.old }
+    ensures kept { Keeps S.honest S.sound S.capacity S.faults store.old store.new }
+    ensures refused { IfErr result (λ e. Refused S.honest S.sound S.capacity S.faults S.device store.old e store.new) }
+{
+    let bytes = store.header()?;
+    let Some(header) = Header::from_bytes(store.capacity(), &bytes) else {
+        return Err(OpenError::BadHeader);
+    };
+    let slot = header.running_slot;
+    if !is_genuine(store, slot, header.running_size, header.running_name)? {
+        return Err(OpenError::BadImage);
+    }
+    if !is_goal_genuine(store, &header)? {
+        return Err(OpenError::BadImage);
+    }
+    Ok(header)
+}
+
+// Whether the goal, where it was verified, has the digest of its name.
+fn is_goal_genuine<S: ImageStore>(store: &mut S, header: &Header) -> Result<bool, StoreFault>
+    requires { IsHeader (S.capacity store.old) header.now }
+    ensures genuine { IsTrue (S.honest store.old) → IfOk result (λ genuine. IsTrue genuine
+        ↔ IsVerifiedGenuine (meter_of (S.capacity store.old) header.now (S.device store.old))) }
+    ensures same { IsTrue (S.honest store.old) → S.device store.new ≡ S.device store.old }
+    ensures kept { Keeps S.honest S.sound S.capacity S.faults store.old store.new }
+    ensures cause { HasCause (S.sound store.old) (S.faults store.old) (S.faults store.new) result }
+{
+    laws::cuts_join();
+    let TransferStatus::VerificationSuccessful = header.status else {
+        return Ok(true);
+    };
+    let Some(goal) = header.goal else {
+        return Ok(true);
+    };
+    is_genuine(store, header.running_slot.other(), goal.size, goal.name)
+}

@@ -1,0 +1,23 @@
+//! Laws of meters in stores, over the definitions alone. A caller cites a law by calling it: nothing is done.
+
+ghost use Rattle.fw_image.specs.Laws.{OneMeter, FreshIsMeter, OneStep};
+
+/// What a store holds is one meter at most.
+pub fn one_meter()
+    ensures { OneMeter }
+{
+    fw_store::laws::one_header();
+}
+
+/// A new store holds a new meter.
+pub fn fresh_is_meter()
+    ensures { FreshIsMeter }
+{
+    fw_store::laws::fresh_is_header();
+}
+
+/// Over an honest store, where no call of it failed, a meter and an operation determine what is told and the meter
+/// afterwards.
+pub fn one_step()
+    ensures { OneStep }
+{}

@@ -1,0 +1,15 @@
+//! The Image transfer object of a meter.
+#![tactic(auto)]
+
+mod error;
+mod held;
+pub mod laws;
+mod phase;
+mod status;
+mod transfer;
+mod view;
+
+pub use error::{OpenError, Refusal};
+pub use phase::{Phase, open_store};
+pub use transfer::{Idle, NotVerified, Receiving, Spoilt, Switched, Transfer, Verified};
+pub use view::MeterView;

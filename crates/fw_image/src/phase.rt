@@ -1,0 +1,229 @@
+//! A transfer in the status that a store tells.
+
+ghost use Rattle.std.specs.Prelude.{◌≡◌, ◌≤◌, ◌↔◌, true, false, IsTrue, IfOk, IfErr, IsOkAnd, OnOk, length, take};
+ghost use Rattle.fw_blocks.specs.Cuts.{max_blocks};
+ghost use Rattle.fw_store.specs.Faults.{HasCause};
+ghost use Rattle.fw_store.specs.declared.header.TransferStatus.TheVariants as status;
+ghost use Rattle.fw_image.specs.Meter.{Meter, status_of, count_of, marks_of, IsTrusted};
+ghost use Rattle.fw_image.specs.Phases.{state_in, IsInPhase, left_in, left_begun};
+ghost use Rattle.fw_image.specs.Shown.{shown_of, IsView};
+ghost use Rattle.fw_image.specs.State.{Makes, Follows, told};
+ghost use Rattle.fw_image.specs.Step.{enable, initiate};
+ghost use Rattle.fw_image.specs.Stored.{IsMeterOf, Holds, Refused, IsSameStore};
+
+use crate::error::{OpenError, Refusal};
+use crate::held::Held;
+use crate::transfer::{Idle, Receiving, Spoilt, Switched, Transfer, Verified};
+use crate::view::MeterView;
+use fw_blocks::Marks;
+use fw_names::ImageName;
+use fw_store::{ImageStore, MemoryStore, StoreFault, TransferStatus};
+
+/// A transfer in one of its statuses. What all of them can do can be asked of it as well.
+#[derive(Drop)]
+pub enum Phase<S: ImageStore> {
+    Idle(Idle<S>),
+    Receiving(Receiving<S>),
+    Verified(Verified<S>),
+    Spoilt(Spoilt<S>),
+    Switched(Switched<S>),
+}
+
+/// Opens a store: reads its header and checks it, and checks that the image that runs has the digest of its name, and so
+/// has the goal where it was verified.
+///
+/// # Errors
+///
+/// `Fault`, `BadHeader` or `BadImage`, with the store, whose device is as it was.
+pub fn open_store<S: ImageStore>(store: S) -> Result<Phase<S>, (OpenError, S)>
+    ensures opened { IfOk result (λ phase. Holds S.honest S.capacity S.device store (state_in phase)) }
+    ensures phase { IfOk result IsInPhase }
+    ensures sound { IfOk result (λ phase. IsTrue (S.sound store) → IsTrue (state_in phase).sound) }
+    ensures later { IfOk result (λ phase. S.faults store ≤ (state_in phase).faults) }
+    ensures refused { IfErr result (λ e. Refused S.honest S.sound S.capacity S.faults S.device store e.0 e.1) }
+
+    // An honest, sound store that holds a meter, whose images have their names' digests, is opened as that meter.
+    ensures again { (meter : Meter) → IsMeterOf (S.capacity store) (S.device store) meter → IsTrusted meter
+        → IsTrue (S.honest store) → IsTrue (S.sound store) → IsOkAnd result (λ phase. (state_in phase).meter ≡ meter) }
+{
+    Ok(Phase::of(Held::open(store)?))
+}
+
+impl<S: ImageStore> Phase<S> {
+    // What is held, in its status.
+    fn of(held: Held<S>) -> Phase<S>
+        ensures state { state_in result ≡ held }
+        ensures phase { IsInPhase result }
+    {
+        match held.status() {
+            TransferStatus::NotInitiated => Phase::Idle(Transfer::new(held)),
+            TransferStatus::Initiated => Phase::Receiving(Transfer::new(held)),
+            TransferStatus::VerificationSuccessful => Phase::Verified(Transfer::new(held)),
+            TransferStatus::VerificationFailed => Phase::Spoilt(Transfer::new(held)),
+            TransferStatus::ActivationSuccessful => Phase::Switched(Transfer::new(held)),
+        }
+    }
+
+    // What is held.
+    fn held(&self) -> &Held<S>
+        ensures { result.now ≡ state_in self.now }
+    {
+        match self {
+            Phase::Idle(transfer) => transfer.held(),
+            Phase::Receiving(transfer) => transfer.held(),
+            Phase::Verified(transfer) => transfer.held(),
+            Phase::Spoilt(transfer) => transfer.held(),
+            Phase::Switched(transfer) => transfer.held(),
+        }
+    }
+
+    // What is held, on its own.
+    fn into_held(self) -> Held<S>
+        ensures { result ≡ state_in self }
+    {
+        match self {
+            Phase::Idle(transfer) => transfer.into_held(),
+            Phase::Receiving(transfer) => transfer.into_held(),
+            Phase::Verified(transfer) => transfer.into_held(),
+            Phase::Spoilt(transfer) => transfer.into_held(),
+            Phase::Switched(transfer) => transfer.into_held(),
+        }
+    }
+
+    /// Enables transfer, or disables it, by one write of the header.
+    ///
+    /// # Errors
+    ///
+    /// `Fault` alone.
+    pub fn set_enabled(self, enabled: bool) -> Result<Self, (Refusal, Self)>
+        ensures makes { Makes (state_in self) (enable enabled) (told result) (left_in result) }
+        ensures phase { IfOk result IsInPhase }
+        ensures back { IfErr result (λ e. IsInPhase e.1) }
+    {
+        let mut held = self.into_held();
+        match held.set_enabled(enabled) {
+            Ok(()) => Ok(Phase::of(held)),
+            Err(refusal) => Err((refusal, Phase::of(held))),
+        }
+    }
+
+    /// Begins to receive an image, whatever was there before, by one write of the header.
+    ///
+    /// # Errors
+    ///
+    /// `Disabled`, `BadInitiate` or `Fault`, with the transfer as it was.
+    pub fn initiate(self, name: ImageName, size: u32) -> Result<Receiving<S>, (Refusal, Self)>
+        ensures makes { Makes (state_in self) (initiate name size) (told result) (left_begun result) }
+        ensures status { IfOk result (λ next. status_of next.meter.phase ≡ status.Initiated) }
+        ensures back { IfErr result (λ e. IsInPhase e.1) }
+    {
+        let mut held = self.into_held();
+        match held.initiate(name, size) {
+            Ok(()) => Ok(Transfer::new(held)),
+            Err(refusal) => Err((refusal, Phase::of(held))),
+        }
+    }
+
+    /// How many bytes a block has, but for the last of an image, which may be shorter (IEC 62056-6-2, image_block_size).
+    pub fn block_size(&self) -> u32
+        ensures { result ≡ (state_in self.now).meter.block_size }
+    {
+        self.held().block_size()
+    }
+
+    /// How many blocks the image has that is to be received, and 0 where there is none.
+    pub fn block_count(&self) -> u32
+        ensures value { result ≡ count_of (state_in self.now).meter }
+        ensures few { result ≤ max_blocks }
+    {
+        self.held().block_count()
+    }
+
+    /// Which of these blocks are there (IEC 62056-6-2, image_transferred_blocks_status).
+    pub fn marks(&self) -> &Marks
+        ensures { take (count_of (state_in self.now).meter) result.now
+            ≡ marks_of (state_in self.now).meter.cells (count_of (state_in self.now).meter) }
+    {
+        self.held().marks()
+    }
+
+    /// What the meter shows.
+    pub fn view(&self) -> MeterView
+        ensures view { IsView result (shown_of (state_in self.now).meter) }
+
+        // Over an honest store the images have the digests of their names.
+        ensures trusted { IsTrue (state_in self.now).honest → IsTrusted (state_in self.now).meter }
+    {
+        self.held().view()
+    }
+
+    /// The store, from which `open_store` gives the transfer again.
+    pub fn into_store(self) -> S
+        ensures held { Holds S.honest S.capacity S.device result (state_in self) }
+        ensures sound { S.sound result ≡ (state_in self).sound }
+        ensures faults { S.faults result ≡ (state_in self).faults }
+    {
+        self.into_held().into_store()
+    }
+
+    /// Fills a slice, which has as many bytes as the image that runs, with that image.
+    ///
+    /// # Errors
+    ///
+    /// `StoreFault` where the store failed. The slice may then have any bytes.
+    pub fn read_running(&mut self, out: &mut [u8]) -> Result<(), StoreFault>
+        requires { length out.old ≡ length (state_in self.old).meter.running.bytes }
+        ensures done { IsTrue (state_in self.old).honest → OnOk result (out.new ≡ (state_in self.old).meter.running.bytes) }
+        ensures meter { (state_in self.new).meter ≡ (state_in self.old).meter }
+        ensures device { (state_in self.new).device ≡ (state_in self.old).device }
+        ensures follows { Follows (state_in self.old) (state_in self.new) }
+        ensures cause { HasCause (state_in self.old).sound (state_in self.old).faults (state_in self.new).faults result }
+        ensures phase { IsInPhase self.old → IsInPhase self.new }
+    {
+        match self {
+            Phase::Idle(transfer) => transfer.read_running(out),
+            Phase::Receiving(transfer) => transfer.read_running(out),
+            Phase::Verified(transfer) => transfer.read_running(out),
+            Phase::Spoilt(transfer) => transfer.read_running(out),
+            Phase::Switched(transfer) => transfer.read_running(out),
+        }
+    }
+}
+
+impl Phase<MemoryStore> {
+    /// The next `calls` calls of the store succeed, and all later ones fail until `unfuse`, as `MemoryStore::fuse` says.
+    pub fn fuse(&mut self, calls: u64, torn: u8)
+        ensures state { state_in self.new ≡ record (state_in self.old) { sound = false } }
+        ensures phase { IsInPhase self.old → IsInPhase self.new }
+    {
+        match self {
+            Phase::Idle(transfer) => transfer.fuse(calls, torn),
+            Phase::Receiving(transfer) => transfer.fuse(calls, torn),
+            Phase::Verified(transfer) => transfer.fuse(calls, torn),
+            Phase::Spoilt(transfer) => transfer.fuse(calls, torn),
+            Phase::Switched(transfer) => transfer.fuse(calls, torn),
+        }
+    }
+
+    /// From now on no call of the store fails.
+    pub fn unfuse(&mut self)
+        ensures state { state_in self.new ≡ record (state_in self.old) { sound = true } }
+        ensures phase { IsInPhase self.old → IsInPhase self.new }
+    {
+        match self {
+            Phase::Idle(transfer) => transfer.unfuse(),
+            Phase::Receiving(transfer) => transfer.unfuse(),
+            Phase::Verified(transfer) => transfer.unfuse(),
+            Phase::Spoilt(transfer) => transfer.unfuse(),
+            Phase::Switched(transfer) => transfer.unfuse(),
+        }
+    }
+
+    /// Whether the two stores have the same capacity, header and slots. Then the two meters are the same.
+    pub fn same(&self, other: &Self) -> bool
+        ensures stores { IsTrue result ↔ IsSameStore (state_in self.now) (state_in other.now) }
+        ensures meters { IsTrue result → (state_in self.now).meter ≡ (state_in other.now).meter }
+    {
+        self.held().same(other.held())
+    }
+}

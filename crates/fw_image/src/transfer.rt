@@ -1,0 +1,249 @@
+//! The Image transfer object of a meter, a type for each status. Each value owns its store.
+
+ghost use Rattle.std.specs.Prelude.{◌≡◌, ◌↔◌, true, false, IsTrue, IfOk, IfErr, OnOk, length};
+ghost use Rattle.fw_store.specs.Faults.{HasCause};
+ghost use Rattle.fw_store.specs.declared.header.TransferStatus.TheVariants as status;
+ghost use Rattle.fw_image.specs.Meter.{status_of, IsTrusted};
+ghost use Rattle.fw_image.specs.Phases.{told_verified, left_verified, IsNotVerified};
+ghost use Rattle.fw_image.specs.Shown.{shown_of, IsView};
+ghost use Rattle.fw_image.specs.State.{Makes, Follows, told, left};
+ghost use Rattle.fw_image.specs.Step.{enable, initiate, block, verify, activate};
+ghost use Rattle.fw_image.specs.Stored.{Holds, IsSameStore};
+
+use crate::error::Refusal;
+use crate::held::Held;
+use crate::status::{
+    ActivationSuccessful, Initiated, NotInitiated, Status, VerificationFailed,
+    VerificationSuccessful,
+};
+use crate::view::MeterView;
+use fw_names::ImageName;
+use fw_store::{ImageStore, MemoryStore, StoreFault};
+use std::marker::{Model, PhantomData};
+
+/// Image transfer over a store, in a status.
+#[derive(Drop)]
+pub struct Transfer<S: ImageStore, P: Status> {
+    held: Held<S>,
+    status: PhantomData<P>,
+}
+
+impl<S: ImageStore, P: Status> Model for Transfer<S, P> {
+    ghost use Rattle.std.specs.Prelude.{◌≡◌};
+    ghost use Rattle.std.specs.Coded.{codes};
+    ghost use Rattle.fw_image.specs.Meter.{cells_code, status_of};
+    ghost use Rattle.fw_image.specs.State.{State};
+
+    ghost Value = { State };
+
+    ghost coded = { Prim.hlevel (codes, cells_code) };
+
+    ghost view = { λ t. t.held };
+
+    ghost invariant = { λ t. status_of t.held.meter.phase ≡ P.status };
+}
+
+/// Nothing was initiated since the meter was made.
+pub type Idle<S> = Transfer<S, NotInitiated>;
+
+/// Blocks are being received.
+pub type Receiving<S> = Transfer<S, Initiated>;
+
+/// The image is there and has its name's digest.
+pub type Verified<S> = Transfer<S, VerificationSuccessful>;
+
+/// The image is there and has another digest.
+pub type Spoilt<S> = Transfer<S, VerificationFailed>;
+
+/// The image was activated, and runs.
+pub type Switched<S> = Transfer<S, ActivationSuccessful>;
+
+impl<S: ImageStore, P: Status> Transfer<S, P> {
+    // The transfer of what is held in this status.
+    pub(crate) fn new(held: Held<S>) -> Transfer<S, P>
+        requires { status_of held.meter.phase ≡ P.status }
+        ensures { result ≡ held }
+    {
+        Transfer {
+            held,
+            status: PhantomData,
+        }
+    }
+
+    // What is held.
+    pub(crate) fn held(&self) -> &Held<S>
+        ensures { result.now ≡ self.now }
+    {
+        &self.held
+    }
+
+    // What is held, on its own.
+    pub(crate) fn into_held(self) -> Held<S>
+        ensures { result ≡ self }
+    {
+        self.held
+    }
+
+    /// Enables transfer, or disables it, by one write of the header.
+    ///
+    /// # Errors
+    ///
+    /// `Fault` alone.
+    pub fn set_enabled(self, enabled: bool) -> Result<Self, (Refusal, Self)>
+        ensures makes { Makes self (enable enabled) (told result) (left result) }
+        ensures status { IfOk result (λ next. status_of next.meter.phase ≡ P.status) }
+        ensures back { IfErr result (λ e. status_of e.1.meter.phase ≡ P.status) }
+    {
+        let mut held = self.held;
+        match held.set_enabled(enabled) {
+            Ok(()) => Ok(Transfer::new(held)),
+            Err(refusal) => Err((refusal, Transfer::new(held))),
+        }
+    }
+
+    /// Begins to receive an image, whatever was there before, by one write of the header.
+    ///
+    /// # Errors
+    ///
+    /// `Disabled`, `BadInitiate` or `Fault`, with the transfer as it was.
+    pub fn initiate(self, name: ImageName, size: u32) -> Result<Receiving<S>, (Refusal, Self)>
+        ensures makes { Makes self (initiate name size) (told result) (left result) }
+        ensures status { IfOk result (λ next. status_of next.meter.phase ≡ status.Initiated) }
+        ensures back { IfErr result (λ e. status_of e.1.meter.phase ≡ P.status) }
+    {
+        let mut held = self.held;
+        match held.initiate(name, size) {
+            Ok(()) => Ok(Transfer::new(held)),
+            Err(refusal) => Err((refusal, Transfer::new(held))),
+        }
+    }
+
+    /// What the meter shows.
+    pub fn view(&self) -> MeterView
+        ensures view { IsView result (shown_of self.now.meter) }
+        ensures status { status_of self.now.meter.phase ≡ P.status }
+
+        // Over an honest store the images have the digests of their names.
+        ensures trusted { IsTrue self.now.honest → IsTrusted self.now.meter }
+    {
+        self.held.view()
+    }
+
+    /// Fills a slice, which has as many bytes as the image that runs, with that image.
+    ///
+    /// # Errors
+    ///
+    /// `StoreFault` where the store failed. The slice may then have any bytes.
+    pub fn read_running(&mut self, out: &mut [u8]) -> Result<(), StoreFault>
+        requires { length out.old ≡ length self.old.meter.running.bytes }
+        ensures done { IsTrue self.old.honest → OnOk result (out.new ≡ self.old.meter.running.bytes) }
+        ensures meter { self.new.meter ≡ self.old.meter }
+        ensures device { self.new.device ≡ self.old.device }
+        ensures follows { Follows self.old self.new }
+        ensures cause { HasCause self.old.sound self.old.faults self.new.faults result }
+    {
+        self.held.read_running(out)
+    }
+
+    /// The store, from which `open_store` gives the transfer again.
+    pub fn into_store(self) -> S
+        ensures held { Holds S.honest S.capacity S.device result self }
+        ensures sound { S.sound result ≡ self.sound }
+        ensures faults { S.faults result ≡ self.faults }
+    {
+        self.held.into_store()
+    }
+}
+
+/// Why an image was not verified, and the transfer as it is then.
+#[derive(Drop)]
+pub enum NotVerified<S: ImageStore> {
+    /// It was not judged: `Disabled`, `Missing` or `Fault`.
+    Refused(Refusal, Receiving<S>),
+    /// Its digest is not that of its name.
+    Differs(Spoilt<S>),
+}
+
+impl<S: ImageStore> Receiving<S> {
+    /// Stores a block of the image in the spare slot, and marks it by a write of the header, which is left out if it is
+    /// marked already.
+    ///
+    /// # Errors
+    ///
+    /// `Disabled`, `BadBlock` or `Fault`, with the transfer as it was. After a fault the block may have any bytes.
+    pub fn block(self, number: u32, value: &[u8]) -> Result<Self, (Refusal, Self)>
+        ensures makes { Makes self (block number value.now) (told result) (left result) }
+        ensures status { IfOk result (λ next. status_of next.meter.phase ≡ status.Initiated) }
+        ensures back { IfErr result (λ e. status_of e.1.meter.phase ≡ status.Initiated) }
+    {
+        let mut held = self.held;
+        match held.block(number, value) {
+            Ok(()) => Ok(Transfer::new(held)),
+            Err(refusal) => Err((refusal, Transfer::new(held))),
+        }
+    }
+
+    /// Reads the whole image from the spare slot, compares its digest with that of its name, and notes the result by one
+    /// write of the header.
+    ///
+    /// # Errors
+    ///
+    /// `Disabled`, `Missing` or `Fault`, with the transfer as it was, or `Differs`.
+    pub fn verify(self) -> Result<Verified<S>, NotVerified<S>>
+        ensures makes { Makes self verify (told_verified result) (left_verified result) }
+        ensures status { IfOk result (λ next. status_of next.meter.phase ≡ status.VerificationSuccessful) }
+        ensures back { IfErr result IsNotVerified }
+    {
+        let mut held = self.held;
+        match held.verify() {
+            Ok(()) => Ok(Transfer::new(held)),
+            Err(refusal) => Err(match refusal {
+                Refusal::Differs => NotVerified::Differs(Transfer::new(held)),
+                other => NotVerified::Refused(other, Transfer::new(held)),
+            }),
+        }
+    }
+}
+
+impl<S: ImageStore> Verified<S> {
+    /// Makes the verified image the one that runs, by one write of the header.
+    ///
+    /// # Errors
+    ///
+    /// `Disabled` or `Fault`, with the transfer as it was.
+    pub fn activate(self) -> Result<Switched<S>, (Refusal, Self)>
+        ensures makes { Makes self activate (told result) (left result) }
+        ensures status { IfOk result (λ next. status_of next.meter.phase ≡ status.ActivationSuccessful) }
+        ensures back { IfErr result (λ e. status_of e.1.meter.phase ≡ status.VerificationSuccessful) }
+    {
+        let mut held = self.held;
+        match held.activate() {
+            Ok(()) => Ok(Transfer::new(held)),
+            Err(refusal) => Err((refusal, Transfer::new(held))),
+        }
+    }
+}
+
+impl<P: Status> Transfer<MemoryStore, P> {
+    /// The next `calls` calls of the store succeed, and all later ones fail until `unfuse`, as `MemoryStore::fuse` says.
+    pub fn fuse(&mut self, calls: u64, torn: u8)
+        ensures { self.new ≡ record self.old { sound = false } }
+    {
+        self.held.fuse(calls, torn);
+    }
+
+    /// From now on no call of the store fails.
+    pub fn unfuse(&mut self)
+        ensures { self.new ≡ record self.old { sound = true } }
+    {
+        self.held.unfuse();
+    }
+
+    /// Whether the two stores have the same capacity, header and slots. Then the two meters are the same.
+    pub fn same(&self, other: &Self) -> bool
+        ensures stores { IsTrue result ↔ IsSameStore self.now other.now }
+        ensures meters { IsTrue result → self.now.meter ≡ other.now.meter }
+    {
+        self.held.same(&other.held)
+    }
+}

@@ -1,0 +1,185 @@
+//! Which stores are opened: each condition once, met and not met.
+
+use crate::session::bbbb;
+use fw_blocks::Marks;
+use fw_image::{OpenError, open_store};
+use fw_names::factory_name;
+use fw_store::{Goal, HEADER_SIZE, Header, ImageStore, MemoryStore, Slot, TransferStatus};
+use std::alloc::Global;
+use std::process::Abort;
+use std::test::Fail;
+
+/// A store to be opened: its header, the bytes in its second slot, and after how many calls it fails.
+#[derive(Clone, Copy)]
+struct Stored(Head, &'static [u8], Option<u64>);
+
+/// The header of a meter that has both blocks of a goal under the name of `bbbb`.
+#[derive(Clone, Copy)]
+enum Head {
+    /// It runs `abc`, in this status.
+    In(TransferStatus),
+    /// It runs `abc` under the name of these bytes.
+    Runs(&'static [u8]),
+    /// The form's first byte is another.
+    OtherForm,
+    /// It has zeros alone.
+    Zeros,
+}
+
+/// The headers above, as a store has them.
+fn bytes_of(head: &Head) -> Result<[u8; HEADER_SIZE], Fail> {
+    match head {
+        Head::In(status) => spelled(*status, b"abc"),
+        Head::Runs(image) => spelled(TransferStatus::Initiated, image),
+        Head::OtherForm => {
+            let mut bytes = spelled(TransferStatus::VerificationSuccessful, b"abc")?;
+            bytes[0] = 0x47;
+            Ok(bytes)
+        }
+        Head::Zeros => Ok([0; HEADER_SIZE]),
+    }
+}
+
+fn spelled(status: TransferStatus, image: &[u8]) -> Result<[u8; HEADER_SIZE], Fail> {
+    let mut marks = Marks::none();
+    marks.mark(0);
+    marks.mark(1);
+    let header = Header {
+        enabled: true,
+        running_slot: Slot::First,
+        status,
+        block_size: 2,
+        running_size: 3,
+        running_name: factory_name(image),
+        goal: Some(Goal {
+            name: bbbb()?,
+            size: 4,
+        }),
+        marks,
+    };
+    Ok(header.to_bytes())
+}
+
+/// A store, and why it isn't opened.
+type Row = (Stored, Option<OpenError>);
+
+fn are_told<R: AllocGlobal + Abort>(rt: &R, rows: &[Row]) -> Result<(), Fail> {
+    for (stored, wanted) in rows {
+        assert_eq!(rt; refusal(rt.alloc(), stored)?, *wanted);
+    }
+    Ok(())
+}
+
+/// Why a store isn't opened. It is handed back as it was.
+fn refusal(alloc: Global, stored: &Stored) -> Result<Option<OpenError>, Fail> {
+    let Stored(head, spare, calls) = stored;
+    let head = bytes_of(head)?;
+    let other = store_of(alloc, &head, spare)?;
+    let mut store = store_of(alloc, &head, spare)?;
+    if let Some(calls) = calls {
+        store.fuse(*calls, 238);
+    }
+    let Some((error, back)) = refused(store) else {
+        return Ok(None);
+    };
+    if back.same(&other) {
+        Ok(Some(error))
+    } else {
+        Err("another store was handed back".into())
+    }
+}
+
+fn refused(store: MemoryStore) -> Option<(OpenError, MemoryStore)> {
+    match open_store(store) {
+        Ok(_meter) => None,
+        Err(refused) => Some(refused),
+    }
+}
+
+fn store_of(alloc: Global, head: &[u8; HEADER_SIZE], spare: &[u8]) -> Result<MemoryStore, Fail> {
+    let mut store = MemoryStore::new(alloc, 64, 2, b"abc")?;
+    if spare.len() > store.capacity() as usize {
+        return Err("the bytes don't fit".into());
+    }
+    store.write_header(head)?;
+    store.write(Slot::Second, 0, spare)?;
+    Ok(store)
+}
+
+/// A goal that was verified has the digest of its name, and another one needn't have.
+const GOALS: &[Row] = &[
+    (Stored(VERIFIED, b"bbbb", None), None),
+    (Stored(VERIFIED, b"bbaa", None), Some(OpenError::BadImage)),
+    (Stored(SPOILT, b"bbaa", None), None),
+    (Stored(SPOILT, b"bbbb", None), None),
+    (Stored(RECEIVING, b"bbaa", None), None),
+    (Stored(RECEIVING, b"bbbb", None), None),
+];
+
+const VERIFIED: Head = Head::In(TransferStatus::VerificationSuccessful);
+
+const SPOILT: Head = Head::In(TransferStatus::VerificationFailed);
+
+const RECEIVING: Head = Head::In(TransferStatus::Initiated);
+
+#[test]
+fn the_goal_is_checked_where_it_was_verified(rt: HostRuntime) -> Result<(), Fail> {
+    are_told(&rt, GOALS)
+}
+
+const RUNNING: &[Row] = &[
+    (Stored(Head::Runs(b"abc"), b"bbbb", None), None),
+    (
+        Stored(Head::Runs(b"abd"), b"bbbb", None),
+        Some(OpenError::BadImage),
+    ),
+];
+
+#[test]
+fn the_image_that_runs_is_checked(rt: HostRuntime) -> Result<(), Fail> {
+    are_told(&rt, RUNNING)
+}
+
+/// Zeros, and a header of another form over an image that isn't genuine either.
+const HEADERS: &[Row] = &[
+    (
+        Stored(Head::Zeros, b"bbbb", None),
+        Some(OpenError::BadHeader),
+    ),
+    (
+        Stored(Head::OtherForm, b"bbaa", None),
+        Some(OpenError::BadHeader),
+    ),
+];
+
+#[test]
+fn the_header_is_checked(rt: HostRuntime) -> Result<(), Fail> {
+    are_told(&rt, HEADERS)
+}
+
+/// The header, the image that runs and the goal are read, each in one call. Of a goal that wasn't verified nothing is read.
+const FAULTS: &[Row] = &[
+    (Stored(VERIFIED, b"bbbb", Some(0)), Some(OpenError::Fault)),
+    (Stored(VERIFIED, b"bbbb", Some(1)), Some(OpenError::Fault)),
+    (Stored(VERIFIED, b"bbbb", Some(2)), Some(OpenError::Fault)),
+    (Stored(VERIFIED, b"bbbb", Some(3)), None),
+    (Stored(RECEIVING, b"bbbb", Some(1)), Some(OpenError::Fault)),
+    (Stored(RECEIVING, b"bbbb", Some(2)), None),
+];
+
+#[test]
+fn each_call_may_fail(rt: HostRuntime) -> Result<(), Fail> {
+    are_told(&rt, FAULTS)
+}
+
+#[test]
+fn printed_refusals(rt: HostRuntime) -> Result<(), Fail> {
+    let text = format!(in rt.alloc();
+        "{} {} {}",
+        OpenError::Fault,
+        OpenError::BadHeader,
+        OpenError::BadImage
+    )?;
+    assert_eq!(rt; text.as_str(), "Fault BadHeader BadImage");
+    Ok(())
+}
