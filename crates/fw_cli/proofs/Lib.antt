@@ -1,3 +1,4 @@
 pub mod LineLemmas
+pub mod NewStores
 pub mod OneAnswer
 pub mod Turns

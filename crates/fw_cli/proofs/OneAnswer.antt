@@ -3,7 +3,8 @@ use Rattle.std.proofs.Common.{◌≡◌, ℕ, ◌+◌, List, [], ◌∷◌, ◌+
 use Rattle.std.specs.Prelude.{IsErr}
 use Rattle.hex.specs.declared.error.FromHexError.{FromHexError}
 use Rattle.hex.specs.Hex.{decode_of}
-use Rattle.fw_meter.specs.Meter.{Meter, fresh_meter}
+use Rattle.fw_image.specs.Meter.{Meter}
+use Rattle.fw_image.specs.Fresh.{fresh_meter}
 use Rattle.fw_cli.specs.declared.answer.AnswerOptions.{AnswerOptions}
 use Rattle.fw_cli.specs.Options.{Describes}
 use Rattle.fw_cli.specs.Session.{AnswersLine, AnswersLines, EndsAt, line_for}

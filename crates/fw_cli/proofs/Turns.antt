@@ -2,7 +2,7 @@
 use Rattle.std.proofs.Common.{◌≡◌, ℕ, ◌+◌, List, [], ◌∷◌, ◌++◌, length, None, Some, refl, sym, ap, subst, ◌∙◌, append_assoc, append-nil, arith, length-append}
 use Rattle.std.specs.Prelude.{IsErr}
 use Rattle.hex.specs.Hex.{decode_of}
-use Rattle.fw_meter.specs.Meter.{Meter}
+use Rattle.fw_image.specs.Meter.{Meter}
 use Rattle.fw_cli.specs.Lines.{lines_of}
 use Rattle.fw_cli.specs.Session.{AnswersLine, AnswersLines, Session}
 

@@ -2,7 +2,7 @@
 -- has left before and after, and what the writer holds at first and at last.
 use Rattle.std.specs.Prelude.{ℕ, List, Option}
 use Rattle.std.specs.Io.KnownBytes.{Appends}
-use Rattle.fw_meter.specs.Meter.{Meter}
+use Rattle.fw_image.specs.Meter.{Meter}
 use Rattle.fw_cli.specs.declared.answer.AnswerOptions.{AnswerOptions}
 use Rattle.fw_cli.specs.declared.fault.Fault.{Fault}
 use Rattle.fw_cli.specs.declared.fault.Fault.TheVariants.{BadSetup, Input, TooMuchInput, BadLine, Output, OutOfMemory}

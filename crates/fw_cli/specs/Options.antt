@@ -1,7 +1,9 @@
 -- The meter that the options of `answer` describe.
 use Rattle.std.specs.Prelude.{◌≡◌, ℕ, List, Ok}
 use Rattle.hex.specs.Hex.{decode_of}
-use Rattle.fw_meter.specs.Meter.{Meter, IsSetup, fresh_meter}
+use Rattle.fw_store.specs.Setup.{IsSetup}
+use Rattle.fw_image.specs.Meter.{Meter}
+use Rattle.fw_image.specs.Fresh.{fresh_meter}
 use Rattle.fw_cli.specs.declared.answer.AnswerOptions.{AnswerOptions}
 
 -- The options describe a meter: it is new, and runs the factory image that the hexadecimal digits spell.

@@ -1,8 +1,8 @@
 -- A session: the lines that a meter is given, and the text that answers them.
-use Rattle.std.specs.Prelude.{◌≡◌, ℕ, ◌+◌, List, [], ◌∷◌, ◌++◌, length, Option, Some, None, Ok, IsErr, codes}
+use Rattle.std.specs.Prelude.{◌≡◌, ℕ, true, ◌+◌, List, [], ◌∷◌, ◌++◌, length, Option, Some, None, Ok, IsErr, codes}
 use Rattle.hex.specs.Hex.{decode_of, encode_lower}
 use Rattle.fw_names.specs.Name.{Name}
-use Rattle.fw_meter.specs.Meter.{Meter}
+use Rattle.fw_image.specs.Meter.{Meter}
 use Rattle.fw_meter.specs.Handling.{Handles}
 use Rattle.fw_cli.specs.Lines.{lines_of}
 
@@ -11,13 +11,14 @@ abbrev pub line_for : Option (List ℕ) → List ℕ
 line_for None = codes "-\n"
 line_for (Some reply) = encode_lower reply ++ codes "\n"
 
--- The line spells a datagram in hexadecimal, and from old the meter may answer it by this text and go on to new.
+-- The line spells a datagram in hexadecimal, and from old the meter may answer it by this text and go on to new. Its store is honest and
+-- doesn't fail.
 pub record AnswersLine (old : Meter) (line text : List ℕ) (new : Meter) : Type 0 where
   pub datagram : List ℕ
   pub reply : Option (List ℕ)
   pub activated : Option Name
   pub spelled : decode_of line ≡ Ok datagram
-  pub step : Handles old datagram reply activated new
+  pub step : Handles true ⊥ old datagram reply activated new
   pub told : text ≡ line_for reply
 
 -- From old, the meter may answer the lines, one after another, by this text and go on to new.

@@ -1,6 +1,6 @@
 //! The command `answer`: a new meter answers datagrams, one a line.
 
-ghost use Rattle.std.specs.Prelude.{◌≡◌, ◌≢◌, ◌<◌, ◌≤◌, ◌⊎◌, ◌++◌, ℕ, List, None, Some, length, IfOk, IfErr, IsErr, IsErrAnd, MatchOption, OnOk};
+ghost use Rattle.std.specs.Prelude.{◌≡◌, ◌≢◌, ◌<◌, ◌≤◌, ◌⊎◌, ◌++◌, ℕ, List, None, Some, length, IfOk, IfErr, IsTrue, IsErr, IsErrAnd, MatchOption, OnOk};
 ghost use Rattle.std.specs.Io.KnownBytes.{Keeps};
 ghost use Rattle.hex.specs.Hex.{decode_of};
 ghost use Rattle.fw_meter.specs.Handling.{reply_bytes};
@@ -12,7 +12,8 @@ ghost use Rattle.fw_cli.specs.Answering.{Answers, ComesBeforeOutput, Serves};
 use crate::fault::Fault;
 use crate::input::read_input;
 use crate::lines::first_line;
-use fw_meter::{MeterCore, SetupError};
+use fw_meter::MeterCore;
+use fw_store::{MemoryStore, SetupError};
 use hex::FromHexError;
 use std::alloc::{AllocError, Global};
 use std::io::{Read, Write};
@@ -81,33 +82,43 @@ pub fn run_answer<R: Read, W: Write>(
     serve(alloc, meter, reader, writer)
 }
 
-/// The meter that the options describe.
-fn set_up(alloc: Global, options: &AnswerOptions<'_>) -> Result<MeterCore, Fault>
-    ensures ok { IfOk result (λ meter. Describes options.now meter) }
+/// The meter that the options describe, over a new store in memory.
+fn set_up(alloc: Global, options: &AnswerOptions<'_>) -> Result<MeterCore<MemoryStore>, Fault>
+    ensures ok { IfOk result (λ meter. Describes options.now meter.meter) }
+    ensures honest { IfOk result (λ meter. IsTrue meter.honest) }
+    ensures sound { IfOk result (λ meter. IsTrue meter.sound) }
     ensures bad_setup { result ≡ Err Fault.BadSetup → DescribesNone options.now }
     ensures only { IfErr result (λ f. (f ≡ Fault.BadSetup) ⊎ (f ≡ Fault.OutOfMemory)) }
 {
     let factory = bytes_of(alloc, options.factory.as_bytes())?.ok_or(Fault::BadSetup)?;
     let block_size = u32::try_from(options.block_size).map_err(|_| Fault::BadSetup)?;
     let capacity = u32::try_from(options.capacity).map_err(|_| Fault::BadSetup)?;
-    match MeterCore::fresh(alloc, block_size, capacity, &factory) {
+    let store = match MemoryStore::new(alloc, capacity, block_size, &factory) {
+        Ok(store) => store,
+        Err(SetupError::BadSetup) => return Err(Fault::BadSetup),
+        Err(SetupError::OutOfMemory) => return Err(Fault::OutOfMemory),
+    };
+    fw_image::laws::fresh_is_meter();
+    match MeterCore::open_store(store) {
         Ok(meter) => Ok(meter),
-        Err(SetupError::BadSetup) => Err(Fault::BadSetup),
-        Err(SetupError::OutOfMemory) => Err(Fault::OutOfMemory),
+        // A new store is never refused.
+        Err(_) => unreachable!(),
     }
 }
 
 /// The meter answers what the reader has.
 fn serve<R: Read, W: Write>(
     alloc: Global,
-    meter: MeterCore,
+    meter: MeterCore<MemoryStore>,
     reader: &mut R,
     writer: &mut W,
 ) -> Result<(), Fault>
-    ensures ok { OnOk result (Serves meter None (R.remaining reader.old) (R.remaining reader.new)
+    requires honest { IsTrue meter.honest }
+    requires sound { IsTrue meter.sound }
+    ensures ok { OnOk result (Serves meter.meter None (R.remaining reader.old) (R.remaining reader.new)
         (W.contents writer.old) (W.contents writer.new)) }
     ensures bad_line { (number : ℕ) → result ≡ Err (Fault.BadLine number)
-        → Serves meter (Some number) (R.remaining reader.old) (R.remaining reader.new)
+        → Serves meter.meter (Some number) (R.remaining reader.old) (R.remaining reader.new)
         (W.contents writer.old) (W.contents writer.new) }
     ensures not_setup { result ≢ Err Fault.BadSetup }
     ensures input { result ≡ Err Fault.Input
@@ -131,11 +142,18 @@ fn serve<R: Read, W: Write>(
 }
 
 /// What the meter answers to the lines of the input, up to the first that is no datagram in hexadecimal.
-fn answer_lines(alloc: Global, mut meter: MeterCore, input: &[u8]) -> Result<Transcript, Fault>
-    requires { length input.now ≤ max_input }
-    ensures ok { IfOk result (λ t. Session meter input.now t.text.items t.bad_line) }
+fn answer_lines(
+    alloc: Global,
+    mut meter: MeterCore<MemoryStore>,
+    input: &[u8],
+) -> Result<Transcript, Fault>
+    requires size { length input.now ≤ max_input }
+    requires honest { IsTrue meter.honest }
+    requires sound { IsTrue meter.sound }
+    ensures ok { IfOk result (λ t. Session meter.meter input.now t.text.items t.bad_line) }
     ensures err { IfErr result (λ f. f ≡ Fault.OutOfMemory) }
 {
+    fw_meter::laws::faultless();
     let mut text = Vec::new(alloc);
     let mut rest = input;
     let mut number = 1u64;

@@ -1,5 +1,5 @@
-pub mod OneAnswer
-pub mod Pairs
-pub mod Cells
-pub mod Packed
-pub mod Marked
+mod Made
+mod Responding
+mod OneAnswer
+mod Stops
+mod Faultless

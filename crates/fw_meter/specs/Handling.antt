@@ -1,14 +1,18 @@
--- What a meter does with a datagram, from bytes to bytes.
-use Rattle.std.specs.Prelude.{◌≡◌, ℕ, ◌⊎◌, List, Option, Some, None, if◌then◌else◌}
+-- Public vocabulary: what a meter does with a datagram, from bytes to bytes.
+use Rattle.std.specs.Prelude.{◌≡◌, ℕ, Bool, IsTrue, ◌⊎◌, List, Option, Some, None, if◌then◌else◌}
 use Rattle.std.specs.Option.{option_map}
 use Rattle.std.specs.Global.{Vec}
 use Rattle.fw_wrapper.specs.Wrapper.{Wraps, wrapped}
 use Rattle.fw_apdu.specs.Request.{RequestContent, get_request, set_request, action_request, SpellsRequest, is_confirmed}
-use Rattle.fw_apdu.specs.Response.{value, code, ResponseContent, get_response, set_response, action_response, response_bytes}
+use Rattle.fw_apdu.specs.Response.{response_bytes}
 use Rattle.fw_names.specs.Name.{Name}
-use Rattle.fw_meter.specs.Meter.{Meter}
-use Rattle.fw_meter.specs.Meaning.{code_number, meaning_of}
-use Rattle.fw_meter.specs.Step.{Outcome, got, done, denied, MeterStep, activation_of}
+use Rattle.fw_server.specs.Meaning.{meaning_of}
+use Rattle.fw_server.specs.Answer as server
+use Rattle.fw_server.specs.Answer.{response_of}
+use Rattle.fw_store.specs.Faults.{Counted}
+use Rattle.fw_image.specs.Meter.{Meter}
+use Rattle.fw_image.specs.State.{State}
+use Rattle.fw_meter.specs.Step.{Outcome, got, coded, MeterStep, activation_of}
 
 -- a datagram carries a request, with its invoke byte, from a source to the wPort of the meter, 1
 pub record Brings (datagram : List ℕ) (source invoke : ℕ) (content : RequestContent) : Type 0 where
@@ -24,32 +28,33 @@ abbrev pub BringsNothing : List ℕ → Type 0
 BringsNothing datagram = (source invoke : ℕ) (content : RequestContent) → Brings datagram source invoke content → ⊥
 
 -- a code answers each request in its form
-abbrev pub coded : RequestContent → ℕ → ResponseContent
-coded (get_request d) c = get_response (code c)
-coded (set_request d v) c = set_response c
-coded (action_request d parameter) c = action_response c None
+abbrev pub outcome_in : RequestContent → Outcome → server.Outcome
+outcome_in content (got answer) = server.got answer
+outcome_in (get_request d) (coded c) = server.get_code c
+outcome_in (set_request d v) (coded c) = server.set_code c
+outcome_in (action_request d parameter) (coded c) = server.action_code c
 
--- the response to a request: a value answers a GET, and a code any of the three; 0 is success
-abbrev pub response_to : RequestContent → Outcome → ResponseContent
-response_to content (got v) = get_response (value v)
-response_to content done = coded content 0
-response_to content (denied c) = coded content (code_number c)
-
--- the datagram that carries the response back, where the request asked for one
+-- the datagram that carries the outcome back, where the request asked for a response
 abbrev pub reply_to : ℕ → ℕ → RequestContent → Outcome → Option (List ℕ)
 reply_to source invoke content outcome =
-    if is_confirmed invoke then Some (wrapped 1 source (response_bytes invoke (response_to content outcome))) else None
+    if is_confirmed invoke then Some (wrapped 1 source (response_bytes invoke (response_of (outcome_in content outcome)))) else None
 
--- the meter makes the step of the request that it is brought, and replies with its outcome
-pub record Serves (old : Meter) (datagram : List ℕ) (reply : Option (List ℕ)) (activated : Option Name) (new : Meter) : Type 0 where
+-- The meter makes the step of a request, with this invoke byte from this source, and replies with its outcome. A hardware fault, code 1,
+-- is told only where the store may be blamed.
+pub record Responds (honest : Bool) (Blamed : Type 0) (old : Meter) (source invoke : ℕ) (content : RequestContent) (reply : Option (List ℕ)) (activated : Option Name) (new : Meter) : Type 0 where
+  pub outcome : Outcome
+  pub steps : MeterStep honest old (meaning_of content) outcome new
+  pub replies : reply ≡ reply_to source invoke content outcome
+  pub activates : activated ≡ activation_of (meaning_of content) outcome new
+  pub cause : outcome ≡ coded 1 → Blamed
+
+-- so it does with the request that it is brought
+pub record Serves (honest : Bool) (Blamed : Type 0) (old : Meter) (datagram : List ℕ) (reply : Option (List ℕ)) (activated : Option Name) (new : Meter) : Type 0 where
   pub source : ℕ
   pub invoke : ℕ
   pub content : RequestContent
-  pub outcome : Outcome
   pub brings : Brings datagram source invoke content
-  pub steps : MeterStep old (meaning_of content) outcome new
-  pub replies : reply ≡ reply_to source invoke content outcome
-  pub activates : activated ≡ activation_of (meaning_of content) outcome new
+  pub responds : Responds honest Blamed old source invoke content reply activated new
 
 -- the meter is brought no request, stays as it was and gives no reply
 pub record Drops (old : Meter) (datagram : List ℕ) (reply : Option (List ℕ)) (activated : Option Name) (new : Meter) : Type 0 where
@@ -59,8 +64,13 @@ pub record Drops (old : Meter) (datagram : List ℕ) (reply : Option (List ℕ))
   pub same : new ≡ old
 
 -- from old, a meter that hears this datagram gives this reply, activates this image or none, and goes on to new
-abbrev pub Handles : Meter → List ℕ → Option (List ℕ) → Option Name → Meter → Type 0
-Handles old datagram reply activated new = Serves old datagram reply activated new ⊎ Drops old datagram reply activated new
+abbrev pub Handles : Bool → Type 0 → Meter → List ℕ → Option (List ℕ) → Option Name → Meter → Type 0
+Handles honest Blamed old datagram reply activated new =
+    Serves honest Blamed old datagram reply activated new ⊎ Drops old datagram reply activated new
+
+-- a store may be blamed for what it failed at since, and never where no call of it fails
+abbrev pub Blamed : State → State → Type 0
+Blamed old new = Counted old.faults new.faults × (IsTrue old.sound → ⊥)
 
 -- a reply without where it lies in memory
 abbrev pub reply_bytes : Option (Vec ℕ) → Option (List ℕ)

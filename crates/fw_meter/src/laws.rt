@@ -1,12 +1,26 @@
-//! Laws of a meter, over the definitions alone.
+//! Laws of a meter, over the definitions alone. A caller cites a law by calling it: nothing is done.
 
-ghost use Rattle.fw_meter.specs.Laws.{OneAnswer};
+ghost use Rattle.fw_meter.specs.Laws.{OneAnswer, Faultless, FaultIsStop};
 
-/// A meter and a datagram determine the reply and what the meter is afterwards.
+/// Over an honest store that doesn't fail, a meter and a datagram determine the reply, the activation and the meter
+/// afterwards.
 pub fn one_answer()
     ensures { OneAnswer }
 {
     fw_names::laws::one_name();
     fw_wrapper::laws::one_frame();
     fw_apdu::laws::one_request();
+    fw_image::laws::one_step();
 }
+
+/// Over an honest store that doesn't fail, a datagram is handled without a hardware fault.
+pub fn faultless()
+    ensures { Faultless }
+{}
+
+/// Over an honest store, a stop at any of its calls leaves the meter before the datagram, or before it but for the block
+/// that it writes, or after it. To be opened again from an honest store that doesn't fail changes no meter, as the clause
+/// `again` of `MeterCore::restart` says.
+pub fn fault_is_stop()
+    ensures { FaultIsStop }
+{}

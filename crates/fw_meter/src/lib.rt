@@ -1,17 +1,14 @@
-//! A meter: it runs an image, and answers the datagrams that it is given.
+//! A meter: it receives images into a store, switches to them, and answers the datagrams that it is given.
 #![tactic(auto)]
 
+mod code;
 mod error;
 pub mod laws;
 mod meter;
-mod outcome;
-mod phase;
-mod plan;
+mod operation;
+mod reading;
+mod replies;
 mod serving;
-mod transfer;
-mod view;
 
-pub use error::{OutOfMemory, SetupError};
+pub use error::OutOfMemory;
 pub use meter::{Handled, MeterCore};
-pub use outcome::Goal;
-pub use view::{MeterView, TransferStatus};

@@ -1,61 +1,53 @@
 //! A meter without its wires.
 
-ghost use Rattle.std.specs.Prelude.{◌≡◌, ◌≤◌, ℕ, List, [], length, Some, None, IfOk, OnOk, OnErr, IsErrOf, MatchOption};
-ghost use Rattle.fw_axdr.specs.View.{value_of};
-ghost use Rattle.fw_names.specs.Name.{Name};
+ghost use Rattle.std.specs.Prelude.{◌≡◌, ◌≢◌, ◌≤◌, IsTrue, IfOk, IfErr, IsOkAnd, OnOk, OnErr, None, true, false, length};
+ghost use Rattle.fw_store.specs.Faults.{HasCause, Counted};
+ghost use Rattle.fw_server.specs.Answer.{bits_in_answer};
+ghost use Rattle.fw_server.specs.Meaning.{meaning_of};
+ghost use Rattle.fw_server.specs.View.{answer_of as told_answer, reading_of};
 ghost use Rattle.fw_blocks.specs.Cuts.{max_blocks};
-ghost use Rattle.fw_blocks.specs.Members.{first_missing};
-ghost use Rattle.fw_meter.specs.Meter.{Meter, IsSetup, fresh_meter, marks_of, count_of, status_of, goal_of, goal_bytes};
-ghost use Rattle.fw_meter.specs.Step.{MeterStep, IsOffer, Initiates, PutsBlock, Verifies, Activates, answer_of, verified_goal, activation_of};
-ghost use Rattle.fw_meter.specs.Meaning as meaning;
-ghost use Rattle.fw_meter.specs.Handling.{Handles, IsForMeter, reply_bytes};
-ghost use Rattle.fw_meter.specs.View.{planned_meaning, reading_of, code_of, goal_value, status_number, mark_bytes, outcome_of, IsServed, IsShort, IsBrief};
-ghost use Rattle.fw_meter.specs.Held.{changed, MayChange, IsReceiving, IsSealed, sealed_phase, switched_to, switched_name, IsDenial};
+ghost use Rattle.fw_meter.specs.Step.{answer_of};
+ghost use Rattle.fw_apdu.specs.View.{request_content, request_invoke};
+ghost use Rattle.fw_image.specs.Meter.{Meter, IsTrusted};
+ghost use Rattle.fw_image.specs.Shown.{shown_of, IsView};
+ghost use Rattle.fw_image.specs.State.{Follows};
+ghost use Rattle.fw_image.specs.Stored.{Holds, IsMeterOf, Refused};
+ghost use Rattle.fw_image.specs.declared.error.OpenError.TheVariants as not_opened;
+ghost use Rattle.fw_meter.specs.Handling.{Handles, Responds, Blamed, IsForMeter, reply_bytes};
+ghost use Rattle.fw_meter.specs.Inside.{asked};
 
-use crate::error::{OutOfMemory, SetupError};
-use crate::outcome::{Goal, Outcome, bit_string, infos, octets};
-use crate::phase::{Change, Held};
-use crate::plan::{AccessResult, Planned, Readable, plan};
+use crate::error::OutOfMemory;
+use crate::operation::{Operation, activated, make};
+use crate::reading::read;
+use crate::replies::Replies;
 use crate::serving::{Heard, hear};
-use crate::transfer::Transfer;
-use crate::view::{MeterView, TransferStatus};
-use fw_axdr::{Bits, Data};
-use fw_blocks::{Geometry, MARKS_SIZE, Marks};
-use fw_names::{ImageName, factory_name};
+use fw_image::{MeterView, OpenError, Phase};
+use fw_names::ImageName;
+use fw_server::{Answer, Planned, Reading, plan};
+use fw_store::{ImageStore, MemoryStore, StoreFault};
 use std::alloc::{AllocError, Global};
 use std::marker::Model;
-use std::mem;
 
-/// The largest block, in bytes.
-const MAX_BLOCK_SIZE: u32 = 1_024;
-
-/// The largest image, in bytes: 4,096 of the largest blocks.
-const MAX_CAPACITY: u32 = 4_194_304;
-
-/// A meter: the image that runs, the one that is received, and the limits of both.
+/// A meter over a store.
 #[derive(Drop)]
-pub struct MeterCore {
-    block_size: u32,
-    capacity: u32,
-    enabled: bool,
-    held: Held,
-    name: ImageName,
-    image: Vec<u8>,
+pub struct MeterCore<S: ImageStore + Drop> {
+    // It moves out and back within a call.
+    phase: Option<Phase<S>>,
 }
 
-impl Model for MeterCore {
+impl<S: ImageStore + Drop> Model for MeterCore<S> {
     ghost use Rattle.std.specs.Coded.{codes};
-    ghost use Rattle.fw_meter.specs.Meter.{Meter, cells_code};
+    ghost use Rattle.fw_image.specs.Meter.{cells_code};
+    ghost use Rattle.fw_image.specs.State.{State};
+    ghost use Rattle.fw_meter.specs.Inside.{IsThere, state_there};
 
-    ghost Value = { Meter };
+    ghost Value = { State };
 
     ghost coded = { Prim.hlevel (codes, cells_code) };
 
-    ghost use Rattle.fw_meter.specs.Held.{meter_of, IsMeter};
+    ghost view = { λ m. state_there m.phase };
 
-    ghost view = { λ m. meter_of m.block_size m.capacity m.enabled m.held m.name m.image.items };
-
-    ghost invariant = { λ m. IsMeter m.block_size m.capacity m.held m.image.items };
+    ghost invariant = { λ m. IsThere m.phase };
 }
 
 /// What a meter did with a datagram.
@@ -67,360 +59,190 @@ pub struct Handled {
     pub activated: Option<ImageName>,
 }
 
-impl MeterCore {
-    /// A new meter, which runs its factory image. `block_size` is the size of a block in bytes, 1 to 1,024, and
-    /// `capacity` the room for an image in bytes, 1 to 4,194,304. The image has 1 to `capacity` bytes.
+impl<S: ImageStore + Drop> MeterCore<S> {
+    /// A meter in the state that a store has.
     ///
     /// # Errors
     ///
-    /// `BadSetup` where one of these doesn't hold, and otherwise `OutOfMemory` alone.
-    pub fn fresh(
-        alloc: Global,
-        block_size: u32,
-        capacity: u32,
-        factory: &[u8],
-    ) -> Result<MeterCore, SetupError>
-        ensures fresh { IfOk result (λ meter. meter ≡ fresh_meter block_size capacity factory.now) }
-        ensures setup { OnOk result (IsSetup block_size capacity factory.now) }
-        ensures bad_setup { IsErrOf result SetupError.BadSetup → ¬ IsSetup block_size capacity factory.now }
-        ensures memory { IsErrOf result SetupError.OutOfMemory → IsSetup block_size capacity factory.now }
+    /// `Fault` where the store failed, `BadHeader` where its header is none that it can have, and `BadImage` where the image
+    /// that runs, or a verified one, hasn't the digest of its name, in this order. The store is handed back, and holds what
+    /// it held.
+    pub fn open_store(store: S) -> Result<MeterCore<S>, (OpenError, S)>
+        ensures opened { IfOk result (λ meter. Holds S.honest S.capacity S.device store meter) }
+        ensures sound { IfOk result (λ meter. IsTrue (S.sound store) → IsTrue meter.sound) }
+        ensures later { IfOk result (λ meter. S.faults store ≤ meter.faults) }
+        ensures again { (meter : Meter) → IsMeterOf (S.capacity store) (S.device store) meter → IsTrusted meter
+            → IsTrue (S.honest store) → IsTrue (S.sound store) → IsOkAnd result (λ opened. opened.meter ≡ meter) }
+        ensures refused { IfErr result (λ e. Refused S.honest S.sound S.capacity S.faults S.device store e.0 e.1) }
     {
-        let blocks_fit = (1..=MAX_BLOCK_SIZE).contains(&block_size);
-        let room_fits = (1..=MAX_CAPACITY).contains(&capacity);
-        if !blocks_fit || !room_fits || factory.is_empty() || factory.len() > capacity as usize {
-            return Err(SetupError::BadSetup);
+        let phase = fw_image::open_store(store)?;
+        Ok(MeterCore { phase: Some(phase) })
+    }
+
+    /// The meter as it is after a restart: its store is opened again.
+    ///
+    /// # Errors
+    ///
+    /// As for `open_store`. An honest store is refused only where it fails.
+    pub fn restart(self) -> Result<MeterCore<S>, (OpenError, S)>
+        ensures same { IsTrue self.honest → IfOk result (λ meter. meter.meter ≡ self.meter) }
+        ensures follows { IfOk result (λ meter. Follows self meter) }
+        ensures again { IsTrue self.honest → IsTrue self.sound → IsOkAnd result (λ meter. meter.meter ≡ self.meter) }
+        ensures fault { IsTrue self.honest → IfErr result (λ e. e.0 ≡ not_opened.Fault) }
+        ensures cause { IfErr result (λ e. e.0 ≡ not_opened.Fault → Counted self.faults (S.faults e.1)) }
+        ensures never { IsTrue self.sound → IfErr result (λ e. e.0 ≢ not_opened.Fault) }
+        ensures back { IfErr result (λ e. Holds S.honest S.capacity S.device e.1 self) }
+    {
+        fw_image::laws::one_meter();
+        match self.phase {
+            Some(phase) => MeterCore::open_store(phase.into_store()),
+            None => unreachable!(),
         }
-        let image = factory.to_vec(alloc)?;
-        Ok(MeterCore {
-            block_size,
-            capacity,
-            enabled: false,
-            held: Held::Nothing,
-            name: factory_name(factory),
-            image,
-        })
     }
 
     /// Handles a datagram whole. One that brings no request to wPort 1 changes nothing and has no reply. A request is
-    /// served, and its outcome sent back where it asked for a response.
+    /// served, and its outcome sent back where it asked for a response (IEC 62056-4-7, IEC 62056-5-3). All memory is taken
+    /// before the store is called.
     ///
     /// # Errors
     ///
-    /// `OutOfMemory`, for a datagram that carries an APDU to wPort 1 alone, and the meter is as before.
+    /// `OutOfMemory`, for a datagram that carries an APDU to wPort 1 alone, and the meter and its store are as before.
     pub fn handle(&mut self, alloc: Global, datagram: &[u8]) -> Result<Handled, OutOfMemory>
-        ensures step { IfOk result (λ h. Handles self.old datagram.now (reply_bytes h.reply) h.activated self.new) }
+        ensures step { IfOk result (λ h. Handles self.old.honest (Blamed self.old self.new) self.old.meter datagram.now
+            (reply_bytes h.reply) h.activated self.new.meter) }
+        ensures follows { Follows self.old self.new }
         ensures err { OnErr result (self.new ≡ self.old) }
         // Any other datagram is dropped without memory.
         ensures memory { OnErr result (IsForMeter datagram.now) }
     {
         match hear(alloc, datagram)? {
-            None => Ok(Handled {
-                reply: None,
-                activated: None,
-            }),
-            Some(heard) => self.respond(alloc, heard),
+            None => Ok(unchanged(None)),
+            Some(heard) => self.respond(alloc, &heard),
         }
     }
 
     /// What the meter shows of itself.
     pub fn view(&self) -> MeterView
-        ensures enabled { result.enabled ≡ self.now.enabled }
-        ensures status { status_number result.status ≡ status_of self.now.phase }
-        ensures active { result.active ≡ self.now.running.name }
-        ensures active_size { result.active_size ≡ length self.now.running.bytes }
-        ensures goal { goal_value result.goal ≡ goal_of self.now.phase }
-        ensures marked { result.marked ≡ mark_bytes (marks_of self.now.cells (count_of self.now)) }
+        ensures view { IsView result (shown_of self.now.meter) }
+
+        // Over an honest store the images have the digests of their names.
+        ensures trusted { IsTrue self.now.honest → IsTrusted self.now.meter }
     {
-        MeterView {
-            enabled: self.enabled,
-            status: self.status(),
-            active: self.name,
-            active_size: self.image.len() as u32,
-            goal: self.goal(),
-            marked: self.marked(),
+        match &self.phase {
+            Some(phase) => phase.view(),
+            None => unreachable!(),
         }
     }
 
     /// Fills `out`, which has as many bytes as the image that runs, with that image.
-    pub fn read_running(&self, out: &mut [u8])
-        requires { length out.old ≡ length self.now.running.bytes }
-        ensures { out.new ≡ self.now.running.bytes }
+    ///
+    /// # Errors
+    ///
+    /// `StoreFault` where the store failed. `out` may then have any bytes.
+    pub fn read_running(&mut self, out: &mut [u8]) -> Result<(), StoreFault>
+        requires { length out.old ≡ length self.old.meter.running.bytes }
+        ensures done { IsTrue self.old.honest → OnOk result (out.new ≡ self.old.meter.running.bytes) }
+        ensures same { self.new.meter ≡ self.old.meter }
+        ensures follows { Follows self.old self.new }
+        ensures cause { HasCause self.old.sound self.old.faults self.new.faults result }
     {
-        out.copy_from_slice(&self.image);
+        match &mut self.phase {
+            Some(phase) => phase.read_running(out),
+            None => unreachable!(),
+        }
     }
 
-    /// Serves a request, and replies where it asks for a response.
-    fn respond(&mut self, alloc: Global, heard: Heard) -> Result<Handled, OutOfMemory>
-        ensures served { IfOk result (λ h. IsServed self.old heard (reply_bytes h.reply) h.activated self.new) }
+    // Serves a request, and replies where it asks for a response.
+    fn respond(&mut self, alloc: Global, heard: &Heard) -> Result<Handled, OutOfMemory>
+        ensures step { IfOk result (λ h. Responds self.old.honest (Blamed self.old self.new) self.old.meter heard.now.source
+            (request_invoke heard.now.request) (request_content heard.now.request) (reply_bytes h.reply) h.activated self.new.meter) }
+        ensures follows { Follows self.old self.new }
         ensures err { OnErr result (self.new ≡ self.old) }
     {
-        let planned = plan(&heard.request);
-        let (outcome, change) = self.judge(alloc, planned)?;
-        let reply = heard.reply(alloc, outcome)?;
-        let activated = self.apply(change);
-        Ok(Handled { reply, activated })
-    }
-
-    /// What an operation comes to, and what it changes. Nothing is changed yet.
-    fn judge<'a>(
-        &self,
-        alloc: Global,
-        planned: Planned<'a>,
-    ) -> Result<(Outcome, Change<'a>), AllocError>
-        ensures step { IfOk result (λ x. MeterStep self.now (planned_meaning planned.entry) (outcome_of x.0) (changed self.now x.1)) }
-        ensures may { IfOk result (λ x. MayChange self.now x.1) }
-        ensures short { IfOk result (λ x. IsShort (outcome_of x.0)) }
-        ensures activation { IfOk result (λ x. (new : Meter) → switched_name x.1 new ≡ activation_of (planned_meaning planned.entry) (outcome_of x.0) new) }
-    {
-        match planned {
+        match plan(&heard.request) {
             Planned::Read(reading) => {
-                Ok((Outcome::Got(self.answer(alloc, reading)?), Change::Nothing))
+                let value = self.read(alloc, reading)?;
+                Ok(unchanged(heard.value(alloc, value)?))
             }
-            Planned::Enable(enabled) => Ok((Outcome::Done, Change::Enable(enabled))),
-            Planned::Refused(refusal) => Ok(denied(refusal)),
-            _ if !self.enabled => Ok(denied(AccessResult::ReadWriteDenied)),
-            Planned::Initiate { identifier, size } => self.initiate(alloc, identifier, size),
-            Planned::Block { number, value } => Ok(self.block(number, value)),
-            Planned::Verify => Ok(self.verify()),
-            Planned::Activate => Ok(self.activate()),
+            Planned::Refused(refusal) => Ok(unchanged(heard.code(alloc, refusal.code())?)),
+            Planned::Enable(enabled) => self.operate(alloc, heard, Operation::Enable(enabled)),
+            Planned::Initiate { identifier, size } => {
+                self.operate(alloc, heard, Operation::Initiate { identifier, size })
+            }
+            Planned::Block { number, value } => {
+                self.operate(alloc, heard, Operation::Block { number, value })
+            }
+            Planned::Verify => self.operate(alloc, heard, Operation::Verify),
+            Planned::Activate => self.operate(alloc, heard, Operation::Activate),
         }
     }
 
-    /// The value of what is read.
-    fn answer(&self, alloc: Global, reading: Readable) -> Result<Data, AllocError>
-        ensures value { IfOk result (λ answer. value_of answer ≡ answer_of self.now (reading_of reading)) }
-        ensures short { IfOk result (λ answer. IsBrief (value_of answer)) }
+    // The value of an attribute.
+    fn read(&self, alloc: Global, reading: Reading) -> Result<Answer, AllocError>
+        ensures value { IfOk result (λ answer. told_answer answer ≡ answer_of self.now.meter (reading_of reading)) }
+        ensures bits { IfOk result (λ answer. bits_in_answer (told_answer answer) ≤ max_blocks) }
     {
-        match reading {
-            Readable::LogicalName(object) => octets(alloc, &object.logical_name().0),
-            Readable::BlockSize => Ok(Data::DoubleLongUnsigned(self.block_size)),
-            Readable::TransferredBlocks => Ok(bit_string(self.transferred_blocks(alloc)?)),
-            Readable::FirstNotTransferred => {
-                Ok(Data::DoubleLongUnsigned(self.first_not_transferred()))
-            }
-            Readable::TransferEnabled => Ok(Data::Boolean(self.enabled)),
-            Readable::TransferStatus => Ok(Data::Enumerated(self.status().number())),
-            Readable::ToActivate => infos(alloc, self.to_activate()),
-            Readable::ActiveName => octets(alloc, &self.name.to_bytes()),
-            Readable::ActiveDigest => octets(alloc, &self.name.digest),
+        match &self.phase {
+            Some(phase) => read(phase, alloc, reading),
+            None => unreachable!(),
         }
     }
 
-    /// image_transfer_initiate.
-    fn initiate<'a>(
-        &self,
+    // Makes the operation that a request asks for. All replies that it can have are made before.
+    fn operate(
+        &mut self,
         alloc: Global,
-        identifier: &[u8],
-        size: u32,
-    ) -> Result<(Outcome, Change<'a>), AllocError>
-        ensures step { IfOk result (λ x. Initiates self.now identifier.now size (outcome_of x.0) (changed self.now x.1)) }
-        ensures may { IfOk result (λ x. MayChange self.now x.1) }
-        ensures short { IfOk result (λ x. IsShort (outcome_of x.0)) }
-        ensures activation { IfOk result (λ x. (new : Meter) → switched_name x.1 new ≡ None) }
+        heard: &Heard,
+        operation: Operation<'_>,
+    ) -> Result<Handled, OutOfMemory>
+        requires { asked operation ≡ meaning_of (request_content heard.now.request) }
+        ensures step { IfOk result (λ h. Responds self.old.honest (Blamed self.old self.new) self.old.meter heard.now.source
+            (request_invoke heard.now.request) (request_content heard.now.request) (reply_bytes h.reply) h.activated self.new.meter) }
+        ensures follows { Follows self.old self.new }
+        ensures err { OnErr result (self.new ≡ self.old) }
     {
-        match self.offered(identifier, size) {
-            Some((name, geometry)) => {
-                let transfer = Transfer::begin(alloc, name, geometry)?;
-                Ok((Outcome::Done, Change::Begin(transfer)))
-            }
-            None => Ok(denied(AccessResult::OtherReason)),
-        }
-    }
-
-    /// The name and the cut of an image that can be received.
-    fn offered(&self, identifier: &[u8], size: u32) -> Option<(ImageName, Geometry)>
-        ensures { MatchOption result ((name : Name) → ¬ IsOffer self.now identifier.now size name)
-            (λ x. IsOffer self.now identifier.now size x.0 × (x.1 ≡ record { block_size = self.now.block_size; size = size })) }
-    {
-        let name = ImageName::from_bytes(identifier)?;
-        let geometry = Geometry::new(self.block_size, size)?;
-        if name.campaign.is_factory() || size > self.capacity {
-            return None;
-        }
-        Some((name, geometry))
-    }
-
-    /// image_block_transfer.
-    fn block<'a>(&self, number: u32, value: &'a [u8]) -> (Outcome, Change<'a>)
-        ensures step { PutsBlock self.now self.now.phase number value.now (outcome_of result.0) (changed self.now result.1) }
-        ensures may { MayChange self.now result.1 }
-        ensures short { IsShort (outcome_of result.0) }
-        ensures activation { (new : Meter) → switched_name result.1 new ≡ None }
-    {
-        match &self.held {
-            Held::Receiving(transfer) => {
-                if transfer.fits(number, value) {
-                    (Outcome::Done, Change::Put(number, value))
-                } else {
-                    denied(AccessResult::OtherReason)
-                }
-            }
-            _ => denied(AccessResult::TemporaryFailure),
-        }
-    }
-
-    /// image_verify.
-    fn verify<'a>(&self) -> (Outcome, Change<'a>)
-        ensures step { Verifies self.now self.now.phase (outcome_of result.0) (changed self.now result.1) }
-        ensures may { MayChange self.now result.1 }
-        ensures short { IsShort (outcome_of result.0) }
-        ensures activation { (new : Meter) → switched_name result.1 new ≡ None }
-    {
-        match &self.held {
-            Held::Receiving(transfer) => {
-                if transfer.is_whole() {
-                    (Outcome::Done, Change::Seal)
-                } else {
-                    denied(AccessResult::TemporaryFailure)
-                }
-            }
-            _ => denied(AccessResult::TemporaryFailure),
-        }
-    }
-
-    /// image_activate.
-    fn activate<'a>(&self) -> (Outcome, Change<'a>)
-        ensures step { Activates self.now self.now.phase (outcome_of result.0) (changed self.now result.1) }
-        ensures may { MayChange self.now result.1 }
-        ensures short { IsShort (outcome_of result.0) }
-        ensures activation { (new : Meter) → switched_name result.1 new ≡ activation_of meaning.activate (outcome_of result.0) new }
-    {
-        match &self.held {
-            Held::Sealed(_) => (Outcome::Done, Change::Switch),
-            _ => denied(AccessResult::TemporaryFailure),
-        }
-    }
-
-    /// Makes a change that was judged. The name is that of an image that is switched to.
-    fn apply(&mut self, change: Change<'_>) -> Option<ImageName>
-        requires { MayChange self.old change }
-        ensures changed { self.new ≡ changed self.old change.entry }
-        ensures activated { result ≡ switched_name change.entry self.new }
-    {
-        match change {
-            Change::Nothing => None,
-            Change::Enable(enabled) => {
-                self.enabled = enabled;
-                None
-            }
-            Change::Begin(transfer) => {
-                self.held = Held::Receiving(transfer);
-                None
-            }
-            Change::Put(number, value) => {
-                if let Held::Receiving(transfer) = &mut self.held {
-                    transfer.put(number, value);
-                }
-                None
-            }
-            Change::Seal => {
-                self.seal();
-                None
-            }
-            Change::Switch => self.switch(),
-        }
-    }
-
-    /// Takes the image that was received for verified.
-    fn seal(&mut self)
-        requires { IsReceiving self.old self.old.phase (λ goal. (bytes : List ℕ) × (goal_bytes self.old ≡ Some bytes)) }
-        ensures { self.new ≡ record self.old { phase = sealed_phase self.old.phase } }
-    {
-        self.held = match mem::replace(&mut self.held, Held::Nothing) {
-            Held::Receiving(transfer) => Held::Sealed(transfer),
-            held => held,
-        };
-    }
-
-    /// Runs the image that was received.
-    fn switch(&mut self) -> Option<ImageName>
-        requires { IsSealed self.old.phase }
-        ensures switched { self.new ≡ switched_to self.old self.old.phase (goal_bytes self.old) }
-        ensures name { result ≡ Some self.new.running.name }
-    {
-        let Held::Sealed(transfer) = mem::replace(&mut self.held, Held::Switched) else {
+        let replies = Replies::prepare(alloc, heard)?;
+        let Some(phase) = self.phase.take() else {
             unreachable!()
         };
-        let (name, image) = transfer.into_image();
-        self.name = name;
-        self.image = image;
-        Some(name)
+        let (code, next) = make(phase, operation);
+        let activated = activated(operation, code, &next);
+        self.phase = Some(next);
+        Ok(Handled {
+            reply: replies.with(code),
+            activated,
+        })
     }
+}
 
-    /// Which blocks are there.
-    fn transferred_blocks(&self, alloc: Global) -> Result<Bits, AllocError>
-        ensures bits { IfOk result (λ bits. bits ≡ marks_of self.now.cells (count_of self.now)) }
-        ensures few { IfOk result (λ bits. length bits ≤ max_blocks) }
+impl MeterCore<MemoryStore> {
+    /// The next `calls` calls of the store succeed, and all later ones fail until `unfuse`, as `MemoryStore::fuse` says.
+    pub fn fuse(&mut self, calls: u64, torn: u8)
+        ensures { self.new ≡ record self.old { sound = false } }
     {
-        match &self.held {
-            Held::Receiving(transfer) | Held::Sealed(transfer) => transfer.bits(alloc),
-            Held::Nothing | Held::Switched => Ok(Bits::from_vec(Vec::new(alloc), 0)),
+        match &mut self.phase {
+            Some(phase) => phase.fuse(calls, torn),
+            None => unreachable!(),
         }
     }
 
-    /// The lowest block that isn't there, or how many there are.
-    fn first_not_transferred(&self) -> u32
-        ensures { result ≡ first_missing (marks_of self.now.cells (count_of self.now)) }
+    /// From now on no call of the store fails.
+    pub fn unfuse(&mut self)
+        ensures { self.new ≡ record self.old { sound = true } }
     {
-        match &self.held {
-            Held::Receiving(transfer) | Held::Sealed(transfer) => transfer.first_missing(),
-            Held::Nothing | Held::Switched => 0,
-        }
-    }
-
-    /// image_transfer_status.
-    fn status(&self) -> TransferStatus
-        ensures { status_number result ≡ status_of self.now.phase }
-    {
-        match &self.held {
-            Held::Nothing => TransferStatus::NotInitiated,
-            Held::Receiving(_) => TransferStatus::Initiated,
-            Held::Sealed(_) => TransferStatus::VerificationSuccessful,
-            Held::Switched => TransferStatus::ActivationSuccessful,
-        }
-    }
-
-    /// The image that is received or verified.
-    fn goal(&self) -> Option<Goal>
-        ensures { goal_value result ≡ goal_of self.now.phase }
-    {
-        match &self.held {
-            Held::Receiving(transfer) | Held::Sealed(transfer) => Some(transfer.goal()),
-            Held::Nothing | Held::Switched => None,
-        }
-    }
-
-    /// The marks of its blocks.
-    fn marked(&self) -> [u8; MARKS_SIZE]
-        ensures { result ≡ mark_bytes (marks_of self.now.cells (count_of self.now)) }
-    {
-        match &self.held {
-            Held::Receiving(transfer) | Held::Sealed(transfer) => transfer.marked(),
-            Held::Nothing | Held::Switched => no_marks(),
-        }
-    }
-
-    /// The image that an activate would switch to.
-    fn to_activate(&self) -> Option<Goal>
-        ensures { goal_value result ≡ verified_goal self.now.phase }
-    {
-        match &self.held {
-            Held::Sealed(transfer) => Some(transfer.goal()),
-            _ => None,
+        match &mut self.phase {
+            Some(phase) => phase.unfuse(),
+            None => unreachable!(),
         }
     }
 }
 
-/// A refusal, which changes nothing.
-fn denied<'a>(refusal: AccessResult) -> (Outcome, Change<'a>)
-    ensures { IsDenial (code_of refusal) (outcome_of result.0) result.1 }
+/// What a meter did that is as it was.
+fn unchanged(reply: Option<Vec<u8>>) -> Handled
+    ensures { result ≡ record { reply = reply; activated = None } }
 {
-    (Outcome::Denied(refusal), Change::Nothing)
-}
-
-/// The bytes of no marks.
-fn no_marks() -> [u8; MARKS_SIZE]
-    ensures { result ≡ mark_bytes [] }
-{
-    Marks::none().to_bytes()
+    Handled {
+        reply,
+        activated: None,
+    }
 }

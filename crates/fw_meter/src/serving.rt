@@ -1,13 +1,17 @@
 //! From a datagram to the request in it, and from an outcome to the datagram that replies.
 
-ghost use Rattle.std.specs.Prelude.{◌≡◌, IfOk, OnErr};
+ghost use Rattle.std.specs.Prelude.{◌≡◌, ◌≤◌, IfOk, OnErr};
+ghost use Rattle.fw_blocks.specs.Cuts.{max_blocks};
 ghost use Rattle.fw_apdu.specs.View.{request_content, request_invoke};
+ghost use Rattle.fw_server.specs.Answer.{bits_in};
+ghost use Rattle.fw_server.specs.View.{outcome_of, answer_of};
+ghost use Rattle.fw_meter.specs.Step.{got, coded};
 ghost use Rattle.fw_meter.specs.Handling.{IsForMeter, reply_to, reply_bytes};
-ghost use Rattle.fw_meter.specs.View.{IsHeard, IsShort, outcome_of};
+ghost use Rattle.fw_meter.specs.Inside.{IsHeard, told_by};
 
 use crate::error::OutOfMemory;
-use crate::outcome::Outcome;
-use fw_apdu::{ApduError, Request, read_request, write_response};
+use fw_apdu::{ApduError, Request, read_request};
+use fw_server::{Answer, Outcome, answer};
 use fw_wrapper::{WrapError, join, split};
 use std::alloc::Global;
 
@@ -43,21 +47,37 @@ pub(crate) fn hear(alloc: Global, datagram: &[u8]) -> Result<Option<Heard>, OutO
 }
 
 impl Heard {
-    /// The datagram that carries the outcome back, if the request asked for one.
-    pub(crate) fn reply(
-        &self,
-        alloc: Global,
-        outcome: Outcome,
-    ) -> Result<Option<Vec<u8>>, OutOfMemory>
-        requires { IsShort (outcome_of outcome) }
+    /// The datagram that carries a value back, if the request asked for a response.
+    pub(crate) fn value(&self, alloc: Global, value: Answer) -> Result<Option<Vec<u8>>, OutOfMemory>
+        requires { bits_in (outcome_of (Outcome.Got value)) ≤ max_blocks }
         ensures { IfOk result (λ reply. reply_bytes reply
-            ≡ reply_to self.now.source (request_invoke self.now.request) (request_content self.now.request) (outcome_of outcome)) }
+            ≡ reply_to self.now.source (request_invoke self.now.request) (request_content self.now.request) (got (answer_of value))) }
     {
-        if !self.request.invoke().confirmed() {
+        self.tell(alloc, Outcome::Got(value))
+    }
+
+    /// The datagram that carries a code back, if the request asked for a response.
+    pub(crate) fn code(&self, alloc: Global, code: u8) -> Result<Option<Vec<u8>>, OutOfMemory>
+        ensures { IfOk result (λ reply. reply_bytes reply
+            ≡ reply_to self.now.source (request_invoke self.now.request) (request_content self.now.request) (coded code)) }
+    {
+        let outcome = match &self.request {
+            Request::Get { .. } => Outcome::GetCode(code),
+            Request::Set { .. } => Outcome::SetCode(code),
+            Request::Action { .. } => Outcome::ActionCode(code),
+        };
+        self.tell(alloc, outcome)
+    }
+
+    fn tell(&self, alloc: Global, outcome: Outcome) -> Result<Option<Vec<u8>>, OutOfMemory>
+        requires { bits_in (outcome_of outcome) ≤ max_blocks }
+        ensures { IfOk result (λ reply. reply_bytes reply ≡ told_by self.now.source (request_invoke self.now.request) (outcome_of outcome)) }
+    {
+        let invoke = self.request.invoke();
+        if !invoke.confirmed() {
             return Ok(None);
         }
-        let response = outcome.response(&self.request);
-        let apdu = match write_response(alloc, &response) {
+        let apdu = match answer(alloc, &invoke, &outcome) {
             Ok(apdu) => apdu,
             Err(ApduError::OutOfMemory) => return Err(OutOfMemory),
             Err(_) => unreachable!(),

@@ -18,6 +18,10 @@ pub(crate) const INITIATE_BBBB: &str =
 pub(crate) const INITIATE_AAAA: &str =
     "c301c1001200002c0000ff01010202092901000000010000000161be55a8e2f6b4e172338bddf184d6dbee29c98853e0a0485ecee7f27b9af0b40600000004";
 
+/// Of the bytes `61 ee 63`, from campaign 1 of head end 7.
+pub(crate) const INITIATE_CUT: &str =
+    "c301c1001200002c0000ff0101020209290100000007000000014d66bb78778ecaedbc4ea578187ae5274f70ae6bc6b32c92cd3b30a0624adce90600000003";
+
 /// image_block_transfer of a block's number and its bytes.
 pub(crate) const AB_AT_0: &str = "c301c1001200002c0000ff02010202060000000009026162";
 
@@ -58,6 +62,11 @@ pub(crate) const SET_DONE: &str = "c501c100";
 
 pub(crate) const DONE: &str = "c701c10000";
 
+/// What a SET and an ACTION get where a call of the store failed: hardware-fault.
+pub(crate) const SET_FAULT: &str = "c501c101";
+
+pub(crate) const FAULT: &str = "c701c10100";
+
 /// What a refused ACTION gets.
 pub(crate) const TEMPORARY_FAILURE: &str = "c701c10200";
 
@@ -67,12 +76,14 @@ pub(crate) const UNMATCHED: &str = "c701c10c00";
 
 pub(crate) const OTHER_REASON: &str = "c701c1fa00";
 
-/// image_transfer_status: 0, 1, 3 or 6.
+/// image_transfer_status: 0, 1, 3, 4 or 6.
 pub(crate) const NOT_INITIATED: &str = "c401c1001600";
 
 pub(crate) const INITIATED: &str = "c401c1001601";
 
 pub(crate) const VERIFIED: &str = "c401c1001603";
+
+pub(crate) const SPOILT: &str = "c401c1001604";
 
 pub(crate) const ACTIVATED: &str = "c401c1001606";
 
@@ -94,3 +105,10 @@ pub(crate) const ABC_NAME: &str =
 
 pub(crate) const BBBB_NAME: &str =
     "c401c100092901000000020000000181cc5b17018674b401b42f35ba07bb79e211239c23bffe658da1577e3e646877";
+
+pub(crate) const CUT_NAME: &str =
+    "c401c10009290100000007000000014d66bb78778ecaedbc4ea578187ae5274f70ae6bc6b32c92cd3b30a0624adce9";
+
+/// The digest of `abc`.
+pub(crate) const ABC_DIGEST: &str =
+    "c401c1000920ba7816bf8f01cfea414140de5dae2223b00361a396177a9cb410ff61f20015ad";

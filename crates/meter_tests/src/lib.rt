@@ -1,5 +1,5 @@
-//! Tests of the meter, and of the command that serves it, through their public calls. Expected replies are worked out by
-//! hand from the standards, and SHA-256 values are the published ones.
+//! Tests of the meter over a store in memory, and of the command that serves it, through their public calls. Expected replies are worked out by
+//! hand from the standards, and SHA-256 values are the published ones or those of `sha256sum`.
 #![tactic(auto)]
 
 #[cfg(test)]
@@ -7,17 +7,21 @@ mod answering;
 #[cfg(test)]
 mod apdus;
 #[cfg(test)]
+mod faults;
+#[cfg(test)]
 mod handling;
 #[cfg(test)]
 mod limits;
 #[cfg(test)]
 mod lines;
 #[cfg(test)]
+mod restarts;
+#[cfg(test)]
 mod results;
 #[cfg(test)]
 mod sessions;
 #[cfg(test)]
-mod setup;
+mod stores;
 #[cfg(test)]
 mod transfer;
 #[cfg(test)]

@@ -14,10 +14,7 @@ pub(crate) const NOTHING_SENT: &[Exchange] = &[
     (GET_TO_ACTIVATE, NOTHING_TO_ACTIVATE),
     (GET_NAME, FACTORY_NAME),
     ("c001c100010100000208ff0100", "c401c10009060100000208ff"),
-    (
-        GET_DIGEST,
-        "c401c1000920ba7816bf8f01cfea414140de5dae2223b00361a396177a9cb410ff61f20015ad",
-    ),
+    (GET_DIGEST, ABC_DIGEST),
 ];
 
 /// Blocks 0, 1 and 9 of ten.
@@ -49,18 +46,34 @@ pub(crate) const SIZES_THAT_DO_NOT_FIT: &[Exchange] = &[
     (GET_STATUS, NOT_INITIATED),
 ];
 
-/// A late block of `aaaa` lands in the transfer of `bbbb`. Verify doesn't compare the digest yet, so `bbaa` runs. It will
-/// be refused with the code 250 (fa) and the status 4.
+/// A late block of `aaaa` lands in the transfer of `bbbb`, so verify is refused. Nothing but another initiate is served
+/// then.
 pub(crate) const MIXED_BLOCKS: &[Exchange] = &[
     (ENABLE, SET_DONE),
     (INITIATE_BBBB, DONE),
     (BB_AT_0, DONE),
     (AA_AT_1, DONE),
+    (VERIFY, OTHER_REASON),
+    (GET_STATUS, SPOILT),
+    (GET_NAME, FACTORY_NAME),
+    (GET_BLOCKS, "c401c1000402c0"),
+    (GET_FIRST_NOT_TRANSFERRED, "c401c1000600000002"),
+    (GET_TO_ACTIVATE, NOTHING_TO_ACTIVATE),
+    (BB_AT_1, TEMPORARY_FAILURE),
+    (VERIFY, TEMPORARY_FAILURE),
+    (ACTIVATE, TEMPORARY_FAILURE),
+    (GET_STATUS, SPOILT),
+];
+
+/// The blocks of `bbbb` again, from a new initiate on.
+pub(crate) const BOTH_BLOCKS_AGAIN: &[Exchange] = &[
+    (INITIATE_BBBB, DONE),
+    (GET_STATUS, INITIATED),
+    (GET_BLOCKS, "c401c100040200"),
+    (BB_AT_0, DONE),
+    (BB_AT_1, DONE),
     (VERIFY, DONE),
     (GET_STATUS, VERIFIED),
-    (ACTIVATE, DONE),
-    (GET_STATUS, ACTIVATED),
-    (GET_NAME, BBBB_NAME),
 ];
 
 /// `bbbb` is received and verified. A late block then comes too late.
@@ -155,8 +168,5 @@ pub(crate) const WHOLE_TRANSFER: &[Exchange] = &[
     (ACTIVATE, DONE),
     (GET_STATUS, ACTIVATED),
     (GET_NAME, ABC_NAME),
-    (
-        GET_DIGEST,
-        "c401c1000920ba7816bf8f01cfea414140de5dae2223b00361a396177a9cb410ff61f20015ad",
-    ),
+    (GET_DIGEST, ABC_DIGEST),
 ];

@@ -9,7 +9,8 @@ pub(crate) const NEW: Part = Part::Shows(
     "runs 616263 of 0 0 ba7816bf, enabled false, NotInitiated, no goal, marks",
 );
 
-const SESSIONS: &[&[Part]] = &[
+/// What is received, and what a meter refuses before it verifies.
+const RECEIVED: &[&[Part]] = &[
     &[NEW, Part::SaysInVain(NOTHING_SENT)],
     &[
         Part::Says(TEN_BLOCKS),
@@ -21,6 +22,22 @@ const SESSIONS: &[&[Part]] = &[
         Part::Says(SIZES_THAT_DO_NOT_FIT),
         Part::Shows("runs 616263 of 0 0 ba7816bf, enabled true, NotInitiated, no goal, marks"),
     ],
+    &[
+        Part::Says(BLOCKS_THAT_DO_NOT_FIT),
+        Part::Shows(
+            "runs 616263 of 0 0 ba7816bf, enabled true, Initiated, goal 3 of 7 1 ba7816bf, marks",
+        ),
+    ],
+    &[Part::SaysInVain(REFUSED_BY_A_NEW_METER), NEW],
+];
+
+#[test]
+fn receives(rt: HostRuntime) -> Result<(), Fail> {
+    RECEIVED.iter().try_for_each(|parts| session(&rt, parts))
+}
+
+/// A late block, and another image, after an image is verified.
+const LATE: &[&[Part]] = &[
     &[
         Part::Says(LATE_BLOCK),
         Part::Shows(
@@ -38,13 +55,15 @@ const SESSIONS: &[&[Part]] = &[
             "runs 616263 of 0 0 ba7816bf, enabled true, VerificationSuccessful, goal 4 of 1 1 61be55a8, marks 0 1",
         ),
     ],
-    &[
-        Part::Says(BLOCKS_THAT_DO_NOT_FIT),
-        Part::Shows(
-            "runs 616263 of 0 0 ba7816bf, enabled true, Initiated, goal 3 of 7 1 ba7816bf, marks",
-        ),
-    ],
-    &[Part::SaysInVain(REFUSED_BY_A_NEW_METER), NEW],
+];
+
+#[test]
+fn takes_no_late_block(rt: HostRuntime) -> Result<(), Fail> {
+    LATE.iter().try_for_each(|parts| session(&rt, parts))
+}
+
+/// Whole transfers.
+const WHOLE: &[&[Part]] = &[
     &[
         Part::Says(TWO_BLOCKS),
         Part::Shows(
@@ -60,20 +79,23 @@ const SESSIONS: &[&[Part]] = &[
 ];
 
 #[test]
-fn each_session(rt: HostRuntime) -> Result<(), Fail> {
-    SESSIONS.iter().try_for_each(|parts| session(&rt, parts))
+fn transfers(rt: HostRuntime) -> Result<(), Fail> {
+    WHOLE.iter().try_for_each(|parts| session(&rt, parts))
 }
 
-/// The bytes that run aren't those that their name stands for.
+/// An image whose bytes aren't those that its name stands for never runs. The same name can be offered again.
+const MIXED: &[Part] = &[
+    Part::Says(MIXED_BLOCKS),
+    Part::Shows(
+        "runs 616263 of 0 0 ba7816bf, enabled true, VerificationFailed, goal 4 of 2 1 81cc5b17, marks 0 1",
+    ),
+    Part::Says(BOTH_BLOCKS_AGAIN),
+    Part::Shows(
+        "runs 616263 of 0 0 ba7816bf, enabled true, VerificationSuccessful, goal 4 of 2 1 81cc5b17, marks 0 1",
+    ),
+];
+
 #[test]
-fn mixed_blocks_still_run_until_verify_is_the_digest(rt: HostRuntime) -> Result<(), Fail> {
-    session(
-        &rt,
-        &[
-            Part::Says(MIXED_BLOCKS),
-            Part::Shows(
-                "runs 62626161 of 2 1 81cc5b17, enabled true, ActivationSuccessful, no goal, marks, switched to 2 1 81cc5b17",
-            ),
-        ],
-    )
+fn verify_refuses_mixed_blocks(rt: HostRuntime) -> Result<(), Fail> {
+    session(&rt, MIXED)
 }

@@ -1,7 +1,9 @@
 //! Sessions with a meter, in hexadecimal.
 
-use fw_meter::{Goal, MeterCore, MeterView};
+use fw_image::MeterView;
+use fw_meter::MeterCore;
 use fw_names::ImageName;
+use fw_store::{Goal, MemoryStore};
 use std::alloc::{AllocError, Global};
 use std::process::Abort;
 use std::test::Fail;
@@ -11,6 +13,7 @@ use std::test::Fail;
 pub(crate) type Exchange = (&'static str, &'static str);
 
 /// A part of a session.
+#[derive(Clone, Copy)]
 pub(crate) enum Part {
     /// Each request gets its reply.
     Says(&'static [Exchange]),
@@ -18,6 +21,12 @@ pub(crate) enum Part {
     SaysInVain(&'static [Exchange]),
     /// What can be seen of the meter, as `Wire::sight` tells it.
     Shows(&'static str),
+    /// So many more calls of the store succeed. A write that then fails leaves the byte ee.
+    Fuses(u64),
+    /// No call of the store fails any more.
+    Unfuses,
+    /// The meter is restarted.
+    Restarts,
 }
 
 /// A session with a new meter that runs `abc`, with blocks of two bytes and room for 64.
@@ -32,30 +41,84 @@ pub(crate) fn session_with<R: AllocGlobal + Abort>(
     capacity: u32,
     parts: &[Part],
 ) -> Result<(), Fail> {
+    played(rt, block_size, capacity, parts)?;
+    Ok(())
+}
+
+/// The store of a new meter that runs `abc`, with blocks of two bytes and room for 64, after a session.
+pub(crate) fn store_after<R: AllocGlobal + Abort>(
+    rt: &R,
+    parts: &[Part],
+) -> Result<MemoryStore, Fail> {
+    store_of(played(rt, 2, 64, parts)?.meter)
+}
+
+/// The store of a meter, which a restart hands back where a call of it fails.
+fn store_of(mut meter: MeterCore<MemoryStore>) -> Result<MemoryStore, Fail> {
+    meter.fuse(0, 0);
+    match meter.restart() {
+        Ok(_meter) => Err("a meter was opened from a store that fails".into()),
+        Err((_error, mut store)) => {
+            store.unfuse();
+            Ok(store)
+        }
+    }
+}
+
+fn played<R: AllocGlobal + Abort>(
+    rt: &R,
+    block_size: u32,
+    capacity: u32,
+    parts: &[Part],
+) -> Result<Wire, Fail> {
+    let store = MemoryStore::new(rt.alloc(), capacity, block_size, b"abc")?;
     let mut wire = Wire {
-        meter: MeterCore::fresh(rt.alloc(), block_size, capacity, b"abc")?,
+        meter: opened(store)?,
         told: String::new(rt.alloc()),
     };
-    parts.iter().try_for_each(|part| wire.take(rt, part))
+    for part in parts {
+        wire = wire.after(rt, part)?;
+    }
+    Ok(wire)
+}
+
+/// The meter in a store.
+pub(crate) fn opened(store: MemoryStore) -> Result<MeterCore<MemoryStore>, Fail> {
+    match MeterCore::open_store(store) {
+        Ok(meter) => Ok(meter),
+        Err((error, _store)) => Err(error.into()),
+    }
 }
 
 /// A meter, and the names that it told of when it switched to their images.
 #[derive(Drop)]
 struct Wire {
-    meter: MeterCore,
+    meter: MeterCore<MemoryStore>,
     told: String,
 }
 
 impl Wire {
-    fn take<R: AllocGlobal + Abort>(&mut self, rt: &R, part: &Part) -> Result<(), Fail> {
+    fn after<R: AllocGlobal + Abort>(mut self, rt: &R, part: &Part) -> Result<Wire, Fail> {
         match part {
             Part::Says(exchanges) => exchanges
                 .iter()
-                .try_for_each(|exchange| self.says(rt, exchange)),
+                .try_for_each(|exchange| self.says(rt, exchange))?,
             Part::SaysInVain(exchanges) => exchanges
                 .iter()
-                .try_for_each(|exchange| self.says_in_vain(rt, exchange)),
-            Part::Shows(want) => self.shows(rt, want),
+                .try_for_each(|exchange| self.says_in_vain(rt, exchange))?,
+            Part::Shows(want) => self.shows(rt, want)?,
+            Part::Fuses(calls) => self.meter.fuse(*calls, 0xee),
+            Part::Unfuses => self.meter.unfuse(),
+            Part::Restarts => return self.restarted(),
+        }
+        Ok(self)
+    }
+
+    fn restarted(self) -> Result<Wire, Fail> {
+        let Wire { meter, told } = self;
+        match meter.restart() {
+            Ok(meter) => Ok(Wire { meter, told }),
+            Err((error, _store)) => Err(error.into()),
         }
     }
 
@@ -77,7 +140,7 @@ impl Wire {
         self.shows(rt, &before)
     }
 
-    fn shows<R: AllocGlobal + Abort>(&self, rt: &R, want: &str) -> Result<(), Fail> {
+    fn shows<R: AllocGlobal + Abort>(&mut self, rt: &R, want: &str) -> Result<(), Fail> {
         let sight = self.sight(rt.alloc())?;
         assert_eq!(rt; sight.as_str(), want);
         Ok(())
@@ -101,20 +164,20 @@ impl Wire {
 
     /// What can be seen: the image that runs and its name, whether transfer is enabled, the status, the goal's size and
     /// name, the blocks that are marked, and the names that the meter has told of.
-    fn sight(&self, alloc: Global) -> Result<String, AllocError> {
+    fn sight(&mut self, alloc: Global) -> Result<String, Fail> {
         let view = self.meter.view();
         let image = self.running(alloc)?;
         let name = name_text(alloc, view.active)?;
         let transfer = transfer_text(alloc, &view)?;
         let told = self.told.as_str();
-        format!(in alloc; "runs {image} of {name}, {transfer}{told}")
+        Ok(format!(in alloc; "runs {image} of {name}, {transfer}{told}")?)
     }
 
     /// The image that runs.
-    fn running(&self, alloc: Global) -> Result<String, AllocError> {
+    fn running(&mut self, alloc: Global) -> Result<String, Fail> {
         let mut image = vec![in alloc; 0; self.meter.view().active_size as usize]?;
-        self.meter.read_running(&mut image);
-        hex::encode(alloc, image.as_slice())
+        self.meter.read_running(&mut image)?;
+        Ok(hex::encode(alloc, image.as_slice())?)
     }
 }
 

@@ -1,6 +1,7 @@
 //! A load for measuring image transfers: a meter is sent the first blocks of an image, and switches to the image where
-//! it got all of them. For comparison the bytes of a block are also copied. Standard input has the words
-//! `BLOCK_SIZE BLOCKS SENT COPIED`. `bench/transfer` runs it under a counter of instructions.
+//! it got all of them. For comparison the bytes of a block are also copied. Each line of standard input has the words
+//! `memory BLOCK_SIZE BLOCKS SENT COPIED`, or `file PATH BLOCK_SIZE BLOCKS SENT COPIED` for a store in a file, which is made
+//! anew and removed. `bench/transfer` runs it under a counter of instructions.
 #![tactic(auto)]
 
 use anyhow::{Context, Result, bail};
@@ -8,15 +9,19 @@ use fw_apdu::{Invoke, LogicalName, Request, write_request};
 use fw_axdr::{Data, Items, Octets};
 use fw_meter::MeterCore;
 use fw_names::{CampaignId, HeadId, name_of};
+use fw_store::{FileStore, ImageStore, MemoryStore};
 use fw_wrapper::join;
 use std::alloc::{AllocError, Global};
-use std::io;
+use std::{fs, io};
 
 /// The wPort of both ends.
 const PORT: u16 = 1;
 
 /// Room for the longest image.
 const CAPACITY: u32 = 4_194_304;
+
+/// The image that the meter runs at first.
+const FACTORY: &[u8] = b"abc";
 
 /// The Image transfer object, 0-0:44.0.0.255.
 const CLASS: u16 = 18;
@@ -39,28 +44,43 @@ struct Load {
     copied: u32,
 }
 
+/// Where the meter's store is.
+#[derive(Clone, Copy)]
+enum Place<'a> {
+    Memory,
+    File(&'a str),
+}
+
 fn main(rt: HostRuntime) -> Result<()> {
     let text = io::read_to_string(rt.alloc(), rt.reader())?;
-    let load = read_load(rt.alloc(), &text)?;
-    let datagrams = block_datagrams(rt.alloc(), load)?;
-    let switched = transfer(rt.alloc(), load, &datagrams)?;
-    let bytes = copy_often(rt.alloc(), load)?;
-    let Load { blocks, sent, .. } = load;
-    println!(rt; "{sent} of {blocks} blocks sent, switched: {switched}, {bytes} bytes copied")?;
+    for line in text.lines() {
+        let (place, load) = read_load(rt.alloc(), line)?;
+        let datagrams = block_datagrams(rt.alloc(), load)?;
+        let switched = transfer_at(&rt, place, load, &datagrams)?;
+        let bytes = copy_often(rt.alloc(), load)?;
+        let Load { blocks, sent, .. } = load;
+        println!(rt; "{sent} of {blocks} blocks sent, switched: {switched}, {bytes} bytes copied")?;
+    }
     Ok(())
 }
 
-fn read_load(alloc: Global, text: &str) -> Result<Load> {
-    let words: Vec<&str> = text.split_whitespace().collect(alloc)?;
-    let [block_size, blocks, sent, copied] = words.as_slice() else {
-        bail!("the input is not BLOCK_SIZE BLOCKS SENT COPIED");
+fn read_load(alloc: Global, line: &str) -> Result<(Place<'_>, Load)> {
+    let words: Vec<&str> = line.split_whitespace().collect(alloc)?;
+    let (place, numbers) = match words.as_slice() {
+        ["memory", numbers @ ..] => (Place::Memory, numbers),
+        ["file", path, numbers @ ..] => (Place::File(path), numbers),
+        _ => bail!("a line begins with neither memory nor file PATH"),
     };
-    Ok(Load {
+    let [block_size, blocks, sent, copied] = numbers else {
+        bail!("a line does not end with BLOCK_SIZE BLOCKS SENT COPIED");
+    };
+    let load = Load {
         block_size: number(block_size)?,
         blocks: number(blocks)?,
         sent: number(sent)?,
         copied: number(copied)?,
-    })
+    };
+    Ok((place, load))
 }
 
 fn number(word: &str) -> Result<u32> {
@@ -80,9 +100,37 @@ fn block_datagrams(alloc: Global, load: Load) -> Result<Vec<Vec<u8>>> {
 }
 
 /// Whether a new meter switches to the image, of which it is sent the first blocks.
-fn transfer(alloc: Global, load: Load, datagrams: &[Vec<u8>]) -> Result<bool> {
+fn transfer_at(
+    rt: &HostRuntime,
+    place: Place<'_>,
+    load: Load,
+    datagrams: &[Vec<u8>],
+) -> Result<bool> {
+    match place {
+        Place::Memory => {
+            let store = MemoryStore::new(rt.alloc(), CAPACITY, load.block_size, FACTORY)?;
+            transfer(rt.alloc(), store, load, datagrams)
+        }
+        Place::File(path) => {
+            let store = FileStore::create(rt, path, CAPACITY, load.block_size, FACTORY)?;
+            let switched = transfer(rt.alloc(), store, load, datagrams)?;
+            fs::remove_file(rt, path)?;
+            Ok(switched)
+        }
+    }
+}
+
+fn transfer<S: ImageStore + Drop>(
+    alloc: Global,
+    store: S,
+    load: Load,
+    datagrams: &[Vec<u8>],
+) -> Result<bool> {
     let size = load.block_size.checked_mul(load.blocks).context("a size")?;
-    let mut meter = MeterCore::fresh(alloc, load.block_size, CAPACITY, b"abc")?;
+    let mut meter = match MeterCore::open_store(store) {
+        Ok(meter) => meter,
+        Err((error, _store)) => return Err(error.into()),
+    };
     meter.handle(alloc, &enable(alloc)?)?;
     meter.handle(alloc, &initiate(alloc, size)?)?;
     for datagram in datagrams.iter().take(load.sent as usize) {

@@ -1,4 +1,4 @@
-use Rattle.std.proofs.Common.{refl, arith}
+use Rattle.std.proofs.Common.{refl, ◌∙◌, arith}
 use Rattle.fw_meter.specs.Handling.{reply_bytes}
 use Rattle.fw_cli.specs.Session.{AnswersLine, line_for}
 use Rattle.fw_cli.proofs.Turns.{goes_on, ends, stops}
@@ -7,25 +7,29 @@ use Rattle.fw_cli.proofs.answer.answer_lines.Goals as goal
 pub loop-line-preserved : goal.loop-line-preserved
 loop-line-preserved c =
     let reply = reply_bytes c.in_ok-handled.handled.reply in
-    let turn : AnswersLine c.loop-line.meter c.in-Some.line.now (line_for reply) c.handle.new.self = record {
+    let turn : AnswersLine c.loop-line.meter.meter c.in-Some.line.now (line_for reply) c.handle.new.self.meter = record {
       datagram = c.in-Some-2.datagram.items;
       reply = reply;
       activated = c.in_ok-handled.handled.activated;
       spelled = rw c.in-Some-2.is at c.in_ok-datagram.ensures;
-      step = rw c.deref.ensures.value at c.in_ok-handled.ensures.step;
+      step =
+          c.faultless.ensures c.loop-line.meter c.handle.new.self c.in-Some-2.datagram.items reply c.in_ok-handled.handled.activated c.loop-line.invariant.honest c.loop-line.invariant.sound
+          (rw c.deref.ensures.value at c.in_ok-handled.ensures.step);
       told = refl;
     } in
-    let more = goes_on c.args.meter c.loop-line.meter c.handle.new.self c.args.input.now c.loop-line.text.items c.in-Some.line.now (line_for reply) c.loop-line.rest.now c.in-Some.after.now c.loop-line.number
+    let more = goes_on c.args.meter.meter c.loop-line.meter.meter c.handle.new.self.meter c.args.input.now c.loop-line.text.items c.in-Some.line.now (line_for reply) c.loop-line.rest.now c.in-Some.after.now c.loop-line.number
     c.loop-line.invariant.so_far c.in-Some.ensures.lines turn in
     record {
       counted = omega (arith, c.in-Some.ensures.shorter);
       so_far = rw c.in_ok-append_line.ensures more;
+      honest = c.in_ok-handled.ensures.follows.honesty ∙ c.loop-line.invariant.honest;
+      sound = c.in_ok-handled.ensures.follows.soundness c.loop-line.invariant.sound;
     }
 
 pub returns-clause-ok : goal.returns-clause-ok
-returns-clause-ok c = ends c.args.meter c.loop-line.meter c.args.input.now c.loop-line.text.items c.loop-line.rest.now c.loop-line.number c.loop-line.invariant.so_far c.in_default.ensures.lines
+returns-clause-ok c = ends c.args.meter.meter c.loop-line.meter.meter c.args.input.now c.loop-line.text.items c.loop-line.rest.now c.loop-line.number c.loop-line.invariant.so_far c.in_default.ensures.lines
 
 pub returns-in_default-2-clause-ok : goal.returns-in_default-2-clause-ok
 returns-in_default-2-clause-ok c =
-    stops c.args.meter c.loop-line.meter c.args.input.now c.loop-line.text.items c.in-Some.line.now c.loop-line.rest.now c.in-Some.after.now c.loop-line.number c.loop-line.invariant.so_far
+    stops c.args.meter.meter c.loop-line.meter.meter c.args.input.now c.loop-line.text.items c.in-Some.line.now c.loop-line.rest.now c.in-Some.after.now c.loop-line.number c.loop-line.invariant.so_far
     c.in-Some.ensures.lines (rw c.in_default-2.is at c.in_ok-datagram.ensures)

@@ -16,7 +16,7 @@ on_ok (Ok x) P Q told h = told h
 on_ok (Err x) P Q told h = h
 
 pub returns-clause-ok : goal.returns-clause-ok
-returns-clause-ok g c = on_ok c.serve.result _ _ (λ serves. (c.in_ok-meter.meter, c.in_ok-meter.ensures.ok, serves)) c.serve.ensures.ok
+returns-clause-ok g c = on_ok c.serve.result _ _ (λ serves. (c.in_ok-meter.meter.meter, c.in_ok-meter.ensures.ok, serves)) c.serve.ensures.ok
 
 pub returns-clause-bad_line : goal.returns-clause-bad_line
-returns-clause-bad_line g c = λ number bad. (c.in_ok-meter.meter, c.in_ok-meter.ensures.ok, c.serve.ensures.bad_line number bad)
+returns-clause-bad_line g c = λ number bad. (c.in_ok-meter.meter.meter, c.in_ok-meter.ensures.ok, c.serve.ensures.bad_line number bad)

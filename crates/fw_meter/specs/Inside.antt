@@ -1,0 +1,93 @@
+-- For private clauses alone: what the types of the code stand for.
+use Rattle.std.specs.Prelude.{◌≡◌, ℕ, false, List, [], Option, Some, None, if◌then◌else◌}
+use Rattle.std.specs.Global.{Vec}
+use Rattle.std.specs.FinMap.{empty}
+use Rattle.fw_names.specs.Name.{factory}
+use Rattle.fw_image.specs.Meter.{idle}
+use Rattle.fw_wrapper.specs.Wrapper.{wrapped}
+use Rattle.fw_apdu.specs.Request.{is_confirmed}
+use Rattle.fw_apdu.specs.Response.{response_bytes}
+use Rattle.fw_apdu.specs.View.{request_content, request_invoke}
+use Rattle.fw_server.specs.Answer as server
+use Rattle.fw_server.specs.Answer.{response_of}
+use Rattle.fw_server.specs.Meaning as meaning
+use Rattle.fw_server.specs.Meaning.{Meaning}
+use Rattle.fw_image.specs.Phases.{state_in, IsInPhase}
+use Rattle.fw_image.specs.State.{State, Follows, Makes}
+use Rattle.fw_image.specs.Step as image
+use Rattle.fw_image.specs.declared.phase.Phase.{Phase}
+use Rattle.fw_meter.specs.Step.{coded, operation_code, MeterStep}
+use Rattle.fw_meter.specs.Handling.{Brings, BringsNothing, Blamed, reply_to, reply_bytes}
+use Rattle.fw_meter.specs.declared.code.Code.{Code}
+use Rattle.fw_meter.specs.declared.code.Code.TheVariants as code
+use Rattle.fw_meter.specs.declared.operation.Operation.{Operation}
+use Rattle.fw_meter.specs.declared.operation.Operation.TheVariants as operation
+use Rattle.fw_meter.specs.declared.replies.Replies.{Replies}
+use Rattle.fw_meter.specs.declared.serving.Heard.{Heard}
+
+abbrev pub code_number : Code → ℕ
+code_number code.Success = 0
+code_number code.HardwareFault = 1
+code_number code.TemporaryFailure = 2
+code_number code.ReadWriteDenied = 3
+code_number code.OtherReason = 250
+
+abbrev pub asked : Operation → Meaning
+asked (operation.Enable enabled) = meaning.enable enabled
+asked (operation.Initiate identifier size) = meaning.initiate identifier.now size
+asked (operation.Block number value) = meaning.block number value.now
+asked operation.Verify = meaning.verify
+asked operation.Activate = meaning.activate
+
+-- what a datagram brought
+abbrev pub IsHeard : List ℕ → Option Heard → Type 0
+IsHeard datagram (Some heard) = Brings datagram heard.source (request_invoke heard.request) (request_content heard.request)
+IsHeard datagram None = BringsNothing datagram
+
+-- the datagram that tells an outcome, where a response was asked for
+abbrev pub told_by : ℕ → ℕ → server.Outcome → Option (List ℕ)
+told_by source invoke outcome = if is_confirmed invoke then Some (wrapped 1 source (response_bytes invoke (response_of outcome))) else None
+
+-- the reply to a request by a code
+abbrev pub coded_reply : Heard → ℕ → Option (List ℕ)
+coded_reply heard c = reply_to heard.source (request_invoke heard.request) (request_content heard.request) (coded c)
+
+abbrev pub reply_in : Replies → Code → Option (Vec ℕ)
+reply_in r code.Success = r.success
+reply_in r code.HardwareFault = r.hardware_fault
+reply_in r code.TemporaryFailure = r.temporary_failure
+reply_in r code.ReadWriteDenied = r.read_write_denied
+reply_in r code.OtherReason = r.other_reason
+
+abbrev pub AnswersEach : Heard → Replies → Type 0
+AnswersEach heard replies = (c : Code) → reply_bytes (reply_in replies c) ≡ coded_reply heard (code_number c)
+
+-- an operation is made, and has this code
+abbrev pub IsMade : State → image.Operation → ℕ → State → Type 0
+IsMade old operation c new = (outcome : image.Outcome) × Makes old operation outcome new × (c ≡ operation_code outcome)
+
+-- the meter's step on a meaning, with this code
+pub record Steps (old : State) (asked : Meaning) (c : ℕ) (new : State) : Type 0 where
+  pub step : MeterStep old.honest old.meter asked (coded c) new.meter
+  pub follows : Follows old new
+  pub cause : c ≡ 1 → Blamed old new
+
+-- a phase is there
+abbrev pub IsThere : {S : Type 0} → Option (Phase S) → Type 0
+IsThere None = ⊥
+IsThere (Some phase) = IsInPhase phase
+
+-- what stands for the state while the phase is out, which no clause sees
+abbrev pub no_state : State
+no_state = record {
+  meter = record { block_size = 0; capacity = 0; enabled = false; phase = idle; cells = empty; running = record { name = record { campaign = factory; digest = [] }; bytes = [] } };
+  device = record { head = []; first = []; second = [] };
+  honest = false;
+  sound = false;
+  faults = 0;
+}
+
+-- the state of the phase
+abbrev pub state_there : {S : Type 0} → Option (Phase S) → State
+state_there None = no_state
+state_there (Some phase) = state_in phase

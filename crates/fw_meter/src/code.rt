@@ -1,0 +1,37 @@
+//! The codes that operations of Image transfer are answered by.
+
+ghost use Rattle.std.specs.Prelude.{◌≡◌};
+ghost use Rattle.fw_meter.specs.Step.{refusal_code};
+ghost use Rattle.fw_meter.specs.Inside.{code_number};
+
+use fw_image::Refusal;
+
+/// A Data-Access-Result or an Action-Result (IEC 62056-5-3).
+#[derive(Clone, Copy, Debug, PartialEq, Eq)]
+pub(crate) enum Code {
+    Success = 0,
+    HardwareFault = 1,
+    TemporaryFailure = 2,
+    ReadWriteDenied = 3,
+    OtherReason = 250,
+}
+
+impl Code {
+    pub(crate) fn number(self) -> u8
+        ensures { result ≡ code_number self }
+    {
+        self as u8
+    }
+
+    /// The code of a refused operation.
+    pub(crate) fn of(refusal: Refusal) -> Code
+        ensures { code_number result ≡ refusal_code refusal }
+    {
+        match refusal {
+            Refusal::Disabled => Code::ReadWriteDenied,
+            Refusal::BadInitiate | Refusal::BadBlock | Refusal::Differs => Code::OtherReason,
+            Refusal::Missing => Code::TemporaryFailure,
+            Refusal::Fault => Code::HardwareFault,
+        }
+    }
+}

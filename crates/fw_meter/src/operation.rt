@@ -1,0 +1,155 @@
+//! The operations of Image transfer that requests ask for, in whatever status a transfer is.
+
+ghost use Rattle.std.specs.Prelude.{◌≡◌, ◌≢◌, if◌then◌else◌};
+ghost use Rattle.fw_store.specs.declared.header.TransferStatus.TheVariants as status;
+ghost use Rattle.fw_server.specs.Meaning as meaning;
+ghost use Rattle.fw_image.specs.Meter.{status_of};
+ghost use Rattle.fw_image.specs.Phases.{state_in, IsInPhase};
+ghost use Rattle.fw_image.specs.Step as image;
+ghost use Rattle.fw_meter.specs.Inside.{code_number, asked, IsMade, Steps};
+ghost use Rattle.fw_meter.specs.Step.{activation_of, coded};
+ghost use Rattle.fw_meter.specs.declared.code.Code.TheVariants as code;
+
+use crate::code::Code;
+use fw_image::{NotVerified, Phase};
+use fw_names::ImageName;
+use fw_store::ImageStore;
+
+/// An operation of Image transfer.
+#[derive(Clone, Copy, Debug)]
+pub(crate) enum Operation<'a> {
+    Enable(bool),
+    Initiate { identifier: &'a [u8], size: u32 },
+    Block { number: u32, value: &'a [u8] },
+    Verify,
+    Activate,
+}
+
+/// Makes an operation, and answers its code and the transfer that it leaves.
+pub(crate) fn make<S: ImageStore>(phase: Phase<S>, operation: Operation<'_>) -> (Code, Phase<S>)
+    requires { IsInPhase phase }
+    ensures steps { Steps (state_in phase) (asked operation.entry) (code_number result.0) (state_in result.1) }
+    ensures phase { IsInPhase result.1 }
+{
+    match operation {
+        Operation::Enable(enabled) => enable(phase, enabled),
+        Operation::Initiate { identifier, size } => offer(phase, identifier, size),
+        Operation::Block { number, value } => block(phase, number, value),
+        Operation::Verify => verify(phase),
+        Operation::Activate => activate(phase),
+    }
+}
+
+/// SET of image_transfer_enabled.
+fn enable<S: ImageStore>(phase: Phase<S>, enabled: bool) -> (Code, Phase<S>)
+    requires { IsInPhase phase }
+    ensures made { IsMade (state_in phase) (image.enable enabled) (code_number result.0) (state_in result.1) }
+    ensures phase { IsInPhase result.1 }
+{
+    match phase.set_enabled(enabled) {
+        Ok(next) => (Code::Success, next),
+        Err((refusal, left)) => (Code::of(refusal), left),
+    }
+}
+
+/// image_transfer_initiate, by an identifier that may be no name.
+fn offer<S: ImageStore>(phase: Phase<S>, identifier: &[u8], size: u32) -> (Code, Phase<S>)
+    requires { IsInPhase phase }
+    ensures steps { Steps (state_in phase) (meaning.initiate identifier.now size) (code_number result.0) (state_in result.1) }
+    ensures phase { IsInPhase result.1 }
+{
+    match ImageName::from_bytes(identifier) {
+        Some(name) => initiate(phase, name, size),
+        None => {
+            let code = if phase.view().enabled {
+                Code::OtherReason
+            } else {
+                Code::ReadWriteDenied
+            };
+            (code, phase)
+        }
+    }
+}
+
+/// image_transfer_initiate.
+fn initiate<S: ImageStore>(phase: Phase<S>, name: ImageName, size: u32) -> (Code, Phase<S>)
+    requires { IsInPhase phase }
+    ensures made { IsMade (state_in phase) (image.initiate name size) (code_number result.0) (state_in result.1) }
+    ensures phase { IsInPhase result.1 }
+{
+    match phase.initiate(name, size) {
+        Ok(next) => (Code::Success, Phase::Receiving(next)),
+        Err((refusal, left)) => (Code::of(refusal), left),
+    }
+}
+
+/// image_block_transfer.
+fn block<S: ImageStore>(phase: Phase<S>, number: u32, value: &[u8]) -> (Code, Phase<S>)
+    requires { IsInPhase phase }
+    ensures made { IsMade (state_in phase) (image.block number value.now) (code_number result.0) (state_in result.1) }
+    ensures phase { IsInPhase result.1 }
+{
+    match phase {
+        Phase::Receiving(transfer) => match transfer.block(number, value) {
+            Ok(next) => (Code::Success, Phase::Receiving(next)),
+            Err((refusal, left)) => (Code::of(refusal), Phase::Receiving(left)),
+        },
+        other => (lacking(&other), other),
+    }
+}
+
+/// image_verify.
+fn verify<S: ImageStore>(phase: Phase<S>) -> (Code, Phase<S>)
+    requires { IsInPhase phase }
+    ensures made { IsMade (state_in phase) image.verify (code_number result.0) (state_in result.1) }
+    ensures phase { IsInPhase result.1 }
+{
+    match phase {
+        Phase::Receiving(transfer) => match transfer.verify() {
+            Ok(next) => (Code::Success, Phase::Verified(next)),
+            Err(NotVerified::Refused(refusal, left)) => (Code::of(refusal), Phase::Receiving(left)),
+            Err(NotVerified::Differs(left)) => (Code::OtherReason, Phase::Spoilt(left)),
+        },
+        other => (lacking(&other), other),
+    }
+}
+
+/// image_activate.
+fn activate<S: ImageStore>(phase: Phase<S>) -> (Code, Phase<S>)
+    requires { IsInPhase phase }
+    ensures made { IsMade (state_in phase) image.activate (code_number result.0) (state_in result.1) }
+    ensures phase { IsInPhase result.1 }
+{
+    match phase {
+        Phase::Verified(transfer) => match transfer.activate() {
+            Ok(next) => (Code::Success, Phase::Switched(next)),
+            Err((refusal, left)) => (Code::of(refusal), Phase::Verified(left)),
+        },
+        other => (lacking(&other), other),
+    }
+}
+
+/// The code of a call that a status doesn't have.
+fn lacking<S: ImageStore>(phase: &Phase<S>) -> Code
+    ensures { result ≡ (if (state_in phase.now).meter.enabled then code.TemporaryFailure else code.ReadWriteDenied) }
+{
+    if phase.view().enabled {
+        Code::TemporaryFailure
+    } else {
+        Code::ReadWriteDenied
+    }
+}
+
+/// The name of the image that an operation switched to, if it did.
+pub(crate) fn activated<S: ImageStore>(
+    operation: Operation<'_>,
+    code: Code,
+    next: &Phase<S>,
+) -> Option<ImageName>
+    ensures { result ≡ activation_of (asked operation.entry) (coded (code_number code)) (state_in next.now).meter }
+{
+    match (operation, code) {
+        (Operation::Activate, Code::Success) => Some(next.view().active),
+        _ => None,
+    }
+}

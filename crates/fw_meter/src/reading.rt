@@ -1,0 +1,57 @@
+//! What is read of a meter.
+
+ghost use Rattle.std.specs.Prelude.{◌≡◌, ◌≤◌, IfOk};
+ghost use Rattle.std.specs.Option.{option_map};
+ghost use Rattle.fw_blocks.specs.Cuts.{max_blocks};
+ghost use Rattle.fw_server.specs.Answer.{bits_in_answer};
+ghost use Rattle.fw_server.specs.View.{answer_of as told_answer, reading_of, info_value};
+ghost use Rattle.fw_image.specs.Phases.{state_in};
+ghost use Rattle.fw_image.specs.Shown.{shown_of, IsView};
+ghost use Rattle.fw_image.specs.Meter.{Meter};
+ghost use Rattle.fw_meter.specs.Step.{answer_of, verified_info};
+
+use fw_image::{MeterView, Phase};
+use fw_server::{Answer, ImageInfo, Reading};
+use fw_store::{ImageStore, TransferStatus};
+use std::alloc::{AllocError, Global};
+
+/// The value of an attribute (IEC 62056-6-2). The store is not called.
+pub(crate) fn read<S: ImageStore>(
+    phase: &Phase<S>,
+    alloc: Global,
+    reading: Reading,
+) -> Result<Answer, AllocError>
+    ensures value { IfOk result (λ answer. told_answer answer ≡ answer_of (state_in phase.now).meter (reading_of reading)) }
+    ensures bits { IfOk result (λ answer. bits_in_answer (told_answer answer) ≤ max_blocks) }
+{
+    let view = phase.view();
+    let count = phase.block_count();
+    Ok(match reading {
+        Reading::LogicalName(object) => Answer::LogicalName(object.logical_name()),
+        Reading::BlockSize => Answer::BlockSize(phase.block_size()),
+        Reading::TransferredBlocks => {
+            Answer::TransferredBlocks(phase.marks().to_bits(alloc, count)?)
+        }
+        Reading::FirstNotTransferred => {
+            Answer::FirstNotTransferred(phase.marks().first_missing_below(count))
+        }
+        Reading::TransferEnabled => Answer::TransferEnabled(view.enabled),
+        Reading::TransferStatus => Answer::TransferStatus(view.status.number()),
+        Reading::ToActivate => Answer::ToActivate(to_activate(&view)),
+        Reading::ActiveName => Answer::ActiveName(view.active),
+        Reading::ActiveDigest => Answer::ActiveDigest(view.active.digest),
+    })
+}
+
+/// image_to_activate_info: the image that was verified.
+fn to_activate(view: &MeterView) -> Option<ImageInfo>
+    ensures { (meter : Meter) → IsView view.now (shown_of meter) → info_value result ≡ verified_info meter.phase }
+{
+    match (view.status, view.goal) {
+        (TransferStatus::VerificationSuccessful, Some(goal)) => Some(ImageInfo {
+            size: goal.size,
+            name: goal.name,
+        }),
+        _ => None,
+    }
+}

@@ -1,0 +1,136 @@
+//! A restart keeps what a meter was told, in each status.
+
+use crate::apdus::*;
+use crate::sessions::*;
+use crate::wire::{Exchange, Part, session};
+use std::test::Fail;
+
+/// What is read of a meter in status 1 with one of two blocks, before and after a restart.
+const ONE_BLOCK: &[Exchange] = &[
+    (GET_ENABLED, "c401c1000301"),
+    (GET_STATUS, INITIATED),
+    (GET_BLOCKS, "c401c100040280"),
+    (GET_FIRST_NOT_TRANSFERRED, "c401c1000600000001"),
+    (GET_NAME, FACTORY_NAME),
+];
+
+/// In status 3, 4 and 6.
+const WAITS: &[Exchange] = &[
+    (GET_STATUS, VERIFIED),
+    (GET_TO_ACTIVATE, ABC_TO_ACTIVATE),
+    (GET_NAME, FACTORY_NAME),
+];
+
+const DIFFERS: &[Exchange] = &[
+    (GET_STATUS, SPOILT),
+    (GET_TO_ACTIVATE, NOTHING_TO_ACTIVATE),
+    (GET_NAME, FACTORY_NAME),
+];
+
+const RUNS: &[Exchange] = &[
+    (GET_STATUS, ACTIVATED),
+    (GET_TO_ACTIVATE, NOTHING_TO_ACTIVATE),
+    (GET_NAME, ABC_NAME),
+];
+
+/// An activate that asks for no response.
+const UNHEARD: &[Exchange] = &[("c30181001200002c0000ff04010f00", "-")];
+
+const SESSIONS: &[&[Part]] = &[
+    // nothing was sent
+    &[
+        Part::Says(NOTHING_SENT),
+        Part::Restarts,
+        Part::Says(NOTHING_SENT),
+    ],
+    // between the blocks: the other one is all that is missing
+    &[
+        Part::Says(&[(ENABLE, SET_DONE), (INITIATE_ABC, DONE), (AB_AT_0, DONE)]),
+        Part::Says(ONE_BLOCK),
+        Part::Restarts,
+        Part::Says(ONE_BLOCK),
+        Part::Says(&[(C_AT_1, DONE), (VERIFY, DONE), (ACTIVATE, DONE)]),
+        Part::Shows(
+            "runs 616263 of 7 1 ba7816bf, enabled true, ActivationSuccessful, no goal, marks, switched to 7 1 ba7816bf",
+        ),
+    ],
+    // between verify and activate, and after it; the restart between them switches to nothing
+    &[
+        Part::Says(TWO_BLOCKS),
+        Part::Says(WAITS),
+        Part::Restarts,
+        Part::Says(WAITS),
+        Part::Shows(
+            "runs 616263 of 0 0 ba7816bf, enabled true, VerificationSuccessful, goal 3 of 7 1 ba7816bf, marks 0 1",
+        ),
+        Part::Says(&[(ACTIVATE, DONE)]),
+        Part::Says(RUNS),
+        Part::Restarts,
+        Part::Says(RUNS),
+        Part::Shows(
+            "runs 616263 of 7 1 ba7816bf, enabled true, ActivationSuccessful, no goal, marks, switched to 7 1 ba7816bf",
+        ),
+    ],
+    // an image whose digest differs is no better for it
+    &[
+        Part::Says(MIXED_BLOCKS),
+        Part::Says(DIFFERS),
+        Part::Restarts,
+        Part::Says(DIFFERS),
+        Part::Says(&[
+            (ACTIVATE, TEMPORARY_FAILURE),
+            (VERIFY, TEMPORARY_FAILURE),
+            (INITIATE_AAAA, DONE),
+        ]),
+    ],
+    // disabled while an image waits for its activate
+    &[
+        Part::Says(TWO_BLOCKS),
+        Part::Says(&[(DISABLE, SET_DONE)]),
+        Part::Restarts,
+        Part::SaysInVain(&[(AB_AT_0, DENIED), (ACTIVATE, DENIED)]),
+        Part::Says(&[(ENABLE, SET_DONE), (ACTIVATE, DONE)]),
+        Part::Says(RUNS),
+    ],
+    // a second image over the first
+    &[
+        Part::Says(WHOLE_TRANSFER),
+        Part::Restarts,
+        Part::Says(ANOTHER_IMAGE),
+        Part::Restarts,
+        Part::Says(&[(ACTIVATE, DONE)]),
+        Part::Restarts,
+        Part::Shows(
+            "runs 61616161 of 1 1 61be55a8, enabled true, ActivationSuccessful, no goal, marks, switched to 7 1 ba7816bf, switched to 1 1 61be55a8",
+        ),
+    ],
+];
+
+#[test]
+fn each_session(rt: HostRuntime) -> Result<(), Fail> {
+    SESSIONS.iter().try_for_each(|parts| session(&rt, parts))
+}
+
+/// Before the one call of the store that an activate makes, and after it. No reply is looked for.
+const STOPS: &[Part] = &[
+    Part::Says(TWO_BLOCKS),
+    Part::Fuses(0),
+    Part::Says(UNHEARD),
+    Part::Unfuses,
+    Part::Restarts,
+    Part::Shows(
+        "runs 616263 of 0 0 ba7816bf, enabled true, VerificationSuccessful, goal 3 of 7 1 ba7816bf, marks 0 1",
+    ),
+    Part::Fuses(1),
+    Part::Says(UNHEARD),
+    Part::Unfuses,
+    Part::Restarts,
+    Part::Shows(
+        "runs 616263 of 7 1 ba7816bf, enabled true, ActivationSuccessful, no goal, marks, switched to 7 1 ba7816bf",
+    ),
+];
+
+#[test]
+fn stopped_at_an_activate(rt: HostRuntime) -> Result<(), Fail> {
+    session(&rt, STOPS)
+}
