@@ -1,7 +1,7 @@
 //! Which asks are outstanding, and which datagrams are strangers'.
 
 use crate::session::{ABC_NAME, Step, Want, session};
-use fw_client::{Ask, AskError, Asked, Client};
+use fw_client::{Ask, AskError, Asked, Client, OutOfMemory};
 use fw_names::MeterId;
 use std::test::Fail;
 
@@ -107,6 +107,7 @@ fn sixteen_asks(rt: HostRuntime) -> Result<(), Fail> {
         assert_eq!(rt; datagram.as_slice().get(10), Some(&invoke));
     }
     assert!(rt; matches!(client.ask(rt.alloc(), &Ask::Status), Err(AskError::AllBusy)));
+    assert!(rt; matches!(client.ask(rt.alloc(), &Ask::Status), Err(AskError::AllBusy)));
     client.forget();
     let datagram = client.ask(rt.alloc(), &Ask::Status)?;
     assert_eq!(rt; datagram.as_slice().get(10), Some(&0xc0));
@@ -149,4 +150,12 @@ const OUT_OF_ORDER: [Step; 23] = [
 #[test]
 fn out_of_order(rt: HostRuntime) -> Result<(), Fail> {
     session(&rt, &OUT_OF_ORDER)
+}
+
+/// The names that the refusals print.
+#[test]
+fn printed_names(rt: HostRuntime) -> Result<(), Fail> {
+    let names = format!(in rt.alloc(); "{} {} {OutOfMemory}", AskError::AllBusy, AskError::OutOfMemory)?;
+    assert_eq!(rt; names.as_str(), "AllBusy OutOfMemory OutOfMemory");
+    Ok(())
 }
