@@ -1,0 +1,81 @@
+-- That the offered images stay.
+use Rattle.std.proofs.Common.{◌≡◌, ℕ, Bool, true, false, eqb, nat_eq, cond, is_some, List, [], ◌∷◌, ◌++◌, map, Option, Some, None, refl, sym, ap, ◌∙◌}
+use Rattle.std.specs.Map.{lookup}
+use Rattle.std.specs.Option.{option_map}
+use Rattle.std.proofs.lemmas.Bool.{false≢true, cond_both, cond-true}
+use Rattle.std.proofs.lemmas.Bool.Decides.{Decides-eqb}
+use Rattle.fw_book.specs.declared.row.Row.{Row}
+use Rattle.fw_book.specs.Rows.{live_row, with_state, cancelled_rows}
+use Rattle.fw_book.specs.Contents.{Offered}
+use Rattle.fw_book.specs.Changes.{opened, marked, cancelled, at_serial}
+use Rattle.fw_book.specs.Laws.{ImagesStay, OpeningOffers}
+
+abbrev image_of : Option Offered → Option (List ℕ)
+image_of o = option_map (λ (offer : Offered). offer.image) o
+
+abbrev image_at : ℕ → List (ℕ × Offered) → Option (List ℕ)
+image_at serial entries = image_of (lookup (nat_eq serial) entries)
+
+same_here : (b : Bool) (o o' : Offered) (r : Option Offered) → o'.image ≡ o.image → image_of (cond b (Some o') r) ≡ image_of (cond b (Some o) r)
+same_here true o o' r e = ap (λ i. Some i) e
+same_here false o o' r e = refl
+
+same_later : (b : Bool) (o : Offered) (r r' : Option Offered) → image_of r' ≡ image_of r → image_of (cond b (Some o) r') ≡ image_of (cond b (Some o) r)
+same_later true o r r' e = refl
+same_later false o r r' e = e
+
+changed_stays : (k serial : ℕ) (change : List Row → List Row) (entries : List (ℕ × Offered)) → image_at k (at_serial serial change entries) ≡ image_at k entries
+changed_stays k serial change [] = refl
+changed_stays k serial change (entry ∷ entries) =
+    let new : Offered = record { image = entry.1.image; rows = change entry.1.rows } in
+    cond_both (eqb serial entry.0) ((entry.0, new) ∷ entries) (entry ∷ at_serial serial change entries)
+    (λ (xs : List (ℕ × Offered)). image_at k xs ≡ image_at k (entry ∷ entries))
+    (λ _. same_here (nat_eq k entry.0) entry.1 new (lookup (nat_eq k) entries) refl)
+    (λ _. same_later (nat_eq k entry.0) entry.1 (lookup (nat_eq k) entries) (lookup (nat_eq k) (at_serial serial change entries)) (changed_stays k serial change entries))
+
+-- a step that keeps what is found keeps what is found first
+keeps_later : (b : Bool) (o : Offered) (r r' : Option Offered) (image : List ℕ) → (image_of r ≡ Some image → image_of r' ≡ Some image) → image_of (cond b (Some o) r) ≡ Some image → image_of (cond b (Some o) r') ≡ Some image
+keeps_later true o r r' image step h = h
+keeps_later false o r r' image step h = step h
+
+no_image : (image : List ℕ) (o : Option (List ℕ)) → (let n : Option (List ℕ) = None in n) ≡ Some image → o ≡ Some image
+no_image image o h = cc
+
+added_stays : (k : ℕ) (entries : List (ℕ × Offered)) (entry : ℕ × Offered) (image : List ℕ) → image_at k entries ≡ Some image → image_at k (entries ++ entry ∷ []) ≡ Some image
+added_stays k [] entry image h = no_image image (image_at k (entry ∷ [])) h
+added_stays k (x ∷ xs) entry image h =
+    keeps_later (nat_eq k x.0) x.1 (lookup (nat_eq k) xs) (lookup (nat_eq k) (xs ++ entry ∷ [])) image (added_stays k xs entry image) h
+
+-- the same in a book, whose head end's number stays
+in_book : (b : Bool) (r r' : Option Offered) (image : List ℕ) → (image_of r ≡ Some image → image_of r' ≡ Some image) → image_of (cond b r None) ≡ Some image → image_of (cond b r' None) ≡ Some image
+in_book true r r' image step h = step h
+in_book false r r' image step h = h
+
+pub images_stay : ImagesStay
+images_stay book campaign image h = record {
+  at_opening = λ serial other meters.
+      in_book (eqb campaign.head book.head) (lookup (nat_eq campaign.serial) book.campaigns) (lookup (nat_eq campaign.serial) (opened book serial other meters).campaigns) image
+      (added_stays campaign.serial book.campaigns (serial, record { image = other; rows = map live_row meters }) image) h;
+  at_mark = λ serial meter state.
+      in_book (eqb campaign.head book.head) (lookup (nat_eq campaign.serial) book.campaigns) (lookup (nat_eq campaign.serial) (marked book serial meter state).campaigns) image
+      (λ e. changed_stays campaign.serial serial (with_state meter state) book.campaigns ∙ e) h;
+  at_cancelling = λ serial.
+      in_book (eqb campaign.head book.head) (lookup (nat_eq campaign.serial) book.campaigns) (lookup (nat_eq campaign.serial) (cancelled book serial).campaigns) image
+      (λ e. changed_stays campaign.serial serial cancelled_rows book.campaigns ∙ e) h;
+}
+
+found_step : (b : Bool) (o : Offered) (r r' : Option Offered) (offer : Offered) → (is_some r ≡ false → r' ≡ Some offer) → is_some (cond b (Some o) r) ≡ false → cond b (Some o) r' ≡ Some offer
+found_step true o r r' offer step h = absurd (false≢true (sym h))
+found_step false o r r' offer step h = step h
+
+found_last : (k : ℕ) (entries : List (ℕ × Offered)) (offer : Offered) → is_some (lookup (nat_eq k) entries) ≡ false → lookup (nat_eq k) (entries ++ (k, offer) ∷ []) ≡ Some offer
+found_last k [] offer h = cond-true (nat_eq k k) (Some offer) None ((Decides-eqb k k).1 refl)
+found_last k (x ∷ xs) offer h =
+    found_step (nat_eq k x.0) x.1 (lookup (nat_eq k) xs) (lookup (nat_eq k) (xs ++ (k, offer) ∷ [])) offer (found_last k xs offer) h
+
+pub opening_offers : OpeningOffers
+opening_offers book campaign image meters same new =
+    let offer : Offered = record { image = image; rows = map live_row meters } in
+    ap (λ o. image_of o)
+    (cond-true (eqb campaign.head book.head) (lookup (nat_eq campaign.serial) (opened book campaign.serial image meters).campaigns) None ((Decides-eqb campaign.head book.head).1 same)
+    ∙ found_last campaign.serial book.campaigns offer new)

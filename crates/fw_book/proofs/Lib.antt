@@ -1,0 +1,5 @@
+pub mod Lists
+pub mod Books
+pub mod Spellings
+pub mod Parts
+pub mod Images

@@ -1,0 +1,43 @@
+use Rattle.std.proofs.Common.{◌≡◌, ℕ, nat_eq, Some, None, sym, ap, subst, ◌∙◌}
+use Rattle.std.specs.Map.{lookup}
+use Rattle.std.specs.Option.{option_copied_mut}
+use Rattle.fw_book.specs.declared.book.Book.TheInside.{Inside}
+use Rattle.fw_book.specs.Rows.{cancelled_rows}
+use Rattle.fw_book.specs.Contents.{Contents, IsBook}
+use Rattle.fw_book.specs.Changes.{at_serial, cancelled}
+use Rattle.fw_book.proofs.Books.{IsBook-changed, Keeps-cancelled, at_serial-none, changed_entries, same_contents}
+use Rattle.fw_book.proofs.book.Book.cancel.Goals.{in-Some, in_default}
+use Rattle.fw_book.proofs.book.Book.cancel.Goals as goal
+
+-- the campaign's rows are changed, and nothing else is
+changes : (c : goal.Joined-get_mut) → (c.match-get_mut.self-inside.head ≡ c.self.inside.head) × (c.match-get_mut.self-inside.campaigns.entries ≡ at_serial c.serial.result cancelled_rows c.self.inside.campaigns.entries)
+changes c = elim c.match-get_mut.branch [
+  | in-Some w ↦
+      let found : lookup (nat_eq c.serial.result) c.self.inside.campaigns.entries ≡ Some w.in-Some.offer.now =
+      sym c.get_mut.ensures.value ∙ ap option_copied_mut w.in-Some.is in (
+        ap (λ (i : Inside). i.head) w.self-inside-is,
+        ap (λ (i : Inside). i.campaigns.entries) w.self-inside-is
+            ∙ changed_entries c.serial.result cancelled_rows c.self.inside.campaigns.entries (c.get_mut.follows.lender w.cancel.new.self).entries
+            w.in-Some.offer.now w.cancel.new.self found w.cancel.ensures (c.get_mut.follows.holds w.cancel.new.self).0,
+      )
+  | in_default w ↦
+      let absent : lookup (nat_eq c.serial.result) c.self.inside.campaigns.entries ≡ None =
+      sym c.get_mut.ensures.value ∙ ap option_copied_mut w.in_default.is in (
+        ap (λ (i : Inside). i.head) w.self-inside-is,
+        ap (λ (i : Inside). i.campaigns.entries) w.self-inside-is
+            ∙ ap (λ m. m.entries) c.get_mut.follows.holds-at-none
+            ∙ sym (at_serial-none c.serial.result cancelled_rows c.self.inside.campaigns.entries absent),
+      )
+]
+
+pub invariant_of-self : goal.invariant_of-self
+invariant_of-self c =
+    let book : Contents = record { head = c.self.inside.head; campaigns = c.self.inside.campaigns.entries } in
+    let e = changes c in
+    subst (λ (b : Contents). IsBook b) (sym (same_contents _ _ _ _ e.0 e.1)) (IsBook-changed book c.serial.result cancelled_rows Keeps-cancelled c.self.invariant)
+
+pub returns-clause-cancelled : goal.returns-clause-cancelled
+returns-clause-cancelled c =
+    let e = changes c in
+    same_contents _ _ _ _ e.0 (e.1 ∙ ap (λ (s : ℕ). at_serial s cancelled_rows c.self.inside.campaigns.entries) c.serial.ensures)
+    ∙ ap (λ (b : Contents). cancelled b c.args.campaign.serial) c.self.view_is

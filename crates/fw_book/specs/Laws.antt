@@ -1,0 +1,25 @@
+-- The laws of a book.
+use Rattle.std.specs.Prelude.{◌≡◌, ℕ, false, List, Some}
+use Rattle.fw_names.specs.Name.{Campaign}
+use Rattle.fw_book.specs.declared.row.RowState.{RowState}
+use Rattle.fw_book.specs.Contents.{Contents, image_in, has_serial}
+use Rattle.fw_book.specs.Changes.{opened, marked, cancelled}
+use Rattle.fw_book.specs.Format.{SpellsBook}
+
+-- a byte string spells at most one book
+abbrev pub OneBook : Type 0
+OneBook = (bytes : List ℕ) (a b : Contents) → SpellsBook bytes a → SpellsBook bytes b → a ≡ b
+
+-- what a campaign offers it offers after each call
+pub record Stays (book : Contents) (campaign : Campaign) (image : List ℕ) : Type 0 where
+  pub at_opening : (serial : ℕ) (other meters : List ℕ) → image_in (opened book serial other meters) campaign ≡ Some image
+  pub at_mark : (serial meter : ℕ) (state : RowState) → image_in (marked book serial meter state) campaign ≡ Some image
+  pub at_cancelling : (serial : ℕ) → image_in (cancelled book serial) campaign ≡ Some image
+
+-- an image is never changed or removed
+abbrev pub ImagesStay : Type 0
+ImagesStay = (book : Contents) (campaign : Campaign) (image : List ℕ) → image_in book campaign ≡ Some image → Stays book campaign image
+
+-- an opening adds the image under its campaign, where the serial number is new
+abbrev pub OpeningOffers : Type 0
+OpeningOffers = (book : Contents) (campaign : Campaign) (image meters : List ℕ) → campaign.head ≡ book.head → has_serial book campaign.serial ≡ false → image_in (opened book campaign.serial image meters) campaign ≡ Some image

@@ -1,0 +1,352 @@
+//! The book of a head end's campaigns.
+
+ghost use Rattle.std.specs.Prelude.{◌≡◌, None, false, IfOk, IfErr, MatchResult, OnOk, OnErr, Some};
+ghost use Rattle.std.specs.List.{list_any};
+ghost use Rattle.std.specs.Option.{option_copied};
+ghost use Rattle.fw_names.specs.Name.{name_of, IsOpened};
+ghost use Rattle.fw_book.specs.Rows.{is_live};
+
+use crate::error::BookError;
+use crate::meters::{live_rows, repeats};
+use crate::offer::{MAX_IMAGE_SIZE, MAX_METERS, Offer};
+use crate::reading::{entry_at, head_at};
+use crate::row::RowState;
+use crate::writing::{write_entry, write_head};
+use fw_client::ActiveClaim;
+use fw_names::{CampaignId, HeadId, ImageName, MeterId};
+use indexmap::IndexMap;
+use indexmap::map::Iter;
+use std::alloc::Global;
+use std::marker::Model;
+
+/// The campaigns of a book in opening order, each behind its serial number.
+pub type Campaigns<'a> = Iter<'a, u32, Offer>;
+
+/// The campaigns of a head end in opening order, each with its image and its rows. An image is never changed or removed.
+#[derive(Drop)]
+pub struct Book {
+    head: HeadId,
+    campaigns: IndexMap<u32, Offer>,
+}
+
+impl Model for Book {
+    ghost use Rattle.fw_book.specs.Contents.{Contents, IsBook};
+
+    ghost Value = { Contents };
+
+    ghost view = { λ b. record { head = b.head; campaigns = b.campaigns.entries } };
+
+    ghost invariant = { λ b. IsBook (record { head = b.head; campaigns = b.campaigns.entries }) };
+}
+
+impl Book {
+    ghost use Rattle.fw_book.specs.Contents.{Contents, IsBook, offered_in, name_in, state_in, has_serial, is_busy};
+    ghost use Rattle.fw_book.specs.Changes.{empty_book, added, opened, marked, cancelled, opening_refusal, cancel_refusal, mark_refusal, Confirms, DoneRefused, IsRefusal};
+    ghost use Rattle.fw_book.specs.Inside.{Admits, clashes, meters_refusal};
+    ghost use Rattle.fw_book.specs.Format.{SpellsBook};
+    ghost use Rattle.fw_book.specs.Reading.{IfBad, Takes, NoMore};
+
+    /// The book of a head end that has no campaign yet. It keeps the allocator, and takes no memory.
+    pub fn new(alloc: Global, head: HeadId) -> Book
+        ensures empty { result ≡ empty_book head }
+        ensures book { IsBook result }
+    {
+        Book {
+            head,
+            campaigns: IndexMap::new(alloc),
+        }
+    }
+
+    /// The head end whose campaigns these are.
+    pub fn head(&self) -> HeadId
+        ensures value { result ≡ self.now.head }
+        ensures book { IsBook self.now }
+    {
+        self.head
+    }
+
+    /// What a campaign offers, and `None` where the book doesn't have it.
+    pub fn offer(&self, campaign: CampaignId) -> Option<&Offer>
+        ensures { option_copied result ≡ offered_in self.now campaign }
+    {
+        if campaign.head() != Some(self.head) {
+            return None;
+        }
+        self.campaigns.get(&campaign.serial())
+    }
+
+    /// The name under which a campaign offers its image, and `None` where the book doesn't have it. No byte of the image is
+    /// read.
+    pub fn name(&self, campaign: CampaignId) -> Option<ImageName>
+        ensures { result ≡ name_in self.now campaign }
+    {
+        let offer = self.offer(campaign)?;
+        Some(offer.name(campaign))
+    }
+
+    /// The state of a meter in a campaign, and `None` where the book doesn't have the campaign or the campaign the meter.
+    pub fn state(&self, campaign: CampaignId, meter: MeterId) -> Option<RowState>
+        ensures { result ≡ state_in self.now campaign meter }
+    {
+        self.offer(campaign)?.state(meter)
+    }
+
+    // Whether the book has a campaign of this serial number.
+    fn has_serial(&self, serial: u32) -> bool
+        ensures { result ≡ has_serial self.now serial }
+    {
+        self.campaigns.contains_key(&serial)
+    }
+
+    /// Whether the meter is live in a campaign of this book. The rows of all campaigns are looked through.
+    pub fn is_busy(&self, meter: MeterId) -> bool
+        ensures { result ≡ is_busy self.now.campaigns meter }
+    {
+        self.campaigns.values().any(|offer| offer.is_live(meter))
+    }
+
+    // Whether one of the meters is live in a campaign of this book.
+    fn any_busy(&self, meters: &[MeterId]) -> bool
+        ensures { result ≡ list_any (λ meter. is_busy self.now.campaigns meter) meters.now }
+    {
+        meters.iter().any(|meter| self.is_busy(*meter))
+    }
+
+    /// Opens a campaign: it offers the image to the meters under the name that is answered, and each of its rows is live. The
+    /// rows of all campaigns are looked through once for each meter.
+    ///
+    /// # Errors
+    ///
+    /// `ForeignHead`, `SerialUsed`, `EmptyImage`, `ImageTooLong`, `NoMeters`, `TooManyMeters`, `MeterTwice` or `MeterBusy`, the
+    /// first that applies. Otherwise `OutOfMemory` alone. The book is then as it was.
+    pub fn open_campaign(
+        &mut self,
+        alloc: Global,
+        campaign: CampaignId,
+        image: &[u8],
+        meters: &[MeterId],
+    ) -> Result<ImageName, BookError>
+        ensures opened { OnOk result (self.new ≡ opened self.old campaign.serial image.now meters.now) }
+        ensures name { IfOk result (λ name. name ≡ name_of campaign image.now) }
+        ensures admitted { OnOk result (opening_refusal self.old campaign image.now meters.now ≡ None) }
+        ensures refused { IfErr result (IsRefusal (opening_refusal self.old campaign image.now meters.now)) }
+        ensures kept { OnErr result (self.new ≡ self.old) }
+    {
+        self.check_opening(campaign, image, meters)?;
+        let offer = Offer::new(alloc, campaign, image, live_rows(alloc, meters)?)?;
+        let name = offer.name(campaign);
+        self.add(campaign.serial(), offer)?;
+        Ok(name)
+    }
+
+    // The refusals of an opening, in their order.
+    fn check_opening(
+        &self,
+        campaign: CampaignId,
+        image: &[u8],
+        meters: &[MeterId],
+    ) -> Result<(), BookError>
+        ensures admitted { OnOk result (opening_refusal self.now campaign image.now meters.now ≡ None) }
+        ensures refused { IfErr result (λ e. opening_refusal self.now campaign image.now meters.now ≡ Some e) }
+        ensures opened { OnOk result (IsOpened campaign) }
+    {
+        if campaign.head() != Some(self.head) {
+            return Err(BookError::ForeignHead);
+        }
+        if self.has_serial(campaign.serial()) {
+            return Err(BookError::SerialUsed);
+        }
+        if image.is_empty() {
+            return Err(BookError::EmptyImage);
+        }
+        if image.len() > MAX_IMAGE_SIZE {
+            return Err(BookError::ImageTooLong);
+        }
+        self.check_meters(meters)
+    }
+
+    // The refusals of an opening for its meters, in their order.
+    fn check_meters(&self, meters: &[MeterId]) -> Result<(), BookError>
+        ensures admitted { OnOk result (meters_refusal self.now meters.now ≡ None) }
+        ensures refused { IfErr result (λ e. meters_refusal self.now meters.now ≡ Some e) }
+    {
+        if meters.is_empty() {
+            return Err(BookError::NoMeters);
+        }
+        if meters.len() > MAX_METERS {
+            return Err(BookError::TooManyMeters);
+        }
+        if repeats(meters) {
+            return Err(BookError::MeterTwice);
+        }
+        if self.any_busy(meters) {
+            return Err(BookError::MeterBusy);
+        }
+        Ok(())
+    }
+
+    // Adds a campaign behind the others.
+    fn add(&mut self, serial: u32, offer: Offer) -> Result<(), BookError>
+        requires { Admits self.old serial offer }
+        ensures ok { OnOk result (self.new ≡ added self.old serial offer) }
+        ensures err { OnErr result (self.new ≡ self.old) }
+        ensures memory { IfErr result (λ e. e ≡ BookError.OutOfMemory) }
+        ensures book { IsBook self.new }
+    {
+        self.campaigns.insert(serial, offer)?;
+        Ok(())
+    }
+
+    /// Cancels a campaign: each of its rows that is live is cancelled then. The campaign and its image stay.
+    ///
+    /// # Errors
+    ///
+    /// `NoSuchCampaign` or `NotLive`, where none of its rows is live, the first that applies. The book is then as it was.
+    pub fn cancel(&mut self, campaign: CampaignId) -> Result<(), BookError>
+        ensures cancelled { OnOk result (self.new ≡ cancelled self.old campaign.serial) }
+        ensures admitted { OnOk result (cancel_refusal self.old campaign ≡ None) }
+        ensures refused { IfErr result (λ e. cancel_refusal self.old campaign ≡ Some e) }
+        ensures kept { OnErr result (self.new ≡ self.old) }
+    {
+        let offer = self.offer(campaign).ok_or(BookError::NoSuchCampaign)?;
+        if !offer.has_live() {
+            return Err(BookError::NotLive);
+        }
+        if let Some(offer) = self.campaigns.get_mut(&campaign.serial()) {
+            offer.cancel();
+        }
+        Ok(())
+    }
+
+    /// Marks the row of a claim's meter as done. The claim is of that meter, and its name is the one under which the campaign
+    /// offers its image: so it is of the campaign and of its image's digest.
+    ///
+    /// # Errors
+    ///
+    /// `NoSuchCampaign`, `WrongCampaign` or `NotLive`, the first that applies. The book is then as it was.
+    pub fn mark_done(&mut self, campaign: CampaignId, claim: ActiveClaim) -> Result<(), BookError>
+        ensures done { OnOk result (self.new ≡ marked self.old campaign.serial claim.meter RowState.Done) }
+        ensures claimed { OnOk result (Confirms self.old campaign claim) }
+        ensures refused { IfErr result (DoneRefused self.old campaign claim) }
+        ensures kept { OnErr result (self.new ≡ self.old) }
+    {
+        let meter = claim.meter();
+        if self.state(campaign, meter).is_none() {
+            return Err(BookError::NoSuchCampaign);
+        }
+        if self.name(campaign) != Some(claim.name()) {
+            return Err(BookError::WrongCampaign);
+        }
+        self.mark(campaign, meter, RowState::Done)
+    }
+
+    /// Marks the row of a meter as failed.
+    ///
+    /// # Errors
+    ///
+    /// `NoSuchCampaign` or `NotLive`, the first that applies. The book is then as it was.
+    pub fn mark_failed(&mut self, campaign: CampaignId, meter: MeterId) -> Result<(), BookError>
+        ensures failed { OnOk result (self.new ≡ marked self.old campaign.serial meter RowState.Failed) }
+        ensures admitted { OnOk result (mark_refusal self.old campaign meter ≡ None) }
+        ensures refused { IfErr result (λ e. mark_refusal self.old campaign meter ≡ Some e) }
+        ensures kept { OnErr result (self.new ≡ self.old) }
+    {
+        self.mark(campaign, meter, RowState::Failed)
+    }
+
+    // Gives the row of a meter, which is live, the state in which it ends.
+    fn mark(
+        &mut self,
+        campaign: CampaignId,
+        meter: MeterId,
+        state: RowState,
+    ) -> Result<(), BookError>
+        requires { is_live state ≡ false }
+        ensures marked { OnOk result (self.new ≡ marked self.old campaign.serial meter state) }
+        ensures admitted { OnOk result (mark_refusal self.old campaign meter ≡ None) }
+        ensures refused { IfErr result (λ e. mark_refusal self.old campaign meter ≡ Some e) }
+        ensures kept { OnErr result (self.new ≡ self.old) }
+    {
+        let now = self
+            .state(campaign, meter)
+            .ok_or(BookError::NoSuchCampaign)?;
+        if !now.is_live() {
+            return Err(BookError::NotLive);
+        }
+        if let Some(offer) = self.campaigns.get_mut(&campaign.serial()) {
+            offer.mark(meter, state);
+        }
+        Ok(())
+    }
+
+    /// The bytes of the book: it has one spelling.
+    ///
+    /// # Errors
+    ///
+    /// `OutOfMemory` alone.
+    pub fn write(&self, alloc: Global) -> Result<Vec<u8>, BookError>
+        ensures spelled { IfOk result (λ bytes. SpellsBook bytes.items self.now) }
+        ensures memory { IfErr result (λ e. e ≡ BookError.OutOfMemory) }
+    {
+        let mut bytes = Vec::new(alloc);
+        write_head(&mut bytes, self.head)?;
+        for (serial, offer) in self.campaigns.iter() {
+            write_entry(&mut bytes, *serial, offer)?;
+        }
+        Ok(bytes)
+    }
+
+    /// The book that these bytes spell.
+    ///
+    /// # Errors
+    ///
+    /// `BadBook` where they spell none. Otherwise `OutOfMemory` alone.
+    pub fn read(alloc: Global, bytes: &[u8]) -> Result<Book, BookError>
+        ensures found { IfOk result (SpellsBook bytes.now) }
+
+        // Bytes that spell a book are read as that book.
+        ensures only { (book : Contents) → SpellsBook bytes.now book
+            → MatchResult result (λ found. found ≡ book) (λ e. e ≡ BookError.OutOfMemory) }
+        ensures none { IfErr result (λ e. IfBad e ((book : Contents) → ¬ SpellsBook bytes.now book)) }
+    {
+        let Some((head, mut rest)) = head_at(bytes) else {
+            return Err(BookError::BadBook);
+        };
+        let mut book = Book::new(alloc, head);
+        while !rest.is_empty() {
+            rest = book.add_next(alloc, rest)?;
+        }
+        Ok(book)
+    }
+
+    // Adds the campaign that stands there, and answers what follows it.
+    fn add_next<'a>(&mut self, alloc: Global, bytes: &'a [u8]) -> Result<&'a [u8], BookError>
+        ensures taken { IfOk result (λ rest. Takes self.old self.new bytes.now rest.now) }
+        ensures book { IsBook self.new }
+        ensures none { IfErr result (λ e. IfBad e (NoMore self.old bytes.now)) }
+    {
+        let (serial, offer, rest) = entry_at(alloc, self.head, bytes)?;
+        if self.has_serial(serial) || self.clashes(&offer) {
+            return Err(BookError::BadBook);
+        }
+        self.add(serial, offer)?;
+        Ok(rest)
+    }
+
+    // Whether a meter that is live in these rows is live in a campaign of this book.
+    fn clashes(&self, offer: &Offer) -> bool
+        ensures { result ≡ clashes self.now.campaigns offer.now.rows }
+    {
+        offer
+            .rows()
+            .iter()
+            .any(|row| row.state.is_live() && self.is_busy(row.meter))
+    }
+
+    /// Every campaign in opening order, by its serial number, with its rows in the order given.
+    pub fn rows(&self) -> Campaigns<'_>
+        ensures campaigns { result ≡ self.now.campaigns }
+    {
+        self.campaigns.iter()
+    }
+}

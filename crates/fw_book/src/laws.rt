@@ -1,0 +1,18 @@
+//! Laws of a book, over the definitions alone.
+
+ghost use Rattle.fw_book.specs.Laws.{OneBook, ImagesStay, OpeningOffers};
+
+/// A byte string spells at most one book.
+pub fn one_book()
+    ensures { OneBook }
+{}
+
+/// What a campaign offers it offers after every call: no image is changed or removed.
+pub fn images_stay()
+    ensures { ImagesStay }
+{}
+
+/// An opening adds its image under its campaign.
+pub fn opening_offers()
+    ensures { OpeningOffers }
+{}

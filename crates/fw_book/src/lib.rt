@@ -1,0 +1,16 @@
+//! The book of a head end's campaigns: which image each of them offers, and how far each of its meters is.
+#![tactic(auto)]
+
+mod book;
+mod error;
+pub mod laws;
+mod meters;
+mod offer;
+mod reading;
+mod row;
+mod writing;
+
+pub use book::{Book, Campaigns};
+pub use error::BookError;
+pub use offer::{MAX_IMAGE_SIZE, MAX_METERS, Offer};
+pub use row::{Row, RowState};

@@ -1,0 +1,123 @@
+//! What a campaign offers, and its rows.
+
+ghost use Rattle.std.specs.Prelude.{◌≡◌, IfOk, IfErr};
+ghost use Rattle.fw_names.specs.Name.{name_of};
+ghost use Rattle.fw_book.specs.Rows.{state_of, is_live_in, has_live, with_state, cancelled_rows};
+
+use crate::error::BookError;
+use crate::row::{Row, RowState, cancel_rows, mark_row};
+use fw_names::{CampaignId, ImageName, MeterId, name_of};
+use std::alloc::Global;
+use std::marker::Model;
+
+/// The most bytes that an image can have (own limit of this profile).
+pub const MAX_IMAGE_SIZE: usize = 4_194_304;
+
+/// The most meters that a campaign can have (own limit of this profile).
+pub const MAX_METERS: usize = 256;
+
+/// The image of a campaign, and a row for each of its meters in the order given. The image's digest is kept, so that it is
+/// computed once.
+#[derive(Debug, Drop)]
+pub struct Offer {
+    image: Vec<u8>,
+    digest: [u8; 32],
+    rows: Vec<Row>,
+}
+
+impl Model for Offer {
+    ghost use Rattle.std.specs.Prelude.{◌≡◌};
+    ghost use Rattle.fw_names.specs.Name.{name_of, factory};
+    ghost use Rattle.fw_book.specs.Contents.{Offered};
+
+    ghost Value = { Offered };
+
+    ghost view = { λ o. record { image = o.image.items; rows = o.rows.items } };
+
+    ghost invariant = { λ o. o.digest ≡ (name_of factory o.image.items).digest };
+}
+
+impl Offer {
+    ghost use Rattle.fw_book.specs.Contents.{Offered};
+
+    // What a campaign offers, with a copy of the image.
+    pub(crate) fn new(
+        alloc: Global,
+        campaign: CampaignId,
+        image: &[u8],
+        rows: Vec<Row>,
+    ) -> Result<Offer, BookError>
+        ensures offer { IfOk result (λ offer. offer ≡ record { image = image.now; rows = rows.items }) }
+        ensures memory { IfErr result (λ e. e ≡ BookError.OutOfMemory) }
+    {
+        let digest = name_of(campaign, image).digest;
+        let image = Vec::from_slice(alloc, image)?;
+        Ok(Offer {
+            image,
+            digest,
+            rows,
+        })
+    }
+
+    /// The bytes of the image.
+    pub fn image(&self) -> &[u8]
+        ensures { result.now ≡ self.now.image }
+    {
+        self.image.as_slice()
+    }
+
+    /// The name of the image, where this campaign offers it. No byte of the image is read.
+    pub fn name(&self, campaign: CampaignId) -> ImageName
+        ensures { result ≡ name_of campaign self.now.image }
+    {
+        ImageName {
+            campaign,
+            digest: self.digest,
+        }
+    }
+
+    /// A row for each meter, in the order given.
+    pub fn rows(&self) -> &[Row]
+        ensures { result.now ≡ self.now.rows }
+    {
+        self.rows.as_slice()
+    }
+
+    /// The state of a meter, and `None` where the campaign doesn't have it. The rows are looked through.
+    pub fn state(&self, meter: MeterId) -> Option<RowState>
+        ensures { result ≡ state_of self.now.rows meter }
+    {
+        let row = self.rows.iter().find(|row| row.meter == meter)?;
+        Some(row.state)
+    }
+
+    /// Whether the meter's row is live. The rows are looked through.
+    pub fn is_live(&self, meter: MeterId) -> bool
+        ensures { result ≡ is_live_in self.now.rows meter }
+    {
+        self.rows
+            .iter()
+            .any(|row| row.meter == meter && row.state.is_live())
+    }
+
+    /// Whether any row is live.
+    pub fn has_live(&self) -> bool
+        ensures { result ≡ has_live self.now.rows }
+    {
+        self.rows.iter().any(|row| row.state.is_live())
+    }
+
+    // Gives the meter's row this state.
+    pub(crate) fn mark(&mut self, meter: MeterId, state: RowState)
+        ensures { self.new ≡ record { image = self.old.image; rows = with_state meter state self.old.rows } }
+    {
+        mark_row(&mut self.rows, meter, state);
+    }
+
+    // Cancels the rows that are live.
+    pub(crate) fn cancel(&mut self)
+        ensures { self.new ≡ record { image = self.old.image; rows = cancelled_rows self.old.rows } }
+    {
+        cancel_rows(&mut self.rows);
+    }
+}

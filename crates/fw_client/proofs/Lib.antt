@@ -1,0 +1,4 @@
+pub mod Places
+pub mod Shapes
+pub mod Spelled
+mod Hearing

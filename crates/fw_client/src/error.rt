@@ -1,0 +1,43 @@
+//! Why a client could not ask or hear.
+
+ghost use Rattle.std.specs.Prelude.{◌≡◌};
+ghost use Rattle.fw_client.specs.declared.error.AskError.TheVariants as ask_error;
+
+use std::alloc::{AllocError, AllocFailed};
+use thiserror::Error;
+
+/// The refusals of `Client::ask`. Where both would apply, the first comes.
+#[derive(Clone, Copy, Debug, PartialEq, Eq, Error)]
+pub enum AskError {
+    /// The next invoke-id is that of an outstanding ask.
+    #[error("AllBusy")]
+    AllBusy,
+    /// Memory was refused.
+    #[error("OutOfMemory")]
+    OutOfMemory,
+}
+
+impl From<OutOfMemory> for AskError {
+    ghost from_gives = { λ _ e. e ≡ ask_error.OutOfMemory };
+
+    fn from(_error: OutOfMemory) -> AskError {
+        AskError::OutOfMemory
+    }
+}
+
+/// Memory was refused.
+#[derive(Clone, Copy, Debug, PartialEq, Eq, Error)]
+#[error("OutOfMemory")]
+pub struct OutOfMemory;
+
+impl From<AllocError> for OutOfMemory {
+    fn from(_error: AllocError) -> OutOfMemory {
+        OutOfMemory
+    }
+}
+
+impl<T: Drop> From<AllocFailed<T>> for OutOfMemory {
+    fn from(_error: AllocFailed<T>) -> OutOfMemory {
+        OutOfMemory
+    }
+}

@@ -1,0 +1,75 @@
+//! The asks that no answer came to yet.
+
+ghost use Rattle.std.specs.Prelude.{◌≡◌, ◌<◌, IfSome};
+ghost use Rattle.std.specs.FinMap.{empty, get, insert, remove};
+
+use crate::ask::Asked;
+use std::marker::Model;
+
+/// How many invoke-ids there are.
+pub(crate) const IDS: u8 = 16;
+
+/// The outstanding asks, each at the place of its invoke-id.
+#[derive(Debug, Drop)]
+pub(crate) struct Outstanding {
+    places: [Option<Asked>; 16],
+}
+
+// Contracts see a finite map from ids.
+impl Model for Outstanding {
+    ghost use Rattle.std.specs.Prelude.{◌≡◌, length};
+    ghost use Rattle.std.specs.Coded.{codes};
+    ghost use Rattle.std.specs.FinMap.{code};
+    ghost use Rattle.fw_client.specs.State.{Asks};
+
+    ghost Value = { Asks };
+
+    ghost coded = { Prim.hlevel (codes, code) };
+
+    ghost use Rattle.fw_client.specs.View.{asks_from};
+
+    ghost view = { λ o. asks_from 0 o.places };
+
+    // So no id past the last has a place.
+    ghost invariant = { λ o. length o.places ≡ 16 };
+}
+
+impl Outstanding {
+    // Nothing is outstanding.
+    pub(crate) fn none() -> Outstanding
+        ensures { result ≡ empty }
+    {
+        Outstanding { places: [None; 16] }
+    }
+
+    // What is outstanding at this id.
+    #[tactic(auto, using(crate::proofs::Places::get_asks))]
+    pub(crate) fn at(&self, id: u8) -> Option<Asked>
+        ensures asked { result ≡ get self.now id }
+        ensures within { IfSome result (λ _. id < 16) }
+    {
+        if id < IDS {
+            self.places[usize::from(id)]
+        } else {
+            None
+        }
+    }
+
+    // The ask is outstanding at this id, in place of any other.
+    #[tactic(auto, using(crate::proofs::Places::asks_put))]
+    pub(crate) fn put(&mut self, id: u8, asked: Asked)
+        requires { id < 16 }
+        ensures { self.new ≡ insert self.old id asked }
+    {
+        self.places[usize::from(id)] = Some(asked);
+    }
+
+    // Nothing is outstanding at this id.
+    #[tactic(auto, using(crate::proofs::Places::asks_out))]
+    pub(crate) fn take_out(&mut self, id: u8)
+        requires { id < 16 }
+        ensures { self.new ≡ remove self.old id }
+    {
+        self.places[usize::from(id)] = None;
+    }
+}
