@@ -1,9 +1,8 @@
 //! Claims: what a row needs to be marked done. A claim is made by a client from a meter's answer.
 
-use crate::session::{campaign, fresh, meters};
+use crate::session::{campaign, fresh, meter, meters};
 use fw_book::{Book, BookError};
 use fw_client::{ActiveClaim, Ask, Client, Heard};
-use fw_names::MeterId;
 use std::alloc::Global;
 use std::test::Fail;
 
@@ -15,8 +14,8 @@ const ANSWER: &str =
 const DONE: &str = "4657423100000007000000010000000361626300010000000101";
 
 // The claim that a client of a meter hears of the answer.
-fn claim(alloc: Global, meter: u32) -> Result<ActiveClaim, Fail> {
-    let mut client = Client::new(MeterId::new(meter).ok_or("every number is a meter's")?);
+fn claim(alloc: Global, number: u32) -> Result<ActiveClaim, Fail> {
+    let mut client = Client::new(meter(number)?);
     let _asked = client.ask(alloc, &Ask::ActiveName)?;
     let answer = hex::decode(alloc, ANSWER)?;
     match client.hear(alloc, answer.as_slice())? {
@@ -25,64 +24,83 @@ fn claim(alloc: Global, meter: u32) -> Result<ActiveClaim, Fail> {
     }
 }
 
-// A book of head end 7 with the image `abc` for meter 1 in serial 1.
-fn opened(alloc: Global) -> Result<Book, Fail> {
+// A book of head end 7 with this image for meter 1 in serial 1.
+fn opened(alloc: Global, image: &[u8]) -> Result<Book, Fail> {
     let mut book = fresh(alloc)?;
     let meters = meters(alloc, &[1])?;
-    let _name = book.open_campaign(alloc, campaign(7, 1)?, b"abc", meters.as_slice())?;
+    let _name = book.open_campaign(alloc, campaign(7, 1)?, image, meters.as_slice())?;
     Ok(book)
 }
 
-// What marking done under (7, serial) is refused for, by a claim of this meter.
+// What marking done under (head, serial) is refused for, by a claim of this meter. A refused mark leaves the book as it was.
 fn refusal(
     alloc: Global,
     book: &mut Book,
-    serial: u32,
-    meter: u32,
+    (head, serial): (u32, u32),
+    number: u32,
 ) -> Result<Option<BookError>, Fail> {
-    Ok(
-        book.mark_done(campaign(7, serial)?, claim(alloc, meter)?)
-            .err(),
-    )
+    let before = book.write(alloc)?;
+    let claim = claim(alloc, number)?;
+    let refused = book.mark_done(campaign(head, serial)?, claim).err();
+    if refused.is_some() && book.write(alloc)?.as_slice() != before.as_slice() {
+        return Err(Fail::from("a refused mark changed the book"));
+    }
+    Ok(refused)
 }
 
 #[test]
 fn a_claim_marks_its_row_done_once(rt: HostRuntime) -> Result<(), Fail> {
     let alloc = rt.alloc();
-    let mut book = opened(alloc)?;
-    assert_eq!(rt;
-        refusal(alloc, &mut book, 2, 1)?,
-        Some(BookError::NoSuchCampaign)
-    );
-    assert_eq!(rt;
-        refusal(alloc, &mut book, 1, 2)?,
-        Some(BookError::NoSuchCampaign)
-    );
-    assert_eq!(rt; refusal(alloc, &mut book, 1, 1)?, None);
+    let mut book = opened(alloc, b"abc")?;
+    for (campaign, meter) in [((7, 2), 1), ((8, 1), 1), ((7, 1), 2)] {
+        assert_eq!(rt;
+            refusal(alloc, &mut book, campaign, meter)?,
+            Some(BookError::NoSuchCampaign)
+        );
+    }
+    assert_eq!(rt; refusal(alloc, &mut book, (7, 1), 1)?, None);
     assert_eq!(rt;
         hex::encode(alloc, book.write(alloc)?.as_slice())?.as_str(),
         DONE
     );
-    assert_eq!(rt; refusal(alloc, &mut book, 1, 1)?, Some(BookError::NotLive));
+    assert_eq!(rt;
+        refusal(alloc, &mut book, (7, 1), 1)?,
+        Some(BookError::NotLive)
+    );
     assert_eq!(rt; book.cancel(campaign(7, 1)?), Err(BookError::NotLive));
+    assert_eq!(rt;
+        book.mark_failed(campaign(7, 1)?, meter(1)?),
+        Err(BookError::NotLive)
+    );
     Ok(())
 }
 
 #[test]
 fn a_claim_of_another_campaign(rt: HostRuntime) -> Result<(), Fail> {
     let alloc = rt.alloc();
-    let mut book = opened(alloc)?;
-    assert_eq!(rt; refusal(alloc, &mut book, 1, 1)?, None);
+    let mut book = opened(alloc, b"abc")?;
+    assert_eq!(rt; refusal(alloc, &mut book, (7, 1), 1)?, None);
     let meters = meters(alloc, &[1])?;
     let _name = book.open_campaign(alloc, campaign(7, 2)?, b"abc", meters.as_slice())?;
     assert_eq!(rt;
-        refusal(alloc, &mut book, 2, 1)?,
+        refusal(alloc, &mut book, (7, 2), 1)?,
         Some(BookError::WrongCampaign)
     );
     // the name is judged before the row
     assert_eq!(rt; book.cancel(campaign(7, 2)?), Ok(()));
     assert_eq!(rt;
-        refusal(alloc, &mut book, 2, 1)?,
+        refusal(alloc, &mut book, (7, 2), 1)?,
+        Some(BookError::WrongCampaign)
+    );
+    Ok(())
+}
+
+#[test]
+fn a_claim_of_another_image(rt: HostRuntime) -> Result<(), Fail> {
+    let alloc = rt.alloc();
+    let mut book = opened(alloc, b"abd")?;
+    assert_eq!(rt;
+        refusal(alloc, &mut book, (7, 1), 1)?,
         Some(BookError::WrongCampaign)
     );
     Ok(())
