@@ -1,13 +1,13 @@
 -- For private clauses: what the parts of the reader give.
-use Rattle.std.specs.Prelude.{◌≡◌, ℕ, zero, suc, ◌<◌, ◌≤◌, ◌^◌, false, List, [], ◌∷◌, ◌++◌, length, Option, Some, None}
-use Rattle.std.specs.Int.{w32, from_be_bytes}
+use Rattle.std.specs.Prelude.{◌≡◌, ℕ, zero, suc, ◌*◌, ◌<◌, ◌≤◌, ◌^◌, false, List, [], ◌∷◌, ◌++◌, length, Option, Some, None}
+use Rattle.std.specs.Int.{w16, w32, to_be_bytes, from_be_bytes}
 use Rattle.std.specs.List.{AllByRecursion}
 use Rattle.fw_book.specs.declared.row.Row.{Row}
 use Rattle.fw_book.specs.declared.row.RowState.{RowState}
 use Rattle.fw_book.specs.declared.row.RowState.TheVariants.{Live, Done, Failed, Cancelled}
 use Rattle.fw_book.specs.Rows.{meters_of, repeats}
 use Rattle.fw_book.specs.Contents.{Offered, Contents, max_image, max_meters, IsEntry, IsBook}
-use Rattle.fw_book.specs.Format.{rows_bytes, counted_bytes, entry_bytes, entries_bytes, SpellsBook}
+use Rattle.fw_book.specs.Format.{image_bytes, rows_bytes, counted_bytes, entry_bytes, entries_bytes, SpellsBook}
 
 -- 1 to 4,194,304 bytes
 pub record IsImage (image : List ℕ) : Type 0 where
@@ -58,6 +58,21 @@ rows_in _ = []
 -- a campaign whose image and rows stand in these bytes
 abbrev pub entry_in : ℕ → List ℕ → List ℕ → ℕ × Offered
 entry_in serial image rows = (serial, record { image = image; rows = rows_in rows })
+
+-- rows behind their number, of which none was looked at
+pub record SkimsRows (bytes rows rest : List ℕ) : Type 0 where
+  pub count : ℕ
+  pub fits : count < 2 ^ 16
+  pub size : length rows ≡ 5 * count
+  pub spelled : bytes ≡ to_be_bytes w16 count ++ (rows ++ rest)
+
+-- a campaign of whose rows none was looked at
+pub record Skims (bytes : List ℕ) (serial : ℕ) (image rows rest : List ℕ) : Type 0 where
+  pub serial_fits : serial < 2 ^ 32
+  pub is_image : IsImage image
+  pub behind : List ℕ
+  pub of_rows : SkimsRows behind rows rest
+  pub spelled : bytes ≡ to_be_bytes w32 serial ++ (image_bytes image ++ behind)
 
 -- the bytes are those of these campaigns
 pub record AreEntries (bytes : List ℕ) (entries : List (ℕ × Offered)) : Type 0 where

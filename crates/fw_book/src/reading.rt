@@ -5,12 +5,15 @@ ghost use Rattle.std.specs.Int.{w16, w32, to_be_bytes};
 ghost use Rattle.fw_book.specs.declared.row.Row.{Row};
 ghost use Rattle.fw_book.specs.Format.{image_bytes, row_bytes, rows_bytes, counted_bytes, entry_bytes, head_bytes};
 ghost use Rattle.fw_book.specs.Contents.{IsEntry};
-ghost use Rattle.fw_book.specs.Reading.{IsImage, IsRows, MetersFit, NoRows, NoCounted, NoEntry, rows_in, entry_in};
+ghost use Rattle.fw_book.specs.Reading.{IsImage, IsRows, MetersFit, NoRows, NoCounted, NoEntry, SkimsRows, Skims, rows_in, entry_in};
 
 use crate::offer::{MAX_IMAGE_SIZE, MAX_METERS};
 use crate::row::{Row, RowState};
 use crate::search::repeats;
 use fw_names::{HeadId, MeterId};
+
+/// The bytes of a row: four of its meter's number, and one of its state.
+const ROW_SIZE: usize = 5;
 
 /// A campaign as it stands in the bytes of a book.
 #[derive(Clone, Copy)]
@@ -144,6 +147,39 @@ pub(crate) fn entry_at(bytes: &[u8]) -> Option<(Entry<'_>, &[u8])>
     }
     let (image, rest) = image_at(rest)?;
     let (rows, rest) = rows_at(rest)?;
+    Some((
+        Entry {
+            serial,
+            image,
+            rows,
+        },
+        rest,
+    ))
+}
+
+// The bytes of rows behind their number, and what follows them. No row is looked at.
+fn skim_rows(bytes: &[u8]) -> Option<(&[u8], &[u8])>
+    ensures found { IfSome result (λ r. SkimsRows bytes.now r.0.now r.1.now) }
+    ensures none { IfNone result (NoCounted bytes.now) }
+{
+    let (count, rest) = u16_at(bytes)?;
+    let size = ROW_SIZE * usize::from(count);
+    if size > rest.len() {
+        return None;
+    }
+    Some(rest.split_at(size))
+}
+
+/// The campaign that the bytes begin with, where they begin with one, and what follows it. No row is looked at, so that a campaign
+/// is passed over at the same cost, however many rows it has.
+pub(crate) fn skim(bytes: &[u8]) -> Option<(Entry<'_>, &[u8])>
+    ensures found { IfSome result (λ r. Skims bytes.now r.0.serial r.0.image.now r.0.rows.now r.1.now) }
+    ensures shorter { IfSome result (λ r. length r.1.now < length bytes.now) }
+    ensures none { IfNone result (NoEntry bytes.now) }
+{
+    let (serial, rest) = u32_at(bytes)?;
+    let (image, rest) = image_at(rest)?;
+    let (rows, rest) = skim_rows(rest)?;
     Some((
         Entry {
             serial,

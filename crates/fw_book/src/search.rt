@@ -10,7 +10,7 @@ ghost use Rattle.fw_book.specs.Inside.{clashes};
 ghost use Rattle.fw_book.specs.Format.{SpellsBook};
 ghost use Rattle.fw_book.specs.Reading.{rows_in, AreEntries, Campaigns, NoCampaigns, Parts};
 
-use crate::reading::{entry_at, head_at, row_at};
+use crate::reading::{entry_at, head_at, row_at, skim};
 use fw_names::{HeadId, MeterId};
 
 // Whether a row in these bytes is the meter's.
@@ -62,7 +62,7 @@ fn has_serial(entries: &[u8], serial: u32) -> bool
         → result ≡ is_some (lookup (nat_eq serial) list) }
 {
     let mut rest = entries;
-    while let Some((entry, after)) = entry_at(rest) {
+    while let Some((entry, after)) = skim(rest) {
         if entry.serial == serial {
             return true;
         }
@@ -77,7 +77,7 @@ fn is_busy(entries: &[u8], meter: MeterId) -> bool
         → result ≡ is_busy list meter }
 {
     let mut rest = entries;
-    while let Some((entry, after)) = entry_at(rest) {
+    while let Some((entry, after)) = skim(rest) {
         if is_live(entry.rows, meter) {
             return true;
         }

@@ -1,4 +1,4 @@
-use Rattle.std.proofs.Common.{◌≡◌, ℕ, nat_eq, is_some, List, length}
+use Rattle.std.proofs.Common.{ℕ, nat_eq, is_some, List, length}
 use Rattle.std.specs.Map.{lookup}
 use Rattle.fw_book.specs.Contents.{Offered}
 use Rattle.fw_book.specs.Reading.{AreEntries}

@@ -1,4 +1,4 @@
-use Rattle.std.proofs.Common.{◌≡◌, ℕ, List, length}
+use Rattle.std.proofs.Common.{ℕ, List, length}
 use Rattle.fw_book.specs.Contents.{Offered, is_busy}
 use Rattle.fw_book.specs.Reading.{AreEntries}
 use Rattle.fw_book.proofs.Walks.{Left}

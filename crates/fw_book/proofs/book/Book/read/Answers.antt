@@ -35,7 +35,7 @@ loop-entry-preserved c =
       left = first.0;
       are = first.2;
       spells = subst (λ (b : Contents). SpellsBook c.args.bytes.now (record { head = b.head; campaigns = b.campaigns ++ first.0 })) (sym longer)
-      (subst (λ (xs : List (ℕ × Offered)). SpellsBook c.args.bytes.now (record { head = book.head; campaigns = xs })) split i.spells);
+          (subst (λ (xs : List (ℕ × Offered)). SpellsBook c.args.bytes.now (record { head = book.head; campaigns = xs })) split i.spells);
     }
 
 pub returns-clause-found : goal.returns-clause-found

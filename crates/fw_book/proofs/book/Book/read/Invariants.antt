@@ -1,5 +1,5 @@
-use Rattle.std.proofs.Common.{◌≡◌, ◌++◌, ℕ, List, length}
-use Rattle.fw_book.specs.Contents.{Offered, Contents}
+use Rattle.std.proofs.Common.{◌++◌, ℕ, List, length}
+use Rattle.fw_book.specs.Contents.{Offered}
 use Rattle.fw_book.specs.Format.{SpellsBook}
 use Rattle.fw_book.specs.Reading.{AreEntries}
 use Rattle.fw_book.proofs.book.Book.read.Given as goal
