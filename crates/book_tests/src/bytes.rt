@@ -183,7 +183,10 @@ fn what_is_no_book_is_refused(rt: HostRuntime) -> Result<(), Fail> {
 #[test]
 fn a_book_ends_behind_a_campaign(rt: HostRuntime) -> Result<(), Fail> {
     // 8 bytes, 23 of the first campaign, 18 of the second
-    assert_eq!(rt; books_within(rt.alloc(), TWO)?.as_slice(), [8, 31, 49].as_slice());
+    assert_eq!(rt;
+        books_within(rt.alloc(), TWO)?.as_slice(),
+        [8, 31, 49].as_slice()
+    );
     Ok(())
 }
 

@@ -93,12 +93,7 @@ fn first_other(alloc: Global, rows: &[(&[Call], BookError)]) -> Result<Option<us
 }
 
 // What an image of so many bytes is refused for, for so many meters, whose numbers go round after so many.
-fn sized(
-    alloc: Global,
-    bytes: usize,
-    count: u32,
-    round: u32,
-) -> Result<Option<BookError>, Fail> {
+fn sized(alloc: Global, bytes: usize, count: u32, round: u32) -> Result<Option<BookError>, Fail> {
     let image = vec![in alloc; 0u8; bytes]?;
     let mut numbers = Vec::new(alloc);
     for number in 0..count {
@@ -146,7 +141,10 @@ fn limits_of_an_opening(rt: HostRuntime) -> Result<(), Fail> {
         sized(rt.alloc(), 1, 257, 1)?,
         Some(BookError::TooManyMeters)
     );
-    assert_eq!(rt; sized(rt.alloc(), 1, 256, 255)?, Some(BookError::MeterTwice));
+    assert_eq!(rt;
+        sized(rt.alloc(), 1, 256, 255)?,
+        Some(BookError::MeterTwice)
+    );
     Ok(())
 }
 
