@@ -10,74 +10,27 @@ use std::test::Fail;
 const ANSWER: &str =
     "000100010001002fc401c0000929010000000700000001ba7816bf8f01cfea414140de5dae2223b00361a396177a9cb410ff61f20015ad";
 
-/// A mark as done under a campaign, by the claim that a client of a meter hears of the answer.
+/// A mark as done under the campaign of a head end and a serial number, by the claim that a client of a meter hears of the answer.
 #[derive(Clone, Copy)]
-struct Mark {
-    head: u32,
-    serial: u32,
-    meter: u32,
-}
+struct Mark(u32, u32, u32);
 
 /// Marks one after another, and what each is refused for.
 const MARKS: &[(Mark, Option<BookError>)] = &[
-    (
-        Mark {
-            head: 7,
-            serial: 2,
-            meter: 1,
-        },
-        Some(BookError::NoSuchCampaign),
-    ),
-    (
-        Mark {
-            head: 8,
-            serial: 1,
-            meter: 1,
-        },
-        Some(BookError::NoSuchCampaign),
-    ),
-    (
-        Mark {
-            head: 7,
-            serial: 1,
-            meter: 2,
-        },
-        Some(BookError::NoSuchCampaign),
-    ),
-    (
-        Mark {
-            head: 7,
-            serial: 1,
-            meter: 1,
-        },
-        None,
-    ),
-    (
-        Mark {
-            head: 7,
-            serial: 1,
-            meter: 1,
-        },
-        Some(BookError::NotLive),
-    ),
+    (Mark(7, 2, 1), Some(BookError::NoSuchCampaign)),
+    (Mark(8, 1, 1), Some(BookError::NoSuchCampaign)),
+    (Mark(7, 1, 2), Some(BookError::NoSuchCampaign)),
+    (Mark(7, 1, 1), None),
+    (Mark(7, 1, 1), Some(BookError::NotLive)),
 ];
-
-/// The mark of meter 1 in a second campaign.
-const SECOND: Mark = Mark {
-    head: 7,
-    serial: 2,
-    meter: 1,
-};
 
 /// The same of a campaign that offers another image.
 const WRONG: &[(Mark, Option<BookError>)] = &[(
-    Mark {
-        head: 7,
-        serial: 1,
-        meter: 1,
-    },
+    Mark(7, 1, 1),
     Some(BookError::WrongCampaign),
 )];
+
+/// The mark of meter 1 in a second campaign.
+const SECOND: Mark = Mark(7, 2, 1);
 
 /// The book of head end 7 after it opened serial 1 with the image `abd` for meter 1.
 const LIVE: &str = "4657423100000007000000010000000361626400010000000100";
@@ -107,10 +60,9 @@ fn opened(alloc: Global, image: &[u8]) -> Result<Book, Fail> {
 // What marking done under a campaign is refused for, by a claim of this meter. A refused mark leaves the book as it was.
 fn refusal(alloc: Global, book: &mut Book, mark: &Mark) -> Result<Option<BookError>, Fail> {
     let before = book.write(alloc)?;
-    let claim = claim(alloc, mark.meter)?;
-    let refused = book
-        .mark_done(campaign(mark.head, mark.serial)?, claim)
-        .err();
+    let Mark(head, serial, meter) = *mark;
+    let claim = claim(alloc, meter)?;
+    let refused = book.mark_done(campaign(head, serial)?, claim).err();
     if refused.is_some() && book.write(alloc)?.as_slice() != before.as_slice() {
         return Err(Fail::from("a refused mark changed the book"));
     }

@@ -1,6 +1,6 @@
 //! The book of a head end's campaigns.
 
-ghost use Rattle.std.specs.Prelude.{◌≡◌, None, false, IfOk, IfErr, MatchResult, OnOk, OnErr, Some};
+ghost use Rattle.std.specs.Prelude.{◌≡◌, None, false, IfOk, IfErr, IsOk, MatchResult, OnOk, OnErr, Some};
 ghost use Rattle.std.specs.List.{list_any};
 ghost use Rattle.std.specs.Option.{option_copied};
 ghost use Rattle.fw_names.specs.Name.{name_of, IsOpened};
@@ -227,6 +227,7 @@ impl Book {
     pub fn mark_done(&mut self, campaign: CampaignId, claim: ActiveClaim) -> Result<(), BookError>
         ensures done { OnOk result (self.new ≡ marked self.old campaign.serial claim.meter RowState.Done) }
         ensures claimed { OnOk result (Confirms self.old campaign claim) }
+        ensures confirmed { Confirms self.old campaign claim → IsOk result }
         ensures refused { IfErr result (DoneRefused self.old campaign claim) }
         ensures kept { OnErr result (self.new ≡ self.old) }
     {

@@ -7,7 +7,7 @@ ghost use Rattle.fw_book.specs.Rows.{live_row, repeats, meters_of};
 ghost use Rattle.fw_book.specs.Reading.{rows_in};
 
 use crate::error::BookError;
-use crate::reading::row_at;
+use crate::reading::{ROW_SIZE, row_at};
 use crate::row::{Row, RowState};
 use fw_names::MeterId;
 use std::alloc::Global;
@@ -56,7 +56,7 @@ pub(crate) fn rows_of(alloc: Global, bytes: &[u8]) -> Result<Vec<Row>, BookError
     ensures rows { IfOk result (λ rows. rows.items ≡ rows_in bytes.now) }
     ensures memory { IfErr result (λ e. e ≡ BookError.OutOfMemory) }
 {
-    let mut rows = Vec::new(alloc);
+    let mut rows = Vec::with_capacity(alloc, bytes.len() / ROW_SIZE)?;
     let mut rest = bytes;
     while let Some((row, after)) = row_at(rest) {
         rows.push(row)?;

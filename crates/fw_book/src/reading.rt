@@ -13,7 +13,7 @@ use crate::search::repeats;
 use fw_names::{HeadId, MeterId};
 
 /// The bytes of a row: four of its meter's number, and one of its state.
-const ROW_SIZE: usize = 5;
+pub(crate) const ROW_SIZE: usize = 5;
 
 /// A campaign as it stands in the bytes of a book.
 #[derive(Clone, Copy)]
