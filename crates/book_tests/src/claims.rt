@@ -24,10 +24,7 @@ const MARKS: &[(Mark, Option<BookError>)] = &[
 ];
 
 /// The same of a campaign that offers another image.
-const WRONG: &[(Mark, Option<BookError>)] = &[(
-    Mark(7, 1, 1),
-    Some(BookError::WrongCampaign),
-)];
+const WRONG: &[(Mark, Option<BookError>)] = &[(Mark(7, 1, 1), Some(BookError::WrongCampaign))];
 
 /// The mark of meter 1 in a second campaign.
 const SECOND: Mark = Mark(7, 2, 1);

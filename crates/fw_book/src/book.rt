@@ -297,7 +297,8 @@ impl Book {
         Ok(bytes)
     }
 
-    /// The book that these bytes spell. They are judged whole before any memory is taken.
+    /// The book that these bytes spell. They are judged whole before any memory is taken: for each live row, all rows of the
+    /// campaigns before its own are looked through.
     ///
     /// # Errors
     ///
