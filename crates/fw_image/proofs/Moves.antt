@@ -1,5 +1,5 @@
 -- Writes of a header are the steps of a meter.
-use Rattle.std.proofs.Common.{◌≡◌, ◌≢◌, ℕ, ◌<◌, ◌≤◌, Bool, true, false, IsTrue, List, length, take, Some, None, Option, cond, ◌↔◌, refl, sym, ap, subst, ◌∙◌, arith, ◌⊎◌, inl, inr}
+use Rattle.std.proofs.Common.{◌≡◌, ◌≢◌, ℕ, ◌<◌, Bool, true, false, IsTrue, List, length, take, Some, None, Option, cond, ◌↔◌, refl, sym, ap, subst, ◌∙◌, arith, ◌⊎◌, inl, inr}
 use Rattle.fw_blocks.specs.Cuts.{block_count}
 use Rattle.fw_blocks.specs.Members.{has}
 use Rattle.fw_blocks.specs.Laws.{CutsJoin}

@@ -1,5 +1,5 @@
 -- Public vocabulary: the meter that a header and two slots are.
-use Rattle.std.specs.Prelude.{◌≡◌, ◌≢◌, ℕ, zero, suc, Bool, true, false, IsTrue, if◌then◌else◌, List, [], take, replicate, Option, Some, None}
+use Rattle.std.specs.Prelude.{◌≡◌, ℕ, zero, suc, Bool, true, false, IsTrue, if◌then◌else◌, List, [], take, replicate, Option, Some, None}
 use Rattle.std.specs.FinMap.{insert, empty}
 use Rattle.fw_blocks.specs.Cuts.{cut, block_count}
 use Rattle.fw_blocks.specs.Members.{has}

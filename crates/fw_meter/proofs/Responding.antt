@@ -5,7 +5,7 @@ use Rattle.fw_names.specs.Name.{Name}
 use Rattle.fw_server.specs.Answer.{Answer}
 use Rattle.fw_server.specs.Meaning.{Meaning, Reading, read, refused, meaning_of, Code, object_undefined, object_class_inconsistent, read_write_denied, type_unmatched, temporary_failure, other_reason, code_number}
 use Rattle.fw_image.specs.State.{State, Counts}
-use Rattle.fw_meter.specs.Step.{Outcome, got, coded, is_faultless, activation_of, answer_of, MeterStep}
+use Rattle.fw_meter.specs.Step.{got, coded, is_faultless, activation_of, answer_of, MeterStep}
 use Rattle.fw_meter.specs.Handling.{Responds, reply_to}
 use Rattle.fw_meter.specs.Inside.{Steps}
 

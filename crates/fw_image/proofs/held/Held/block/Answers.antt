@@ -1,4 +1,4 @@
-use Rattle.std.proofs.Common.{◌≡◌, IsTrue, true, false, length, refl, sym, ◌∙◌}
+use Rattle.std.proofs.Common.{◌≡◌, IsTrue, false, length, refl, sym, ◌∙◌}
 use Rattle.fw_store.specs.Device.{slot_bytes, Torn}
 use Rattle.fw_store.specs.declared.slot.Slot.{Slot}
 use Rattle.fw_store.specs.declared.header.TransferStatus.TheVariants.{Initiated}

@@ -1,4 +1,4 @@
-use Rattle.std.proofs.Common.{◌≡◌, IsTrue, true, false, cond, ◌∙◌, refl}
+use Rattle.std.proofs.Common.{◌≡◌, IsTrue, false, cond, ◌∙◌, refl}
 use Rattle.fw_store.specs.declared.header.TransferStatus.TheVariants.{Initiated}
 use Rattle.fw_image.specs.Meter.{status_of}
 use Rattle.fw_image.specs.Step.{verify, done, refused}
