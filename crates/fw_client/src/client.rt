@@ -63,6 +63,17 @@ impl Client {
         }
     }
 
+    /// The same client once more. A caller that tries a step on it still has the client before the step.
+    pub fn duplicate(&self) -> Client
+        ensures { result ≡ self.now }
+    {
+        Client {
+            meter: self.meter,
+            next: self.next,
+            outstanding: self.outstanding.duplicate(),
+        }
+    }
+
     /// Asks under the next invoke-id. The datagram goes from and to wPort 1.
     ///
     /// # Errors

@@ -1,0 +1,166 @@
+//! One row of a campaign: a head end's work on one meter.
+
+use crate::answers::{Step, next_step};
+use crate::asks::{ask_blocks, ask_one};
+use crate::news::RowNews;
+use crate::phase::Phase;
+use crate::stage::Stage;
+use fw_blocks::{Geometry, Width, Window};
+use fw_client::{Ask, Client, Heard, OutOfMemory};
+use fw_names::{ImageName, MeterId};
+use std::alloc::Global;
+use std::mem;
+
+/// How many returns to `Start` end a row.
+const MAX_RETURNS: u8 = 8;
+
+/// A head end's work on one meter for one campaign.
+#[derive(Debug, Drop)]
+pub struct RowCore {
+    meter: MeterId,
+    name: ImageName,
+    size: u32,
+    stage: Stage,
+    client: Client,
+    returns: u8,
+}
+
+impl RowCore {
+    /// A new row of this meter, for the image of this name and size in bytes.
+    pub fn new(meter: MeterId, name: ImageName, size: u32) -> RowCore {
+        RowCore {
+            meter,
+            name,
+            size,
+            stage: Stage::Size,
+            client: Client::new(meter),
+            returns: 0,
+        }
+    }
+
+    /// Makes the row new.
+    pub fn restart(&mut self) {
+        *self = RowCore::new(self.meter, self.name, self.size);
+    }
+
+    /// Whose row it is.
+    pub fn meter(&self) -> MeterId {
+        self.meter
+    }
+
+    /// The name of the image that the meter is to run.
+    pub fn name(&self) -> ImageName {
+        self.name
+    }
+
+    /// Where the row is.
+    pub fn phase(&self) -> Phase {
+        self.stage.phase()
+    }
+
+    /// How often the row returned to `Start`: 7 times at most, since the eighth return ends it.
+    pub fn returns(&self) -> u8 {
+        self.returns
+    }
+
+    /// Drops what was asked, and makes the datagrams that are sent now. `image` has the bytes of the row's image.
+    ///
+    /// # Errors
+    ///
+    /// `OutOfMemory` alone. The row is then as before.
+    pub fn tick(
+        &mut self,
+        alloc: Global,
+        image: &[u8],
+        width: Width,
+    ) -> Result<Vec<Vec<u8>>, OutOfMemory> {
+        let mut client = self.client.duplicate();
+        client.forget();
+        let sent = self.ask(alloc, &mut client, image, width)?;
+        self.client = client;
+        Ok(sent)
+    }
+
+    // Asks by this client what the phase asks.
+    fn ask(
+        &self,
+        alloc: Global,
+        client: &mut Client,
+        image: &[u8],
+        width: Width,
+    ) -> Result<Vec<Vec<u8>>, OutOfMemory> {
+        let ask = match &self.stage {
+            Stage::Size => Ask::BlockSize,
+            Stage::Enable(_) => Ask::Enable,
+            Stage::Start(_) => Ask::Initiate {
+                name: self.name,
+                size: self.size,
+            },
+            Stage::Blocks(geometry, known) => {
+                let window = Window::next(known, width);
+                return ask_blocks(alloc, client, image, *geometry, window.as_slice());
+            }
+            Stage::Check(_) => Ask::FirstMissing,
+            Stage::Gaps(_) => Ask::Blocks,
+            Stage::Verify(_) => Ask::Verify,
+            Stage::Poll(_) => Ask::Status,
+            Stage::Info(_) => Ask::Info,
+            Stage::Activate(_) => Ask::Activate,
+            Stage::Confirm(_) => Ask::ActiveName,
+            Stage::Done(_) | Stage::Failed => return Ok(Vec::new(alloc)),
+        };
+        ask_one(alloc, client, &ask)
+    }
+
+    /// Hears a datagram of the meter.
+    ///
+    /// # Errors
+    ///
+    /// `OutOfMemory` alone. The row is then as before.
+    pub fn hear(&mut self, alloc: Global, datagram: &[u8]) -> Result<RowNews, OutOfMemory> {
+        let mut client = self.client.duplicate();
+        let heard = client.hear(alloc, datagram)?;
+        if let Heard::Stranger = heard {
+            return Ok(RowNews::Nothing);
+        }
+        let step = next_step(alloc, self.name, self.size, &self.stage, heard)?;
+        self.client = client;
+        self.take(step);
+        Ok(self.stage.news())
+    }
+
+    // Goes where an answer leads.
+    fn take(&mut self, step: Step) {
+        match step {
+            Step::Stay => {}
+            Step::Took(number) => self.took(number),
+            Step::Move(stage) => self.go(stage),
+            Step::Return(geometry) => self.go_back(geometry),
+        }
+    }
+
+    // The meter took a block: the phase ends once it has them all.
+    fn took(&mut self, number: u32) {
+        let stage = mem::replace(&mut self.stage, Stage::Failed);
+        match stage.with_block(number) {
+            Stage::Blocks(geometry, known) => self.stage = Stage::Blocks(geometry, known),
+            stage => self.go(stage),
+        }
+    }
+
+    // Goes to another phase. The outstanding asks are forgotten.
+    fn go(&mut self, stage: Stage) {
+        self.client.forget();
+        self.stage = stage;
+    }
+
+    // Returns to `Start`, or gives up at the last return.
+    fn go_back(&mut self, geometry: Geometry) {
+        if self.returns + 1 < MAX_RETURNS {
+            self.returns += 1;
+            self.go(Stage::Start(geometry));
+        } else {
+            self.go(Stage::Failed);
+        }
+    }
+}
