@@ -132,4 +132,3 @@ Leads name size (Activate g) h step = step ≡ Move (Confirm g)
 Leads name size (Confirm g) h step = LeadsConfirm name g h step
 Leads name size (Done claim) h step = step ≡ Stay
 Leads name size Failed h step = step ≡ Stay
-

@@ -1,5 +1,6 @@
 -- Public vocabulary: the row machine. What a tick and a datagram make of a row, a head end's work on one meter.
-use Rattle.std.specs.Prelude.{◌≡◌, ℕ, ◌+◌, nat_lt, ◌⊎◌, true, List, [], ◌∷◌, slice_set, if◌then◌else◌}
+use Rattle.std.specs.Prelude.{◌≡◌, ℕ, ◌+◌, nat_lt, ◌⊎◌, true, List, [], ◌∷◌, map, slice_set, if◌then◌else◌}
+use Rattle.std.specs.Global.{Vec}
 use Rattle.fw_names.specs.Name.{Name}
 use Rattle.fw_blocks.specs.Cuts.{Partition}
 use Rattle.fw_wrapper.specs.Wrapper.{wrapped}
@@ -49,6 +50,10 @@ asking_all c (ask ∷ asks) = asking_all (asking c (kind_of ask)) asks
 -- what a tick asks of the row's image, of which these are the bytes, with windows of this width
 abbrev pub tick_asks : Row → List ℕ → ℕ → List Ask
 tick_asks row image width = asks_in row.name row.size image width row.stage
+
+-- the bytes of each datagram
+abbrev pub bytes_of : List (Vec ℕ) → List (List ℕ)
+bytes_of datagrams = map (λ (datagram : Vec ℕ). datagram.items) datagrams
 
 -- A tick forgets the outstanding asks, and sends these datagrams.
 abbrev pub sends : Row → List ℕ → ℕ → List (List ℕ)

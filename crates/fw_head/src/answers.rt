@@ -1,5 +1,8 @@
 //! Where an answer leads, by the phase of the row that asked.
 
+ghost use Rattle.std.specs.Prelude.{◌≡◌, IfOk};
+ghost use Rattle.fw_head.specs.Phase.{Leads, LeadsSize, LeadsInfo, LeadsConfirm, from_enable, from_start, from_blocks, from_check, from_gaps, from_verify, from_poll};
+
 use crate::stage::{Stage, with_known};
 use fw_blocks::{BlockSet, Geometry};
 use fw_client::{Asked, Heard};
@@ -41,7 +44,9 @@ pub(crate) fn next_step(
     size: u32,
     stage: &Stage,
     heard: Heard,
-) -> Result<Step, AllocError> {
+) -> Result<Step, AllocError>
+    ensures { IfOk result (λ step. Leads name size stage.now heard step) }
+{
     Ok(match stage {
         Stage::Size => from_size(size, heard),
         Stage::Enable(geometry) => from_enable(*geometry, heard),
@@ -58,7 +63,9 @@ pub(crate) fn next_step(
     })
 }
 
-fn from_size(size: u32, heard: Heard) -> Step {
+fn from_size(size: u32, heard: Heard) -> Step
+    ensures { LeadsSize size heard result }
+{
     match heard {
         Heard::Number(block_size) => match Geometry::new(block_size, size) {
             Some(geometry) => Step::Move(Stage::Enable(geometry)),
@@ -68,14 +75,18 @@ fn from_size(size: u32, heard: Heard) -> Step {
     }
 }
 
-fn from_enable(geometry: Geometry, heard: Heard) -> Step {
+fn from_enable(geometry: Geometry, heard: Heard) -> Step
+    ensures { result ≡ from_enable geometry heard }
+{
     match heard {
         Heard::Code { code: SUCCESS, .. } => Step::Move(Stage::Start(geometry)),
         _ => Step::Move(Stage::Failed),
     }
 }
 
-fn from_start(alloc: Global, geometry: Geometry, heard: Heard) -> Result<Step, AllocError> {
+fn from_start(alloc: Global, geometry: Geometry, heard: Heard) -> Result<Step, AllocError>
+    ensures { IfOk result (λ step. step ≡ from_start geometry heard) }
+{
     Ok(match heard {
         Heard::Code { code: SUCCESS, .. } => {
             let known = BlockSet::empty(alloc, geometry.count())?;
@@ -89,7 +100,9 @@ fn from_start(alloc: Global, geometry: Geometry, heard: Heard) -> Result<Step, A
     })
 }
 
-fn from_blocks(geometry: Geometry, heard: Heard) -> Step {
+fn from_blocks(geometry: Geometry, heard: Heard) -> Step
+    ensures { result ≡ from_blocks geometry heard }
+{
     match heard {
         Heard::Code {
             asked: Asked::Block { number },
@@ -99,7 +112,9 @@ fn from_blocks(geometry: Geometry, heard: Heard) -> Step {
     }
 }
 
-fn from_check(geometry: Geometry, heard: Heard) -> Step {
+fn from_check(geometry: Geometry, heard: Heard) -> Step
+    ensures { result ≡ from_check geometry heard }
+{
     match heard {
         Heard::Number(number) if geometry.count() <= number => {
             Step::Move(Stage::Verify(geometry))
@@ -109,7 +124,9 @@ fn from_check(geometry: Geometry, heard: Heard) -> Step {
     }
 }
 
-fn from_gaps(alloc: Global, geometry: Geometry, heard: Heard) -> Result<Step, AllocError> {
+fn from_gaps(alloc: Global, geometry: Geometry, heard: Heard) -> Result<Step, AllocError>
+    ensures { IfOk result (λ step. step ≡ from_gaps geometry heard) }
+{
     let Heard::BitSet(bits) = heard else {
         return Ok(Step::Return(geometry));
     };
@@ -119,7 +136,9 @@ fn from_gaps(alloc: Global, geometry: Geometry, heard: Heard) -> Result<Step, Al
     }
 }
 
-fn from_verify(geometry: Geometry, heard: Heard) -> Step {
+fn from_verify(geometry: Geometry, heard: Heard) -> Step
+    ensures { result ≡ from_verify geometry heard }
+{
     match heard {
         Heard::Code { code: SUCCESS, .. } => Step::Move(Stage::Info(geometry)),
         Heard::Code {
@@ -130,7 +149,9 @@ fn from_verify(geometry: Geometry, heard: Heard) -> Step {
     }
 }
 
-fn from_poll(geometry: Geometry, heard: Heard) -> Step {
+fn from_poll(geometry: Geometry, heard: Heard) -> Step
+    ensures { result ≡ from_poll geometry heard }
+{
     match heard {
         Heard::Status(VERIFIED) => Step::Move(Stage::Info(geometry)),
         Heard::Status(VERIFYING) => Step::Stay,
@@ -139,14 +160,18 @@ fn from_poll(geometry: Geometry, heard: Heard) -> Step {
     }
 }
 
-fn from_info(name: ImageName, geometry: Geometry, heard: Heard) -> Step {
+fn from_info(name: ImageName, geometry: Geometry, heard: Heard) -> Step
+    ensures { LeadsInfo name geometry heard result }
+{
     match heard {
         Heard::Info(Some(told)) if told == name => Step::Move(Stage::Activate(geometry)),
         _ => Step::Return(geometry),
     }
 }
 
-fn from_confirm(name: ImageName, geometry: Geometry, heard: Heard) -> Step {
+fn from_confirm(name: ImageName, geometry: Geometry, heard: Heard) -> Step
+    ensures { LeadsConfirm name geometry heard result }
+{
     match heard {
         Heard::Active(claim) if claim.name() == name => Step::Move(Stage::Done(claim)),
         _ => Step::Return(geometry),

@@ -1,5 +1,9 @@
 //! One row of a campaign: a head end's work on one meter.
 
+ghost use Rattle.std.specs.Prelude.{◌≡◌, ◌<◌, IfOk, OnOk, OnErr};
+ghost use Rattle.std.specs.FinMap.{empty};
+ghost use Rattle.fw_client.specs.Hearing.{MayCarryData};
+
 use crate::answers::{Step, next_step};
 use crate::asks::{ask_blocks, ask_one};
 use crate::news::RowNews;
@@ -9,6 +13,7 @@ use fw_blocks::{Geometry, Width, Window};
 use fw_client::{Ask, Client, Heard, OutOfMemory};
 use fw_names::{ImageName, MeterId};
 use std::alloc::Global;
+use std::marker::Model;
 use std::mem;
 
 /// How many returns to `Start` end a row.
@@ -25,9 +30,32 @@ pub struct RowCore {
     returns: u8,
 }
 
+// Contracts see the row machine. The client asks the row's own meter, a row that is live returned fewer than eight times, and one
+// that is done was claimed by its own meter under its own name.
+impl Model for RowCore {
+    ghost use Rattle.std.specs.Coded.{codes};
+    ghost use Rattle.std.specs.FinMap.{code};
+    ghost use Rattle.fw_head.specs.Row.{Row};
+
+    ghost Value = { Row };
+
+    ghost coded = { Prim.hlevel (codes, code) };
+
+    ghost use Rattle.fw_head.specs.Inside.{IsRow};
+
+    ghost view = { λ r. record { name = r.name; size = r.size; stage = r.stage; client = r.client; returns = r.returns } };
+
+    ghost invariant = { λ r. IsRow r.meter r.name r.stage r.client r.returns };
+}
+
 impl RowCore {
+    ghost use Rattle.fw_head.specs.Row.{Row, bytes_of, new_row, ticked, sends, stepped, moved, returned, settled, with_block, RowHears, news_in, tick_asks, datagrams, asking_all};
+    ghost use Rattle.fw_head.specs.Phase.{phase_of};
+
     /// A new row of this meter, for the image of this name and size in bytes.
-    pub fn new(meter: MeterId, name: ImageName, size: u32) -> RowCore {
+    pub fn new(meter: MeterId, name: ImageName, size: u32) -> RowCore
+        ensures { result ≡ new_row meter name size }
+    {
         RowCore {
             meter,
             name,
@@ -39,27 +67,38 @@ impl RowCore {
     }
 
     /// Makes the row new.
-    pub fn restart(&mut self) {
+    pub fn restart(&mut self)
+        ensures { self.new ≡ new_row self.old.client.meter self.old.name self.old.size }
+    {
         *self = RowCore::new(self.meter, self.name, self.size);
     }
 
     /// Whose row it is.
-    pub fn meter(&self) -> MeterId {
+    pub fn meter(&self) -> MeterId
+        ensures { result ≡ self.now.client.meter }
+    {
         self.meter
     }
 
     /// The name of the image that the meter is to run.
-    pub fn name(&self) -> ImageName {
+    pub fn name(&self) -> ImageName
+        ensures { result ≡ self.now.name }
+    {
         self.name
     }
 
     /// Where the row is.
-    pub fn phase(&self) -> Phase {
+    pub fn phase(&self) -> Phase
+        ensures { result ≡ phase_of self.now.stage }
+    {
         self.stage.phase()
     }
 
     /// How often the row returned to `Start`: 7 times at most, since the eighth return ends it.
-    pub fn returns(&self) -> u8 {
+    pub fn returns(&self) -> u8
+        ensures count { result ≡ self.now.returns }
+        ensures most { result < 8 }
+    {
         self.returns
     }
 
@@ -73,7 +112,11 @@ impl RowCore {
         alloc: Global,
         image: &[u8],
         width: Width,
-    ) -> Result<Vec<Vec<u8>>, OutOfMemory> {
+    ) -> Result<Vec<Vec<u8>>, OutOfMemory>
+        ensures sent { IfOk result (λ sent. bytes_of sent.items ≡ sends self.old image.now width) }
+        ensures ticked { OnOk result (self.new ≡ ticked self.old image.now width) }
+        ensures same { OnErr result (self.new ≡ self.old) }
+    {
         let mut client = self.client.duplicate();
         client.forget();
         let sent = self.ask(alloc, &mut client, image, width)?;
@@ -88,7 +131,11 @@ impl RowCore {
         client: &mut Client,
         image: &[u8],
         width: Width,
-    ) -> Result<Vec<Vec<u8>>, OutOfMemory> {
+    ) -> Result<Vec<Vec<u8>>, OutOfMemory>
+        requires { client.old.asks ≡ empty }
+        ensures sent { IfOk result (λ sent. bytes_of sent.items ≡ datagrams client.old (tick_asks self.now image.now width)) }
+        ensures asked { OnOk result (client.new ≡ asking_all client.old (tick_asks self.now image.now width)) }
+    {
         let ask = match &self.stage {
             Stage::Size => Ask::BlockSize,
             Stage::Enable(_) => Ask::Enable,
@@ -117,7 +164,11 @@ impl RowCore {
     /// # Errors
     ///
     /// `OutOfMemory` alone. The row is then as before.
-    pub fn hear(&mut self, alloc: Global, datagram: &[u8]) -> Result<RowNews, OutOfMemory> {
+    pub fn hear(&mut self, alloc: Global, datagram: &[u8]) -> Result<RowNews, OutOfMemory>
+        ensures heard { IfOk result (λ told. RowHears self.old datagram.now told self.new) }
+        ensures same { OnErr result (self.new ≡ self.old) }
+        ensures memory { OnErr result (MayCarryData datagram.now) }
+    {
         let mut client = self.client.duplicate();
         let heard = client.hear(alloc, datagram)?;
         if let Heard::Stranger = heard {
@@ -130,7 +181,9 @@ impl RowCore {
     }
 
     // Goes where an answer leads.
-    fn take(&mut self, step: Step) {
+    fn take(&mut self, step: Step)
+        ensures { self.new ≡ stepped self.old step }
+    {
         match step {
             Step::Stay => {}
             Step::Took(number) => self.took(number),
@@ -140,7 +193,9 @@ impl RowCore {
     }
 
     // The meter took a block: the phase ends once it has them all.
-    fn took(&mut self, number: u32) {
+    fn took(&mut self, number: u32)
+        ensures { self.new ≡ settled self.old (with_block self.old.stage number) }
+    {
         let stage = mem::replace(&mut self.stage, Stage::Failed);
         match stage.with_block(number) {
             Stage::Blocks(geometry, known) => self.stage = Stage::Blocks(geometry, known),
@@ -149,13 +204,17 @@ impl RowCore {
     }
 
     // Goes to another phase. The outstanding asks are forgotten.
-    fn go(&mut self, stage: Stage) {
+    fn go(&mut self, stage: Stage)
+        ensures { self.new ≡ moved self.old stage }
+    {
         self.client.forget();
         self.stage = stage;
     }
 
     // Returns to `Start`, or gives up at the last return.
-    fn go_back(&mut self, geometry: Geometry) {
+    fn go_back(&mut self, geometry: Geometry)
+        ensures { self.new ≡ returned self.old geometry }
+    {
         if self.returns + 1 < MAX_RETURNS {
             self.returns += 1;
             self.go(Stage::Start(geometry));
