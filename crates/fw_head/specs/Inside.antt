@@ -5,12 +5,19 @@ use Rattle.fw_names.specs.Name.{Name}
 use Rattle.fw_client.specs.State.{State}
 use Rattle.fw_head.specs.declared.stage.Stage.{Stage}
 use Rattle.fw_head.specs.declared.stage.Stage.TheVariants.{Done}
+use Rattle.fw_head.specs.declared.answers.Step.{Step}
+use Rattle.fw_head.specs.declared.answers.Step.TheVariants.{Move}
 use Rattle.fw_head.specs.Row.{max_returns}
 
 -- a row that is done was claimed by its own meter, under its own name
 abbrev pub IsOwn : ℕ → Name → Stage → Type 0
 IsOwn meter name (Done claim) = (claim.meter ≡ meter) × (claim.name ≡ name)
 IsOwn meter name stage = Unit {0}
+
+-- a step to Done is by a claim of this meter under this name
+abbrev pub IsOwnStep : ℕ → Name → Step → Type 0
+IsOwnStep meter name (Move stage) = IsOwn meter name stage
+IsOwnStep meter name step = Unit {0}
 
 -- what every row keeps: its client asks its meter, and the last return ends it
 pub record IsRow (meter : ℕ) (name : Name) (stage : Stage) (client : State) (returns : ℕ) : Type 0 where

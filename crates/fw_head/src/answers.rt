@@ -172,8 +172,12 @@ fn from_info(name: ImageName, geometry: Geometry, heard: Heard) -> Step
 fn from_confirm(name: ImageName, geometry: Geometry, heard: Heard) -> Step
     ensures { LeadsConfirm name geometry heard result }
 {
-    match heard {
-        Heard::Active(claim) if claim.name() == name => Step::Move(Stage::Done(claim)),
-        _ => Step::Return(geometry),
+    let Heard::Active(claim) = heard else {
+        return Step::Return(geometry);
+    };
+    if claim.name() == name {
+        Step::Move(Stage::Done(claim))
+    } else {
+        Step::Return(geometry)
     }
 }

@@ -51,6 +51,7 @@ impl Model for RowCore {
 impl RowCore {
     ghost use Rattle.fw_head.specs.Row.{Row, bytes_of, new_row, ticked, sends, stepped, moved, returned, settled, with_block, RowHears, news_in, tick_asks, datagrams, asking_all};
     ghost use Rattle.fw_head.specs.Phase.{phase_of};
+    ghost use Rattle.fw_head.specs.Inside.{IsOwn, IsOwnStep};
 
     /// A new row of this meter, for the image of this name and size in bytes.
     pub fn new(meter: MeterId, name: ImageName, size: u32) -> RowCore
@@ -182,6 +183,7 @@ impl RowCore {
 
     // Goes where an answer leads.
     fn take(&mut self, step: Step)
+        requires { IsOwnStep self.old.client.meter self.old.name step }
         ensures { self.new ≡ stepped self.old step }
     {
         match step {
@@ -205,6 +207,7 @@ impl RowCore {
 
     // Goes to another phase. The outstanding asks are forgotten.
     fn go(&mut self, stage: Stage)
+        requires { IsOwn self.old.client.meter self.old.name stage }
         ensures { self.new ≡ moved self.old stage }
     {
         self.client.forget();

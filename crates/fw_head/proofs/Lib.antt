@@ -1,0 +1,3 @@
+pub mod FreeIds
+pub mod Sending
+pub mod OwnClaims
