@@ -1,3 +1,4 @@
 pub mod FreeIds
 pub mod Sending
 pub mod OwnClaims
+pub mod Heard

@@ -47,3 +47,8 @@ pub fewer : (rest others : List ℕ) (number : ℕ) → length rest ≤ 15 → r
 fewer rest others number few next =
     let one : length rest ≡ 1 + length others = shorter rest others number next in
     omega (arith, one, few)
+
+-- asking leaves the meter that is asked
+pub same_meter : (c : State) (asks : List Ask) → (asking_all c asks).meter ≡ c.meter
+same_meter c [] = refl
+same_meter c (ask ∷ asks) = same_meter (asking c (kind_of ask)) asks

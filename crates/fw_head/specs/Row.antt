@@ -3,7 +3,7 @@ use Rattle.std.specs.Prelude.{◌≡◌, ℕ, ◌+◌, nat_lt, ◌⊎◌, true, 
 use Rattle.std.specs.Global.{Vec}
 use Rattle.fw_names.specs.Name.{Name}
 use Rattle.fw_blocks.specs.Cuts.{Partition}
-use Rattle.fw_wrapper.specs.Wrapper.{wrapped}
+use Rattle.fw_wrapper.specs.Wrapper.{wrapped, Wraps}
 use Rattle.fw_apdu.specs.Request.{request_bytes}
 use Rattle.fw_client.specs.Ask.{Ask, request_of, kind_of}
 use Rattle.fw_client.specs.State.{State, fresh, asking, forgetting, invoke_byte}
@@ -116,3 +116,7 @@ RowIgnores old datagram told new = AnswersNone old.client datagram × (told ≡ 
 -- from old, a row that is given this datagram tells this, and goes on to new
 abbrev pub RowHears : Row → List ℕ → RowNews → Row → Type 0
 RowHears old datagram told new = RowTakes old datagram told new ⊎ RowIgnores old datagram told new
+
+-- a datagram wraps an APDU from and to wPort 1, whatever it spells
+abbrev pub IsWrapped : List ℕ → Type 0
+IsWrapped datagram = (apdu : List ℕ) × Wraps datagram 1 1 apdu

@@ -2,7 +2,6 @@
 
 ghost use Rattle.std.specs.Prelude.{◌≡◌, ◌<◌, IfOk, OnOk, OnErr};
 ghost use Rattle.std.specs.FinMap.{empty};
-ghost use Rattle.fw_client.specs.Hearing.{MayCarryData};
 
 use crate::answers::{Step, next_step};
 use crate::asks::{ask_blocks, ask_one};
@@ -49,7 +48,7 @@ impl Model for RowCore {
 }
 
 impl RowCore {
-    ghost use Rattle.fw_head.specs.Row.{Row, bytes_of, new_row, ticked, sends, stepped, moved, returned, settled, with_block, RowHears, news_in, tick_asks, datagrams, asking_all};
+    ghost use Rattle.fw_head.specs.Row.{Row, bytes_of, new_row, ticked, sends, stepped, moved, returned, settled, with_block, RowHears, IsWrapped, news_in, tick_asks, datagrams, asking_all};
     ghost use Rattle.fw_head.specs.Phase.{phase_of};
     ghost use Rattle.fw_head.specs.Inside.{IsOwn, IsOwnStep};
 
@@ -164,11 +163,11 @@ impl RowCore {
     ///
     /// # Errors
     ///
-    /// `OutOfMemory` alone. The row is then as before.
+    /// `OutOfMemory` alone, and only for a datagram that wraps an APDU from and to wPort 1. The row is then as before.
     pub fn hear(&mut self, alloc: Global, datagram: &[u8]) -> Result<RowNews, OutOfMemory>
         ensures heard { IfOk result (λ told. RowHears self.old datagram.now told self.new) }
         ensures same { OnErr result (self.new ≡ self.old) }
-        ensures memory { OnErr result (MayCarryData datagram.now) }
+        ensures memory { OnErr result (IsWrapped datagram.now) }
     {
         let mut client = self.client.duplicate();
         let heard = client.hear(alloc, datagram)?;

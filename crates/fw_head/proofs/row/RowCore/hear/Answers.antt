@@ -1,0 +1,37 @@
+use Rattle.std.proofs.Common.{◌≡◌, inl, inr, refl, sym, ap, ◌∙◌, subst}
+use Rattle.fw_client.specs.State.{State}
+use Rattle.fw_head.specs.Phase.{Leads}
+use Rattle.fw_head.specs.Row.{Row, RowTakes, news_in, stepped}
+use Rattle.fw_head.proofs.Heard.{strange_to, taken, taken_by, of_asked}
+use Rattle.fw_head.proofs.OwnClaims.{own_step}
+use Rattle.fw_head.proofs.row.RowCore.hear.Goals as goal
+
+pub returns-in-Stranger-clause-heard : goal.returns-in-Stranger-clause-heard
+returns-in-Stranger-clause-heard c =
+    let same : c.duplicate-client.result ≡ c.args.self.now.client = c.duplicate-client.ensures ∙ ap (λ (r : Row). r.client) c.self.view_is in
+    inr (strange_to c.duplicate-client.result c.args.self.now.client c.hear.new.self c.args.datagram.now c.in_ok-heard.heard same c.in-Stranger.is c.in_ok-heard.ensures.hears, refl, refl)
+
+pub take-requires : goal.take-requires
+take-requires c =
+    let takes = taken c.duplicate-client.result c.hear.new.self c.args.datagram.now c.in_ok-heard.heard c.in_default.not-Stranger c.in_ok-heard.ensures.hears in
+    let of = of_asked c.duplicate-client.result c.hear.new.self c.args.datagram.now c.in_ok-heard.heard (λ claim e. (c.in_ok-heard.ensures.claims claim).0 e) takes in
+    own_step c.hear.new.self.meter c.self.inside.name c.self.inside.size c.self.inside.stage c.in_ok-heard.heard c.in_ok-step.step of c.in_ok-step.ensures
+
+pub returns : goal.returns
+returns c =
+    let same : c.duplicate-client.result ≡ c.args.self.now.client = c.duplicate-client.ensures ∙ ap (λ (r : Row). r.client) c.self.view_is in
+    let takes = taken_by c.duplicate-client.result c.args.self.now.client c.hear.new.self c.args.datagram.now c.in_ok-heard.heard same c.in_default.not-Stranger c.in_ok-heard.ensures.hears in
+    let view = c.self.view_is in
+    let P : Row → Type 0 = λ r. Leads r.name r.size r.stage c.in_ok-heard.heard c.in_ok-step.step in
+    let went = ap (λ (r : Row). stepped (record r { client = c.hear.new.self }) c.in_ok-step.step) view in
+    let told = ap (λ (r : Row). news_in r.stage) c.self-2.view_is in
+    let takes_all : RowTakes c.args.self.now c.args.datagram.now c.news.result c.take.new.self = record {
+      heard = c.in_ok-heard.heard;
+      client = c.hear.new.self;
+      step = c.in_ok-step.step;
+      takes = takes;
+      leads = subst P view c.in_ok-step.ensures;
+      new_is = c.take.ensures ∙ went;
+      told_is = c.news.ensures ∙ told
+    } in
+    record { heard = inl takes_all; same = tt; memory = tt }
