@@ -3,6 +3,8 @@
 
 #[cfg(test)]
 mod first;
+#[cfg(test)]
+mod gaps;
 
 #[cfg(test)]
 mod session;

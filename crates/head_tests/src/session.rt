@@ -14,6 +14,8 @@ use std::test::Fail;
 pub(crate) enum Then {
     /// It changes nothing, and the row is in this phase.
     Nothing(Phase),
+    /// It changes nothing, and the meter has no live row.
+    NoRow,
     /// The row is live, in this phase.
     Moved(Phase),
     /// The row is done in the campaign of this serial number.
@@ -39,6 +41,28 @@ pub(crate) enum Step {
     Returned(u8),
 }
 
+/// A new head end with windows of this width takes the steps of all lists.
+pub(crate) fn session_of_three(
+    alloc: Global,
+    width: u8,
+    first: &[Step],
+    second: &[Step],
+    third: &[Step],
+) -> Result<(), Fail> {
+    let mut head = fresh(alloc, width)?;
+    for step in first.iter().chain(second).chain(third) {
+        take(alloc, &mut head, step)?;
+    }
+    Ok(())
+}
+
+/// A new head end with windows of this width.
+pub(crate) fn fresh(alloc: Global, width: u8) -> Result<HeadCore, Fail> {
+    let number = HeadId::new(7).ok_or("a head end's number begins at 1")?;
+    let width = Width::new(width).ok_or("a width")?;
+    Ok(HeadCore::new(alloc, number, width))
+}
+
 /// A new head end with windows of this width takes the steps of both lists.
 pub(crate) fn session(
     alloc: Global,
@@ -46,13 +70,7 @@ pub(crate) fn session(
     first: &[Step],
     then: &[Step],
 ) -> Result<(), Fail> {
-    let number = HeadId::new(7).ok_or("a head end's number begins at 1")?;
-    let width = Width::new(width).ok_or("a width")?;
-    let mut head = HeadCore::new(alloc, number, width);
-    for step in first.iter().chain(then) {
-        take(alloc, &mut head, step)?;
-    }
-    Ok(())
+    session_of_three(alloc, width, first, then, &[])
 }
 
 /// The meter that it works on.
@@ -60,7 +78,7 @@ fn meter() -> Result<MeterId, Fail> {
     Ok(MeterId::new(1).ok_or("every number is a meter's")?)
 }
 
-fn take(alloc: Global, head: &mut HeadCore, step: &Step) -> Result<(), Fail> {
+pub(crate) fn take(alloc: Global, head: &mut HeadCore, step: &Step) -> Result<(), Fail> {
     match step {
         Step::Opens(serial, image) => opens(alloc, head, *serial, image),
         Step::Ticks(apdus) => ticks(alloc, head, apdus),
@@ -124,6 +142,7 @@ fn found(head: &HeadCore, news: News) -> Result<Option<Then>, Fail> {
     let phase = phase(head)?;
     Ok(match (news, phase) {
         (News::Nothing, Some(phase)) => Some(Then::Nothing(phase)),
+        (News::Nothing, None) => Some(Then::NoRow),
         (News::Moved, Some(phase)) => Some(Then::Moved(phase)),
         (News::Done(campaign, of), None) if is_ours(campaign, of)? => {
             Some(Then::Done(campaign.serial()))
