@@ -11,6 +11,7 @@ mod head;
 mod news;
 mod phase;
 mod row;
+mod rows;
 mod stage;
 mod view;
 
@@ -19,4 +20,5 @@ pub use head::HeadCore;
 pub use news::{News, RowNews};
 pub use phase::Phase;
 pub use row::RowCore;
-pub use view::{HeadView, LiveRows};
+pub use rows::LiveRows;
+pub use view::HeadView;

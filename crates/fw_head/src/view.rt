@@ -1,11 +1,7 @@
 //! What a head end shows.
 
-use crate::row::RowCore;
+use crate::rows::LiveRows;
 use fw_book::Book;
-use indexmap::map::Values;
-
-/// The rows of a head end, each of a meter of its own, in the order in which their campaigns were opened.
-pub type LiveRows<'a> = Values<'a, u32, RowCore>;
 
 /// The book of a head end, and its live rows.
 #[derive(Drop)]

@@ -21,8 +21,9 @@ loop-number-preserved c =
     let so_far = c.loop-number.invariant in
     let next : c.loop-number.rest.now ≡ c.in-Some.number.now ∷ c.in-Some.others.now = search rules in
     let block = c.block-value.ensures.cut in
-    let written : c.in_ok-datagram.field-0.items ≡ wrapped 1 1 (request_bytes (invoke_byte c.loop-number.client.next) (request_of (f c.in-Some.number.now))) = grind (arith, block, c.in_ok-datagram.ensures.written) in
-    (sent_more f c.loop-number.sent.items c.push.new.self.items c.in_ok-datagram.field-0 c.loop-number.client c.datagram.new.client c.loop-number.rest.now c.in-Some.number.now c.in-Some.others.now _ so_far.0 next written c.in_ok-push.ensures.items c.in_ok-datagram.ensures.asked,
-    asked_more f c.loop-number.client c.datagram.new.client _ c.loop-number.rest.now c.in-Some.number.now c.in-Some.others.now so_far.1 next c.in_ok-datagram.ensures.asked,
-    lately_more f c.loop-number.client c.datagram.new.client c.loop-number.rest.now c.in-Some.number.now c.in-Some.others.now so_far.2 so_far.3 next c.in_ok-datagram.ensures.asked,
-    fewer c.loop-number.rest.now c.in-Some.others.now c.in-Some.number.now so_far.3 next)
+    let written : c.in_ok-datagram.field-0.items ≡ wrapped 1 1 (request_bytes (invoke_byte c.loop-number.client.next) (request_of (f c.in-Some.number.now))) = grind (arith, block, c.in_ok-datagram.ensures.written) in (
+      sent_more f c.loop-number.sent.items c.push.new.self.items c.in_ok-datagram.field-0 c.loop-number.client c.datagram.new.client c.loop-number.rest.now c.in-Some.number.now c.in-Some.others.now _ so_far.0 next written c.in_ok-push.ensures.items c.in_ok-datagram.ensures.asked,
+      asked_more f c.loop-number.client c.datagram.new.client _ c.loop-number.rest.now c.in-Some.number.now c.in-Some.others.now so_far.1 next c.in_ok-datagram.ensures.asked,
+      lately_more f c.loop-number.client c.datagram.new.client c.loop-number.rest.now c.in-Some.number.now c.in-Some.others.now so_far.2 so_far.3 next c.in_ok-datagram.ensures.asked,
+      fewer c.loop-number.rest.now c.in-Some.others.now c.in-Some.number.now so_far.3 next,
+    )

@@ -32,6 +32,6 @@ returns c =
       takes = takes;
       leads = subst P view c.in_ok-step.ensures;
       new_is = c.take.ensures ∙ went;
-      told_is = c.news.ensures ∙ told
+      told_is = c.news.ensures ∙ told;
     } in
     record { heard = inl takes_all; same = tt; memory = tt }
