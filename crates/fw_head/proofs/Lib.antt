@@ -2,3 +2,4 @@ pub mod FreeIds
 pub mod Sending
 pub mod OwnClaims
 pub mod Heard
+pub mod LiveRows

@@ -1,5 +1,5 @@
 -- Public vocabulary: a head end, its book and the live rows, and what each call makes of it.
-use Rattle.std.specs.Prelude.{◌≡◌, ℕ, ◌==◌, nat_eq, not, ◌⊎◌, List, [], ◌++◌, map, filter, length, Option, Some, None, unwrap_or, if◌then◌else◌}
+use Rattle.std.specs.Prelude.{◌≡◌, ℕ, ◌==◌, nat_eq, not, ◌⊎◌, List, [], ◌∷◌, ◌++◌, map, filter, length, Option, Some, None, unwrap_or, if◌then◌else◌}
 use Rattle.std.specs.Map.{lookup}
 use Rattle.std.specs.Option.{option_map, option_map_or}
 use Rattle.fw_names.specs.Name.{Name, Campaign, name_of}
@@ -30,7 +30,9 @@ row_of rows meter = lookup (nat_eq meter) rows
 
 -- the rows with that of the meter changed
 abbrev pub at_meter : ℕ → (Row → Row) → Rows → Rows
-at_meter meter change rows = map (λ (entry : ℕ × Row). if meter == entry.0 then (entry.0, change entry.1) else entry) rows
+at_meter meter change [] = []
+at_meter meter change (entry ∷ entries) =
+    if meter == entry.0 then (entry.0, change entry.1) ∷ entries else entry ∷ at_meter meter change entries
 
 -- the rows but that of the meter
 abbrev pub without_meter : ℕ → Rows → Rows

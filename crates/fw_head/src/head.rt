@@ -32,9 +32,9 @@ impl Model for HeadCore {
 
     ghost coded = { Prim.hlevel (codes, code) };
 
-    ghost view = { λ h. record { book = h.book; width = h.width; rows = h.rows } };
+    ghost view = { λ h. record { book = h.book; width = h.width; rows = h.rows.rows.entries } };
 
-    ghost invariant = { λ h. IsHead (record { book = h.book; width = h.width; rows = h.rows }) };
+    ghost invariant = { λ h. IsHead (record { book = h.book; width = h.width; rows = h.rows.rows.entries }) };
 }
 
 impl HeadCore {

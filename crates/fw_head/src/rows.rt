@@ -1,9 +1,9 @@
 //! The live rows of a head end.
 
-ghost use Rattle.std.specs.Prelude.{◌≡◌, ◌<◌, [], ◌++◌, nat_eq, IfOk, IsOk, OnOk, OnErr};
-ghost use Rattle.std.specs.Map.{lookup};
+ghost use Rattle.std.specs.Prelude.{◌≡◌, ◌≤◌, ◌==◌, not, true, [], length, IfOk, OnOk, OnErr};
+ghost use Rattle.indexmap.specs.IndexMap.{spare};
 ghost use Rattle.std.specs.Option.{option_copied, option_map_or};
-ghost use Rattle.fw_head.specs.Row.{bytes_of, sends, ticked, IsWrapped};
+ghost use Rattle.fw_head.specs.Row.{bytes_of, new_row, sends, ticked, IsWrapped};
 ghost use Rattle.fw_head.specs.Head.{row_of, at_meter, without_meter, without_serial, renewed, RowsHear};
 
 use crate::news::RowNews;
@@ -14,33 +14,21 @@ use fw_names::{ImageName, MeterId};
 use indexmap::IndexMap;
 use indexmap::map::Values;
 use std::alloc::{AllocError, Global};
-use std::marker::Model;
 
 /// The rows of a head end, each of a meter of its own, in the order in which their campaigns were opened.
 pub type LiveRows<'a> = Values<'a, u32, RowCore>;
 
-/// The live rows by the numbers of their meters: a meter is live in one campaign at most.
+/// The live rows by the numbers of their meters: a meter is live in one campaign at most. Contracts see the entries of the map, and
+/// the room that is left in it.
 #[derive(Drop)]
 pub(crate) struct Rows {
     rows: IndexMap<u32, RowCore>,
 }
 
-impl Model for Rows {
-    ghost use Rattle.std.specs.Coded.{codes};
-    ghost use Rattle.std.specs.FinMap.{code};
-    ghost use Rattle.fw_head.specs.Head.{Rows as Live};
-
-    ghost Value = { Live };
-
-    ghost coded = { Prim.hlevel (codes, code) };
-
-    ghost view = { λ r. r.rows.entries };
-}
-
 impl Rows {
     /// No row. It keeps the allocator, and takes no memory.
     pub(crate) fn new(alloc: Global) -> Rows
-        ensures { result ≡ [] }
+        ensures { result.rows.entries ≡ [] }
     {
         Rows {
             rows: IndexMap::new(alloc),
@@ -49,7 +37,7 @@ impl Rows {
 
     /// The row of a meter.
     pub(crate) fn get(&self, meter: MeterId) -> Option<&RowCore>
-        ensures { option_copied result ≡ row_of self.now meter }
+        ensures { option_copied result ≡ row_of self.now.rows.entries meter }
     {
         self.rows.get(&meter.number())
     }
@@ -61,7 +49,8 @@ impl Rows {
 
     /// Makes room for so many rows more.
     pub(crate) fn reserve(&mut self, more: usize) -> Result<(), AllocError>
-        ensures { self.new ≡ self.old }
+        ensures same { self.new.rows.entries ≡ self.old.rows.entries }
+        ensures room { OnOk result (more ≤ spare self.new.rows) }
     {
         self.rows.reserve(more)
     }
@@ -74,9 +63,9 @@ impl Rows {
         image: &[u8],
         width: Width,
     ) -> Result<Vec<Vec<u8>>, OutOfMemory>
-        ensures sent { IfOk result (λ sent. bytes_of sent.items ≡ option_map_or (λ row. sends row image.now width) (row_of self.old meter) []) }
-        ensures ticked { OnOk result (self.new ≡ at_meter meter (λ row. ticked row image.now width) self.old) }
-        ensures same { OnErr result (self.new ≡ self.old) }
+        ensures sent { IfOk result (λ sent. bytes_of sent.items ≡ option_map_or (λ row. sends row image.now width) (row_of self.old.rows.entries meter) []) }
+        ensures ticked { OnOk result (self.new.rows.entries ≡ at_meter meter (λ row. ticked row image.now width) self.old.rows.entries) }
+        ensures same { OnErr result (self.new.rows.entries ≡ self.old.rows.entries) }
     {
         match self.rows.get_mut(&meter.number()) {
             Some(row) => row.tick(alloc, image, width),
@@ -91,8 +80,8 @@ impl Rows {
         meter: MeterId,
         datagram: &[u8],
     ) -> Result<RowNews, OutOfMemory>
-        ensures heard { IfOk result (λ told. RowsHear self.old meter datagram.now told self.new) }
-        ensures same { OnErr result (self.new ≡ self.old) }
+        ensures heard { IfOk result (λ told. RowsHear self.old.rows.entries meter datagram.now told self.new.rows.entries) }
+        ensures same { OnErr result (self.new.rows.entries ≡ self.old.rows.entries) }
         ensures memory { OnErr result (IsWrapped datagram.now) }
     {
         match self.rows.get_mut(&meter.number()) {
@@ -103,31 +92,45 @@ impl Rows {
 
     /// Takes out the row of a meter.
     pub(crate) fn end(&mut self, meter: MeterId)
-        ensures { self.new ≡ without_meter meter self.old }
+        ensures { self.new.rows.entries ≡ without_meter meter self.old.rows.entries }
     {
         let ended = meter.number();
-        self.rows.retain(|number, _row| *number != ended);
+        self.rows.retain(
+            |number: &u32, row: &mut RowCore| -> bool
+                ensures { (result ≡ not (number.now == ended)) × (row.new ≡ row.old) }
+            { *number != ended },
+        );
     }
 
     /// Takes out the rows of the campaign of this serial number.
     pub(crate) fn cancel(&mut self, serial: u32)
-        ensures { self.new ≡ without_serial serial self.old }
+        ensures { self.new.rows.entries ≡ without_serial serial self.old.rows.entries }
     {
-        self.rows
-            .retain(|_number, row| row.name().campaign.serial() != serial);
+        self.rows.retain(
+            |_number: &u32, row: &mut RowCore| -> bool
+                ensures { (result ≡ not (row.old.name.campaign.serial == serial)) × (row.new ≡ row.old) }
+            { row.name().campaign.serial() != serial },
+        );
     }
 
     /// Makes each row new.
     pub(crate) fn restart(&mut self)
-        ensures { self.new ≡ renewed self.old }
+        ensures { self.new.rows.entries ≡ renewed self.old.rows.entries }
     {
-        for row in self.rows.values_mut() {
-            row.restart();
-        }
+        self.rows.retain(
+            |_number: &u32, row: &mut RowCore| -> bool
+                ensures { (result ≡ true) × (row.new ≡ new_row row.old.client.meter row.old.name row.old.size) }
+            {
+                row.restart();
+                true
+            },
+        );
     }
 
-    // A new row for each of the meters. There is room for them.
-    pub(crate) fn add(&mut self, name: ImageName, size: u32, meters: &[MeterId]) {
+    /// A new row for each of the meters, that have none and for which there is room.
+    pub(crate) fn add(&mut self, name: ImageName, size: u32, meters: &[MeterId])
+        requires room { length meters.now ≤ spare self.old.rows }
+    {
         for meter in meters {
             let row = RowCore::new(*meter, name, size);
             match self.rows.insert(meter.number(), row) {
