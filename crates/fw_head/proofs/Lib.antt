@@ -3,3 +3,5 @@ pub mod Sending
 pub mod OwnClaims
 pub mod Heard
 pub mod LiveRows
+pub mod SameRows
+pub mod Offers

@@ -82,3 +82,26 @@ on_err (Err e) P Q f h = f e h
 pub rows_hear : (key meter : ℕ) (datagram : List ℕ) (told : RowNews) (old new : Rows) (row next : Row) → key ≡ meter → lookup (nat_eq key) old ≡ Some row → new ≡ set_value (nat_eq key) old next → RowHears row datagram told next → RowsHear old meter datagram told new
 rows_hear key meter datagram told old new row next same found set hears =
     inl (row, next, ap (λ k. lookup (nat_eq k) old) (sym same) ∙ found, hears, changed_at key meter (λ was. next) old new row next same found refl set)
+
+-- two changes that agree on the row of the meter
+pub at_meter-alike : (meter : ℕ) (f g : Row → Row) (rows : Rows) (row : Row) → lookup (nat_eq meter) rows ≡ Some row → f row ≡ g row → at_meter meter f rows ≡ at_meter meter g rows
+at_meter-alike meter f g [] row found alike = refl
+at_meter-alike meter f g (entry ∷ entries) row found alike =
+    let by_f : Rows = (entry.0, f entry.1) ∷ entries in
+    let by_g : Rows = (entry.0, g entry.1) ∷ entries in
+    ⊎_elim
+    (λ here.
+    let same : entry.1 ≡ row = some_row entry.1 row (sym (cond-true (nat_eq meter entry.0) (Some entry.1) (lookup (nat_eq meter) entries) here) ∙ found) in
+    cond-true (nat_eq meter entry.0) by_f (entry ∷ at_meter meter f entries) here
+    ∙ ap (λ (r : Row). (let es : Rows = (entry.0, r) ∷ entries in es)) (ap f same ∙ alike ∙ sym (ap g same))
+    ∙ sym (cond-true (nat_eq meter entry.0) by_g (entry ∷ at_meter meter g entries) here))
+    (λ other.
+    let later : lookup (nat_eq meter) entries ≡ Some row = sym (cond-false (nat_eq meter entry.0) (Some entry.1) (lookup (nat_eq meter) entries) other) ∙ found in
+    cond-false (nat_eq meter entry.0) by_f (entry ∷ at_meter meter f entries) other
+    ∙ ap (λ (es : Rows). (let all : Rows = entry ∷ es in all)) (at_meter-alike meter f g entries row later alike)
+    ∙ sym (cond-false (nat_eq meter entry.0) by_g (entry ∷ at_meter meter g entries) other))
+    (cases_Bool (nat_eq meter entry.0))
+
+pub either_way : {X E : Type 0} (r : Result X E) (P : Type 0) → IfOk r (λ _. P) → IfErr r (λ _. P) → P
+either_way (Ok x) P h k = h
+either_way (Err e) P h k = k

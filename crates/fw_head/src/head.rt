@@ -127,10 +127,10 @@ impl HeadCore {
         ensures same { OnErr result (self.new ≡ self.old) }
         ensures memory { OnErr result (IsWrapped datagram.now) }
     {
-        let Some(row) = self.rows.get(from) else {
-            return Ok(News::Nothing);
+        let campaign = match self.rows.get(from) {
+            Some(row) => row.name().campaign,
+            None => return Ok(News::Nothing),
         };
-        let campaign = row.name().campaign;
         Ok(match self.rows.hear(alloc, from, datagram)? {
             RowNews::Nothing => News::Nothing,
             RowNews::Moved => News::Moved,
@@ -157,10 +157,11 @@ impl HeadCore {
         ensures ticked { OnOk result (self.new ≡ ticked_head self.old meter) }
         ensures same { OnErr result (self.new ≡ self.old) }
     {
-        let Some(row) = self.rows.get(meter) else {
-            return Ok(Vec::new(alloc));
+        let campaign = match self.rows.get(meter) {
+            Some(row) => row.name().campaign,
+            None => return Ok(Vec::new(alloc)),
         };
-        match self.book.offer(row.name().campaign) {
+        match self.book.offer(campaign) {
             Some(offer) => self.rows.tick(alloc, meter, offer.image(), self.width),
             None => unreachable!(),
         }
