@@ -71,7 +71,6 @@ const AGAIN_TO_CONFIRM: &[Step] = &[
 const CLAIM: &str =
     "c401c9000929010000000700000001ba7816bf8f01cfea414140de5dae2223b00361a396177a9cb410ff61f20015ad";
 
-
 #[test]
 fn a_row_is_done(rt: HostRuntime) -> Result<(), Fail> {
     session(

@@ -5,6 +5,7 @@
 mod first;
 #[cfg(test)]
 mod gaps;
-
+#[cfg(test)]
+mod returns;
 #[cfg(test)]
 mod session;

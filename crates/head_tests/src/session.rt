@@ -64,12 +64,7 @@ pub(crate) fn fresh(alloc: Global, width: u8) -> Result<HeadCore, Fail> {
 }
 
 /// A new head end with windows of this width takes the steps of both lists.
-pub(crate) fn session(
-    alloc: Global,
-    width: u8,
-    first: &[Step],
-    then: &[Step],
-) -> Result<(), Fail> {
+pub(crate) fn session(alloc: Global, width: u8, first: &[Step], then: &[Step]) -> Result<(), Fail> {
     session_of_three(alloc, width, first, then, &[])
 }
 
@@ -113,7 +108,7 @@ fn carried(alloc: Global, apdu: &str) -> Result<String, Fail> {
     Ok(format!(in alloc; "000100010001{:04x}{apdu}", apdu.len() / 2)?)
 }
 
-fn ticks(alloc: Global, head: &mut HeadCore, apdus: &[&'static str]) -> Result<(), Fail> {
+pub(crate) fn ticks(alloc: Global, head: &mut HeadCore, apdus: &[&str]) -> Result<(), Fail> {
     let sent = head.tick(alloc, meter()?)?;
     if sent.len() != apdus.len() {
         return Err(Fail::from("a tick sends another number of datagrams"));
@@ -127,7 +122,12 @@ fn ticks(alloc: Global, head: &mut HeadCore, apdus: &[&'static str]) -> Result<(
     Ok(())
 }
 
-fn hears(alloc: Global, head: &mut HeadCore, apdu: &str, then: Then) -> Result<(), Fail> {
+pub(crate) fn hears(
+    alloc: Global,
+    head: &mut HeadCore,
+    apdu: &str,
+    then: Then,
+) -> Result<(), Fail> {
     let text = carried(alloc, apdu)?;
     let datagram = hex::decode(alloc, text.as_str())?;
     let news = head.hear(alloc, meter()?, datagram.as_slice())?;
@@ -163,10 +163,11 @@ fn is_ours(campaign: CampaignId, of: MeterId) -> Result<bool, Fail> {
 fn phase(head: &HeadCore) -> Result<Option<Phase>, Fail> {
     let meter = meter()?;
     let mut view = head.view();
-    Ok(view
-        .rows
-        .find(|row| row.meter() == meter)
-        .map(|row| row.phase()))
+    Ok(
+        view.rows
+            .find(|row| row.meter() == meter)
+            .map(|row| row.phase()),
+    )
 }
 
 fn returned(head: &HeadCore, times: u8) -> Result<(), Fail> {
