@@ -1,9 +1,10 @@
 -- The live rows as a list of entries: what a write to one row makes of it.
-use Rattle.std.proofs.Common.{◌≡◌, ℕ, nat_eq, Bool, true, false, cond, List, [], ◌∷◌, Option, Some, None, Result, Ok, Err, IfOk, IfErr, inl, refl, sym, ap, ◌∙◌, ⊎_elim}
+use Rattle.std.proofs.Common.{◌≡◌, ℕ, nat_eq, Bool, true, false, cond, List, [], ◌∷◌, Option, Some, None, Result, Ok, Err, IfOk, IfErr, inl, refl, sym, ap, subst, ◌∙◌, ⊎_elim}
 use Rattle.std.specs.Map.{lookup, set_value}
 use Rattle.std.proofs.lemmas.Bool.{cases_Bool, cond-true, cond-false}
 use Rattle.fw_head.specs.declared.news.RowNews.{RowNews}
 use Rattle.fw_head.specs.Row.{Row, RowHears}
+use Rattle.fw_head.specs.Inside.{IsOwnNews}
 use Rattle.fw_head.specs.Head.{Rows, RowsHear, at_meter}
 
 some_row : (row other : Row) → let o : Option Row = Some row in o ≡ Some other → row ≡ other
@@ -105,3 +106,12 @@ at_meter-alike meter f g (entry ∷ entries) row found alike =
 pub either_way : {X E : Type 0} (r : Result X E) (P : Type 0) → IfOk r (λ _. P) → IfErr r (λ _. P) → P
 either_way (Ok x) P h k = h
 either_way (Err e) P h k = k
+
+pub same_found : (key meter : ℕ) (rows : Rows) (a b : Row) → key ≡ meter → lookup (nat_eq key) rows ≡ Some a → lookup (nat_eq meter) rows ≡ Some b → a ≡ b
+same_found key meter rows a b same first second = some_row a b (sym first ∙ ap (λ k. lookup (nat_eq k) rows) same ∙ second)
+
+-- what is told of the row that is found
+pub own_of_row : (key meter : ℕ) (told : RowNews) (rows : Rows) (a b : Row) → key ≡ meter → lookup (nat_eq key) rows ≡ Some a → lookup (nat_eq meter) rows ≡ Some b → IsOwnNews a.client.meter a.name told → IsOwnNews b.client.meter b.name told
+own_of_row key meter told rows a b same first second own =
+    let P : Row → Type 0 = λ r. IsOwnNews r.client.meter r.name told in
+    subst P (same_found key meter rows a b same first second) own

@@ -13,7 +13,9 @@ use Rattle.fw_head.specs.declared.stage.Stage.TheVariants.{Size, Enable, Start, 
 use Rattle.fw_head.specs.declared.answers.Step.{Step}
 use Rattle.fw_head.specs.declared.answers.Step.TheVariants.{Stay, Took, Move, Return}
 use Rattle.fw_head.specs.Phase.{count, Goes, LeadsSize, LeadsInfo, LeadsConfirm, Leads, with_known, from_enable, from_start, from_blocks, from_check, from_gaps, from_verify, from_poll}
-use Rattle.fw_head.specs.Inside.{IsOwn, IsOwnStep}
+use Rattle.fw_head.specs.Inside.{IsOwn, IsOwnStep, IsOwnNews}
+use Rattle.fw_head.specs.declared.news.RowNews.{RowNews}
+use Rattle.fw_head.specs.Row.{news_in}
 
 same_step : (m : ℕ) (n : Name) (step other : Step) → step ≡ other → IsOwnStep m n other → IsOwnStep m n step
 same_step m n step other e own =
@@ -100,3 +102,15 @@ own_step m n size (Activate g) h step of leads = same_step m n step _ leads tt
 own_step m n size (Confirm g) h step of leads = by_confirm m n g h step of leads
 own_step m n size (Done claim) h step of leads = same_step m n step _ leads tt
 own_step m n size Failed h step of leads = same_step m n step _ leads tt
+
+own_at : (m : ℕ) (n : Name) (stage : Stage) → IsOwn m n stage → IsOwnNews m n (news_in stage)
+own_at m n (Done claim) own = own
+own_at m n _ own = tt
+
+-- what a row tells of its stage
+pub own_news : (m k : ℕ) (n o : Name) (stage : Stage) (told : RowNews) → m ≡ k → n ≡ o → told ≡ news_in stage → IsOwn m n stage → IsOwnNews k o told
+own_news m k n o stage told same_meter same_name is own =
+    let P : ℕ → Type 0 = λ x. IsOwnNews x n told in
+    let Q : Name → Type 0 = λ x. IsOwnNews k x told in
+    let R : RowNews → Type 0 = λ x. IsOwnNews m n x in
+    subst Q same_name (subst P same_meter (subst R (sym is) (own_at m n stage own)))

@@ -13,8 +13,9 @@ use Rattle.fw_head.specs.declared.answers.Step.{Step}
 use Rattle.fw_head.specs.declared.answers.Step.TheVariants.{Stay, Took, Move, Return}
 use Rattle.fw_head.specs.declared.news.RowNews.{RowNews}
 use Rattle.fw_head.specs.Row.{Row, max_returns, new_row, ticked, tick_asks, moved, returned, settled, with_block, stepped, RowHears}
-use Rattle.fw_head.specs.Head.{Rows, Head, row_of, at_meter, renewed, IsRowOf, IsHead}
+use Rattle.fw_head.specs.Head.{Rows, Head, RowsHear, row_of, at_meter, renewed, IsRowOf, IsHead}
 use Rattle.fw_head.proofs.Heard.{kept_meter}
+use Rattle.fw_head.proofs.LiveRows.{same_found}
 use Rattle.fw_head.proofs.Sending.{same_meter}
 
 -- two rows for one image and one meter
@@ -184,3 +185,12 @@ head_kept_by book width old by new e agree is =
 
 pub agree_all : (rows : Rows) (m : ℕ) → Agree (row_of rows m) (row_of rows m)
 agree_all rows m = agree_itself (row_of rows m)
+
+-- a row that goes on keeps the head end
+pub head_heard : (book : Contents) (width : ℕ) (old new : Rows) (meter : ℕ) (datagram : List ℕ) (told : RowNews) → RowsHear old meter datagram told new → IsHead (record { book = book; width = width; rows = old }) → IsHead (record { book = book; width = width; rows = new })
+head_heard book width old new meter datagram told (inl x) is =
+    let P : Row → Type 0 = λ r. SameGoal r x.1 in
+    let went = goal_heard x.0 x.1 datagram told x.3 in
+    head_kept_by book width old (at_meter meter (λ was. x.1) old) new x.4
+    (agree_at meter (λ was. x.1) old (λ row found. subst P (same_found meter meter old x.0 row refl x.2 found) went)) is
+head_heard book width old new meter datagram told (inr x) is = head_kept_by book width old old new x.2 (agree_all old) is

@@ -7,6 +7,8 @@ use Rattle.fw_head.specs.declared.stage.Stage.{Stage}
 use Rattle.fw_head.specs.declared.stage.Stage.TheVariants.{Done}
 use Rattle.fw_head.specs.declared.answers.Step.{Step}
 use Rattle.fw_head.specs.declared.answers.Step.TheVariants.{Move}
+use Rattle.fw_head.specs.declared.news.RowNews.{RowNews}
+use Rattle.fw_head.specs.declared.news.RowNews.TheVariants as news
 use Rattle.fw_head.specs.Row.{max_returns}
 
 -- a row that is done was claimed by its own meter, under its own name
@@ -18,6 +20,11 @@ IsOwn meter name stage = Unit {0}
 abbrev pub IsOwnStep : ℕ → Name → Step → Type 0
 IsOwnStep meter name (Move stage) = IsOwn meter name stage
 IsOwnStep meter name step = Unit {0}
+
+-- what is told of a done row is a claim of this meter under this name
+abbrev pub IsOwnNews : ℕ → Name → RowNews → Type 0
+IsOwnNews meter name (news.Done claim) = (claim.meter ≡ meter) × (claim.name ≡ name)
+IsOwnNews meter name told = Unit {0}
 
 -- what every row keeps: its client asks its meter, and the last return ends it
 pub record IsRow (meter : ℕ) (name : Name) (stage : Stage) (client : State) (returns : ℕ) : Type 0 where

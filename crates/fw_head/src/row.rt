@@ -50,7 +50,7 @@ impl Model for RowCore {
 impl RowCore {
     ghost use Rattle.fw_head.specs.Row.{Row, bytes_of, new_row, ticked, sends, stepped, moved, returned, settled, with_block, RowHears, IsWrapped, news_in, tick_asks, datagrams, asking_all};
     ghost use Rattle.fw_head.specs.Phase.{phase_of};
-    ghost use Rattle.fw_head.specs.Inside.{IsOwn, IsOwnStep};
+    ghost use Rattle.fw_head.specs.Inside.{IsOwn, IsOwnStep, IsOwnNews};
 
     /// A new row of this meter, for the image of this name and size in bytes.
     pub fn new(meter: MeterId, name: ImageName, size: u32) -> RowCore
@@ -166,6 +166,8 @@ impl RowCore {
     /// `OutOfMemory` alone, and only for a datagram that wraps an APDU from and to wPort 1. The row is then as before.
     pub fn hear(&mut self, alloc: Global, datagram: &[u8]) -> Result<RowNews, OutOfMemory>
         ensures heard { IfOk result (λ told. RowHears self.old datagram.now told self.new) }
+        // A claim that ends the row is of its own meter, under its own name.
+        ensures claimed { IfOk result (IsOwnNews self.old.client.meter self.old.name) }
         ensures same { OnErr result (self.new ≡ self.old) }
         ensures memory { OnErr result (IsWrapped datagram.now) }
     {

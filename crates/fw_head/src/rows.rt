@@ -3,7 +3,8 @@
 ghost use Rattle.std.specs.Prelude.{◌≡◌, ◌≤◌, ◌==◌, not, true, [], length, IfOk, OnOk, OnErr};
 ghost use Rattle.indexmap.specs.IndexMap.{spare};
 ghost use Rattle.std.specs.Option.{option_copied, option_map_or};
-ghost use Rattle.fw_head.specs.Row.{bytes_of, new_row, sends, ticked, IsWrapped};
+ghost use Rattle.fw_head.specs.Row.{Row, bytes_of, new_row, sends, ticked, IsWrapped};
+ghost use Rattle.fw_head.specs.Inside.{IsOwnNews};
 ghost use Rattle.fw_head.specs.Head.{row_of, at_meter, without_meter, without_serial, renewed, RowsHear};
 
 use crate::news::RowNews;
@@ -81,6 +82,7 @@ impl Rows {
         datagram: &[u8],
     ) -> Result<RowNews, OutOfMemory>
         ensures heard { IfOk result (λ told. RowsHear self.old.rows.entries meter datagram.now told self.new.rows.entries) }
+        ensures claimed { IfOk result (λ told. (row : Row) → row_of self.old.rows.entries meter ≡ Some row → IsOwnNews row.client.meter row.name told) }
         ensures same { OnErr result (self.new.rows.entries ≡ self.old.rows.entries) }
         ensures memory { OnErr result (IsWrapped datagram.now) }
     {

@@ -3,7 +3,8 @@ use Rattle.fw_client.specs.State.{State}
 use Rattle.fw_head.specs.Phase.{Leads}
 use Rattle.fw_head.specs.Row.{Row, RowTakes, news_in, stepped}
 use Rattle.fw_head.proofs.Heard.{strange_to, taken, taken_by, of_asked}
-use Rattle.fw_head.proofs.OwnClaims.{own_step}
+use Rattle.fw_head.proofs.OwnClaims.{own_step, own_news}
+use Rattle.fw_head.proofs.SameRows.{goal_heard}
 use Rattle.fw_head.proofs.row.RowCore.hear.Goals as goal
 
 pub returns-in-Stranger-clause-heard : goal.returns-in-Stranger-clause-heard
@@ -34,4 +35,9 @@ returns c =
       new_is = c.take.ensures ∙ went;
       told_is = c.news.ensures ∙ told;
     } in
-    record { heard = inl takes_all; same = tt; memory = tt }
+    let at_view = c.self-2.view_is in
+    let kept = goal_heard c.args.self.now c.take.new.self c.args.datagram.now c.news.result (inl takes_all) in
+    let meter : c.self-2.inside.meter ≡ c.args.self.now.client.meter = sym c.self-2.invariant.asks ∙ ap (λ (r : Row). r.client.meter) at_view ∙ kept.meter in
+    let name : c.self-2.inside.name ≡ c.args.self.now.name = ap (λ (r : Row). r.name) at_view ∙ kept.name in
+    let own = own_news c.self-2.inside.meter c.args.self.now.client.meter c.self-2.inside.name c.args.self.now.name c.self-2.inside.stage c.news.result meter name c.news.ensures c.self-2.invariant.own in
+    record { heard = inl takes_all; claimed = own; same = tt; memory = tt }
