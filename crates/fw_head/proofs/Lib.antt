@@ -5,3 +5,5 @@ pub mod Heard
 pub mod LiveRows
 pub mod SameRows
 pub mod Offers
+pub mod Ended
+pub mod Marks

@@ -1,3 +1,5 @@
+use Rattle.fw_head.proofs.Ended.{elsewhere, taken_out}
+use Rattle.fw_head.proofs.Marks.{other_state}
 use Rattle.std.proofs.Common.{◌≡◌, Some, sym, ap, ◌∙◌}
 use Rattle.std.specs.Option.{option_copied}
 use Rattle.fw_names.specs.Name.{Name}
