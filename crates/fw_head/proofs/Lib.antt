@@ -7,3 +7,4 @@ pub mod SameRows
 pub mod Offers
 pub mod Ended
 pub mod Marks
+pub mod Endings

@@ -48,3 +48,10 @@ is_marked book meter row campaign told claim r is same done own refused =
     let live = ap (λ (x : Campaign). state_in book x claim.meter) same ∙ ap (λ m. state_in book row.name.campaign m) (facts.0 ∙ is.asks) ∙ is.live in
     let named = ap (λ (x : Campaign). name_in book x) same ∙ is.named ∙ ap (λ (n : Name). (let o : Option Name = Some n in o)) (sym facts.1) in
     ok_unless r (DoneRefused book campaign claim) (λ e h. not_refused book campaign claim e live named h) refused
+
+-- and it is of that meter
+pub claim_meter : (meter : ℕ) (row : Row) (told : RowNews) (claim : Claim) {book : Contents} → IsRowOf book meter row → told ≡ news.Done claim → IsOwnNews row.client.meter row.name told → claim.meter ≡ meter
+claim_meter meter row told claim is done own =
+    let P : RowNews → Type 0 = λ x. IsOwnNews row.client.meter row.name x in
+    let facts : (claim.meter ≡ row.client.meter) × (claim.name ≡ row.name) = subst P done own in
+    facts.0 ∙ is.asks

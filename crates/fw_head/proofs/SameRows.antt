@@ -186,11 +186,23 @@ head_kept_by book width old by new e agree is =
 pub agree_all : (rows : Rows) (m : ℕ) → Agree (row_of rows m) (row_of rows m)
 agree_all rows m = agree_itself (row_of rows m)
 
--- a row that goes on keeps the head end
-pub head_heard : (book : Contents) (width : ℕ) (old new : Rows) (meter : ℕ) (datagram : List ℕ) (told : RowNews) → RowsHear old meter datagram told new → IsHead (record { book = book; width = width; rows = old }) → IsHead (record { book = book; width = width; rows = new })
-head_heard book width old new meter datagram told (inl x) is =
+-- a row that goes on
+pub agree_heard : (old new : Rows) (meter : ℕ) (datagram : List ℕ) (told : RowNews) → RowsHear old meter datagram told new → (m : ℕ) → Agree (row_of old m) (row_of new m)
+agree_heard old new meter datagram told (inl x) m =
     let P : Row → Type 0 = λ r. SameGoal r x.1 in
     let went = goal_heard x.0 x.1 datagram told x.3 in
-    head_kept_by book width old (at_meter meter (λ was. x.1) old) new x.4
-    (agree_at meter (λ was. x.1) old (λ row found. subst P (same_found meter meter old x.0 row refl x.2 found) went)) is
-head_heard book width old new meter datagram told (inr x) is = head_kept_by book width old old new x.2 (agree_all old) is
+    agree_along (row_of old m) (row_of old m) (row_of new m) (row_of (at_meter meter (λ was. x.1) old) m) refl (ap (λ (rs : Rows). row_of rs m) x.4)
+    (agree_at meter (λ was. x.1) old (λ row found. subst P (same_found meter meter old x.0 row refl x.2 found) went) m)
+agree_heard old new meter datagram told (inr x) m = agree_same (row_of old m) (row_of new m) (ap (λ (rs : Rows). row_of rs m) (sym x.2))
+
+-- keeps the head end
+pub head_heard : (book : Contents) (width : ℕ) (old new : Rows) (meter : ℕ) (datagram : List ℕ) (told : RowNews) → RowsHear old meter datagram told new → IsHead (record { book = book; width = width; rows = old }) → IsHead (record { book = book; width = width; rows = new })
+head_heard book width old new meter datagram told hears is =
+    head_kept book width old new (agree_heard old new meter datagram told hears) is
+
+-- and the name of its row
+pub name_heard : (old new : Rows) (meter : ℕ) (datagram : List ℕ) (told : RowNews) (row : Row) → RowsHear old meter datagram told new → row_of old meter ≡ Some row → (r : Row) × (row_of new meter ≡ Some r) × (r.name ≡ row.name)
+name_heard old new meter datagram told row hears found =
+    let P : Option Row → Type 0 = λ o. Agree o (row_of new meter) in
+    let now = forth row (row_of new meter) (subst P found (agree_heard old new meter datagram told hears meter)) in
+    (now.0, now.1, now.2.name)

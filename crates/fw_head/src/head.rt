@@ -189,6 +189,7 @@ impl HeadCore {
 // A row that ends here was live in the book, so that its end is marked.
 fn expect_marked(marked: Result<(), BookError>)
     requires { IsOk marked }
+    ensures { IsOk marked }
 {
     match marked {
         Ok(()) => {}

@@ -1,11 +1,12 @@
-use Rattle.fw_head.proofs.Ended.{elsewhere, taken_out}
-use Rattle.fw_head.proofs.Marks.{other_state}
-use Rattle.std.proofs.Common.{◌≡◌, Some, sym, ap, ◌∙◌}
+use Rattle.std.proofs.Common.{◌≡◌, Some, refl, sym, ap, ◌∙◌}
 use Rattle.std.specs.Option.{option_copied}
 use Rattle.fw_names.specs.Name.{Name}
+use Rattle.fw_book.specs.declared.row.RowState.TheVariants.{Done, Failed}
+use Rattle.fw_book.specs.Changes.{marked}
 use Rattle.fw_head.specs.Head.{row_of}
-use Rattle.fw_head.proofs.Offers.{is_marked}
-use Rattle.fw_head.proofs.SameRows.{head_heard}
+use Rattle.fw_head.proofs.Offers.{is_marked, claim_meter}
+use Rattle.fw_head.proofs.Endings.{head_ended_by, of_ok}
+use Rattle.fw_head.proofs.SameRows.{head_heard, name_heard}
 use Rattle.fw_head.proofs.head.HeadCore.hear.Goals as goal
 
 pub invariant_of-self-in-Nothing : goal.invariant_of-self-in-Nothing
@@ -22,3 +23,27 @@ expect_marked-requires c =
     let found : row_of c.self.inside.rows.rows.entries c.args.from ≡ Some row = sym c.get.ensures ∙ ap option_copied c.in-Some.is in
     is_marked c.self.inside.book c.args.from row c.campaign.inside.campaign c.in_ok-hear.field-0 c.in-Done.claim c.mark_done.result
     (c.self.invariant.of_book c.args.from row found) (ap (λ (n : Name). n.campaign) (c.campaign.view_is ∙ c.name.ensures)) c.in-Done.is (c.in_ok-hear.ensures.claimed row found) c.mark_done.ensures.refused
+
+pub invariant_of-self-in-Failed : goal.invariant_of-self-in-Failed
+invariant_of-self-in-Failed c =
+    let row = c.in-Some.row.now in
+    let rows = c.hear.new.self.rows.entries in
+    let found : row_of c.self.inside.rows.rows.entries c.args.from ≡ Some row = sym c.get.ensures ∙ ap option_copied c.in-Some.is in
+    let now = name_heard c.self.inside.rows.rows.entries rows c.args.from c.args.datagram.now c.in_ok-hear.field-0 row c.in_ok-hear.ensures.heard found in
+    let is = head_heard c.self.inside.book c.self.inside.width c.self.inside.rows.rows.entries rows c.args.from c.args.datagram.now c.in_ok-hear.field-0 c.in_ok-hear.ensures.heard c.self.invariant in
+    let of : c.campaign.inside.campaign.serial ≡ now.0.name.campaign.serial = ap (λ (n : Name). n.campaign.serial) (c.campaign.view_is ∙ c.name.ensures ∙ sym now.2) in
+    let mark = of_ok c.mark_failed.result _ c.expect_marked-in-Failed.ensures c.mark_failed.ensures.failed in
+    head_ended_by c.self.inside.book c.mark_failed.new.self c.self.inside.width rows c.end-in-Failed.new.self.rows.entries c.args.from now.0 c.campaign.inside.campaign.serial Failed refl now.1 of mark c.end-in-Failed.ensures is
+
+pub invariant_of-self-in-Done : goal.invariant_of-self-in-Done
+invariant_of-self-in-Done c =
+    let row = c.in-Some.row.now in
+    let rows = c.hear.new.self.rows.entries in
+    let found : row_of c.self.inside.rows.rows.entries c.args.from ≡ Some row = sym c.get.ensures ∙ ap option_copied c.in-Some.is in
+    let now = name_heard c.self.inside.rows.rows.entries rows c.args.from c.args.datagram.now c.in_ok-hear.field-0 row c.in_ok-hear.ensures.heard found in
+    let is = head_heard c.self.inside.book c.self.inside.width c.self.inside.rows.rows.entries rows c.args.from c.args.datagram.now c.in_ok-hear.field-0 c.in_ok-hear.ensures.heard c.self.invariant in
+    let of : c.campaign.inside.campaign.serial ≡ now.0.name.campaign.serial = ap (λ (n : Name). n.campaign.serial) (c.campaign.view_is ∙ c.name.ensures ∙ sym now.2) in
+    let mark = of_ok c.mark_done.result _ c.expect_marked.ensures c.mark_done.ensures.done in
+    let meter = claim_meter c.args.from row c.in_ok-hear.field-0 c.in-Done.claim (c.self.invariant.of_book c.args.from row found) c.in-Done.is (c.in_ok-hear.ensures.claimed row found) in
+    let at_meter = ap (λ m. marked c.self.inside.book c.campaign.inside.campaign.serial m Done) meter in
+    head_ended_by c.self.inside.book c.mark_done.new.self c.self.inside.width rows c.end.new.self.rows.entries c.args.from now.0 c.campaign.inside.campaign.serial Done refl now.1 of (mark ∙ at_meter) c.end.ensures is
