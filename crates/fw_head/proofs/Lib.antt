@@ -8,3 +8,4 @@ pub mod Offers
 pub mod Ended
 pub mod Marks
 pub mod Endings
+pub mod TakenOut

@@ -52,7 +52,7 @@ pub changed_at : (key meter : ℕ) (change : Row → Row) (old new : Rows) (row 
 changed_at key meter change old new row written same found write set =
     changed_row key change old new row written found write set ∙ ap (λ k. at_meter k change old) same
 
-at_meter-same : (meter : ℕ) (rows : Rows) → at_meter meter (λ row. row) rows ≡ rows
+pub at_meter-same : (meter : ℕ) (rows : Rows) → at_meter meter (λ row. row) rows ≡ rows
 at_meter-same meter [] = refl
 at_meter-same meter (entry ∷ entries) =
     let one : Rows = (entry.0, entry.1) ∷ entries in
