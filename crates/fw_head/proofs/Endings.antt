@@ -24,7 +24,7 @@ row_stays book serial meter state m row apart is =
       asks = is.asks;
       live = state_stays book serial meter state row.name.campaign m apart ∙ is.live;
       named = ap (λ (o : Option (List ℕ)). option_map (λ (bytes : List ℕ). name_of row.name.campaign bytes) o) image ∙ is.named;
-      sized = ap (λ (o : Option (List ℕ)). option_map length o) image ∙ is.sized
+      sized = ap (λ (o : Option (List ℕ)). option_map length o) image ∙ is.sized;
     }
 
 -- no campaign has the meter live then
@@ -59,7 +59,7 @@ head_ended book width rows meter row serial state ended found of is = record {
       let apart : ¬ (m ≡ meter) = λ same. false≢true (sym other ∙ (Decides-eqb m meter).1 same) in
       let was = is.of_rows c m (sym (state_stays book serial meter state c m apart) ∙ live) in
       (was.0, elsewhere meter m rows apart ∙ was.1, was.2))
-      (cases_Bool (m == meter))
+      (cases_Bool (m == meter));
 }
 
 -- the same for a book and rows that equal these

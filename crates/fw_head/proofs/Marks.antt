@@ -165,6 +165,6 @@ pub is_ended : (book : Contents) (serial meter : ℕ) (state : RowState) (c : Ca
 is_ended book serial meter state c same ended =
     let entries = at_serial serial (with_state meter state) book.campaigns in
     let is : lookup (nat_eq c.serial) entries ≡ option_map (changed (with_state meter state)) (lookup (nat_eq serial) book.campaigns) =
-        ap (λ n. lookup (nat_eq n) entries) same ∙ at_same serial (with_state meter state) book.campaigns in
+    ap (λ n. lookup (nat_eq n) entries) same ∙ at_same serial (with_state meter state) book.campaigns in
     ended_in meter (c.head == book.head) (lookup (nat_eq c.serial) entries)
     (λ live. ended_here meter state (lookup (nat_eq serial) book.campaigns) ended (ap (state_at meter) (sym is) ∙ live))

@@ -62,13 +62,13 @@ goal_heard row next datagram told (inl takes) =
     record {
       name = ap (λ (r : Row). r.name) takes.new_is ∙ kept.name;
       size = ap (λ (r : Row). r.size) takes.new_is ∙ kept.size;
-      meter = ap (λ (r : Row). r.client.meter) takes.new_is ∙ kept.meter ∙ kept_meter row.client takes.client datagram takes.heard takes.takes
+      meter = ap (λ (r : Row). r.client.meter) takes.new_is ∙ kept.meter ∙ kept_meter row.client takes.client datagram takes.heard takes.takes;
     }
 goal_heard row next datagram told (inr ignores) =
     record {
       name = ap (λ (r : Row). r.name) ignores.2;
       size = ap (λ (r : Row). r.size) ignores.2;
-      meter = ap (λ (r : Row). r.client.meter) ignores.2
+      meter = ap (λ (r : Row). r.client.meter) ignores.2;
     }
 
 -- ---- rows of the same meters for the same goals
@@ -106,13 +106,13 @@ agree_at meter change (entry ∷ entries) keeps m =
     let written : row_of (at_meter meter change rows) m ≡ row_of one m = ap (λ (es : Rows). row_of es m) new in
     ⊎_elim
     (λ it. agree_along _ (Some entry.1) _ (Some (change entry.1))
-        (cond-true (nat_eq m entry.0) (Some entry.1) (lookup (nat_eq m) entries) it)
-        (written ∙ cond-true (nat_eq m entry.0) (Some (change entry.1)) (lookup (nat_eq m) entries) it)
-        (keeps entry.1 first))
+    (cond-true (nat_eq m entry.0) (Some entry.1) (lookup (nat_eq m) entries) it)
+    (written ∙ cond-true (nat_eq m entry.0) (Some (change entry.1)) (lookup (nat_eq m) entries) it)
+    (keeps entry.1 first))
     (λ other. agree_along _ (lookup (nat_eq m) entries) _ (lookup (nat_eq m) entries)
-        (cond-false (nat_eq m entry.0) (Some entry.1) (lookup (nat_eq m) entries) other)
-        (written ∙ cond-false (nat_eq m entry.0) (Some (change entry.1)) (lookup (nat_eq m) entries) other)
-        (agree_itself (lookup (nat_eq m) entries)))
+    (cond-false (nat_eq m entry.0) (Some entry.1) (lookup (nat_eq m) entries) other)
+    (written ∙ cond-false (nat_eq m entry.0) (Some (change entry.1)) (lookup (nat_eq m) entries) other)
+    (agree_itself (lookup (nat_eq m) entries)))
     (cases_Bool (nat_eq m entry.0)))
     (λ away.
     let new : at_meter meter change rows ≡ rest = cond-false (nat_eq meter entry.0) one rest away in
@@ -120,13 +120,13 @@ agree_at meter change (entry ∷ entries) keeps m =
     let written : row_of (at_meter meter change rows) m ≡ row_of rest m = ap (λ (es : Rows). row_of es m) new in
     ⊎_elim
     (λ it. agree_along _ (Some entry.1) _ (Some entry.1)
-        (cond-true (nat_eq m entry.0) (Some entry.1) (lookup (nat_eq m) entries) it)
-        (written ∙ cond-true (nat_eq m entry.0) (Some entry.1) (lookup (nat_eq m) (at_meter meter change entries)) it)
-        (itself entry.1))
+    (cond-true (nat_eq m entry.0) (Some entry.1) (lookup (nat_eq m) entries) it)
+    (written ∙ cond-true (nat_eq m entry.0) (Some entry.1) (lookup (nat_eq m) (at_meter meter change entries)) it)
+    (itself entry.1))
     (λ other. agree_along _ (lookup (nat_eq m) entries) _ (lookup (nat_eq m) (at_meter meter change entries))
-        (cond-false (nat_eq m entry.0) (Some entry.1) (lookup (nat_eq m) entries) other)
-        (written ∙ cond-false (nat_eq m entry.0) (Some entry.1) (lookup (nat_eq m) (at_meter meter change entries)) other)
-        (agree_at meter change entries (λ row found. keeps row (later ∙ found)) m))
+    (cond-false (nat_eq m entry.0) (Some entry.1) (lookup (nat_eq m) entries) other)
+    (written ∙ cond-false (nat_eq m entry.0) (Some entry.1) (lookup (nat_eq m) (at_meter meter change entries)) other)
+    (agree_at meter change entries (λ row found. keeps row (later ∙ found)) m))
     (cases_Bool (nat_eq m entry.0)))
     (cases_Bool (nat_eq meter entry.0))
 
@@ -136,13 +136,13 @@ agree_renewed (entry ∷ entries) m =
     let new : Row = new_row entry.1.client.meter entry.1.name entry.1.size in
     ⊎_elim
     (λ it. agree_along _ (Some entry.1) _ (Some new)
-        (cond-true (nat_eq m entry.0) (Some entry.1) (lookup (nat_eq m) entries) it)
-        (cond-true (nat_eq m entry.0) (Some new) (lookup (nat_eq m) (renewed entries)) it)
-        (record { name = refl; size = refl; meter = refl }))
+    (cond-true (nat_eq m entry.0) (Some entry.1) (lookup (nat_eq m) entries) it)
+    (cond-true (nat_eq m entry.0) (Some new) (lookup (nat_eq m) (renewed entries)) it)
+    (record { name = refl; size = refl; meter = refl }))
     (λ other. agree_along _ (lookup (nat_eq m) entries) _ (lookup (nat_eq m) (renewed entries))
-        (cond-false (nat_eq m entry.0) (Some entry.1) (lookup (nat_eq m) entries) other)
-        (cond-false (nat_eq m entry.0) (Some new) (lookup (nat_eq m) (renewed entries)) other)
-        (agree_renewed entries m))
+    (cond-false (nat_eq m entry.0) (Some entry.1) (lookup (nat_eq m) entries) other)
+    (cond-false (nat_eq m entry.0) (Some new) (lookup (nat_eq m) (renewed entries)) other)
+    (agree_renewed entries m))
     (cases_Bool (nat_eq m entry.0))
 
 back : (a : Option Row) (b : Row) → Agree a (Some b) → (row : Row) × (a ≡ Some row) × SameGoal row b
@@ -160,7 +160,7 @@ row_kept book meter a b same is =
       asks = same.meter ∙ is.asks;
       live = subst P (sym same.name) is.live;
       named = rw same.name is.named;
-      sized = rw (same.name, same.size) is.sized
+      sized = rw (same.name, same.size) is.sized;
     }
 
 pub head_kept : (book : Contents) (width : ℕ) (old new : Rows) → ((m : ℕ) → Agree (row_of old m) (row_of new m)) → IsHead (record { book = book; width = width; rows = old }) → IsHead (record { book = book; width = width; rows = new })
@@ -174,7 +174,7 @@ head_kept book width old new agree is =
       of_rows = λ campaign m live.
           let was = is.of_rows campaign m live in
           let now = forth was.0 (row_of new m) (subst (Q m) was.1 (agree m)) in
-          (now.0, now.1, ap (λ (n : Name). n.campaign) now.2.name ∙ was.2)
+          (now.0, now.1, ap (λ (n : Name). n.campaign) now.2.name ∙ was.2);
     }
 
 -- the same for rows that equal the new ones

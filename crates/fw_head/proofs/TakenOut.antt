@@ -53,18 +53,26 @@ hears_nothing head new meter datagram rows row told (inl (a, b, found, inl takes
 hears_nothing head new meter datagram rows row told (inl (a, b, found, inr ignores, e)) at is tell =
     let same = at_meter-alike meter (λ (r : Row). b) (λ (r : Row). r) head.rows a found ignores.2 ∙ at_meter-same meter head.rows in
     inl (record {
-      row = a; next = b; heard = Nothing; found = found; hears = inr ignores;
+      row = a;
+      next = b;
+      heard = Nothing;
+      found = found;
+      hears = inr ignores;
       new_is = is ∙ ap (λ (rs : Rows). (let h : Head = record head { rows = rs } in h)) (e ∙ same);
-      told_is = tell
+      told_is = tell;
     })
 hears_nothing head new meter datagram rows row told (inr x) at is tell = absurd (none_some row (sym x.0 ∙ at))
 
 pub hears_moved : (head new : Head) (meter : ℕ) (datagram : List ℕ) (rows : Rows) (row : Row) (told : News) → RowsHear head.rows meter datagram Moved rows → row_of head.rows meter ≡ Some row → new ≡ record head { rows = rows } → told ≡ news.Moved → HeadHears head meter datagram told new
 hears_moved head new meter datagram rows row told (inl x) at is tell =
     inl (record {
-      row = x.0; next = x.1; heard = Moved; found = x.2; hears = x.3;
+      row = x.0;
+      next = x.1;
+      heard = Moved;
+      found = x.2;
+      hears = x.3;
       new_is = is ∙ ap (λ (rs : Rows). (let h : Head = record head { rows = rs } in h)) x.4;
-      told_is = tell
+      told_is = tell;
     })
 hears_moved head new meter datagram rows row told (inr x) at is tell = absurd (none_some row (sym x.0 ∙ at))
 
@@ -82,9 +90,13 @@ pub hears_done : (head new : Head) (meter : ℕ) (datagram : List ℕ) (rows : R
 hears_done head new meter datagram rows row told claim campaign (inl x) at of is tell =
     let it : x.0 ≡ row = same_found meter meter head.rows x.0 row refl x.2 at in
     inl (record {
-      row = x.0; next = x.1; heard = by.Done claim; found = x.2; hears = x.3;
+      row = x.0;
+      next = x.1;
+      heard = by.Done claim;
+      found = x.2;
+      hears = x.3;
       new_is = is ∙ ends head meter campaign.serial states.Done rows x.0 x.1 row it (goal_heard x.0 x.1 datagram (by.Done claim) x.3) (ap (λ (c : Campaign). c.serial) of) x.4;
-      told_is = tell ∙ ap (λ (c : Campaign). (let n : News = news.Done c meter in n)) (of ∙ ap (λ (r : Row). r.name.campaign) (sym it))
+      told_is = tell ∙ ap (λ (c : Campaign). (let n : News = news.Done c meter in n)) (of ∙ ap (λ (r : Row). r.name.campaign) (sym it));
     })
 hears_done head new meter datagram rows row told claim campaign (inr x) at of is tell = absurd (none_some row (sym x.0 ∙ at))
 
@@ -92,8 +104,12 @@ pub hears_failed : (head new : Head) (meter : ℕ) (datagram : List ℕ) (rows :
 hears_failed head new meter datagram rows row told campaign (inl x) at of is tell =
     let it : x.0 ≡ row = same_found meter meter head.rows x.0 row refl x.2 at in
     inl (record {
-      row = x.0; next = x.1; heard = by.Failed; found = x.2; hears = x.3;
+      row = x.0;
+      next = x.1;
+      heard = by.Failed;
+      found = x.2;
+      hears = x.3;
       new_is = is ∙ ends head meter campaign.serial states.Failed rows x.0 x.1 row it (goal_heard x.0 x.1 datagram by.Failed x.3) (ap (λ (c : Campaign). c.serial) of) x.4;
-      told_is = tell ∙ ap (λ (c : Campaign). (let n : News = news.Failed c meter in n)) (of ∙ ap (λ (r : Row). r.name.campaign) (sym it))
+      told_is = tell ∙ ap (λ (c : Campaign). (let n : News = news.Failed c meter in n)) (of ∙ ap (λ (r : Row). r.name.campaign) (sym it));
     })
 hears_failed head new meter datagram rows row told campaign (inr x) at of is tell = absurd (none_some row (sym x.0 ∙ at))

@@ -1,9 +1,9 @@
-use Rattle.std.proofs.Common.{◌≡◌, ℕ, ◌-◌, List, [], ◌∷◌, ◌++◌, length, map, refl, ap, sym, ◌∙◌, arith, rules}
+use Rattle.std.proofs.Common.{◌≡◌, ℕ, ◌-◌, List, ◌∷◌, ◌++◌, length, map, refl, ap, arith, rules}
 use Rattle.std.specs.Global.{Vec}
 use Rattle.fw_apdu.specs.Request.{request_bytes}
 use Rattle.fw_wrapper.specs.Wrapper.{wrapped}
-use Rattle.fw_client.specs.Ask.{Ask, request_of}
-use Rattle.fw_client.specs.State.{State, invoke_byte}
+use Rattle.fw_client.specs.Ask.{request_of}
+use Rattle.fw_client.specs.State.{invoke_byte}
 use Rattle.fw_head.specs.Phase.{block_ask}
 use Rattle.fw_head.specs.Row.{bytes_of, datagrams}
 use Rattle.fw_head.proofs.FreeIds.{none_lately}

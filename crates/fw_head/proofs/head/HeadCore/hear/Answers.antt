@@ -1,9 +1,8 @@
-use Rattle.std.proofs.Common.{◌≡◌, Some, ℕ, refl, sym, ap, subst, ◌∙◌}
+use Rattle.std.proofs.Common.{◌≡◌, Some, refl, sym, ap, subst, ◌∙◌}
 use Rattle.std.specs.Option.{option_copied}
 use Rattle.fw_names.specs.Name.{Name}
 use Rattle.fw_book.specs.declared.row.RowState.TheVariants.{Done, Failed}
 use Rattle.fw_book.specs.Changes.{marked}
-use Rattle.fw_names.specs.Name.{Campaign}
 use Rattle.fw_head.specs.declared.news.RowNews.{RowNews}
 use Rattle.fw_head.specs.Head.{Head, Rows, RowsHear, HeadHears, row_of, without_meter}
 use Rattle.fw_head.proofs.Offers.{is_marked, claim_meter}

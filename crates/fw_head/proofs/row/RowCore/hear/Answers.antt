@@ -1,5 +1,4 @@
 use Rattle.std.proofs.Common.{◌≡◌, inl, inr, refl, sym, ap, ◌∙◌, subst}
-use Rattle.fw_client.specs.State.{State}
 use Rattle.fw_head.specs.Phase.{Leads}
 use Rattle.fw_head.specs.Row.{Row, RowTakes, news_in, stepped}
 use Rattle.fw_head.proofs.Heard.{strange_to, taken, taken_by, of_asked}

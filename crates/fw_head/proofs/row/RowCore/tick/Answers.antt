@@ -1,5 +1,5 @@
 use Rattle.std.proofs.Common.{◌≡◌, ap, ◌∙◌}
-use Rattle.fw_client.specs.State.{State, forgetting}
+use Rattle.fw_client.specs.State.{State}
 use Rattle.fw_head.specs.Row.{tick_asks}
 use Rattle.fw_head.proofs.Sending.{same_meter}
 use Rattle.fw_head.proofs.row.RowCore.tick.Goals as goal
