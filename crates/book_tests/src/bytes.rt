@@ -34,20 +34,11 @@ const GOOD: &[(&str, &str)] = &[
 
 /// Bytes that are no book's, and why.
 const BAD: &[(&str, &str)] = &[
-    ("", "no byte"),
-    (
-        "4657423200000007000000010000000361626300010000000100",
-        "another form",
-    ),
+    ("4757423100000007", "another first byte"),
+    ("4658423100000007", "another second byte"),
+    ("4657433100000007", "another third byte"),
+    ("4657423200000007", "another fourth byte"),
     ("4657423100000000", "head end 0"),
-    (
-        "46574231000000",
-        "a byte of the head end's number is missing",
-    ),
-    (
-        "4657423100000007000000",
-        "a byte of the serial number is missing",
-    ),
     (
         "4657423100000007000000000000000361626300010000000100",
         "serial number 0",
@@ -56,30 +47,14 @@ const BAD: &[(&str, &str)] = &[
         "4657423100000007000000010000000000010000000100",
         "an empty image",
     ),
-    (
-        "4657423100000007000000010040000161626300010000000100",
-        "an image of 4,194,305 bytes, of which most are missing",
-    ),
-    (
-        "465742310000000700000001000000036162",
-        "a byte of the image is missing",
-    ),
     ("465742310000000700000001000000036162630000", "no meters"),
-    (
-        "4657423100000007000000010000000361626301010000000100",
-        "257 meters, of which most are missing",
-    ),
-    (
-        "4657423100000007000000010000000361626300020000000100",
-        "the second of two meters is missing",
-    ),
-    (
-        "46574231000000070000000100000003616263000100000001",
-        "a state is missing",
-    ),
     (
         "4657423100000007000000010000000361626300010000000104",
         "state 4",
+    ),
+    (
+        "46574231000000070000000100000003616263000100000001ff",
+        "state 255",
     ),
     (
         "46574231000000070000000100000003616263000200000001010000000102",
@@ -106,6 +81,38 @@ fn read_again(alloc: Global, text: &str) -> Result<Result<String, BookError>, Fa
         Ok(book) => Ok(hex::encode(alloc, book.write(alloc)?.as_slice())?),
         Err(error) => Err(error),
     })
+}
+
+// How many of the first bytes are a book's too. Each other number of them is refused as no book's.
+fn books_within(alloc: Global, text: &str) -> Result<Vec<usize>, Fail> {
+    let bytes = hex::decode(alloc, text)?;
+    let mut sizes = Vec::new(alloc);
+    for size in 0..bytes.len() + 1 {
+        match Book::read(alloc, &bytes.as_slice()[..size]) {
+            Ok(_book) => sizes.push(size)?,
+            Err(BookError::BadBook) => {}
+            Err(_) => return Err(Fail::from("another refusal")),
+        }
+    }
+    Ok(sizes)
+}
+
+// Whether a book is read of one campaign with an image of so many bytes for so many meters, each of which has ended.
+fn is_read(alloc: Global, image: u32, meters: u16) -> Result<bool, Fail> {
+    let mut bytes = hex::decode(alloc, "465742310000000700000001")?;
+    bytes.extend_from_slice(&image.to_be_bytes())?;
+    let zeros = vec![in alloc; 0u8; image as usize]?;
+    bytes.extend_from_slice(zeros.as_slice())?;
+    bytes.extend_from_slice(&meters.to_be_bytes())?;
+    for meter in 0..meters {
+        bytes.extend_from_slice(&u32::from(meter).to_be_bytes())?;
+        bytes.push(3)?;
+    }
+    match Book::read(alloc, bytes.as_slice()) {
+        Ok(_book) => Ok(true),
+        Err(BookError::BadBook) => Ok(false),
+        Err(_) => Err(Fail::from("another refusal")),
+    }
 }
 
 // The first of the books that isn't read back, by what is in it.
@@ -170,5 +177,23 @@ fn books_are_read_back(rt: HostRuntime) -> Result<(), Fail> {
 #[test]
 fn what_is_no_book_is_refused(rt: HostRuntime) -> Result<(), Fail> {
     assert_eq!(rt; first_taken(rt.alloc(), BAD)?, "");
+    Ok(())
+}
+
+#[test]
+fn a_book_ends_behind_a_campaign(rt: HostRuntime) -> Result<(), Fail> {
+    // 8 bytes, 23 of the first campaign, 18 of the second
+    assert_eq!(rt;
+        books_within(rt.alloc(), TWO)?.as_slice(),
+        [8, 31, 49].as_slice()
+    );
+    Ok(())
+}
+
+#[test]
+fn limits_of_a_book(rt: HostRuntime) -> Result<(), Fail> {
+    assert!(rt; is_read(rt.alloc(), 4_194_304, 256)?);
+    assert!(rt; !is_read(rt.alloc(), 4_194_305, 1)?);
+    assert!(rt; !is_read(rt.alloc(), 1, 257)?);
     Ok(())
 }

@@ -1,8 +1,7 @@
 //! How rows end, and what is left of a campaign.
 
-use crate::session::{Call, campaign, fresh, last_refusal, refusal};
+use crate::session::{Call, after, campaign, last_refusal, meter};
 use fw_book::{BookError, RowState};
-use fw_names::MeterId;
 use std::alloc::Global;
 use std::test::Fail;
 
@@ -20,6 +19,15 @@ const REFUSED: &[(&[Call], BookError)] = &[
     ),
     (
         &[Call::Open(7, 1, b"abc", &[1]), Call::Fail(1, 2)],
+        BookError::NoSuchCampaign,
+    ),
+    // a campaign of another head end is none of this book's
+    (
+        &[Call::Open(7, 1, b"abc", &[1]), Call::CancelOther(1)],
+        BookError::NoSuchCampaign,
+    ),
+    (
+        &[Call::Open(7, 1, b"abc", &[1]), Call::FailOther(1, 1)],
         BookError::NoSuchCampaign,
     ),
     (
@@ -71,16 +79,9 @@ fn state_after(
     alloc: Global,
     calls: &[Call],
     serial: u32,
-    meter: u32,
+    number: u32,
 ) -> Result<Option<RowState>, Fail> {
-    let mut book = fresh(alloc)?;
-    for call in calls {
-        if refusal(alloc, &mut book, call)?.is_some() {
-            return Err(Fail::from("a call was refused"));
-        }
-    }
-    let meter = MeterId::new(meter).ok_or("every number is a meter's")?;
-    Ok(book.state(campaign(7, serial)?, meter))
+    Ok(after(alloc, calls)?.state(campaign(7, serial)?, meter(number)?))
 }
 
 #[test]

@@ -11,3 +11,5 @@ mod ends;
 mod openings;
 #[cfg(test)]
 mod session;
+#[cfg(test)]
+mod views;

@@ -24,6 +24,13 @@ const REFUSED: &[(&[Call], BookError)] = &[
         &[Call::Open(7, 1, b"abc", &[1]), Call::Open(7, 1, b"", &[])],
         BookError::SerialUsed,
     ),
+    (
+        &[
+            Call::Open(7, 1, b"abc", &[1]),
+            Call::Open(7, 1, b"abc", &[1]),
+        ],
+        BookError::SerialUsed,
+    ),
     (&[Call::Open(7, 1, b"", &[1])], BookError::EmptyImage),
     (&[Call::Open(7, 1, b"", &[])], BookError::EmptyImage),
     (&[Call::Open(7, 1, b"abc", &[])], BookError::NoMeters),
@@ -85,12 +92,12 @@ fn first_other(alloc: Global, rows: &[(&[Call], BookError)]) -> Result<Option<us
     Ok(None)
 }
 
-// What an image of so many bytes is refused for, for so many meters.
-fn sized(alloc: Global, bytes: usize, count: u32) -> Result<Option<BookError>, Fail> {
+// What an image of so many bytes is refused for, for so many meters, whose numbers go round after so many.
+fn sized(alloc: Global, bytes: usize, count: u32, round: u32) -> Result<Option<BookError>, Fail> {
     let image = vec![in alloc; 0u8; bytes]?;
     let mut numbers = Vec::new(alloc);
     for number in 0..count {
-        numbers.push(number)?;
+        numbers.push(number.checked_rem(round).unwrap_or(number))?;
     }
     let meters = meters(alloc, numbers.as_slice())?;
     let mut book = fresh(alloc)?;
@@ -116,12 +123,28 @@ fn ended_rows_free_their_meters(rt: HostRuntime) -> Result<(), Fail> {
 
 #[test]
 fn limits_of_an_opening(rt: HostRuntime) -> Result<(), Fail> {
-    assert_eq!(rt; sized(rt.alloc(), 4_194_304, 256)?, None);
+    assert_eq!(rt; sized(rt.alloc(), 4_194_304, 256, 256)?, None);
     assert_eq!(rt;
-        sized(rt.alloc(), 4_194_305, 0)?,
+        sized(rt.alloc(), 4_194_305, 1, 1)?,
         Some(BookError::ImageTooLong)
     );
-    assert_eq!(rt; sized(rt.alloc(), 1, 257)?, Some(BookError::TooManyMeters));
+    assert_eq!(rt;
+        sized(rt.alloc(), 4_194_305, 0, 1)?,
+        Some(BookError::ImageTooLong)
+    );
+    assert_eq!(rt;
+        sized(rt.alloc(), 1, 257, 257)?,
+        Some(BookError::TooManyMeters)
+    );
+    // too many meters is told before that one of them is named twice
+    assert_eq!(rt;
+        sized(rt.alloc(), 1, 257, 1)?,
+        Some(BookError::TooManyMeters)
+    );
+    assert_eq!(rt;
+        sized(rt.alloc(), 1, 256, 255)?,
+        Some(BookError::MeterTwice)
+    );
     Ok(())
 }
 

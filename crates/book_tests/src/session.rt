@@ -12,8 +12,12 @@ pub(crate) enum Call {
     Open(u32, u32, &'static [u8], &'static [u32]),
     /// Cancels the campaign of this serial number.
     Cancel(u32),
-    /// Marks a meter of it as failed.
+    /// Cancels a campaign of another head end with this serial number.
+    CancelOther(u32),
+    /// Marks a meter of the campaign of this serial number as failed.
     Fail(u32, u32),
+    /// Marks a meter of a campaign of another head end as failed.
+    FailOther(u32, u32),
 }
 
 /// The campaign of these numbers.
@@ -22,11 +26,16 @@ pub(crate) fn campaign(head: u32, serial: u32) -> Result<CampaignId, Fail> {
     Ok(CampaignId::new(head, serial).ok_or("a serial number begins at 1")?)
 }
 
+/// The meter of this number.
+pub(crate) fn meter(number: u32) -> Result<MeterId, Fail> {
+    Ok(MeterId::new(number).ok_or("every number is a meter's")?)
+}
+
 /// The meters of these numbers.
 pub(crate) fn meters(alloc: Global, numbers: &[u32]) -> Result<Vec<MeterId>, Fail> {
     let mut meters = Vec::new(alloc);
     for number in numbers {
-        meters.push(MeterId::new(*number).ok_or("every number is a meter's")?)?;
+        meters.push(meter(*number)?)?;
     }
     Ok(meters)
 }
@@ -53,10 +62,13 @@ pub(crate) fn refusal(
             )
             .err(),
         Call::Cancel(serial) => book.cancel(campaign(7, *serial)?).err(),
-        Call::Fail(serial, meter) => {
-            let meter = MeterId::new(*meter).ok_or("every number is a meter's")?;
-            book.mark_failed(campaign(7, *serial)?, meter).err()
-        }
+        Call::CancelOther(serial) => book.cancel(campaign(8, *serial)?).err(),
+        Call::Fail(serial, number) => book
+            .mark_failed(campaign(7, *serial)?, meter(*number)?)
+            .err(),
+        Call::FailOther(serial, number) => book
+            .mark_failed(campaign(8, *serial)?, meter(*number)?)
+            .err(),
     })
 }
 
@@ -77,13 +89,19 @@ pub(crate) fn last_refusal(alloc: Global, calls: &[Call]) -> Result<Option<BookE
     Ok(last)
 }
 
-/// The bytes of the book after the calls, in hexadecimal.
-pub(crate) fn written(alloc: Global, calls: &[Call]) -> Result<String, Fail> {
+/// The book after the calls, of which none is refused.
+pub(crate) fn after(alloc: Global, calls: &[Call]) -> Result<Book, Fail> {
     let mut book = fresh(alloc)?;
     for call in calls {
         if refusal(alloc, &mut book, call)?.is_some() {
             return Err(Fail::from("a call was refused"));
         }
     }
+    Ok(book)
+}
+
+/// The bytes of the book after the calls, in hexadecimal.
+pub(crate) fn written(alloc: Global, calls: &[Call]) -> Result<String, Fail> {
+    let book = after(alloc, calls)?;
     Ok(hex::encode(alloc, book.write(alloc)?.as_slice())?)
 }

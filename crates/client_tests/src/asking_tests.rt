@@ -8,10 +8,7 @@ use std::test::Fail;
 
 /// GET of attributes 2, 4, 3, 6 and 7 of class 18, 0-0:44.0.0.255, and of attribute 2 of class 1, 1-0:0.2.0.255.
 const READS: [Step; 6] = [
-    Step::Asks(
-        Ask::BlockSize,
-        "000100010001000dc001c0001200002c0000ff0200",
-    ),
+    Step::Asks(Ask::BlockSize, "000100010001000dc001c0001200002c0000ff0200"),
     Step::Asks(
         Ask::FirstMissing,
         "000100010001000dc001c1001200002c0000ff0400",

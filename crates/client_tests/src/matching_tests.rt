@@ -6,10 +6,7 @@ use std::test::Fail;
 
 /// Values of the types of what is asked, each behind one of another type or of another service.
 const NUMBERS: [Step; 6] = [
-    Step::Asks(
-        Ask::BlockSize,
-        "000100010001000dc001c0001200002c0000ff0200",
-    ),
+    Step::Asks(Ask::BlockSize, "000100010001000dc001c0001200002c0000ff0200"),
     // a long-unsigned
     Step::Hears("0001000100010007c401c000120002", Want::Stranger),
     Step::Hears("0001000100010009c401c0000600000400", Want::Number(1024)),
@@ -19,7 +16,10 @@ const NUMBERS: [Step; 6] = [
     ),
     // a double-long
     Step::Hears("0001000100010009c401c1000500000002", Want::Stranger),
-    Step::Hears("0001000100010009c401c10006ffffffff", Want::Number(4_294_967_295)),
+    Step::Hears(
+        "0001000100010009c401c10006ffffffff",
+        Want::Number(4_294_967_295),
+    ),
 ];
 
 #[test]
@@ -110,7 +110,11 @@ const INFOS: &[(&str, Want)] = &[
 #[test]
 fn infos(rt: HostRuntime) -> Result<(), Fail> {
     for (datagram, want) in INFOS {
-        let mut client = asked(&rt, &Ask::Info, "000100010001000dc001c0001200002c0000ff0700")?;
+        let mut client = asked(
+            &rt,
+            &Ask::Info,
+            "000100010001000dc001c0001200002c0000ff0700",
+        )?;
         hears(&rt, &mut client, datagram, want)?;
     }
     Ok(())
@@ -130,7 +134,10 @@ const NAMES: &[(&str, Want)] = &[
     // the factory's
     (
         "000100010001002fc401c0000929010000000000000000ba7816bf8f01cfea414140de5dae2223b00361a396177a9cb410ff61f20015ad",
-        Want::Active(1, "010000000000000000ba7816bf8f01cfea414140de5dae2223b00361a396177a9cb410ff61f20015ad"),
+        Want::Active(
+            1,
+            "010000000000000000ba7816bf8f01cfea414140de5dae2223b00361a396177a9cb410ff61f20015ad",
+        ),
     ),
     // a campaign without a serial number
     (
@@ -173,14 +180,17 @@ const CODES: [Step; 6] = [
         Ask::ActiveName,
         "000100010001000dc001c000010100000200ff0200",
     ),
-    Step::Hears("0001000100010005c401c00100", Want::Code(Asked::ActiveName, 0)),
+    Step::Hears(
+        "0001000100010005c401c00100",
+        Want::Code(Asked::ActiveName, 0),
+    ),
     Step::Asks(Ask::Info, "000100010001000dc001c1001200002c0000ff0700"),
     Step::Hears("0001000100010005c401c10103", Want::Code(Asked::Info, 3)),
-    Step::Asks(
-        Ask::BlockSize,
-        "000100010001000dc001c2001200002c0000ff0200",
+    Step::Asks(Ask::BlockSize, "000100010001000dc001c2001200002c0000ff0200"),
+    Step::Hears(
+        "0001000100010005c401c201fa",
+        Want::Code(Asked::BlockSize, 250),
     ),
-    Step::Hears("0001000100010005c401c201fa", Want::Code(Asked::BlockSize, 250)),
 ];
 
 #[test]
@@ -209,7 +219,10 @@ const CHANGED: [Step; 16] = [
         "000100010001000fc301c2001200002c0000ff04010f00",
     ),
     // with return parameters, a value and then a code
-    Step::Hears("0001000100010008c701c20201001101", Want::Code(Asked::Activate, 2)),
+    Step::Hears(
+        "0001000100010008c701c20201001101",
+        Want::Code(Asked::Activate, 2),
+    ),
     Step::Asks(
         Ask::Block {
             number: 7,

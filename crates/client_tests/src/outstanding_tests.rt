@@ -1,7 +1,7 @@
 //! Which asks are outstanding, and which datagrams are strangers'.
 
-use crate::session::{ABC_NAME, Step, Want, session};
-use fw_client::{Ask, AskError, Asked, Client};
+use crate::session::{ABC_NAME, Step, Want, hears, session};
+use fw_client::{Ask, AskError, Asked, Client, OutOfMemory};
 use fw_names::MeterId;
 use std::test::Fail;
 
@@ -27,13 +27,29 @@ fn answered_once(rt: HostRuntime) -> Result<(), Fail> {
     )
 }
 
+/// A claim is of the client's own meter.
+#[test]
+fn another_meter(rt: HostRuntime) -> Result<(), Fail> {
+    let mut client = Client::new(MeterId::new(4_294_967_295).expect(&rt, "a meter"));
+    client.ask(rt.alloc(), &Ask::ActiveName)?;
+    hears(
+        &rt,
+        &mut client,
+        NAME,
+        &Want::Active(4_294_967_295, ABC_NAME),
+    )
+}
+
 #[test]
 fn answered_by_a_code(rt: HostRuntime) -> Result<(), Fail> {
     session(
         &rt,
         &[
             ASKED_NAME,
-            Step::Hears("0001000100010005c401c00103", Want::Code(Asked::ActiveName, 3)),
+            Step::Hears(
+                "0001000100010005c401c00103",
+                Want::Code(Asked::ActiveName, 3),
+            ),
             Step::Hears(NAME, Want::Stranger),
         ],
     )
@@ -107,6 +123,7 @@ fn sixteen_asks(rt: HostRuntime) -> Result<(), Fail> {
         assert_eq!(rt; datagram.as_slice().get(10), Some(&invoke));
     }
     assert!(rt; matches!(client.ask(rt.alloc(), &Ask::Status), Err(AskError::AllBusy)));
+    assert!(rt; matches!(client.ask(rt.alloc(), &Ask::Status), Err(AskError::AllBusy)));
     client.forget();
     let datagram = client.ask(rt.alloc(), &Ask::Status)?;
     assert_eq!(rt; datagram.as_slice().get(10), Some(&0xc0));
@@ -116,29 +133,65 @@ fn sixteen_asks(rt: HostRuntime) -> Result<(), Fail> {
 /// Answers come in any order, each to the ask of its id. An ask can't pass one that is outstanding, also where others aren't.
 const OUT_OF_ORDER: [Step; 23] = [
     ASKED_NAME,
-    Step::Asks(
-        Ask::BlockSize,
-        "000100010001000dc001c1001200002c0000ff0200",
-    ),
+    Step::Asks(Ask::BlockSize, "000100010001000dc001c1001200002c0000ff0200"),
     Step::Asks(
         Ask::FirstMissing,
         "000100010001000dc001c2001200002c0000ff0400",
     ),
     Step::Hears("0001000100010009c401c2000600000002", Want::Number(2)),
     Step::Hears("0001000100010009c401c1000600000400", Want::Number(1024)),
-    Step::Asks(Ask::Verify, "000100010001000fc301c3001200002c0000ff03010f00"),
-    Step::Asks(Ask::Verify, "000100010001000fc301c4001200002c0000ff03010f00"),
-    Step::Asks(Ask::Verify, "000100010001000fc301c5001200002c0000ff03010f00"),
-    Step::Asks(Ask::Verify, "000100010001000fc301c6001200002c0000ff03010f00"),
-    Step::Asks(Ask::Verify, "000100010001000fc301c7001200002c0000ff03010f00"),
-    Step::Asks(Ask::Verify, "000100010001000fc301c8001200002c0000ff03010f00"),
-    Step::Asks(Ask::Verify, "000100010001000fc301c9001200002c0000ff03010f00"),
-    Step::Asks(Ask::Verify, "000100010001000fc301ca001200002c0000ff03010f00"),
-    Step::Asks(Ask::Verify, "000100010001000fc301cb001200002c0000ff03010f00"),
-    Step::Asks(Ask::Verify, "000100010001000fc301cc001200002c0000ff03010f00"),
-    Step::Asks(Ask::Verify, "000100010001000fc301cd001200002c0000ff03010f00"),
-    Step::Asks(Ask::Verify, "000100010001000fc301ce001200002c0000ff03010f00"),
-    Step::Asks(Ask::Verify, "000100010001000fc301cf001200002c0000ff03010f00"),
+    Step::Asks(
+        Ask::Verify,
+        "000100010001000fc301c3001200002c0000ff03010f00",
+    ),
+    Step::Asks(
+        Ask::Verify,
+        "000100010001000fc301c4001200002c0000ff03010f00",
+    ),
+    Step::Asks(
+        Ask::Verify,
+        "000100010001000fc301c5001200002c0000ff03010f00",
+    ),
+    Step::Asks(
+        Ask::Verify,
+        "000100010001000fc301c6001200002c0000ff03010f00",
+    ),
+    Step::Asks(
+        Ask::Verify,
+        "000100010001000fc301c7001200002c0000ff03010f00",
+    ),
+    Step::Asks(
+        Ask::Verify,
+        "000100010001000fc301c8001200002c0000ff03010f00",
+    ),
+    Step::Asks(
+        Ask::Verify,
+        "000100010001000fc301c9001200002c0000ff03010f00",
+    ),
+    Step::Asks(
+        Ask::Verify,
+        "000100010001000fc301ca001200002c0000ff03010f00",
+    ),
+    Step::Asks(
+        Ask::Verify,
+        "000100010001000fc301cb001200002c0000ff03010f00",
+    ),
+    Step::Asks(
+        Ask::Verify,
+        "000100010001000fc301cc001200002c0000ff03010f00",
+    ),
+    Step::Asks(
+        Ask::Verify,
+        "000100010001000fc301cd001200002c0000ff03010f00",
+    ),
+    Step::Asks(
+        Ask::Verify,
+        "000100010001000fc301ce001200002c0000ff03010f00",
+    ),
+    Step::Asks(
+        Ask::Verify,
+        "000100010001000fc301cf001200002c0000ff03010f00",
+    ),
     Step::Busy(Ask::Verify),
     Step::Hears(NAME, Want::Active(1, ABC_NAME)),
     Step::Asks(Ask::Status, "000100010001000dc001c0001200002c0000ff0600"),
@@ -149,4 +202,16 @@ const OUT_OF_ORDER: [Step; 23] = [
 #[test]
 fn out_of_order(rt: HostRuntime) -> Result<(), Fail> {
     session(&rt, &OUT_OF_ORDER)
+}
+
+/// The names that the refusals print.
+#[test]
+fn printed_names(rt: HostRuntime) -> Result<(), Fail> {
+    let names = format!(in rt.alloc();
+        "{} {} {OutOfMemory}",
+        AskError::AllBusy,
+        AskError::OutOfMemory
+    )?;
+    assert_eq!(rt; names.as_str(), "AllBusy OutOfMemory OutOfMemory");
+    Ok(())
 }

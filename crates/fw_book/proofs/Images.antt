@@ -1,12 +1,13 @@
 -- That the offered images stay.
-use Rattle.std.proofs.Common.{◌≡◌, ℕ, Bool, true, false, eqb, nat_eq, cond, is_some, List, [], ◌∷◌, ◌++◌, map, Option, Some, None, refl, sym, ap, ◌∙◌}
+use Rattle.std.proofs.Common.{◌≡◌, ◌≢◌, ℕ, Bool, true, false, eqb, nat_eq, cond, is_some, List, [], ◌∷◌, ◌++◌, map, Option, Some, None, refl, sym, ap, ◌∙◌, ⊎_elim}
 use Rattle.std.specs.Map.{lookup}
 use Rattle.std.specs.Option.{option_map}
-use Rattle.std.proofs.lemmas.Bool.{false≢true, cond_both, cond-true}
+use Rattle.std.proofs.lemmas.Bool.{false≢true, cases_Bool, false_from_ne_true, cond_both, cond-true, cond-false}
 use Rattle.std.proofs.lemmas.Bool.Decides.{Decides-eqb}
 use Rattle.fw_book.specs.declared.row.Row.{Row}
 use Rattle.fw_book.specs.Rows.{live_row, with_state, cancelled_rows}
-use Rattle.fw_book.specs.Contents.{Offered}
+use Rattle.fw_names.specs.Name.{Campaign}
+use Rattle.fw_book.specs.Contents.{Offered, Contents, image_in}
 use Rattle.fw_book.specs.Changes.{opened, marked, cancelled, at_serial}
 use Rattle.fw_book.specs.Laws.{ImagesStay, OpeningOffers}
 
@@ -51,17 +52,22 @@ in_book : (b : Bool) (r r' : Option Offered) (image : List ℕ) → (image_of r 
 in_book true r r' image step h = step h
 in_book false r r' image step h = h
 
+-- a change of rows leaves what the book offers
+changed_in_book : (b : Bool) (r r' : Option Offered) → image_of r' ≡ image_of r → image_of (cond b r' None) ≡ image_of (cond b r None)
+changed_in_book true r r' e = e
+changed_in_book false r r' e = refl
+
 pub images_stay : ImagesStay
-images_stay book campaign image h = record {
-  at_opening = λ serial other meters.
+images_stay book campaign = record {
+  at_opening = λ serial image other meters h.
       in_book (eqb campaign.head book.head) (lookup (nat_eq campaign.serial) book.campaigns) (lookup (nat_eq campaign.serial) (opened book serial other meters).campaigns) image
       (added_stays campaign.serial book.campaigns (serial, record { image = other; rows = map live_row meters }) image) h;
   at_mark = λ serial meter state.
-      in_book (eqb campaign.head book.head) (lookup (nat_eq campaign.serial) book.campaigns) (lookup (nat_eq campaign.serial) (marked book serial meter state).campaigns) image
-      (λ e. changed_stays campaign.serial serial (with_state meter state) book.campaigns ∙ e) h;
+      changed_in_book (eqb campaign.head book.head) (lookup (nat_eq campaign.serial) book.campaigns) (lookup (nat_eq campaign.serial) (marked book serial meter state).campaigns)
+      (changed_stays campaign.serial serial (with_state meter state) book.campaigns);
   at_cancelling = λ serial.
-      in_book (eqb campaign.head book.head) (lookup (nat_eq campaign.serial) book.campaigns) (lookup (nat_eq campaign.serial) (cancelled book serial).campaigns) image
-      (λ e. changed_stays campaign.serial serial cancelled_rows book.campaigns ∙ e) h;
+      changed_in_book (eqb campaign.head book.head) (lookup (nat_eq campaign.serial) book.campaigns) (lookup (nat_eq campaign.serial) (cancelled book serial).campaigns)
+      (changed_stays campaign.serial serial cancelled_rows book.campaigns);
 }
 
 found_step : (b : Bool) (o : Offered) (r r' : Option Offered) (offer : Offered) → (is_some r ≡ false → r' ≡ Some offer) → is_some (cond b (Some o) r) ≡ false → cond b (Some o) r' ≡ Some offer
@@ -73,9 +79,37 @@ found_last k [] offer h = cond-true (nat_eq k k) (Some offer) None ((Decides-eqb
 found_last k (x ∷ xs) offer h =
     found_step (nat_eq k x.0) x.1 (lookup (nat_eq k) xs) (lookup (nat_eq k) (xs ++ (k, offer) ∷ [])) offer (found_last k xs offer) h
 
+-- of another serial number nothing else is found
+passed_over : (j k : ℕ) (entries : List (ℕ × Offered)) (offer : Offered) → nat_eq j k ≡ false → lookup (nat_eq j) (entries ++ (k, offer) ∷ []) ≡ lookup (nat_eq j) entries
+passed_over j k [] offer differ = cond-false (nat_eq j k) (Some offer) None differ
+passed_over j k (x ∷ xs) offer differ = ap (λ (r : Option Offered). cond (nat_eq j x.0) (Some x.1) r) (passed_over j k xs offer differ)
+
+same_campaign : (a b : Campaign) → a.head ≡ b.head → a.serial ≡ b.serial → a ≡ b
+same_campaign a b heads serials =
+    let at_head : ℕ → Campaign = λ n. record { head = n; serial = a.serial } in
+    let at_serial : ℕ → Campaign = λ n. record { head = b.head; serial = n } in
+    ap at_head heads ∙ ap at_serial serials
+
+others_stay : (book : Contents) (campaign other : Campaign) (image meters : List ℕ) → campaign.head ≡ book.head → other ≢ campaign → image_in (opened book campaign.serial image meters) other ≡ image_in book other
+others_stay book campaign other image meters same differs =
+    let offer : Offered = record { image = image; rows = map live_row meters } in
+    let before : Option Offered = lookup (nat_eq other.serial) book.campaigns in
+    let after : Option Offered = lookup (nat_eq other.serial) (book.campaigns ++ (campaign.serial, offer) ∷ []) in
+    ⊎_elim
+    (λ here.
+    let heads : other.head ≡ campaign.head = (Decides-eqb other.head book.head).0 here ∙ sym same in
+    let serials : nat_eq other.serial campaign.serial ≡ false = false_from_ne_true _ (λ t. differs (same_campaign other campaign heads ((Decides-eqb other.serial campaign.serial).0 t))) in
+    ap (λ (r : Option Offered). image_of (cond (eqb other.head book.head) r None)) (passed_over other.serial campaign.serial book.campaigns offer serials))
+    (λ elsewhere.
+    ap (λ b. image_of (cond b after None)) elsewhere ∙ sym (ap (λ b. image_of (cond b before None)) elsewhere))
+    (cases_Bool (eqb other.head book.head))
+
 pub opening_offers : OpeningOffers
 opening_offers book campaign image meters same new =
     let offer : Offered = record { image = image; rows = map live_row meters } in
-    ap (λ o. image_of o)
-    (cond-true (eqb campaign.head book.head) (lookup (nat_eq campaign.serial) (opened book campaign.serial image meters).campaigns) None ((Decides-eqb campaign.head book.head).1 same)
-    ∙ found_last campaign.serial book.campaigns offer new)
+    record {
+      own = ap (λ o. image_of o)
+          (cond-true (eqb campaign.head book.head) (lookup (nat_eq campaign.serial) (opened book campaign.serial image meters).campaigns) None ((Decides-eqb campaign.head book.head).1 same)
+          ∙ found_last campaign.serial book.campaigns offer new);
+      others = λ other differs. others_stay book campaign other image meters same differs;
+    }

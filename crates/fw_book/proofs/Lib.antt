@@ -3,3 +3,4 @@ pub mod Books
 pub mod Spellings
 pub mod Parts
 pub mod Images
+pub mod Walks

@@ -7,15 +7,12 @@ use Rattle.std.proofs.lemmas.List.{append-nil, take_more}
 use Rattle.std.proofs.lemmas.List.Concat.{flat_map-append}
 use Rattle.std.proofs.lemmas.Bool.{false≢true, cases_Bool, or_left, or_right, or_from, and_left, and_right, and_from, false_from_ne_true}
 use Rattle.std.proofs.lemmas.Bool.Decides.{Decides-eqb}
-use Rattle.fw_book.specs.declared.error.BookError.{BookError}
-use Rattle.fw_book.specs.declared.error.BookError.TheVariants.{ForeignHead, SerialUsed, EmptyImage, ImageTooLong, NoMeters, TooManyMeters, MeterTwice, MeterBusy, NoSuchCampaign, WrongCampaign, NotLive, BadBook, OutOfMemory}
 use Rattle.fw_book.specs.declared.row.Row.{Row}
 use Rattle.fw_book.specs.Rows.{is_live, is_live_in, meters_of, repeats}
 use Rattle.fw_book.specs.Contents.{Offered, Contents, has_serial, is_busy, IsEntry, Apart, AllApart, IsBook}
-use Rattle.fw_book.specs.Changes.{added}
-use Rattle.fw_book.specs.Inside.{clashes}
+use Rattle.fw_book.specs.Inside.{clashes, Admits}
 use Rattle.fw_book.specs.Format.{row_bytes, rows_bytes, counted_bytes, image_bytes, entry_bytes, entries_bytes, head_bytes, book_bytes, SpellsBook}
-use Rattle.fw_book.specs.Reading.{IfBad, IsImage, IsRows, MetersFit, NoRows, NoCounted, NoEntry, NoMore}
+use Rattle.fw_book.specs.Reading.{IsImage, IsRows, MetersFit, NoRows, NoCounted, NoEntry}
 use Rattle.fw_book.proofs.Books.{same_contents}
 use Rattle.fw_book.proofs.Spellings.{four_unique, two_unique, rows_next, image_unique, counted_unique, entry_parts, entry_unique, entries_next, head_unique}
 
@@ -100,38 +97,6 @@ pub entry_found : (bytes s t u : List ℕ) (serial : ℕ) (offer : Offered) → 
 entry_found bytes s t u serial offer a b c =
     a ∙ ap (λ (l : List ℕ). to_be_bytes w32 serial ++ l) (b ∙ ap (λ (l : List ℕ). image_bytes offer.image ++ l) c) ∙ sym (entry_parts (serial, offer) u)
 
--- the fact, of another fact that follows from it
-pub if_bad : (e : BookError) (P Q : Type 0) → (P → Q) → IfBad e P → IfBad e Q
-if_bad BadBook P Q step h = step h
-if_bad OutOfMemory P Q step h = tt
-if_bad ForeignHead P Q step h = h
-if_bad SerialUsed P Q step h = h
-if_bad EmptyImage P Q step h = h
-if_bad ImageTooLong P Q step h = h
-if_bad NoMeters P Q step h = h
-if_bad TooManyMeters P Q step h = h
-if_bad MeterTwice P Q step h = h
-if_bad MeterBusy P Q step h = h
-if_bad NoSuchCampaign P Q step h = h
-if_bad WrongCampaign P Q step h = h
-if_bad NotLive P Q step h = h
-
--- where the fact doesn't hold, memory ran out
-pub out_of_memory : (e : BookError) (P : Type 0) → (P → ⊥) → IfBad e P → e ≡ OutOfMemory
-out_of_memory BadBook P none h = absurd (none h)
-out_of_memory OutOfMemory P none h = refl
-out_of_memory ForeignHead P none h = absurd h
-out_of_memory SerialUsed P none h = absurd h
-out_of_memory EmptyImage P none h = absurd h
-out_of_memory ImageTooLong P none h = absurd h
-out_of_memory NoMeters P none h = absurd h
-out_of_memory TooManyMeters P none h = absurd h
-out_of_memory MeterTwice P none h = absurd h
-out_of_memory MeterBusy P none h = absurd h
-out_of_memory NoSuchCampaign P none h = absurd h
-out_of_memory WrongCampaign P none h = absurd h
-out_of_memory NotLive P none h = absurd h
-
 -- what holds of each element holds of one in the middle
 all_at : {X : Type 0} (P : X → Type 0) (before : List X) (x : X) (after : List X) → AllByRecursion P (before ++ x ∷ after) → P x
 all_at P [] x after h = h.0
@@ -142,9 +107,6 @@ entry_of before entry after h = all_at (λ (e : ℕ × Offered). IsEntry e) befo
 
 apart_at : (before : List (ℕ × Offered)) (entry : ℕ × Offered) (after : List (ℕ × Offered)) (b : ℕ × Offered) → AllByRecursion (λ (other : ℕ × Offered). Apart b other) (before ++ entry ∷ after) → Apart b entry
 apart_at before entry after b h = all_at (λ (other : ℕ × Offered). Apart b other) before entry after h
-
-pub no_entry : (book : Contents) (bytes : List ℕ) → NoEntry bytes → NoMore book bytes
-no_entry book bytes none = λ entry entries is spelled. none entry (entries_bytes entries) (entry_of book.campaigns entry entries is.entries) spelled
 
 -- campaigns that stand before another in a book have another serial number
 serial_apart : (before : List (ℕ × Offered)) (entry : ℕ × Offered) (after : List (ℕ × Offered)) → AllApart (before ++ entry ∷ after) → is_some (lookup (nat_eq entry.0) before) ≡ false
@@ -171,23 +133,43 @@ clashes_apart campaigns (row ∷ rows) free =
     (cases_Bool (is_live row.state)))
     (clashes_apart campaigns rows (λ meter live. free meter (or_right _ _ live)))
 
+-- what a book's next campaign needs of those before it
+pub next_admitted : (book : Contents) (serial : ℕ) (offer : Offered) (after : List (ℕ × Offered)) → IsBook (record { head = book.head; campaigns = book.campaigns ++ (serial, offer) ∷ after }) → Admits book serial offer
+next_admitted book serial offer after whole = record {
+  is_entry = entry_of book.campaigns (serial, offer) after whole.entries;
+  serial_new = serial_apart book.campaigns (serial, offer) after whole.apart;
+  meters_free = clashes_apart book.campaigns offer.rows (λ meter. busy_apart book.campaigns (serial, offer) after meter whole.apart);
+}
+
+-- no book goes on so behind the campaigns of this one
+abbrev pub NoMore : Contents → List ℕ → Type 0
+NoMore book bytes = (entry : ℕ × Offered) (after : List (ℕ × Offered)) → IsBook (record { head = book.head; campaigns = book.campaigns ++ entry ∷ after }) → bytes ≡ entry_bytes entry ++ entries_bytes after → ⊥
+
+pub no_entry : (book : Contents) (bytes : List ℕ) → NoEntry bytes → NoMore book bytes
+no_entry book bytes none = λ entry after is spelled. none entry (entries_bytes after) (entry_of book.campaigns entry after is.entries) spelled
+
 -- a campaign that clashes with those before it is none of a book's
 pub no_room : (book : Contents) (bytes rest : List ℕ) (serial : ℕ) (offer : Offered) → bytes ≡ entry_bytes (serial, offer) ++ rest → IsEntry (serial, offer) → (has_serial book serial || clashes book.campaigns offer.rows) ≡ true → NoMore book bytes
-no_room book bytes rest serial offer e is taken = λ entry entries whole spelled.
-    let entry_is = entry_of book.campaigns entry entries whole.entries in
-    let same = (entry_unique (serial, offer) entry rest (entries_bytes entries) is entry_is (sym e ∙ spelled)).0 in
-    let apart : AllApart (book.campaigns ++ (serial, offer) ∷ entries) = subst (λ (x : ℕ × Offered). AllApart (book.campaigns ++ x ∷ entries)) (sym same) whole.apart in
-    false≢true (sym (or_from _ _ (serial_apart book.campaigns (serial, offer) entries apart)
-    (clashes_apart book.campaigns offer.rows (λ meter. busy_apart book.campaigns (serial, offer) entries meter apart))) ∙ taken)
+no_room book bytes rest serial offer e is taken = λ entry after whole spelled.
+    let entry_is = entry_of book.campaigns entry after whole.entries in
+    let same = (entry_unique (serial, offer) entry rest (entries_bytes after) is entry_is (sym e ∙ spelled)).0 in
+    let admits = next_admitted book serial offer after (subst (λ (x : ℕ × Offered). IsBook (record { head = book.head; campaigns = book.campaigns ++ x ∷ after })) (sym same) whole) in
+    false≢true (sym (or_from _ _ admits.serial_new admits.meters_free) ∙ taken)
 
--- what was read of a book, and what follows
-pub more_found : (bytes rest after : List ℕ) (book : Contents) (serial : ℕ) (offer : Offered) → bytes ≡ book_bytes book ++ rest → rest ≡ entry_bytes (serial, offer) ++ after → bytes ≡ book_bytes (added book serial offer) ++ after
-more_found bytes rest after book serial offer e h =
-    let one : entries_bytes (book.campaigns ++ (serial, offer) ∷ []) ≡ entries_bytes book.campaigns ++ entry_bytes (serial, offer) =
-    flat_map-append (λ (x : ℕ × Offered). entry_bytes x) book.campaigns ((serial, offer) ∷ [])
-    ∙ ap (λ (l : List ℕ). entries_bytes book.campaigns ++ l) (append-nil (entry_bytes (serial, offer))) in
-    e ∙ ap (λ (l : List ℕ). book_bytes book ++ l) h ∙ sym (append_assoc (book_bytes book) (entry_bytes (serial, offer)) after)
-    ∙ ap (λ (l : List ℕ). l ++ after) (append_assoc (head_bytes book.head) (entries_bytes book.campaigns) (entry_bytes (serial, offer)) ∙ ap (λ (l : List ℕ). head_bytes book.head ++ l) (sym one))
+-- one campaign more stands before the rest
+pub entries_push : (entries rest after : List ℕ) (before : List (ℕ × Offered)) (entry : ℕ × Offered) → entries ≡ entries_bytes before ++ rest → rest ≡ entry_bytes entry ++ after → entries ≡ entries_bytes (before ++ entry ∷ []) ++ after
+entries_push entries rest after before entry e h =
+    let one : entries_bytes (before ++ entry ∷ []) ≡ entries_bytes before ++ entry_bytes entry =
+    flat_map-append (λ (x : ℕ × Offered). entry_bytes x) before (entry ∷ [])
+    ∙ ap (λ (l : List ℕ). entries_bytes before ++ l) (append-nil (entry_bytes entry)) in
+    e ∙ ap (λ (l : List ℕ). entries_bytes before ++ l) h ∙ sym (append_assoc (entries_bytes before) (entry_bytes entry) after)
+    ∙ ap (λ (l : List ℕ). l ++ after) (sym one)
+
+-- the bytes of a book's head end and campaigns, and what follows
+pub book_found : (bytes entries rest : List ℕ) (head : ℕ) (book : Contents) → bytes ≡ head_bytes head ++ entries → book.head ≡ head → entries ≡ entries_bytes book.campaigns ++ rest → bytes ≡ book_bytes book ++ rest
+book_found bytes entries rest head book e of_head before =
+    e ∙ ap (λ (l : List ℕ). head_bytes head ++ l) before ∙ sym (append_assoc (head_bytes head) (entries_bytes book.campaigns) rest)
+    ∙ ap (λ (n : ℕ). (head_bytes n ++ entries_bytes book.campaigns) ++ rest) (sym of_head)
 
 -- where no book goes on so, no book is spelled
 pub book_refused : (bytes rest : List ℕ) (book : Contents) → bytes ≡ book_bytes book ++ rest → IsBook book → (rest ≡ [] → ⊥) → NoMore book rest → (target : Contents) → SpellsBook bytes target → ⊥
@@ -203,3 +185,11 @@ book_refused bytes rest book e is some none target spells =
           let whole : target ≡ record { head = book.head; campaigns = book.campaigns ++ entry ∷ entries } =
           same_contents target.head book.head target.campaigns (book.campaigns ++ entry ∷ entries) (sym h) t in
           none entry entries (subst (λ (b : Contents). IsBook b) whole spells.is_book) r
+
+-- where no book goes on so, its campaigns are none of a book's
+pub campaigns_refused : (entries rest : List ℕ) (book : Contents) → IsBook book → entries ≡ entries_bytes book.campaigns ++ rest → (rest ≡ [] → ⊥) → NoMore book rest → (campaigns : List (ℕ × Offered)) → IsBook (record { head = book.head; campaigns = campaigns }) → entries ≡ entries_bytes campaigns → ⊥
+campaigns_refused entries rest book is before some none campaigns is' e =
+    let bytes : List ℕ = head_bytes book.head ++ entries in
+    let target : Contents = record { head = book.head; campaigns = campaigns } in
+    book_refused bytes rest book (book_found bytes entries rest book.head book refl refl before) is some none target
+    (record { is_book = is'; spelled = ap (λ (l : List ℕ). head_bytes book.head ++ l) e })

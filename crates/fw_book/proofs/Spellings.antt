@@ -105,7 +105,7 @@ entry_unique a b s t ha hb e =
     let at_rows : List Row → ℕ × Offered = λ r. (b.0, record { image = b.1.image; rows = r }) in
     (ap at_serial serials.0 ∙ ap at_image images.0 ∙ ap at_rows rows.0, rows.1)
 
-entry_some : (entry : ℕ × Offered) (s : List ℕ) → entry_bytes entry ++ s ≡ [] → ⊥
+pub entry_some : (entry : ℕ × Offered) (s : List ℕ) → entry_bytes entry ++ s ≡ [] → ⊥
 entry_some entry s e =
     let n : length (to_be_bytes w32 entry.0) ≡ 4 = refl in
     absurd (omega (arith, ap length (sym (entry_parts entry s) ∙ e), length-append (to_be_bytes w32 entry.0) (image_bytes entry.1.image ++ (counted_bytes entry.1.rows ++ s)), n))

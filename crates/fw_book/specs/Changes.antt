@@ -5,12 +5,13 @@ use Rattle.std.specs.Option.{option_map_or}
 use Rattle.fw_names.specs.Name.{Campaign}
 use Rattle.fw_client.specs.Claim.{Claim}
 use Rattle.fw_book.specs.declared.error.BookError.{BookError}
-use Rattle.fw_book.specs.declared.error.BookError.TheVariants.{ForeignHead, SerialUsed, EmptyImage, ImageTooLong, NoMeters, TooManyMeters, MeterTwice, MeterBusy, NoSuchCampaign, WrongCampaign, NotLive, OutOfMemory}
+use Rattle.fw_book.specs.declared.error.BookError.TheVariants.{ForeignHead, SerialUsed, EmptyImage, ImageTooLong, NoMeters, TooManyMeters, MeterTwice, MeterBusy, NoSuchCampaign, WrongCampaign, NotLive, BadBook, OutOfMemory}
 use Rattle.fw_book.specs.declared.row.Row.{Row}
 use Rattle.fw_book.specs.declared.row.RowState.{RowState}
 use Rattle.fw_book.specs.declared.row.RowState.TheVariants.{Live}
 use Rattle.fw_book.specs.Rows.{is_live, has_live, live_row, repeats, with_state, cancelled_rows}
 use Rattle.fw_book.specs.Contents.{Offered, Contents, max_image, max_meters, offered_in, name_in, state_in, has_serial, is_busy}
+use Rattle.fw_book.specs.Format.{SpellsBook}
 
 -- the refusal of the first row whose test is true
 abbrev pub first_applying : List (Bool × BookError) → Option BookError
@@ -97,3 +98,9 @@ DoneRefused book campaign claim _ = ⊥
 abbrev pub IsRefusal : Option BookError → BookError → Type 0
 IsRefusal (Some refusal) error = error ≡ refusal
 IsRefusal None error = error ≡ OutOfMemory
+
+-- what bytes are refused for: they spell no book; or memory ran out, and they spell one
+abbrev pub ReadRefused : List ℕ → BookError → Type 0
+ReadRefused bytes BadBook = (book : Contents) → ¬ SpellsBook bytes book
+ReadRefused bytes OutOfMemory = (book : Contents) × SpellsBook bytes book
+ReadRefused bytes _ = ⊥

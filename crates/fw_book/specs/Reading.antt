@@ -1,19 +1,13 @@
 -- For private clauses: what the parts of the reader give.
-use Rattle.std.specs.Prelude.{◌≡◌, ℕ, ◌<◌, ◌≤◌, ◌^◌, false, List, ◌∷◌, ◌++◌, length}
+use Rattle.std.specs.Prelude.{◌≡◌, ℕ, zero, suc, ◌*◌, ◌<◌, ◌≤◌, ◌^◌, false, List, [], ◌∷◌, ◌++◌, length, Option, Some, None}
+use Rattle.std.specs.Int.{w16, w32, to_be_bytes, from_be_bytes}
 use Rattle.std.specs.List.{AllByRecursion}
-use Rattle.fw_book.specs.declared.error.BookError.{BookError}
-use Rattle.fw_book.specs.declared.error.BookError.TheVariants.{BadBook, OutOfMemory}
 use Rattle.fw_book.specs.declared.row.Row.{Row}
+use Rattle.fw_book.specs.declared.row.RowState.{RowState}
+use Rattle.fw_book.specs.declared.row.RowState.TheVariants.{Live, Done, Failed, Cancelled}
 use Rattle.fw_book.specs.Rows.{meters_of, repeats}
 use Rattle.fw_book.specs.Contents.{Offered, Contents, max_image, max_meters, IsEntry, IsBook}
-use Rattle.fw_book.specs.Changes.{added}
-use Rattle.fw_book.specs.Format.{rows_bytes, counted_bytes, entry_bytes, entries_bytes}
-
--- the fact, where the bytes are no book's; otherwise memory ran out
-abbrev pub IfBad : BookError → Type 0 → Type 0
-IfBad BadBook P = P
-IfBad OutOfMemory P = Unit {0}
-IfBad _ P = ⊥
+use Rattle.fw_book.specs.Format.{image_bytes, rows_bytes, counted_bytes, entry_bytes, entries_bytes, SpellsBook}
 
 -- 1 to 4,194,304 bytes
 pub record IsImage (image : List ℕ) : Type 0 where
@@ -43,12 +37,61 @@ NoCounted bytes = (rows : List Row) (rest : List ℕ) → IsRows rows → ¬ (by
 abbrev pub NoEntry : List ℕ → Type 0
 NoEntry bytes = (entry : ℕ × Offered) (rest : List ℕ) → IsEntry entry → ¬ (bytes ≡ entry_bytes entry ++ rest)
 
--- a campaign stands there, and the book has it behind the others
-pub record Takes (old new : Contents) (bytes rest : List ℕ) : Type 0 where
-  pub entry : ℕ × Offered
-  pub added : new ≡ added old entry.0 entry.1
-  pub spelled : bytes ≡ entry_bytes entry ++ rest
+-- the state that a number stands for, if it stands for one
+abbrev pub state_of_number : ℕ → Option RowState
+state_of_number zero = Some Live
+state_of_number (suc zero) = Some Done
+state_of_number (suc (suc zero)) = Some Failed
+state_of_number (suc (suc (suc zero))) = Some Cancelled
+state_of_number (suc (suc (suc (suc n)))) = None
 
--- no book goes on so behind the campaigns of this one
-abbrev pub NoMore : Contents → List ℕ → Type 0
-NoMore book bytes = (entry : ℕ × Offered) (entries : List (ℕ × Offered)) → IsBook (record { head = book.head; campaigns = book.campaigns ++ entry ∷ entries }) → ¬ (bytes ≡ entry_bytes entry ++ entries_bytes entries)
+-- a row in front of the others, if it has a state
+abbrev pub row_before : ℕ → Option RowState → List Row → List Row
+row_before meter (Some state) rows = record { meter = meter; state = state } ∷ rows
+row_before meter None rows = []
+
+-- the rows that stand there one behind the other
+abbrev pub rows_in : List ℕ → List Row
+rows_in (a ∷ b ∷ c ∷ d ∷ state ∷ rest) = row_before (from_be_bytes w32 (a ∷ b ∷ c ∷ d ∷ [])) (state_of_number state) (rows_in rest)
+rows_in _ = []
+
+-- a campaign whose image and rows stand in these bytes
+abbrev pub entry_in : ℕ → List ℕ → List ℕ → ℕ × Offered
+entry_in serial image rows = (serial, record { image = image; rows = rows_in rows })
+
+-- rows behind their number, of which none was looked at
+pub record SkimsRows (bytes rows rest : List ℕ) : Type 0 where
+  pub count : ℕ
+  pub fits : count < 2 ^ 16
+  pub size : length rows ≡ 5 * count
+  pub spelled : bytes ≡ to_be_bytes w16 count ++ (rows ++ rest)
+
+-- a campaign of whose rows none was looked at
+pub record Skims (bytes : List ℕ) (serial : ℕ) (image rows rest : List ℕ) : Type 0 where
+  pub serial_fits : serial < 2 ^ 32
+  pub is_image : IsImage image
+  pub behind : List ℕ
+  pub of_rows : SkimsRows behind rows rest
+  pub spelled : bytes ≡ to_be_bytes w32 serial ++ (image_bytes image ++ behind)
+
+-- the bytes are those of these campaigns
+pub record AreEntries (bytes : List ℕ) (entries : List (ℕ × Offered)) : Type 0 where
+  pub spelled : bytes ≡ entries_bytes entries
+  pub fit : AllByRecursion (λ (entry : ℕ × Offered). IsEntry entry) entries
+
+-- the bytes are those of the campaigns of a book of this head end
+pub record Campaigns (head : ℕ) (bytes : List ℕ) : Type 0 where
+  pub campaigns : List (ℕ × Offered)
+  pub is_book : IsBook (record { head = head; campaigns = campaigns })
+  pub spelled : bytes ≡ entries_bytes campaigns
+
+-- no book of this head end has campaigns with these bytes
+abbrev pub NoCampaigns : ℕ → List ℕ → Type 0
+NoCampaigns head bytes = (campaigns : List (ℕ × Offered)) → IsBook (record { head = head; campaigns = campaigns }) → ¬ (bytes ≡ entries_bytes campaigns)
+
+-- the bytes are a book's, of this head end and with these bytes of its campaigns
+pub record Parts (bytes : List ℕ) (head : ℕ) (entries : List ℕ) : Type 0 where
+  pub book : Contents
+  pub spells : SpellsBook bytes book
+  pub of_head : book.head ≡ head
+  pub of_entries : AreEntries entries book.campaigns

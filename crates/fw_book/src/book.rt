@@ -1,16 +1,17 @@
 //! The book of a head end's campaigns.
 
-ghost use Rattle.std.specs.Prelude.{◌≡◌, None, false, IfOk, IfErr, MatchResult, OnOk, OnErr, Some};
+ghost use Rattle.std.specs.Prelude.{◌≡◌, None, false, IfOk, IfErr, IsOk, MatchResult, OnOk, OnErr, Some};
 ghost use Rattle.std.specs.List.{list_any};
 ghost use Rattle.std.specs.Option.{option_copied};
 ghost use Rattle.fw_names.specs.Name.{name_of, IsOpened};
 ghost use Rattle.fw_book.specs.Rows.{is_live};
 
 use crate::error::BookError;
-use crate::meters::{live_rows, repeats};
+use crate::meters::{live_rows, repeats, rows_of};
 use crate::offer::{MAX_IMAGE_SIZE, MAX_METERS, Offer};
-use crate::reading::{entry_at, head_at};
+use crate::reading::entry_at;
 use crate::row::RowState;
+use crate::search::parts_of;
 use crate::writing::{write_entry, write_head};
 use fw_client::ActiveClaim;
 use fw_names::{CampaignId, HeadId, ImageName, MeterId};
@@ -41,10 +42,9 @@ impl Model for Book {
 
 impl Book {
     ghost use Rattle.fw_book.specs.Contents.{Contents, IsBook, offered_in, name_in, state_in, has_serial, is_busy};
-    ghost use Rattle.fw_book.specs.Changes.{empty_book, added, opened, marked, cancelled, opening_refusal, cancel_refusal, mark_refusal, Confirms, DoneRefused, IsRefusal};
-    ghost use Rattle.fw_book.specs.Inside.{Admits, clashes, meters_refusal};
+    ghost use Rattle.fw_book.specs.Changes.{empty_book, added, opened, marked, cancelled, opening_refusal, cancel_refusal, mark_refusal, Confirms, DoneRefused, IsRefusal, ReadRefused};
+    ghost use Rattle.fw_book.specs.Inside.{Admits, meters_refusal};
     ghost use Rattle.fw_book.specs.Format.{SpellsBook};
-    ghost use Rattle.fw_book.specs.Reading.{IfBad, Takes, NoMore};
 
     /// The book of a head end that has no campaign yet. It keeps the allocator, and takes no memory.
     pub fn new(alloc: Global, head: HeadId) -> Book
@@ -133,7 +133,7 @@ impl Book {
         ensures kept { OnErr result (self.new ≡ self.old) }
     {
         self.check_opening(campaign, image, meters)?;
-        let offer = Offer::new(alloc, campaign, image, live_rows(alloc, meters)?)?;
+        let offer = Offer::new(alloc, image, live_rows(alloc, meters)?)?;
         let name = offer.name(campaign);
         self.add(campaign.serial(), offer)?;
         Ok(name)
@@ -231,6 +231,7 @@ impl Book {
     pub fn mark_done(&mut self, campaign: CampaignId, claim: ActiveClaim) -> Result<(), BookError>
         ensures done { OnOk result (self.new ≡ marked self.old campaign.serial claim.meter RowState.Done) }
         ensures claimed { OnOk result (Confirms self.old campaign claim) }
+        ensures confirmed { Confirms self.old campaign claim → IsOk result }
         ensures refused { IfErr result (DoneRefused self.old campaign claim) }
         ensures kept { OnErr result (self.new ≡ self.old) }
     {
@@ -300,7 +301,8 @@ impl Book {
         Ok(bytes)
     }
 
-    /// The book that these bytes spell.
+    /// The book that these bytes spell. They are judged whole before any memory is taken: for each live row, all rows of the
+    /// campaigns before its own are looked through.
     ///
     /// # Errors
     ///
@@ -311,40 +313,18 @@ impl Book {
         // Bytes that spell a book are read as that book.
         ensures only { (book : Contents) → SpellsBook bytes.now book
             → MatchResult result (λ found. found ≡ book) (λ e. e ≡ BookError.OutOfMemory) }
-        ensures none { IfErr result (λ e. IfBad e ((book : Contents) → ¬ SpellsBook bytes.now book)) }
+        ensures refused { IfErr result (ReadRefused bytes.now) }
     {
-        let Some((head, mut rest)) = head_at(bytes) else {
+        let Some((head, mut rest)) = parts_of(bytes) else {
             return Err(BookError::BadBook);
         };
         let mut book = Book::new(alloc, head);
-        while !rest.is_empty() {
-            rest = book.add_next(alloc, rest)?;
+        while let Some((entry, after)) = entry_at(rest) {
+            let offer = Offer::new(alloc, entry.image, rows_of(alloc, entry.rows)?)?;
+            book.add(entry.serial, offer)?;
+            rest = after;
         }
         Ok(book)
-    }
-
-    // Adds the campaign that stands there, and answers what follows it.
-    fn add_next<'a>(&mut self, alloc: Global, bytes: &'a [u8]) -> Result<&'a [u8], BookError>
-        ensures taken { IfOk result (λ rest. Takes self.old self.new bytes.now rest.now) }
-        ensures book { IsBook self.new }
-        ensures none { IfErr result (λ e. IfBad e (NoMore self.old bytes.now)) }
-    {
-        let (serial, offer, rest) = entry_at(alloc, self.head, bytes)?;
-        if self.has_serial(serial) || self.clashes(&offer) {
-            return Err(BookError::BadBook);
-        }
-        self.add(serial, offer)?;
-        Ok(rest)
-    }
-
-    // Whether a meter that is live in these rows is live in a campaign of this book.
-    fn clashes(&self, offer: &Offer) -> bool
-        ensures { result ≡ clashes self.now.campaigns offer.now.rows }
-    {
-        offer
-            .rows()
-            .iter()
-            .any(|row| row.state.is_live() && self.is_busy(row.meter))
     }
 
     /// Every campaign in opening order, by its serial number, with its rows in the order given.

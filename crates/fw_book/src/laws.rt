@@ -7,12 +7,13 @@ pub fn one_book()
     ensures { OneBook }
 {}
 
-/// What a campaign offers it offers after every call: no image is changed or removed.
+/// What a campaign offers it offers after every call: no image is changed or removed. Marks and cancelling leave the offered
+/// images as they are.
 pub fn images_stay()
     ensures { ImagesStay }
 {}
 
-/// An opening adds its image under its campaign.
+/// An opening adds its image under its campaign, and nothing else.
 pub fn opening_offers()
     ensures { OpeningOffers }
 {}

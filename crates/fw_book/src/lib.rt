@@ -8,6 +8,7 @@ mod meters;
 mod offer;
 mod reading;
 mod row;
+mod search;
 mod writing;
 
 pub use book::{Book, Campaigns};

@@ -1,12 +1,13 @@
-//! Lists of meters.
+//! Lists of meters, and of their rows.
 
 ghost use Rattle.std.specs.Prelude.{◌≡◌, IfOk, IfErr, map};
-ghost use Rattle.std.specs.List.{AllByRecursion, list_any};
-ghost use Rattle.std.specs.Prelude.{◌<◌, ◌^◌, ◌==◌, ℕ};
-ghost use Rattle.fw_book.specs.declared.row.Row.{Row};
+ghost use Rattle.std.specs.List.{AllByRecursion};
+ghost use Rattle.std.specs.Prelude.{◌<◌, ◌^◌};
 ghost use Rattle.fw_book.specs.Rows.{live_row, repeats, meters_of};
+ghost use Rattle.fw_book.specs.Reading.{rows_in};
 
 use crate::error::BookError;
+use crate::reading::{ROW_SIZE, row_at};
 use crate::row::{Row, RowState};
 use fw_names::MeterId;
 use std::alloc::Global;
@@ -18,28 +19,6 @@ pub(crate) fn repeats(meters: &[MeterId]) -> bool
     let mut rest = meters;
     while let Some((first, others)) = rest.split_first() {
         if others.contains(first) {
-            return true;
-        }
-        rest = others;
-    }
-    false
-}
-
-// Whether a row is the meter's.
-fn has_meter(rows: &[Row], meter: MeterId) -> bool
-    ensures { result ≡ list_any (λ (row : Row). row.meter == meter) rows.now }
-{
-    rows.iter().any(|row| row.meter == meter)
-}
-
-/// Whether a meter stands in two of the rows.
-#[tactic(auto, using(crate::proofs::Lists::meters_any))]
-pub(crate) fn repeats_in(rows: &[Row]) -> bool
-    ensures { result ≡ repeats (meters_of rows.now) }
-{
-    let mut rest = rows;
-    while let Some((first, others)) = rest.split_first() {
-        if has_meter(others, first.meter) {
             return true;
         }
         rest = others;
@@ -70,4 +49,18 @@ fn live_row(meter: MeterId) -> Row
         meter,
         state: RowState::Live,
     }
+}
+
+/// The rows in these bytes.
+pub(crate) fn rows_of(alloc: Global, bytes: &[u8]) -> Result<Vec<Row>, BookError>
+    ensures rows { IfOk result (λ rows. rows.items ≡ rows_in bytes.now) }
+    ensures memory { IfErr result (λ e. e ≡ BookError.OutOfMemory) }
+{
+    let mut rows = Vec::with_capacity(alloc, bytes.len() / ROW_SIZE)?;
+    let mut rest = bytes;
+    while let Some((row, after)) = row_at(rest) {
+        rows.push(row)?;
+        rest = after;
+    }
+    Ok(rows)
 }

@@ -6,7 +6,7 @@ ghost use Rattle.fw_book.specs.Rows.{state_of, is_live_in, has_live, with_state,
 
 use crate::error::BookError;
 use crate::row::{Row, RowState, cancel_rows, mark_row};
-use fw_names::{CampaignId, ImageName, MeterId, name_of};
+use fw_names::{CampaignId, ImageName, MeterId, factory_name};
 use std::alloc::Global;
 use std::marker::Model;
 
@@ -27,30 +27,25 @@ pub struct Offer {
 
 impl Model for Offer {
     ghost use Rattle.std.specs.Prelude.{◌≡◌};
-    ghost use Rattle.fw_names.specs.Name.{name_of, factory};
+    ghost use Rattle.fw_names.specs.Name.{factory_name};
     ghost use Rattle.fw_book.specs.Contents.{Offered};
 
     ghost Value = { Offered };
 
     ghost view = { λ o. record { image = o.image.items; rows = o.rows.items } };
 
-    ghost invariant = { λ o. o.digest ≡ (name_of factory o.image.items).digest };
+    ghost invariant = { λ o. o.digest ≡ (factory_name o.image.items).digest };
 }
 
 impl Offer {
     ghost use Rattle.fw_book.specs.Contents.{Offered};
 
     // What a campaign offers, with a copy of the image.
-    pub(crate) fn new(
-        alloc: Global,
-        campaign: CampaignId,
-        image: &[u8],
-        rows: Vec<Row>,
-    ) -> Result<Offer, BookError>
+    pub(crate) fn new(alloc: Global, image: &[u8], rows: Vec<Row>) -> Result<Offer, BookError>
         ensures offer { IfOk result (λ offer. offer ≡ record { image = image.now; rows = rows.items }) }
         ensures memory { IfErr result (λ e. e ≡ BookError.OutOfMemory) }
     {
-        let digest = name_of(campaign, image).digest;
+        let digest = factory_name(image).digest;
         let image = Vec::from_slice(alloc, image)?;
         Ok(Offer {
             image,

@@ -1,18 +1,30 @@
-//! How the parts of a book are read, from left to right.
+//! How the parts of a book are read, from left to right. Nothing here takes memory.
 
-ghost use Rattle.std.specs.Prelude.{◌≡◌, ◌<◌, ◌≤◌, ◌^◌, ◌++◌, ℕ, List, length, IfSome, IfNone, IfOk, IfErr};
+ghost use Rattle.std.specs.Prelude.{◌≡◌, ◌<◌, ◌≤◌, ◌^◌, ◌∷◌, ◌++◌, [], ℕ, List, length, IfSome, IfNone, MatchOption};
 ghost use Rattle.std.specs.Int.{w16, w32, to_be_bytes};
 ghost use Rattle.fw_book.specs.declared.row.Row.{Row};
 ghost use Rattle.fw_book.specs.Format.{image_bytes, row_bytes, rows_bytes, counted_bytes, entry_bytes, head_bytes};
 ghost use Rattle.fw_book.specs.Contents.{IsEntry};
-ghost use Rattle.fw_book.specs.Reading.{IfBad, IsImage, IsRows, MetersFit, NoRows, NoCounted, NoEntry};
+ghost use Rattle.fw_book.specs.Reading.{IsImage, IsRows, MetersFit, NoRows, NoCounted, NoEntry, SkimsRows, Skims, rows_in, entry_in};
 
-use crate::error::BookError;
-use crate::meters::repeats_in;
-use crate::offer::{MAX_IMAGE_SIZE, MAX_METERS, Offer};
+use crate::offer::{MAX_IMAGE_SIZE, MAX_METERS};
 use crate::row::{Row, RowState};
-use fw_names::{CampaignId, HeadId, MeterId};
-use std::alloc::Global;
+use crate::search::repeats;
+use fw_names::{HeadId, MeterId};
+
+/// The bytes of a row: four of its meter's number, and one of its state.
+pub(crate) const ROW_SIZE: usize = 5;
+
+/// A campaign as it stands in the bytes of a book.
+#[derive(Clone, Copy)]
+pub(crate) struct Entry<'a> {
+    /// Its serial number.
+    pub(crate) serial: u32,
+    /// The bytes of its image.
+    pub(crate) image: &'a [u8],
+    /// Its rows, of five bytes each.
+    pub(crate) rows: &'a [u8],
+}
 
 // A number of two bytes, high byte first, and what follows it.
 fn u16_at(bytes: &[u8]) -> Option<(u16, &[u8])>
@@ -41,6 +53,7 @@ fn u32_at(bytes: &[u8]) -> Option<(u32, &[u8])>
 /// The head end's number behind the form, version 1, and what follows it.
 pub(crate) fn head_at(bytes: &[u8]) -> Option<(HeadId, &[u8])>
     ensures found { IfSome result (λ r. bytes.now ≡ head_bytes r.0 ++ r.1.now) }
+    ensures begins { IfSome result (λ r. 1 ≤ r.0) }
     ensures fits { IfSome result (λ r. r.0 < 2 ^ 32) }
     ensures none { IfNone result ((head : ℕ) (rest : List ℕ)
         → 1 ≤ head → head < 2 ^ 32 → ¬ (bytes.now ≡ head_bytes head ++ rest)) }
@@ -67,12 +80,15 @@ fn image_at(bytes: &[u8]) -> Option<(&[u8], &[u8])>
     Some(rest.split_at(size))
 }
 
-// A row, and what follows it.
-fn row_at(bytes: &[u8]) -> Option<(Row, &[u8])>
+/// A row, and what follows it.
+pub(crate) fn row_at(bytes: &[u8]) -> Option<(Row, &[u8])>
     ensures found { IfSome result (λ r. bytes.now ≡ row_bytes r.0 ++ r.1.now) }
     ensures fits { IfSome result (λ r. r.0.meter < 2 ^ 32) }
+    ensures shorter { IfSome result (λ r. length r.1.now < length bytes.now) }
     ensures none { IfNone result ((row : Row) (rest : List ℕ)
         → row.meter < 2 ^ 32 → ¬ (bytes.now ≡ row_bytes row ++ rest)) }
+    ensures first { MatchOption result (rows_in bytes.now ≡ [])
+        (λ r. rows_in bytes.now ≡ r.0 ∷ rows_in r.1.now) }
 {
     let (meter, rest) = u32_at(bytes)?;
     let meter = MeterId::new(meter)?;
@@ -83,65 +99,93 @@ fn row_at(bytes: &[u8]) -> Option<(Row, &[u8])>
     Some((Row { meter, state }, rest))
 }
 
-// So many rows, and what follows them.
-fn counted_rows(alloc: Global, count: usize, bytes: &[u8]) -> Result<(Vec<Row>, &[u8]), BookError>
-    ensures found { IfOk result (λ r. bytes.now ≡ rows_bytes r.0.items ++ r.1.now) }
-    ensures count { IfOk result (λ r. length r.0.items ≡ count) }
-    ensures fit { IfOk result (λ r. MetersFit r.0.items) }
-    ensures none { IfErr result (λ e. IfBad e (NoRows count bytes.now)) }
+// The bytes of so many rows, and what follows them.
+fn split_rows(count: usize, bytes: &[u8]) -> Option<(&[u8], &[u8])>
+    ensures found { IfSome result (λ r. bytes.now ≡ rows_bytes (rows_in r.0.now) ++ r.1.now) }
+    ensures count { IfSome result (λ r. length (rows_in r.0.now) ≡ count) }
+    ensures fit { IfSome result (λ r. MetersFit (rows_in r.0.now)) }
+    ensures none { IfNone result (NoRows count bytes.now) }
 {
-    let mut rows = Vec::with_capacity(alloc, count)?;
     let mut rest = bytes;
     for _ in 0..count {
-        let Some((row, after)) = row_at(rest) else {
-            return Err(BookError::BadBook);
+        let Some((_row, after)) = row_at(rest) else {
+            return None;
         };
-        rows.push(row)?;
         rest = after;
     }
-    Ok((rows, rest))
+    Some(bytes.split_at(bytes.len() - rest.len()))
 }
 
-// The rows of a campaign behind their number, and what follows them.
-fn rows_at(alloc: Global, bytes: &[u8]) -> Result<(Vec<Row>, &[u8]), BookError>
-    ensures found { IfOk result (λ r. bytes.now ≡ counted_bytes r.0.items ++ r.1.now) }
-    ensures fits { IfOk result (λ r. IsRows r.0.items) }
-    ensures none { IfErr result (λ e. IfBad e (NoCounted bytes.now)) }
+// The bytes of a campaign's rows behind their number, and what follows them.
+fn rows_at(bytes: &[u8]) -> Option<(&[u8], &[u8])>
+    ensures found { IfSome result (λ r. bytes.now ≡ counted_bytes (rows_in r.0.now) ++ r.1.now) }
+    ensures fits { IfSome result (λ r. IsRows (rows_in r.0.now)) }
+    ensures none { IfNone result (NoCounted bytes.now) }
 {
-    let Some((count, rest)) = u16_at(bytes) else {
-        return Err(BookError::BadBook);
-    };
+    let (count, rest) = u16_at(bytes)?;
     let count = usize::from(count);
     if count == 0 || count > MAX_METERS {
-        return Err(BookError::BadBook);
+        return None;
     }
-    let (rows, rest) = counted_rows(alloc, count, rest)?;
-    if repeats_in(rows.as_slice()) {
-        return Err(BookError::BadBook);
+    let (rows, rest) = split_rows(count, rest)?;
+    if repeats(rows) {
+        return None;
     }
-    Ok((rows, rest))
+    Some((rows, rest))
 }
 
-/// A campaign of this head end, and what follows it.
-pub(crate) fn entry_at(
-    alloc: Global,
-    head: HeadId,
-    bytes: &[u8],
-) -> Result<(u32, Offer, &[u8]), BookError>
-    ensures found { IfOk result (λ r. bytes.now ≡ entry_bytes (r.0, r.1) ++ r.2.now) }
-    ensures fits { IfOk result (λ r. IsEntry (r.0, r.1)) }
-    ensures none { IfErr result (λ e. IfBad e (NoEntry bytes.now)) }
+/// A campaign, and what follows it.
+pub(crate) fn entry_at(bytes: &[u8]) -> Option<(Entry<'_>, &[u8])>
+    ensures found { IfSome result (λ r. bytes.now ≡ entry_bytes (entry_in r.0.serial r.0.image.now r.0.rows.now) ++ r.1.now) }
+    ensures fits { IfSome result (λ r. IsEntry (entry_in r.0.serial r.0.image.now r.0.rows.now)) }
+    ensures shorter { IfSome result (λ r. length r.1.now < length bytes.now) }
+    ensures none { IfNone result (NoEntry bytes.now) }
 {
-    let Some((serial, rest)) = u32_at(bytes) else {
-        return Err(BookError::BadBook);
-    };
-    let Some(campaign) = CampaignId::new(head, serial) else {
-        return Err(BookError::BadBook);
-    };
-    let Some((image, rest)) = image_at(rest) else {
-        return Err(BookError::BadBook);
-    };
-    let (rows, rest) = rows_at(alloc, rest)?;
-    let offer = Offer::new(alloc, campaign, image, rows)?;
-    Ok((serial, offer, rest))
+    let (serial, rest) = u32_at(bytes)?;
+    if serial == 0 {
+        return None;
+    }
+    let (image, rest) = image_at(rest)?;
+    let (rows, rest) = rows_at(rest)?;
+    Some((
+        Entry {
+            serial,
+            image,
+            rows,
+        },
+        rest,
+    ))
+}
+
+// The bytes of rows behind their number, and what follows them. No row is looked at.
+fn skim_rows(bytes: &[u8]) -> Option<(&[u8], &[u8])>
+    ensures found { IfSome result (λ r. SkimsRows bytes.now r.0.now r.1.now) }
+    ensures none { IfNone result (NoCounted bytes.now) }
+{
+    let (count, rest) = u16_at(bytes)?;
+    let size = ROW_SIZE * usize::from(count);
+    if size > rest.len() {
+        return None;
+    }
+    Some(rest.split_at(size))
+}
+
+/// The campaign that the bytes begin with, where they begin with one, and what follows it. No row is looked at, so that a campaign
+/// is passed over at the same cost, however many rows it has.
+pub(crate) fn skim(bytes: &[u8]) -> Option<(Entry<'_>, &[u8])>
+    ensures found { IfSome result (λ r. Skims bytes.now r.0.serial r.0.image.now r.0.rows.now r.1.now) }
+    ensures shorter { IfSome result (λ r. length r.1.now < length bytes.now) }
+    ensures none { IfNone result (NoEntry bytes.now) }
+{
+    let (serial, rest) = u32_at(bytes)?;
+    let (image, rest) = image_at(rest)?;
+    let (rows, rest) = skim_rows(rest)?;
+    Some((
+        Entry {
+            serial,
+            image,
+            rows,
+        },
+        rest,
+    ))
 }

@@ -1,5 +1,5 @@
 -- A session: the lines that a meter is given, and the text that answers them.
-use Rattle.std.specs.Prelude.{◌≡◌, ℕ, true, ◌+◌, List, [], ◌∷◌, ◌++◌, length, Option, Some, None, Ok, IsErr, codes}
+use Rattle.std.specs.Prelude.{◌≡◌, ℕ, true, IsTrue, ◌+◌, List, [], ◌∷◌, ◌++◌, length, Option, Some, None, Ok, IsErr, codes}
 use Rattle.hex.specs.Hex.{decode_of, encode_lower}
 use Rattle.fw_names.specs.Name.{Name}
 use Rattle.fw_image.specs.Meter.{Meter}
@@ -18,7 +18,7 @@ pub record AnswersLine (old : Meter) (line text : List ℕ) (new : Meter) : Type
   pub reply : Option (List ℕ)
   pub activated : Option Name
   pub spelled : decode_of line ≡ Ok datagram
-  pub step : Handles true ⊥ old datagram reply activated new
+  pub step : Handles true IsTrue old datagram reply activated new
   pub told : text ≡ line_for reply
 
 -- From old, the meter may answer the lines, one after another, by this text and go on to new.

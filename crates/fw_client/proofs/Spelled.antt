@@ -8,7 +8,8 @@ use Rattle.fw_apdu.specs.declared.error.ApduError.{ApduError}
 use Rattle.fw_apdu.specs.declared.error.ApduError.TheVariants.{Truncated, UnknownService, UnsupportedForm, BadData, Trailing, OutOfMemory}
 use Rattle.fw_apdu.specs.Fault.{IfFault, IsBadData}
 use Rattle.fw_apdu.specs.Request.{RequestContent, request_bytes, unwritable_request}
-use Rattle.fw_client.specs.Ask.{Ask, block_size, first_missing, blocks, status, info, active_name, enable, initiate, block, verify, activate, request_of, Fits, IsNamed}
+use Rattle.fw_client.specs.Ask.{Ask, block_size, first_missing, blocks, status, info, active_name, enable, initiate, block, verify, activate, request_of, Fits}
+use Rattle.fw_client.specs.Inside.{IsNamed}
 
 writable : (a : Ask) → Fits a → IsNamed a → unwritable_request (request_of a) ≡ None
 writable block_size fits named = refl

@@ -4,7 +4,6 @@ use Rattle.std.specs.FinMap.{get}
 use Rattle.fw_axdr.specs.Value.{octet_string}
 use Rattle.fw_wrapper.specs.Wrapper.{Wraps}
 use Rattle.fw_names.specs.Name.{SpellsName}
-use Rattle.fw_apdu.specs.Request.{RequestContent, SpellsRequest}
 use Rattle.fw_apdu.specs.Response.{value, ResponseContent, get_response, SpellsResponse, MayReturnData}
 use Rattle.fw_client.specs.Claim.{Claim}
 use Rattle.fw_client.specs.State.{State, invoke_byte, without}
@@ -13,12 +12,6 @@ use Rattle.fw_client.specs.declared.ask.Asked.{Asked}
 use Rattle.fw_client.specs.declared.ask.Asked.TheVariants.{ActiveName}
 use Rattle.fw_client.specs.declared.heard.Heard.{Heard}
 use Rattle.fw_client.specs.declared.heard.Heard.TheVariants.{Stranger}
-
--- a datagram carries a request, with its invoke byte, between the ports 1
-pub record CarriesRequest (datagram : List ℕ) (invoke : ℕ) (content : RequestContent) : Type 0 where
-  pub apdu : List ℕ
-  pub wraps : Wraps datagram 1 1 apdu
-  pub spells : SpellsRequest apdu invoke content
 
 -- a datagram carries a response, with its invoke byte, between the ports 1
 pub record CarriesResponse (datagram : List ℕ) (invoke : ℕ) (content : ResponseContent) : Type 0 where

@@ -6,6 +6,8 @@ use Rattle.fw_apdu.specs.View.{response_content, response_invoke}
 use Rattle.fw_apdu.specs.Response.{ResponseContent}
 use Rattle.fw_apdu.specs.declared.response.Response.{Response}
 use Rattle.std.specs.FinMap.{get}
+use Rattle.fw_names.specs.Name.{IsName}
+use Rattle.fw_client.specs.Ask.{Ask, initiate}
 use Rattle.fw_client.specs.State.{State, invoke_byte}
 use Rattle.fw_client.specs.Hearing.{CarriesResponse}
 use Rattle.fw_client.specs.Matching.{Matches}
@@ -14,6 +16,11 @@ use Rattle.fw_client.specs.declared.heard.Heard.{Heard}
 use Rattle.fw_client.specs.Matching as spec
 use Rattle.fw_client.specs.declared.ask.Service.{Service}
 use Rattle.fw_client.specs.declared.ask.Service.TheVariants as service
+
+-- the name in an ask has a spelling
+abbrev pub IsNamed : Ask → Type 0
+IsNamed (initiate name size) = IsName name
+IsNamed ask = Unit {0}
 
 -- what has the property is found, or there is none
 abbrev pub Finds : {A : Type 0} → (A → Type 0) → Option A → Type 0

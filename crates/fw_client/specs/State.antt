@@ -1,4 +1,4 @@
--- Public vocabulary: what a client is, and what an ask and a want of answers change of it.
+-- Public vocabulary: what a client is, and what an ask, an answer and forgetting change of it.
 use Rattle.std.specs.Prelude.{ℕ, ◌+◌, ◌%◌}
 use Rattle.std.specs.Ordering.{nat_cmp}
 use Rattle.std.specs.FinMap.{FinMap, empty, insert, remove}
@@ -30,6 +30,6 @@ asking c asked = record { meter = c.meter; next = (c.next + 1) % 16; asks = inse
 abbrev pub without : State → ℕ → State
 without c id = record { meter = c.meter; next = c.next; asks = remove c.asks id }
 
--- the client once it waits for no answer
+-- the client once its asks are forgotten: the next id stays
 abbrev pub forgetting : State → State
 forgetting c = record { meter = c.meter; next = c.next; asks = empty }

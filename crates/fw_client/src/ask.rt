@@ -28,11 +28,12 @@ pub enum Ask<'a> {
     Enable,
     /// ACTION of method 1, image_transfer_initiate, with the image's identifier and its size in bytes.
     Initiate { name: ImageName, size: u32 },
-    /// Method 2, image_block_transfer, with the number of a block, from 0 on, and its bytes.
+    /// Method 2, image_block_transfer, with the number of a block, from 0 on, and its bytes, of which `Client::ask` takes at most
+    /// 1,024.
     Block { number: u32, value: &'a [u8] },
-    /// Method 3, image_verify.
+    /// Method 3, image_verify, with the integer 0.
     Verify,
-    /// Method 4, image_activate.
+    /// Method 4, image_activate, with the integer 0.
     Activate,
 }
 
@@ -53,8 +54,8 @@ pub enum Asked {
 }
 
 impl Ask<'_> {
-    /// The kind of the ask.
-    pub fn kind(&self) -> Asked
+    // The kind of the ask, which is kept until its answer comes.
+    pub(crate) fn kind(&self) -> Asked
         ensures { result ≡ kind_of (ask_of self.now) }
     {
         match self {
@@ -73,7 +74,7 @@ impl Ask<'_> {
     }
 }
 
-/// The service of an ask.
+// The service of an ask.
 #[derive(Clone, Copy, Debug, PartialEq, Eq)]
 pub(crate) enum Service {
     Get,
@@ -82,7 +83,7 @@ pub(crate) enum Service {
 }
 
 impl Asked {
-    /// The service by which it is asked, and by which it is answered.
+    // The service by which it is asked, and by which it is answered.
     pub(crate) fn service(self) -> Service
         ensures { service_in result ≡ service_of self }
     {

@@ -6,9 +6,9 @@ ghost use Rattle.fw_apdu.specs.Request.{request_bytes};
 ghost use Rattle.fw_apdu.specs.View.{response_content, response_invoke};
 ghost use Rattle.fw_wrapper.specs.Wrapper.{wrapped};
 ghost use Rattle.fw_client.specs.Claim.{Claim};
-ghost use Rattle.fw_client.specs.Ask.{request_of, kind_of, Fits};
+ghost use Rattle.fw_client.specs.Ask.{request_of, kind_of, Fits, CarriesRequest};
 ghost use Rattle.fw_client.specs.State.{fresh, asking, forgetting, invoke_byte};
-ghost use Rattle.fw_client.specs.Hearing.{CarriesRequest, Answers, Hears, IsClaimed, MayCarryData};
+ghost use Rattle.fw_client.specs.Hearing.{Answers, Hears, IsClaimed, MayCarryData};
 ghost use Rattle.fw_client.specs.View.{ask_of};
 ghost use Rattle.fw_client.specs.Inside.{Finds, AnsweredBy};
 
@@ -74,7 +74,8 @@ impl Client {
         }
     }
 
-    /// Asks under the next invoke-id. The datagram goes from and to wPort 1.
+    /// Asks under the next invoke-id, which rises by one modulo 16, and gives the datagram to send, which goes from and to wPort 1
+    /// (IEC 62056-4-7). A block that is asked to be stored has at most 1,024 bytes.
     ///
     /// # Errors
     ///

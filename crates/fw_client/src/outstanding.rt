@@ -35,6 +35,7 @@ impl Model for Outstanding {
 }
 
 impl Outstanding {
+    // Nothing is outstanding.
     pub(crate) fn none() -> Outstanding
         ensures { result ≡ empty }
     {
@@ -50,7 +51,7 @@ impl Outstanding {
         }
     }
 
-    /// What is outstanding at this id.
+    // What is outstanding at this id.
     #[tactic(auto, using(crate::proofs::Places::get_asks))]
     pub(crate) fn at(&self, id: u8) -> Option<Asked>
         ensures asked { result ≡ get self.now id }
@@ -63,6 +64,7 @@ impl Outstanding {
         }
     }
 
+    // The ask is outstanding at this id, in place of any other.
     #[tactic(auto, using(crate::proofs::Places::asks_put))]
     pub(crate) fn put(&mut self, id: u8, asked: Asked)
         requires { id < 16 }
@@ -71,6 +73,7 @@ impl Outstanding {
         self.places[usize::from(id)] = Some(asked);
     }
 
+    // Nothing is outstanding at this id.
     #[tactic(auto, using(crate::proofs::Places::asks_out))]
     pub(crate) fn take_out(&mut self, id: u8)
         requires { id < 16 }

@@ -8,8 +8,7 @@ use Rattle.std.specs.Prelude.{IfSome, is_some, Result, Ok, Err, IsErrAnd}
 use Rattle.fw_image.specs.Moves.{outcome_of}
 use Rattle.fw_names.specs.Name.{Name, Campaign}
 use Rattle.fw_store.specs.Device.{Device, slot_bytes, with_head}
-use Rattle.fw_store.specs.Faults.{Keeps, Counted, most_faults}
-use Rattle.std.proofs.lemmas.Bool.{cases_lt}
+use Rattle.fw_store.specs.Faults.{Keeps, count_after}
 use Rattle.fw_store.specs.Slot.{other}
 use Rattle.fw_store.specs.Layout.{header_bytes}
 use Rattle.fw_store.specs.Header.{IsHeader, IsGoal, FieldsFit, goal_count, has_goal, is_verified}
@@ -21,7 +20,7 @@ use Rattle.fw_store.specs.declared.header.TransferStatus.{TransferStatus}
 use Rattle.fw_store.specs.declared.header.TransferStatus.TheVariants.{Initiated, VerificationSuccessful, VerificationFailed, ActivationSuccessful}
 use Rattle.fw_image.specs.Meter.{Meter, Phase, Cells, IsTrusted, status_of, goal_of, joined, goal_bytes, IsGenuine, idle, receiving, sealed, spoilt, switched}
 use Rattle.fw_image.specs.Shown.{shown_of}
-use Rattle.fw_image.specs.Step.{Operation, Outcome, done, refused, Refuses, Serves, Does, Leaves, IsOffer, begun, sealed_phase, spoilt_phase, switched_to, Admits, refusal_in, enable, initiate, block, verify, activate}
+use Rattle.fw_image.specs.Step.{Operation, Outcome, done, refused, Refuses, Serves, Does, Leaves, IsOffer, begun, sealed_phase, spoilt_phase, switched_to, Admits, refusal_in, is_faultless, enable, initiate, block, verify, activate}
 use Rattle.fw_image.specs.declared.error.Refusal.{Refusal}
 use Rattle.fw_image.specs.declared.error.Refusal.TheVariants.{Disabled, Fault, Missing, Differs}
 use Rattle.fw_image.specs.State.{Makes}
@@ -42,15 +41,14 @@ pub keeps_twice : {S : Type 0} (t : Ghosts S) (a b c : S) → Keeps t.honest t.s
 keeps_twice t a b c k l = record { honesty = l.honesty ∙ k.honesty; soundness = λ s. l.soundness (k.soundness s); size = l.size ∙ k.size; later = omega (arith, k.later, l.later) }
 
 -- an operation that a line refuses
-pub makes_refused : {S : Type 0} (t : Ghosts S) (s : S) (h : Header) (operation : Operation) (r : Refusal) → r ≢ Fault
+pub makes_refused : {S : Type 0} (t : Ghosts S) (s : S) (h : Header) (operation : Operation) (r : Refusal) → IsTrue (is_faultless (refused r))
     → Refuses (meter_of (t.capacity s) h (seen (t.honest s) (t.capacity s) (t.device s))) operation r
     → Makes (state_of t.honest t.sound t.capacity t.faults t.device s h) operation (refused r) (state_of t.honest t.sound t.capacity t.faults t.device s h)
-makes_refused t s h operation r no_fault line = record {
+makes_refused t s h operation r faultless line = record {
   step = inl (record { refusal = r; line = line; told = refl; same = record { shows = refl; is = λ _. refl } });
   untouched = λ _ _. refl;
   follows = record { honesty = refl; soundness = λ e. e; later = omega arith };
-  cause = λ e. absurd (no_fault cc);
-  never = λ _ e. no_fault cc;
+  counts = record { counted = ap (λ (ok : Bool). count_after ok (t.faults s)) (sym faultless); never = λ _. faultless };
 }
 
 -- what the exit of a `?` tells
@@ -73,44 +71,43 @@ served_only m activate serves r line = method_only m activate r serves.0 serves.
 
 -- an operation that is served
 pub makes_served : {S : Type 0} (t : Ghosts S) (s s' : S) (h h' : Header) (operation : Operation) (outcome : Outcome)
-    → Keeps t.honest t.sound t.capacity t.faults s s' → (outcome ≡ refused Fault → Counted (t.faults s) (t.faults s') × ¬ IsTrue (t.sound s))
+    → Keeps t.honest t.sound t.capacity t.faults s s' → t.faults s' ≡ count_after (is_faultless outcome) (t.faults s) → (IsTrue (t.sound s) → IsTrue (is_faultless outcome))
     → Serves (meter_of (t.capacity s) h (seen (t.honest s) (t.capacity s) (t.device s))) operation
     → Does (t.honest s) (meter_of (t.capacity s) h (seen (t.honest s) (t.capacity s) (t.device s))) operation outcome (meter_of (t.capacity s) h' (seen (t.honest s) (t.capacity s) (t.device s')))
     → Makes (state_of t.honest t.sound t.capacity t.faults t.device s h) operation outcome (state_of t.honest t.sound t.capacity t.faults t.device s' h')
-makes_served t s s' h h' operation outcome kept cause serves does = record {
+makes_served t s s' h h' operation outcome kept counted never serves does = record {
   step = inr (record { serves = serves; does = rw (kept.honesty, kept.size) does });
   untouched = λ r line. absurd (served_only (meter_of (t.capacity s) h (seen (t.honest s) (t.capacity s) (t.device s))) operation serves r line);
   follows = record { honesty = kept.honesty; soundness = kept.soundness; later = kept.later };
-  cause = λ e. (cause e).0;
-  never = λ sound e. (cause e).1 sound;
+  counts = record { counted = counted; never = never };
 }
 
 -- one whose store call failed and left the device as it was
 pub makes_failed : {S : Type 0} (t : Ghosts S) (s s' : S) (h : Header) (operation : Operation)
-    → Keeps t.honest t.sound t.capacity t.faults s s' → (IsTrue (t.honest s) → t.device s' ≡ t.device s) → Counted (t.faults s) (t.faults s') → ¬ IsTrue (t.sound s)
+    → Keeps t.honest t.sound t.capacity t.faults s s' → (IsTrue (t.honest s) → t.device s' ≡ t.device s) → t.faults s' ≡ count_after false (t.faults s) → (IsTrue (t.sound s) → IsTrue false)
     → Serves (meter_of (t.capacity s) h (seen (t.honest s) (t.capacity s) (t.device s))) operation
     → ((m m' : Meter) → Leaves (t.honest s) m m' → Does (t.honest s) m operation (refused Fault) m')
     → Makes (state_of t.honest t.sound t.capacity t.faults t.device s h) operation (refused Fault) (state_of t.honest t.sound t.capacity t.faults t.device s' h)
-makes_failed t s s' h operation kept same counted unsound serves does =
+makes_failed t s s' h operation kept same counted never serves does =
     let d = seen (t.honest s) (t.capacity s) (t.device s) in
     let e : seen (t.honest s) (t.capacity s) (t.device s') ≡ d = seen_same (t.honest s) (t.capacity s) (t.device s) (t.device s') same in
-    makes_served t s s' h h operation (refused Fault) kept (λ _. (counted, unsound)) serves
+    makes_served t s s' h h operation (refused Fault) kept counted never serves
     (does (meter_of (t.capacity s) h d) _ (leaves (t.honest s) (meter_of (t.capacity s) h d) _ (ap (meter_of (t.capacity s) h) e)))
 
 -- one that writes the header, once
-pub makes_written : {S : Type 0} (t : Ghosts S) (s s' : S) (h h' : Header) (operation : Operation) (outcome : Outcome) → outcome ≢ refused Fault
+pub makes_written : {S : Type 0} (t : Ghosts S) (s s' : S) (h h' : Header) (operation : Operation) (outcome : Outcome) → IsTrue (is_faultless outcome)
     → ((slot : Slot) → IsTrue (t.honest s) → length (slot_bytes (t.device s) slot) ≡ t.capacity s)
-    → Keeps t.honest t.sound t.capacity t.faults s s' → (IsTrue (t.honest s) → t.device s' ≡ with_head (t.device s) (header_bytes h'))
+    → Keeps t.honest t.sound t.capacity t.faults s s' → t.faults s' ≡ t.faults s → (IsTrue (t.honest s) → t.device s' ≡ with_head (t.device s) (header_bytes h'))
     → Serves (meter_of (t.capacity s) h (seen (t.honest s) (t.capacity s) (t.device s))) operation
     → ((d d' : Device) → Rewrites (t.honest s) (t.capacity s) (t.device s) d d' → Does (t.honest s) (meter_of (t.capacity s) h d) operation outcome (meter_of (t.capacity s) h' d'))
     → Makes (state_of t.honest t.sound t.capacity t.faults t.device s h) operation outcome (state_of t.honest t.sound t.capacity t.faults t.device s' h')
-makes_written t s s' h h' operation outcome no_fault sized kept written serves does =
+makes_written t s s' h h' operation outcome faultless sized kept uncounted written serves does =
     let views : Rewrites (t.honest s) (t.capacity s) (t.device s) (seen (t.honest s) (t.capacity s) (t.device s)) (seen (t.honest s) (t.capacity s) (t.device s')) = record {
       sized = seen_size (t.honest s) (t.capacity s) (t.device s) sized;
       same = seen_headed (t.honest s) (t.capacity s) (t.device s) (t.device s') (header_bytes h') written;
       real = seen_real (t.honest s) (t.capacity s) (t.device s);
     } in
-    makes_served t s s' h h' operation outcome kept (λ e. absurd (no_fault e)) serves (does (seen (t.honest s) (t.capacity s) (t.device s)) (seen (t.honest s) (t.capacity s) (t.device s')) views)
+    makes_served t s s' h h' operation outcome kept (uncounted ∙ ap (λ (ok : Bool). count_after ok (t.faults s)) (sym faultless)) (λ _. faultless) serves (does (seen (t.honest s) (t.capacity s) (t.device s)) (seen (t.honest s) (t.capacity s) (t.device s')) views)
 
 -- the header that was written stands in the store
 pub held_written : {S : Type 0} (t : Ghosts S) (s s' : S) (h h' : Header)
@@ -353,18 +350,15 @@ does_judged false honest capacity h d d' status goal bytes e same there phase wh
   λ b. not_genuine (meter_of capacity h d) goal bytes phase whole (λ same_digest. let bad = (digest b).1 same_digest in absurd cc),
 )
 
-pub no_fault : (genuine : Bool) → cond genuine done (refused Differs) ≢ refused Fault
-no_fault true e = cc
-no_fault false e = cc
+pub judged_faultless : (genuine : Bool) → IsTrue (is_faultless (cond genuine done (refused Differs)))
+judged_faultless true = refl
+judged_faultless false = refl
 
 -- a header write behind a call that left the device as it was
 pub written_after : {S : Type 0} (t : Ghosts S) (s s1 s2 : S) (bytes : List ℕ) → t.honest s1 ≡ t.honest s → (IsTrue (t.honest s) → t.device s1 ≡ t.device s)
     → (IsTrue (t.honest s1) → t.device s2 ≡ with_head (t.device s1) bytes) → IsTrue (t.honest s) → t.device s2 ≡ with_head (t.device s) bytes
 written_after t s s1 s2 bytes honesty same written b = written (honesty ∙ b) ∙ ap (λ (d : Device). with_head d bytes) (same b)
 
-pub counted_after : (before between after : ℕ) → before ≤ between → between ≤ after → Counted between after → Counted before after
-counted_after before between after later latest counted below =
-    elim (cases_lt between most_faults) [
-      | inl less ↦ let rose : between < after = counted less in omega arith
-      | inr full ↦ omega arith
-    ]
+-- what a call counts behind one that counted nothing
+pub counted_after : (ok : Bool) (before between after : ℕ) → between ≡ before → after ≡ count_after ok between → after ≡ count_after ok before
+counted_after ok before between after none counted = counted ∙ ap (count_after ok) none

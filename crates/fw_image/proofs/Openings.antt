@@ -1,5 +1,5 @@
 -- What a store is opened as, and what is shown of it.
-use Rattle.std.proofs.Common.{◌≡◌, ℕ, ◌+◌, ◌-◌, ◌<◌, ◌≤◌, ◌↔◌, Bool, false, IsTrue, List, ◌++◌, length, take, drop, replicate, Some, None, Option, refl, sym, ap, subst, ◌∙◌, arith}
+use Rattle.std.proofs.Common.{◌≡◌, ℕ, ◌+◌, ◌-◌, ◌<◌, ◌≤◌, ◌↔◌, Bool, true, false, IsTrue, List, ◌++◌, length, take, drop, replicate, Some, None, Option, refl, sym, ap, subst, ◌∙◌, arith}
 use Rattle.std.proofs.lemmas.List.{length-take-le, length-drop, length-replicate, take-append-drop, ext_get_or, get_or-drop, get_or-replicate}
 use Rattle.sha2.specs.Sha256.{sha256}
 use Rattle.fw_blocks.specs.Cuts.{max_blocks}
@@ -73,15 +73,15 @@ verified_iff cuts capacity h d goal is sized status there =
     let has_goal = goal_again h.status h.goal is.goal_by_status ∙ there in
     (λ same _. genuine_from goal bytes (goal_of m.phase) (goal_bytes m) has_goal whole same, λ genuine. genuine_with goal bytes (goal_of m.phase) (goal_bytes m) has_goal whole (genuine verified))
 
-pub refused_image : {S : Type 0} (t : Ghosts S) (s s' : S) (h : Header) → Keeps t.honest t.sound t.capacity t.faults s s' → (IsTrue (t.honest s) → t.device s' ≡ t.device s) → IsHeader (t.capacity s) h
+pub refused_image : {S : Type 0} (t : Ghosts S) (s s' : S) (h : Header) → Keeps t.honest t.sound t.capacity t.faults s s' → (IsTrue (t.honest s) → t.device s' ≡ t.device s) → t.faults s' ≡ t.faults s → IsHeader (t.capacity s) h
     → (IsTrue (t.honest s) → header_bytes h ≡ (t.device s).head) → (IsTrue (t.honest s) → ¬ IsTrusted (meter_of (t.capacity s) h (t.device s)))
     → Refused t.honest t.sound t.capacity t.faults t.device s BadImage s'
-refused_image t s s' h kept same valid spelled differs = record {
+refused_image t s s' h kept same uncounted valid spelled differs = record {
   reason = λ b.
       let is : IsMeterOf (t.capacity s) (t.device s) (meter_of (t.capacity s) h (t.device s)) = record { header = h; valid = valid; spelled = spelled b; means = refl } in
       (meter_of (t.capacity s) h (t.device s), is, differs b);
-  cause = λ e. absurd cc;
-  never = λ _ e. cc;
+  counted = uncounted;
+  never = λ _. refl;
   same = same;
   kept = kept;
 }
@@ -99,7 +99,7 @@ opened_again t s s' h meter law kept same held was honest =
 
 pub not_refused : {S : Type 0} (t : Ghosts S) (s s' : S) (error : OpenError) (meter : Meter) → OneHeader → Refused t.honest t.sound t.capacity t.faults t.device s error s'
     → IsMeterOf (t.capacity s) (t.device s) meter → IsTrusted meter → IsTrue (t.honest s) → IsTrue (t.sound s) → ⊥
-not_refused t s s' Fault meter law refused is trusted honest sound = refused.never sound refl
+not_refused t s s' Fault meter law refused is trusted honest sound = let bad : false ≡ true = refused.never sound in cc
 not_refused t s s' BadHeader meter law refused is trusted honest sound = refused.reason honest meter is
 not_refused t s s' BadImage meter law refused is trusted honest sound =
     let reason = refused.reason honest in

@@ -1,11 +1,10 @@
 -- Public vocabulary: a meter and the store that holds it, as callers see them.
-use Rattle.std.specs.Prelude.{◌≡◌, ◌≢◌, ◌≤◌, ℕ, Bool, IsTrue, Result, Ok, Err}
+use Rattle.std.specs.Prelude.{◌≡◌, ◌≤◌, ℕ, Bool, IsTrue, Result, Ok, Err}
 use Rattle.fw_store.specs.Device.{Device}
-use Rattle.fw_store.specs.Faults.{Counted}
+use Rattle.fw_store.specs.Faults.{count_after}
 use Rattle.fw_image.specs.Meter.{Meter}
-use Rattle.fw_image.specs.Step.{Operation, Outcome, done, refused, Refuses, Step}
+use Rattle.fw_image.specs.Step.{Operation, Outcome, done, refused, Refuses, Step, is_faultless}
 use Rattle.fw_image.specs.declared.error.Refusal.{Refusal}
-use Rattle.fw_image.specs.declared.error.Refusal.TheVariants.{Fault}
 
 pub record State : Type 0 where
   -- what the header and the slots mean
@@ -25,14 +24,19 @@ pub record Follows (old new : State) : Type 0 where
   pub soundness : IsTrue old.sound → IsTrue new.sound
   pub later : old.faults ≤ new.faults
 
+-- What a store counted while none of its calls failed, or one did: that failure, once. So there was no call behind it. A sound store
+-- doesn't fail.
+pub record Counts (old new : State) (faultless : Bool) : Type 0 where
+  pub counted : new.faults ≡ count_after faultless old.faults
+  pub never : IsTrue old.sound → IsTrue faultless
+
 -- From old, a state makes the step of this operation with this outcome and goes on to new. What a line refuses makes no call of the
--- store. The store is blamed only where it failed.
+-- store. A fault is told just where a call of the store failed, and there is no call behind it.
 pub record Makes (old : State) (operation : Operation) (outcome : Outcome) (new : State) : Type 0 where
   pub step : Step old.honest old.meter operation outcome new.meter
   pub untouched : (r : Refusal) → Refuses old.meter operation r → new ≡ old
   pub follows : Follows old new
-  pub cause : outcome ≡ refused Fault → Counted old.faults new.faults
-  pub never : IsTrue old.sound → outcome ≢ refused Fault
+  pub counts : Counts old new (is_faultless outcome)
 
 -- ---- what a call answers, and the state that it leaves
 

@@ -21,6 +21,11 @@ pub data Outcome : Type 0 where
   done : Outcome
   refused : Refusal → Outcome
 
+-- no call of the store failed
+abbrev pub is_faultless : Outcome → Bool
+is_faultless (refused Fault) = false
+is_faultless outcome = true
+
 -- ---- the lines before any call of the store
 
 -- what can be initiated: an image that a campaign offers, of a size within the limits

@@ -4,7 +4,7 @@ use Rattle.std.specs.FinMap.{insert, empty}
 use Rattle.fw_blocks.specs.Cuts.{cut, block_count}
 use Rattle.fw_blocks.specs.Members.{has}
 use Rattle.fw_store.specs.Device.{Device, slot_bytes}
-use Rattle.fw_store.specs.Faults.{Keeps, Counted}
+use Rattle.fw_store.specs.Faults.{Keeps, count_after}
 use Rattle.fw_store.specs.Slot.{other}
 use Rattle.fw_store.specs.Layout.{header_bytes}
 use Rattle.fw_store.specs.Header.{IsHeader}
@@ -94,11 +94,17 @@ IsCause Fault capacity d = Unit {0}
 IsCause BadHeader capacity d = (m : Meter) → ¬ IsMeterOf capacity d m
 IsCause BadImage capacity d = (m : Meter) × IsMeterOf capacity d m × ¬ IsTrusted m
 
--- A store was not opened for this reason, and is handed back. A fault is told only where it failed.
+-- no call of the store failed
+abbrev pub is_faultless : OpenError → Bool
+is_faultless Fault = false
+is_faultless BadHeader = true
+is_faultless BadImage = true
+
+-- A store was not opened for this reason, and is handed back. A fault is told just where it failed, and it was not called again then.
 pub record Refused {S : Type 0} (honest sound : S → Bool) (capacity faults : S → ℕ) (device : S → Device) (store : S) (error : OpenError) (back : S) : Type 0 where
   pub reason : IsTrue (honest store) → IsCause error (capacity store) (device store)
-  pub cause : error ≡ Fault → Counted (faults store) (faults back)
-  pub never : IsTrue (sound store) → error ≢ Fault
+  pub counted : faults back ≡ count_after (is_faultless error) (faults store)
+  pub never : IsTrue (sound store) → IsTrue (is_faultless error)
   pub same : IsTrue (honest store) → device back ≡ device store
   pub kept : Keeps honest sound capacity faults store back
 

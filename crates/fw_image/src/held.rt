@@ -170,7 +170,7 @@ impl<S: ImageStore> Held<S> {
     pub(crate) fn open(mut store: S) -> Result<Held<S>, (OpenError, S)>
         ensures opened { IfOk result (λ next. Holds S.honest S.capacity S.device store next) }
         ensures sound { IfOk result (λ next. IsTrue (S.sound store) → IsTrue next.sound) }
-        ensures later { IfOk result (λ next. S.faults store ≤ next.faults) }
+        ensures faultless { IfOk result (λ next. next.faults ≡ S.faults store) }
         ensures refused { IfErr result (λ e. Refused S.honest S.sound S.capacity S.faults S.device store e.0 e.1) }
         ensures again { (meter : Meter) → IsMeterOf (S.capacity store) (S.device store) meter → IsTrusted meter
             → IsTrue (S.honest store) → IsTrue (S.sound store) → IsOkAnd result (λ next. next.meter ≡ meter) }
@@ -369,6 +369,7 @@ fn examine<S: ImageStore>(store: &mut S) -> Result<Header, OpenError>
     ensures held { IfOk result (IsHeld S.honest S.capacity S.device store.new) }
     ensures same { IsTrue (S.honest store.old) → S.device store.new ≡ S.device store.old }
     ensures kept { Keeps S.honest S.sound S.capacity S.faults store.old store.new }
+    ensures faultless { OnOk result (S.faults store.new ≡ S.faults store.old) }
     ensures refused { IfErr result (λ e. Refused S.honest S.sound S.capacity S.faults S.device store.old e store.new) }
 {
     let bytes = store.header()?;

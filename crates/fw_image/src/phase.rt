@@ -39,7 +39,7 @@ pub fn open_store<S: ImageStore>(store: S) -> Result<Phase<S>, (OpenError, S)>
     ensures opened { IfOk result (λ phase. Holds S.honest S.capacity S.device store (state_in phase)) }
     ensures phase { IfOk result IsInPhase }
     ensures sound { IfOk result (λ phase. IsTrue (S.sound store) → IsTrue (state_in phase).sound) }
-    ensures later { IfOk result (λ phase. S.faults store ≤ (state_in phase).faults) }
+    ensures faultless { IfOk result (λ phase. (state_in phase).faults ≡ S.faults store) }
     ensures refused { IfErr result (λ e. Refused S.honest S.sound S.capacity S.faults S.device store e.0 e.1) }
 
     // An honest, sound store that holds a meter, whose images have their names' digests, is opened as that meter.

@@ -1,14 +1,16 @@
 -- Over an honest store that doesn't fail, no hardware fault is told.
-use Rattle.std.proofs.Common.{ℕ, Bool, List, Option, inl, inr}
+use Rattle.std.proofs.Common.{ℕ, Bool, true, IsTrue, List, Option, inl, inr}
 use Rattle.fw_names.specs.Name.{Name}
 use Rattle.fw_image.specs.Meter.{Meter}
-use Rattle.fw_meter.specs.Handling.{Handles, Blamed}
+use Rattle.fw_image.specs.State.{Counts}
+use Rattle.fw_meter.specs.Step.{is_faultless}
+use Rattle.fw_meter.specs.Handling.{Handles}
 use Rattle.fw_meter.specs.Laws.{Faultless}
 
--- what may be blamed is so where something else is
-blames : (honest : Bool) (A B : Type 0) (old new : Meter) (datagram : List ℕ) (reply : Option (List ℕ)) (activated : Option Name) → (A → B) → Handles honest A old datagram reply activated new
+-- what is known of the faults is so where something else is known
+knowing : (honest : Bool) (A B : Bool → Type 0) (old new : Meter) (datagram : List ℕ) (reply : Option (List ℕ)) (activated : Option Name) → ((faultless : Bool) → A faultless → B faultless) → Handles honest A old datagram reply activated new
     → Handles honest B old datagram reply activated new
-blames honest A B old new datagram reply activated more (inl serves) = inl (record {
+knowing honest A B old new datagram reply activated more (inl serves) = inl (record {
   source = serves.source;
   invoke = serves.invoke;
   content = serves.content;
@@ -18,13 +20,19 @@ blames honest A B old new datagram reply activated more (inl serves) = inl (reco
     steps = serves.responds.steps;
     replies = serves.responds.replies;
     activates = serves.responds.activates;
-    cause = λ told. more (serves.responds.cause told);
+    faults = more (is_faultless serves.responds.outcome) serves.responds.faults;
   };
 })
-blames honest A B old new datagram reply activated more (inr drops) = inr drops
+knowing honest A B old new datagram reply activated more (inr drops) = inr (record {
+  nothing = drops.nothing;
+  silent = drops.silent;
+  none_activated = drops.none_activated;
+  same = drops.same;
+  faults = more true drops.faults;
+})
 
--- and nothing may be blamed
+-- and there is none
 pub faultless : Faultless
 faultless old new datagram reply activated honest sound handles =
-    let unblamed = blames old.honest (Blamed old new) ⊥ old.meter new.meter datagram reply activated (λ blamed. blamed.1 sound) handles in
-    rw honest at unblamed
+    let sure = knowing old.honest (Counts old new) IsTrue old.meter new.meter datagram reply activated (λ _ counts. counts.never sound) handles in
+    rw honest at sure

@@ -1,65 +1,59 @@
 -- Operations that are refused, and those that a status lacks.
-use Rattle.std.proofs.Common.{◌≡◌, ◌≢◌, ℕ, Bool, true, false, List, if◌then◌else◌, inl, inr, refl, arith}
+use Rattle.std.proofs.Common.{◌≡◌, ◌≢◌, ℕ, Bool, true, false, IsTrue, List, if◌then◌else◌, inl, inr, refl, sym, ap, arith}
 use Rattle.fw_store.specs.declared.header.TransferStatus.TheVariants as status
+use Rattle.fw_store.specs.Faults.{count_after}
 use Rattle.fw_image.specs.Meter.{Phase, idle, receiving, sealed, spoilt, switched, status_of}
 use Rattle.fw_image.specs.State.{State}
 use Rattle.fw_image.specs.Phases.{state_in, IsInPhase}
 use Rattle.fw_image.specs.declared.phase.Phase.{Phase as Core}
 use Rattle.fw_image.specs.declared.phase.Phase.TheVariants as core
-use Rattle.fw_image.specs.Step.{Operation, block, verify, activate, refused, Refuses}
+use Rattle.fw_image.specs.Step.{Operation, block, verify, activate, refused, Refuses, is_faultless}
 use Rattle.fw_image.specs.declared.error.Refusal.{Refusal}
-use Rattle.fw_image.specs.declared.error.Refusal.TheVariants.{Disabled, Missing, Fault}
+use Rattle.fw_image.specs.declared.error.Refusal.TheVariants.{Disabled, Missing}
 use Rattle.fw_meter.specs.Step.{refusal_code}
 use Rattle.fw_meter.specs.Inside.{IsMade, code_number}
 use Rattle.fw_meter.specs.declared.code.Code.TheVariants as code
 
 -- a line refuses the operation
-refused_by : (s : State) (operation : Operation) (r : Refusal) (n : ℕ) → Refuses s.meter operation r → (refused r ≡ refused Fault → ⊥) → n ≡ refusal_code r → IsMade s operation n s
-refused_by s operation r n line other told = (
+refused_by : (s : State) (operation : Operation) (r : Refusal) (n : ℕ) → Refuses s.meter operation r → IsTrue (is_faultless (refused r)) → n ≡ refusal_code r → IsMade s operation n s
+refused_by s operation r n line faultless told = (
   refused r,
   record {
     step = inl (record { refusal = r; line = line; told = refl; same = record { shows = refl; is = λ _. refl } });
     untouched = λ _ _. refl;
     follows = record { honesty = refl; soundness = λ h. h; later = omega arith };
-    cause = λ e. absurd (other e);
-    never = λ _. other;
+    counts = record { counted = ap (λ (ok : Bool). count_after ok s.faults) (sym faultless); never = λ _. faultless };
   },
   told,
 )
 
-not_disabled : refused Disabled ≡ refused Fault → ⊥
-not_disabled e = cc
-
-not_missing : refused Missing ≡ refused Fault → ⊥
-not_missing e = cc
-
 -- a status that lacks the call
 pub lacks_block : (s : State) (i : ℕ) (value : List ℕ) (e : Bool) (p : Phase) → s.meter.enabled ≡ e → s.meter.phase ≡ p → status_of p ≢ status.Initiated
     → IsMade s (block i value) (code_number (if e then code.TemporaryFailure else code.ReadWriteDenied)) s
-lacks_block s i value false p off phase other = refused_by s (block i value) Disabled 3 (inl (off, refl)) not_disabled refl
-lacks_block s i value true idle on phase other = refused_by s (block i value) Missing 2 (inr (on, rw phase refl, rw phase (λ h. h))) not_missing refl
+lacks_block s i value false p off phase other = refused_by s (block i value) Disabled 3 (inl (off, refl)) refl refl
+lacks_block s i value true idle on phase other = refused_by s (block i value) Missing 2 (inr (on, rw phase refl, rw phase (λ h. h))) refl refl
 lacks_block s i value true (receiving goal) on phase other = absurd (other refl)
-lacks_block s i value true (sealed goal) on phase other = refused_by s (block i value) Missing 2 (inr (on, rw phase refl, rw phase (λ h. h))) not_missing refl
-lacks_block s i value true (spoilt goal) on phase other = refused_by s (block i value) Missing 2 (inr (on, rw phase refl, rw phase (λ h. h))) not_missing refl
-lacks_block s i value true switched on phase other = refused_by s (block i value) Missing 2 (inr (on, rw phase refl, rw phase (λ h. h))) not_missing refl
+lacks_block s i value true (sealed goal) on phase other = refused_by s (block i value) Missing 2 (inr (on, rw phase refl, rw phase (λ h. h))) refl refl
+lacks_block s i value true (spoilt goal) on phase other = refused_by s (block i value) Missing 2 (inr (on, rw phase refl, rw phase (λ h. h))) refl refl
+lacks_block s i value true switched on phase other = refused_by s (block i value) Missing 2 (inr (on, rw phase refl, rw phase (λ h. h))) refl refl
 
 pub lacks_verify : (s : State) (e : Bool) (p : Phase) → s.meter.enabled ≡ e → s.meter.phase ≡ p → status_of p ≢ status.Initiated
     → IsMade s verify (code_number (if e then code.TemporaryFailure else code.ReadWriteDenied)) s
-lacks_verify s false p off phase other = refused_by s verify Disabled 3 (inl (off, refl)) not_disabled refl
-lacks_verify s true idle on phase other = refused_by s verify Missing 2 (inr (on, refl, rw phase (λ h. h))) not_missing refl
+lacks_verify s false p off phase other = refused_by s verify Disabled 3 (inl (off, refl)) refl refl
+lacks_verify s true idle on phase other = refused_by s verify Missing 2 (inr (on, refl, rw phase (λ h. h))) refl refl
 lacks_verify s true (receiving goal) on phase other = absurd (other refl)
-lacks_verify s true (sealed goal) on phase other = refused_by s verify Missing 2 (inr (on, refl, rw phase (λ h. h))) not_missing refl
-lacks_verify s true (spoilt goal) on phase other = refused_by s verify Missing 2 (inr (on, refl, rw phase (λ h. h))) not_missing refl
-lacks_verify s true switched on phase other = refused_by s verify Missing 2 (inr (on, refl, rw phase (λ h. h))) not_missing refl
+lacks_verify s true (sealed goal) on phase other = refused_by s verify Missing 2 (inr (on, refl, rw phase (λ h. h))) refl refl
+lacks_verify s true (spoilt goal) on phase other = refused_by s verify Missing 2 (inr (on, refl, rw phase (λ h. h))) refl refl
+lacks_verify s true switched on phase other = refused_by s verify Missing 2 (inr (on, refl, rw phase (λ h. h))) refl refl
 
 pub lacks_activate : (s : State) (e : Bool) (p : Phase) → s.meter.enabled ≡ e → s.meter.phase ≡ p → status_of p ≢ status.VerificationSuccessful
     → IsMade s activate (code_number (if e then code.TemporaryFailure else code.ReadWriteDenied)) s
-lacks_activate s false p off phase other = refused_by s activate Disabled 3 (inl (off, refl)) not_disabled refl
-lacks_activate s true idle on phase other = refused_by s activate Missing 2 (inr (on, refl, rw phase (λ h. h))) not_missing refl
-lacks_activate s true (receiving goal) on phase other = refused_by s activate Missing 2 (inr (on, refl, rw phase (λ h. h))) not_missing refl
+lacks_activate s false p off phase other = refused_by s activate Disabled 3 (inl (off, refl)) refl refl
+lacks_activate s true idle on phase other = refused_by s activate Missing 2 (inr (on, refl, rw phase (λ h. h))) refl refl
+lacks_activate s true (receiving goal) on phase other = refused_by s activate Missing 2 (inr (on, refl, rw phase (λ h. h))) refl refl
 lacks_activate s true (sealed goal) on phase other = absurd (other refl)
-lacks_activate s true (spoilt goal) on phase other = refused_by s activate Missing 2 (inr (on, refl, rw phase (λ h. h))) not_missing refl
-lacks_activate s true switched on phase other = refused_by s activate Missing 2 (inr (on, refl, rw phase (λ h. h))) not_missing refl
+lacks_activate s true (spoilt goal) on phase other = refused_by s activate Missing 2 (inr (on, refl, rw phase (λ h. h))) refl refl
+lacks_activate s true switched on phase other = refused_by s activate Missing 2 (inr (on, refl, rw phase (λ h. h))) refl refl
 
 -- the type of the phase tells its status
 pub not_receiving : {S : Type 0} (p : Core S) → IsInPhase p → ((t : State) → p ≡ core.Receiving t → ⊥) → status_of (state_in p).meter.phase ≢ status.Initiated

@@ -1,5 +1,5 @@
 -- There is one answer to a datagram, over an honest store that doesn't fail.
-use Rattle.std.proofs.Common.{◌≡◌, ◌≢◌, ℕ, true, List, inl, inr, sym, ap, subst, ◌∙◌}
+use Rattle.std.proofs.Common.{◌≡◌, ◌≢◌, ℕ, true, false, IsTrue, List, inl, inr, sym, ap, subst, ◌∙◌}
 use Rattle.fw_apdu.specs.Request.{RequestContent, SpellsRequest}
 use Rattle.fw_apdu.specs.Laws as apdu
 use Rattle.fw_wrapper.specs.Laws as wrapper
@@ -13,7 +13,7 @@ use Rattle.fw_image.specs.Step.{Operation, refused}
 use Rattle.fw_image.specs.declared.error.Refusal.TheVariants.{Fault}
 use Rattle.fw_meter.specs.Handling.{Brings, reply_to}
 use Rattle.fw_meter.specs.Laws.{OneAnswer}
-use Rattle.fw_meter.specs.Step.{Outcome, coded, Operates, MeterStep, operation_code, activation_of}
+use Rattle.fw_meter.specs.Step.{Outcome, coded, is_faultless, Operates, MeterStep, operation_code, activation_of}
 
 pub record Same (a b : Outcome) (new other : Meter) : Type 0 where
   pub outcomes : a ≡ b
@@ -44,6 +44,9 @@ one_step spelled law old new other (block i value) a b n m h k = made_once law o
 one_step spelled law old new other verify a b n m h k = made_once law old new other operations.verify a b n m h k
 one_step spelled law old new other activate a b n m h k = made_once law old new other operations.activate a b n m h k
 
+not_fault : (a : Outcome) → IsTrue (is_faultless a) → a ≢ coded 1
+not_fault a faultless e = let bad : false ≡ true = subst (λ (x : Outcome). IsTrue (is_faultless x)) e faultless in cc
+
 -- a datagram brings one request
 pub record SameRequest (source s invoke i : ℕ) (content c : RequestContent) : Type 0 where
   pub sources : source ≡ s
@@ -64,7 +67,7 @@ one_answer spelled frames requests law old new other datagram r s a b (inl h) (i
     let did = h.responds in
     let does = k.responds in
     let step : MeterStep true old (meaning_of k.content) did.outcome new = subst (λ (x : RequestContent). MeterStep true old (meaning_of x) did.outcome new) same.contents did.steps in
-    let both = one_step spelled law old new other (meaning_of k.content) did.outcome does.outcome did.cause does.cause step does.steps in
+    let both = one_step spelled law old new other (meaning_of k.content) did.outcome does.outcome (not_fault did.outcome did.faults) (not_fault does.outcome does.faults) step does.steps in
     let replies : reply_to h.source h.invoke h.content did.outcome ≡ reply_to k.source k.invoke k.content does.outcome =
     λ x. reply_to (same.sources x) (same.invokes x) (same.contents x) (both.outcomes x) in
     let activations : activation_of (meaning_of h.content) did.outcome new ≡ activation_of (meaning_of k.content) does.outcome other =

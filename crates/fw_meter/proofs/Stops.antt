@@ -1,17 +1,18 @@
 -- What a fault leaves is what a stop may leave.
-use Rattle.std.proofs.Common.{◌≡◌, ◌≢◌, ℕ, Bool, true, List, Option, Some, None, ◌⊎◌, length, inl, inr, refl, ap, subst, ◌∙◌}
+use Rattle.std.proofs.Common.{◌≡◌, ◌≢◌, ℕ, zero, suc, Bool, true, IsTrue, List, Option, Some, None, ◌⊎◌, length, inl, inr, refl, ap, subst, ◌∙◌}
 use Rattle.std.proofs.lemmas.Bool.{cases_eq}
 use Rattle.std.specs.FinMap.{get}
 use Rattle.fw_server.specs.Meaning.{Meaning, read, enable, initiate, block, verify, activate, refused as denied, meaning_of}
 use Rattle.fw_store.specs.declared.header.TransferStatus.TheVariants.{Initiated}
 use Rattle.fw_image.specs.Meter.{Meter, Phase, idle, receiving, sealed, spoilt, switched, status_of}
+use Rattle.fw_image.specs.State.{Counts}
 use Rattle.fw_image.specs.Step as operations
 use Rattle.fw_image.specs.Step.{Operation, refused, done, Admits, Does, with_cell, Step}
 use Rattle.fw_image.specs.declared.error.Refusal.TheVariants.{Disabled, BadInitiate, BadBlock, Missing, Fault, Differs}
 use Rattle.fw_names.specs.Name.{Name}
-use Rattle.fw_meter.specs.Handling.{Handles, Blamed}
+use Rattle.fw_meter.specs.Handling.{Handles}
 use Rattle.fw_meter.specs.Laws.{Stops, FaultIsStop}
-use Rattle.fw_meter.specs.Step.{Outcome, got, coded, Operates, MeterStep, operation_code, activation_of}
+use Rattle.fw_meter.specs.Step.{Outcome, got, coded, is_faultless, Operates, MeterStep, operation_code, activation_of}
 
 -- ---- an operation that is told a fault
 
@@ -100,7 +101,13 @@ activates_none (block i value) new = refl
 activates_none verify new = refl
 activates_none activate new = refl
 
-stops : (B : Type 0) (old new : Meter) (datagram : List ℕ) (reply : Option (List ℕ)) (activated : Option Name) → Handles true B old datagram reply activated new → Stops old datagram activated new
+told_faultless : (a : Outcome) → a ≢ coded 1 → IsTrue (is_faultless a)
+told_faultless (got answer) n = refl
+told_faultless (coded zero) n = refl
+told_faultless (coded (suc zero)) n = absurd (n refl)
+told_faultless (coded (suc (suc c))) n = refl
+
+stops : (B : Bool → Type 0) (old new : Meter) (datagram : List ℕ) (reply : Option (List ℕ)) (activated : Option Name) → Handles true B old datagram reply activated new → Stops old datagram activated new
 stops B old new datagram reply activated (inr h) = inl (h.same, h.none_activated)
 stops B old new datagram reply activated (inl h) =
     let did = h.responds in
@@ -136,12 +143,12 @@ stops B old new datagram reply activated (inl h) =
           invoke = h.invoke;
           content = h.content;
           brings = h.brings;
-          responds = record { outcome = did.outcome; steps = did.steps; replies = did.replies; activates = did.activates; cause = n };
+          responds = record { outcome = did.outcome; steps = did.steps; replies = did.replies; activates = did.activates; faults = told_faultless did.outcome n };
         }),
       ))
     ]
 
 pub fault_is_stop : FaultIsStop
 fault_is_stop old new datagram reply activated honest h =
-    stops (Blamed old new) old.meter new.meter datagram reply activated
-    (subst (λ (b : Bool). Handles b (Blamed old new) old.meter datagram reply activated new.meter) honest h)
+    stops (Counts old new) old.meter new.meter datagram reply activated
+    (subst (λ (b : Bool). Handles b (Counts old new) old.meter datagram reply activated new.meter) honest h)

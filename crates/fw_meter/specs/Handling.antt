@@ -1,5 +1,5 @@
 -- Public vocabulary: what a meter does with a datagram, from bytes to bytes.
-use Rattle.std.specs.Prelude.{◌≡◌, ℕ, Bool, IsTrue, ◌⊎◌, List, Option, Some, None, if◌then◌else◌}
+use Rattle.std.specs.Prelude.{◌≡◌, ℕ, Bool, true, ◌⊎◌, List, Option, Some, None, if◌then◌else◌}
 use Rattle.std.specs.Option.{option_map}
 use Rattle.std.specs.Global.{Vec}
 use Rattle.fw_wrapper.specs.Wrapper.{Wraps, wrapped}
@@ -9,10 +9,8 @@ use Rattle.fw_names.specs.Name.{Name}
 use Rattle.fw_server.specs.Meaning.{meaning_of}
 use Rattle.fw_server.specs.Answer as server
 use Rattle.fw_server.specs.Answer.{response_of}
-use Rattle.fw_store.specs.Faults.{Counted}
 use Rattle.fw_image.specs.Meter.{Meter}
-use Rattle.fw_image.specs.State.{State}
-use Rattle.fw_meter.specs.Step.{Outcome, got, coded, MeterStep, activation_of}
+use Rattle.fw_meter.specs.Step.{Outcome, got, coded, is_faultless, MeterStep, activation_of}
 
 -- a datagram carries a request, with its invoke byte, from a source to the wPort of the meter, 1
 pub record Brings (datagram : List ℕ) (source invoke : ℕ) (content : RequestContent) : Type 0 where
@@ -39,38 +37,36 @@ abbrev pub reply_to : ℕ → ℕ → RequestContent → Outcome → Option (Lis
 reply_to source invoke content outcome =
     if is_confirmed invoke then Some (wrapped 1 source (response_bytes invoke (response_of (outcome_in content outcome)))) else None
 
--- The meter makes the step of a request, with this invoke byte from this source, and replies with its outcome. A hardware fault, code 1,
--- is told only where the store may be blamed.
-pub record Responds (honest : Bool) (Blamed : Type 0) (old : Meter) (source invoke : ℕ) (content : RequestContent) (reply : Option (List ℕ)) (activated : Option Name) (new : Meter) : Type 0 where
+-- The meter makes the step of a request, with this invoke byte from this source, and replies with its outcome. Of the store's faults is
+-- known what is known where none of its calls failed, or one did.
+pub record Responds (honest : Bool) (Faults : Bool → Type 0) (old : Meter) (source invoke : ℕ) (content : RequestContent) (reply : Option (List ℕ)) (activated : Option Name) (new : Meter) : Type 0 where
   pub outcome : Outcome
   pub steps : MeterStep honest old (meaning_of content) outcome new
   pub replies : reply ≡ reply_to source invoke content outcome
   pub activates : activated ≡ activation_of (meaning_of content) outcome new
-  pub cause : outcome ≡ coded 1 → Blamed
+  pub faults : Faults (is_faultless outcome)
 
 -- so it does with the request that it is brought
-pub record Serves (honest : Bool) (Blamed : Type 0) (old : Meter) (datagram : List ℕ) (reply : Option (List ℕ)) (activated : Option Name) (new : Meter) : Type 0 where
+pub record Serves (honest : Bool) (Faults : Bool → Type 0) (old : Meter) (datagram : List ℕ) (reply : Option (List ℕ)) (activated : Option Name) (new : Meter) : Type 0 where
   pub source : ℕ
   pub invoke : ℕ
   pub content : RequestContent
   pub brings : Brings datagram source invoke content
-  pub responds : Responds honest Blamed old source invoke content reply activated new
+  pub responds : Responds honest Faults old source invoke content reply activated new
 
 -- the meter is brought no request, stays as it was and gives no reply
-pub record Drops (old : Meter) (datagram : List ℕ) (reply : Option (List ℕ)) (activated : Option Name) (new : Meter) : Type 0 where
+pub record Drops (Faults : Bool → Type 0) (old : Meter) (datagram : List ℕ) (reply : Option (List ℕ)) (activated : Option Name) (new : Meter) : Type 0 where
   pub nothing : BringsNothing datagram
   pub silent : reply ≡ None
   pub none_activated : activated ≡ None
   pub same : new ≡ old
+  pub faults : Faults true
 
--- from old, a meter that hears this datagram gives this reply, activates this image or none, and goes on to new
-abbrev pub Handles : Bool → Type 0 → Meter → List ℕ → Option (List ℕ) → Option Name → Meter → Type 0
-Handles honest Blamed old datagram reply activated new =
-    Serves honest Blamed old datagram reply activated new ⊎ Drops old datagram reply activated new
-
--- a store may be blamed for what it failed at since, and never where no call of it fails
-abbrev pub Blamed : State → State → Type 0
-Blamed old new = Counted old.faults new.faults × (IsTrue old.sound → ⊥)
+-- From old, a meter that hears this datagram gives this reply, activates this image or none, and goes on to new. Over two states, Faults
+-- is what the store counted between them (`Counts`); over a store that doesn't fail, it is that none failed (`IsTrue`).
+abbrev pub Handles : Bool → (Bool → Type 0) → Meter → List ℕ → Option (List ℕ) → Option Name → Meter → Type 0
+Handles honest Faults old datagram reply activated new =
+    Serves honest Faults old datagram reply activated new ⊎ Drops Faults old datagram reply activated new
 
 -- a reply without where it lies in memory
 abbrev pub reply_bytes : Option (Vec ℕ) → Option (List ℕ)

@@ -13,11 +13,11 @@ use Rattle.fw_server.specs.Answer.{response_of}
 use Rattle.fw_server.specs.Meaning as meaning
 use Rattle.fw_server.specs.Meaning.{Meaning}
 use Rattle.fw_image.specs.Phases.{state_in, IsInPhase}
-use Rattle.fw_image.specs.State.{State, Follows, Makes}
+use Rattle.fw_image.specs.State.{State, Follows, Counts, Makes}
 use Rattle.fw_image.specs.Step as image
 use Rattle.fw_image.specs.declared.phase.Phase.{Phase}
-use Rattle.fw_meter.specs.Step.{coded, operation_code, MeterStep}
-use Rattle.fw_meter.specs.Handling.{Brings, BringsNothing, Blamed, reply_to, reply_bytes}
+use Rattle.fw_meter.specs.Step.{coded, is_faultless, operation_code, MeterStep}
+use Rattle.fw_meter.specs.Handling.{Brings, BringsNothing, reply_to, reply_bytes}
 use Rattle.fw_meter.specs.declared.code.Code.{Code}
 use Rattle.fw_meter.specs.declared.code.Code.TheVariants as code
 use Rattle.fw_meter.specs.declared.operation.Operation.{Operation}
@@ -70,7 +70,7 @@ IsMade old operation c new = (outcome : image.Outcome) × Makes old operation ou
 pub record Steps (old : State) (asked : Meaning) (c : ℕ) (new : State) : Type 0 where
   pub step : MeterStep old.honest old.meter asked (coded c) new.meter
   pub follows : Follows old new
-  pub cause : c ≡ 1 → Blamed old new
+  pub faults : Counts old new (is_faultless (coded c))
 
 -- a phase is there
 abbrev pub IsThere : {S : Type 0} → Option (Phase S) → Type 0

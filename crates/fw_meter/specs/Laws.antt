@@ -6,21 +6,21 @@ use Rattle.fw_names.specs.Name.{Name}
 use Rattle.fw_server.specs.Meaning.{meaning_of, block}
 use Rattle.fw_store.specs.declared.header.TransferStatus.TheVariants.{Initiated}
 use Rattle.fw_image.specs.Meter.{Meter, status_of}
-use Rattle.fw_image.specs.State.{State}
+use Rattle.fw_image.specs.State.{State, Counts}
 use Rattle.fw_image.specs.Step.{with_cell}
-use Rattle.fw_meter.specs.Handling.{Brings, Handles, Blamed}
+use Rattle.fw_meter.specs.Handling.{Brings, Handles}
 
 -- over an honest store that doesn't fail, a meter and a datagram determine the reply, the activation and the meter afterwards
 abbrev pub OneAnswer : Type 0
 OneAnswer =
     (old new other : Meter) (datagram : List ℕ) (r s : Option (List ℕ)) (a b : Option Name)
-    → Handles true ⊥ old datagram r a new → Handles true ⊥ old datagram s b other → (r ≡ s) × (a ≡ b) × (new ≡ other)
+    → Handles true IsTrue old datagram r a new → Handles true IsTrue old datagram s b other → (r ≡ s) × (a ≡ b) × (new ≡ other)
 
 -- over an honest store that doesn't fail, a datagram is handled without a hardware fault
 abbrev pub Faultless : Type 0
 Faultless =
     (old new : State) (datagram : List ℕ) (reply : Option (List ℕ)) (activated : Option Name) → IsTrue old.honest → IsTrue old.sound
-    → Handles old.honest (Blamed old new) old.meter datagram reply activated new.meter → Handles true ⊥ old.meter datagram reply activated new.meter
+    → Handles old.honest (Counts old new) old.meter datagram reply activated new.meter → Handles true IsTrue old.meter datagram reply activated new.meter
 
 -- a block that was there is written again, and the write is cut: any bytes of its length stand in its cell
 pub record Tears (old : Meter) (datagram : List ℕ) (new : Meter) : Type 0 where
@@ -44,10 +44,10 @@ abbrev pub Stops : Meter → List ℕ → Option Name → Meter → Type 0
 Stops old datagram activated new =
     ((new ≡ old) × (activated ≡ None))
     ⊎ ((Tears old datagram new × (activated ≡ None))
-    ⊎ ((reply : Option (List ℕ)) × Handles true ⊥ old datagram reply activated new))
+    ⊎ ((reply : Option (List ℕ)) × Handles true IsTrue old datagram reply activated new))
 
 -- whichever call of an honest store fails, the meter is left as a stop may leave it
 abbrev pub FaultIsStop : Type 0
 FaultIsStop =
     (old new : State) (datagram : List ℕ) (reply : Option (List ℕ)) (activated : Option Name) → IsTrue old.honest
-    → Handles old.honest (Blamed old new) old.meter datagram reply activated new.meter → Stops old.meter datagram activated new.meter
+    → Handles old.honest (Counts old new) old.meter datagram reply activated new.meter → Stops old.meter datagram activated new.meter

@@ -1,6 +1,6 @@
 -- Public vocabulary: the step of a meter on the meaning of a request, which joins what a request asks (fw_server) to what an operation
 -- of Image transfer does (fw_image).
-use Rattle.std.specs.Prelude.{◌≡◌, ℕ, zero, Bool, Option, Some, None, if◌then◌else◌, ◌⊎◌}
+use Rattle.std.specs.Prelude.{◌≡◌, ℕ, zero, suc, Bool, true, false, Option, Some, None, if◌then◌else◌, ◌⊎◌}
 use Rattle.fw_names.specs.Name.{Name, SpellsName}
 use Rattle.fw_blocks.specs.Members.{first_missing}
 use Rattle.fw_store.specs.Layout.{status_number}
@@ -18,6 +18,11 @@ use Rattle.fw_image.specs.declared.error.Refusal.TheVariants.{Disabled, BadIniti
 pub data Outcome : Type 0 where
   got : Answer → Outcome
   coded : ℕ → Outcome
+
+-- no call of the store failed: code 1 tells that one did
+abbrev pub is_faultless : Outcome → Bool
+is_faultless (coded (suc zero)) = false
+is_faultless outcome = true
 
 -- ---- reads
 

@@ -1,7 +1,7 @@
 //! A meter without its wires.
 
 ghost use Rattle.std.specs.Prelude.{◌≡◌, ◌≢◌, ◌≤◌, IsTrue, IfOk, IfErr, IsOkAnd, OnOk, OnErr, None, true, false, length};
-ghost use Rattle.fw_store.specs.Faults.{HasCause, Counted};
+ghost use Rattle.fw_store.specs.Faults.{HasCause, count_after};
 ghost use Rattle.fw_server.specs.Answer.{bits_in_answer};
 ghost use Rattle.fw_server.specs.Meaning.{meaning_of};
 ghost use Rattle.fw_server.specs.View.{answer_of as told_answer, reading_of};
@@ -10,10 +10,10 @@ ghost use Rattle.fw_meter.specs.Step.{answer_of};
 ghost use Rattle.fw_apdu.specs.View.{request_content, request_invoke};
 ghost use Rattle.fw_image.specs.Meter.{Meter, IsTrusted};
 ghost use Rattle.fw_image.specs.Shown.{shown_of, IsView};
-ghost use Rattle.fw_image.specs.State.{Follows};
-ghost use Rattle.fw_image.specs.Stored.{Holds, IsMeterOf, Refused};
+ghost use Rattle.fw_image.specs.State.{Follows, Counts};
+ghost use Rattle.fw_image.specs.Stored.{Holds, IsMeterOf, Refused, is_faultless};
 ghost use Rattle.fw_image.specs.declared.error.OpenError.TheVariants as not_opened;
-ghost use Rattle.fw_meter.specs.Handling.{Handles, Responds, Blamed, IsForMeter, reply_bytes};
+ghost use Rattle.fw_meter.specs.Handling.{Handles, Responds, IsForMeter, reply_bytes};
 ghost use Rattle.fw_meter.specs.Inside.{asked};
 
 use crate::error::OutOfMemory;
@@ -70,7 +70,7 @@ impl<S: ImageStore + Drop> MeterCore<S> {
     pub fn open_store(store: S) -> Result<MeterCore<S>, (OpenError, S)>
         ensures opened { IfOk result (λ meter. Holds S.honest S.capacity S.device store meter) }
         ensures sound { IfOk result (λ meter. IsTrue (S.sound store) → IsTrue meter.sound) }
-        ensures later { IfOk result (λ meter. S.faults store ≤ meter.faults) }
+        ensures faultless { IfOk result (λ meter. meter.faults ≡ S.faults store) }
         ensures again { (meter : Meter) → IsMeterOf (S.capacity store) (S.device store) meter → IsTrusted meter
             → IsTrue (S.honest store) → IsTrue (S.sound store) → IsOkAnd result (λ opened. opened.meter ≡ meter) }
         ensures refused { IfErr result (λ e. Refused S.honest S.sound S.capacity S.faults S.device store e.0 e.1) }
@@ -89,8 +89,9 @@ impl<S: ImageStore + Drop> MeterCore<S> {
         ensures follows { IfOk result (λ meter. Follows self meter) }
         ensures again { IsTrue self.honest → IsTrue self.sound → IsOkAnd result (λ meter. meter.meter ≡ self.meter) }
         ensures fault { IsTrue self.honest → IfErr result (λ e. e.0 ≡ not_opened.Fault) }
-        ensures cause { IfErr result (λ e. e.0 ≡ not_opened.Fault → Counted self.faults (S.faults e.1)) }
-        ensures never { IsTrue self.sound → IfErr result (λ e. e.0 ≢ not_opened.Fault) }
+        ensures faultless { IfOk result (λ meter. meter.faults ≡ self.faults) }
+        ensures counted { IfErr result (λ e. S.faults e.1 ≡ count_after (is_faultless e.0) self.faults) }
+        ensures never { IsTrue self.sound → IfErr result (λ e. IsTrue (is_faultless e.0)) }
         ensures back { IfErr result (λ e. Holds S.honest S.capacity S.device e.1 self) }
     {
         fw_image::laws::one_meter();
@@ -108,7 +109,7 @@ impl<S: ImageStore + Drop> MeterCore<S> {
     ///
     /// `OutOfMemory`, for a datagram that carries an APDU to wPort 1 alone, and the meter and its store are as before.
     pub fn handle(&mut self, alloc: Global, datagram: &[u8]) -> Result<Handled, OutOfMemory>
-        ensures step { IfOk result (λ h. Handles self.old.honest (Blamed self.old self.new) self.old.meter datagram.now
+        ensures step { IfOk result (λ h. Handles self.old.honest (Counts self.old self.new) self.old.meter datagram.now
             (reply_bytes h.reply) h.activated self.new.meter) }
         ensures follows { Follows self.old self.new }
         ensures err { OnErr result (self.new ≡ self.old) }
@@ -154,7 +155,7 @@ impl<S: ImageStore + Drop> MeterCore<S> {
 
     // Serves a request, and replies where it asks for a response.
     fn respond(&mut self, alloc: Global, heard: &Heard) -> Result<Handled, OutOfMemory>
-        ensures step { IfOk result (λ h. Responds self.old.honest (Blamed self.old self.new) self.old.meter heard.now.source
+        ensures step { IfOk result (λ h. Responds self.old.honest (Counts self.old self.new) self.old.meter heard.now.source
             (request_invoke heard.now.request) (request_content heard.now.request) (reply_bytes h.reply) h.activated self.new.meter) }
         ensures follows { Follows self.old self.new }
         ensures err { OnErr result (self.new ≡ self.old) }
@@ -196,7 +197,7 @@ impl<S: ImageStore + Drop> MeterCore<S> {
         operation: Operation<'_>,
     ) -> Result<Handled, OutOfMemory>
         requires { asked operation ≡ meaning_of (request_content heard.now.request) }
-        ensures step { IfOk result (λ h. Responds self.old.honest (Blamed self.old self.new) self.old.meter heard.now.source
+        ensures step { IfOk result (λ h. Responds self.old.honest (Counts self.old self.new) self.old.meter heard.now.source
             (request_invoke heard.now.request) (request_content heard.now.request) (reply_bytes h.reply) h.activated self.new.meter) }
         ensures follows { Follows self.old self.new }
         ensures err { OnErr result (self.new ≡ self.old) }

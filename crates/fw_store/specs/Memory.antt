@@ -1,7 +1,6 @@
 -- Public vocabulary: a store in memory as a value.
 use Rattle.std.specs.Prelude.{◌≡◌, ℕ, length, Bool, Option, is_none}
 use Rattle.fw_store.specs.Device.{Device, slot_bytes}
-use Rattle.fw_store.specs.Faults.{count_after}
 use Rattle.fw_store.specs.Fuse.{lets_through, burnt}
 use Rattle.fw_store.specs.declared.fuse.Fuse.{Fuse}
 use Rattle.fw_store.specs.declared.slot.Slot.{Slot}
@@ -32,11 +31,10 @@ pub slot_size : (m : MemoryStore) (slot : Slot) → length (slot_bytes (device_o
 slot_size m First = m.first_size
 slot_size m Second = m.second_size
 
--- when a call of the device succeeds, what it leaves of the fuse, and that a failure is counted, once
+-- when a call of the device succeeds, and what it leaves of the fuse
 pub record IsFused (old new : MemoryStore) (succeeds : Bool) : Type 0 where
   pub through : succeeds ≡ lets_through (fuse_of old)
   pub burns : fuse_of new ≡ burnt (fuse_of old)
-  pub counts : faults_of new ≡ count_after succeeds (faults_of old)
 
 -- all but the fuse is as before
 pub record KeepsAllButFuse (old new : MemoryStore) : Type 0 where

@@ -1,6 +1,7 @@
--- Public vocabulary: the laws of what stores hold. They speak of definitions alone.
-use Rattle.std.specs.Prelude.{◌≡◌, ◌≢◌, ◌⊎◌, ℕ, ◌+◌, ◌≤◌, List, length, slice_range}
+-- Public vocabulary: the laws of what stores hold and of faults. They speak of definitions alone.
+use Rattle.std.specs.Prelude.{◌≡◌, ◌≢◌, ◌⊎◌, ℕ, ◌+◌, ◌<◌, ◌≤◌, false, List, length, slice_range}
 use Rattle.fw_store.specs.Device.{Device, slot_bytes, with_head, written}
+use Rattle.fw_store.specs.Faults.{most_faults, count_after}
 use Rattle.fw_store.specs.StoreBytes.{IsStore, store_bytes, device_at}
 use Rattle.fw_store.specs.declared.slot.Slot.{Slot}
 
@@ -35,3 +36,7 @@ FieldsJoin = (bytes : List ℕ) (capacity : ℕ) → IsStore bytes capacity → 
 abbrev pub DeviceIsRead : Type 0
 DeviceIsRead = (d : Device) (capacity : ℕ) → length d.head ≡ 614 → length d.first ≡ capacity → length d.second ≡ capacity
     → device_at capacity (store_bytes capacity d) ≡ d
+
+-- after a failure the count rose, or stood at its greatest number
+abbrev pub FaultsShow : Type 0
+FaultsShow = (count : ℕ) → count < most_faults → count < count_after false count

@@ -1,8 +1,8 @@
 //! A store over a device of bytes.
 
-ghost use Rattle.std.specs.Prelude.{◌≡◌, ◌+◌, ◌≤◌, ℕ, IsTrue, IsOk, IsErr, IfOk, IfErr, IsErrOf, IfSome, IfNone, OnOk, is_ok, length, replicate};
+ghost use Rattle.std.specs.Prelude.{◌≡◌, ◌+◌, ◌≤◌, ℕ, IsTrue, IsOk, IfOk, IfErr, IsErrOf, IfSome, IfNone, OnOk, is_ok, length, replicate};
 ghost use Rattle.std.specs.Int.{w32, to_be_bytes};
-ghost use Rattle.fw_store.specs.Faults.{Counted, count_after};
+ghost use Rattle.fw_store.specs.Faults.{count_after};
 ghost use Rattle.fw_store.specs.Contents.{KeepsDevice};
 ghost use Rattle.fw_store.specs.Setup.{IsCapacity, IsSetup};
 ghost use Rattle.fw_store.specs.Refusals.{IsCreateRefusal, IsReopenRefusal};
@@ -133,7 +133,6 @@ fn answer(outcome: Result<(), DeviceFault>, faults: &mut u64) -> Result<(), Stor
     ensures through { is_ok result ≡ is_ok outcome }
     ensures counts { faults.new ≡ count_after (is_ok result) faults.old }
     ensures later { faults.old ≤ faults.new }
-    ensures counted { IsErr result → Counted faults.old faults.new }
 {
     if outcome.is_err() {
         *faults = faults.saturating_add(1);

@@ -1,8 +1,8 @@
 //! The fuse of a store in memory.
 
-ghost use Rattle.std.specs.Prelude.{◌≡◌, ◌-◌, ◌≤◌, ◌+◌, length, replicate, is_ok, is_none, IsTrue, IsOk, IsErr};
+ghost use Rattle.std.specs.Prelude.{◌≡◌, ◌-◌, ◌≤◌, ◌+◌, length, replicate, is_ok, is_none, IsTrue, IsOk};
 ghost use Rattle.fw_store.specs.Device.{splice};
-ghost use Rattle.fw_store.specs.Faults.{count_after, Counted};
+ghost use Rattle.fw_store.specs.Faults.{count_after};
 ghost use Rattle.fw_store.specs.Fuse.{lets_through, burnt, torn_of, half_torn};
 
 use crate::error::StoreFault;
@@ -22,7 +22,6 @@ pub(crate) fn burn(fuse: &mut Option<Fuse>, faults: &mut u64) -> Result<(), Stor
 
     // So the count never falls, and without a fuse no call fails.
     ensures later { faults.old ≤ faults.new }
-    ensures counted { IsErr result → Counted faults.old faults.new }
     ensures stays { IsTrue (is_none fuse.old) → IsTrue (is_none fuse.new) }
     ensures never { IsTrue (is_none fuse.old) → IsOk result }
 {

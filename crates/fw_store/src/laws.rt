@@ -1,7 +1,7 @@
-//! Laws of headers and of what stores hold, over the definitions alone.
+//! Laws of headers, of what stores hold and of faults, over the definitions alone.
 
 ghost use Rattle.fw_store.specs.Laws.{OneHeader, HeaderSize, FreshIsHeader, VerifiedIsComplete};
-ghost use Rattle.fw_store.specs.StoreLaws.{WrittenIsRead, OthersAreRead, OtherSlotStays, HeaderStays, SlotsStay, FieldsJoin, DeviceIsRead};
+ghost use Rattle.fw_store.specs.StoreLaws.{WrittenIsRead, OthersAreRead, OtherSlotStays, HeaderStays, SlotsStay, FieldsJoin, DeviceIsRead, FaultsShow};
 
 /// A byte string is at most one header's.
 pub fn one_header()
@@ -61,4 +61,9 @@ pub fn fields_join()
 /// From a store's bytes its device is read back.
 pub fn device_is_read()
     ensures { DeviceIsRead }
+{}
+
+/// A failure that is counted shows: the count rose, or stood at its greatest number.
+pub fn faults_show()
+    ensures { FaultsShow }
 {}

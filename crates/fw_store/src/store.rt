@@ -11,10 +11,10 @@ use crate::slot::Slot;
 
 /// A device with a header of 614 bytes and two slots, which have as many bytes as the capacity. Its calls take no memory.
 ///
-/// Of each call two things are said. What holds of every store: it answers `StoreFault` only where the count of faults
-/// rose in that call, or stood at its greatest number before. And what holds of an honest one, of which contents are
-/// known: reads give what was last written, the header is written whole or not at all, and a write that fails leaves any
-/// bytes in its own range and nowhere else.
+/// Of each call two things are said. What holds of every store: the count of faults rises by one where the call answers
+/// `StoreFault`, unless it stood at its greatest number, and is as before where it doesn't. And what holds of an honest
+/// one, of which contents are known: reads give what was last written, the header is written whole or not at all, and a
+/// write that fails leaves any bytes in its own range and nowhere else.
 pub trait ImageStore {
     /// Whether the store keeps what is written, as said below.
     ghost honest: { Self → Bool };

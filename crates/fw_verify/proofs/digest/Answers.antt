@@ -17,6 +17,7 @@ loop-at-preserved g c =
     record {
       within = omega (arith, c.min-count.ensures);
       kept = search rules;
+      faultless = told.cause.counted ∙ c.loop-at.invariant.faultless;
       same = λ h. told.same (honest h) ∙ c.loop-at.invariant.same h;
       fed = λ h.
           let part : take c.loop-at.at stored ++ slice_range (slot_bytes (s.device c.loop-at.store) c.args.slot) c.loop-at.at (c.loop-at.at + c.min-count.result) ≡ take (c.loop-at.at + c.min-count.result) stored =

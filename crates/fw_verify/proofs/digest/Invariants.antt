@@ -10,6 +10,7 @@ invariant-loop-at g l =
     record {
       within : l.at ≤ l.size;
       kept : Keeps s.honest s.sound s.capacity s.faults l.fn.store l.store;
+      faultless : s.faults l.store ≡ s.faults l.fn.store;
       same : IsTrue (s.honest l.fn.store) → s.device l.store ≡ s.device l.fn.store;
       fed : IsTrue (s.honest l.fn.store) → Holds256 l.hasher (take l.at (slot_bytes (s.device l.fn.store) l.slot));
     }

@@ -1,14 +1,17 @@
-use Rattle.std.proofs.Common.{◌≡◌, ◌++◌, length}
-use Rattle.fw_book.specs.Contents.{IsBook}
-use Rattle.fw_book.specs.Format.{book_bytes}
+use Rattle.std.proofs.Common.{◌++◌, ℕ, List, length}
+use Rattle.fw_book.specs.Contents.{Offered}
+use Rattle.fw_book.specs.Format.{SpellsBook}
+use Rattle.fw_book.specs.Reading.{AreEntries}
 use Rattle.fw_book.proofs.book.Book.read.Given as goal
 
-abbrev pub invariant-loop-rest : goal.invariant-loop-rest
-invariant-loop-rest l =
+-- the campaigns that were read, and those that stand in the rest, are those of a book
+abbrev pub invariant-loop-entry : goal.invariant-loop-entry
+invariant-loop-entry l =
     record {
-      found : l.bytes ≡ book_bytes l.book ++ l.rest;
-      book : IsBook l.book;
+      left : List (ℕ × Offered);
+      are : AreEntries l.rest left;
+      spells : SpellsBook l.bytes (record { head = l.book.head; campaigns = l.book.campaigns ++ left });
     }
 
-abbrev pub decreases-loop-rest : goal.decreases-loop-rest
-decreases-loop-rest l = length l.rest
+abbrev pub decreases-loop-entry : goal.decreases-loop-entry
+decreases-loop-entry l = length l.rest

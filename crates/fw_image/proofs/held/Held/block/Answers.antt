@@ -24,9 +24,8 @@ returns-in_err-write-clause-makes g c =
     let m = meter_of (s.capacity store) h (seen (s.honest store) (s.capacity store) (s.device store)) in
     let sized = seen_size (s.honest store) (s.capacity store) (s.device store) (g.met.S.ImageStore.sized store) in
     let told = c.in_err-write.ensures in
-    let ok : IsTrue (s.sound store) → false ≡ true = λ sound. told.cause.never sound in
     rw (← c.self.view_is, fault_told c.from_residual.result c.from_residual.ensures.1)
-    (makes_served s store c.write.new.self h h (block c.args.number c.args.value.now) (refused Fault) told.kept (λ _. (told.cause.counted (refl {a = true}), λ sound. let bad = ok sound in cc))
+    (makes_served s store c.write.new.self h h (block c.args.number c.args.value.now) (refused Fault) told.kept told.cause.counted told.cause.never
     (served_block m place.goal c.args.number c.args.value.now c.if-not-self.false phase place.is_block)
     (tears_put c.other_blocks_stay.ensures c.begins_within.ensures (s.honest store) (s.capacity store) h (s.device store) (s.device c.write.new.self) c.other-spare.result c.args.number c.in-Some.start c.args.value.now
     valid sized place c.other-spare.ensures told.torn))
@@ -48,7 +47,7 @@ returns-then-has-clause-makes g c =
     let sized' = seen_size (s.honest store) (s.capacity store) (s.device c.write.new.self) after in
     let marked = sym c.has.ensures ∙ c.if-has.true in
     rw (← c.self.view_is)
-    (makes_served s store c.write.new.self h h (block c.args.number c.args.value.now) done told.kept (λ e. absurd cc)
+    (makes_served s store c.write.new.self h h (block c.args.number c.args.value.now) done told.kept told.cause.counted (λ _. refl)
     (served_block m place.goal c.args.number c.args.value.now c.if-not-self.false phase place.is_block)
     (leaves_put c.other_blocks_stay.ensures c.begins_within.ensures (s.honest store) (s.capacity store) h (s.device store) (s.device c.write.new.self) c.args.number c.in-Some.start c.args.value.now h.marks
     valid valid sized sized' place (mark_again h.marks c.args.number marked) (λ honest. wrote h c.other-spare.result c.in-Some.start c.args.value.now _ _ c.other-spare.ensures (told.done honest))))
@@ -67,12 +66,11 @@ returns-in_err-replace-clause-makes g c =
     let first = c.in_ok-write.ensures in
     let told = c.in_err-replace.ensures in
     let still : IsTrue (s.honest store) → IsTrue (s.honest c.write.new.self) = λ honest. first.kept.honesty ∙ honest in
-    let ok : IsTrue (s.sound store) → false ≡ true = λ sound. told.cause.never (first.kept.soundness sound) in
     let torn : IsTrue (s.honest store) → Torn (s.device store) c.other-spare.result c.in-Some.start (length c.args.value.now) (s.device c.replace.new.store) =
     λ honest. record { left = c.args.value.now; size = refl; stands = told.same (still honest) ∙ first.done honest } in
     rw (← c.self.view_is, fault_told c.from_residual-in_err-replace.result c.from_residual-in_err-replace.ensures.1, told.failed)
     (makes_served s store c.replace.new.store h h (block c.args.number c.args.value.now) (refused Fault) (keeps_twice s store c.write.new.self c.replace.new.store first.kept told.kept)
-    (λ _. (counted_after _ _ _ first.kept.later told.kept.later (told.cause.counted (refl {a = true})), λ sound. let bad = ok sound in cc))
+    (counted_after false _ _ _ first.cause.counted told.cause.counted) (λ sound. told.cause.never (first.kept.soundness sound))
     (served_block m place.goal c.args.number c.args.value.now c.if-not-self.false phase place.is_block)
     (tears_put c.other_blocks_stay.ensures c.begins_within.ensures (s.honest store) (s.capacity store) h (s.device store) (s.device c.replace.new.store) c.other-spare.result c.args.number c.in-Some.start c.args.value.now
     valid sized place c.other-spare.ensures torn))
@@ -98,7 +96,7 @@ returns-clause-makes g c =
     let marked = mark_more h.marks c.mark.new.self c.args.number (marks_in _ h c.args.number c.in-Some.start c.args.value.now valid place) c.mark.ensures in
     let valid' = valid_marked _ h c.args.number c.in-Some.start c.args.value.now c.mark.new.self valid status place marked told.fits in
     rw (← c.self.view_is, told.done)
-    (makes_served s store c.replace.new.store h (record h { marks = c.mark.new.self }) (block c.args.number c.args.value.now) done kept (λ e. absurd cc)
+    (makes_served s store c.replace.new.store h (record h { marks = c.mark.new.self }) (block c.args.number c.args.value.now) done kept (told.cause.counted ∙ first.cause.counted) (λ _. refl)
     (served_block m place.goal c.args.number c.args.value.now c.if-not-self.false phase place.is_block)
     (leaves_put c.other_blocks_stay.ensures c.begins_within.ensures (s.honest store) (s.capacity store) h (s.device store) (s.device c.replace.new.store) c.args.number c.in-Some.start c.args.value.now c.mark.new.self
     valid valid' sized sized' place marked (λ honest.

@@ -6,7 +6,7 @@ use Rattle.fw_image.specs.Moves.{outcome_of}
 use Rattle.fw_image.specs.Stored.{meter_of, phase_of, seen}
 use Rattle.fw_image.specs.declared.error.Refusal.TheVariants.{Missing, Differs}
 use Rattle.fw_image.proofs.Meters.{seen_size, whole_bytes, missing_bytes}
-use Rattle.fw_image.proofs.Moves.{makes_refused, makes_failed, makes_written, held_written, keeps_twice, fault_told, is_receiving, goal_there, served_verify, refused_verify, valid_judged, judged_keeps, trusted_judged, does_judged, no_fault, written_after, counted_after}
+use Rattle.fw_image.proofs.Moves.{makes_refused, makes_failed, makes_written, held_written, keeps_twice, fault_told, is_receiving, goal_there, served_verify, refused_verify, valid_judged, judged_keeps, trusted_judged, does_judged, judged_faultless, written_after, counted_after}
 use Rattle.fw_image.proofs.held.Held.verify.Goals as goal
 use Rattle.fw_image.proofs.held.Held.verify.Goals.{then-genuine, else-genuine}
 
@@ -21,7 +21,7 @@ returns-in_default-clause-makes g c =
     let there = goal_there _ h valid status in
     let lacks = c.in_default.ensures.none there.0 there.1 in
     let missing = missing_bytes (s.capacity store) h d there.0 lacks.number valid there.1 lacks.below lacks.unmarked in
-    rw (← c.self.view_is) (makes_refused s store h verify Missing (λ e. cc) (refused_verify (meter_of (s.capacity store) h d) there.0 c.if-not-self.false (is_receiving _ h there.0 valid status there.1) missing))
+    rw (← c.self.view_is) (makes_refused s store h verify Missing refl (refused_verify (meter_of (s.capacity store) h d) there.0 c.if-not-self.false (is_receiving _ h there.0 valid status there.1) missing))
 
 pub returns-in_err-genuine-clause-makes : goal.returns-in_err-genuine-clause-makes
 returns-in_err-genuine-clause-makes g c =
@@ -36,8 +36,7 @@ returns-in_err-genuine-clause-makes g c =
     let sized = seen_size (s.honest store) (s.capacity store) (s.device store) (g.met.S.ImageStore.sized store) in
     let whole = whole_bytes c.cuts_join.ensures (s.capacity store) h d c.in-Some.goal valid sized found.there found.marked in
     let told = c.in_err-genuine.ensures in
-    let ok : IsTrue (s.sound store) → false ≡ true = λ sound. told.cause.never sound in
-    rw (← c.self.view_is, fault_told c.from_residual.result c.from_residual.ensures.1) (makes_failed s store c.is_genuine.new.store h verify told.kept told.same (told.cause.counted refl) (λ sound. let bad = ok sound in cc)
+    rw (← c.self.view_is, fault_told c.from_residual.result c.from_residual.ensures.1) (makes_failed s store c.is_genuine.new.store h verify told.kept told.same told.cause.counted told.cause.never
     (served_verify (meter_of (s.capacity store) h d) c.in-Some.goal _ c.if-not-self.false phase whole) (λ m m' l. l))
 
 pub returns-in_err-replace-clause-makes : goal.returns-in_err-replace-clause-makes
@@ -55,10 +54,9 @@ returns-in_err-replace-clause-makes g c =
     let read = c.in_ok-genuine.ensures in
     let told = c.in_err-replace.ensures in
     let still : IsTrue (s.honest store) → IsTrue (s.honest c.is_genuine.new.store) = λ honest. read.kept.honesty ∙ honest in
-    let ok : IsTrue (s.sound store) → false ≡ true = λ sound. told.cause.never (read.kept.soundness sound) in
     rw (← c.self.view_is, fault_told c.from_residual-in_err-replace.result c.from_residual-in_err-replace.ensures.1, told.failed)
     (makes_failed s store c.replace.new.store h verify (keeps_twice s store c.is_genuine.new.store c.replace.new.store read.kept told.kept) (λ honest. told.same (still honest) ∙ read.same honest)
-    (counted_after _ _ _ read.kept.later told.kept.later (told.cause.counted refl)) (λ sound. let bad = ok sound in cc)
+    (counted_after false _ _ _ read.cause.counted told.cause.counted) (λ sound. told.cause.never (read.kept.soundness sound))
     (served_verify (meter_of (s.capacity store) h d) c.in-Some.goal _ c.if-not-self.false phase whole) (λ m m' l. l))
 
 pub invariant_of-self-2 : goal.invariant_of-self-2
@@ -97,8 +95,8 @@ returns-clause-makes g c =
     let out : outcome_of c.if-genuine.result ≡ cond genuine done (refused Differs) =
     elim c.if-genuine.branch [ then-genuine w ↦ rw (w.result-is, w.if-genuine.true) refl | else-genuine w ↦ rw (w.result-is, w.if-genuine.false) refl ] in
     rw (← c.self.view_is, out, told.done)
-    (makes_written s store c.replace.new.store h (record h { status = c.judged.result }) verify (cond genuine done (refused Differs)) (no_fault genuine) (g.met.S.ImageStore.sized store)
-    (keeps_twice s store c.is_genuine.new.store c.replace.new.store read.kept told.kept) (written_after s store c.is_genuine.new.store c.replace.new.store _ read.kept.honesty read.same told.written)
+    (makes_written s store c.replace.new.store h (record h { status = c.judged.result }) verify (cond genuine done (refused Differs)) (judged_faultless genuine) (g.met.S.ImageStore.sized store)
+    (keeps_twice s store c.is_genuine.new.store c.replace.new.store read.kept told.kept) (told.cause.counted ∙ read.cause.counted) (written_after s store c.is_genuine.new.store c.replace.new.store _ read.kept.honesty read.same told.written)
     (served_verify (meter_of (s.capacity store) h d) c.in-Some.goal _ c.if-not-self.false phase whole)
     (λ d d' views.
     does_judged genuine _ _ h d d' c.judged.result c.in-Some.goal _ c.judged.ensures views.same found.there phase (whole_bytes c.cuts_join.ensures _ h d c.in-Some.goal valid views.sized found.there found.marked)
