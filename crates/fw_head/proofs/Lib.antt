@@ -10,3 +10,4 @@ pub mod Marks
 pub mod Endings
 pub mod TakenOut
 mod NewRows
+mod Cancelling

@@ -7,7 +7,7 @@ use Rattle.fw_head.specs.Row.{Row, RowHears}
 use Rattle.fw_head.specs.Inside.{IsOwnNews}
 use Rattle.fw_head.specs.Head.{Rows, RowsHear, at_meter}
 
-some_row : (row other : Row) → let o : Option Row = Some row in o ≡ Some other → row ≡ other
+pub some_row : (row other : Row) → let o : Option Row = Some row in o ≡ Some other → row ≡ other
 some_row row other e = cc
 
 at_meter-set_value : (meter : ℕ) (change : Row → Row) (rows : Rows) (row : Row) → lookup (nat_eq meter) rows ≡ Some row → set_value (nat_eq meter) rows (change row) ≡ at_meter meter change rows
