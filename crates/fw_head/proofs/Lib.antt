@@ -11,3 +11,4 @@ pub mod Endings
 pub mod TakenOut
 mod NewRows
 mod Cancelling
+mod Openings
