@@ -1,20 +1,19 @@
 -- A campaign is cancelled in the book, and its rows are taken out: that keeps a head end.
-use Rattle.std.proofs.Common.{◌≡◌, ℕ, ◌==◌, nat_eq, not, Bool, true, false, cond, List, [], ◌∷◌, map, length, Option, Some, None, option_map, refl, sym, ap, subst, ◌∙◌, ⊎_elim}
+use Rattle.std.proofs.Common.{◌≡◌, ℕ, ◌==◌, nat_eq, not, Bool, true, false, cond, List, [], ◌∷◌, length, Option, Some, None, option_map, refl, sym, ap, subst, ◌∙◌, ⊎_elim}
 use Rattle.std.specs.List.{IsDistinct, AllByRecursion}
 use Rattle.std.specs.Map.{lookup, keys_of}
 use Rattle.std.proofs.lemmas.Map.Keys.{IsDistinct-head, IsDistinct-tail}
 use Rattle.std.proofs.lemmas.Map.Made.{IsDistinct-keys_filter}
 use Rattle.std.proofs.lemmas.Bool.{cases_Bool, cond-true, cond-false, false_from_ne_true, false≢true}
 use Rattle.std.proofs.lemmas.Bool.Decides.{Decides-eqb}
-use Rattle.fw_names.specs.Name.{Name, Campaign, name_of}
+use Rattle.fw_names.specs.Name.{Campaign, name_of}
 use Rattle.fw_book.specs.declared.row.Row as book_row
-use Rattle.fw_book.specs.declared.row.RowState.{RowState}
 use Rattle.fw_book.specs.declared.row.RowState.TheVariants.{Live, Cancelled}
 use Rattle.fw_book.specs.Rows.{is_live, state_of, cancelled_row, cancelled_rows}
-use Rattle.fw_book.specs.Contents.{Contents, Offered, state_in, image_in, name_in}
+use Rattle.fw_book.specs.Contents.{Contents, Offered, state_in, image_in}
 use Rattle.fw_book.specs.Changes.{at_serial, cancelled}
 use Rattle.fw_head.specs.Row.{Row}
-use Rattle.fw_head.specs.Head.{Rows, Head, row_of, without_serial, IsRowOf, IsHead}
+use Rattle.fw_head.specs.Head.{Rows, row_of, without_serial, IsRowOf, IsHead}
 use Rattle.fw_head.proofs.LiveRows.{some_row}
 use Rattle.fw_head.proofs.Marks.{skipped, first, live_is, none_live, at_other, at_same, in_head, changed, changed_image, found_at, state_at, image_at}
 
@@ -110,9 +109,10 @@ was_there serial m (entry ∷ entries) row once found =
     let now : row_of (entry ∷ rest) m ≡ Some row = ap (λ (rs : Rows). row_of rs m) (sym (stays serial entry entries other)) ∙ found in
     ⊎_elim
     (λ it.
-    let same : entry.1 ≡ row = some_row entry.1 row (sym (cond-true (nat_eq m entry.0) (Some entry.1) (lookup (nat_eq m) rest) it) ∙ now) in
-    (cond-true (nat_eq m entry.0) (Some entry.1) (lookup (nat_eq m) entries) it ∙ ap (λ (r : Row). (let o : Option Row = Some r in o)) same,
-     ap (λ (r : Row). is_of serial r) (sym same) ∙ other))
+    let same : entry.1 ≡ row = some_row entry.1 row (sym (cond-true (nat_eq m entry.0) (Some entry.1) (lookup (nat_eq m) rest) it) ∙ now) in (
+      cond-true (nat_eq m entry.0) (Some entry.1) (lookup (nat_eq m) entries) it ∙ ap (λ (r : Row). (let o : Option Row = Some r in o)) same,
+      ap (λ (r : Row). is_of serial r) (sym same) ∙ other,
+    ))
     (λ away.
     let was = was_there serial m entries row tail (sym (cond-false (nat_eq m entry.0) (Some entry.1) (lookup (nat_eq m) rest) away) ∙ now) in
     (cond-false (nat_eq m entry.0) (Some entry.1) (lookup (nat_eq m) entries) away ∙ was.0, was.1))

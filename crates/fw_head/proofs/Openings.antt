@@ -1,10 +1,10 @@
 -- A campaign is opened in the book, and each of its meters has a new row: that keeps a head end.
-use Rattle.std.proofs.Common.{◌≡◌, ℕ, ◌≤◌, ◌==◌, nat_eq, eqb, ltb, not, Bool, true, false, cond, ◌||◌, ◌&&◌, ◌⊎◌, inl, inr, is_some, List, [], ◌∷◌, ◌++◌, map, length, Option, Some, None, option_map, refl, sym, ap, subst, ◌∙◌, ⊎_elim, arith}
+use Rattle.std.proofs.Common.{◌≡◌, ℕ, ◌≤◌, ◌==◌, nat_eq, ltb, Bool, true, false, cond, ◌||◌, ◌&&◌, ◌⊎◌, inl, inr, is_some, List, [], ◌∷◌, ◌++◌, map, length, Option, Some, None, option_map, refl, sym, ap, subst, ◌∙◌, ⊎_elim, arith}
 use Rattle.std.specs.List.{IsDistinct, AllByRecursion, list_any}
-use Rattle.std.specs.Map.{lookup, keys_of, values_of}
+use Rattle.std.specs.Map.{lookup, keys_of}
 use Rattle.std.proofs.lemmas.List.{map-append}
 use Rattle.std.proofs.lemmas.Map.Keys.{IsDistinct-head, IsDistinct-tail, IsDistinct-cons}
-use Rattle.std.proofs.lemmas.Bool.{cases_Bool, cond-true, cond-false, false_from_ne_true, false≢true, or_parts, or_cases, or_left, or_right, and_from}
+use Rattle.std.proofs.lemmas.Bool.{cases_Bool, cond-true, cond-false, false≢true, or_parts, or_cases, or_left, or_right, and_from}
 use Rattle.std.proofs.lemmas.Bool.Decides.{Decides-eqb, nat_tests}
 use Rattle.fw_names.specs.Name.{Name, Campaign, name_of}
 use Rattle.fw_book.specs.declared.error.BookError.{BookError}
@@ -12,12 +12,12 @@ use Rattle.fw_book.specs.declared.row.Row as book_row
 use Rattle.fw_book.specs.declared.row.RowState.{RowState}
 use Rattle.fw_book.specs.declared.row.RowState.TheVariants.{Live}
 use Rattle.fw_book.specs.Rows.{is_live, live_row, repeats, state_of, is_live_in}
-use Rattle.fw_book.specs.Contents.{Contents, Offered, max_image, max_meters, offered_in, image_in, name_in, state_in, has_serial, is_busy}
+use Rattle.fw_book.specs.Contents.{Contents, Offered, max_image, max_meters, offered_in, state_in, has_serial, is_busy}
 use Rattle.fw_book.specs.Changes.{first_applying, opening_rows, opening_refusal, opened}
 use Rattle.fw_head.specs.Row.{Row, new_row}
-use Rattle.fw_head.specs.Head.{Rows, Head, row_of, new_rows, IsRowOf, IsHead}
+use Rattle.fw_head.specs.Head.{Rows, row_of, new_rows, IsRowOf, IsHead}
 use Rattle.fw_head.proofs.LiveRows.{some_row}
-use Rattle.fw_head.proofs.Marks.{skipped, first, live_is, none_live, in_head, state_at}
+use Rattle.fw_head.proofs.Marks.{skipped, first, live_is, none_live, state_at}
 use Rattle.fw_head.proofs.NewRows.{flipped}
 
 -- ---- what an opening that nothing refuses has
@@ -308,6 +308,7 @@ one_entry k serial new offer found =
   where
     some_offer : (a b : Offered) → (let o : Option Offered = Some a in o ≡ Some b) → a ≡ b
     some_offer a b e = cc
+
     none_offer : (offer : Offered) → (let o : Option Offered = None in o ≡ Some offer) → ⊥
     none_offer offer e = cc
 
@@ -322,10 +323,11 @@ live_has_row book width rows campaign image meters c m own o is live =
     (λ none.
     let one = one_entry c.serial campaign.serial new at.1.0 (sym (found_behind c.serial book.campaigns es none) ∙ at.1.1) in
     let there = among_live meters m Live (ap (λ (x : Offered). state_of x.rows m) one.1 ∙ at.1.2) in
-    let free : row_of rows m ≡ None = one_of (λ n. row_of rows n ≡ None) meters m (all_free book width rows meters is o.meters_free) there in
-    (new_row m name (length image),
-     found_behind m rows (new_rows name (length image) meters) free ∙ new_there name (length image) meters m there,
-     same_campaign campaign c (own ∙ sym ((Decides-eqb c.head book.head).0 at.0)) (sym one.0)))
+    let free : row_of rows m ≡ None = one_of (λ n. row_of rows n ≡ None) meters m (all_free book width rows meters is o.meters_free) there in (
+      new_row m name (length image),
+      found_behind m rows (new_rows name (length image) meters) free ∙ new_there name (length image) meters m there,
+      same_campaign campaign c (own ∙ sym ((Decides-eqb c.head book.head).0 at.0)) (sym one.0),
+    ))
     (λ found.
     let before = found_before c.serial book.campaigns es found.0 found.1 in
     let was_live : state_in book c m ≡ Some Live =

@@ -1,12 +1,12 @@
 -- A call that keeps the meters that have a row, and of each row its name, its size and its meter, keeps a head end.
-use Rattle.std.proofs.Common.{◌≡◌, ℕ, ◌+◌, nat_eq, nat_lt, Bool, true, false, cond, if◌then◌else◌, List, [], ◌∷◌, map, Option, Some, None, option_map, ◌⊎◌, inl, inr, refl, sym, ap, subst, ◌∙◌, ⊎_elim}
+use Rattle.std.proofs.Common.{◌≡◌, ℕ, ◌+◌, nat_eq, nat_lt, Bool, true, false, if◌then◌else◌, List, [], ◌∷◌, Option, Some, None, inl, inr, refl, sym, ap, subst, ◌∙◌, ⊎_elim}
 use Rattle.std.specs.List.{IsDistinct}
 use Rattle.std.specs.Map.{lookup, keys_of}
 use Rattle.std.proofs.lemmas.Map.Made.{keys_of-map_values}
 use Rattle.std.proofs.lemmas.Bool.{cases_Bool, cond-true, cond-false}
-use Rattle.fw_names.specs.Name.{Name, Campaign}
+use Rattle.fw_names.specs.Name.{Name}
 use Rattle.fw_blocks.specs.Cuts.{Partition}
-use Rattle.fw_client.specs.State.{State, forgetting}
+use Rattle.fw_client.specs.State.{forgetting}
 use Rattle.fw_book.specs.declared.row.RowState.TheVariants as state
 use Rattle.fw_book.specs.Contents.{Contents, state_in}
 use Rattle.fw_head.specs.declared.stage.Stage.{Stage}
@@ -15,7 +15,7 @@ use Rattle.fw_head.specs.declared.answers.Step.{Step}
 use Rattle.fw_head.specs.declared.answers.Step.TheVariants.{Stay, Took, Move, Return}
 use Rattle.fw_head.specs.declared.news.RowNews.{RowNews}
 use Rattle.fw_head.specs.Row.{Row, max_returns, new_row, ticked, tick_asks, moved, returned, settled, with_block, stepped, RowHears}
-use Rattle.fw_head.specs.Head.{Rows, Head, RowsHear, row_of, at_meter, renewed, IsRowOf, IsHead}
+use Rattle.fw_head.specs.Head.{Rows, RowsHear, row_of, at_meter, renewed, IsRowOf, IsHead}
 use Rattle.fw_head.proofs.Heard.{kept_meter}
 use Rattle.fw_head.proofs.LiveRows.{same_found}
 use Rattle.fw_head.proofs.Sending.{same_meter}

@@ -1,9 +1,9 @@
-use Rattle.std.proofs.Common.{◌≡◌, ℕ, ◌+◌, ◌<◌, nat_eq, List, [], ◌∷◌, ◌++◌, drop, length, Option, Some, None, refl, sym, ap, subst, ◌∙◌, arith, rules}
+use Rattle.std.proofs.Common.{◌≡◌, ◌+◌, ◌<◌, nat_eq, [], ◌∷◌, ◌++◌, drop, length, None, sym, ap, ◌∙◌, arith}
 use Rattle.std.proofs.lemmas.List.{drop_more}
 use Rattle.indexmap.specs.IndexMap.{insert_entry}
 use Rattle.indexmap.proofs.CallerLemmas.{insert_entry-new}
 use Rattle.fw_head.specs.Row.{Row, new_row}
-use Rattle.fw_head.specs.Head.{Rows, row_of, new_rows}
+use Rattle.fw_head.specs.Head.{row_of}
 use Rattle.fw_head.proofs.NewRows.{absent, rows_more, once_more, fewer_left}
 use Rattle.fw_head.proofs.rows.Rows.add.Goals as goal
 
