@@ -139,8 +139,12 @@ impl Book {
         Ok(name)
     }
 
-    // The refusals of an opening, in their order.
-    fn check_opening(
+    /// What an opening is refused for, apart from memory: it is then the book's first refusal.
+    ///
+    /// # Errors
+    ///
+    /// Those of `open_campaign` but `OutOfMemory`, the first that applies.
+    pub fn check_opening(
         &self,
         campaign: CampaignId,
         image: &[u8],

@@ -63,6 +63,17 @@ impl Client {
         }
     }
 
+    /// The same client once more. A caller that tries a step on it still has the client before the step.
+    pub fn duplicate(&self) -> Client
+        ensures { result ≡ self.now }
+    {
+        Client {
+            meter: self.meter,
+            next: self.next,
+            outstanding: self.outstanding.duplicate(),
+        }
+    }
+
     /// Asks under the next invoke-id, which rises by one modulo 16, and gives the datagram to send, which goes from and to wPort 1
     /// (IEC 62056-4-7). A block that is asked to be stored has at most 1,024 bytes.
     ///

@@ -42,6 +42,15 @@ impl Outstanding {
         Outstanding { places: [None; 16] }
     }
 
+    /// The same asks once more.
+    pub(crate) fn duplicate(&self) -> Outstanding
+        ensures { result ≡ self.now }
+    {
+        Outstanding {
+            places: self.places,
+        }
+    }
+
     // What is outstanding at this id.
     #[tactic(auto, using(crate::proofs::Places::get_asks))]
     pub(crate) fn at(&self, id: u8) -> Option<Asked>

@@ -1,0 +1,14 @@
+pub mod FreeIds
+pub mod Sending
+pub mod OwnClaims
+pub mod Heard
+pub mod LiveRows
+pub mod SameRows
+pub mod Offers
+pub mod Ended
+pub mod Marks
+pub mod Endings
+pub mod TakenOut
+mod NewRows
+mod Cancelling
+mod Openings

@@ -1,0 +1,54 @@
+-- A step of the loop that asks for blocks one after another.
+use Rattle.std.proofs.Common.{◌≡◌, ℕ, ◌+◌, ◌-◌, ◌≤◌, List, [], ◌∷◌, ◌++◌, length, map, refl, sym, ap, subst, ◌∙◌, arith, append_assoc}
+use Rattle.std.proofs.lemmas.List.{map-append}
+use Rattle.std.proofs.lemmas.Grind.{common_steps}
+use Rattle.std.specs.Global.{Vec}
+use Rattle.fw_apdu.specs.Request.{request_bytes}
+use Rattle.fw_wrapper.specs.Wrapper.{wrapped}
+use Rattle.fw_client.specs.Ask.{Ask, request_of, kind_of}
+use Rattle.fw_client.specs.State.{State, asking, invoke_byte}
+use Rattle.fw_head.specs.Row.{bytes_of, datagrams, asking_all}
+use Rattle.fw_head.specs.Inside.{AskedLately}
+use Rattle.fw_head.proofs.FreeIds.{one_later}
+
+-- what was sent grows by the datagram of the next ask
+sent_next : (f : ℕ → Ask) (before : List (Vec ℕ)) (d : Vec ℕ) (c : State) (number : ℕ) (others : List ℕ) → d.items ≡ wrapped 1 1 (request_bytes (invoke_byte c.next) (request_of (f number))) → bytes_of (before ++ d ∷ []) ++ datagrams (asking c (kind_of (f number))) (map f others) ≡ bytes_of before ++ datagrams c (map f (number ∷ others))
+sent_next f before d c number others h =
+    ap (λ (l : List (List ℕ)). l ++ datagrams (asking c (kind_of (f number))) (map f others)) (map-append (λ (datagram : Vec ℕ). datagram.items) before (d ∷ []))
+    ∙ append_assoc (bytes_of before) (d.items ∷ []) (datagrams (asking c (kind_of (f number))) (map f others))
+    ∙ ap (λ (x : List ℕ). bytes_of before ++ (x ∷ datagrams (asking c (kind_of (f number))) (map f others))) h
+
+pub sent_more : (f : ℕ → Ask) (before after : List (Vec ℕ)) (d : Vec ℕ) (c new : State) (rest : List ℕ) (number : ℕ) (others : List ℕ) (whole : List (List ℕ)) → bytes_of before ++ datagrams c (map f rest) ≡ whole → rest ≡ number ∷ others → d.items ≡ wrapped 1 1 (request_bytes (invoke_byte c.next) (request_of (f number))) → after ≡ before ++ d ∷ [] → new ≡ asking c (kind_of (f number)) → bytes_of after ++ datagrams new (map f others) ≡ whole
+sent_more f before after d c new rest number others whole so_far next written pushed asked =
+    ap (λ (l : List (Vec ℕ)). bytes_of l ++ datagrams new (map f others)) pushed
+    ∙ ap (λ (s : State). bytes_of (before ++ d ∷ []) ++ datagrams s (map f others)) asked
+    ∙ sent_next f before d c number others written
+    ∙ ap (λ (l : List ℕ). bytes_of before ++ datagrams c (map f l)) (sym next)
+    ∙ so_far
+
+pub asked_more : (f : ℕ → Ask) (c new whole : State) (rest : List ℕ) (number : ℕ) (others : List ℕ) → asking_all c (map f rest) ≡ whole → rest ≡ number ∷ others → new ≡ asking c (kind_of (f number)) → asking_all new (map f others) ≡ whole
+asked_more f c new whole rest number others so_far next asked =
+    ap (λ (s : State). asking_all s (map f others)) asked
+    ∙ ap (λ (l : List ℕ). asking_all c (map f l)) (sym next)
+    ∙ so_far
+
+shorter : (rest others : List ℕ) (number : ℕ) → rest ≡ number ∷ others → length rest ≡ 1 + length others
+shorter rest others number next = grind (arith, common_steps)
+
+pub lately_more : (f : ℕ → Ask) (c new : State) (rest : List ℕ) (number : ℕ) (others : List ℕ) → AskedLately c (15 - length rest) → length rest ≤ 15 → rest ≡ number ∷ others → new ≡ asking c (kind_of (f number)) → AskedLately new (15 - length others)
+lately_more f c new rest number others lately few next asked =
+    let one : length rest ≡ 1 + length others = shorter rest others number next in
+    let same : (15 - length rest) + 1 ≡ 15 - length others = omega (arith, one, few) in
+    let P : ℕ → Type 0 = λ n. AskedLately new n in
+    let Q : State → Type 0 = λ s. AskedLately s ((15 - length rest) + 1) in
+    subst P same (subst Q (sym asked) (one_later c (kind_of (f number)) (15 - length rest) lately))
+
+pub fewer : (rest others : List ℕ) (number : ℕ) → length rest ≤ 15 → rest ≡ number ∷ others → length others ≤ 15
+fewer rest others number few next =
+    let one : length rest ≡ 1 + length others = shorter rest others number next in
+    omega (arith, one, few)
+
+-- asking leaves the meter that is asked
+pub same_meter : (c : State) (asks : List Ask) → (asking_all c asks).meter ≡ c.meter
+same_meter c [] = refl
+same_meter c (ask ∷ asks) = same_meter (asking c (kind_of ask)) asks

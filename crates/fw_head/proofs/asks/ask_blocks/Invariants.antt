@@ -1,0 +1,16 @@
+use Rattle.std.proofs.Common.{◌≡◌, ◌-◌, ◌≤◌, ◌++◌, length, map}
+use Rattle.fw_head.specs.Phase.{block_ask}
+use Rattle.fw_head.specs.Row.{bytes_of, datagrams, asking_all}
+use Rattle.fw_head.specs.Inside.{AskedLately}
+use Rattle.fw_head.proofs.asks.ask_blocks.Given as goal
+
+-- what was sent, and then what is still to be asked, is the whole
+abbrev pub invariant-loop-number : goal.invariant-loop-number
+invariant-loop-number l =
+    (bytes_of l.sent.items ++ datagrams l.client (map (block_ask l.image l.geometry) l.rest) ≡ datagrams l.fn.client (map (block_ask l.image l.geometry) l.numbers))
+    × (asking_all l.client (map (block_ask l.image l.geometry) l.rest) ≡ asking_all l.fn.client (map (block_ask l.image l.geometry) l.numbers))
+    × AskedLately l.client (15 - length l.rest)
+    × (length l.rest ≤ 15)
+
+abbrev pub decreases-loop-number : goal.decreases-loop-number
+decreases-loop-number l = length l.rest

@@ -1,0 +1,42 @@
+use Rattle.std.proofs.Common.{◌≡◌, inl, inr, refl, sym, ap, ◌∙◌, subst}
+use Rattle.fw_head.specs.Phase.{Leads}
+use Rattle.fw_head.specs.Row.{Row, RowTakes, news_in, stepped}
+use Rattle.fw_head.proofs.Heard.{strange_to, taken, taken_by, of_asked}
+use Rattle.fw_head.proofs.OwnClaims.{own_step, own_news}
+use Rattle.fw_head.proofs.SameRows.{goal_heard}
+use Rattle.fw_head.proofs.row.RowCore.hear.Goals as goal
+
+pub returns-in-Stranger-clause-heard : goal.returns-in-Stranger-clause-heard
+returns-in-Stranger-clause-heard c =
+    let same : c.duplicate-client.result ≡ c.args.self.now.client = c.duplicate-client.ensures ∙ ap (λ (r : Row). r.client) c.self.view_is in
+    inr (strange_to c.duplicate-client.result c.args.self.now.client c.hear.new.self c.args.datagram.now c.in_ok-heard.heard same c.in-Stranger.is c.in_ok-heard.ensures.hears, refl, refl)
+
+pub take-requires : goal.take-requires
+take-requires c =
+    let takes = taken c.duplicate-client.result c.hear.new.self c.args.datagram.now c.in_ok-heard.heard c.in_default.not-Stranger c.in_ok-heard.ensures.hears in
+    let of = of_asked c.duplicate-client.result c.hear.new.self c.args.datagram.now c.in_ok-heard.heard (λ claim e. (c.in_ok-heard.ensures.claims claim).0 e) takes in
+    own_step c.hear.new.self.meter c.self.inside.name c.self.inside.size c.self.inside.stage c.in_ok-heard.heard c.in_ok-step.step of c.in_ok-step.ensures
+
+pub returns : goal.returns
+returns c =
+    let same : c.duplicate-client.result ≡ c.args.self.now.client = c.duplicate-client.ensures ∙ ap (λ (r : Row). r.client) c.self.view_is in
+    let takes = taken_by c.duplicate-client.result c.args.self.now.client c.hear.new.self c.args.datagram.now c.in_ok-heard.heard same c.in_default.not-Stranger c.in_ok-heard.ensures.hears in
+    let view = c.self.view_is in
+    let P : Row → Type 0 = λ r. Leads r.name r.size r.stage c.in_ok-heard.heard c.in_ok-step.step in
+    let went = ap (λ (r : Row). stepped (record r { client = c.hear.new.self }) c.in_ok-step.step) view in
+    let told = ap (λ (r : Row). news_in r.stage) c.self-2.view_is in
+    let takes_all : RowTakes c.args.self.now c.args.datagram.now c.news.result c.take.new.self = record {
+      heard = c.in_ok-heard.heard;
+      client = c.hear.new.self;
+      step = c.in_ok-step.step;
+      takes = takes;
+      leads = subst P view c.in_ok-step.ensures;
+      new_is = c.take.ensures ∙ went;
+      told_is = c.news.ensures ∙ told;
+    } in
+    let at_view = c.self-2.view_is in
+    let kept = goal_heard c.args.self.now c.take.new.self c.args.datagram.now c.news.result (inl takes_all) in
+    let meter : c.self-2.inside.meter ≡ c.args.self.now.client.meter = sym c.self-2.invariant.asks ∙ ap (λ (r : Row). r.client.meter) at_view ∙ kept.meter in
+    let name : c.self-2.inside.name ≡ c.args.self.now.name = ap (λ (r : Row). r.name) at_view ∙ kept.name in
+    let own = own_news c.self-2.inside.meter c.args.self.now.client.meter c.self-2.inside.name c.args.self.now.name c.self-2.inside.stage c.news.result meter name c.news.ensures c.self-2.invariant.own in
+    record { heard = inl takes_all; claimed = own; same = tt; memory = tt }

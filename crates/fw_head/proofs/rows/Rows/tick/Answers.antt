@@ -1,0 +1,25 @@
+use Rattle.std.proofs.Common.{◌≡◌, nat_eq, Some, None, sym, ap, ◌∙◌}
+use Rattle.std.specs.Map.{lookup}
+use Rattle.std.specs.Option.{option_copied_mut}
+use Rattle.fw_head.specs.Row.{Row, ticked}
+use Rattle.fw_head.proofs.LiveRows.{changed_at, unchanged_at, none_at, on_ok, on_err}
+use Rattle.fw_head.proofs.rows.Rows.tick.Goals as goal
+
+pub returns-in-Some-clause-ticked : goal.returns-in-Some-clause-ticked
+returns-in-Some-clause-ticked c =
+    let found : lookup (nat_eq c.number.result) c.args.self.now.rows.entries ≡ Some c.in-Some.row.now = sym c.get_mut.ensures.value ∙ ap option_copied_mut c.in-Some.is in
+    on_ok c.tick.result _ _
+    (λ x written. changed_at c.number.result c.args.meter (λ (row : Row). ticked row c.args.image.now c.args.width) c.args.self.now.rows.entries _ c.in-Some.row.now c.tick.new.self c.number.ensures found written (c.get_mut.follows.holds c.tick.new.self).0)
+    c.tick.ensures.ticked
+
+pub returns-in-Some-clause-same : goal.returns-in-Some-clause-same
+returns-in-Some-clause-same c =
+    let found : lookup (nat_eq c.number.result) c.args.self.now.rows.entries ≡ Some c.in-Some.row.now = sym c.get_mut.ensures.value ∙ ap option_copied_mut c.in-Some.is in
+    on_err c.tick.result _ _
+    (λ e same. unchanged_at c.number.result c.args.self.now.rows.entries _ c.in-Some.row.now c.tick.new.self found same (c.get_mut.follows.holds c.tick.new.self).0)
+    c.tick.ensures.same
+
+pub returns-in-None-clause-ticked : goal.returns-in-None-clause-ticked
+returns-in-None-clause-ticked c =
+    let absent : lookup (nat_eq c.number.result) c.args.self.now.rows.entries ≡ None = sym c.get_mut.ensures.value ∙ ap option_copied_mut c.in-None.is in
+    none_at c.number.result c.args.meter (λ (row : Row). ticked row c.args.image.now c.args.width) c.args.self.now.rows.entries _ c.number.ensures absent (ap (λ m. m.entries) c.get_mut.follows.holds-at-none)

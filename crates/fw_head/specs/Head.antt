@@ -1,0 +1,150 @@
+-- Public vocabulary: a head end, its book and the live rows, and what each call makes of it.
+use Rattle.std.specs.Prelude.{◌≡◌, ℕ, ◌==◌, nat_eq, not, ◌⊎◌, List, [], ◌∷◌, ◌++◌, map, filter, length, Option, Some, None, unwrap_or, if◌then◌else◌}
+use Rattle.std.specs.List.{IsDistinct}
+use Rattle.std.specs.Map.{lookup, keys_of}
+use Rattle.std.specs.Option.{option_map, option_map_or}
+use Rattle.fw_names.specs.Name.{Name, Campaign, name_of}
+use Rattle.fw_blocks.specs.Cuts.{IsWithinLimits, cut}
+use Rattle.fw_client.specs.Ask as ask
+use Rattle.fw_book.specs.declared.row.RowState.TheVariants as state
+use Rattle.fw_book.specs.Contents.{Contents, image_in, name_in, state_in}
+use Rattle.fw_book.specs.Changes.{empty_book, opened, cancelled, marked}
+use Rattle.fw_head.specs.declared.news.News.{News}
+use Rattle.fw_head.specs.declared.news.News.TheVariants as news
+use Rattle.fw_head.specs.declared.news.RowNews.{RowNews}
+use Rattle.fw_head.specs.declared.news.RowNews.TheVariants.{Nothing, Moved, Done, Failed}
+use Rattle.fw_head.specs.Row.{Row, new_row, sends, ticked, RowHears}
+
+-- the live rows, each behind the number of its meter
+abbrev pub Rows : Type 0
+Rows = List (ℕ × Row)
+
+pub record Head : Type 0 where
+  pub book : Contents
+  -- how many blocks are sent at a time
+  pub width : ℕ
+  pub rows : Rows
+
+-- the live row of a meter, if it has one
+abbrev pub row_of : Rows → ℕ → Option Row
+row_of rows meter = lookup (nat_eq meter) rows
+
+-- the rows with that of the meter changed
+abbrev pub at_meter : ℕ → (Row → Row) → Rows → Rows
+at_meter meter change [] = []
+at_meter meter change (entry ∷ entries) =
+    if meter == entry.0 then (entry.0, change entry.1) ∷ entries else entry ∷ at_meter meter change entries
+
+-- the rows but that of the meter
+abbrev pub without_meter : ℕ → Rows → Rows
+without_meter meter rows = filter (λ (entry : ℕ × Row). not (entry.0 == meter)) rows
+
+-- the rows but those of the campaign of this serial number
+abbrev pub without_serial : ℕ → Rows → Rows
+without_serial serial rows = filter (λ (entry : ℕ × Row). not (entry.1.name.campaign.serial == serial)) rows
+
+-- a new row for each meter
+abbrev pub new_rows : Name → ℕ → List ℕ → Rows
+new_rows name size meters = map (λ meter. (meter, new_row meter name size)) meters
+
+-- each row made new
+abbrev pub renewed : Rows → Rows
+renewed rows = map (λ (entry : ℕ × Row). (entry.0, new_row entry.1.client.meter entry.1.name entry.1.size)) rows
+
+-- a meter's row hears a datagram and goes on, or the meter has none
+abbrev pub RowsHear : Rows → ℕ → List ℕ → RowNews → Rows → Type 0
+RowsHear old meter datagram told new =
+    ((row next : Row) × (row_of old meter ≡ Some row) × RowHears row datagram told next × (new ≡ at_meter meter (λ was. next) old))
+    ⊎ ((row_of old meter ≡ None) × (told ≡ Nothing) × (new ≡ old))
+
+-- ---- what each call makes of a head end
+
+abbrev pub new_head : ℕ → ℕ → Head
+new_head number width = record { book = empty_book number; width = width; rows = [] }
+
+-- a campaign of this head end
+abbrev pub campaign_at : Head → ℕ → Campaign
+campaign_at head serial = record { head = head.book.head; serial = serial }
+
+-- an opening adds the campaign to the book, and a new row for each of its meters
+abbrev pub opened_head : Head → ℕ → List ℕ → List ℕ → Head
+opened_head head serial image meters =
+    record head {
+      book = opened head.book serial image meters;
+      rows = head.rows ++ new_rows (name_of (campaign_at head serial) image) (length image) meters;
+    }
+
+abbrev pub cancelled_head : Head → ℕ → Head
+cancelled_head head serial = record head { book = cancelled head.book serial; rows = without_serial serial head.rows }
+
+-- a restart keeps the book
+abbrev pub restarted : Head → Head
+restarted head = record head { rows = renewed head.rows }
+
+-- the bytes of the image of a row's campaign
+abbrev pub image_of : Head → Row → List ℕ
+image_of head row = unwrap_or (image_in head.book row.name.campaign) []
+
+-- what a tick sends to a meter: what its live row sends
+abbrev pub sends_to : Head → ℕ → List (List ℕ)
+sends_to head meter = option_map_or (λ row. sends row (image_of head row) head.width) (row_of head.rows meter) []
+
+abbrev pub ticked_head : Head → ℕ → Head
+ticked_head head meter = record head { rows = at_meter meter (λ row. ticked row (image_of head row) head.width) head.rows }
+
+-- what is told of a row's news
+abbrev pub news_of : Campaign → ℕ → RowNews → News
+news_of campaign meter Nothing = news.Nothing
+news_of campaign meter Moved = news.Moved
+news_of campaign meter (Done claim) = news.Done campaign meter
+news_of campaign meter Failed = news.Failed campaign meter
+
+-- The head end once the meter's row went on to this one. A row that ended is marked in the book, and is live no more.
+abbrev pub went_on : Head → ℕ → Row → RowNews → Head
+went_on head meter row Nothing = head
+went_on head meter row Moved = record head { rows = at_meter meter (λ old. row) head.rows }
+went_on head meter row (Done claim) = record head { book = marked head.book row.name.campaign.serial meter state.Done; rows = without_meter meter head.rows }
+went_on head meter row Failed = record head { book = marked head.book row.name.campaign.serial meter state.Failed; rows = without_meter meter head.rows }
+
+-- the live row of the sender hears the datagram
+pub record HeadTakes (old : Head) (meter : ℕ) (datagram : List ℕ) (told : News) (new : Head) : Type 0 where
+  pub row : Row
+  pub next : Row
+  pub heard : RowNews
+  pub found : row_of old.rows meter ≡ Some row
+  pub hears : RowHears row datagram heard next
+  pub new_is : new ≡ went_on old meter next heard
+  pub told_is : told ≡ news_of row.name.campaign meter heard
+
+-- a datagram of a meter without a live row changes nothing
+abbrev pub HeadIgnores : Head → ℕ → News → Head → Type 0
+HeadIgnores old meter told new = (row_of old.rows meter ≡ None) × (told ≡ news.Nothing) × (new ≡ old)
+
+-- from old, a head end that is given this datagram of a meter tells this, and goes on to new
+abbrev pub HeadHears : Head → ℕ → List ℕ → News → Head → Type 0
+HeadHears old meter datagram told new = HeadTakes old meter datagram told new ⊎ HeadIgnores old meter told new
+
+-- ---- what every head end keeps
+
+-- a row is that of its meter in a campaign of the book, which is live there, for the image that the campaign offers
+pub record IsRowOf (book : Contents) (meter : ℕ) (row : Row) : Type 0 where
+  pub asks : row.client.meter ≡ meter
+  pub live : state_in book row.name.campaign meter ≡ Some state.Live
+  pub named : name_in book row.name.campaign ≡ Some row.name
+  pub sized : option_map length (image_in book row.name.campaign) ≡ Some row.size
+
+-- the live rows are those of the book, and a meter has one row at most
+pub record IsHead (head : Head) : Type 0 where
+  pub of_book : (meter : ℕ) (row : Row) → row_of head.rows meter ≡ Some row → IsRowOf head.book meter row
+  pub of_rows : (campaign : Campaign) (meter : ℕ) → state_in head.book campaign meter ≡ Some state.Live → (row : Row) × (row_of head.rows meter ≡ Some row) × (row.name.campaign ≡ campaign)
+  pub once : IsDistinct nat_eq (keys_of head.rows)
+
+-- ---- what a head end may send: a set to true, a read, a verify, an activate; an initiate with the name and the size of an image
+-- that it offers, and a block of one, under some block size within the limits
+
+abbrev pub MaySend : Contents → ask.Ask → Type 0
+MaySend book (ask.initiate name size) =
+    (campaign : Campaign) × (image : List ℕ) × (image_in book campaign ≡ Some image) × (name ≡ name_of campaign image) × (size ≡ length image)
+MaySend book (ask.block number value) =
+    (campaign : Campaign) × (image : List ℕ) × (block_size : ℕ) × (image_in book campaign ≡ Some image) × IsWithinLimits block_size (length image) × (value ≡ cut block_size image number)
+MaySend book asked = Unit {0}

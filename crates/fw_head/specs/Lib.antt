@@ -1,0 +1,4 @@
+pub mod Phase
+pub mod Row
+pub mod Head
+pub mod Inside

@@ -1,0 +1,122 @@
+-- Public vocabulary: the row machine. What a tick and a datagram make of a row, a head end's work on one meter.
+use Rattle.std.specs.Prelude.{◌≡◌, ℕ, ◌+◌, nat_lt, ◌⊎◌, true, List, [], ◌∷◌, map, slice_set, if◌then◌else◌}
+use Rattle.std.specs.Global.{Vec}
+use Rattle.fw_names.specs.Name.{Name}
+use Rattle.fw_blocks.specs.Cuts.{Partition}
+use Rattle.fw_wrapper.specs.Wrapper.{wrapped, Wraps}
+use Rattle.fw_apdu.specs.Request.{request_bytes}
+use Rattle.fw_client.specs.Ask.{Ask, request_of, kind_of}
+use Rattle.fw_client.specs.State.{State, fresh, asking, forgetting, invoke_byte}
+use Rattle.fw_client.specs.Hearing.{Takes, AnswersNone}
+use Rattle.fw_client.specs.declared.heard.Heard.{Heard}
+use Rattle.fw_head.specs.declared.stage.Stage.{Stage}
+use Rattle.fw_head.specs.declared.stage.Stage.TheVariants.{Size, Start, Blocks, Done, Failed}
+use Rattle.fw_head.specs.declared.answers.Step.{Step}
+use Rattle.fw_head.specs.declared.answers.Step.TheVariants.{Stay, Took, Move, Return}
+use Rattle.fw_head.specs.declared.news.RowNews.{RowNews}
+use Rattle.fw_head.specs.declared.news.RowNews.TheVariants as news
+use Rattle.fw_head.specs.Phase.{asks_in, Leads, with_known}
+
+pub record Row : Type 0 where
+  -- the name and the size of the image that the meter is to run
+  pub name : Name
+  pub size : ℕ
+  -- the phase, with what is known in it
+  pub stage : Stage
+  -- whom it asks, the next invoke-id, and the outstanding asks
+  pub client : State
+  -- how often it returned to Start
+  pub returns : ℕ
+
+-- the number of returns that ends a row (own)
+abbrev pub max_returns : ℕ
+max_returns = 8
+
+abbrev pub new_row : ℕ → Name → ℕ → Row
+new_row meter name size = record { name = name; size = size; stage = Size; client = fresh meter; returns = 0 }
+
+-- ---- a tick
+
+-- the datagrams of these asks, each under the next id
+abbrev pub datagrams : State → List Ask → List (List ℕ)
+datagrams c [] = []
+datagrams c (ask ∷ asks) = wrapped 1 1 (request_bytes (invoke_byte c.next) (request_of ask)) ∷ datagrams (asking c (kind_of ask)) asks
+
+-- the client once it asked them
+abbrev pub asking_all : State → List Ask → State
+asking_all c [] = c
+asking_all c (ask ∷ asks) = asking_all (asking c (kind_of ask)) asks
+
+-- what a tick asks of the row's image, of which these are the bytes, with windows of this width
+abbrev pub tick_asks : Row → List ℕ → ℕ → List Ask
+tick_asks row image width = asks_in row.name row.size image width row.stage
+
+-- the bytes of each datagram
+abbrev pub bytes_of : List (Vec ℕ) → List (List ℕ)
+bytes_of datagrams = map (λ (datagram : Vec ℕ). datagram.items) datagrams
+
+-- A tick forgets the outstanding asks, and sends these datagrams.
+abbrev pub sends : Row → List ℕ → ℕ → List (List ℕ)
+sends row image width = datagrams (forgetting row.client) (tick_asks row image width)
+
+-- the row after a tick
+abbrev pub ticked : Row → List ℕ → ℕ → Row
+ticked row image width = record row { client = asking_all (forgetting row.client) (tick_asks row image width) }
+
+-- ---- an answer
+
+-- a move to another phase forgets the outstanding asks
+abbrev pub moved : Row → Stage → Row
+moved row stage = record row { stage = stage; client = forgetting row.client }
+
+-- a return to Start is counted, and the last one makes the row failed instead
+abbrev pub returned : Row → Partition → Row
+returned row g =
+    if nat_lt (row.returns + 1) max_returns
+    then record (moved row (Start g)) { returns = row.returns + 1 }
+    else moved row Failed
+
+-- the stage once the meter took the block of this number
+abbrev pub with_block : Stage → ℕ → Stage
+with_block (Blocks g known) number = with_known g (slice_set known number true)
+with_block stage number = stage
+
+-- the row in this stage, which is another phase unless it is Blocks
+abbrev pub settled : Row → Stage → Row
+settled row (Blocks g known) = record row { stage = Blocks g known }
+settled row stage = moved row stage
+
+-- the row after a step
+abbrev pub stepped : Row → Step → Row
+stepped row Stay = row
+stepped row (Took number) = settled row (with_block row.stage number)
+stepped row (Move stage) = moved row stage
+stepped row (Return g) = returned row g
+
+-- what is told of an answer that led to this stage
+abbrev pub news_in : Stage → RowNews
+news_in (Done claim) = news.Done claim
+news_in Failed = news.Failed
+news_in stage = news.Moved
+
+-- the client takes an answer, and the row goes where it leads
+pub record RowTakes (old : Row) (datagram : List ℕ) (told : RowNews) (new : Row) : Type 0 where
+  pub heard : Heard
+  pub client : State
+  pub step : Step
+  pub takes : Takes old.client datagram heard client
+  pub leads : Leads old.name old.size old.stage heard step
+  pub new_is : new ≡ stepped (record old { client = client }) step
+  pub told_is : told ≡ news_in new.stage
+
+-- a datagram that answers no ask changes nothing
+abbrev pub RowIgnores : Row → List ℕ → RowNews → Row → Type 0
+RowIgnores old datagram told new = AnswersNone old.client datagram × (told ≡ news.Nothing) × (new ≡ old)
+
+-- from old, a row that is given this datagram tells this, and goes on to new
+abbrev pub RowHears : Row → List ℕ → RowNews → Row → Type 0
+RowHears old datagram told new = RowTakes old datagram told new ⊎ RowIgnores old datagram told new
+
+-- a datagram wraps an APDU from and to wPort 1, whatever it spells
+abbrev pub IsWrapped : List ℕ → Type 0
+IsWrapped datagram = (apdu : List ℕ) × Wraps datagram 1 1 apdu

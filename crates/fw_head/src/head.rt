@@ -1,0 +1,198 @@
+//! A head end: the book of its campaigns, and a row for each meter that is live in one of them.
+
+ghost use Rattle.std.specs.Prelude.{◌≡◌, ◌≤◌, None, IfOk, IfErr, IsOk, OnOk, OnErr};
+ghost use Rattle.fw_names.specs.Name.{name_of};
+ghost use Rattle.fw_book.specs.Changes.{opening_refusal, cancel_refusal, IsRefusal};
+
+use crate::news::{News, RowNews};
+use crate::rows::Rows;
+use crate::view::HeadView;
+use fw_blocks::Width;
+use fw_book::{Book, BookError, MAX_METERS};
+use fw_client::OutOfMemory;
+use fw_names::{CampaignId, HeadId, ImageName, MeterId};
+use std::alloc::Global;
+use std::marker::Model;
+
+/// A head end.
+#[derive(Drop)]
+pub struct HeadCore {
+    book: Book,
+    width: Width,
+    rows: Rows,
+}
+
+// Contracts see the book, the width and the live rows, which are those of the book.
+impl Model for HeadCore {
+    ghost use Rattle.std.specs.Coded.{codes};
+    ghost use Rattle.std.specs.FinMap.{code};
+    ghost use Rattle.fw_head.specs.Head.{Head, IsHead};
+
+    ghost Value = { Head };
+
+    ghost coded = { Prim.hlevel (codes, code) };
+
+    ghost view = { λ h. record { book = h.book; width = h.width; rows = h.rows.rows.entries } };
+
+    ghost invariant = { λ h. IsHead (record { book = h.book; width = h.width; rows = h.rows.rows.entries }) };
+}
+
+impl HeadCore {
+    ghost use Rattle.fw_head.specs.Row.{bytes_of, IsWrapped};
+    ghost use Rattle.fw_head.specs.Head.{IsHead, new_head, campaign_at, opened_head, cancelled_head, restarted, sends_to, ticked_head, HeadHears};
+
+    /// A head end of no campaign, that sends so many blocks at a time. It keeps the allocator, and takes no memory.
+    pub fn new(alloc: Global, head: HeadId, width: Width) -> HeadCore
+        ensures { result ≡ new_head head width }
+    {
+        HeadCore {
+            book: Book::new(alloc, head),
+            width,
+            rows: Rows::new(alloc),
+        }
+    }
+
+    /// Opens the campaign of this serial number: it offers the image to the meters under the name that is answered, and each of
+    /// them has a new row.
+    ///
+    /// # Errors
+    ///
+    /// Those of `Book::open_campaign`, in its order. The head end is then as it was.
+    pub fn open_campaign(
+        &mut self,
+        alloc: Global,
+        serial: u32,
+        image: &[u8],
+        meters: &[MeterId],
+    ) -> Result<ImageName, BookError>
+        requires { 1 ≤ serial }
+        ensures opened { OnOk result (self.new ≡ opened_head self.old serial image.now meters.now) }
+        ensures name { IfOk result (λ name. name ≡ name_of (campaign_at self.old serial) image.now) }
+        ensures admitted { OnOk result (opening_refusal self.old.book (campaign_at self.old serial) image.now meters.now ≡ None) }
+        ensures refused { IfErr result (IsRefusal (opening_refusal self.old.book (campaign_at self.old serial) image.now meters.now)) }
+        ensures same { OnErr result (self.new ≡ self.old) }
+    {
+        let campaign = self.campaign(serial);
+        if self.rows.reserve(meters.len().min(MAX_METERS)).is_err() {
+            self.book.check_opening(campaign, image, meters)?;
+            return Err(BookError::OutOfMemory);
+        }
+        let name = self.book.open_campaign(alloc, campaign, image, meters)?;
+        self.rows.add(name, image.len() as u32, meters);
+        Ok(name)
+    }
+
+    // The campaign of this serial number.
+    fn campaign(&self, serial: u32) -> CampaignId
+        requires { 1 ≤ serial }
+        ensures { result ≡ campaign_at self.now serial }
+    {
+        match CampaignId::new(self.book.head(), serial) {
+            Some(campaign) => campaign,
+            None => unreachable!(),
+        }
+    }
+
+    /// Cancels the campaign of this serial number: its live rows are cancelled, and nothing more is sent for them.
+    ///
+    /// # Errors
+    ///
+    /// Those of `Book::cancel`, in its order. The head end is then as it was.
+    pub fn cancel(&mut self, serial: u32) -> Result<(), BookError>
+        requires { 1 ≤ serial }
+        ensures cancelled { OnOk result (self.new ≡ cancelled_head self.old serial) }
+        ensures admitted { OnOk result (cancel_refusal self.old.book (campaign_at self.old serial) ≡ None) }
+        ensures refused { IfErr result (λ e. cancel_refusal self.old.book (campaign_at self.old serial) ≡ Some e) }
+        ensures same { OnErr result (self.new ≡ self.old) }
+    {
+        let campaign = self.campaign(serial);
+        self.book.cancel(campaign)?;
+        self.rows.cancel(serial);
+        Ok(())
+    }
+
+    /// Hears a datagram that came from a meter. It changes nothing where the meter has no live row, or where it answers no ask of
+    /// that row.
+    ///
+    /// # Errors
+    ///
+    /// `OutOfMemory` alone, and only for a datagram that wraps an APDU from and to wPort 1. The head end is then as before.
+    pub fn hear(
+        &mut self,
+        alloc: Global,
+        from: MeterId,
+        datagram: &[u8],
+    ) -> Result<News, OutOfMemory>
+        ensures heard { IfOk result (λ told. HeadHears self.old from datagram.now told self.new) }
+        ensures same { OnErr result (self.new ≡ self.old) }
+        ensures memory { OnErr result (IsWrapped datagram.now) }
+    {
+        let campaign = match self.rows.get(from) {
+            Some(row) => row.name().campaign,
+            None => return Ok(News::Nothing),
+        };
+        Ok(match self.rows.hear(alloc, from, datagram)? {
+            RowNews::Nothing => News::Nothing,
+            RowNews::Moved => News::Moved,
+            RowNews::Done(claim) => {
+                expect_marked(self.book.mark_done(campaign, claim));
+                self.rows.end(from);
+                News::Done(campaign, from)
+            }
+            RowNews::Failed => {
+                expect_marked(self.book.mark_failed(campaign, from));
+                self.rows.end(from);
+                News::Failed(campaign, from)
+            }
+        })
+    }
+
+    /// Makes the datagrams that are sent to a meter now: none where it has no live row.
+    ///
+    /// # Errors
+    ///
+    /// `OutOfMemory` alone. The head end is then as before.
+    pub fn tick(&mut self, alloc: Global, meter: MeterId) -> Result<Vec<Vec<u8>>, OutOfMemory>
+        ensures sent { IfOk result (λ sent. bytes_of sent.items ≡ sends_to self.old meter) }
+        ensures ticked { OnOk result (self.new ≡ ticked_head self.old meter) }
+        ensures same { OnErr result (self.new ≡ self.old) }
+    {
+        let campaign = match self.rows.get(meter) {
+            Some(row) => row.name().campaign,
+            None => return Ok(Vec::new(alloc)),
+        };
+        match self.book.offer(campaign) {
+            Some(offer) => self.rows.tick(alloc, meter, offer.image(), self.width),
+            None => unreachable!(),
+        }
+    }
+
+    /// Starts again: the book is kept, and each live row is made new.
+    pub fn restart(&mut self)
+        ensures { self.new ≡ restarted self.old }
+    {
+        self.rows.restart();
+    }
+
+    /// The book and the live rows.
+    pub fn view(&self) -> HeadView<'_>
+        ensures book { result.book.now ≡ self.now.book }
+        ensures rows { IsHead self.now }
+    {
+        HeadView {
+            book: &self.book,
+            rows: self.rows.all(),
+        }
+    }
+}
+
+// A row that ends here was live in the book, so that its end is marked.
+fn expect_marked(marked: Result<(), BookError>)
+    requires { IsOk marked }
+    ensures { IsOk marked }
+{
+    match marked {
+        Ok(()) => {}
+        Err(_) => unreachable!(),
+    }
+}

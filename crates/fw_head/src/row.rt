@@ -1,0 +1,229 @@
+//! One row of a campaign: a head end's work on one meter.
+
+ghost use Rattle.std.specs.Prelude.{◌≡◌, ◌<◌, IfOk, OnOk, OnErr};
+ghost use Rattle.std.specs.FinMap.{empty};
+
+use crate::answers::{Step, next_step};
+use crate::asks::{ask_blocks, ask_one};
+use crate::news::RowNews;
+use crate::phase::Phase;
+use crate::stage::Stage;
+use fw_blocks::{Geometry, Width, Window};
+use fw_client::{Ask, Client, Heard, OutOfMemory};
+use fw_names::{ImageName, MeterId};
+use std::alloc::Global;
+use std::marker::Model;
+use std::mem;
+
+/// How many returns to `Start` end a row.
+const MAX_RETURNS: u8 = 8;
+
+/// A head end's work on one meter for one campaign.
+#[derive(Debug, Drop)]
+pub struct RowCore {
+    meter: MeterId,
+    name: ImageName,
+    size: u32,
+    stage: Stage,
+    client: Client,
+    returns: u8,
+}
+
+// Contracts see the row machine. The client asks the row's own meter, a row that is live returned fewer than eight times, and one
+// that is done was claimed by its own meter under its own name.
+impl Model for RowCore {
+    ghost use Rattle.std.specs.Coded.{codes};
+    ghost use Rattle.std.specs.FinMap.{code};
+    ghost use Rattle.fw_head.specs.Row.{Row};
+
+    ghost Value = { Row };
+
+    ghost coded = { Prim.hlevel (codes, code) };
+
+    ghost use Rattle.fw_head.specs.Inside.{IsRow};
+
+    ghost view = { λ r. record { name = r.name; size = r.size; stage = r.stage; client = r.client; returns = r.returns } };
+
+    ghost invariant = { λ r. IsRow r.meter r.name r.stage r.client r.returns };
+}
+
+impl RowCore {
+    ghost use Rattle.fw_head.specs.Row.{Row, bytes_of, new_row, ticked, sends, stepped, moved, returned, settled, with_block, RowHears, IsWrapped, news_in, tick_asks, datagrams, asking_all};
+    ghost use Rattle.fw_head.specs.Phase.{phase_of};
+    ghost use Rattle.fw_head.specs.Inside.{IsOwn, IsOwnStep, IsOwnNews};
+
+    /// A new row of this meter, for the image of this name and size in bytes.
+    pub fn new(meter: MeterId, name: ImageName, size: u32) -> RowCore
+        ensures { result ≡ new_row meter name size }
+    {
+        RowCore {
+            meter,
+            name,
+            size,
+            stage: Stage::Size,
+            client: Client::new(meter),
+            returns: 0,
+        }
+    }
+
+    /// Makes the row new.
+    pub fn restart(&mut self)
+        ensures { self.new ≡ new_row self.old.client.meter self.old.name self.old.size }
+    {
+        *self = RowCore::new(self.meter, self.name, self.size);
+    }
+
+    /// Whose row it is.
+    pub fn meter(&self) -> MeterId
+        ensures { result ≡ self.now.client.meter }
+    {
+        self.meter
+    }
+
+    /// The name of the image that the meter is to run.
+    pub fn name(&self) -> ImageName
+        ensures { result ≡ self.now.name }
+    {
+        self.name
+    }
+
+    /// Where the row is.
+    pub fn phase(&self) -> Phase
+        ensures { result ≡ phase_of self.now.stage }
+    {
+        self.stage.phase()
+    }
+
+    /// How often the row returned to `Start`: 7 times at most, since the eighth return ends it.
+    pub fn returns(&self) -> u8
+        ensures count { result ≡ self.now.returns }
+        ensures most { result < 8 }
+    {
+        self.returns
+    }
+
+    /// Drops what was asked, and makes the datagrams that are sent now. `image` has the bytes of the row's image.
+    ///
+    /// # Errors
+    ///
+    /// `OutOfMemory` alone. The row is then as before.
+    pub fn tick(
+        &mut self,
+        alloc: Global,
+        image: &[u8],
+        width: Width,
+    ) -> Result<Vec<Vec<u8>>, OutOfMemory>
+        ensures sent { IfOk result (λ sent. bytes_of sent.items ≡ sends self.old image.now width) }
+        ensures ticked { OnOk result (self.new ≡ ticked self.old image.now width) }
+        ensures same { OnErr result (self.new ≡ self.old) }
+    {
+        let mut client = self.client.duplicate();
+        client.forget();
+        let sent = self.ask(alloc, &mut client, image, width)?;
+        self.client = client;
+        Ok(sent)
+    }
+
+    // Asks by this client what the phase asks.
+    fn ask(
+        &self,
+        alloc: Global,
+        client: &mut Client,
+        image: &[u8],
+        width: Width,
+    ) -> Result<Vec<Vec<u8>>, OutOfMemory>
+        requires { client.old.asks ≡ empty }
+        ensures sent { IfOk result (λ sent. bytes_of sent.items ≡ datagrams client.old (tick_asks self.now image.now width)) }
+        ensures asked { OnOk result (client.new ≡ asking_all client.old (tick_asks self.now image.now width)) }
+    {
+        let ask = match &self.stage {
+            Stage::Size => Ask::BlockSize,
+            Stage::Enable(_) => Ask::Enable,
+            Stage::Start(_) => Ask::Initiate {
+                name: self.name,
+                size: self.size,
+            },
+            Stage::Blocks(geometry, known) => {
+                let window = Window::next(known, width);
+                return ask_blocks(alloc, client, image, *geometry, window.as_slice());
+            }
+            Stage::Check(_) => Ask::FirstMissing,
+            Stage::Gaps(_) => Ask::Blocks,
+            Stage::Verify(_) => Ask::Verify,
+            Stage::Poll(_) => Ask::Status,
+            Stage::Info(_) => Ask::Info,
+            Stage::Activate(_) => Ask::Activate,
+            Stage::Confirm(_) => Ask::ActiveName,
+            Stage::Done(_) | Stage::Failed => return Ok(Vec::new(alloc)),
+        };
+        ask_one(alloc, client, &ask)
+    }
+
+    /// Hears a datagram of the meter.
+    ///
+    /// # Errors
+    ///
+    /// `OutOfMemory` alone, and only for a datagram that wraps an APDU from and to wPort 1. The row is then as before.
+    pub fn hear(&mut self, alloc: Global, datagram: &[u8]) -> Result<RowNews, OutOfMemory>
+        ensures heard { IfOk result (λ told. RowHears self.old datagram.now told self.new) }
+        // A claim that ends the row is of its own meter, under its own name.
+        ensures claimed { IfOk result (IsOwnNews self.old.client.meter self.old.name) }
+        ensures same { OnErr result (self.new ≡ self.old) }
+        ensures memory { OnErr result (IsWrapped datagram.now) }
+    {
+        let mut client = self.client.duplicate();
+        let heard = client.hear(alloc, datagram)?;
+        if let Heard::Stranger = heard {
+            return Ok(RowNews::Nothing);
+        }
+        let step = next_step(alloc, self.name, self.size, &self.stage, heard)?;
+        self.client = client;
+        self.take(step);
+        Ok(self.stage.news())
+    }
+
+    // Goes where an answer leads.
+    fn take(&mut self, step: Step)
+        requires { IsOwnStep self.old.client.meter self.old.name step }
+        ensures { self.new ≡ stepped self.old step }
+    {
+        match step {
+            Step::Stay => {}
+            Step::Took(number) => self.took(number),
+            Step::Move(stage) => self.go(stage),
+            Step::Return(geometry) => self.go_back(geometry),
+        }
+    }
+
+    // The meter took a block: the phase ends once it has them all.
+    fn took(&mut self, number: u32)
+        ensures { self.new ≡ settled self.old (with_block self.old.stage number) }
+    {
+        let stage = mem::replace(&mut self.stage, Stage::Failed);
+        match stage.with_block(number) {
+            Stage::Blocks(geometry, known) => self.stage = Stage::Blocks(geometry, known),
+            stage => self.go(stage),
+        }
+    }
+
+    // Goes to another phase. The outstanding asks are forgotten.
+    fn go(&mut self, stage: Stage)
+        requires { IsOwn self.old.client.meter self.old.name stage }
+        ensures { self.new ≡ moved self.old stage }
+    {
+        self.client.forget();
+        self.stage = stage;
+    }
+
+    // Returns to `Start`, or gives up at the last return.
+    fn go_back(&mut self, geometry: Geometry)
+        ensures { self.new ≡ returned self.old geometry }
+    {
+        if self.returns + 1 < MAX_RETURNS {
+            self.returns += 1;
+            self.go(Stage::Start(geometry));
+        } else {
+            self.go(Stage::Failed);
+        }
+    }
+}

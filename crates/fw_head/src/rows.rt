@@ -1,0 +1,148 @@
+//! The live rows of a head end.
+
+ghost use Rattle.std.specs.Prelude.{◌≡◌, ◌≤◌, ◌==◌, nat_eq, not, true, [], ◌++◌, length, IfOk, OnOk, OnErr};
+ghost use Rattle.std.specs.List.{IsDistinct};
+ghost use Rattle.std.specs.Map.{keys_of};
+ghost use Rattle.indexmap.specs.IndexMap.{spare};
+ghost use Rattle.std.specs.Option.{option_copied, option_map_or};
+ghost use Rattle.fw_head.specs.Row.{Row, bytes_of, new_row, sends, ticked, IsWrapped};
+ghost use Rattle.fw_head.specs.Inside.{IsOwnNews};
+ghost use Rattle.fw_head.specs.Head.{row_of, at_meter, without_meter, without_serial, new_rows, renewed, RowsHear};
+
+use crate::news::RowNews;
+use crate::row::RowCore;
+use fw_blocks::Width;
+use fw_client::OutOfMemory;
+use fw_names::{ImageName, MeterId};
+use indexmap::IndexMap;
+use indexmap::map::Values;
+use std::alloc::{AllocError, Global};
+
+/// The rows of a head end, each of a meter of its own, in the order in which their campaigns were opened.
+pub type LiveRows<'a> = Values<'a, u32, RowCore>;
+
+/// The live rows by the numbers of their meters: a meter is live in one campaign at most. Contracts see the entries of the map, and
+/// the room that is left in it.
+#[derive(Drop)]
+pub(crate) struct Rows {
+    rows: IndexMap<u32, RowCore>,
+}
+
+impl Rows {
+    /// No row. It keeps the allocator, and takes no memory.
+    pub(crate) fn new(alloc: Global) -> Rows
+        ensures { result.rows.entries ≡ [] }
+    {
+        Rows {
+            rows: IndexMap::new(alloc),
+        }
+    }
+
+    /// The row of a meter.
+    pub(crate) fn get(&self, meter: MeterId) -> Option<&RowCore>
+        ensures { option_copied result ≡ row_of self.now.rows.entries meter }
+    {
+        self.rows.get(&meter.number())
+    }
+
+    /// Every row.
+    pub(crate) fn all(&self) -> LiveRows<'_> {
+        self.rows.values()
+    }
+
+    /// Makes room for so many rows more.
+    pub(crate) fn reserve(&mut self, more: usize) -> Result<(), AllocError>
+        ensures same { self.new.rows.entries ≡ self.old.rows.entries }
+        ensures room { OnOk result (more ≤ spare self.new.rows) }
+    {
+        self.rows.reserve(more)
+    }
+
+    /// The datagrams that a meter's row sends now, none where it has no row.
+    pub(crate) fn tick(
+        &mut self,
+        alloc: Global,
+        meter: MeterId,
+        image: &[u8],
+        width: Width,
+    ) -> Result<Vec<Vec<u8>>, OutOfMemory>
+        ensures sent { IfOk result (λ sent. bytes_of sent.items ≡ option_map_or (λ row. sends row image.now width) (row_of self.old.rows.entries meter) []) }
+        ensures ticked { OnOk result (self.new.rows.entries ≡ at_meter meter (λ row. ticked row image.now width) self.old.rows.entries) }
+        ensures same { OnErr result (self.new.rows.entries ≡ self.old.rows.entries) }
+    {
+        match self.rows.get_mut(&meter.number()) {
+            Some(row) => row.tick(alloc, image, width),
+            None => Ok(Vec::new(alloc)),
+        }
+    }
+
+    /// A meter's row hears a datagram: nothing where the meter has no row.
+    pub(crate) fn hear(
+        &mut self,
+        alloc: Global,
+        meter: MeterId,
+        datagram: &[u8],
+    ) -> Result<RowNews, OutOfMemory>
+        ensures heard { IfOk result (λ told. RowsHear self.old.rows.entries meter datagram.now told self.new.rows.entries) }
+        ensures claimed { IfOk result (λ told. (row : Row) → row_of self.old.rows.entries meter ≡ Some row → IsOwnNews row.client.meter row.name told) }
+        ensures same { OnErr result (self.new.rows.entries ≡ self.old.rows.entries) }
+        ensures memory { OnErr result (IsWrapped datagram.now) }
+    {
+        match self.rows.get_mut(&meter.number()) {
+            Some(row) => row.hear(alloc, datagram),
+            None => Ok(RowNews::Nothing),
+        }
+    }
+
+    /// Takes out the row of a meter.
+    pub(crate) fn end(&mut self, meter: MeterId)
+        ensures { self.new.rows.entries ≡ without_meter meter self.old.rows.entries }
+    {
+        let ended = meter.number();
+        self.rows.retain(
+            |number: &u32, row: &mut RowCore| -> bool
+                ensures { (result ≡ not (number.now == ended)) × (row.new ≡ row.old) }
+            { *number != ended },
+        );
+    }
+
+    /// Takes out the rows of the campaign of this serial number.
+    pub(crate) fn cancel(&mut self, serial: u32)
+        ensures { self.new.rows.entries ≡ without_serial serial self.old.rows.entries }
+    {
+        self.rows.retain(
+            |_number: &u32, row: &mut RowCore| -> bool
+                ensures { (result ≡ not (row.old.name.campaign.serial == serial)) × (row.new ≡ row.old) }
+            { row.name().campaign.serial() != serial },
+        );
+    }
+
+    /// Makes each row new.
+    pub(crate) fn restart(&mut self)
+        ensures { self.new.rows.entries ≡ renewed self.old.rows.entries }
+    {
+        self.rows.retain(
+            |_number: &u32, row: &mut RowCore| -> bool
+                ensures { (result ≡ true) × (row.new ≡ new_row row.old.client.meter row.old.name row.old.size) }
+            {
+                row.restart();
+                true
+            },
+        );
+    }
+
+    /// A new row for each of the meters, that have none and for which there is room.
+    pub(crate) fn add(&mut self, name: ImageName, size: u32, meters: &[MeterId])
+        requires room { length meters.now ≤ spare self.old.rows }
+        requires once { IsDistinct nat_eq (keys_of self.old.rows.entries ++ meters.now) }
+        ensures { self.new.rows.entries ≡ self.old.rows.entries ++ new_rows name size meters.now }
+    {
+        for meter in meters {
+            let row = RowCore::new(*meter, name, size);
+            match self.rows.insert(meter.number(), row) {
+                Ok(_) => {}
+                Err(_) => unreachable!(),
+            }
+        }
+    }
+}

@@ -1,0 +1,88 @@
+//! The phases of a row, each with what is known in it.
+
+ghost use Rattle.std.specs.Prelude.{◌≡◌};
+ghost use Rattle.fw_head.specs.Phase.{phase_of, with_known};
+ghost use Rattle.fw_head.specs.Row.{news_in, with_block};
+
+use crate::news::RowNews;
+use crate::phase::Phase;
+use fw_blocks::{BlockSet, Geometry};
+use fw_client::ActiveClaim;
+
+/// A phase with what is known in it: from `Enable` on how the image is cut into blocks, in `Blocks` which of them the meter has,
+/// and once the row is done the claim that ended it.
+#[derive(Debug, Drop)]
+pub(crate) enum Stage {
+    Size,
+    Enable(Geometry),
+    Start(Geometry),
+    Blocks(Geometry, BlockSet),
+    Check(Geometry),
+    Gaps(Geometry),
+    Verify(Geometry),
+    Poll(Geometry),
+    Info(Geometry),
+    Activate(Geometry),
+    Confirm(Geometry),
+    Done(ActiveClaim),
+    Failed,
+}
+
+impl Stage {
+    pub(crate) fn phase(&self) -> Phase
+        ensures { result ≡ phase_of self.now }
+    {
+        match self {
+            Stage::Size => Phase::Size,
+            Stage::Enable(_) => Phase::Enable,
+            Stage::Start(_) => Phase::Start,
+            Stage::Blocks(_, _) => Phase::Blocks,
+            Stage::Check(_) => Phase::Check,
+            Stage::Gaps(_) => Phase::Gaps,
+            Stage::Verify(_) => Phase::Verify,
+            Stage::Poll(_) => Phase::Poll,
+            Stage::Info(_) => Phase::Info,
+            Stage::Activate(_) => Phase::Activate,
+            Stage::Confirm(_) => Phase::Confirm,
+            Stage::Done(_) => Phase::Done,
+            Stage::Failed => Phase::Failed,
+        }
+    }
+
+    /// What is told of a matched answer that led here.
+    pub(crate) fn news(&self) -> RowNews
+        ensures { result ≡ news_in self.now }
+    {
+        match self {
+            Stage::Done(claim) => RowNews::Done(*claim),
+            Stage::Failed => RowNews::Failed,
+            _ => RowNews::Moved,
+        }
+    }
+
+    /// The stage once the meter took a block: all that are missing are still to be sent, or the count is checked.
+    pub(crate) fn with_block(self, number: u32) -> Stage
+        ensures { result ≡ with_block self number }
+    {
+        match self {
+            Stage::Blocks(geometry, mut known) => {
+                if number < known.count() {
+                    known.mark(number);
+                }
+                with_known(geometry, known)
+            }
+            stage => stage,
+        }
+    }
+}
+
+/// The stage of a row that knows these blocks: they are transferred, or the meter is asked whether it has them all.
+pub(crate) fn with_known(geometry: Geometry, known: BlockSet) -> Stage
+    ensures { result ≡ with_known geometry known }
+{
+    if known.first_missing() == known.count() {
+        Stage::Check(geometry)
+    } else {
+        Stage::Blocks(geometry, known)
+    }
+}
