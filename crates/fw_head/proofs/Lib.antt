@@ -9,3 +9,4 @@ pub mod Ended
 pub mod Marks
 pub mod Endings
 pub mod TakenOut
+pub mod RowLaws

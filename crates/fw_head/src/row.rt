@@ -29,8 +29,8 @@ pub struct RowCore {
     returns: u8,
 }
 
-// Contracts see the row machine. The client asks the row's own meter, a row that is live returned fewer than eight times, and one
-// that is done was claimed by its own meter under its own name.
+// Contracts see the row machine. The client asks the row's own meter, a row that is live returned fewer than eight times, its image is
+// cut within the limits with as many blocks known as it has, and a row that is done was claimed by its own meter under its own name.
 impl Model for RowCore {
     ghost use Rattle.std.specs.Coded.{codes};
     ghost use Rattle.std.specs.FinMap.{code};
@@ -44,13 +44,13 @@ impl Model for RowCore {
 
     ghost view = { λ r. record { name = r.name; size = r.size; stage = r.stage; client = r.client; returns = r.returns } };
 
-    ghost invariant = { λ r. IsRow r.meter r.name r.stage r.client r.returns };
+    ghost invariant = { λ r. IsRow r.meter r.name r.size r.stage r.client r.returns };
 }
 
 impl RowCore {
     ghost use Rattle.fw_head.specs.Row.{Row, bytes_of, new_row, ticked, sends, stepped, moved, returned, settled, with_block, RowHears, IsWrapped, news_in, tick_asks, datagrams, asking_all};
     ghost use Rattle.fw_head.specs.Phase.{phase_of};
-    ghost use Rattle.fw_head.specs.Inside.{IsOwn, IsOwnStep, IsOwnNews};
+    ghost use Rattle.fw_head.specs.Inside.{IsCutOf, IsOwn, IsOwnStep, IsOwnNews};
 
     /// A new row of this meter, for the image of this name and size in bytes.
     pub fn new(meter: MeterId, name: ImageName, size: u32) -> RowCore
@@ -184,7 +184,7 @@ impl RowCore {
 
     // Goes where an answer leads.
     fn take(&mut self, step: Step)
-        requires { IsOwnStep self.old.client.meter self.old.name step }
+        requires { IsOwnStep self.old.client.meter self.old.name self.old.size step }
         ensures { self.new ≡ stepped self.old step }
     {
         match step {
@@ -208,7 +208,7 @@ impl RowCore {
 
     // Goes to another phase. The outstanding asks are forgotten.
     fn go(&mut self, stage: Stage)
-        requires { IsOwn self.old.client.meter self.old.name stage }
+        requires { IsOwn self.old.client.meter self.old.name self.old.size stage }
         ensures { self.new ≡ moved self.old stage }
     {
         self.client.forget();
@@ -217,6 +217,7 @@ impl RowCore {
 
     // Returns to `Start`, or gives up at the last return.
     fn go_back(&mut self, geometry: Geometry)
+        requires { IsCutOf self.old.size geometry }
         ensures { self.new ≡ returned self.old geometry }
     {
         if self.returns + 1 < MAX_RETURNS {
