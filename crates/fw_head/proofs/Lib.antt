@@ -10,3 +10,4 @@ pub mod Marks
 pub mod Endings
 pub mod TakenOut
 pub mod RowLaws
+pub mod Permitted

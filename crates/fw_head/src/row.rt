@@ -1,6 +1,6 @@
 //! One row of a campaign: a head end's work on one meter.
 
-ghost use Rattle.std.specs.Prelude.{◌≡◌, ◌<◌, IfOk, OnOk, OnErr};
+ghost use Rattle.std.specs.Prelude.{◌≡◌, ◌<◌, All, length, IfOk, OnOk, OnErr};
 ghost use Rattle.std.specs.FinMap.{empty};
 
 use crate::answers::{Step, next_step};
@@ -48,7 +48,7 @@ impl Model for RowCore {
 }
 
 impl RowCore {
-    ghost use Rattle.fw_head.specs.Row.{Row, bytes_of, new_row, ticked, sends, stepped, moved, returned, settled, with_block, RowHears, IsWrapped, news_in, tick_asks, datagrams, asking_all};
+    ghost use Rattle.fw_head.specs.Row.{Row, bytes_of, new_row, ticked, sends, stepped, moved, returned, settled, with_block, RowHears, IsPermitted, IsWrapped, news_in, tick_asks, datagrams, asking_all};
     ghost use Rattle.fw_head.specs.Phase.{phase_of};
     ghost use Rattle.fw_head.specs.Inside.{IsCutOf, IsOwn, IsOwnStep, IsOwnNews};
 
@@ -114,6 +114,8 @@ impl RowCore {
         width: Width,
     ) -> Result<Vec<Vec<u8>>, OutOfMemory>
         ensures sent { IfOk result (λ sent. bytes_of sent.items ≡ sends self.old image.now width) }
+        // Where the image has the row's size, each datagram is one that a head end may send.
+        ensures permitted { IfOk result (λ sent. length image.now ≡ self.old.size → All (IsPermitted self.old.name image.now) (bytes_of sent.items)) }
         ensures ticked { OnOk result (self.new ≡ ticked self.old image.now width) }
         ensures same { OnErr result (self.new ≡ self.old) }
     {
