@@ -11,3 +11,4 @@ pub mod Endings
 pub mod TakenOut
 pub mod RowLaws
 pub mod Permitted
+pub mod Offered
