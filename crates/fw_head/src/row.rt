@@ -49,7 +49,7 @@ impl Model for RowCore {
 
 impl RowCore {
     ghost use Rattle.fw_head.specs.Row.{Row, bytes_of, new_row, ticked, sends, stepped, moved, returned, settled, with_block, RowHears, IsPermitted, IsWrapped, news_in, tick_asks, datagrams, asking_all};
-    ghost use Rattle.fw_head.specs.Phase.{phase_of};
+    ghost use Rattle.fw_head.specs.Phase.{phase_of, IsLive};
     ghost use Rattle.fw_head.specs.Inside.{IsCutOf, IsOwn, IsOwnStep, IsOwnNews};
 
     /// A new row of this meter, for the image of this name and size in bytes.
@@ -106,7 +106,7 @@ impl RowCore {
     ///
     /// # Errors
     ///
-    /// `OutOfMemory` alone. The row is then as before.
+    /// `OutOfMemory` alone, and only while the row has not ended. The row is then as before.
     pub fn tick(
         &mut self,
         alloc: Global,
@@ -118,6 +118,7 @@ impl RowCore {
         ensures permitted { IfOk result (λ sent. length image.now ≡ self.old.size → All (IsPermitted self.old.name image.now) (bytes_of sent.items)) }
         ensures ticked { OnOk result (self.new ≡ ticked self.old image.now width) }
         ensures same { OnErr result (self.new ≡ self.old) }
+        ensures memory { OnErr result (IsLive self.old.stage) }
     {
         let mut client = self.client.duplicate();
         client.forget();
@@ -137,6 +138,7 @@ impl RowCore {
         requires { client.old.asks ≡ empty }
         ensures sent { IfOk result (λ sent. bytes_of sent.items ≡ datagrams client.old (tick_asks self.now image.now width)) }
         ensures asked { OnOk result (client.new ≡ asking_all client.old (tick_asks self.now image.now width)) }
+        ensures memory { OnErr result (IsLive self.now.stage) }
     {
         let ask = match &self.stage {
             Stage::Size => Ask::BlockSize,
