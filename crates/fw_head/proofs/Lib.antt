@@ -12,3 +12,6 @@ pub mod TakenOut
 mod NewRows
 mod Cancelling
 mod Openings
+pub mod RowLaws
+pub mod Permitted
+pub mod Offered

@@ -4,8 +4,6 @@ use Rattle.std.specs.List.{IsDistinct}
 use Rattle.std.specs.Map.{lookup, keys_of}
 use Rattle.std.specs.Option.{option_map, option_map_or}
 use Rattle.fw_names.specs.Name.{Name, Campaign, name_of}
-use Rattle.fw_blocks.specs.Cuts.{IsWithinLimits, cut}
-use Rattle.fw_client.specs.Ask as ask
 use Rattle.fw_book.specs.declared.row.RowState.TheVariants as state
 use Rattle.fw_book.specs.Contents.{Contents, image_in, name_in, state_in}
 use Rattle.fw_book.specs.Changes.{empty_book, opened, cancelled, marked}
@@ -13,7 +11,7 @@ use Rattle.fw_head.specs.declared.news.News.{News}
 use Rattle.fw_head.specs.declared.news.News.TheVariants as news
 use Rattle.fw_head.specs.declared.news.RowNews.{RowNews}
 use Rattle.fw_head.specs.declared.news.RowNews.TheVariants.{Nothing, Moved, Done, Failed}
-use Rattle.fw_head.specs.Row.{Row, new_row, sends, ticked, RowHears}
+use Rattle.fw_head.specs.Row.{Row, new_row, sends, ticked, RowHears, IsPermitted}
 
 -- the live rows, each behind the number of its meter
 abbrev pub Rows : Type 0
@@ -139,12 +137,10 @@ pub record IsHead (head : Head) : Type 0 where
   pub of_rows : (campaign : Campaign) (meter : ℕ) → state_in head.book campaign meter ≡ Some state.Live → (row : Row) × (row_of head.rows meter ≡ Some row) × (row.name.campaign ≡ campaign)
   pub once : IsDistinct nat_eq (keys_of head.rows)
 
--- ---- what a head end may send: a set to true, a read, a verify, an activate; an initiate with the name and the size of an image
--- that it offers, and a block of one, under some block size within the limits
+-- ---- what a head end may send: of an image that its book offers
 
-abbrev pub MaySend : Contents → ask.Ask → Type 0
-MaySend book (ask.initiate name size) =
-    (campaign : Campaign) × (image : List ℕ) × (image_in book campaign ≡ Some image) × (name ≡ name_of campaign image) × (size ≡ length image)
-MaySend book (ask.block number value) =
-    (campaign : Campaign) × (image : List ℕ) × (block_size : ℕ) × (image_in book campaign ≡ Some image) × IsWithinLimits block_size (length image) × (value ≡ cut block_size image number)
-MaySend book asked = Unit {0}
+pub record IsOfferedIn (book : Contents) (datagram : List ℕ) : Type 0 where
+  pub campaign : Campaign
+  pub image : List ℕ
+  pub offered : image_in book campaign ≡ Some image
+  pub permitted : IsPermitted (name_of campaign image) image datagram

@@ -1,36 +1,70 @@
 -- For private clauses, and for the models of the head end's types.
-use Rattle.std.specs.Prelude.{◌≡◌, ℕ, ◌+◌, ◌%◌, ◌<◌, ◌≤◌, IsSome}
+use Rattle.std.specs.Prelude.{◌≡◌, ℕ, ◌+◌, ◌%◌, ◌<◌, ◌≤◌, length, IsSome}
 use Rattle.std.specs.FinMap.{get}
 use Rattle.fw_names.specs.Name.{Name}
+use Rattle.fw_blocks.specs.Cuts.{Partition, IsWithinLimits}
+use Rattle.fw_client.specs.Claim.{Claim}
 use Rattle.fw_client.specs.State.{State}
 use Rattle.fw_head.specs.declared.stage.Stage.{Stage}
-use Rattle.fw_head.specs.declared.stage.Stage.TheVariants.{Done}
+use Rattle.fw_head.specs.declared.stage.Stage.TheVariants.{Size, Enable, Start, Blocks, Check, Gaps, Verify, Poll, Info, Activate, Confirm, Done, Failed}
 use Rattle.fw_head.specs.declared.answers.Step.{Step}
-use Rattle.fw_head.specs.declared.answers.Step.TheVariants.{Move}
+use Rattle.fw_head.specs.declared.answers.Step.TheVariants.{Move, Return}
 use Rattle.fw_head.specs.declared.news.RowNews.{RowNews}
 use Rattle.fw_head.specs.declared.news.RowNews.TheVariants as news
+use Rattle.fw_head.specs.Phase.{count}
 use Rattle.fw_head.specs.Row.{max_returns}
 
--- a row that is done was claimed by its own meter, under its own name
-abbrev pub IsOwn : ℕ → Name → Stage → Type 0
-IsOwn meter name (Done claim) = (claim.meter ≡ meter) × (claim.name ≡ name)
-IsOwn meter name stage = Unit {0}
+-- ---- of a stage: this of how the image is cut into blocks, with as many known as there are, and this of the claim that ended the row
 
--- a step to Done is by a claim of this meter under this name
-abbrev pub IsOwnStep : ℕ → Name → Step → Type 0
-IsOwnStep meter name (Move stage) = IsOwn meter name stage
-IsOwnStep meter name step = Unit {0}
+abbrev pub StageHolds : (Partition → Type 0) → (Claim → Type 0) → Stage → Type 0
+StageHolds Cut Ends Size = Unit {0}
+StageHolds Cut Ends (Enable g) = Cut g
+StageHolds Cut Ends (Start g) = Cut g
+StageHolds Cut Ends (Blocks g known) = Cut g × (length known ≡ count g)
+StageHolds Cut Ends (Check g) = Cut g
+StageHolds Cut Ends (Gaps g) = Cut g
+StageHolds Cut Ends (Verify g) = Cut g
+StageHolds Cut Ends (Poll g) = Cut g
+StageHolds Cut Ends (Info g) = Cut g
+StageHolds Cut Ends (Activate g) = Cut g
+StageHolds Cut Ends (Confirm g) = Cut g
+StageHolds Cut Ends (Done claim) = Ends claim
+StageHolds Cut Ends Failed = Unit {0}
+
+-- and of the stage that a step leads to
+abbrev pub StepHolds : (Partition → Type 0) → (Claim → Type 0) → Step → Type 0
+StepHolds Cut Ends (Move stage) = StageHolds Cut Ends stage
+StepHolds Cut Ends (Return g) = Cut g
+StepHolds Cut Ends step = Unit {0}
+
+-- an image of this size, cut within the limits
+pub record IsCutOf (size : ℕ) (g : Partition) : Type 0 where
+  pub within : IsWithinLimits g.block_size g.size
+  pub sized : g.size ≡ size
+
+-- a claim of this meter, under this name
+pub record IsClaimOf (meter : ℕ) (name : Name) (claim : Claim) : Type 0 where
+  pub by : claim.meter ≡ meter
+  pub named : claim.name ≡ name
+
+-- a stage of the row of this meter, for the image of this name and size
+abbrev pub IsOwn : ℕ → Name → ℕ → Stage → Type 0
+IsOwn meter name size stage = StageHolds (IsCutOf size) (IsClaimOf meter name) stage
+
+abbrev pub IsOwnStep : ℕ → Name → ℕ → Step → Type 0
+IsOwnStep meter name size step = StepHolds (IsCutOf size) (IsClaimOf meter name) step
 
 -- what is told of a done row is a claim of this meter under this name
 abbrev pub IsOwnNews : ℕ → Name → RowNews → Type 0
 IsOwnNews meter name (news.Done claim) = (claim.meter ≡ meter) × (claim.name ≡ name)
 IsOwnNews meter name told = Unit {0}
 
--- what every row keeps: its client asks its meter, and the last return ends it
-pub record IsRow (meter : ℕ) (name : Name) (stage : Stage) (client : State) (returns : ℕ) : Type 0 where
+-- what every row keeps: its client asks its meter, the last return ends it, its image is cut within the limits, and once it is done its
+-- own meter claimed its own name
+pub record IsRow (meter : ℕ) (name : Name) (size : ℕ) (stage : Stage) (client : State) (returns : ℕ) : Type 0 where
   pub asks : client.meter ≡ meter
   pub few : returns < max_returns
-  pub own : IsOwn meter name stage
+  pub own : IsOwn meter name size stage
 
 -- each outstanding ask is one of the last so many
 abbrev pub AskedLately : State → ℕ → Type 0

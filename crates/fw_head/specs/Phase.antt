@@ -32,6 +32,12 @@ phase_of (Confirm g) = phase.Confirm
 phase_of (Done claim) = phase.Done
 phase_of Failed = phase.Failed
 
+-- the row has not ended
+abbrev pub IsLive : Stage → Type 0
+IsLive (Done claim) = ⊥
+IsLive Failed = ⊥
+IsLive stage = Unit {0}
+
 -- ---- what a tick asks
 
 -- the transfer of a block

@@ -1,11 +1,11 @@
 -- Public vocabulary: the row machine. What a tick and a datagram make of a row, a head end's work on one meter.
-use Rattle.std.specs.Prelude.{◌≡◌, ℕ, ◌+◌, nat_lt, ◌⊎◌, true, List, [], ◌∷◌, map, slice_set, if◌then◌else◌}
+use Rattle.std.specs.Prelude.{◌≡◌, ℕ, ◌+◌, ◌<◌, nat_lt, ◌⊎◌, true, List, [], ◌∷◌, map, length, slice_set, if◌then◌else◌}
 use Rattle.std.specs.Global.{Vec}
 use Rattle.fw_names.specs.Name.{Name}
-use Rattle.fw_blocks.specs.Cuts.{Partition}
+use Rattle.fw_blocks.specs.Cuts.{Partition, IsWithinLimits, block_count, cut}
 use Rattle.fw_wrapper.specs.Wrapper.{wrapped, Wraps}
 use Rattle.fw_apdu.specs.Request.{request_bytes}
-use Rattle.fw_client.specs.Ask.{Ask, request_of, kind_of}
+use Rattle.fw_client.specs.Ask.{Ask, initiate, block, request_of, kind_of}
 use Rattle.fw_client.specs.State.{State, fresh, asking, forgetting, invoke_byte}
 use Rattle.fw_client.specs.Hearing.{Takes, AnswersNone}
 use Rattle.fw_client.specs.declared.heard.Heard.{Heard}
@@ -62,6 +62,28 @@ sends row image width = datagrams (forgetting row.client) (tick_asks row image w
 -- the row after a tick
 abbrev pub ticked : Row → List ℕ → ℕ → Row
 ticked row image width = record row { client = asking_all (forgetting row.client) (tick_asks row image width) }
+
+-- ---- what a head end may send to a meter of this image, under this name
+
+-- a block of the image under some block size within the limits, with its number
+pub record IsBlockOf (image : List ℕ) (number : ℕ) (value : List ℕ) : Type 0 where
+  pub block_size : ℕ
+  pub within : IsWithinLimits block_size (length image)
+  pub below : number < block_count block_size (length image)
+  pub cut_is : value ≡ cut block_size image number
+
+-- an initiate with the image's own name and size, a block of it, and else a set to true, a read, a verify, or an activate
+abbrev pub MaySend : Name → List ℕ → Ask → Type 0
+MaySend name image (initiate n size) = (n ≡ name) × (size ≡ length image)
+MaySend name image (block number value) = IsBlockOf image number value
+MaySend name image asked = Unit {0}
+
+-- a datagram that carries such an ask
+pub record IsPermitted (name : Name) (image datagram : List ℕ) : Type 0 where
+  pub asked : Ask
+  pub id : ℕ
+  pub may : MaySend name image asked
+  pub carries : datagram ≡ wrapped 1 1 (request_bytes (invoke_byte id) (request_of asked))
 
 -- ---- an answer
 

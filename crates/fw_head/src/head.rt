@@ -1,6 +1,6 @@
 //! A head end: the book of its campaigns, and a row for each meter that is live in one of them.
 
-ghost use Rattle.std.specs.Prelude.{◌≡◌, ◌≤◌, None, IfOk, IfErr, IsOk, OnOk, OnErr};
+ghost use Rattle.std.specs.Prelude.{◌≡◌, ◌≤◌, All, None, IfOk, IfErr, IsOk, OnOk, OnErr};
 ghost use Rattle.fw_names.specs.Name.{name_of};
 ghost use Rattle.fw_book.specs.Changes.{opening_refusal, cancel_refusal, IsRefusal};
 
@@ -39,7 +39,7 @@ impl Model for HeadCore {
 
 impl HeadCore {
     ghost use Rattle.fw_head.specs.Row.{bytes_of, IsWrapped};
-    ghost use Rattle.fw_head.specs.Head.{IsHead, new_head, campaign_at, opened_head, cancelled_head, restarted, sends_to, ticked_head, HeadHears};
+    ghost use Rattle.fw_head.specs.Head.{IsHead, new_head, campaign_at, opened_head, cancelled_head, restarted, sends_to, ticked_head, HeadHears, IsOfferedIn};
 
     /// A head end of no campaign, that sends so many blocks at a time. It keeps the allocator, and takes no memory.
     pub fn new(alloc: Global, head: HeadId, width: Width) -> HeadCore
@@ -154,6 +154,8 @@ impl HeadCore {
     /// `OutOfMemory` alone. The head end is then as before.
     pub fn tick(&mut self, alloc: Global, meter: MeterId) -> Result<Vec<Vec<u8>>, OutOfMemory>
         ensures sent { IfOk result (λ sent. bytes_of sent.items ≡ sends_to self.old meter) }
+        // Each is one that a head end of this book may send.
+        ensures permitted { IfOk result (λ sent. All (IsOfferedIn self.old.book) (bytes_of sent.items)) }
         ensures ticked { OnOk result (self.new ≡ ticked_head self.old meter) }
         ensures same { OnErr result (self.new ≡ self.old) }
     {

@@ -8,6 +8,7 @@
 mod answers;
 mod asks;
 mod head;
+pub mod laws;
 mod news;
 mod phase;
 mod row;

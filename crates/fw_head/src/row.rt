@@ -1,6 +1,6 @@
 //! One row of a campaign: a head end's work on one meter.
 
-ghost use Rattle.std.specs.Prelude.{◌≡◌, ◌<◌, IfOk, OnOk, OnErr};
+ghost use Rattle.std.specs.Prelude.{◌≡◌, ◌<◌, All, length, IfOk, OnOk, OnErr};
 ghost use Rattle.std.specs.FinMap.{empty};
 
 use crate::answers::{Step, next_step};
@@ -29,8 +29,8 @@ pub struct RowCore {
     returns: u8,
 }
 
-// Contracts see the row machine. The client asks the row's own meter, a row that is live returned fewer than eight times, and one
-// that is done was claimed by its own meter under its own name.
+// Contracts see the row machine. The client asks the row's own meter, a row that is live returned fewer than eight times, its image is
+// cut within the limits with as many blocks known as it has, and a row that is done was claimed by its own meter under its own name.
 impl Model for RowCore {
     ghost use Rattle.std.specs.Coded.{codes};
     ghost use Rattle.std.specs.FinMap.{code};
@@ -44,13 +44,13 @@ impl Model for RowCore {
 
     ghost view = { λ r. record { name = r.name; size = r.size; stage = r.stage; client = r.client; returns = r.returns } };
 
-    ghost invariant = { λ r. IsRow r.meter r.name r.stage r.client r.returns };
+    ghost invariant = { λ r. IsRow r.meter r.name r.size r.stage r.client r.returns };
 }
 
 impl RowCore {
-    ghost use Rattle.fw_head.specs.Row.{Row, bytes_of, new_row, ticked, sends, stepped, moved, returned, settled, with_block, RowHears, IsWrapped, news_in, tick_asks, datagrams, asking_all};
-    ghost use Rattle.fw_head.specs.Phase.{phase_of};
-    ghost use Rattle.fw_head.specs.Inside.{IsOwn, IsOwnStep, IsOwnNews};
+    ghost use Rattle.fw_head.specs.Row.{Row, bytes_of, new_row, ticked, sends, stepped, moved, returned, settled, with_block, RowHears, IsPermitted, IsWrapped, news_in, tick_asks, datagrams, asking_all};
+    ghost use Rattle.fw_head.specs.Phase.{phase_of, IsLive};
+    ghost use Rattle.fw_head.specs.Inside.{IsCutOf, IsOwn, IsOwnStep, IsOwnNews};
 
     /// A new row of this meter, for the image of this name and size in bytes.
     pub fn new(meter: MeterId, name: ImageName, size: u32) -> RowCore
@@ -106,7 +106,7 @@ impl RowCore {
     ///
     /// # Errors
     ///
-    /// `OutOfMemory` alone. The row is then as before.
+    /// `OutOfMemory` alone, and only while the row has not ended. The row is then as before.
     pub fn tick(
         &mut self,
         alloc: Global,
@@ -114,8 +114,11 @@ impl RowCore {
         width: Width,
     ) -> Result<Vec<Vec<u8>>, OutOfMemory>
         ensures sent { IfOk result (λ sent. bytes_of sent.items ≡ sends self.old image.now width) }
+        // Where the image has the row's size, each datagram is one that a head end may send.
+        ensures permitted { IfOk result (λ sent. length image.now ≡ self.old.size → All (IsPermitted self.old.name image.now) (bytes_of sent.items)) }
         ensures ticked { OnOk result (self.new ≡ ticked self.old image.now width) }
         ensures same { OnErr result (self.new ≡ self.old) }
+        ensures memory { OnErr result (IsLive self.old.stage) }
     {
         let mut client = self.client.duplicate();
         client.forget();
@@ -135,6 +138,7 @@ impl RowCore {
         requires { client.old.asks ≡ empty }
         ensures sent { IfOk result (λ sent. bytes_of sent.items ≡ datagrams client.old (tick_asks self.now image.now width)) }
         ensures asked { OnOk result (client.new ≡ asking_all client.old (tick_asks self.now image.now width)) }
+        ensures memory { OnErr result (IsLive self.now.stage) }
     {
         let ask = match &self.stage {
             Stage::Size => Ask::BlockSize,
@@ -184,7 +188,7 @@ impl RowCore {
 
     // Goes where an answer leads.
     fn take(&mut self, step: Step)
-        requires { IsOwnStep self.old.client.meter self.old.name step }
+        requires { IsOwnStep self.old.client.meter self.old.name self.old.size step }
         ensures { self.new ≡ stepped self.old step }
     {
         match step {
@@ -208,7 +212,7 @@ impl RowCore {
 
     // Goes to another phase. The outstanding asks are forgotten.
     fn go(&mut self, stage: Stage)
-        requires { IsOwn self.old.client.meter self.old.name stage }
+        requires { IsOwn self.old.client.meter self.old.name self.old.size stage }
         ensures { self.new ≡ moved self.old stage }
     {
         self.client.forget();
@@ -217,6 +221,7 @@ impl RowCore {
 
     // Returns to `Start`, or gives up at the last return.
     fn go_back(&mut self, geometry: Geometry)
+        requires { IsCutOf self.old.size geometry }
         ensures { self.new ≡ returned self.old geometry }
     {
         if self.returns + 1 < MAX_RETURNS {

@@ -1,11 +1,11 @@
 //! The live rows of a head end.
 
-ghost use Rattle.std.specs.Prelude.{◌≡◌, ◌≤◌, ◌==◌, nat_eq, not, true, [], ◌++◌, length, IfOk, OnOk, OnErr};
+ghost use Rattle.std.specs.Prelude.{◌≡◌, ◌≤◌, ◌==◌, nat_eq, not, true, [], All, ◌++◌, length, IfOk, OnOk, OnErr};
 ghost use Rattle.std.specs.List.{IsDistinct};
 ghost use Rattle.std.specs.Map.{keys_of};
 ghost use Rattle.indexmap.specs.IndexMap.{spare};
 ghost use Rattle.std.specs.Option.{option_copied, option_map_or};
-ghost use Rattle.fw_head.specs.Row.{Row, bytes_of, new_row, sends, ticked, IsWrapped};
+ghost use Rattle.fw_head.specs.Row.{Row, bytes_of, new_row, sends, ticked, IsPermitted, IsWrapped};
 ghost use Rattle.fw_head.specs.Inside.{IsOwnNews};
 ghost use Rattle.fw_head.specs.Head.{row_of, at_meter, without_meter, without_serial, new_rows, renewed, RowsHear};
 
@@ -67,6 +67,7 @@ impl Rows {
         width: Width,
     ) -> Result<Vec<Vec<u8>>, OutOfMemory>
         ensures sent { IfOk result (λ sent. bytes_of sent.items ≡ option_map_or (λ row. sends row image.now width) (row_of self.old.rows.entries meter) []) }
+        ensures permitted { IfOk result (λ sent. (row : Row) → row_of self.old.rows.entries meter ≡ Some row → length image.now ≡ row.size → All (IsPermitted row.name image.now) (bytes_of sent.items)) }
         ensures ticked { OnOk result (self.new.rows.entries ≡ at_meter meter (λ row. ticked row image.now width) self.old.rows.entries) }
         ensures same { OnErr result (self.new.rows.entries ≡ self.old.rows.entries) }
     {

@@ -1,9 +1,10 @@
 use Rattle.std.proofs.Common.{◌≡◌, ℕ, List, Some, None, refl, sym, ap, ◌∙◌}
 use Rattle.std.specs.Option.{option_copied}
-use Rattle.fw_head.specs.Row.{Row, ticked}
+use Rattle.fw_head.specs.Row.{Row, ticked, bytes_of}
 use Rattle.fw_head.specs.Head.{Head, Rows, row_of, at_meter, image_of, ticked_head}
 use Rattle.fw_names.specs.Name.{Name}
 use Rattle.fw_head.proofs.Offers.{unoffered, image_found}
+use Rattle.fw_head.proofs.Offered.{offered_image, offered_by}
 use Rattle.fw_head.proofs.LiveRows.{at_meter-none, at_meter-alike, either_way, on_ok, on_err}
 use Rattle.fw_head.proofs.SameRows.{agree_at, agree_all, keys_at, goal_ticked, head_kept_by}
 use Rattle.fw_head.proofs.head.HeadCore.tick.Goals as goal
@@ -46,3 +47,15 @@ returns-in-None-clause-ticked c =
     sym c.self.view_is
     ∙ ap (λ (rs : Rows). (let h : Head = record { book = head.book; width = head.width; rows = rs } in h)) (sym same)
     ∙ ap (λ (h : Head). ticked_head h c.args.meter) c.self.view_is
+
+pub returns-clause-permitted : goal.returns-clause-permitted
+returns-clause-permitted c =
+    let book = c.self.inside.book in
+    let row = c.in-Some.row.now in
+    let found : row_of c.self.inside.rows.rows.entries c.args.meter ≡ Some row = sym c.get.ensures ∙ ap option_copied c.in-Some.is in
+    let is = c.self.invariant.of_book c.args.meter row found in
+    let offered = sym c.offer.ensures ∙ ap option_copied c.in-Some-offer.is in
+    let image = offered_image book c.campaign.inside.campaign row.name.campaign c.in-Some-offer.offer.now c.image.result.now (ap (λ (n : Name). n.campaign) (c.campaign.view_is ∙ c.name.ensures)) offered c.image.ensures in
+    on_ok c.tick.result _ _
+    (λ sent may. offered_by book c.args.self.now.book c.args.meter row c.image.result.now (bytes_of sent.items) (ap (λ (h : Head). h.book) c.self.view_is) is image (may row found))
+    c.tick.ensures.permitted

@@ -1,8 +1,9 @@
 use Rattle.std.proofs.Common.{◌≡◌, nat_eq, Some, None, sym, ap, ◌∙◌}
 use Rattle.std.specs.Map.{lookup}
 use Rattle.std.specs.Option.{option_copied_mut}
-use Rattle.fw_head.specs.Row.{Row, ticked}
+use Rattle.fw_head.specs.Row.{Row, ticked, bytes_of}
 use Rattle.fw_head.proofs.LiveRows.{changed_at, unchanged_at, none_at, on_ok, on_err}
+use Rattle.fw_head.proofs.Offered.{permitted_of}
 use Rattle.fw_head.proofs.rows.Rows.tick.Goals as goal
 
 pub returns-in-Some-clause-ticked : goal.returns-in-Some-clause-ticked
@@ -23,3 +24,10 @@ pub returns-in-None-clause-ticked : goal.returns-in-None-clause-ticked
 returns-in-None-clause-ticked c =
     let absent : lookup (nat_eq c.number.result) c.args.self.now.rows.entries ≡ None = sym c.get_mut.ensures.value ∙ ap option_copied_mut c.in-None.is in
     none_at c.number.result c.args.meter (λ (row : Row). ticked row c.args.image.now c.args.width) c.args.self.now.rows.entries _ c.number.ensures absent (ap (λ m. m.entries) c.get_mut.follows.holds-at-none)
+
+pub returns-in-Some-clause-permitted : goal.returns-in-Some-clause-permitted
+returns-in-Some-clause-permitted c =
+    let found : lookup (nat_eq c.number.result) c.args.self.now.rows.entries ≡ Some c.in-Some.row.now = sym c.get_mut.ensures.value ∙ ap option_copied_mut c.in-Some.is in
+    on_ok c.tick.result _ _
+    (λ sent may row at. permitted_of c.number.result c.args.meter c.args.image.now (bytes_of sent.items) c.args.self.now.rows.entries c.in-Some.row.now row c.number.ensures found at may)
+    c.tick.ensures.permitted
