@@ -1,6 +1,7 @@
 //! A head end: the book of its campaigns, and a row for each meter that is live in one of them.
 
 ghost use Rattle.std.specs.Prelude.{◌≡◌, ◌≤◌, All, None, IfOk, IfErr, IsOk, OnOk, OnErr};
+ghost use Rattle.std.specs.Map.{values_of};
 ghost use Rattle.fw_names.specs.Name.{name_of};
 ghost use Rattle.fw_book.specs.Changes.{opening_refusal, cancel_refusal, IsRefusal};
 
@@ -179,7 +180,10 @@ impl HeadCore {
     /// The book and the live rows.
     pub fn view(&self) -> HeadView<'_>
         ensures book { result.book.now ≡ self.now.book }
-        ensures rows { IsHead self.now }
+        ensures rows { result.rows ≡ values_of self.now.rows }
+
+        // The live rows are those of the book, each once.
+        ensures live { IsHead self.now }
     {
         HeadView {
             book: &self.book,
