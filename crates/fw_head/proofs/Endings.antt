@@ -1,15 +1,16 @@
 -- A row that ends is marked in the book and taken out: that keeps a head end.
-use Rattle.std.proofs.Common.{◌≡◌, ℕ, ◌==◌, Bool, true, false, List, length, Option, Some, None, option_map, Result, Ok, Err, IfOk, IsOk, refl, sym, ap, subst, ◌∙◌, ⊎_elim}
+use Rattle.std.proofs.Common.{◌≡◌, ℕ, ◌==◌, nat_eq, not, false, List, length, Option, Some, None, option_map, Result, Ok, Err, IfOk, IsOk, refl, sym, ap, subst, ◌∙◌, ⊎_elim}
+use Rattle.std.proofs.lemmas.Map.Made.{IsDistinct-keys_filter}
 use Rattle.std.proofs.lemmas.Bool.{cases_Bool, false≢true}
 use Rattle.std.proofs.lemmas.Bool.Decides.{Decides-eqb}
-use Rattle.fw_names.specs.Name.{Name, Campaign, name_of}
+use Rattle.fw_names.specs.Name.{Campaign, name_of}
 use Rattle.fw_book.specs.declared.row.RowState.{RowState}
 use Rattle.fw_book.specs.declared.row.RowState.TheVariants.{Live}
 use Rattle.fw_book.specs.Rows.{is_live}
-use Rattle.fw_book.specs.Contents.{Contents, state_in, image_in, name_in}
+use Rattle.fw_book.specs.Contents.{Contents, state_in}
 use Rattle.fw_book.specs.Changes.{marked}
 use Rattle.fw_head.specs.Row.{Row}
-use Rattle.fw_head.specs.Head.{Rows, Head, row_of, without_meter, IsRowOf, IsHead}
+use Rattle.fw_head.specs.Head.{Rows, row_of, without_meter, IsRowOf, IsHead}
 use Rattle.fw_head.proofs.LiveRows.{same_found}
 use Rattle.fw_head.proofs.Ended.{elsewhere, taken_out}
 use Rattle.fw_head.proofs.Marks.{state_stays, image_stays, elsewhere_stays, is_ended}
@@ -60,6 +61,7 @@ head_ended book width rows meter row serial state ended found of is = record {
       let was = is.of_rows c m (sym (state_stays book serial meter state c m apart) ∙ live) in
       (was.0, elsewhere meter m rows apart ∙ was.1, was.2))
       (cases_Bool (m == meter));
+  once = IsDistinct-keys_filter nat_eq (λ (entry : ℕ × Row). not (entry.0 == meter)) rows is.once;
 }
 
 -- the same for a book and rows that equal these

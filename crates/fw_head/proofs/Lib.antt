@@ -12,3 +12,6 @@ pub mod TakenOut
 pub mod RowLaws
 pub mod Permitted
 pub mod Offered
+mod NewRows
+mod Cancelling
+mod Openings

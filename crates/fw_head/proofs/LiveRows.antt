@@ -1,5 +1,5 @@
 -- The live rows as a list of entries: what a write to one row makes of it.
-use Rattle.std.proofs.Common.{◌≡◌, ℕ, nat_eq, Bool, true, false, cond, List, [], ◌∷◌, Option, Some, None, Result, Ok, Err, IfOk, IfErr, inl, refl, sym, ap, subst, ◌∙◌, ⊎_elim}
+use Rattle.std.proofs.Common.{◌≡◌, ℕ, nat_eq, List, [], ◌∷◌, Option, Some, None, Result, Ok, Err, IfOk, IfErr, inl, refl, sym, ap, subst, ◌∙◌, ⊎_elim}
 use Rattle.std.specs.Map.{lookup, set_value}
 use Rattle.std.proofs.lemmas.Bool.{cases_Bool, cond-true, cond-false}
 use Rattle.fw_head.specs.declared.news.RowNews.{RowNews}
@@ -7,7 +7,7 @@ use Rattle.fw_head.specs.Row.{Row, RowHears}
 use Rattle.fw_head.specs.Inside.{IsOwnNews}
 use Rattle.fw_head.specs.Head.{Rows, RowsHear, at_meter}
 
-some_row : (row other : Row) → let o : Option Row = Some row in o ≡ Some other → row ≡ other
+pub some_row : (row other : Row) → let o : Option Row = Some row in o ≡ Some other → row ≡ other
 some_row row other e = cc
 
 at_meter-set_value : (meter : ℕ) (change : Row → Row) (rows : Rows) (row : Row) → lookup (nat_eq meter) rows ≡ Some row → set_value (nat_eq meter) rows (change row) ≡ at_meter meter change rows

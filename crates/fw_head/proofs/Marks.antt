@@ -1,5 +1,5 @@
 -- What a mark of one meter's row leaves of the states in a book.
-use Rattle.std.proofs.Common.{◌≡◌, ℕ, ◌==◌, nat_eq, Bool, true, false, cond, if◌then◌else◌, find, List, [], ◌∷◌, Option, Some, None, option_map, refl, sym, ap, subst, ◌∙◌, ⊎_elim}
+use Rattle.std.proofs.Common.{◌≡◌, ℕ, ◌==◌, nat_eq, Bool, true, false, cond, find, List, [], ◌∷◌, Option, Some, None, option_map, refl, sym, ap, ◌∙◌, ⊎_elim}
 use Rattle.std.specs.Map.{lookup}
 use Rattle.std.specs.Option.{option_and_then}
 use Rattle.std.proofs.lemmas.Bool.{cases_Bool, cond-true, cond-false, false_from_ne_true, false≢true}
@@ -9,15 +9,15 @@ use Rattle.fw_book.specs.declared.row.Row.{Row}
 use Rattle.fw_book.specs.declared.row.RowState.{RowState}
 use Rattle.fw_book.specs.declared.row.RowState.TheVariants.{Live}
 use Rattle.fw_book.specs.Rows.{is_live, state_of, with_state, marked_row}
-use Rattle.fw_book.specs.Contents.{Contents, Offered, offered_in, image_in, name_in, state_in}
+use Rattle.fw_book.specs.Contents.{Contents, Offered, image_in, state_in}
 use Rattle.fw_book.specs.Changes.{at_serial, marked}
 
 -- ---- in the rows of a campaign
 
-skipped : (row : Row) (rows : List Row) (m : ℕ) → (row.meter == m) ≡ false → state_of (row ∷ rows) m ≡ state_of rows m
+pub skipped : (row : Row) (rows : List Row) (m : ℕ) → (row.meter == m) ≡ false → state_of (row ∷ rows) m ≡ state_of rows m
 skipped row rows m away = ap (λ (o : Option Row). option_map (λ (r : Row). r.state) o) (cond-false (row.meter == m) (Some row) (find (λ (r : Row). r.meter == m) rows) away)
 
-first : (row : Row) (rows : List Row) (m : ℕ) → (row.meter == m) ≡ true → state_of (row ∷ rows) m ≡ Some row.state
+pub first : (row : Row) (rows : List Row) (m : ℕ) → (row.meter == m) ≡ true → state_of (row ∷ rows) m ≡ Some row.state
 first row rows m here = ap (λ (o : Option Row). option_map (λ (r : Row). r.state) o) (cond-true (row.meter == m) (Some row) (find (λ (r : Row). r.meter == m) rows) here)
 
 other_first : (row : Row) (rows others : List Row) (m : ℕ) (b : Bool) → (row.meter == m) ≡ b → state_of others m ≡ state_of rows m → state_of (row ∷ others) m ≡ state_of (row ∷ rows) m
@@ -40,10 +40,10 @@ other_state meter state (row ∷ rows) m apart =
     ap (λ (r : Row). state_of (r ∷ rest) m) is ∙ other_first row rows rest m (row.meter == m) refl (other_state meter state rows m apart))
     (cases_Bool (row.meter == meter))
 
-live_is : (s : RowState) → (let o : Option RowState = Some s in o ≡ Some Live) → s ≡ Live
+pub live_is : (s : RowState) → (let o : Option RowState = Some s in o ≡ Some Live) → s ≡ Live
 live_is s e = cc
 
-none_live : (let o : Option RowState = None in o ≡ Some Live) → ⊥
+pub none_live : (let o : Option RowState = None in o ≡ Some Live) → ⊥
 none_live e = cc
 
 -- the meter's own state is the one that it is given
@@ -64,11 +64,11 @@ own_state meter state (row ∷ rows) ended live =
 
 -- ---- in the campaigns of a book
 
-abbrev changed : (List Row → List Row) → Offered → Offered
+abbrev pub changed : (List Row → List Row) → Offered → Offered
 changed change offer = record { image = offer.image; rows = change offer.rows }
 
 -- another campaign is not changed
-at_other : (k serial : ℕ) (change : List Row → List Row) (entries : List (ℕ × Offered)) → ¬ (k ≡ serial) → lookup (nat_eq k) (at_serial serial change entries) ≡ lookup (nat_eq k) entries
+pub at_other : (k serial : ℕ) (change : List Row → List Row) (entries : List (ℕ × Offered)) → ¬ (k ≡ serial) → lookup (nat_eq k) (at_serial serial change entries) ≡ lookup (nat_eq k) entries
 at_other k serial change [] apart = refl
 at_other k serial change (entry ∷ entries) apart =
     let new : Offered = changed change entry.1 in
@@ -86,7 +86,7 @@ at_other k serial change (entry ∷ entries) apart =
     (cases_Bool (serial == entry.0))
 
 -- the campaign itself is
-at_same : (serial : ℕ) (change : List Row → List Row) (entries : List (ℕ × Offered)) → lookup (nat_eq serial) (at_serial serial change entries) ≡ option_map (changed change) (lookup (nat_eq serial) entries)
+pub at_same : (serial : ℕ) (change : List Row → List Row) (entries : List (ℕ × Offered)) → lookup (nat_eq serial) (at_serial serial change entries) ≡ option_map (changed change) (lookup (nat_eq serial) entries)
 at_same serial change [] = refl
 at_same serial change (entry ∷ entries) =
     let new : Offered = changed change entry.1 in
@@ -104,13 +104,13 @@ at_same serial change (entry ∷ entries) =
     ∙ ap (λ (o : Option Offered). option_map (changed change) o) (sym (cond-false (nat_eq serial entry.0) (Some entry.1) (lookup (nat_eq serial) entries) other)))
     (cases_Bool (serial == entry.0))
 
-abbrev state_at : ℕ → Option Offered → Option RowState
+abbrev pub state_at : ℕ → Option Offered → Option RowState
 state_at m o = option_and_then (λ (offer : Offered). state_of offer.rows m) o
 
-abbrev image_at : Option Offered → Option (List ℕ)
+abbrev pub image_at : Option Offered → Option (List ℕ)
 image_at o = option_map (λ (offer : Offered). offer.image) o
 
-in_head : {X : Type 0} (f : Option Offered → X) (b : Bool) (x y : Option Offered) → f x ≡ f y → f (cond b x None) ≡ f (cond b y None)
+pub in_head : {X : Type 0} (f : Option Offered → X) (b : Bool) (x y : Option Offered) → f x ≡ f y → f (cond b x None) ≡ f (cond b y None)
 in_head f true x y e = e
 in_head f false x y e = refl
 
@@ -118,12 +118,12 @@ changed_state : (meter : ℕ) (state : RowState) (m : ℕ) (o : Option Offered) 
 changed_state meter state m None apart = refl
 changed_state meter state m (Some offer) apart = other_state meter state offer.rows m apart
 
-changed_image : (change : List Row → List Row) (o : Option Offered) → image_at (option_map (changed change) o) ≡ image_at o
+pub changed_image : (change : List Row → List Row) (o : Option Offered) → image_at (option_map (changed change) o) ≡ image_at o
 changed_image change None = refl
 changed_image change (Some offer) = refl
 
 -- what is found in a campaign, where the change leaves it
-found_at : {X : Type 0} (f : Option Offered → X) (k serial : ℕ) (change : List Row → List Row) (entries : List (ℕ × Offered)) → ((o : Option Offered) → f (option_map (changed change) o) ≡ f o) → f (lookup (nat_eq k) (at_serial serial change entries)) ≡ f (lookup (nat_eq k) entries)
+pub found_at : {X : Type 0} (f : Option Offered → X) (k serial : ℕ) (change : List Row → List Row) (entries : List (ℕ × Offered)) → ((o : Option Offered) → f (option_map (changed change) o) ≡ f o) → f (lookup (nat_eq k) (at_serial serial change entries)) ≡ f (lookup (nat_eq k) entries)
 found_at f k serial change entries same =
     ⊎_elim
     (λ here.

@@ -1,10 +1,12 @@
 -- A call that keeps the meters that have a row, and of each row its name, its size and its meter, keeps a head end.
-use Rattle.std.proofs.Common.{◌≡◌, ℕ, ◌+◌, nat_eq, nat_lt, Bool, true, false, cond, if◌then◌else◌, List, [], ◌∷◌, map, Option, Some, None, option_map, ◌⊎◌, inl, inr, refl, sym, ap, subst, ◌∙◌, ⊎_elim}
-use Rattle.std.specs.Map.{lookup}
+use Rattle.std.proofs.Common.{◌≡◌, ℕ, ◌+◌, nat_eq, nat_lt, Bool, true, false, if◌then◌else◌, List, [], ◌∷◌, Option, Some, None, inl, inr, refl, sym, ap, subst, ◌∙◌, ⊎_elim}
+use Rattle.std.specs.List.{IsDistinct}
+use Rattle.std.specs.Map.{lookup, keys_of}
+use Rattle.std.proofs.lemmas.Map.Made.{keys_of-map_values}
 use Rattle.std.proofs.lemmas.Bool.{cases_Bool, cond-true, cond-false}
-use Rattle.fw_names.specs.Name.{Name, Campaign}
+use Rattle.fw_names.specs.Name.{Name}
 use Rattle.fw_blocks.specs.Cuts.{Partition}
-use Rattle.fw_client.specs.State.{State, forgetting}
+use Rattle.fw_client.specs.State.{forgetting}
 use Rattle.fw_book.specs.declared.row.RowState.TheVariants as state
 use Rattle.fw_book.specs.Contents.{Contents, state_in}
 use Rattle.fw_head.specs.declared.stage.Stage.{Stage}
@@ -13,7 +15,7 @@ use Rattle.fw_head.specs.declared.answers.Step.{Step}
 use Rattle.fw_head.specs.declared.answers.Step.TheVariants.{Stay, Took, Move, Return}
 use Rattle.fw_head.specs.declared.news.RowNews.{RowNews}
 use Rattle.fw_head.specs.Row.{Row, max_returns, new_row, ticked, tick_asks, moved, returned, settled, with_block, stepped, RowHears}
-use Rattle.fw_head.specs.Head.{Rows, Head, RowsHear, row_of, at_meter, renewed, IsRowOf, IsHead}
+use Rattle.fw_head.specs.Head.{Rows, RowsHear, row_of, at_meter, renewed, IsRowOf, IsHead}
 use Rattle.fw_head.proofs.Heard.{kept_meter}
 use Rattle.fw_head.proofs.LiveRows.{same_found}
 use Rattle.fw_head.proofs.Sending.{same_meter}
@@ -145,6 +147,26 @@ agree_renewed (entry ∷ entries) m =
     (agree_renewed entries m))
     (cases_Bool (nat_eq m entry.0))
 
+-- a write to a row leaves the meters that have one
+pub keys_at : (meter : ℕ) (change : Row → Row) (rows : Rows) → keys_of (at_meter meter change rows) ≡ keys_of rows
+keys_at meter change [] = refl
+keys_at meter change (entry ∷ entries) =
+    let one : Rows = (entry.0, change entry.1) ∷ entries in
+    let rest : Rows = entry ∷ at_meter meter change entries in
+    ⊎_elim
+    (λ here. ap (λ (rs : Rows). keys_of rs) (cond-true (nat_eq meter entry.0) one rest here))
+    (λ away.
+    ap (λ (rs : Rows). keys_of rs) (cond-false (nat_eq meter entry.0) one rest away)
+    ∙ ap (λ (ks : List ℕ). (let all : List ℕ = entry.0 ∷ ks in all)) (keys_at meter change entries))
+    (cases_Bool (nat_eq meter entry.0))
+
+pub keys_renewed : (rows : Rows) → keys_of (renewed rows) ≡ keys_of rows
+keys_renewed rows = keys_of-map_values (λ (row : Row). new_row row.client.meter row.name row.size) rows
+
+pub keys_heard : (old new : Rows) (meter : ℕ) (datagram : List ℕ) (told : RowNews) → RowsHear old meter datagram told new → keys_of new ≡ keys_of old
+keys_heard old new meter datagram told (inl x) = ap (λ (rs : Rows). keys_of rs) x.4 ∙ keys_at meter (λ was. x.1) old
+keys_heard old new meter datagram told (inr x) = ap (λ (rs : Rows). keys_of rs) x.2
+
 back : (a : Option Row) (b : Row) → Agree a (Some b) → (row : Row) × (a ≡ Some row) × SameGoal row b
 back None b h = absurd h
 back (Some row) b h = (row, refl, h)
@@ -163,8 +185,9 @@ row_kept book meter a b same is =
       sized = rw (same.name, same.size) is.sized;
     }
 
-pub head_kept : (book : Contents) (width : ℕ) (old new : Rows) → ((m : ℕ) → Agree (row_of old m) (row_of new m)) → IsHead (record { book = book; width = width; rows = old }) → IsHead (record { book = book; width = width; rows = new })
-head_kept book width old new agree is =
+pub head_kept : (book : Contents) (width : ℕ) (old new : Rows) → keys_of new ≡ keys_of old → ((m : ℕ) → Agree (row_of old m) (row_of new m)) → IsHead (record { book = book; width = width; rows = old }) → IsHead (record { book = book; width = width; rows = new })
+head_kept book width old new keys agree is =
+    let R : List ℕ → Type 0 = λ ks. IsDistinct nat_eq ks in
     let P : (m : ℕ) → Option Row → Type 0 = λ m o. Agree (row_of old m) o in
     let Q : (m : ℕ) → Option Row → Type 0 = λ m o. Agree o (row_of new m) in
     record {
@@ -175,13 +198,14 @@ head_kept book width old new agree is =
           let was = is.of_rows campaign m live in
           let now = forth was.0 (row_of new m) (subst (Q m) was.1 (agree m)) in
           (now.0, now.1, ap (λ (n : Name). n.campaign) now.2.name ∙ was.2);
+      once = subst R (sym keys) is.once;
     }
 
 -- the same for rows that equal the new ones
-pub head_kept_by : (book : Contents) (width : ℕ) (old by new : Rows) → new ≡ by → ((m : ℕ) → Agree (row_of old m) (row_of by m)) → IsHead (record { book = book; width = width; rows = old }) → IsHead (record { book = book; width = width; rows = new })
-head_kept_by book width old by new e agree is =
+pub head_kept_by : (book : Contents) (width : ℕ) (old by new : Rows) → new ≡ by → keys_of by ≡ keys_of old → ((m : ℕ) → Agree (row_of old m) (row_of by m)) → IsHead (record { book = book; width = width; rows = old }) → IsHead (record { book = book; width = width; rows = new })
+head_kept_by book width old by new e keys agree is =
     let P : Rows → Type 0 = λ rows. IsHead (record { book = book; width = width; rows = rows }) in
-    subst P (sym e) (head_kept book width old by agree is)
+    subst P (sym e) (head_kept book width old by keys agree is)
 
 pub agree_all : (rows : Rows) (m : ℕ) → Agree (row_of rows m) (row_of rows m)
 agree_all rows m = agree_itself (row_of rows m)
@@ -198,7 +222,7 @@ agree_heard old new meter datagram told (inr x) m = agree_same (row_of old m) (r
 -- keeps the head end
 pub head_heard : (book : Contents) (width : ℕ) (old new : Rows) (meter : ℕ) (datagram : List ℕ) (told : RowNews) → RowsHear old meter datagram told new → IsHead (record { book = book; width = width; rows = old }) → IsHead (record { book = book; width = width; rows = new })
 head_heard book width old new meter datagram told hears is =
-    head_kept book width old new (agree_heard old new meter datagram told hears) is
+    head_kept book width old new (keys_heard old new meter datagram told hears) (agree_heard old new meter datagram told hears) is
 
 -- and the name of its row
 pub name_heard : (old new : Rows) (meter : ℕ) (datagram : List ℕ) (told : RowNews) (row : Row) → RowsHear old meter datagram told new → row_of old meter ≡ Some row → (r : Row) × (row_of new meter ≡ Some r) × (r.name ≡ row.name)

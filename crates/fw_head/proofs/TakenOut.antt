@@ -1,7 +1,6 @@
 -- What a head end makes of a datagram, from what its rows make of it.
-use Rattle.std.proofs.Common.{◌≡◌, ℕ, ◌==◌, nat_eq, not, Bool, true, false, List, [], ◌∷◌, Option, Some, None, ◌⊎◌, inl, inr, if◌then◌else◌, refl, sym, ap, ◌∙◌, ⊎_elim}
-use Rattle.std.specs.Map.{lookup}
-use Rattle.std.proofs.lemmas.Bool.{cases_Bool, cond-true, cond-false, false≢true}
+use Rattle.std.proofs.Common.{◌≡◌, ℕ, ◌==◌, not, false, List, [], ◌∷◌, Option, Some, None, inl, inr, if◌then◌else◌, refl, sym, ap, ◌∙◌, ⊎_elim}
+use Rattle.std.proofs.lemmas.Bool.{cases_Bool, cond-true, cond-false}
 use Rattle.std.proofs.lemmas.Bool.Decides.{Decides-eqb}
 use Rattle.fw_names.specs.Name.{Name, Campaign}
 use Rattle.fw_client.specs.Claim.{Claim}

@@ -1,6 +1,7 @@
 -- Public vocabulary: a head end, its book and the live rows, and what each call makes of it.
 use Rattle.std.specs.Prelude.{◌≡◌, ℕ, ◌==◌, nat_eq, not, ◌⊎◌, List, [], ◌∷◌, ◌++◌, map, filter, length, Option, Some, None, unwrap_or, if◌then◌else◌}
-use Rattle.std.specs.Map.{lookup}
+use Rattle.std.specs.List.{IsDistinct}
+use Rattle.std.specs.Map.{lookup, keys_of}
 use Rattle.std.specs.Option.{option_map, option_map_or}
 use Rattle.fw_names.specs.Name.{Name, Campaign, name_of}
 use Rattle.fw_book.specs.declared.row.RowState.TheVariants as state
@@ -130,10 +131,11 @@ pub record IsRowOf (book : Contents) (meter : ℕ) (row : Row) : Type 0 where
   pub named : name_in book row.name.campaign ≡ Some row.name
   pub sized : option_map length (image_in book row.name.campaign) ≡ Some row.size
 
--- the live rows are those of the book
+-- the live rows are those of the book, and a meter has one row at most
 pub record IsHead (head : Head) : Type 0 where
   pub of_book : (meter : ℕ) (row : Row) → row_of head.rows meter ≡ Some row → IsRowOf head.book meter row
   pub of_rows : (campaign : Campaign) (meter : ℕ) → state_in head.book campaign meter ≡ Some state.Live → (row : Row) × (row_of head.rows meter ≡ Some row) × (row.name.campaign ≡ campaign)
+  pub once : IsDistinct nat_eq (keys_of head.rows)
 
 -- ---- what a head end may send: of an image that its book offers
 

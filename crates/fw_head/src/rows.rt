@@ -1,11 +1,13 @@
 //! The live rows of a head end.
 
-ghost use Rattle.std.specs.Prelude.{◌≡◌, ◌≤◌, ◌==◌, not, true, [], All, length, IfOk, OnOk, OnErr};
+ghost use Rattle.std.specs.Prelude.{◌≡◌, ◌≤◌, ◌==◌, nat_eq, not, true, [], ◌++◌, All, length, IfOk, OnOk, OnErr};
+ghost use Rattle.std.specs.List.{IsDistinct};
+ghost use Rattle.std.specs.Map.{keys_of};
 ghost use Rattle.indexmap.specs.IndexMap.{spare};
 ghost use Rattle.std.specs.Option.{option_copied, option_map_or};
 ghost use Rattle.fw_head.specs.Row.{Row, bytes_of, new_row, sends, ticked, IsPermitted, IsWrapped};
 ghost use Rattle.fw_head.specs.Inside.{IsOwnNews};
-ghost use Rattle.fw_head.specs.Head.{row_of, at_meter, without_meter, without_serial, renewed, RowsHear};
+ghost use Rattle.fw_head.specs.Head.{row_of, at_meter, without_meter, without_serial, new_rows, renewed, RowsHear};
 
 use crate::news::RowNews;
 use crate::row::RowCore;
@@ -133,6 +135,8 @@ impl Rows {
     /// A new row for each of the meters, that have none and for which there is room.
     pub(crate) fn add(&mut self, name: ImageName, size: u32, meters: &[MeterId])
         requires room { length meters.now ≤ spare self.old.rows }
+        requires once { IsDistinct nat_eq (keys_of self.old.rows.entries ++ meters.now) }
+        ensures { self.new.rows.entries ≡ self.old.rows.entries ++ new_rows name size meters.now }
     {
         for meter in meters {
             let row = RowCore::new(*meter, name, size);

@@ -1,0 +1,364 @@
+-- A campaign is opened in the book, and each of its meters has a new row: that keeps a head end.
+use Rattle.std.proofs.Common.{◌≡◌, ℕ, ◌≤◌, ◌==◌, nat_eq, ltb, Bool, true, false, cond, ◌||◌, ◌&&◌, ◌⊎◌, inl, inr, is_some, List, [], ◌∷◌, ◌++◌, map, length, Option, Some, None, option_map, refl, sym, ap, subst, ◌∙◌, ⊎_elim, arith}
+use Rattle.std.specs.List.{IsDistinct, AllByRecursion, list_any}
+use Rattle.std.specs.Map.{lookup, keys_of}
+use Rattle.std.proofs.lemmas.List.{map-append}
+use Rattle.std.proofs.lemmas.Map.Keys.{IsDistinct-head, IsDistinct-tail, IsDistinct-cons}
+use Rattle.std.proofs.lemmas.Bool.{cases_Bool, cond-true, cond-false, false≢true, or_parts, or_cases, or_left, or_right, and_from}
+use Rattle.std.proofs.lemmas.Bool.Decides.{Decides-eqb, nat_tests}
+use Rattle.fw_names.specs.Name.{Name, Campaign, name_of}
+use Rattle.fw_book.specs.declared.error.BookError.{BookError}
+use Rattle.fw_book.specs.declared.row.Row as book_row
+use Rattle.fw_book.specs.declared.row.RowState.{RowState}
+use Rattle.fw_book.specs.declared.row.RowState.TheVariants.{Live}
+use Rattle.fw_book.specs.Rows.{is_live, live_row, repeats, state_of, is_live_in}
+use Rattle.fw_book.specs.Contents.{Contents, Offered, max_image, max_meters, offered_in, state_in, has_serial, is_busy}
+use Rattle.fw_book.specs.Changes.{first_applying, opening_rows, opening_refusal, opened}
+use Rattle.fw_head.specs.Row.{Row, new_row}
+use Rattle.fw_head.specs.Head.{Rows, row_of, new_rows, IsRowOf, IsHead}
+use Rattle.fw_head.proofs.LiveRows.{some_row}
+use Rattle.fw_head.proofs.Marks.{skipped, first, live_is, none_live, state_at}
+use Rattle.fw_head.proofs.NewRows.{flipped}
+
+-- ---- what an opening that nothing refuses has
+
+some_error : (e : BookError) → (let o : Option BookError = Some e in o ≡ None) → ⊥
+some_error e h = cc
+
+-- where nothing refuses, no test is true
+tests_none : (tests : List (Bool × BookError)) → first_applying tests ≡ None → AllByRecursion (λ (test : Bool × BookError). test.0 ≡ false) tests
+tests_none [] h = tt
+tests_none (test ∷ tests) h =
+    ⊎_elim
+    (λ here. absurd (some_error test.1 (sym (cond-true test.0 (Some test.1) (first_applying tests) here) ∙ h)))
+    (λ other. (other, tests_none tests (sym (cond-false test.0 (Some test.1) (first_applying tests) other) ∙ h)))
+    (cases_Bool test.0)
+
+pub record Opens (book : Contents) (serial : ℕ) (image meters : List ℕ) : Type 0 where
+  pub serial_new : has_serial book serial ≡ false
+  pub image_fits : length image ≤ max_image
+  pub meters_few : length meters ≤ max_meters
+  pub meters_once : repeats meters ≡ false
+  pub meters_free : list_any (λ meter. is_busy book.campaigns meter) meters ≡ false
+
+pub opens : (book : Contents) (campaign : Campaign) (image meters : List ℕ) → opening_refusal book campaign image meters ≡ None → Opens book campaign.serial image meters
+opens book campaign image meters none =
+    let tests = tests_none (opening_rows book campaign image meters) none in
+    let short_image : ltb max_image (length image) ≡ false = tests.1.1.1.0 in
+    let few_meters : ltb max_meters (length meters) ≡ false = tests.1.1.1.1.1.0 in
+    record {
+      serial_new = tests.1.0;
+      image_fits = grind (arith, nat_tests);
+      meters_few = grind (arith, nat_tests);
+      meters_once = tests.1.1.1.1.1.1.0;
+      meters_free = tests.1.1.1.1.1.1.1.0;
+    }
+
+-- ---- entries behind others
+
+found_before : {X : Type 0} (k : ℕ) (es fs : List (ℕ × X)) (x : X) → lookup (nat_eq k) es ≡ Some x → lookup (nat_eq k) (es ++ fs) ≡ Some x
+found_before k [] fs x found = absurd (none_some x found)
+  where
+    none_some : {X : Type 0} (x : X) → (let o : Option X = None in o ≡ Some x) → ⊥
+    none_some x e = cc
+found_before k (entry ∷ entries) fs x found =
+    ⊎_elim
+    (λ here.
+    cond-true (nat_eq k entry.0) (Some entry.1) (lookup (nat_eq k) (entries ++ fs)) here
+    ∙ sym (cond-true (nat_eq k entry.0) (Some entry.1) (lookup (nat_eq k) entries) here) ∙ found)
+    (λ away.
+    cond-false (nat_eq k entry.0) (Some entry.1) (lookup (nat_eq k) (entries ++ fs)) away
+    ∙ found_before k entries fs x (sym (cond-false (nat_eq k entry.0) (Some entry.1) (lookup (nat_eq k) entries) away) ∙ found))
+    (cases_Bool (nat_eq k entry.0))
+
+-- where the first entry isn't the one that is looked for
+none_first : {X : Type 0} (b : Bool) (x : X) (o : Option X) → cond b (Some x) o ≡ None → (b ≡ false) × (o ≡ None)
+none_first true x o e = absurd (some_none x e)
+  where
+    some_none : {X : Type 0} (x : X) → (let o : Option X = Some x in o ≡ None) → ⊥
+    some_none x e = cc
+none_first false x o e = (refl, e)
+
+found_behind : {X : Type 0} (k : ℕ) (es fs : List (ℕ × X)) → lookup (nat_eq k) es ≡ None → lookup (nat_eq k) (es ++ fs) ≡ lookup (nat_eq k) fs
+found_behind k [] fs none = refl
+found_behind k (entry ∷ entries) fs none =
+    let parts = none_first (nat_eq k entry.0) entry.1 (lookup (nat_eq k) entries) none in
+    cond-false (nat_eq k entry.0) (Some entry.1) (lookup (nat_eq k) (entries ++ fs)) parts.0 ∙ found_behind k entries fs parts.1
+
+either : {X : Type 0} (o : Option X) → (o ≡ None) ⊎ ((x : X) × (o ≡ Some x))
+either None = inl refl
+either (Some x) = inr (x, refl)
+
+is_none : {X : Type 0} (o : Option X) → is_some o ≡ false → o ≡ None
+is_none None h = refl
+is_none (Some x) h = absurd (false≢true (sym h))
+
+none_row : (row : Row) → (let o : Option Row = None in o ≡ Some row) → ⊥
+none_row row e = cc
+
+none_state : (s : RowState) → (let o : Option RowState = None in o ≡ Some s) → ⊥
+none_state s e = cc
+
+-- ---- the rows of the new campaign
+
+abbrev among : List ℕ → ℕ → Bool
+among meters m = list_any (λ other. other == m) meters
+
+-- each of its meters is live in it
+live_among : (meters : List ℕ) (m : ℕ) → among meters m ≡ true → state_of (map live_row meters) m ≡ Some Live
+live_among [] m there = absurd (false≢true there)
+live_among (meter ∷ meters) m there =
+    let rest : List book_row.Row = map live_row meters in
+    ⊎_elim
+    (λ here. first (live_row meter) rest m here)
+    (λ other. skipped (live_row meter) rest m other ∙ live_among meters m (ap (λ b. b || among meters m) (sym other) ∙ there))
+    (cases_Bool (meter == m))
+
+-- and no other is
+among_live : (meters : List ℕ) (m : ℕ) (state : RowState) → state_of (map live_row meters) m ≡ Some state → among meters m ≡ true
+among_live [] m state found = absurd (none_state state found)
+among_live (meter ∷ meters) m state found =
+    let rest : List book_row.Row = map live_row meters in
+    ⊎_elim
+    (λ here. ap (λ b. b || among meters m) here)
+    (λ other. ap (λ b. b || among meters m) other ∙ among_live meters m state (sym (skipped (live_row meter) rest m other) ∙ found))
+    (cases_Bool (meter == m))
+
+-- a new row that is found is that of the meter
+new_found : (name : Name) (size : ℕ) (meters : List ℕ) (m : ℕ) (row : Row) → row_of (new_rows name size meters) m ≡ Some row → (row ≡ new_row m name size) × (among meters m ≡ true)
+new_found name size [] m row found = absurd (none_row row found)
+new_found name size (meter ∷ meters) m row found =
+    let new : Row = new_row meter name size in
+    ⊎_elim
+    (λ here.
+    let same : m ≡ meter = (Decides-eqb m meter).0 here in
+    let is : new ≡ row = some_row new row (sym (cond-true (nat_eq m meter) (Some new) (lookup (nat_eq m) (new_rows name size meters)) here) ∙ found) in
+    (sym is ∙ ap (λ n. new_row n name size) (sym same), ap (λ b. b || among meters m) ((Decides-eqb meter m).1 (sym same))))
+    (λ away.
+    let later = new_found name size meters m row (sym (cond-false (nat_eq m meter) (Some new) (lookup (nat_eq m) (new_rows name size meters)) away) ∙ found) in
+    (later.0, or_right (meter == m) (among meters m) later.1))
+    (cases_Bool (nat_eq m meter))
+
+-- and each of the meters has one
+new_there : (name : Name) (size : ℕ) (meters : List ℕ) (m : ℕ) → among meters m ≡ true → row_of (new_rows name size meters) m ≡ Some (new_row m name size)
+new_there name size [] m there = absurd (false≢true there)
+new_there name size (meter ∷ meters) m there =
+    let new : Row = new_row meter name size in
+    ⊎_elim
+    (λ here.
+    let same : m ≡ meter = (Decides-eqb m meter).0 here in
+    cond-true (nat_eq m meter) (Some new) (lookup (nat_eq m) (new_rows name size meters)) here
+    ∙ ap (λ n. (let o : Option Row = Some (new_row n name size) in o)) (sym same))
+    (λ away.
+    cond-false (nat_eq m meter) (Some new) (lookup (nat_eq m) (new_rows name size meters)) away
+    ∙ new_there name size meters m (ap (λ b. b || among meters m) (sym (flipped m meter away)) ∙ there))
+    (cases_Bool (nat_eq m meter))
+
+-- ---- a meter that is live in no campaign has no row
+
+live_in : (rows : List book_row.Row) (m : ℕ) → state_of rows m ≡ Some Live → is_live_in rows m ≡ true
+live_in [] m live = absurd (none_live live)
+live_in (row ∷ rows) m live =
+    ⊎_elim
+    (λ here.
+    let is : row.state ≡ Live = live_is row.state (sym (first row rows m here) ∙ live) in
+    or_left ((row.meter == m) && is_live row.state) (is_live_in rows m) (and_from (row.meter == m) (is_live row.state) here (ap is_live is)))
+    (λ other. or_right ((row.meter == m) && is_live row.state) (is_live_in rows m) (live_in rows m (sym (skipped row rows m other) ∙ live)))
+    (cases_Bool (row.meter == m))
+
+busy_at : (k m : ℕ) (entries : List (ℕ × Offered)) (offer : Offered) → lookup (nat_eq k) entries ≡ Some offer → is_live_in offer.rows m ≡ true → is_busy entries m ≡ true
+busy_at k m [] offer found live = absurd (none_offer offer found)
+  where
+    none_offer : (offer : Offered) → (let o : Option Offered = None in o ≡ Some offer) → ⊥
+    none_offer offer e = cc
+busy_at k m (entry ∷ entries) offer found live =
+    ⊎_elim
+    (λ here.
+    let same : entry.1 ≡ offer = some_offer entry.1 offer (sym (cond-true (nat_eq k entry.0) (Some entry.1) (lookup (nat_eq k) entries) here) ∙ found) in
+    or_left (is_live_in entry.1.rows m) (is_busy entries m) (ap (λ (o : Offered). is_live_in o.rows m) same ∙ live))
+    (λ away. or_right (is_live_in entry.1.rows m) (is_busy entries m) (busy_at k m entries offer (sym (cond-false (nat_eq k entry.0) (Some entry.1) (lookup (nat_eq k) entries) away) ∙ found) live))
+    (cases_Bool (nat_eq k entry.0))
+  where
+    some_offer : (a b : Offered) → (let o : Option Offered = Some a in o ≡ Some b) → a ≡ b
+    some_offer a b e = cc
+
+-- the campaign of a meter that has a state in a book
+offer_at : (m : ℕ) (s : RowState) (b : Bool) (x : Option Offered) → state_at m (cond b x None) ≡ Some s → (b ≡ true) × ((offer : Offered) × (x ≡ Some offer) × (state_of offer.rows m ≡ Some s))
+offer_at m s true None e = absurd (none_state s e)
+offer_at m s true (Some offer) e = (refl, (offer, refl, e))
+offer_at m s false x e = absurd (none_state s e)
+
+is_free : (book : Contents) (width : ℕ) (rows : Rows) (m : ℕ) → IsHead (record { book = book; width = width; rows = rows }) → is_busy book.campaigns m ≡ false → row_of rows m ≡ None
+is_free book width rows m is free =
+    ⊎_elim
+    (λ none. none)
+    (λ found.
+    let c = found.0.name.campaign in
+    let at = offer_at m Live (c.head == book.head) (lookup (nat_eq c.serial) book.campaigns) (is.of_book m found.0 found.1).live in
+    absurd (false≢true (sym free ∙ busy_at c.serial m book.campaigns at.1.0 at.1.1 (live_in at.1.0.rows m at.1.2))))
+    (either (row_of rows m))
+
+all_free : (book : Contents) (width : ℕ) (rows : Rows) (meters : List ℕ) → IsHead (record { book = book; width = width; rows = rows }) → list_any (λ meter. is_busy book.campaigns meter) meters ≡ false → AllByRecursion (λ m. row_of rows m ≡ None) meters
+all_free book width rows [] is free = tt
+all_free book width rows (meter ∷ meters) is free =
+    let parts = or_parts (is_busy book.campaigns meter) (list_any (λ m. is_busy book.campaigns m) meters) free in
+    (is_free book width rows meter is parts.0, all_free book width rows meters is parts.1)
+
+one_of : (P : ℕ → Type 0) (meters : List ℕ) (m : ℕ) → AllByRecursion P meters → among meters m ≡ true → P m
+one_of P [] m all there = absurd (false≢true there)
+one_of P (meter ∷ meters) m all there =
+    ⊎_elim
+    (λ here. subst P ((Decides-eqb meter m).0 here) all.0)
+    (λ later. one_of P meters m all.1 later)
+    (or_cases (meter == m) (among meters m) there)
+
+-- ---- no meter has two rows then
+
+all_among : (meter : ℕ) (meters : List ℕ) → among meters meter ≡ false → AllByRecursion (λ m. nat_eq meter m ≡ false) meters
+all_among meter [] none = tt
+all_among meter (other ∷ others) none =
+    let parts = or_parts (other == meter) (among others meter) none in
+    (flipped other meter parts.0, all_among meter others parts.1)
+
+distinct_meters : (meters : List ℕ) → repeats meters ≡ false → IsDistinct nat_eq meters
+unfolding IsDistinct
+distinct_meters [] once = tt
+distinct_meters (meter ∷ meters) once =
+    let parts = or_parts (among meters meter) (repeats meters) once in
+    IsDistinct-cons nat_eq meter meters (all_among meter meters parts.0) (distinct_meters meters parts.1)
+
+all_map : (P Q : ℕ → Type 0) (ms : List ℕ) → ((m : ℕ) → P m → Q m) → AllByRecursion P ms → AllByRecursion Q ms
+all_map P Q [] f h = tt
+all_map P Q (m ∷ ms) f h = (f m h.0, all_map P Q ms f h.1)
+
+all_append : (P : ℕ → Type 0) (xs ys : List ℕ) → AllByRecursion P xs → AllByRecursion P ys → AllByRecursion P (xs ++ ys)
+all_append P [] ys h k = k
+all_append P (x ∷ xs) ys h k = (h.0, all_append P xs ys h.1 k)
+
+once_behind : (rows : Rows) (meters : List ℕ) → IsDistinct nat_eq (keys_of rows) → IsDistinct nat_eq meters → AllByRecursion (λ m. row_of rows m ≡ None) meters → IsDistinct nat_eq (keys_of rows ++ meters)
+once_behind [] meters once apart none = apart
+once_behind (entry ∷ entries) meters once apart none =
+    let N : ℕ → Type 0 = λ m. row_of (entry ∷ entries) m ≡ None in
+    let first_apart = all_map N (λ m. nat_eq entry.0 m ≡ false) meters (λ m e. flipped m entry.0 (none_first (nat_eq m entry.0) entry.1 (lookup (nat_eq m) entries) e).0) none in
+    let others_none = all_map N (λ m. row_of entries m ≡ None) meters (λ m e. (none_first (nat_eq m entry.0) entry.1 (lookup (nat_eq m) entries) e).1) none in
+    IsDistinct-cons nat_eq entry.0 (keys_of entries ++ meters)
+    (all_append (λ m. nat_eq entry.0 m ≡ false) (keys_of entries) meters (IsDistinct-head nat_eq entry.0 (keys_of entries) once) first_apart)
+    (once_behind entries meters (IsDistinct-tail nat_eq entry.0 (keys_of entries) once) apart others_none)
+
+pub all_once : (book : Contents) (width : ℕ) (rows : Rows) (serial : ℕ) (image meters : List ℕ) → IsHead (record { book = book; width = width; rows = rows }) → Opens book serial image meters → IsDistinct nat_eq (keys_of rows ++ meters)
+all_once book width rows serial image meters is o =
+    once_behind rows meters is.once (distinct_meters meters o.meters_once) (all_free book width rows meters is o.meters_free)
+
+keys_new : (name : Name) (size : ℕ) (meters : List ℕ) → keys_of (new_rows name size meters) ≡ meters
+keys_new name size [] = refl
+keys_new name size (meter ∷ meters) = ap (λ (ms : List ℕ). (let all : List ℕ = meter ∷ ms in all)) (keys_new name size meters)
+
+-- ---- the head end
+
+-- a campaign of the book stays as it was
+same_offer : (book : Contents) (serial : ℕ) (image meters : List ℕ) (c : Campaign) (m : ℕ) (s : RowState) → state_in book c m ≡ Some s → offered_in (opened book serial image meters) c ≡ offered_in book c
+same_offer book serial image meters c m s found =
+    let new : Offered = record { image = image; rows = map live_row meters } in
+    let at = offer_at m s (c.head == book.head) (lookup (nat_eq c.serial) book.campaigns) found in
+    ap (λ (x : Option Offered). cond (c.head == book.head) x None)
+    (found_before c.serial book.campaigns ((serial, new) ∷ []) at.1.0 at.1.1 ∙ sym at.1.1)
+
+row_stays : (book : Contents) (serial : ℕ) (image meters : List ℕ) (m : ℕ) (row : Row) → IsRowOf book m row → IsRowOf (opened book serial image meters) m row
+row_stays book serial image meters m row is =
+    let same = same_offer book serial image meters row.name.campaign m Live is.live in
+    record {
+      asks = is.asks;
+      live = ap (λ (o : Option Offered). state_at m o) same ∙ is.live;
+      named = ap (λ (o : Option Offered). option_map (λ (bytes : List ℕ). name_of row.name.campaign bytes) (option_map (λ (offer : Offered). offer.image) o)) same ∙ is.named;
+      sized = ap (λ (o : Option Offered). option_map length (option_map (λ (offer : Offered). offer.image) o)) same ∙ is.sized;
+    }
+
+-- what the new campaign offers
+new_offer : (book : Contents) (campaign : Campaign) (image meters : List ℕ) → campaign.head ≡ book.head → has_serial book campaign.serial ≡ false → offered_in (opened book campaign.serial image meters) campaign ≡ Some (record { image = image; rows = map live_row meters })
+new_offer book campaign image meters own new =
+    let offer : Offered = record { image = image; rows = map live_row meters } in
+    let es : List (ℕ × Offered) = (campaign.serial, offer) ∷ [] in
+    cond-true (campaign.head == book.head) (lookup (nat_eq campaign.serial) (book.campaigns ++ es)) None ((Decides-eqb campaign.head book.head).1 own)
+    ∙ found_behind campaign.serial book.campaigns es (is_none (lookup (nat_eq campaign.serial) book.campaigns) new)
+    ∙ cond-true (nat_eq campaign.serial campaign.serial) (Some offer) None ((Decides-eqb campaign.serial campaign.serial).1 refl)
+
+new_is : (book : Contents) (campaign : Campaign) (image meters : List ℕ) (m : ℕ) → campaign.head ≡ book.head → has_serial book campaign.serial ≡ false → among meters m ≡ true → IsRowOf (opened book campaign.serial image meters) m (new_row m (name_of campaign image) (length image))
+new_is book campaign image meters m own new there =
+    let offer = new_offer book campaign image meters own new in
+    record {
+      asks = refl;
+      live = ap (λ (o : Option Offered). state_at m o) offer ∙ live_among meters m there;
+      named = ap (λ (o : Option Offered). option_map (λ (bytes : List ℕ). name_of campaign bytes) (option_map (λ (x : Offered). x.image) o)) offer;
+      sized = ap (λ (o : Option Offered). option_map length (option_map (λ (x : Offered). x.image) o)) offer;
+    }
+
+same_campaign : (a b : Campaign) → a.head ≡ b.head → a.serial ≡ b.serial → a ≡ b
+same_campaign a b h s =
+    let at_head : ℕ → Campaign = λ n. record { head = n; serial = a.serial } in
+    let at_serial : ℕ → Campaign = λ n. record { head = b.head; serial = n } in
+    ap at_head h ∙ ap at_serial s
+
+-- an entry that is alone is found by its own number
+one_entry : (k serial : ℕ) (new offer : Offered) → (let es : List (ℕ × Offered) = (serial, new) ∷ [] in lookup (nat_eq k) es) ≡ Some offer → (k ≡ serial) × (new ≡ offer)
+one_entry k serial new offer found =
+    ⊎_elim
+    (λ here. ((Decides-eqb k serial).0 here, some_offer new offer (sym (cond-true (nat_eq k serial) (Some new) None here) ∙ found)))
+    (λ away. absurd (none_offer offer (sym (cond-false (nat_eq k serial) (Some new) None away) ∙ found)))
+    (cases_Bool (nat_eq k serial))
+  where
+    some_offer : (a b : Offered) → (let o : Option Offered = Some a in o ≡ Some b) → a ≡ b
+    some_offer a b e = cc
+
+    none_offer : (offer : Offered) → (let o : Option Offered = None in o ≡ Some offer) → ⊥
+    none_offer offer e = cc
+
+-- a meter that is live then has a row
+live_has_row : (book : Contents) (width : ℕ) (rows : Rows) (campaign : Campaign) (image meters : List ℕ) (c : Campaign) (m : ℕ) → campaign.head ≡ book.head → Opens book campaign.serial image meters → IsHead (record { book = book; width = width; rows = rows }) → state_in (opened book campaign.serial image meters) c m ≡ Some Live → (row : Row) × (row_of (rows ++ new_rows (name_of campaign image) (length image) meters) m ≡ Some row) × (row.name.campaign ≡ c)
+live_has_row book width rows campaign image meters c m own o is live =
+    let name = name_of campaign image in
+    let new : Offered = record { image = image; rows = map live_row meters } in
+    let es : List (ℕ × Offered) = (campaign.serial, new) ∷ [] in
+    let at = offer_at m Live (c.head == book.head) (lookup (nat_eq c.serial) (book.campaigns ++ es)) live in
+    ⊎_elim
+    (λ none.
+    let one = one_entry c.serial campaign.serial new at.1.0 (sym (found_behind c.serial book.campaigns es none) ∙ at.1.1) in
+    let there = among_live meters m Live (ap (λ (x : Offered). state_of x.rows m) one.1 ∙ at.1.2) in
+    let free : row_of rows m ≡ None = one_of (λ n. row_of rows n ≡ None) meters m (all_free book width rows meters is o.meters_free) there in (
+      new_row m name (length image),
+      found_behind m rows (new_rows name (length image) meters) free ∙ new_there name (length image) meters m there,
+      same_campaign campaign c (own ∙ sym ((Decides-eqb c.head book.head).0 at.0)) (sym one.0),
+    ))
+    (λ found.
+    let before = found_before c.serial book.campaigns es found.0 found.1 in
+    let was_live : state_in book c m ≡ Some Live =
+    ap (λ (x : Option Offered). state_at m (cond (c.head == book.head) x None)) (found.1 ∙ sym before) ∙ live in
+    let was = is.of_rows c m was_live in
+    (was.0, found_before m rows (new_rows name (length image) meters) was.0 was.1, was.2))
+    (either (lookup (nat_eq c.serial) book.campaigns))
+
+head_opened : (book : Contents) (width : ℕ) (rows : Rows) (campaign : Campaign) (image meters : List ℕ) → campaign.head ≡ book.head → Opens book campaign.serial image meters → IsHead (record { book = book; width = width; rows = rows }) → IsHead (record { book = opened book campaign.serial image meters; width = width; rows = rows ++ new_rows (name_of campaign image) (length image) meters })
+head_opened book width rows campaign image meters own o is =
+    let name = name_of campaign image in
+    let added = new_rows name (length image) meters in
+    let P : ℕ → Row → Type 0 = λ m r. IsRowOf (opened book campaign.serial image meters) m r in
+    let Q : List ℕ → Type 0 = λ ks. IsDistinct nat_eq ks in
+    record {
+      of_book = λ m r at.
+          ⊎_elim
+          (λ none.
+          let found = new_found name (length image) meters m r (sym (found_behind m rows added none) ∙ at) in
+          subst (P m) (sym found.0) (new_is book campaign image meters m own o.serial_new found.1))
+          (λ was.
+          let same : was.0 ≡ r = some_row was.0 r (sym (found_before m rows added was.0 was.1) ∙ at) in
+          subst (P m) same (row_stays book campaign.serial image meters m was.0 (is.of_book m was.0 was.1)))
+          (either (row_of rows m));
+      of_rows = λ c m live. live_has_row book width rows campaign image meters c m own o is live;
+      once = subst Q (sym (map-append (λ (entry : ℕ × Row). entry.0) rows added ∙ ap (λ (ks : List ℕ). keys_of rows ++ ks) (keys_new name (length image) meters))) (all_once book width rows campaign.serial image meters is o);
+    }
+
+-- the same for a book and rows that equal these
+pub head_opened_by : (book new : Contents) (width : ℕ) (rows all : Rows) (campaign : Campaign) (image meters : List ℕ) → campaign.head ≡ book.head → Opens book campaign.serial image meters → new ≡ opened book campaign.serial image meters → all ≡ rows ++ new_rows (name_of campaign image) (length image) meters → IsHead (record { book = book; width = width; rows = rows }) → IsHead (record { book = new; width = width; rows = all })
+head_opened_by book new width rows all campaign image meters own o entered add is =
+    let P : Contents → Type 0 = λ b. IsHead (record { book = b; width = width; rows = all }) in
+    let Q : Rows → Type 0 = λ rs. IsHead (record { book = opened book campaign.serial image meters; width = width; rows = rs }) in
+    subst P (sym entered) (subst Q (sym add) (head_opened book width rows campaign image meters own o is))
