@@ -9,9 +9,9 @@ pub mod Ended
 pub mod Marks
 pub mod Endings
 pub mod TakenOut
-mod NewRows
-mod Cancelling
-mod Openings
 pub mod RowLaws
 pub mod Permitted
 pub mod Offered
+mod NewRows
+mod Cancelling
+mod Openings
