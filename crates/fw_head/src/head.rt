@@ -1,6 +1,7 @@
 //! A head end: the book of its campaigns, and a row for each meter that is live in one of them.
 
 ghost use Rattle.std.specs.Prelude.{◌≡◌, ◌≤◌, None, IfOk, IfErr, IsOk, OnOk, OnErr};
+ghost use Rattle.std.specs.Map.{values_of};
 ghost use Rattle.fw_names.specs.Name.{name_of};
 ghost use Rattle.fw_book.specs.Changes.{opening_refusal, cancel_refusal, IsRefusal};
 
@@ -177,7 +178,8 @@ impl HeadCore {
     /// The book and the live rows.
     pub fn view(&self) -> HeadView<'_>
         ensures book { result.book.now ≡ self.now.book }
-        ensures rows { IsHead self.now }
+        ensures rows { result.rows ≡ values_of self.now.rows }
+        ensures kept { IsHead self.now }
     {
         HeadView {
             book: &self.book,

@@ -2,7 +2,7 @@
 
 ghost use Rattle.std.specs.Prelude.{◌≡◌, ◌≤◌, ◌==◌, nat_eq, not, true, [], ◌++◌, length, IfOk, OnOk, OnErr};
 ghost use Rattle.std.specs.List.{IsDistinct};
-ghost use Rattle.std.specs.Map.{keys_of};
+ghost use Rattle.std.specs.Map.{keys_of, values_of};
 ghost use Rattle.indexmap.specs.IndexMap.{spare};
 ghost use Rattle.std.specs.Option.{option_copied, option_map_or};
 ghost use Rattle.fw_head.specs.Row.{Row, bytes_of, new_row, sends, ticked, IsWrapped};
@@ -46,7 +46,9 @@ impl Rows {
     }
 
     /// Every row.
-    pub(crate) fn all(&self) -> LiveRows<'_> {
+    pub(crate) fn all(&self) -> LiveRows<'_>
+        ensures { result ≡ values_of self.now.rows.entries }
+    {
         self.rows.values()
     }
 
