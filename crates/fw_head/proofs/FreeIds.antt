@@ -1,10 +1,10 @@
 -- Up to sixteen asks after a client forgot what it asked, none of them meets an outstanding one.
-use Rattle.std.proofs.Common.{◌≡◌, ℕ, ◌+◌, ◌%◌, ◌<◌, ◌≤◌, ◌==◌, Bool, true, false, cond, IsSome, Some, None, Option, refl, sym, ap, subst, ◌∙◌, arith, rules}
+use Rattle.std.proofs.Common.{◌≡◌, ℕ, ◌+◌, ◌%◌, ◌≤◌, ◌==◌, Bool, true, false, cond, IsSome, Some, None, Option, refl, subst, arith, rules}
 use Rattle.std.proofs.lemmas.Bool.{false≢true}
 use Rattle.std.proofs.lemmas.Bool.Decides.{nat_tests}
 use Rattle.std.specs.Ordering.{nat_cmp, eq_by_cmp}
 use Rattle.std.specs.Cmp.{nat_cmp_total}
-use Rattle.std.specs.FinMap.{empty, insert, get, get-insert, get-empty}
+use Rattle.std.specs.FinMap.{empty, get, get-insert, get-empty}
 use Rattle.fw_client.specs.State.{State, Asks, asking}
 use Rattle.fw_client.specs.declared.ask.Asked.{Asked}
 use Rattle.fw_head.specs.Inside.{AskedLately}

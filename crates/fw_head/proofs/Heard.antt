@@ -1,7 +1,6 @@
 -- What a client heard, as a row takes it: a datagram that is no stranger's answers an ask.
-use Rattle.std.proofs.Common.{◌≡◌, ℕ, ◌⊎◌, inl, inr, List, Option, Some, None, refl, sym, ap, subst}
+use Rattle.std.proofs.Common.{◌≡◌, ℕ, inl, inr, List, refl, sym, ap, subst}
 use Rattle.fw_axdr.specs.Value.{Value, array, bit_string, double_long_unsigned, octet_string, enumerated}
-use Rattle.fw_wrapper.specs.Wrapper.{Wraps}
 use Rattle.fw_apdu.specs.Response.{value, code, ResponseContent, get_response, set_response, action_response}
 use Rattle.fw_client.specs.Claim.{Claim}
 use Rattle.fw_client.specs.State.{State}

@@ -1,5 +1,5 @@
 -- What a live row sends is of an image that its book offers.
-use Rattle.std.proofs.Common.{◌≡◌, ℕ, nat_eq, All, List, length, Option, Some, None, option_map, sym, ap, subst, ◌∙◌}
+use Rattle.std.proofs.Common.{◌≡◌, ℕ, nat_eq, All, List, length, Option, Some, option_map, sym, ap, subst, ◌∙◌}
 use Rattle.std.specs.Map.{lookup}
 use Rattle.std.proofs.lemmas.List.Elements.{All-weaker}
 use Rattle.fw_names.specs.Name.{Name, Campaign, name_of}

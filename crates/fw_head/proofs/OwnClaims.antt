@@ -1,13 +1,12 @@
 -- What a step leads to: a cut of the row's image within the limits, as many known blocks as there are, and, once the row is done, a
 -- claim of its own meter under its own name.
-use Rattle.std.proofs.Common.{◌≡◌, ℕ, ◌==◌, nat_le, ◌⊎◌, inl, inr, Bool, true, false, List, length, replicate, slice_set, if◌then◌else◌, refl, sym, subst, ◌∙◌}
+use Rattle.std.proofs.Common.{◌≡◌, ℕ, ◌==◌, nat_le, inl, inr, Bool, true, false, List, length, replicate, slice_set, if◌then◌else◌, refl, sym, subst, ◌∙◌}
 use Rattle.std.proofs.lemmas.List.{length-replicate, length-set}
 use Rattle.std.proofs.lemmas.Bool.Decides.{Decides-eqb}
 use Rattle.fw_names.specs.Name.{Name}
 use Rattle.fw_blocks.specs.Cuts.{Partition, IsWithinLimits}
 use Rattle.fw_blocks.specs.Members.{first_missing}
 use Rattle.fw_client.specs.Claim.{Claim}
-use Rattle.fw_client.specs.declared.ask.Asked.{Asked}
 use Rattle.fw_client.specs.declared.ask.Asked.TheVariants as asked
 use Rattle.fw_client.specs.declared.heard.Heard.{Heard}
 use Rattle.fw_client.specs.declared.heard.Heard.TheVariants as heard

@@ -1,24 +1,23 @@
 -- The laws of a row.
-use Rattle.std.proofs.Common.{◌≡◌, ◌↔◌, ℕ, ◌+◌, nat_lt, ◌==◌, Bool, true, false, List, length, slice_set, if◌then◌else◌, inl, inr, refl, sym, ap, subst, ◌∙◌}
+use Rattle.std.proofs.Common.{◌≡◌, ℕ, ◌+◌, nat_lt, ◌==◌, Bool, true, false, List, length, slice_set, if◌then◌else◌, inl, inr, refl, sym, ap, subst, ◌∙◌}
 use Rattle.fw_names.specs.Name.{Name}
 use Rattle.fw_blocks.specs.Cuts.{Partition}
 use Rattle.fw_blocks.specs.Members.{first_missing}
 use Rattle.fw_client.specs.Claim.{Claim}
 use Rattle.fw_client.specs.State.{State}
-use Rattle.fw_client.specs.Hearing.{Hears, IsClaimed}
 use Rattle.fw_client.specs.Laws.{OneHearing, OnlyClaimed}
 use Rattle.fw_client.specs.declared.heard.Heard.{Heard}
 use Rattle.fw_client.specs.declared.heard.Heard.TheVariants as heard
 use Rattle.fw_head.specs.declared.phase.Phase.{Phase}
 use Rattle.fw_head.specs.declared.phase.Phase.TheVariants as phase
 use Rattle.fw_head.specs.declared.stage.Stage.{Stage}
-use Rattle.fw_head.specs.declared.stage.Stage.TheVariants.{Size, Enable, Start, Blocks, Check, Gaps, Verify, Poll, Info, Activate, Confirm, Done, Failed}
+use Rattle.fw_head.specs.declared.stage.Stage.TheVariants.{Size, Start, Blocks, Check, Info, Confirm, Done, Failed}
 use Rattle.fw_head.specs.declared.answers.Step.{Step}
 use Rattle.fw_head.specs.declared.answers.Step.TheVariants.{Stay, Took, Move, Return}
 use Rattle.fw_head.specs.declared.news.RowNews.{RowNews}
 use Rattle.fw_head.specs.declared.news.RowNews.TheVariants as news
 use Rattle.fw_head.specs.Phase.{phase_of, Goes, LeadsSize, LeadsInfo, LeadsConfirm, Leads}
-use Rattle.fw_head.specs.Row.{Row, RowTakes, RowIgnores, RowHears, max_returns, moved, returned, settled, stepped, with_block, news_in}
+use Rattle.fw_head.specs.Row.{Row, RowTakes, RowIgnores, max_returns, moved, settled, stepped, with_block, news_in}
 use Rattle.fw_head.specs.Inside.{StageHolds, StepHolds}
 use Rattle.fw_head.specs.Laws.{OneRow, Confirms, DoneByClaim}
 use Rattle.fw_head.proofs.OwnClaims.{Ended, ended_step}
@@ -55,10 +54,10 @@ both one old new other datagram told also a b =
     let P : Heard → Type 0 = λ h. Leads old.name old.size old.stage h b.step in
     let step : a.step ≡ b.step = one_step old.name old.size old.stage a.heard a.step b.step a.leads (subst P (sym same.0) b.leads) in
     let row : new ≡ other =
-        a.new_is
-        ∙ ap (λ (c : State). stepped (record old { client = c }) a.step) same.1
-        ∙ ap (λ (s : Step). stepped (record old { client = b.client }) s) step
-        ∙ sym b.new_is in
+    a.new_is
+    ∙ ap (λ (c : State). stepped (record old { client = c }) a.step) same.1
+    ∙ ap (λ (s : Step). stepped (record old { client = b.client }) s) step
+    ∙ sym b.new_is in
     (a.told_is ∙ ap (λ (r : Row). news_in r.stage) row ∙ sym b.told_is, row)
 
 pub one_row : OneHearing → OneRow

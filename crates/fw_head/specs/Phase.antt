@@ -1,11 +1,10 @@
 -- Public vocabulary: the table of a row's phases. What a tick asks in each phase, and where a matched answer leads
 -- (IEC 62056-6-2, Image transfer, procedure; the phases are own).
-use Rattle.std.specs.Prelude.{◌≡◌, ℕ, ◌==◌, nat_le, ◌⊎◌, Bool, false, List, [], ◌∷◌, map, length, replicate, slice_set, Option, Some, if◌then◌else◌}
+use Rattle.std.specs.Prelude.{◌≡◌, ℕ, ◌==◌, nat_le, ◌⊎◌, Bool, false, List, [], ◌∷◌, map, length, replicate, Some, if◌then◌else◌}
 use Rattle.fw_names.specs.Name.{Name}
 use Rattle.fw_blocks.specs.Cuts.{Partition, cut, block_count, IsWithinLimits}
 use Rattle.fw_blocks.specs.Members.{first_missing, window}
 use Rattle.fw_client.specs.Ask as ask
-use Rattle.fw_client.specs.declared.ask.Asked.{Asked}
 use Rattle.fw_client.specs.declared.ask.Asked.TheVariants as asked
 use Rattle.fw_client.specs.declared.heard.Heard.{Heard}
 use Rattle.fw_client.specs.declared.heard.Heard.TheVariants as heard
