@@ -10,7 +10,7 @@ use std::alloc::Global;
 use std::test::Fail;
 
 /// What an answer makes of the row of meter 1.
-#[derive(Clone, Copy, PartialEq, Eq)]
+#[derive(Clone, Copy)]
 pub(crate) enum Then {
     /// It changes nothing, and the row is in this phase.
     Nothing(Phase),
@@ -22,6 +22,26 @@ pub(crate) enum Then {
     Done(u32),
     /// The row of the campaign of this serial number is given up.
     Failed(u32),
+}
+
+impl Then {
+    /// What is told of it.
+    fn news(self) -> Result<News, Fail> {
+        Ok(match self {
+            Then::Nothing(_) | Then::NoRow => News::Nothing,
+            Then::Moved(_) => News::Moved,
+            Then::Done(serial) => News::Done(campaign(serial)?, meter()?),
+            Then::Failed(serial) => News::Failed(campaign(serial)?, meter()?),
+        })
+    }
+
+    /// The phase of the row, if it is live.
+    fn phase(self) -> Option<Phase> {
+        match self {
+            Then::Nothing(phase) | Then::Moved(phase) => Some(phase),
+            Then::NoRow | Then::Done(_) | Then::Failed(_) => None,
+        }
+    }
 }
 
 /// A step of a head end.
@@ -131,32 +151,17 @@ pub(crate) fn hears(
     let text = carried(alloc, apdu)?;
     let datagram = hex::decode(alloc, text.as_str())?;
     let news = head.hear(alloc, meter()?, datagram.as_slice())?;
-    if found(head, news)? != Some(then) {
+    if news != then.news()? || phase(head)? != then.phase() {
         return Err(Fail::from("a datagram makes something else of the row"));
     }
     Ok(())
 }
 
-/// What the news and the rows say, and `None` where they don't fit each other.
-fn found(head: &HeadCore, news: News) -> Result<Option<Then>, Fail> {
-    let phase = phase(head)?;
-    Ok(match (news, phase) {
-        (News::Nothing, Some(phase)) => Some(Then::Nothing(phase)),
-        (News::Nothing, None) => Some(Then::NoRow),
-        (News::Moved, Some(phase)) => Some(Then::Moved(phase)),
-        (News::Done(campaign, of), None) if is_ours(campaign, of)? => {
-            Some(Then::Done(campaign.serial()))
-        }
-        (News::Failed(campaign, of), None) if is_ours(campaign, of)? => {
-            Some(Then::Failed(campaign.serial()))
-        }
-        _ => None,
-    })
-}
-
-/// Whether the campaign is of head end 7, and the meter is meter 1.
-fn is_ours(campaign: CampaignId, of: MeterId) -> Result<bool, Fail> {
-    Ok(campaign.head() == HeadId::new(7) && of == meter()?)
+/// The campaign of this serial number, of head end 7.
+fn campaign(serial: u32) -> Result<CampaignId, Fail> {
+    let head = HeadId::new(7).ok_or("head ends begin at 1")?;
+    let campaign = CampaignId::new(head, serial).ok_or("a serial number begins at 1")?;
+    Ok(campaign)
 }
 
 /// The phase of the row of meter 1, if it is live.
