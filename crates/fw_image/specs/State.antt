@@ -24,14 +24,14 @@ pub record Follows (old new : State) : Type 0 where
   pub soundness : IsTrue old.sound → IsTrue new.sound
   pub later : old.faults ≤ new.faults
 
--- What a store counted while none of its calls failed, or one did: that failure, once. So there was no call behind it. A sound store
--- doesn't fail.
+-- What a store counted while none of its calls failed, or one did: that failure, once, up to the greatest number. A sound store doesn't
+-- fail.
 pub record Counts (old new : State) (faultless : Bool) : Type 0 where
   pub counted : new.faults ≡ count_after faultless old.faults
   pub never : IsTrue old.sound → IsTrue faultless
 
 -- From old, a state makes the step of this operation with this outcome and goes on to new. What a line refuses makes no call of the
--- store. A fault is told just where a call of the store failed, and there is no call behind it.
+-- store. A fault is told just where a call of the store failed, and there is no call behind it, as far as the count tells.
 pub record Makes (old : State) (operation : Operation) (outcome : Outcome) (new : State) : Type 0 where
   pub step : Step old.honest old.meter operation outcome new.meter
   pub untouched : (r : Refusal) → Refuses old.meter operation r → new ≡ old

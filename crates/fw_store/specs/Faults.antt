@@ -19,7 +19,7 @@ pub record Keeps {S : Type 0} (honest sound : S → Bool) (capacity faults : S �
   pub later : faults old ≤ faults new
 
 -- A call's failure is counted, and a sound store doesn't fail. What makes several calls of a store keeps this too, as long as it makes
--- none after one that failed.
+-- none after one that failed. At the greatest number the count tells no more.
 pub record HasCause {T : Type 0} (sound : Bool) (before after : ℕ) (result : Result T StoreFault) : Type 0 where
   pub counted : after ≡ count_after (is_ok result) before
   pub never : IsTrue sound → IsOk result
