@@ -1,3 +1,4 @@
+pub mod Cosem
 pub mod Cause
 pub mod Request
 pub mod Response

@@ -1,6 +1,7 @@
 //! The services GET, SET and ACTION of COSEM in their normal forms, with logical names (IEC 62056-5-3).
 #![tactic(auto)]
 
+pub mod cosem;
 mod error;
 mod fields;
 pub mod laws;

@@ -11,4 +11,4 @@ mod name;
 pub use campaign::CampaignId;
 pub use head::HeadId;
 pub use meter::MeterId;
-pub use name::{ImageName, NAME_SIZE, factory_name, name_of};
+pub use name::{ImageName, NAME_SIZE, digest_of, factory_name, name_of};

@@ -1,6 +1,7 @@
 //! Names of images, and their spelling.
 
 ghost use Rattle.std.specs.Prelude.{◌≡◌, ◌+◌, ◌≤◌, ◌++◌, length, take, IfSome};
+ghost use Rattle.sha2.specs.Sha256.{sha256};
 ghost use Rattle.fw_names.specs.Name.{Name, IsName, SpellsName, name_of, factory_name};
 
 use crate::campaign::CampaignId;
@@ -73,6 +74,13 @@ impl ImageName {
     }
 }
 
+/// The SHA-256 of an image.
+pub fn digest_of(image: &[u8]) -> [u8; 32]
+    ensures { result ≡ sha256 image.now }
+{
+    Sha256::digest(image)
+}
+
 /// The name under which a campaign offers an image.
 pub fn name_of(campaign: CampaignId, image: &[u8]) -> ImageName
     ensures value { result ≡ name_of campaign image.now }
@@ -80,7 +88,7 @@ pub fn name_of(campaign: CampaignId, image: &[u8]) -> ImageName
 {
     ImageName {
         campaign,
-        digest: Sha256::digest(image),
+        digest: digest_of(image),
     }
 }
 

@@ -1,7 +1,8 @@
 -- The wrapper over UDP (IEC 62056-4-7): version, source wPort, destination wPort and length, two bytes each,
 -- high byte first, and then the APDU.
-use Rattle.std.specs.Prelude.{◌≡◌, ℕ, ◌<◌, ◌≤◌, ◌^◌, Bool, List, [], ◌∷◌, ◌++◌, length, take, drop, nat_lt, ◌==◌, not, Option, Some, None, if◌then◌else◌}
+use Rattle.std.specs.Prelude.{◌≡◌, ℕ, ◌<◌, ◌≤◌, ◌^◌, Bool, List, [], ◌∷◌, ◌++◌, length, take, drop, nat_lt, ◌==◌, not, Option}
 use Rattle.std.specs.Int.{w16, to_be_bytes, from_be_bytes}
+use Rattle.fw_wrapper.specs.Refusals.{first_applying}
 use Rattle.fw_wrapper.specs.declared.error.WrapError.{WrapError}
 use Rattle.fw_wrapper.specs.declared.error.WrapError.TheVariants.{Short, Version, Length, TooLong}
 
@@ -37,11 +38,6 @@ fault_rows datagram =
     ∷ (not (field_at datagram 6 == length (behind_header datagram)), Length)
     ∷ (nat_lt max_apdu (length (behind_header datagram)), TooLong)
     ∷ []
-
--- the fault of the first row whose test is true
-abbrev pub first_applying : List (Bool × WrapError) → Option WrapError
-first_applying [] = None
-first_applying (row ∷ rows) = if row.0 then Some row.1 else first_applying rows
 
 -- what is wrong with a datagram: nothing, if it wraps an APDU
 abbrev pub fault_of : List ℕ → Option WrapError
