@@ -1,6 +1,6 @@
 //! Sets of block numbers.
 
-ghost use Rattle.std.specs.Prelude.{◌≡◌, ◌<◌, ◌≤◌, ◌^◌, true, false, length, replicate, slice_set, slice_index_or, IfOk, SomeIff, if◌then◌else◌};
+ghost use Rattle.std.specs.Prelude.{◌≡◌, ◌<◌, ◌≤◌, ◌^◌, true, false, length, replicate, slice_set, slice_index_or, IfOk, OnErr, SomeIff, if◌then◌else◌};
 ghost use Rattle.fw_axdr.specs.Bits.{packed, byte_of};
 ghost use Rattle.fw_blocks.specs.Members.{has, first_missing, IsFirstMissing};
 
@@ -78,18 +78,20 @@ impl BlockSet {
 
     /// The set as a bit-string, as a meter shows it (IEC 62056-6-2, image_transferred_blocks_status): bit
     /// i tells whether number i is in it, and there are as many bits as blocks. Its one error is want of
-    /// memory.
+    /// memory, and only where there is a block.
     pub fn to_bits(&self, alloc: Global) -> Result<Bits, AllocError>
-        ensures { IfOk result (λ bits. bits ≡ self.now) }
+        ensures bits { IfOk result (λ bits. bits ≡ self.now) }
+        ensures memory { OnErr result (1 ≤ length self.now) }
     {
         let members = self.members.as_slice();
         Ok(Bits::from_vec(packed_bytes(alloc, members)?, members.len()))
     }
 
     /// The set that a bit-string shows, and `None` where it has not as many bits as there are blocks.
-    /// Its one error is want of memory.
+    /// Its one error is want of memory, and only for as many bits as blocks, and at least one.
     pub fn from_bits(alloc: Global, bits: &Bits, count: u32) -> Result<Option<BlockSet>, AllocError>
-        ensures { IfOk result (λ answer. SomeIff answer (length bits.now ≡ count) bits.now) }
+        ensures answer { IfOk result (λ answer. SomeIff answer (length bits.now ≡ count) bits.now) }
+        ensures memory { OnErr result ((length bits.now ≡ count) × (1 ≤ count)) }
     {
         if bits.len() != count as usize {
             return Ok(None);
@@ -122,7 +124,8 @@ fn first_missing_from(members: &[bool], from: u32) -> u32
 
 // The bits of a bit-string, one by one.
 fn bits_of(alloc: Global, bits: &Bits) -> Result<Vec<bool>, AllocError>
-    ensures { IfOk result (λ members. members.items ≡ bits.now) }
+    ensures members { IfOk result (λ members. members.items ≡ bits.now) }
+    ensures memory { OnErr result (1 ≤ length bits.now) }
 {
     let mut members = Vec::with_capacity(alloc, bits.len())?;
     for i in 0..bits.len() {
@@ -133,7 +136,8 @@ fn bits_of(alloc: Global, bits: &Bits) -> Result<Vec<bool>, AllocError>
 
 // The bytes that hold the bits, as few as serve, with zeros in the unused bits.
 fn packed_bytes(alloc: Global, bits: &[bool]) -> Result<Vec<u8>, AllocError>
-    ensures { IfOk result (λ bytes. bytes.items ≡ packed bits.now) }
+    ensures bytes { IfOk result (λ bytes. bytes.items ≡ packed bits.now) }
+    ensures memory { OnErr result (1 ≤ length bits.now) }
 {
     let count = bits.len().div_ceil(8);
     let mut bytes = Vec::with_capacity(alloc, count)?;

@@ -1,6 +1,7 @@
 //! Where the blocks of an image lie.
 
 ghost use Rattle.std.specs.Prelude.{◌≡◌, ℕ, ◌-◌, ◌<◌, ◌≤◌, List, length, slice_range, SomeIff, IfSome};
+ghost use Rattle.std.specs.Option.{option_copied};
 ghost use Rattle.fw_blocks.specs.Cuts.{IsWithinLimits, cut, block_count, block_start, block_end, max_blocks};
 
 use std::marker::Model;
@@ -92,5 +93,20 @@ impl Geometry {
         let start = number * self.block_size;
         let end = self.size.min(start + self.block_size);
         Some((start, end))
+    }
+
+    /// The bytes of block `number` of an image that is cut into blocks of this size. `None` where it has no
+    /// such block.
+    pub fn cut(self, image: &[u8], number: u32) -> Option<&[u8]>
+        ensures { SomeIff (option_copied result) (number < block_count self.block_size (length image.now))
+            (cut self.block_size image.now number) }
+    {
+        let block_size = self.block_size as usize;
+        let start = number as usize * block_size;
+        if image.len() <= start {
+            return None;
+        }
+        let end = image.len().min(start + block_size);
+        Some(&image[start..end])
     }
 }

@@ -6,9 +6,9 @@ use Rattle.fw_blocks.proofs.block_set.BlockSet.to_bits.Goals as goal
 pub from_vec-requires : goal.from_vec-requires
 from_vec-requires c =
     let members = c.as_slice-members.result.now in
-    rw c.in_ok-packed_bytes.ensures (length-packed_into (bytes_for (length members)) members)
+    rw c.in_ok-packed_bytes.ensures.bytes (length-packed_into (bytes_for (length members)) members)
 
-pub returns : goal.returns
-returns c =
+pub returns-clause-bits : goal.returns-clause-bits
+returns-clause-bits c =
     let members = c.as_slice-members.result.now in
-    rw (c.from_vec.ensures, c.in_ok-packed_bytes.ensures, packed_bits members, c.as_slice-members.ensures.value, c.self.view_is) refl
+    rw (c.from_vec.ensures, c.in_ok-packed_bytes.ensures.bytes, packed_bits members, c.as_slice-members.ensures.value, c.self.view_is) refl
