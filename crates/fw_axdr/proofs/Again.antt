@@ -71,7 +71,7 @@ one_spelling levels a b x y v w e p q =
     let both = ok_pair v w x y (sym (data_again v levels a x p.0 p.1) ∙ ap (λ (z : List ℕ). data_at levels z) e ∙ data_again w levels b y q.0 q.1) in
     (append_cancel_right a b y (ap (λ (z : List ℕ). a ++ z) (sym both.1) ∙ e), both.0)
 
-found_is : (levels : ℕ) (s : List ℕ) (v : Value) (rest : List ℕ) → data_at levels s ≡ Ok (v, rest) → Taken levels s v rest
+pub found_is : (levels : ℕ) (s : List ℕ) (v : Value) (rest : List ℕ) → data_at levels s ≡ Ok (v, rest) → Taken levels s v rest
 found_is levels s v rest e = MatchResult-at_ok (λ x. Taken levels s x.0 x.1) (λ f. Fails levels s f) (v, rest) e (data_sound levels s)
 
 pub shorter : (levels : ℕ) (s : List ℕ) (v : Value) (rest : List ℕ) → data_at levels s ≡ Ok (v, rest) → length rest ≤ length s

@@ -5,6 +5,7 @@ pub mod Counts
 pub mod Loop
 pub mod Spellings
 pub mod Again
+pub mod Wants
 pub mod Writes
 pub mod Shorts
 pub mod Faults

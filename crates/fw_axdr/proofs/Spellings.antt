@@ -24,13 +24,13 @@ pub record BytesTaken (size : ℕ) (c o rest : List ℕ) : Type 0 where
   pub parts : c ≡ o ++ rest
   pub len : length o ≡ size
 
-abbrev BytesRead : ℕ → List ℕ → Result (List ℕ × List ℕ) AxdrError → Type 0
+abbrev pub BytesRead : ℕ → List ℕ → Result (List ℕ × List ℕ) AxdrError → Type 0
 BytesRead size c r = MatchResult r (λ x. BytesTaken size c x.0 x.1) (BytesFail size c)
 
 bytes_taken : (size : ℕ) (c : List ℕ) → size ≤ length c → BytesTaken size c (take size c) (drop size c)
 bytes_taken size c room = record { parts = sym (take-append-drop size c); len = omega (arith, length-take size c) }
 
-bytes_sound : (size : ℕ) (c : List ℕ) → BytesRead size c (bytes_at size c)
+pub bytes_sound : (size : ℕ) (c : List ℕ) → BytesRead size c (bytes_at size c)
 unfolding bytes_at
 bytes_sound size c =
     cond_both (ltb (length c) size) _ _ (BytesRead size c) (λ lacks. (ltb-true (length c) size lacks, refl)) (λ room. bytes_taken size c (ltb-false (length c) size room))

@@ -91,3 +91,11 @@ IfFault Truncated P = P
 IfFault UnknownTag P = P
 IfFault BadLength P = P
 IfFault TooDeep P = P
+
+-- P, where the error is want of memory
+abbrev pub IfMemory : AxdrError → Type 0 → Type 0
+IfMemory OutOfMemory P = P
+IfMemory Truncated P = Unit {0}
+IfMemory UnknownTag P = Unit {0}
+IfMemory BadLength P = Unit {0}
+IfMemory TooDeep P = Unit {0}

@@ -4,6 +4,7 @@ pub mod View
 pub mod Bits
 pub mod Spelling
 pub mod Fault
+pub mod Memory
 pub mod Laws
 -- For private clauses and the model of `Items` alone: no public clause cites them.
 pub mod Tag

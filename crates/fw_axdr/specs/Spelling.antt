@@ -65,6 +65,10 @@ IsData levels s v = Spells s v × (depth v ≤ levels)
 abbrev pub NoneBegins : ℕ → List ℕ → Type 0
 NoneBegins levels s = (front rest : List ℕ) (v : Value) → s ≡ front ++ rest → IsData levels front v → ⊥
 
+-- a front of the byte string is a Data
+abbrev pub SomeBegins : ℕ → List ℕ → Type 0
+SomeBegins levels s = (front rest : List ℕ) × (v : Value) × (s ≡ front ++ rest) × IsData levels front v
+
 -- ---- the short spelling, which is written
 
 -- the shortest form of a length below 2 ^ 32

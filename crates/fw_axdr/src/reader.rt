@@ -1,6 +1,7 @@
-//! The bytes that are still to be read, and the numbers and lengths at their front.
+//! The bytes that are still to be read, and the numbers and lengths at their front. None of them takes memory.
 
-ghost use Rattle.std.specs.Prelude.{◌≡◌, length, IfOk};
+ghost use Rattle.std.specs.Prelude.{◌≡◌, length, IfOk, IfErr};
+ghost use Rattle.fw_axdr.specs.Fault.{IfMemory};
 ghost use Rattle.fw_axdr.specs.Reading.{Gives, length_at, bytes_at, number_at};
 
 use crate::error::AxdrError;
@@ -36,7 +37,8 @@ impl<'a> Reader<'a> {
 
     #[tactic(auto, unfolding(crate::specs::Reading::number_at))]
     pub(crate) fn u8(&mut self) -> Result<u8, AxdrError>
-        ensures { Gives (λ n. n) result self.new (number_at 1 self.old) }
+        ensures gives { Gives (λ n. n) result self.new (number_at 1 self.old) }
+        ensures memory { IfErr result (λ e. IfMemory e ⊥) }
     {
         let [a, rest @ ..] = self.rest else {
             return Err(AxdrError::Truncated);
@@ -47,7 +49,8 @@ impl<'a> Reader<'a> {
 
     #[tactic(auto, unfolding(crate::specs::Reading::number_at))]
     pub(crate) fn u16(&mut self) -> Result<u16, AxdrError>
-        ensures { Gives (λ n. n) result self.new (number_at 2 self.old) }
+        ensures gives { Gives (λ n. n) result self.new (number_at 2 self.old) }
+        ensures memory { IfErr result (λ e. IfMemory e ⊥) }
     {
         let [a, b, rest @ ..] = self.rest else {
             return Err(AxdrError::Truncated);
@@ -59,7 +62,8 @@ impl<'a> Reader<'a> {
     /// A number of three bytes.
     #[tactic(auto, unfolding(crate::specs::Reading::number_at))]
     fn u24(&mut self) -> Result<u32, AxdrError>
-        ensures { Gives (λ n. n) result self.new (number_at 3 self.old) }
+        ensures gives { Gives (λ n. n) result self.new (number_at 3 self.old) }
+        ensures memory { IfErr result (λ e. IfMemory e ⊥) }
     {
         let [a, b, c, rest @ ..] = self.rest else {
             return Err(AxdrError::Truncated);
@@ -70,7 +74,8 @@ impl<'a> Reader<'a> {
 
     #[tactic(auto, unfolding(crate::specs::Reading::number_at))]
     pub(crate) fn u32(&mut self) -> Result<u32, AxdrError>
-        ensures { Gives (λ n. n) result self.new (number_at 4 self.old) }
+        ensures gives { Gives (λ n. n) result self.new (number_at 4 self.old) }
+        ensures memory { IfErr result (λ e. IfMemory e ⊥) }
     {
         let [a, b, c, d, rest @ ..] = self.rest else {
             return Err(AxdrError::Truncated);
@@ -81,7 +86,8 @@ impl<'a> Reader<'a> {
 
     #[tactic(auto, unfolding(crate::specs::Reading::number_at))]
     pub(crate) fn u64(&mut self) -> Result<u64, AxdrError>
-        ensures { Gives (λ n. n) result self.new (number_at 8 self.old) }
+        ensures gives { Gives (λ n. n) result self.new (number_at 8 self.old) }
+        ensures memory { IfErr result (λ e. IfMemory e ⊥) }
     {
         let [a, b, c, d, e, f, g, h, rest @ ..] = self.rest else {
             return Err(AxdrError::Truncated);
@@ -93,8 +99,9 @@ impl<'a> Reader<'a> {
     /// So many bytes, where they are: nothing is copied.
     #[tactic(auto, unfolding(crate::specs::Reading::bytes_at))]
     pub(crate) fn bytes(&mut self, len: usize) -> Result<&'a [u8], AxdrError>
-        ensures exact { Gives (λ x. x.now) result self.new (bytes_at len self.old) }
+        ensures gives { Gives (λ x. x.now) result self.new (bytes_at len self.old) }
         ensures len { IfOk result (λ x. length x.now ≡ len) }
+        ensures memory { IfErr result (λ e. IfMemory e ⊥) }
     {
         if self.rest.len() < len {
             return Err(AxdrError::Truncated);
@@ -107,7 +114,8 @@ impl<'a> Reader<'a> {
     /// A length: one byte below 80 (hexadecimal), or 81 to 84 and the 1 to 4 bytes that hold it.
     #[tactic(auto, unfolding(crate::specs::Reading::length_at))]
     pub(crate) fn length(&mut self) -> Result<usize, AxdrError>
-        ensures { Gives (λ n. n) result self.new (length_at self.old) }
+        ensures gives { Gives (λ n. n) result self.new (length_at self.old) }
+        ensures memory { IfErr result (λ e. IfMemory e ⊥) }
     {
         let first = self.u8()?;
         match first {

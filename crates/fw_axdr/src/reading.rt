@@ -1,9 +1,12 @@
 //! Reading a Data, from left to right.
 
-ghost use Rattle.std.specs.Prelude.{◌≡◌, ◌≤◌, length, take, IfOk, IfErr};
+ghost use Rattle.std.specs.Prelude.{◌≡◌, ◌≤◌, ◌⊎◌, length, take, IfOk, IfErr, OnErr};
 ghost use Rattle.fw_axdr.specs.View.{value_of};
-ghost use Rattle.fw_axdr.specs.Spelling.{IsData, NoneBegins, max_depth};
-ghost use Rattle.fw_axdr.specs.Fault.{Fails, IfFault};
+ghost use Rattle.fw_axdr.specs.Spelling.{IsData, NoneBegins, SomeBegins, max_depth};
+ghost use Rattle.fw_axdr.specs.Fault.{Fails, IfFault, IfMemory};
+ghost use Rattle.fw_axdr.specs.Bits.{bytes_for};
+ghost use Rattle.fw_axdr.specs.Memory.{CountedTakes, TaggedTakes, MayTakeMemory};
+ghost use Rattle.fw_axdr.specs.Tag.{code};
 ghost use Rattle.fw_axdr.specs.Reading.{Gives, octets_at, bits_at, items_at, contents_at, data_at};
 
 use crate::bits::Bits;
@@ -12,26 +15,38 @@ use crate::error::AxdrError;
 use crate::octets::Octets;
 use crate::reader::Reader;
 use crate::tag::Tag;
-use std::alloc::Global;
+use std::alloc::{AllocError, Global};
+
+/// A copy of bytes. That of none takes no memory.
+fn copied(alloc: Global, bytes: &[u8]) -> Result<Vec<u8>, AllocError>
+    ensures same { IfOk result (λ copy. copy.items ≡ bytes.now) }
+    ensures memory { OnErr result (1 ≤ length bytes.now) }
+{
+    let mut copy = Vec::with_capacity(alloc, bytes.len())?;
+    copy.extend_from_slice(bytes)?;
+    Ok(copy)
+}
 
 /// A length, and so many bytes: they are copied once.
 #[tactic(auto, unfolding(crate::specs::Reading::octets_at))]
 fn octets(alloc: Global, reader: &mut Reader<'_>) -> Result<Octets, AxdrError>
-    ensures { Gives (λ o. o) result reader.new (octets_at reader.old) }
+    ensures gives { Gives (λ o. o) result reader.new (octets_at reader.old) }
+    ensures memory { IfErr result (λ e. IfMemory e (CountedTakes (λ n rest. n ≤ length rest) reader.old)) }
 {
     let len = reader.length()?;
     let bytes = reader.bytes(len)?;
-    Ok(Octets::from_vec(Vec::from_slice(alloc, bytes)?))
+    Ok(Octets::from_vec(copied(alloc, bytes)?))
 }
 
 /// A length in bits, and the bytes of so many.
 #[tactic(auto, unfolding(crate::specs::Reading::bits_at))]
 fn bits(alloc: Global, reader: &mut Reader<'_>) -> Result<Bits, AxdrError>
-    ensures { Gives (λ b. b) result reader.new (bits_at reader.old) }
+    ensures gives { Gives (λ b. b) result reader.new (bits_at reader.old) }
+    ensures memory { IfErr result (λ e. IfMemory e (CountedTakes (λ n rest. bytes_for n ≤ length rest) reader.old)) }
 {
     let len = reader.length()?;
     let bytes = reader.bytes(len.div_ceil(8))?;
-    Ok(Bits::from_vec(Vec::from_slice(alloc, bytes)?, len))
+    Ok(Bits::from_vec(copied(alloc, bytes)?, len))
 }
 
 /// A count, and so many Data. Room is taken for those that are there, and not for those that the
@@ -39,7 +54,9 @@ fn bits(alloc: Global, reader: &mut Reader<'_>) -> Result<Bits, AxdrError>
 #[cycle(reading)]
 #[tactic(auto, unfolding(crate::specs::Reading::items_at))]
 fn items(alloc: Global, levels: u8, reader: &mut Reader<'_>) -> Result<Items, AxdrError>
-    ensures { Gives (λ a. a) result reader.new (items_at (λ s. data_at levels s) reader.old) }
+    ensures gives { Gives (λ a. a) result reader.new (items_at (λ s. data_at levels s) reader.old) }
+    ensures memory { IfErr result (λ e. IfMemory e
+        (CountedTakes (λ n rest. MayTakeMemory levels rest ⊎ SomeBegins levels rest) reader.old)) }
 {
     let count = reader.length()?;
     let mut items = Vec::new(alloc);
@@ -53,8 +70,10 @@ fn items(alloc: Global, levels: u8, reader: &mut Reader<'_>) -> Result<Items, Ax
 #[cycle(reading)]
 #[tactic(auto, unfolding(crate::specs::Reading::contents_at))]
 fn contents(alloc: Global, levels: u8, tag: Tag, reader: &mut Reader<'_>) -> Result<Data, AxdrError>
-    ensures { Gives (λ x. value_of x) result reader.new
+    ensures gives { Gives (λ x. value_of x) result reader.new
         (contents_at (λ s. data_at levels s) tag reader.old) }
+    ensures memory { IfErr result (λ e. IfMemory e
+        (TaggedTakes (λ s. MayTakeMemory levels s ⊎ SomeBegins levels s) (code tag) reader.old)) }
 {
     match tag {
         Tag::Null => Ok(Data::Null),
@@ -80,7 +99,8 @@ fn contents(alloc: Global, levels: u8, tag: Tag, reader: &mut Reader<'_>) -> Res
 #[cycle(reading)]
 #[tactic(auto, unfolding(crate::specs::Reading::data_at))]
 fn data(alloc: Global, levels: u8, reader: &mut Reader<'_>) -> Result<Data, AxdrError>
-    ensures { Gives (λ x. value_of x) result reader.new (data_at levels reader.old) }
+    ensures gives { Gives (λ x. value_of x) result reader.new (data_at levels reader.old) }
+    ensures memory { IfErr result (λ e. IfMemory e (MayTakeMemory levels reader.old)) }
 {
     let byte = reader.u8()?;
     if levels == 0 {
@@ -119,6 +139,9 @@ pub fn read(alloc: Global, bytes: &[u8]) -> Result<(Data, usize), AxdrError>
     // A fault is the leftmost one, and comes only where no front of the bytes is a Data.
     ensures none { IfErr result (λ e. IfFault e (NoneBegins max_depth bytes.now)) }
     ensures fault { IfErr result (λ e. IfFault e (Fails max_depth bytes.now e)) }
+
+    // Memory is wanted only for strings and elements that are there.
+    ensures memory { IfErr result (λ e. IfMemory e (MayTakeMemory max_depth bytes.now)) }
 {
     let mut reader = Reader::new(bytes);
     let value = data(alloc, MAX_DEPTH, &mut reader)?;
