@@ -1,18 +1,16 @@
 -- That the calls of a book keep what every book keeps.
-use Rattle.std.proofs.Common.{◌≡◌, ℕ, ◌<◌, ◌^◌, Bool, true, false, eqb, ltb, nat_eq, cond, ◌&&◌, ◌||◌, is_some, List, [], ◌∷◌, ◌++◌, map, length, Option, Some, None, refl, sym, ap, ◌∙◌, ⊎_elim, arith}
-use Rattle.std.specs.List.{list_any, AllByRecursion}
+use Rattle.std.proofs.Common.{◌≡◌, ℕ, true, false, eqb, nat_eq, cond, ◌&&◌, is_some, List, [], ◌∷◌, ◌++◌, map, length, Option, Some, None, refl, sym, ap, ◌∙◌, ⊎_elim}
+use Rattle.std.specs.List.{AllByRecursion}
 use Rattle.std.specs.Map.{lookup, set_value}
 use Rattle.std.proofs.lemmas.Bool.{false≢true, or_parts, or_cases, and_parts, cases_Bool, or_left, or_right, and_from, false_from_ne_true, cond_both, cond-true, cond-false}
-use Rattle.std.proofs.lemmas.Bool.Decides.{Decides-eqb, nat_tests}
+use Rattle.std.proofs.lemmas.Bool.Decides.{Decides-eqb}
 use Rattle.std.proofs.lemmas.List.{length-map}
-use Rattle.fw_names.specs.Name.{Campaign, IsOpened}
-use Rattle.fw_book.specs.declared.error.BookError.{BookError}
 use Rattle.fw_book.specs.declared.row.Row.{Row}
 use Rattle.fw_book.specs.declared.row.RowState.{RowState}
 use Rattle.fw_book.specs.declared.row.RowState.TheVariants.{Cancelled}
-use Rattle.fw_book.specs.Rows.{is_live, live_row, meters_of, repeats, is_live_in, marked_row, with_state, cancelled_row, cancelled_rows}
-use Rattle.fw_book.specs.Contents.{Offered, Contents, max_image, max_meters, is_busy, IsEntry, Apart, AllApart, IsBook}
-use Rattle.fw_book.specs.Changes.{added, at_serial, opening_rows, opening_refusal, first_applying}
+use Rattle.fw_book.specs.Rows.{is_live, meters_of, is_live_in, marked_row, with_state, cancelled_row, cancelled_rows}
+use Rattle.fw_book.specs.Contents.{Offered, Contents, is_busy, IsEntry, Apart, AllApart, IsBook}
+use Rattle.fw_book.specs.Changes.{added, at_serial}
 use Rattle.fw_book.specs.Inside.{clashes, Admits}
 
 pub all_push : {X : Type 0} (P : X → Type 0) (xs : List X) (y : X) → AllByRecursion P xs → P y → AllByRecursion P (xs ++ y ∷ [])
@@ -182,20 +180,9 @@ at_serial-set_value serial change (entry ∷ entries) offer h =
     ∙ sym (cond-false (nat_eq serial entry.0) one (entry ∷ at_serial serial change entries) other))
     (cases_Bool (nat_eq serial entry.0))
 
-some_none : (refusal : BookError) → Some refusal ≡ None → ⊥
-some_none refusal h = cc
-
 pub none_from : {X : Type 0} (o : Option X) → is_some o ≡ false → o ≡ None
 none_from None h = refl
 none_from (Some x) h = absurd (false≢true (sym h))
-
-meters_of-live : (meters : List ℕ) → meters_of (map live_row meters) ≡ meters
-meters_of-live [] = refl
-meters_of-live (meter ∷ meters) = ap (λ ms. meter ∷ ms) (meters_of-live meters)
-
-clashes-live : (campaigns : List (ℕ × Offered)) (meters : List ℕ) → clashes campaigns (map live_row meters) ≡ list_any (λ meter. is_busy campaigns meter) meters
-clashes-live campaigns [] = refl
-clashes-live campaigns (meter ∷ meters) = ap (λ b. is_busy campaigns meter || b) (clashes-live campaigns meters)
 
 -- a campaign that isn't there is not changed
 pub at_serial-none : (serial : ℕ) (change : List Row → List Row) (entries : List (ℕ × Offered)) → lookup (nat_eq serial) entries ≡ None → at_serial serial change entries ≡ entries
@@ -211,39 +198,6 @@ at_serial-none serial change (entry ∷ entries) h =
     cond-false (nat_eq serial entry.0) one (entry ∷ at_serial serial change entries) other
     ∙ ap (λ es. entry ∷ es) (at_serial-none serial change entries later))
     (cases_Bool (nat_eq serial entry.0))
-
--- where nothing refuses, no test is true
-tests_none : (rows : List (Bool × BookError)) → first_applying rows ≡ None → AllByRecursion (λ (row : Bool × BookError). row.0 ≡ false) rows
-tests_none [] h = tt
-tests_none (row ∷ rows) h =
-    ⊎_elim
-    (λ here. absurd (some_none row.1 (sym (cond-true row.0 (Some row.1) (first_applying rows) here) ∙ h)))
-    (λ other. (other, tests_none rows (sym (cond-false row.0 (Some row.1) (first_applying rows) other) ∙ h)))
-    (cases_Bool row.0)
-
--- a book takes a campaign whose opening nothing refuses
-pub opening_admits : (book : Contents) (campaign : Campaign) (image meters : List ℕ) → IsOpened campaign → AllByRecursion (λ meter. meter < 2 ^ 32) (meters_of (map live_row meters)) → opening_refusal book campaign image meters ≡ None → Admits book campaign.serial (record { image = image; rows = map live_row meters })
-opening_admits book campaign image meters opened fit none =
-    let tests = tests_none (opening_rows book campaign image meters) none in
-    let some_image : eqb (length image) 0 ≡ false = tests.1.1.0 in
-    let short_image : ltb max_image (length image) ≡ false = tests.1.1.1.0 in
-    let some_meters : eqb (length meters) 0 ≡ false = tests.1.1.1.1.0 in
-    let few_meters : ltb max_meters (length meters) ≡ false = tests.1.1.1.1.1.0 in
-    let many : length (map live_row meters) ≡ length meters = length-map meters live_row in
-    record {
-      is_entry = record {
-        serial_begins = opened.serial_begins;
-        serial_fits = opened.serial_fits;
-        image_begins = grind (arith, nat_tests);
-        image_ends = grind (arith, nat_tests);
-        meters_begin = grind (arith, nat_tests);
-        meters_end = grind (arith, nat_tests);
-        meters_fit = fit;
-        meters_once = ap repeats (meters_of-live meters) ∙ tests.1.1.1.1.1.1.0;
-      };
-      serial_new = tests.1.0;
-      meters_free = clashes-live book.campaigns meters ∙ tests.1.1.1.1.1.1.1.0;
-    }
 
 pub changed_entries : (serial : ℕ) (change : List Row → List Row) (old new : List (ℕ × Offered)) (offer written : Offered) → lookup (nat_eq serial) old ≡ Some offer → written ≡ record { image = offer.image; rows = change offer.rows } → new ≡ set_value (nat_eq serial) old written → new ≡ at_serial serial change old
 changed_entries serial change old new offer written found write set =

@@ -1,5 +1,6 @@
 pub mod Lists
 pub mod Books
+pub mod Openings
 pub mod Spellings
 pub mod Parts
 pub mod Images

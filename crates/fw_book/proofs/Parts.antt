@@ -10,9 +10,8 @@ use Rattle.std.proofs.lemmas.Bool.Decides.{Decides-eqb}
 use Rattle.fw_book.specs.declared.row.Row.{Row}
 use Rattle.fw_book.specs.Rows.{is_live, is_live_in, meters_of, repeats}
 use Rattle.fw_book.specs.Contents.{Offered, Contents, has_serial, is_busy, IsEntry, Apart, AllApart, IsBook}
-use Rattle.fw_book.specs.Inside.{clashes, Admits}
+use Rattle.fw_book.specs.Inside.{clashes, Admits, IsImage, IsRows, MetersFit, NoRows, NoCounted, NoEntry}
 use Rattle.fw_book.specs.Format.{row_bytes, rows_bytes, counted_bytes, image_bytes, entry_bytes, entries_bytes, head_bytes, book_bytes, SpellsBook}
-use Rattle.fw_book.specs.Reading.{IsImage, IsRows, MetersFit, NoRows, NoCounted, NoEntry}
 use Rattle.fw_book.proofs.Books.{same_contents}
 use Rattle.fw_book.proofs.Spellings.{four_unique, two_unique, rows_next, image_unique, counted_unique, entry_parts, entry_unique, entries_next, head_unique}
 

@@ -9,7 +9,7 @@ use Rattle.fw_book.specs.declared.row.RowState.{RowState}
 use Rattle.fw_book.specs.declared.row.RowState.TheVariants.{Live, Done, Failed, Cancelled}
 use Rattle.fw_book.specs.Contents.{Offered, Contents, IsEntry}
 use Rattle.fw_book.specs.Format.{state_number, row_bytes, rows_bytes, counted_bytes, image_bytes, entry_bytes, entries_bytes, head_bytes, SpellsBook}
-use Rattle.fw_book.specs.Reading.{MetersFit}
+use Rattle.fw_book.specs.Inside.{MetersFit}
 use Rattle.std.proofs.lemmas.List.{append-nil}
 
 pub split_unique : (n : ℕ) (p q s t : List ℕ) → length p ≡ n → length q ≡ n → p ++ s ≡ q ++ t → (p ≡ q) × (s ≡ t)

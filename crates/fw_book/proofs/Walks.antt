@@ -8,7 +8,7 @@ use Rattle.fw_book.specs.declared.row.RowState.{RowState}
 use Rattle.fw_book.specs.declared.row.RowState.TheVariants.{Live, Done, Failed, Cancelled}
 use Rattle.fw_book.specs.Contents.{Offered, IsEntry}
 use Rattle.fw_book.specs.Format.{state_number, row_bytes, rows_bytes, counted_bytes, image_bytes, entry_bytes, entries_bytes}
-use Rattle.fw_book.specs.Reading.{MetersFit, NoEntry, state_of_number, row_before, rows_in, entry_in, Skims, AreEntries}
+use Rattle.fw_book.specs.Inside.{MetersFit, NoEntry, state_of_number, row_before, rows_in, entry_in, Skims, AreEntries}
 use Rattle.fw_book.proofs.Spellings.{split_unique, two_unique, four_unique, image_unique, entry_parts, entry_some, entry_unique}
 
 state_none : (n : ℕ) → 3 < n → state_of_number n ≡ None

@@ -1,5 +1,5 @@
 -- Public vocabulary: what each call makes of a book, and when it refuses.
-use Rattle.std.specs.Prelude.{◌≡◌, ℕ, Bool, false, ◌==◌, not, nat_lt, is_none, IsSome, List, [], ◌∷◌, ◌++◌, map, length, Option, Some, None, if◌then◌else◌}
+use Rattle.std.specs.Prelude.{◌≡◌, ◌≢◌, ◌≤◌, ℕ, Bool, false, ◌==◌, not, nat_lt, is_none, IsSome, List, [], ◌∷◌, ◌++◌, map, length, Option, Some, None, if◌then◌else◌}
 use Rattle.std.specs.List.{list_any}
 use Rattle.std.specs.Option.{option_map_or}
 use Rattle.fw_names.specs.Name.{Campaign}
@@ -64,6 +64,17 @@ opening_rows book campaign image meters =
 abbrev pub opening_refusal : Contents → Campaign → List ℕ → List ℕ → Option BookError
 opening_refusal book campaign image meters = first_applying (opening_rows book campaign image meters)
 
+-- a campaign that a book opens, with this image and for these meters
+pub record Opens (book : Contents) (campaign : Campaign) (image meters : List ℕ) : Type 0 where
+  pub own : campaign.head ≡ book.head
+  pub serial_new : has_serial book campaign.serial ≡ false
+  pub image_begins : 1 ≤ length image
+  pub image_ends : length image ≤ max_image
+  pub meters_begin : 1 ≤ length meters
+  pub meters_end : length meters ≤ max_meters
+  pub meters_once : repeats meters ≡ false
+  pub meters_free : list_any (λ meter. is_busy book.campaigns meter) meters ≡ false
+
 -- what cancelling is refused for
 abbrev pub cancel_refusal : Contents → Campaign → Option BookError
 cancel_refusal book campaign = first_applying (
@@ -99,8 +110,9 @@ abbrev pub IsRefusal : Option BookError → BookError → Type 0
 IsRefusal (Some refusal) error = error ≡ refusal
 IsRefusal None error = error ≡ OutOfMemory
 
--- what bytes are refused for: they spell no book; or memory ran out, and they spell one
+-- What bytes are refused for: they spell no book; or memory ran out, and they spell one that has a campaign, since images and rows
+-- alone take memory.
 abbrev pub ReadRefused : List ℕ → BookError → Type 0
 ReadRefused bytes BadBook = (book : Contents) → ¬ SpellsBook bytes book
-ReadRefused bytes OutOfMemory = (book : Contents) × SpellsBook bytes book
+ReadRefused bytes OutOfMemory = (book : Contents) × SpellsBook bytes book × (book.campaigns ≢ [])
 ReadRefused bytes _ = ⊥

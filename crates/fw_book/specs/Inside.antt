@@ -1,12 +1,16 @@
--- For private clauses: when a book takes one campaign more.
-use Rattle.std.specs.Prelude.{◌≡◌, ℕ, Bool, false, ◌==◌, ◌&&◌, nat_lt, List, [], ◌∷◌, length, Option}
-use Rattle.std.specs.List.{list_any}
+-- For private clauses alone: when a book takes one campaign more, and what the parts of the reader give.
+use Rattle.std.specs.Prelude.{◌≡◌, ℕ, Bool, false, ◌==◌, ◌&&◌, nat_lt, List, [], ◌∷◌, length, Option, zero, suc, ◌*◌, ◌<◌, ◌≤◌, ◌^◌, ◌++◌, Some, None}
+use Rattle.std.specs.List.{list_any, AllByRecursion}
 use Rattle.fw_book.specs.declared.error.BookError.{BookError}
 use Rattle.fw_book.specs.declared.error.BookError.TheVariants.{NoMeters, TooManyMeters, MeterTwice, MeterBusy}
 use Rattle.fw_book.specs.declared.row.Row.{Row}
-use Rattle.fw_book.specs.Rows.{is_live, repeats}
-use Rattle.fw_book.specs.Contents.{Offered, Contents, max_meters, has_serial, is_busy, IsEntry}
+use Rattle.fw_book.specs.Rows.{is_live, repeats, meters_of}
+use Rattle.fw_book.specs.Contents.{Offered, Contents, max_meters, has_serial, is_busy, IsEntry, max_image, IsBook}
 use Rattle.fw_book.specs.Changes.{first_applying}
+use Rattle.std.specs.Int.{w16, w32, to_be_bytes, from_be_bytes}
+use Rattle.fw_book.specs.declared.row.RowState.{RowState}
+use Rattle.fw_book.specs.declared.row.RowState.TheVariants.{Live, Done, Failed, Cancelled}
+use Rattle.fw_book.specs.Format.{image_bytes, rows_bytes, counted_bytes, entry_bytes, entries_bytes, SpellsBook}
 
 -- whether a live row's meter is live in a campaign
 abbrev pub clashes : List (ℕ × Offered) → List Row → Bool
@@ -26,3 +30,92 @@ meters_refusal book meters = first_applying (
     ∷ (repeats meters, MeterTwice)
     ∷ (list_any (λ meter. is_busy book.campaigns meter) meters, MeterBusy)
     ∷ [])
+
+-- ---- reading
+
+-- 1 to 4,194,304 bytes
+pub record IsImage (image : List ℕ) : Type 0 where
+  pub begins : 1 ≤ length image
+  pub ends : length image ≤ max_image
+
+-- the numbers of the meters have four bytes
+abbrev pub MetersFit : List Row → Type 0
+MetersFit rows = AllByRecursion (λ meter. meter < 2 ^ 32) (meters_of rows)
+
+-- 1 to 256 rows, of which no two are of one meter
+pub record IsRows (rows : List Row) : Type 0 where
+  pub begins : 1 ≤ length rows
+  pub ends : length rows ≤ max_meters
+  pub fit : MetersFit rows
+  pub once : repeats (meters_of rows) ≡ false
+
+-- no so many rows stand there
+abbrev pub NoRows : ℕ → List ℕ → Type 0
+NoRows count bytes = (rows : List Row) (rest : List ℕ) → length rows ≡ count → MetersFit rows → ¬ (bytes ≡ rows_bytes rows ++ rest)
+
+-- no rows behind their number stand there
+abbrev pub NoCounted : List ℕ → Type 0
+NoCounted bytes = (rows : List Row) (rest : List ℕ) → IsRows rows → ¬ (bytes ≡ counted_bytes rows ++ rest)
+
+-- no campaign stands there
+abbrev pub NoEntry : List ℕ → Type 0
+NoEntry bytes = (entry : ℕ × Offered) (rest : List ℕ) → IsEntry entry → ¬ (bytes ≡ entry_bytes entry ++ rest)
+
+-- the state that a number stands for, if it stands for one
+abbrev pub state_of_number : ℕ → Option RowState
+state_of_number zero = Some Live
+state_of_number (suc zero) = Some Done
+state_of_number (suc (suc zero)) = Some Failed
+state_of_number (suc (suc (suc zero))) = Some Cancelled
+state_of_number (suc (suc (suc (suc n)))) = None
+
+-- a row in front of the others, if it has a state
+abbrev pub row_before : ℕ → Option RowState → List Row → List Row
+row_before meter (Some state) rows = record { meter = meter; state = state } ∷ rows
+row_before meter None rows = []
+
+-- the rows that stand there one behind the other
+abbrev pub rows_in : List ℕ → List Row
+rows_in (a ∷ b ∷ c ∷ d ∷ state ∷ rest) = row_before (from_be_bytes w32 (a ∷ b ∷ c ∷ d ∷ [])) (state_of_number state) (rows_in rest)
+rows_in _ = []
+
+-- a campaign whose image and rows stand in these bytes
+abbrev pub entry_in : ℕ → List ℕ → List ℕ → ℕ × Offered
+entry_in serial image rows = (serial, record { image = image; rows = rows_in rows })
+
+-- rows behind their number, of which none was looked at
+pub record SkimsRows (bytes rows rest : List ℕ) : Type 0 where
+  pub count : ℕ
+  pub fits : count < 2 ^ 16
+  pub size : length rows ≡ 5 * count
+  pub spelled : bytes ≡ to_be_bytes w16 count ++ (rows ++ rest)
+
+-- a campaign of whose rows none was looked at
+pub record Skims (bytes : List ℕ) (serial : ℕ) (image rows rest : List ℕ) : Type 0 where
+  pub serial_fits : serial < 2 ^ 32
+  pub is_image : IsImage image
+  pub behind : List ℕ
+  pub of_rows : SkimsRows behind rows rest
+  pub spelled : bytes ≡ to_be_bytes w32 serial ++ (image_bytes image ++ behind)
+
+-- the bytes are those of these campaigns
+pub record AreEntries (bytes : List ℕ) (entries : List (ℕ × Offered)) : Type 0 where
+  pub spelled : bytes ≡ entries_bytes entries
+  pub fit : AllByRecursion (λ (entry : ℕ × Offered). IsEntry entry) entries
+
+-- the bytes are those of the campaigns of a book of this head end
+pub record Campaigns (head : ℕ) (bytes : List ℕ) : Type 0 where
+  pub campaigns : List (ℕ × Offered)
+  pub is_book : IsBook (record { head = head; campaigns = campaigns })
+  pub spelled : bytes ≡ entries_bytes campaigns
+
+-- no book of this head end has campaigns with these bytes
+abbrev pub NoCampaigns : ℕ → List ℕ → Type 0
+NoCampaigns head bytes = (campaigns : List (ℕ × Offered)) → IsBook (record { head = head; campaigns = campaigns }) → ¬ (bytes ≡ entries_bytes campaigns)
+
+-- the bytes are a book's, of this head end and with these bytes of its campaigns
+pub record Parts (bytes : List ℕ) (head : ℕ) (entries : List ℕ) : Type 0 where
+  pub book : Contents
+  pub spells : SpellsBook bytes book
+  pub of_head : book.head ≡ head
+  pub of_entries : AreEntries entries book.campaigns

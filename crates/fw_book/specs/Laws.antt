@@ -1,9 +1,9 @@
--- The laws of a book.
-use Rattle.std.specs.Prelude.{◌≡◌, ◌≢◌, ℕ, false, List, Some}
+-- Public vocabulary: the laws of a book.
+use Rattle.std.specs.Prelude.{◌≡◌, ◌≢◌, ◌↔◌, ℕ, false, List, Some, None}
 use Rattle.fw_names.specs.Name.{Campaign}
 use Rattle.fw_book.specs.declared.row.RowState.{RowState}
 use Rattle.fw_book.specs.Contents.{Contents, image_in, has_serial}
-use Rattle.fw_book.specs.Changes.{opened, marked, cancelled}
+use Rattle.fw_book.specs.Changes.{opened, marked, cancelled, opening_refusal, Opens}
 use Rattle.fw_book.specs.Format.{SpellsBook}
 
 -- a byte string spells at most one book
@@ -28,3 +28,7 @@ pub record AddsOne (before after : Contents) (campaign : Campaign) (image : List
 -- an opening adds the image under its campaign, where the serial number is new, and nothing else
 abbrev pub OpeningOffers : Type 0
 OpeningOffers = (book : Contents) (campaign : Campaign) (image meters : List ℕ) → campaign.head ≡ book.head → has_serial book campaign.serial ≡ false → AddsOne book (opened book campaign.serial image meters) campaign image
+
+-- nothing refuses an opening exactly where the book opens the campaign
+abbrev pub AdmittedOpens : Type 0
+AdmittedOpens = (book : Contents) (campaign : Campaign) (image meters : List ℕ) → (opening_refusal book campaign image meters ≡ None) ↔ Opens book campaign image meters

@@ -1,6 +1,6 @@
 //! Laws of a book, over the definitions alone.
 
-ghost use Rattle.fw_book.specs.Laws.{OneBook, ImagesStay, OpeningOffers};
+ghost use Rattle.fw_book.specs.Laws.{OneBook, ImagesStay, OpeningOffers, AdmittedOpens};
 
 /// A byte string spells at most one book.
 pub fn one_book()
@@ -16,4 +16,10 @@ pub fn images_stay()
 /// An opening adds its image under its campaign, and nothing else.
 pub fn opening_offers()
     ensures { OpeningOffers }
+{}
+
+/// An opening is refused for nothing exactly where the campaign is of the book's head end and its serial number is new, the image
+/// has 1 to 4,194,304 bytes, and the meters are 1 to 256, of which none stands twice and none is live in a campaign of the book.
+pub fn admitted_opens()
+    ensures { AdmittedOpens }
 {}

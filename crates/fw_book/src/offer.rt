@@ -40,7 +40,7 @@ impl Model for Offer {
 impl Offer {
     ghost use Rattle.fw_book.specs.Contents.{Offered};
 
-    // What a campaign offers, with a copy of the image.
+    /// What a campaign offers, with a copy of the image.
     pub(crate) fn new(alloc: Global, image: &[u8], rows: Vec<Row>) -> Result<Offer, BookError>
         ensures offer { IfOk result (λ offer. offer ≡ record { image = image.now; rows = rows.items }) }
         ensures memory { IfErr result (λ e. e ≡ BookError.OutOfMemory) }
@@ -102,14 +102,14 @@ impl Offer {
         self.rows.iter().any(|row| row.state.is_live())
     }
 
-    // Gives the meter's row this state.
+    /// Gives the meter's row this state.
     pub(crate) fn mark(&mut self, meter: MeterId, state: RowState)
         ensures { self.new ≡ record { image = self.old.image; rows = with_state meter state self.old.rows } }
     {
         mark_row(&mut self.rows, meter, state);
     }
 
-    // Cancels the rows that are live.
+    /// Cancels the rows that are live.
     pub(crate) fn cancel(&mut self)
         ensures { self.new ≡ record { image = self.old.image; rows = cancelled_rows self.old.rows } }
     {

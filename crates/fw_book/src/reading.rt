@@ -5,7 +5,7 @@ ghost use Rattle.std.specs.Int.{w16, w32, to_be_bytes};
 ghost use Rattle.fw_book.specs.declared.row.Row.{Row};
 ghost use Rattle.fw_book.specs.Format.{image_bytes, row_bytes, rows_bytes, counted_bytes, entry_bytes, head_bytes};
 ghost use Rattle.fw_book.specs.Contents.{IsEntry};
-ghost use Rattle.fw_book.specs.Reading.{IsImage, IsRows, MetersFit, NoRows, NoCounted, NoEntry, SkimsRows, Skims, rows_in, entry_in};
+ghost use Rattle.fw_book.specs.Inside.{IsImage, IsRows, MetersFit, NoRows, NoCounted, NoEntry, SkimsRows, Skims, rows_in, entry_in};
 
 use crate::offer::{MAX_IMAGE_SIZE, MAX_METERS};
 use crate::row::{Row, RowState};

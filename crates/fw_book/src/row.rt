@@ -39,7 +39,7 @@ impl RowState {
         }
     }
 
-    // The number that a book's bytes have for it.
+    /// The number that a book's bytes have for it.
     pub(crate) fn number(self) -> u8
         ensures { result ≡ state_number self }
     {
@@ -51,7 +51,7 @@ impl RowState {
         }
     }
 
-    // The state with this number, if there is one.
+    /// The state with this number, if there is one.
     pub(crate) fn from_number(number: u8) -> Option<RowState>
         ensures found { IfSome result (λ state. state_number state ≡ number) }
         ensures none { IfNone result (3 < number) }
@@ -91,7 +91,7 @@ fn cancelled_row(row: Row) -> Row
     }
 }
 
-// Gives the row of a meter this state.
+/// Gives the row of a meter this state.
 pub(crate) fn mark_row(rows: &mut [Row], meter: MeterId, state: RowState)
     ensures { rows.new ≡ with_state meter state rows.old }
 {
@@ -100,7 +100,7 @@ pub(crate) fn mark_row(rows: &mut [Row], meter: MeterId, state: RowState)
     }
 }
 
-// Cancels the rows that are live.
+/// Cancels the rows that are live.
 pub(crate) fn cancel_rows(rows: &mut [Row])
     ensures { rows.new ≡ cancelled_rows rows.old }
 {

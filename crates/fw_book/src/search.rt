@@ -6,9 +6,8 @@ ghost use Rattle.std.specs.Map.{lookup};
 ghost use Rattle.fw_book.specs.declared.row.Row.{Row};
 ghost use Rattle.fw_book.specs.Rows.{is_live_in, meters_of, repeats};
 ghost use Rattle.fw_book.specs.Contents.{Offered, Contents, is_busy};
-ghost use Rattle.fw_book.specs.Inside.{clashes};
+ghost use Rattle.fw_book.specs.Inside.{clashes, rows_in, AreEntries, Campaigns, NoCampaigns, Parts};
 ghost use Rattle.fw_book.specs.Format.{SpellsBook};
-ghost use Rattle.fw_book.specs.Reading.{rows_in, AreEntries, Campaigns, NoCampaigns, Parts};
 
 use crate::reading::{entry_at, head_at, row_at, skim};
 use fw_names::{HeadId, MeterId};

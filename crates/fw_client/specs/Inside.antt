@@ -1,21 +1,18 @@
 -- For private clauses alone: what the parts of a client find.
-use Rattle.std.specs.Prelude.{◌≡◌, ◌==◌, ℕ, List, length, Option, Some, None, if◌then◌else◌}
+use Rattle.std.specs.Prelude.{◌≡◌, ◌==◌, ℕ, suc, List, [], ◌∷◌, length, Option, Some, None, if◌then◌else◌}
 use Rattle.std.specs.Option.{option_and_then}
 use Rattle.fw_axdr.specs.Value.{Value, Values, structure, double_long_unsigned, octet_string, none, more}
 use Rattle.fw_apdu.specs.View.{response_content, response_invoke}
 use Rattle.fw_apdu.specs.Response.{ResponseContent}
 use Rattle.fw_apdu.specs.declared.response.Response.{Response}
-use Rattle.std.specs.FinMap.{get}
+use Rattle.std.specs.FinMap.{get, empty, insert}
 use Rattle.fw_names.specs.Name.{IsName}
 use Rattle.fw_client.specs.Ask.{Ask, initiate}
-use Rattle.fw_client.specs.State.{State, invoke_byte}
+use Rattle.fw_client.specs.State.{State, Asks, invoke_byte}
 use Rattle.fw_client.specs.Hearing.{CarriesResponse}
 use Rattle.fw_client.specs.Matching.{Matches}
 use Rattle.fw_client.specs.declared.ask.Asked.{Asked}
 use Rattle.fw_client.specs.declared.heard.Heard.{Heard}
-use Rattle.fw_client.specs.Matching as spec
-use Rattle.fw_client.specs.declared.ask.Service.{Service}
-use Rattle.fw_client.specs.declared.ask.Service.TheVariants as service
 
 -- the name in an ask has a spelling
 abbrev pub IsNamed : Ask → Type 0
@@ -32,17 +29,20 @@ abbrev pub IsResponseIn : List ℕ → Option Response → Type 0
 IsResponseIn datagram (Some r) = CarriesResponse datagram (response_invoke r) (response_content r)
 IsResponseIn datagram None = (invoke : ℕ) (content : ResponseContent) → CarriesResponse datagram invoke content → ⊥
 
-abbrev pub service_in : Service → spec.Service
-service_in service.Get = spec.get
-service_in service.Set = spec.set
-service_in service.Action = spec.action
-
 -- a response with this invoke byte answers the ask that is outstanding at this id, and this is heard by it
 pub record AnsweredBy (c : State) (invoke : ℕ) (content : ResponseContent) (id : ℕ) (heard : Heard) : Type 0 where
   pub asked : Asked
   pub outstanding : get c.asks id ≡ Some asked
   pub byte : invoke ≡ invoke_byte id
   pub matches : Matches c.meter asked content heard
+
+-- ---- outstanding asks
+
+-- the asks at the places of a list, the first of which is that of an id
+abbrev pub asks_from : ℕ → List (Option Asked) → Asks
+asks_from id [] = empty
+asks_from id (None ∷ rest) = asks_from (suc id) rest
+asks_from id (Some asked ∷ rest) = insert (asks_from (suc id) rest) id asked
 
 -- ---- the shape of image_to_activate_info
 

@@ -6,27 +6,24 @@ use Rattle.fw_names.specs.Name.{Name, SpellsName}
 use Rattle.fw_apdu.specs.Response.{value, code, ResponseContent, get_response, set_response, action_response}
 use Rattle.fw_client.specs.declared.ask.Asked.{Asked}
 use Rattle.fw_client.specs.declared.ask.Asked.TheVariants as asked
+use Rattle.fw_client.specs.declared.ask.Service.{Service}
+use Rattle.fw_client.specs.declared.ask.Service.TheVariants.{Get, Set, Action}
 use Rattle.fw_client.specs.declared.heard.Heard.{Heard}
 use Rattle.fw_client.specs.declared.heard.Heard.TheVariants as heard
 
--- the service of an ask
-pub data Service : Type 0 where
-  get : Service
-  set : Service
-  action : Service
-
+-- the service by which it is asked, and by which it is answered
 abbrev pub service_of : Asked → Service
-service_of asked.BlockSize = get
-service_of asked.FirstMissing = get
-service_of asked.Blocks = get
-service_of asked.Status = get
-service_of asked.Info = get
-service_of asked.ActiveName = get
-service_of asked.Enable = set
-service_of asked.Initiate = action
-service_of (asked.Block number) = action
-service_of asked.Verify = action
-service_of asked.Activate = action
+service_of asked.BlockSize = Get
+service_of asked.FirstMissing = Get
+service_of asked.Blocks = Get
+service_of asked.Status = Get
+service_of asked.Info = Get
+service_of asked.ActiveName = Get
+service_of asked.Enable = Set
+service_of asked.Initiate = Action
+service_of (asked.Block number) = Action
+service_of asked.Verify = Action
+service_of asked.Activate = Action
 
 -- ---- the values of attributes
 
@@ -93,6 +90,6 @@ IsCode service a c h = (service_of a ≡ service) × (h ≡ heard.Code a c)
 -- value; one answered by a code, and each SET and ACTION, is heard by its code. What an ACTION returns beside is ignored (own).
 abbrev pub Matches : ℕ → Asked → ResponseContent → Heard → Type 0
 Matches meter a (get_response (value v)) h = IsValue meter a v h
-Matches meter a (get_response (code c)) h = IsCode get a c h
-Matches meter a (set_response c) h = IsCode set a c h
-Matches meter a (action_response c returned) h = IsCode action a c h
+Matches meter a (get_response (code c)) h = IsCode Get a c h
+Matches meter a (set_response c) h = IsCode Set a c h
+Matches meter a (action_response c returned) h = IsCode Action a c h

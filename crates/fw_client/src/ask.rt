@@ -4,7 +4,6 @@ ghost use Rattle.std.specs.Prelude.{◌≡◌};
 ghost use Rattle.fw_client.specs.Ask.{kind_of};
 ghost use Rattle.fw_client.specs.Matching.{service_of};
 ghost use Rattle.fw_client.specs.View.{ask_of};
-ghost use Rattle.fw_client.specs.Inside.{service_in};
 
 use fw_names::ImageName;
 
@@ -54,7 +53,7 @@ pub enum Asked {
 }
 
 impl Ask<'_> {
-    // The kind of the ask, which is kept until its answer comes.
+    /// The kind of the ask, which is kept until its answer comes.
     pub(crate) fn kind(&self) -> Asked
         ensures { result ≡ kind_of (ask_of self.now) }
     {
@@ -83,9 +82,9 @@ pub(crate) enum Service {
 }
 
 impl Asked {
-    // The service by which it is asked, and by which it is answered.
+    /// The service by which it is asked, and by which it is answered.
     pub(crate) fn service(self) -> Service
-        ensures { service_in result ≡ service_of self }
+        ensures { result ≡ service_of self }
     {
         match self {
             Asked::BlockSize

@@ -25,7 +25,7 @@ impl Model for ActiveClaim {
 }
 
 impl ActiveClaim {
-    // The claim of a meter.
+    /// The claim of a meter.
     pub(crate) fn new(meter: MeterId, name: ImageName) -> ActiveClaim
         ensures { result ≡ record { meter = meter; name = name } }
     {

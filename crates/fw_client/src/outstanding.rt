@@ -26,7 +26,7 @@ impl Model for Outstanding {
 
     ghost coded = { Prim.hlevel (codes, code) };
 
-    ghost use Rattle.fw_client.specs.View.{asks_from};
+    ghost use Rattle.fw_client.specs.Inside.{asks_from};
 
     ghost view = { λ o. asks_from 0 o.places };
 
@@ -35,7 +35,7 @@ impl Model for Outstanding {
 }
 
 impl Outstanding {
-    // Nothing is outstanding.
+    /// Nothing is outstanding.
     pub(crate) fn none() -> Outstanding
         ensures { result ≡ empty }
     {
@@ -51,7 +51,7 @@ impl Outstanding {
         }
     }
 
-    // What is outstanding at this id.
+    /// What is outstanding at this id.
     #[tactic(auto, using(crate::proofs::Places::get_asks))]
     pub(crate) fn at(&self, id: u8) -> Option<Asked>
         ensures asked { result ≡ get self.now id }
@@ -64,7 +64,7 @@ impl Outstanding {
         }
     }
 
-    // The ask is outstanding at this id, in place of any other.
+    /// The ask is outstanding at this id, in place of any other.
     #[tactic(auto, using(crate::proofs::Places::asks_put))]
     pub(crate) fn put(&mut self, id: u8, asked: Asked)
         requires { id < 16 }
@@ -73,7 +73,7 @@ impl Outstanding {
         self.places[usize::from(id)] = Some(asked);
     }
 
-    // Nothing is outstanding at this id.
+    /// Nothing is outstanding at this id.
     #[tactic(auto, using(crate::proofs::Places::asks_out))]
     pub(crate) fn take_out(&mut self, id: u8)
         requires { id < 16 }

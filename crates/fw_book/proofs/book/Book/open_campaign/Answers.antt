@@ -1,6 +1,6 @@
 use Rattle.std.proofs.Common.{◌≡◌, map}
 use Rattle.fw_book.specs.Rows.{live_row}
-use Rattle.fw_book.proofs.Books.{opening_admits}
+use Rattle.fw_book.proofs.Openings.{opening_admits}
 use Rattle.fw_book.proofs.book.Book.open_campaign.Goals as goal
 
 pub add-requires : goal.add-requires

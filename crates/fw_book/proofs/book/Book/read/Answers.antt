@@ -4,8 +4,7 @@ use Rattle.fw_book.specs.declared.row.Row.{Row}
 use Rattle.fw_book.specs.Contents.{Offered, Contents, IsBook}
 use Rattle.fw_book.specs.Changes.{added}
 use Rattle.fw_book.specs.Format.{SpellsBook}
-use Rattle.fw_book.specs.Inside.{Admits}
-use Rattle.fw_book.specs.Reading.{entry_in}
+use Rattle.fw_book.specs.Inside.{Admits, entry_in}
 use Rattle.fw_book.proofs.Spellings.{same_book}
 use Rattle.fw_book.proofs.Parts.{next_admitted}
 use Rattle.fw_book.proofs.Walks.{first_left, none_left}
