@@ -4,7 +4,7 @@ use Rattle.std.proofs.lemmas.List.{length-append, length-take, take-append-drop,
 use Rattle.std.proofs.lemmas.Bool.{cases_lt}
 use Rattle.std.proofs.lemmas.Grind.{flat_map-append}
 use Rattle.std.proofs.Math.Seq.{take-append-add, set-append_seam, take-length, drop-cons}
-use Rattle.std.specs.Prelude.{slice_get}
+use Rattle.std.specs.Prelude.{slice_get, All}
 use Rattle.std.proofs.lemmas.Option.{slice_get-get_or}
 use Rattle.fw_axdr.specs.Bits.{bit, byte_bits, bits, bytes_for, byte_of, packed_into, packed}
 use Rattle.fw_axdr.specs.Clearing.{Keeps}
@@ -188,13 +188,24 @@ keeps_cut bytes n fits len ne =
     let written : set bytes last cut ≡ front ++ cut ∷ [] = ap (λ (x : List ℕ). set x last cut) whole ∙ ap (λ (i : ℕ). set (front ++ y ∷ []) i cut) (sym front_len) ∙ set-append_seam front y [] cut in
     subst (λ (x : List ℕ). Keeps n bytes x) (sym written) (subst (λ (x : List ℕ). Keeps n x (front ++ cut ∷ [])) (sym whole) k)
 
+-- whole bytes are those of their bits
+pub packed_bytes : (bytes : List ℕ) → IsBytes bytes → packed (bits bytes) ≡ bytes
+packed_bytes bytes fits =
+    let room : bytes_for (length (bits bytes)) ≡ length bytes + 0 = omega (arith, length_bits bytes) in
+    ap (λ (k : ℕ). packed_into k (bits bytes)) room ∙ ap (λ (x : List Bool). packed_into (length bytes + 0) x) (sym (append-nil (bits bytes))) ∙ packed_front bytes [] 0 fits ∙ append-nil bytes
+
+pub packed_whole : (bytes : List ℕ) → All (λ b. b < 256) bytes → packed (bits bytes) ≡ bytes
+packed_whole bytes fits =
+    packed_bytes bytes (λ i. elim (cases_lt i (length bytes)) as (λ _. get_or bytes i 0 < 256) [
+      | inl lt ↦ fits i 0 lt
+      | inr ge ↦ rw (get_or_past bytes i 0 ge) (omega arith)
+    ])
+
 pub keeps_whole : (bytes : List ℕ) (n : ℕ) → IsBytes bytes → length bytes ≡ bytes_for n → n % 8 ≡ 0 → Keeps n bytes bytes
 keeps_whole bytes n fits len e =
     let n-is : n ≡ length (bits bytes) = omega (arith, length_bits bytes) in
     let all : take n (bits bytes) ≡ bits bytes = ap (λ (k : ℕ). take k (bits bytes)) n-is ∙ take-length (bits bytes) in
-    let room : bytes_for (length (bits bytes)) ≡ length bytes + 0 = omega arith in
-    let packs : packed (bits bytes) ≡ bytes = ap (λ (k : ℕ). packed_into k (bits bytes)) room ∙ ap (λ (x : List Bool). packed_into (length bytes + 0) x) (sym (append-nil (bits bytes))) ∙ packed_front bytes [] 0 fits ∙ append-nil bytes in
-    record { same = refl; len = ap length all ∙ sym n-is; packs = sym (ap packed all ∙ packs) }
+    record { same = refl; len = ap length all ∙ sym n-is; packs = sym (ap packed all ∙ packed_bytes bytes fits) }
 
 -- the bit at a place, in its byte
 pub get_bits : (bytes : List ℕ) (i : ℕ) → i < 8 * length bytes → get_or (bits bytes) i false ≡ bit (get_or bytes (i / 8) 0) (2 ^ (7 - i % 8))

@@ -6,6 +6,7 @@ pub mod Loop
 pub mod Spellings
 pub mod Again
 pub mod Wants
+pub mod Judged
 pub mod Writes
 pub mod Shorts
 pub mod Faults

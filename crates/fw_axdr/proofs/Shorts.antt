@@ -72,7 +72,7 @@ eight a b c d e f g h =
     ap byte_bits whole
     ∙ rw (bit128 a b c d e f g h, bit64 a b c d e f g h, bit32 a b c d e f g h, bit16 a b c d e f g h, bit8 a b c d e f g h, bit4 a b c d e f g h, bit2 a b c d e f g h, bit1 a b c d e f g h) refl
 
-packed_bits : (n : ℕ) (bs : List Bool) → length bs ≤ 8 * n → take (length bs) (bits (packed_into n bs)) ≡ bs
+pub packed_bits : (n : ℕ) (bs : List Bool) → length bs ≤ 8 * n → take (length bs) (bits (packed_into n bs)) ≡ bs
 packed_bits n [] room = refl
 packed_bits zero (a ∷ bs) room = absurd (omega arith)
 packed_bits (suc n) (a ∷ []) room = ap (λ (l : List Bool). take 1 l) (eight a false false false false false false false)
@@ -85,7 +85,7 @@ packed_bits (suc n) (a ∷ b ∷ c ∷ d ∷ e ∷ f ∷ g ∷ []) room = ap (λ
 packed_bits (suc n) (a ∷ b ∷ c ∷ d ∷ e ∷ f ∷ g ∷ h ∷ rest) room =
     ap (λ (l : List Bool). l ++ take (length rest) (bits (packed_into n rest))) (eight a b c d e f g h) ∙ ap (λ (l : List Bool). (a ∷ b ∷ c ∷ d ∷ e ∷ f ∷ g ∷ h ∷ []) ++ l) (packed_bits n rest (omega arith))
 
-packed_len : (n : ℕ) (bs : List Bool) → length (packed_into n bs) ≡ n
+pub packed_len : (n : ℕ) (bs : List Bool) → length (packed_into n bs) ≡ n
 packed_len zero bs = refl
 packed_len (suc n) bs = ap suc (packed_len n (drop 8 bs))
 
@@ -108,20 +108,20 @@ signed_again w z h = sym (to_z-of_z w z h)
 
 -- ---- values
 
-within_none : (levels : ℕ) (o : Option AxdrError) → within levels o ≡ None → (1 ≤ levels) × (o ≡ None)
+pub within_none : (levels : ℕ) (o : Option AxdrError) → within levels o ≡ None → (1 ≤ levels) × (o ≡ None)
 within_none zero o e = absurd cc
 within_none (suc n) o e =
     let deep : eqb (suc n) 0 ≡ false = ne_eqb (suc n) 0 (λ z. omega arith) in
     (omega arith, let same : within (suc n) o ≡ o = rw deep refl in sym same ∙ e)
 
-counted_none : (n : ℕ) (o : Option AxdrError) → counted n o ≡ None → (n < 2 ^ 32) × (o ≡ None)
+pub counted_none : (n : ℕ) (o : Option AxdrError) → counted n o ≡ None → (n < 2 ^ 32) × (o ≡ None)
 counted_none n o e =
     elim (cases_lt n (2 ^ 32)) [
       | inl lt ↦ let same : counted n o ≡ o = rw (lt-ltb n (2 ^ 32) lt) refl in (lt, sym same ∙ e)
       | inr ge ↦ let bad : cond (ltb n (2 ^ 32)) o (Some BadLength) ≡ Some BadLength = rw (le-ltb n (2 ^ 32) ge) refl in absurd cc
     ]
 
-or_none : (a b : Option AxdrError) → option_or a b ≡ None → (a ≡ None) × (b ≡ None)
+pub or_none : (a b : Option AxdrError) → option_or a b ≡ None → (a ≡ None) × (b ≡ None)
 or_none None b e = (refl, e)
 or_none (Some f) b e = absurd cc
 

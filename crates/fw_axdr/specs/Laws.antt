@@ -1,6 +1,7 @@
 -- Public vocabulary: the laws of spellings. They speak of definitions alone, and of byte strings and values of any size.
-use Rattle.std.specs.Prelude.{◌≡◌, ℕ, ◌^◌, ◌<◌, List, ◌++◌, None, FitsSigned}
+use Rattle.std.specs.Prelude.{◌≡◌, ℕ, ◌^◌, ◌<◌, Bool, List, ◌++◌, length, take, All, None, FitsSigned}
 use Rattle.std.specs.Int.{w8, w16, w32, w64}
+use Rattle.fw_axdr.specs.Bits.{bits, bytes_for, packed}
 use Rattle.fw_axdr.specs.Value.{Value, Values, array, structure, double_long, double_long_unsigned, integer, long, unsigned, long_unsigned, long64, long64_unsigned, enumerated, none, more}
 use Rattle.fw_axdr.specs.Spelling.{IsData, NoneBegins, short}
 use Rattle.fw_axdr.specs.Fault.{Fails, unwritable}
@@ -38,3 +39,11 @@ OneSpelling = (levels : ℕ) (a b x y : List ℕ) (v w : Value) → a ++ x ≡ b
 -- a byte string that has a fault begins with no Data, and has no other fault
 abbrev pub OneFault : Type 0
 OneFault = (levels : ℕ) (s : List ℕ) (f g : AxdrError) → Fails levels s f → NoneBegins levels s × (Fails levels s g → f ≡ g)
+
+-- packed bits are as many bytes as the bits need, and the bits come back from them
+abbrev pub BitsPacked : Type 0
+BitsPacked = (bs : List Bool) → (length (packed bs) ≡ bytes_for (length bs)) × (take (length bs) (bits (packed bs)) ≡ bs)
+
+-- whole bytes come back from their bits
+abbrev pub BytesPacked : Type 0
+BytesPacked = (bytes : List ℕ) → All (λ b. b < 256) bytes → packed (bits bytes) ≡ bytes

@@ -12,6 +12,7 @@
 mod bits;
 mod data;
 mod error;
+mod judging;
 pub mod laws;
 mod octets;
 mod reader;
@@ -22,6 +23,7 @@ mod writing;
 pub use bits::Bits;
 pub use data::{Data, Items};
 pub use error::AxdrError;
+pub use judging::unwritable;
 pub use octets::Octets;
 pub use reading::read;
 pub use writing::write_to;

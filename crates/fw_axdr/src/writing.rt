@@ -4,20 +4,21 @@ ghost use Rattle.std.specs.Prelude.{◌≡◌, ◌<◌, ◌≤◌, ◌^◌, ◌�
 ghost use Rattle.fw_axdr.specs.Value.{count};
 ghost use Rattle.fw_axdr.specs.View.{value_of, values_of};
 ghost use Rattle.fw_axdr.specs.Spelling.{IsData, max_depth, short, shorts, short_length};
-ghost use Rattle.fw_axdr.specs.Fault.{IfFault, unwritable, first_unwritable, counted};
+ghost use Rattle.fw_axdr.specs.Fault.{IfFault, IfMemory, unwritable, first_unwritable, counted};
 ghost use Rattle.fw_axdr.specs.Laws.{HasNumbers, HaveNumbers};
 ghost use Rattle.fw_axdr.specs.Tag.{code};
 ghost use Rattle.fw_axdr.specs.Writing.{Begins};
 
 use crate::data::{Data, Items, MAX_DEPTH};
 use crate::error::AxdrError;
+use crate::judging::unwritable;
 use crate::tag::Tag;
+use std::alloc::AllocError;
 
 /// Appends a length in its shortest form.
-fn put_length(out: &mut Vec<u8>, n: u32) -> Result<(), AxdrError>
+fn put_length(out: &mut Vec<u8>, n: u32) -> Result<(), AllocError>
     ensures ok { OnOk result (out.new.items ≡ out.old.items ++ short_length n) }
     ensures err { OnErr result (out.new.items ≡ out.old.items) }
-    ensures memory { IfErr result (λ e. e ≡ AxdrError.OutOfMemory) }
 {
     let [a, b, c, d] = n.to_be_bytes();
     if n < 0x80 {
@@ -35,10 +36,9 @@ fn put_length(out: &mut Vec<u8>, n: u32) -> Result<(), AxdrError>
 }
 
 /// Appends a tag and the bytes behind it.
-fn put_bytes(out: &mut Vec<u8>, tag: Tag, bytes: &[u8]) -> Result<(), AxdrError>
+fn put_bytes(out: &mut Vec<u8>, tag: Tag, bytes: &[u8]) -> Result<(), AllocError>
     ensures ok { OnOk result (out.new.items ≡ out.old.items ++ code tag ∷ bytes.now) }
     ensures front { Begins out.old.items out.new.items }
-    ensures memory { IfErr result (λ e. e ≡ AxdrError.OutOfMemory) }
 {
     out.push(tag.byte())?;
     out.extend_from_slice(bytes)?;
@@ -46,27 +46,21 @@ fn put_bytes(out: &mut Vec<u8>, tag: Tag, bytes: &[u8]) -> Result<(), AxdrError>
 }
 
 /// Appends a tag and a length.
-fn put_head(out: &mut Vec<u8>, tag: Tag, len: usize) -> Result<(), AxdrError>
+fn put_head(out: &mut Vec<u8>, tag: Tag, len: usize) -> Result<(), AllocError>
+    requires { len < 2 ^ 32 }
     ensures ok { OnOk result (out.new.items ≡ out.old.items ++ code tag ∷ short_length len) }
-    ensures fits { OnOk result (len < 2 ^ 32) }
     ensures front { Begins out.old.items out.new.items }
-    ensures fault { IfErr result (λ e. IfFault e ((2 ^ 32 ≤ len) × (e ≡ AxdrError.BadLength))) }
 {
-    let Ok(len) = u32::try_from(len) else {
-        return Err(AxdrError::BadLength);
-    };
     out.push(tag.byte())?;
-    put_length(out, len)?;
-    Ok(())
+    put_length(out, len as u32)
 }
 
 /// Appends a tag, a length and the bytes behind it.
-fn put_counted(out: &mut Vec<u8>, tag: Tag, len: usize, bytes: &[u8]) -> Result<(), AxdrError>
+fn put_counted(out: &mut Vec<u8>, tag: Tag, len: usize, bytes: &[u8]) -> Result<(), AllocError>
+    requires { len < 2 ^ 32 }
     ensures ok { OnOk result
         (out.new.items ≡ out.old.items ++ (code tag ∷ short_length len ++ bytes.now)) }
-    ensures fits { OnOk result (len < 2 ^ 32) }
     ensures front { Begins out.old.items out.new.items }
-    ensures fault { IfErr result (λ e. IfFault e ((2 ^ 32 ≤ len) × (e ≡ AxdrError.BadLength))) }
 {
     put_head(out, tag, len)?;
     out.extend_from_slice(bytes)?;
@@ -75,31 +69,25 @@ fn put_counted(out: &mut Vec<u8>, tag: Tag, len: usize, bytes: &[u8]) -> Result<
 
 /// Appends a tag, how many elements there are, and the elements.
 #[cycle(writing)]
-fn put_items(out: &mut Vec<u8>, tag: Tag, levels: u8, items: &Items) -> Result<(), AxdrError>
+fn put_items(out: &mut Vec<u8>, tag: Tag, levels: u8, items: &Items) -> Result<(), AllocError>
+    requires { counted (count items.now) (first_unwritable items.now levels) ≡ None }
     ensures ok { OnOk result
         (out.new.items ≡ out.old.items
         ++ (code tag ∷ short_length (count items.now) ++ shorts items.now)) }
     ensures numbers { OnOk result (HaveNumbers items.now) }
-    ensures fits { OnOk result
-        (counted (count items.now) (first_unwritable items.now levels) ≡ None) }
     ensures front { Begins out.old.items out.new.items }
-    ensures fault { IfErr result (λ e. IfFault e
-        (counted (count items.now) (first_unwritable items.now levels) ≡ Some e)) }
 {
     put_head(out, tag, items.len())?;
-    put_each(out, levels, items.as_slice())?;
-    Ok(())
+    put_each(out, levels, items.as_slice())
 }
 
 /// Appends one element after another.
 #[cycle(writing)]
-fn put_each(out: &mut Vec<u8>, levels: u8, items: &[Data]) -> Result<(), AxdrError>
+fn put_each(out: &mut Vec<u8>, levels: u8, items: &[Data]) -> Result<(), AllocError>
+    requires { first_unwritable (values_of items.now) levels ≡ None }
     ensures ok { OnOk result (out.new.items ≡ out.old.items ++ shorts (values_of items.now)) }
     ensures numbers { OnOk result (HaveNumbers (values_of items.now)) }
-    ensures fits { OnOk result (first_unwritable (values_of items.now) levels ≡ None) }
     ensures front { Begins out.old.items out.new.items }
-    ensures fault { IfErr result (λ e. IfFault e
-        (first_unwritable (values_of items.now) levels ≡ Some e)) }
 {
     for item in items {
         put_data(out, levels, item)?;
@@ -107,19 +95,15 @@ fn put_each(out: &mut Vec<u8>, levels: u8, items: &[Data]) -> Result<(), AxdrErr
     Ok(())
 }
 
-/// Appends a Data for which so many levels are left; after an `Err`, maybe a front of it.
+/// Appends a Data that can be written where so many levels are left; after an `Err`, maybe a front
+/// of it.
 #[cycle(writing)]
-fn put_data(out: &mut Vec<u8>, levels: u8, value: &Data) -> Result<(), AxdrError>
+fn put_data(out: &mut Vec<u8>, levels: u8, value: &Data) -> Result<(), AllocError>
+    requires { unwritable (value_of value.now) levels ≡ None }
     ensures ok { OnOk result (out.new.items ≡ out.old.items ++ short (value_of value.now)) }
     ensures numbers { OnOk result (HasNumbers (value_of value.now)) }
-    ensures fits { OnOk result (unwritable (value_of value.now) levels ≡ None) }
     ensures front { Begins out.old.items out.new.items }
-    ensures fault { IfErr result (λ e. IfFault e
-        (unwritable (value_of value.now) levels ≡ Some e)) }
 {
-    if levels == 0 {
-        return Err(AxdrError::TooDeep);
-    }
     match value {
         Data::Null => put_bytes(out, Tag::Null, &[]),
         Data::Array(items) => put_items(out, Tag::Array, levels - 1, items),
@@ -149,7 +133,8 @@ fn put_data(out: &mut Vec<u8>, levels: u8, value: &Data) -> Result<(), AxdrError
 /// - `TooDeep`: a part would have depth 9 (own rule of this profile).
 /// - `OutOfMemory`: `out` couldn't grow.
 ///
-/// Of the first two the one further left in the order of writing is given.
+/// Of the first two the one further left in the order of writing is given, before any memory is
+/// wanted.
 pub fn write_to(value: &Data, out: &mut Vec<u8>) -> Result<(), AxdrError>
     ensures ok { OnOk result (out.new.items ≡ out.old.items ++ short (value_of value.now)) }
     // What was appended is a Data that spells the value.
@@ -160,11 +145,20 @@ pub fn write_to(value: &Data, out: &mut Vec<u8>) -> Result<(), AxdrError>
     ensures err { OnErr result (out.new.items ≡ out.old.items) }
     ensures fault { IfErr result (λ e. IfFault e
         (unwritable (value_of value.now) max_depth ≡ Some e)) }
+
+    // Memory is wanted only for a value that can be written.
+    ensures memory { IfErr result (λ e. IfMemory e
+        (unwritable (value_of value.now) max_depth ≡ None)) }
 {
-    let len = out.len();
-    let written = put_data(out, MAX_DEPTH, value);
-    if written.is_err() {
-        out.truncate(len);
+    if let Some(fault) = unwritable(value) {
+        return Err(fault);
     }
-    written
+    let len = out.len();
+    match put_data(out, MAX_DEPTH, value) {
+        Ok(()) => Ok(()),
+        Err(AllocError) => {
+            out.truncate(len);
+            Err(AxdrError::OutOfMemory)
+        }
+    }
 }

@@ -1,4 +1,4 @@
-use Rattle.std.proofs.Common.{◌≡◌, ◌≤◌, length, subst, arith}
+use Rattle.std.proofs.Common.{◌≡◌, ◌≤◌, length, arith}
 use Rattle.std.proofs.lemmas.Result.{err_from_is_err_and}
 use Rattle.fw_axdr.specs.Bits.{bytes_for}
 use Rattle.fw_axdr.proofs.Wants.{counted_takes, bytes_there}
