@@ -284,7 +284,7 @@ impl Book {
         Ok(())
     }
 
-    /// The bytes of the book: it has one spelling.
+    /// The bytes of the book: it has one spelling. Memory is taken for every book.
     ///
     /// # Errors
     ///
@@ -306,7 +306,7 @@ impl Book {
     ///
     /// # Errors
     ///
-    /// `BadBook` where they spell none. Otherwise `OutOfMemory` alone.
+    /// `BadBook` where they spell none. Otherwise `OutOfMemory` alone, and only for a book that has a campaign.
     pub fn read(alloc: Global, bytes: &[u8]) -> Result<Book, BookError>
         ensures found { IfOk result (SpellsBook bytes.now) }
 
