@@ -108,11 +108,14 @@ blocks_kept b i n marks bytes after unmarked elsewhere =
 has_mark : (i n : ℕ) (mark : Bool) (c : List ℕ) → i < n → is_some (cond (nat_lt i n && mark) (Some c) None) ≡ mark
 has_mark i n mark c below = grind (arith, nat_tests)
 
+-- a block below the count is there where it is marked
+pub is_some-get : (b : ℕ) (marks : List Bool) (bytes : List ℕ) (count n : ℕ) → n < count → is_some (get (blocks_below b marks bytes count) n) ≡ has marks n
+is_some-get b marks bytes count n below = ap is_some (get-blocks b marks bytes count n) ∙ has_mark n count (has marks n) (cut b bytes n) below
+
 marks_below : (b : ℕ) (marks : List Bool) (bytes : List ℕ) (count n : ℕ) → n ≤ count → count ≤ length marks → marks_of (blocks_below b marks bytes count) n ≡ take n marks
 marks_below b marks bytes count zero within fits = refl
 marks_below b marks bytes count (suc n) within fits =
-    let there : is_some (get (blocks_below b marks bytes count) n) ≡ has marks n =
-    ap is_some (get-blocks b marks bytes count n) ∙ has_mark n count (has marks n) (cut b bytes n) (omega arith) in
+    let there = is_some-get b marks bytes count n (omega arith) in
     rw (marks_below b marks bytes count n (omega arith) fits, there) (sym (take-suc marks n false (omega arith)))
 
 pub marks_again : (b : ℕ) (marks : List Bool) (bytes : List ℕ) (count : ℕ) → count ≤ length marks → marks_of (blocks_below b marks bytes count) count ≡ take count marks

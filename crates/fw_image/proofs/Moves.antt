@@ -1,5 +1,5 @@
 -- Writes of a header are the steps of a meter.
-use Rattle.std.proofs.Common.{◌≡◌, ◌≢◌, ℕ, ◌<◌, Bool, true, false, IsTrue, List, length, take, Some, None, Option, cond, ◌↔◌, refl, sym, ap, subst, ◌∙◌, arith, ◌⊎◌, inl, inr}
+use Rattle.std.proofs.Common.{◌≡◌, ◌≢◌, ℕ, ◌+◌, ◌<◌, Bool, true, false, IsTrue, List, length, take, Some, None, Option, cond, ◌↔◌, refl, sym, ap, subst, ◌∙◌, arith, ◌⊎◌, inl, inr}
 use Rattle.fw_blocks.specs.Cuts.{block_count}
 use Rattle.fw_blocks.specs.Members.{has}
 use Rattle.fw_blocks.specs.Laws.{CutsJoin}
@@ -8,7 +8,7 @@ use Rattle.std.specs.Prelude.{IfSome, is_some, Result, Ok, Err, IsErrAnd}
 use Rattle.fw_image.specs.Moves.{outcome_of}
 use Rattle.fw_names.specs.Name.{Name, Campaign}
 use Rattle.fw_store.specs.Device.{Device, slot_bytes, with_head}
-use Rattle.fw_store.specs.Faults.{Keeps, count_after}
+use Rattle.fw_store.specs.Faults.{Keeps, count_after, Spends}
 use Rattle.fw_store.specs.Slot.{other}
 use Rattle.fw_store.specs.Layout.{header_bytes}
 use Rattle.fw_store.specs.Header.{IsHeader, IsGoal, FieldsFit, goal_count, has_goal, is_verified}
@@ -24,6 +24,8 @@ use Rattle.fw_image.specs.Step.{Operation, Outcome, done, refused, Refuses, Serv
 use Rattle.fw_image.specs.declared.error.Refusal.{Refusal}
 use Rattle.fw_image.specs.declared.error.Refusal.TheVariants.{Disabled, Fault, Missing, Differs}
 use Rattle.fw_image.specs.State.{Makes}
+use Rattle.fw_image.specs.Calls.{goal_size, calls_for}
+use Rattle.fw_verify.specs.Pieces.{piece_count}
 use Rattle.fw_image.specs.Stored.{phase_of, meter_of, seen, state_of, IsHeld}
 use Rattle.fw_image.proofs.Blocks.{blocks_none}
 use Rattle.fw_image.proofs.Meters.{SameSlots, headed, seen_headed, seen_size, seen_real, seen_same, whole_bytes, goal_again, status_again}
@@ -39,17 +41,6 @@ pub record Rewrites (honest : Bool) (capacity : ℕ) (device d d' : Device) : Ty
 
 pub keeps_twice : {S : Type 0} (t : Ghosts S) (a b c : S) → Keeps t.honest t.sound t.capacity t.faults a b → Keeps t.honest t.sound t.capacity t.faults b c → Keeps t.honest t.sound t.capacity t.faults a c
 keeps_twice t a b c k l = record { honesty = l.honesty ∙ k.honesty; soundness = λ s. l.soundness (k.soundness s); size = l.size ∙ k.size; later = omega (arith, k.later, l.later) }
-
--- an operation that a line refuses
-pub makes_refused : {S : Type 0} (t : Ghosts S) (s : S) (h : Header) (operation : Operation) (r : Refusal) → IsTrue (is_faultless (refused r))
-    → Refuses (meter_of (t.capacity s) h (seen (t.honest s) (t.capacity s) (t.device s))) operation r
-    → Makes (state_of t.honest t.sound t.capacity t.faults t.device s h) operation (refused r) (state_of t.honest t.sound t.capacity t.faults t.device s h)
-makes_refused t s h operation r faultless line = record {
-  step = inl (record { refusal = r; line = line; told = refl; same = record { shows = refl; is = λ _. refl } });
-  untouched = λ _ _. refl;
-  follows = record { honesty = refl; soundness = λ e. e; later = omega arith };
-  counts = record { counted = ap (λ (ok : Bool). count_after ok (t.faults s)) (sym faultless); never = λ _. faultless };
-}
 
 -- what the exit of a `?` tells
 pub fault_told : {T : Type 0} (r : Result T Refusal) → IsErrAnd r (λ e. e ≡ Fault) → outcome_of r ≡ refused Fault
@@ -69,45 +60,62 @@ served_only m (block i value) serves r line = method_only m (block i value) r se
 served_only m verify serves r line = method_only m verify r serves.0 serves.1 line
 served_only m activate serves r line = method_only m activate r serves.0 serves.1 line
 
+-- an operation that a line refuses
+pub makes_refused : {S : Type 0} (t : Ghosts S) (s : S) (h : Header) (operation : Operation) (r : Refusal) → IsTrue (is_faultless (refused r))
+    → Refuses (meter_of (t.capacity s) h (seen (t.honest s) (t.capacity s) (t.device s))) operation r
+    → Makes (state_of t.honest t.sound t.capacity t.faults t.calls_left t.device s h) operation (refused r) (state_of t.honest t.sound t.capacity t.faults t.calls_left t.device s h)
+makes_refused t s h operation r faultless line = record {
+  step = inl (record { refusal = r; line = line; told = refl; same = record { shows = refl; is = λ _. refl } });
+  untouched = λ _ _. refl;
+  follows = record { honesty = refl; soundness = λ e. e; later = omega arith };
+  counts = record { counted = ap (λ (ok : Bool). count_after ok (t.faults s)) (sym faultless); never = λ _. faultless };
+  spends = λ serves. absurd (served_only (meter_of (t.capacity s) h (seen (t.honest s) (t.capacity s) (t.device s))) operation serves r line);
+}
+
 -- an operation that is served
 pub makes_served : {S : Type 0} (t : Ghosts S) (s s' : S) (h h' : Header) (operation : Operation) (outcome : Outcome)
     → Keeps t.honest t.sound t.capacity t.faults s s' → t.faults s' ≡ count_after (is_faultless outcome) (t.faults s) → (IsTrue (t.sound s) → IsTrue (is_faultless outcome))
+    → Spends (calls_for (meter_of (t.capacity s) h (seen (t.honest s) (t.capacity s) (t.device s))) operation) (t.calls_left s) (t.calls_left s') (is_faultless outcome)
     → Serves (meter_of (t.capacity s) h (seen (t.honest s) (t.capacity s) (t.device s))) operation
     → Does (t.honest s) (meter_of (t.capacity s) h (seen (t.honest s) (t.capacity s) (t.device s))) operation outcome (meter_of (t.capacity s) h' (seen (t.honest s) (t.capacity s) (t.device s')))
-    → Makes (state_of t.honest t.sound t.capacity t.faults t.device s h) operation outcome (state_of t.honest t.sound t.capacity t.faults t.device s' h')
-makes_served t s s' h h' operation outcome kept counted never serves does = record {
+    → Makes (state_of t.honest t.sound t.capacity t.faults t.calls_left t.device s h) operation outcome (state_of t.honest t.sound t.capacity t.faults t.calls_left t.device s' h')
+makes_served t s s' h h' operation outcome kept counted never spends serves does = record {
   step = inr (record { serves = serves; does = rw (kept.honesty, kept.size) does });
   untouched = λ r line. absurd (served_only (meter_of (t.capacity s) h (seen (t.honest s) (t.capacity s) (t.device s))) operation serves r line);
   follows = record { honesty = kept.honesty; soundness = kept.soundness; later = kept.later };
   counts = record { counted = counted; never = never };
+  spends = λ _. spends;
 }
 
 -- one whose store call failed and left the device as it was
 pub makes_failed : {S : Type 0} (t : Ghosts S) (s s' : S) (h : Header) (operation : Operation)
     → Keeps t.honest t.sound t.capacity t.faults s s' → (IsTrue (t.honest s) → t.device s' ≡ t.device s) → t.faults s' ≡ count_after false (t.faults s) → (IsTrue (t.sound s) → IsTrue false)
+    → Spends (calls_for (meter_of (t.capacity s) h (seen (t.honest s) (t.capacity s) (t.device s))) operation) (t.calls_left s) (t.calls_left s') false
     → Serves (meter_of (t.capacity s) h (seen (t.honest s) (t.capacity s) (t.device s))) operation
     → ((m m' : Meter) → Leaves (t.honest s) m m' → Does (t.honest s) m operation (refused Fault) m')
-    → Makes (state_of t.honest t.sound t.capacity t.faults t.device s h) operation (refused Fault) (state_of t.honest t.sound t.capacity t.faults t.device s' h)
-makes_failed t s s' h operation kept same counted never serves does =
+    → Makes (state_of t.honest t.sound t.capacity t.faults t.calls_left t.device s h) operation (refused Fault) (state_of t.honest t.sound t.capacity t.faults t.calls_left t.device s' h)
+makes_failed t s s' h operation kept same counted never spends serves does =
     let d = seen (t.honest s) (t.capacity s) (t.device s) in
     let e : seen (t.honest s) (t.capacity s) (t.device s') ≡ d = seen_same (t.honest s) (t.capacity s) (t.device s) (t.device s') same in
-    makes_served t s s' h h operation (refused Fault) kept counted never serves
+    makes_served t s s' h h operation (refused Fault) kept counted never spends serves
     (does (meter_of (t.capacity s) h d) _ (leaves (t.honest s) (meter_of (t.capacity s) h d) _ (ap (meter_of (t.capacity s) h) e)))
 
 -- one that writes the header, once
 pub makes_written : {S : Type 0} (t : Ghosts S) (s s' : S) (h h' : Header) (operation : Operation) (outcome : Outcome) → IsTrue (is_faultless outcome)
     → ((slot : Slot) → IsTrue (t.honest s) → length (slot_bytes (t.device s) slot) ≡ t.capacity s)
     → Keeps t.honest t.sound t.capacity t.faults s s' → t.faults s' ≡ t.faults s → (IsTrue (t.honest s) → t.device s' ≡ with_head (t.device s) (header_bytes h'))
+    → Spends (calls_for (meter_of (t.capacity s) h (seen (t.honest s) (t.capacity s) (t.device s))) operation) (t.calls_left s) (t.calls_left s') true
     → Serves (meter_of (t.capacity s) h (seen (t.honest s) (t.capacity s) (t.device s))) operation
     → ((d d' : Device) → Rewrites (t.honest s) (t.capacity s) (t.device s) d d' → Does (t.honest s) (meter_of (t.capacity s) h d) operation outcome (meter_of (t.capacity s) h' d'))
-    → Makes (state_of t.honest t.sound t.capacity t.faults t.device s h) operation outcome (state_of t.honest t.sound t.capacity t.faults t.device s' h')
-makes_written t s s' h h' operation outcome faultless sized kept uncounted written serves does =
+    → Makes (state_of t.honest t.sound t.capacity t.faults t.calls_left t.device s h) operation outcome (state_of t.honest t.sound t.capacity t.faults t.calls_left t.device s' h')
+makes_written t s s' h h' operation outcome faultless sized kept uncounted written spends serves does =
     let views : Rewrites (t.honest s) (t.capacity s) (t.device s) (seen (t.honest s) (t.capacity s) (t.device s)) (seen (t.honest s) (t.capacity s) (t.device s')) = record {
       sized = seen_size (t.honest s) (t.capacity s) (t.device s) sized;
       same = seen_headed (t.honest s) (t.capacity s) (t.device s) (t.device s') (header_bytes h') written;
       real = seen_real (t.honest s) (t.capacity s) (t.device s);
     } in
-    makes_served t s s' h h' operation outcome kept (uncounted ∙ ap (λ (ok : Bool). count_after ok (t.faults s)) (sym faultless)) (λ _. faultless) serves (does (seen (t.honest s) (t.capacity s) (t.device s)) (seen (t.honest s) (t.capacity s) (t.device s')) views)
+    makes_served t s s' h h' operation outcome kept (uncounted ∙ ap (λ (ok : Bool). count_after ok (t.faults s)) (sym faultless)) (λ _. faultless)
+    (subst (λ (ok : Bool). Spends (calls_for (meter_of (t.capacity s) h (seen (t.honest s) (t.capacity s) (t.device s))) operation) (t.calls_left s) (t.calls_left s') ok) (sym faultless) spends) serves (does (seen (t.honest s) (t.capacity s) (t.device s)) (seen (t.honest s) (t.capacity s) (t.device s')) views)
 
 -- the header that was written stands in the store
 pub held_written : {S : Type 0} (t : Ghosts S) (s s' : S) (h h' : Header)
@@ -281,6 +289,9 @@ pub served_verify : (m : Meter) (goal : Goal) (bytes : List ℕ) → m.enabled �
 served_verify m goal bytes on phase whole =
     let admits : Admits m (receiving goal) verify = (bytes, whole) in
     (on, subst (λ (p : Phase). Admits m p verify) (sym phase) admits)
+
+pub calls_verify : (m : Meter) (goal : Goal) → m.phase ≡ receiving goal → calls_for m verify ≡ piece_count goal.size + 1
+calls_verify m goal phase = ap (λ (p : Phase). piece_count (goal_size (goal_of p)) + 1) phase
 
 pub refused_verify : (m : Meter) (goal : Goal) → m.enabled ≡ true → m.phase ≡ receiving goal → goal_bytes m ≡ None → Refuses m verify Missing
 refused_verify m goal on phase none =

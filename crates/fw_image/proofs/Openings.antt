@@ -1,13 +1,13 @@
 -- What a store is opened as, and what is shown of it.
-use Rattle.std.proofs.Common.{◌≡◌, ℕ, ◌+◌, ◌-◌, ◌<◌, ◌≤◌, ◌↔◌, Bool, true, false, IsTrue, List, ◌++◌, length, take, drop, replicate, Some, None, Option, refl, sym, ap, subst, ◌∙◌, arith}
+use Rattle.std.proofs.Common.{◌≡◌, ℕ, ◌+◌, ◌-◌, ◌<◌, ◌≤◌, ◌↔◌, Bool, true, false, IsTrue, List, ◌++◌, length, take, drop, replicate, Some, None, Option, refl, sym, ap, subst, ◌∙◌, arith, ◌⊎◌}
 use Rattle.std.proofs.lemmas.List.{length-take-le, length-drop, length-replicate, take-append-drop, ext_get_or, get_or-drop, get_or-replicate}
 use Rattle.sha2.specs.Sha256.{sha256}
 use Rattle.fw_blocks.specs.Cuts.{max_blocks}
 use Rattle.fw_blocks.specs.Members.{has}
 use Rattle.fw_blocks.specs.Laws.{CutsJoin}
-use Rattle.std.specs.Prelude.{IfSome}
+use Rattle.std.specs.Prelude.{IfSome, IfErr, IsErrAnd, Result, Ok, Err}
 use Rattle.fw_store.specs.Device.{Device, slot_bytes}
-use Rattle.fw_store.specs.Faults.{Keeps}
+use Rattle.fw_store.specs.Faults.{Keeps, Spends, count_after}
 use Rattle.fw_store.specs.Slot.{other}
 use Rattle.fw_store.specs.Layout.{header_bytes}
 use Rattle.fw_store.specs.Header.{IsHeader, IsGoal, goal_count}
@@ -18,6 +18,8 @@ use Rattle.fw_store.specs.declared.header.Header.{Header}
 use Rattle.fw_store.specs.declared.header.Goal.{Goal}
 use Rattle.fw_store.specs.declared.header.TransferStatus.TheVariants.{VerificationSuccessful}
 use Rattle.fw_image.specs.Meter.{Meter, IsTrusted, status_of, goal_of, goal_bytes}
+use Rattle.fw_image.specs.Calls.{opening_calls}
+use Rattle.fw_verify.specs.Pieces.{piece_count}
 use Rattle.fw_image.specs.Shown.{all_marks}
 use Rattle.fw_image.specs.Stored.{phase_of, meter_of, seen, IsHeld, IsMeterOf, Refused}
 use Rattle.fw_image.specs.Moves.{IsVerifiedGenuine}
@@ -75,8 +77,10 @@ verified_iff cuts capacity h d goal is sized status there =
 
 pub refused_image : {S : Type 0} (t : Ghosts S) (s s' : S) (h : Header) → Keeps t.honest t.sound t.capacity t.faults s s' → (IsTrue (t.honest s) → t.device s' ≡ t.device s) → t.faults s' ≡ t.faults s → IsHeader (t.capacity s) h
     → (IsTrue (t.honest s) → header_bytes h ≡ (t.device s).head) → (IsTrue (t.honest s) → ¬ IsTrusted (meter_of (t.capacity s) h (t.device s)))
-    → Refused t.honest t.sound t.capacity t.faults t.device s BadImage s'
-refused_image t s s' h kept same uncounted valid spelled differs = record {
+    → (calls : ℕ) → Spends calls (t.calls_left s) (t.calls_left s') true
+    → (IsTrue (t.honest s) → let m = meter_of (t.capacity s) h (t.device s) in (calls ≡ 1 + piece_count (length m.running.bytes)) ⊎ (calls ≡ opening_calls m))
+    → Refused t.honest t.sound t.capacity t.faults t.calls_left t.device s BadImage s'
+refused_image t s s' h kept same uncounted valid spelled differs calls spends number = record {
   reason = λ b.
       let is : IsMeterOf (t.capacity s) (t.device s) (meter_of (t.capacity s) h (t.device s)) = record { header = h; valid = valid; spelled = spelled b; means = refl } in
       (meter_of (t.capacity s) h (t.device s), is, differs b);
@@ -84,7 +88,25 @@ refused_image t s s' h kept same uncounted valid spelled differs = record {
   never = λ _. refl;
   same = same;
   kept = kept;
+  calls = calls;
+  spends = spends;
+  found = λ b.
+      let is : IsMeterOf (t.capacity s) (t.device s) (meter_of (t.capacity s) h (t.device s)) = record { header = h; valid = valid; spelled = spelled b; means = refl } in
+      (meter_of (t.capacity s) h (t.device s), is, number b);
 }
+
+-- what the exit of a `?` tells
+pub refused_fault : {S : Type 0} {T : Type 0} (t : Ghosts S) (s s' : S) (r : Result T OpenError) → IsErrAnd r (λ e. e ≡ Fault) → Keeps t.honest t.sound t.capacity t.faults s s' → (IsTrue (t.honest s) → t.device s' ≡ t.device s)
+    → t.faults s' ≡ count_after false (t.faults s) → (IsTrue (t.sound s) → IsTrue false) → (calls : ℕ) → Spends calls (t.calls_left s) (t.calls_left s') false
+    → IfErr r (λ e. Refused t.honest t.sound t.capacity t.faults t.calls_left t.device s e s')
+refused_fault t s s' (Ok x) told kept same counted never calls spends = absurd told
+refused_fault t s s' (Err e) told kept same counted never calls spends =
+    subst (λ (x : OpenError). Refused t.honest t.sound t.capacity t.faults t.calls_left t.device s x s') (sym told)
+    (record { reason = λ _. tt; counted = counted; never = never; same = same; kept = kept; calls = calls; spends = spends; found = λ _. tt })
+
+-- how many bytes the image that runs has
+pub length-running : (capacity : ℕ) (h : Header) (d : Device) → IsHeader capacity h → ((slot : Slot) → length (slot_bytes d slot) ≡ capacity) → length (take h.running_size (slot_bytes d h.running_slot)) ≡ h.running_size
+length-running capacity h d valid sized = length-take-le h.running_size (slot_bytes d h.running_slot) (omega (arith, sized h.running_slot, valid.running_size_fits))
 
 -- ---- what holds a meter is opened as it
 
@@ -97,7 +119,7 @@ opened_again t s s' h meter law kept same held was honest =
     ∙ same_meter law (t.capacity s') (t.capacity s) h was.header (t.device s') (t.device s) held.valid was.valid (held.stored still) was.spelled kept.size (same honest)
     ∙ sym was.means
 
-pub not_refused : {S : Type 0} (t : Ghosts S) (s s' : S) (error : OpenError) (meter : Meter) → OneHeader → Refused t.honest t.sound t.capacity t.faults t.device s error s'
+pub not_refused : {S : Type 0} (t : Ghosts S) (s s' : S) (error : OpenError) (meter : Meter) → OneHeader → Refused t.honest t.sound t.capacity t.faults t.calls_left t.device s error s'
     → IsMeterOf (t.capacity s) (t.device s) meter → IsTrusted meter → IsTrue (t.honest s) → IsTrue (t.sound s) → ⊥
 not_refused t s s' Fault meter law refused is trusted honest sound = let bad : false ≡ true = refused.never sound in cc
 not_refused t s s' BadHeader meter law refused is trusted honest sound = refused.reason honest meter is

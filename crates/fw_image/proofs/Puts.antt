@@ -1,6 +1,6 @@
 -- Writes of a block are the steps of a meter.
-use Rattle.std.proofs.Common.{◌≡◌, ◌≢◌, ℕ, ◌+◌, ◌-◌, ◌*◌, ◌<◌, ◌≤◌, ◌||◌, ◌==◌, Bool, true, false, IsTrue, List, length, take, drop, Some, Option, ◌⊎◌, inl, inr, refl, sym, ap, subst, ◌∙◌, arith}
-use Rattle.std.specs.Prelude.{IfSome}
+use Rattle.std.proofs.Common.{cond, ◌≡◌, ◌≢◌, ℕ, ◌+◌, ◌-◌, ◌*◌, ◌<◌, ◌≤◌, ◌||◌, ◌==◌, Bool, true, false, IsTrue, List, length, take, drop, Some, Option, ◌⊎◌, inl, inr, refl, sym, ap, subst, ◌∙◌, arith}
+use Rattle.std.specs.Prelude.{IfSome, is_some}
 use Rattle.std.specs.FinMap.{insert, get}
 use Rattle.std.proofs.lemmas.List.{length-take-le}
 use Rattle.fw_blocks.specs.Cuts.{cut, block_start, block_end, block_count, max_blocks}
@@ -16,12 +16,13 @@ use Rattle.fw_store.specs.declared.slot.Slot.TheVariants.{First, Second}
 use Rattle.fw_store.specs.declared.header.Header.{Header}
 use Rattle.fw_store.specs.declared.header.Goal.{Goal}
 use Rattle.fw_image.specs.Meter.{Meter, Phase, receiving, status_of}
+use Rattle.fw_image.specs.Calls.{calls_for}
 use Rattle.fw_image.specs.Shown.{shown_of}
 use Rattle.fw_image.specs.Step.{IsBlock, Admits, Serves, Leaves, Tears, block, with_cell}
 use Rattle.fw_image.specs.Stored.{phase_of, cells_of, blocks_below, meter_of, seen}
 use Rattle.fw_image.specs.Moves.{IsPlace}
 use Rattle.fw_image.proofs.Splices.{take_of_splice, length-splice, before_splice, behind_splice, there_in_splice}
-use Rattle.fw_image.proofs.Blocks.{blocks_put, blocks_kept, get_marked, mark_again}
+use Rattle.fw_image.proofs.Blocks.{blocks_put, blocks_kept, get_marked, is_some-get, mark_again}
 use Rattle.fw_image.proofs.Meters.{SameSlots, shown_is, seen_real, status_again}
 use Rattle.fw_image.proofs.Moves.{leaves}
 
@@ -259,6 +260,19 @@ pub served_block : (m : Meter) (goal : Goal) (number : ℕ) (value : List ℕ) �
 served_block m goal number value on phase is =
     let admits : Admits m (receiving goal) (block number value) = is in
     (on, subst (λ (p : Phase). Admits m p (block number value)) (sym phase) admits)
+
+-- a block takes a second call where it is not marked
+pub calls_put : (capacity : ℕ) (h : Header) (d : Device) (number start : ℕ) (value : List ℕ) → IsPlace h number value start
+    → calls_for (meter_of capacity h d) (block number value) ≡ cond (has h.marks number) 1 2
+calls_put capacity h d number start value place =
+    let spare = slot_bytes d (other h.running_slot) in
+    ap (λ (b : Bool). cond b 1 2)
+    (ap (λ (g : Option Goal). is_some (get (cells_of h.block_size h.marks spare g) number)) place.there
+    ∙ is_some-get h.block_size h.marks (take place.goal.size spare) (block_count h.block_size place.goal.size) number place.is_block.below)
+
+pub one_or_two : (b : Bool) → 1 ≤ cond b 1 2
+one_or_two true = omega arith
+one_or_two false = omega arith
 
 pub marks_in : (capacity : ℕ) (h : Header) (number start : ℕ) (value : List ℕ) → IsHeader capacity h → IsPlace h number value start → number < length h.marks
 marks_in capacity h number start value valid place =

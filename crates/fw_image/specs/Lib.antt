@@ -2,6 +2,7 @@
 pub mod Meter
 pub mod Shown
 pub mod Step
+pub mod Calls
 pub mod State
 pub mod Stored
 pub mod Fresh

@@ -1,9 +1,10 @@
 -- Public vocabulary: a meter and the store that holds it, as callers see them.
-use Rattle.std.specs.Prelude.{◌≡◌, ◌≤◌, ℕ, Bool, IsTrue, Result, Ok, Err}
+use Rattle.std.specs.Prelude.{◌≡◌, ◌≤◌, ℕ, Bool, IsTrue, Option, Result, Ok, Err}
 use Rattle.fw_store.specs.Device.{Device}
-use Rattle.fw_store.specs.Faults.{count_after}
+use Rattle.fw_store.specs.Faults.{count_after, Spends}
 use Rattle.fw_image.specs.Meter.{Meter}
-use Rattle.fw_image.specs.Step.{Operation, Outcome, done, refused, Refuses, Step, is_faultless}
+use Rattle.fw_image.specs.Step.{Operation, Outcome, done, refused, Refuses, Serves, Step, is_faultless}
+use Rattle.fw_image.specs.Calls.{calls_for}
 use Rattle.fw_image.specs.declared.error.Refusal.{Refusal}
 
 pub record State : Type 0 where
@@ -17,6 +18,8 @@ pub record State : Type 0 where
   pub sound : Bool
   -- how often the store has failed
   pub faults : ℕ
+  -- how many calls of the store succeed before all fail, where that is known
+  pub calls_left : Option ℕ
 
 -- what every call keeps, whatever it answers
 pub record Follows (old new : State) : Type 0 where
@@ -31,12 +34,13 @@ pub record Counts (old new : State) (faultless : Bool) : Type 0 where
   pub never : IsTrue old.sound → IsTrue faultless
 
 -- From old, a state makes the step of this operation with this outcome and goes on to new. What a line refuses makes no call of the
--- store. A fault is told just where a call of the store failed, and there is no call behind it, as far as the count tells.
+-- store, and any other operation makes its calls, one that fails being the last of them. A fault is told just where one failed.
 pub record Makes (old : State) (operation : Operation) (outcome : Outcome) (new : State) : Type 0 where
   pub step : Step old.honest old.meter operation outcome new.meter
   pub untouched : (r : Refusal) → Refuses old.meter operation r → new ≡ old
   pub follows : Follows old new
   pub counts : Counts old new (is_faultless outcome)
+  pub spends : Serves old.meter operation → Spends (calls_for old.meter operation) old.calls_left new.calls_left (is_faultless outcome)
 
 -- ---- what a call answers, and the state that it leaves
 

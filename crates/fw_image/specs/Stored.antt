@@ -1,10 +1,10 @@
 -- Public vocabulary: the meter that a header and two slots are.
-use Rattle.std.specs.Prelude.{◌≡◌, ℕ, zero, suc, Bool, true, false, IsTrue, if◌then◌else◌, List, [], take, replicate, Option, Some, None}
+use Rattle.std.specs.Prelude.{◌≡◌, ℕ, zero, suc, Bool, true, false, IsTrue, if◌then◌else◌, ◌+◌, ◌⊎◌, List, [], length, take, replicate, Option, Some, None}
 use Rattle.std.specs.FinMap.{insert, empty}
 use Rattle.fw_blocks.specs.Cuts.{cut, block_count}
 use Rattle.fw_blocks.specs.Members.{has}
 use Rattle.fw_store.specs.Device.{Device, slot_bytes}
-use Rattle.fw_store.specs.Faults.{Keeps, count_after}
+use Rattle.fw_store.specs.Faults.{Keeps, count_after, Spends}
 use Rattle.fw_store.specs.Slot.{other}
 use Rattle.fw_store.specs.Layout.{header_bytes}
 use Rattle.fw_store.specs.Header.{IsHeader}
@@ -14,6 +14,8 @@ use Rattle.fw_store.specs.declared.header.TransferStatus.{TransferStatus}
 use Rattle.fw_store.specs.declared.header.TransferStatus.TheVariants.{NotInitiated, Initiated, VerificationSuccessful, VerificationFailed, ActivationSuccessful}
 use Rattle.fw_image.specs.Meter.{Meter, Phase, idle, receiving, sealed, spoilt, switched, Cells, IsTrusted}
 use Rattle.fw_image.specs.State.{State}
+use Rattle.fw_image.specs.Calls.{opening_calls}
+use Rattle.fw_verify.specs.Pieces.{piece_count}
 use Rattle.fw_image.specs.declared.error.OpenError.{OpenError}
 use Rattle.fw_image.specs.declared.error.OpenError.TheVariants.{Fault, BadHeader, BadImage}
 
@@ -55,14 +57,15 @@ seen true capacity d = d
 seen false capacity d = record { head = []; first = replicate capacity 0; second = replicate capacity 0 }
 
 -- the state of a store and the header that it was given
-abbrev pub state_of : {S : Type 0} → (S → Bool) → (S → Bool) → (S → ℕ) → (S → ℕ) → (S → Device) → S → Header → State
-state_of honest sound capacity faults device store h =
+abbrev pub state_of : {S : Type 0} → (S → Bool) → (S → Bool) → (S → ℕ) → (S → ℕ) → (S → Option ℕ) → (S → Device) → S → Header → State
+state_of honest sound capacity faults calls_left device store h =
     let d = seen (honest store) (capacity store) (device store) in record {
       meter = meter_of (capacity store) h d;
       device = d;
       honest = honest store;
       sound = sound store;
       faults = faults store;
+      calls_left = calls_left store;
     }
 
 -- The header is one that a store can have. Where the store is honest it stands there, and the images have their names' digests.
@@ -100,13 +103,24 @@ is_faultless Fault = false
 is_faultless BadHeader = true
 is_faultless BadImage = true
 
+-- How many calls of an honest store tell why it was not opened: the one that reads the header, with those that read the image that
+-- runs, or all of an opening. Behind a fault there are none.
+abbrev pub IsFoundIn : OpenError → ℕ → Device → ℕ → Type 0
+IsFoundIn Fault capacity d calls = Unit {0}
+IsFoundIn BadHeader capacity d calls = calls ≡ 1
+IsFoundIn BadImage capacity d calls =
+    (m : Meter) × IsMeterOf capacity d m × ((calls ≡ 1 + piece_count (length m.running.bytes)) ⊎ (calls ≡ opening_calls m))
+
 -- A store was not opened for this reason, and is handed back. A fault is told just where it failed, and it was not called again then.
-pub record Refused {S : Type 0} (honest sound : S → Bool) (capacity faults : S → ℕ) (device : S → Device) (store : S) (error : OpenError) (back : S) : Type 0 where
+pub record Refused {S : Type 0} (honest sound : S → Bool) (capacity faults : S → ℕ) (calls_left : S → Option ℕ) (device : S → Device) (store : S) (error : OpenError) (back : S) : Type 0 where
   pub reason : IsTrue (honest store) → IsCause error (capacity store) (device store)
   pub counted : faults back ≡ count_after (is_faultless error) (faults store)
   pub never : IsTrue (sound store) → IsTrue (is_faultless error)
   pub same : IsTrue (honest store) → device back ≡ device store
   pub kept : Keeps honest sound capacity faults store back
+  pub calls : ℕ
+  pub spends : Spends calls (calls_left store) (calls_left back) (is_faultless error)
+  pub found : IsTrue (honest store) → IsFoundIn error (capacity store) (device store) calls
 
 -- two stores have the same capacity, header and slots
 pub record IsSameStore (a b : State) : Type 0 where

@@ -1,19 +1,21 @@
 //! The header of a meter beside its store, and what the operations of Image transfer do to the two.
 
-ghost use Rattle.std.specs.Prelude.{◌≡◌, ◌≢◌, ◌≤◌, ◌↔◌, IsTrue, IfSome, IfNone, IfOk, IfErr, OnOk, OnErr, IsOkAnd, true, false, length, take, if◌then◌else◌};
+ghost use Rattle.std.specs.Prelude.{◌≡◌, ◌≢◌, ◌≤◌, ◌↔◌, IsTrue, IfSome, IfNone, IfOk, IfErr, OnOk, OnErr, IsOkAnd, Some, None, is_ok, true, false, ◌+◌, length, take, if◌then◌else◌};
 ghost use Rattle.sha2.specs.Sha256.{sha256};
 ghost use Rattle.fw_blocks.specs.Cuts.{IsWithinLimits, block_count, max_blocks};
 ghost use Rattle.fw_store.specs.Device.{with_head, slot_bytes};
-ghost use Rattle.fw_store.specs.Faults.{Keeps, HasCause};
+ghost use Rattle.fw_store.specs.Faults.{Keeps, HasCause, Spends};
 ghost use Rattle.fw_store.specs.Header.{FieldsFit, IsHeader};
 ghost use Rattle.fw_store.specs.Layout.{header_bytes};
 ghost use Rattle.fw_store.specs.declared.header.Goal.{Goal};
 ghost use Rattle.fw_store.specs.declared.header.TransferStatus.TheVariants.{Initiated, VerificationSuccessful, VerificationFailed, ActivationSuccessful};
+ghost use Rattle.fw_verify.specs.Pieces.{piece_count};
+ghost use Rattle.fw_image.specs.Calls.{verified_size, opening_calls};
 ghost use Rattle.fw_image.specs.Meter.{Meter, status_of, count_of, marks_of, IsTrusted};
 ghost use Rattle.fw_image.specs.Shown.{shown_of, IsView};
 ghost use Rattle.fw_image.specs.Step.{enable, initiate, block, verify, activate, IsOffer, IsBlock};
 ghost use Rattle.fw_image.specs.State.{Makes, Follows};
-ghost use Rattle.fw_image.specs.Stored.{meter_of, IsHeld, IsMeterOf, Holds, Refused, IsSameStore};
+ghost use Rattle.fw_image.specs.Stored.{meter_of, phase_of, IsHeld, IsMeterOf, Holds, Refused, IsSameStore};
 ghost use Rattle.fw_image.specs.Moves.{outcome_of, IsPlace, IsWholeGoal, LacksBlock, IsVerifiedGenuine};
 
 use crate::error::{OpenError, Refusal};
@@ -44,7 +46,7 @@ impl<S: ImageStore> Model for Held<S> {
 
     ghost use Rattle.fw_image.specs.Stored.{state_of, IsHeld};
 
-    ghost view = { λ s. state_of S.honest S.sound S.capacity S.faults S.device s.store s.header };
+    ghost view = { λ s. state_of S.honest S.sound S.capacity S.faults S.calls_left S.device s.store s.header };
 
     ghost invariant = { λ s. IsHeld S.honest S.capacity S.device s.store s.header };
 }
@@ -93,6 +95,8 @@ impl<S: ImageStore> Held<S> {
     {
         laws::other_blocks_stay();
         laws::begins_within();
+        store_laws::calls_add();
+        store_laws::calls_end();
         if !self.header.enabled {
             return Err(Refusal::Disabled);
         }
@@ -119,6 +123,8 @@ impl<S: ImageStore> Held<S> {
         ensures stays { IfErr result (λ r. r ≢ Refusal.Differs → self.new.meter.phase ≡ self.old.meter.phase) }
     {
         laws::cuts_join();
+        store_laws::calls_add();
+        store_laws::calls_end();
         if !self.header.enabled {
             return Err(Refusal::Disabled);
         }
@@ -171,7 +177,8 @@ impl<S: ImageStore> Held<S> {
         ensures opened { IfOk result (λ next. Holds S.honest S.capacity S.device store next) }
         ensures sound { IfOk result (λ next. IsTrue (S.sound store) → IsTrue next.sound) }
         ensures faultless { IfOk result (λ next. next.faults ≡ S.faults store) }
-        ensures refused { IfErr result (λ e. Refused S.honest S.sound S.capacity S.faults S.device store e.0 e.1) }
+        ensures spends { IfOk result (λ next. Spends (opening_calls next.meter) (S.calls_left store) next.calls_left true) }
+        ensures refused { IfErr result (λ e. Refused S.honest S.sound S.capacity S.faults S.calls_left S.device store e.0 e.1) }
         ensures again { (meter : Meter) → IsMeterOf (S.capacity store) (S.device store) meter → IsTrusted meter
             → IsTrue (S.honest store) → IsTrue (S.sound store) → IsOkAnd result (λ next. next.meter ≡ meter) }
     {
@@ -238,6 +245,7 @@ impl<S: ImageStore> Held<S> {
         ensures device { self.new.device ≡ self.old.device }
         ensures follows { Follows self.old self.new }
         ensures cause { HasCause self.old.sound self.old.faults self.new.faults result }
+        ensures spends { Spends 1 self.old.calls_left self.new.calls_left (is_ok result) }
     {
         self.store.read(self.header.running_slot, 0, out)
     }
@@ -247,6 +255,7 @@ impl<S: ImageStore> Held<S> {
         ensures held { Holds S.honest S.capacity S.device result self }
         ensures sound { S.sound result ≡ self.sound }
         ensures faults { S.faults result ≡ self.faults }
+        ensures calls_left { S.calls_left result ≡ self.calls_left }
     {
         let Held { store, .. } = self;
         store
@@ -256,14 +265,14 @@ impl<S: ImageStore> Held<S> {
 impl Held<MemoryStore> {
     /// Sets the store's fuse.
     pub(crate) fn fuse(&mut self, calls: u64, torn: u8)
-        ensures { self.new ≡ record self.old { sound = false } }
+        ensures { self.new ≡ record self.old { sound = false; calls_left = Some calls } }
     {
         self.store.fuse(calls, torn);
     }
 
     /// Removes the store's fuse.
     pub(crate) fn unfuse(&mut self)
-        ensures { self.new ≡ record self.old { sound = true } }
+        ensures { self.new ≡ record self.old { sound = true; calls_left = None } }
     {
         self.store.unfuse();
     }
@@ -292,6 +301,7 @@ fn replace<S: ImageStore>(
     ensures fits { FieldsFit next }
     ensures kept { Keeps S.honest S.sound S.capacity S.faults store.old store.new }
     ensures cause { HasCause (S.sound store.old) (S.faults store.old) (S.faults store.new) result }
+    ensures spends { Spends 1 (S.calls_left store.old) (S.calls_left store.new) (is_ok result) }
 {
     store.write_header(&next.to_bytes())?;
     *header = next;
@@ -348,6 +358,7 @@ fn is_genuine<S: ImageStore>(
     ensures same { IsTrue (S.honest store.old) → S.device store.new ≡ S.device store.old }
     ensures kept { Keeps S.honest S.sound S.capacity S.faults store.old store.new }
     ensures cause { HasCause (S.sound store.old) (S.faults store.old) (S.faults store.new) result }
+    ensures spends { Spends (piece_count size) (S.calls_left store.old) (S.calls_left store.new) (is_ok result) }
 {
     let found = digest(store, slot, size)?;
     Ok(found == name.digest)
@@ -370,8 +381,12 @@ fn examine<S: ImageStore>(store: &mut S) -> Result<Header, OpenError>
     ensures same { IsTrue (S.honest store.old) → S.device store.new ≡ S.device store.old }
     ensures kept { Keeps S.honest S.sound S.capacity S.faults store.old store.new }
     ensures faultless { OnOk result (S.faults store.new ≡ S.faults store.old) }
-    ensures refused { IfErr result (λ e. Refused S.honest S.sound S.capacity S.faults S.device store.old e store.new) }
+    ensures spends { IfOk result (λ header.
+        Spends (1 + piece_count header.running_size + piece_count (verified_size (phase_of header.status header.goal)))
+        (S.calls_left store.old) (S.calls_left store.new) true) }
+    ensures refused { IfErr result (λ e. Refused S.honest S.sound S.capacity S.faults S.calls_left S.device store.old e store.new) }
 {
+    store_laws::calls_add();
     let bytes = store.header()?;
     let Some(header) = Header::from_bytes(store.capacity(), &bytes) else {
         return Err(OpenError::BadHeader);
@@ -394,6 +409,8 @@ fn is_goal_genuine<S: ImageStore>(store: &mut S, header: &Header) -> Result<bool
     ensures same { IsTrue (S.honest store.old) → S.device store.new ≡ S.device store.old }
     ensures kept { Keeps S.honest S.sound S.capacity S.faults store.old store.new }
     ensures cause { HasCause (S.sound store.old) (S.faults store.old) (S.faults store.new) result }
+    ensures spends { Spends (piece_count (verified_size (phase_of header.now.status header.now.goal)))
+        (S.calls_left store.old) (S.calls_left store.new) (is_ok result) }
 {
     laws::cuts_join();
     let TransferStatus::VerificationSuccessful = header.status else {

@@ -1,9 +1,10 @@
 //! A transfer in the status that a store tells.
 
-ghost use Rattle.std.specs.Prelude.{◌≡◌, ◌≤◌, ◌↔◌, true, false, IsTrue, IfOk, IfErr, IsOkAnd, OnOk, length, take};
+ghost use Rattle.std.specs.Prelude.{◌≡◌, ◌≤◌, ◌↔◌, true, false, IsTrue, IfOk, IfErr, IsOkAnd, OnOk, Some, None, is_ok, length, take};
 ghost use Rattle.fw_blocks.specs.Cuts.{max_blocks};
-ghost use Rattle.fw_store.specs.Faults.{HasCause};
+ghost use Rattle.fw_store.specs.Faults.{HasCause, Spends};
 ghost use Rattle.fw_store.specs.declared.header.TransferStatus.TheVariants as status;
+ghost use Rattle.fw_image.specs.Calls.{opening_calls};
 ghost use Rattle.fw_image.specs.Meter.{Meter, status_of, count_of, marks_of, IsTrusted};
 ghost use Rattle.fw_image.specs.Phases.{state_in, IsInPhase, left_in, left_begun};
 ghost use Rattle.fw_image.specs.Shown.{shown_of, IsView};
@@ -40,7 +41,9 @@ pub fn open_store<S: ImageStore>(store: S) -> Result<Phase<S>, (OpenError, S)>
     ensures phase { IfOk result IsInPhase }
     ensures sound { IfOk result (λ phase. IsTrue (S.sound store) → IsTrue (state_in phase).sound) }
     ensures faultless { IfOk result (λ phase. (state_in phase).faults ≡ S.faults store) }
-    ensures refused { IfErr result (λ e. Refused S.honest S.sound S.capacity S.faults S.device store e.0 e.1) }
+    ensures spends { IfOk result (λ phase.
+        Spends (opening_calls (state_in phase).meter) (S.calls_left store) (state_in phase).calls_left true) }
+    ensures refused { IfErr result (λ e. Refused S.honest S.sound S.capacity S.faults S.calls_left S.device store e.0 e.1) }
 
     // An honest, sound store that holds a meter, whose images have their names' digests, is opened as that meter.
     ensures again { (meter : Meter) → IsMeterOf (S.capacity store) (S.device store) meter → IsTrusted meter
@@ -162,6 +165,7 @@ impl<S: ImageStore> Phase<S> {
         ensures held { Holds S.honest S.capacity S.device result (state_in self) }
         ensures sound { S.sound result ≡ (state_in self).sound }
         ensures faults { S.faults result ≡ (state_in self).faults }
+        ensures calls_left { S.calls_left result ≡ (state_in self).calls_left }
     {
         self.into_held().into_store()
     }
@@ -178,6 +182,7 @@ impl<S: ImageStore> Phase<S> {
         ensures device { (state_in self.new).device ≡ (state_in self.old).device }
         ensures follows { Follows (state_in self.old) (state_in self.new) }
         ensures cause { HasCause (state_in self.old).sound (state_in self.old).faults (state_in self.new).faults result }
+        ensures spends { Spends 1 (state_in self.old).calls_left (state_in self.new).calls_left (is_ok result) }
         ensures phase { IsInPhase self.old → IsInPhase self.new }
     {
         match self {
@@ -193,7 +198,7 @@ impl<S: ImageStore> Phase<S> {
 impl Phase<MemoryStore> {
     /// The next `calls` calls of the store succeed, and all later ones fail until `unfuse`, as `MemoryStore::fuse` says.
     pub fn fuse(&mut self, calls: u64, torn: u8)
-        ensures state { state_in self.new ≡ record (state_in self.old) { sound = false } }
+        ensures state { state_in self.new ≡ record (state_in self.old) { sound = false; calls_left = Some calls } }
         ensures phase { IsInPhase self.old → IsInPhase self.new }
     {
         match self {
@@ -207,7 +212,7 @@ impl Phase<MemoryStore> {
 
     /// From now on no call of the store fails.
     pub fn unfuse(&mut self)
-        ensures state { state_in self.new ≡ record (state_in self.old) { sound = true } }
+        ensures state { state_in self.new ≡ record (state_in self.old) { sound = true; calls_left = None } }
         ensures phase { IsInPhase self.old → IsInPhase self.new }
     {
         match self {

@@ -1,7 +1,7 @@
 //! The Image transfer object of a meter, a type for each status. Each value owns its store.
 
-ghost use Rattle.std.specs.Prelude.{◌≡◌, ◌↔◌, true, false, IsTrue, IfOk, IfErr, OnOk, length};
-ghost use Rattle.fw_store.specs.Faults.{HasCause};
+ghost use Rattle.std.specs.Prelude.{◌≡◌, ◌↔◌, true, false, IsTrue, IfOk, IfErr, OnOk, Some, None, is_ok, length};
+ghost use Rattle.fw_store.specs.Faults.{HasCause, Spends};
 ghost use Rattle.fw_store.specs.declared.header.TransferStatus.TheVariants as status;
 ghost use Rattle.fw_image.specs.Meter.{status_of, IsTrusted};
 ghost use Rattle.fw_image.specs.Phases.{told_verified, left_verified, IsNotVerified};
@@ -141,6 +141,7 @@ impl<S: ImageStore, P: Status> Transfer<S, P> {
         ensures device { self.new.device ≡ self.old.device }
         ensures follows { Follows self.old self.new }
         ensures cause { HasCause self.old.sound self.old.faults self.new.faults result }
+        ensures spends { Spends 1 self.old.calls_left self.new.calls_left (is_ok result) }
     {
         self.held.read_running(out)
     }
@@ -150,6 +151,7 @@ impl<S: ImageStore, P: Status> Transfer<S, P> {
         ensures held { Holds S.honest S.capacity S.device result self }
         ensures sound { S.sound result ≡ self.sound }
         ensures faults { S.faults result ≡ self.faults }
+        ensures calls_left { S.calls_left result ≡ self.calls_left }
     {
         self.held.into_store()
     }
@@ -227,14 +229,14 @@ impl<S: ImageStore> Verified<S> {
 impl<P: Status> Transfer<MemoryStore, P> {
     /// The next `calls` calls of the store succeed, and all later ones fail until `unfuse`, as `MemoryStore::fuse` says.
     pub fn fuse(&mut self, calls: u64, torn: u8)
-        ensures { self.new ≡ record self.old { sound = false } }
+        ensures { self.new ≡ record self.old { sound = false; calls_left = Some calls } }
     {
         self.held.fuse(calls, torn);
     }
 
     /// From now on no call of the store fails.
     pub fn unfuse(&mut self)
-        ensures { self.new ≡ record self.old { sound = true } }
+        ensures { self.new ≡ record self.old { sound = true; calls_left = None } }
     {
         self.held.unfuse();
     }

@@ -1,18 +1,31 @@
 -- Operations that are refused, and those that a status lacks.
-use Rattle.std.proofs.Common.{◌≡◌, ◌≢◌, ℕ, Bool, true, false, IsTrue, List, if◌then◌else◌, inl, inr, refl, sym, ap, arith}
+use Rattle.std.proofs.Common.{◌≡◌, ◌≢◌, ℕ, Bool, true, false, IsTrue, List, if◌then◌else◌, ◌⊎◌, inl, inr, refl, sym, ap, ◌∙◌, arith}
 use Rattle.fw_store.specs.declared.header.TransferStatus.TheVariants as status
 use Rattle.fw_store.specs.Faults.{count_after}
-use Rattle.fw_image.specs.Meter.{Phase, idle, receiving, sealed, spoilt, switched, status_of}
+use Rattle.fw_image.specs.Meter.{Meter, Phase, idle, receiving, sealed, spoilt, switched, status_of}
 use Rattle.fw_image.specs.State.{State}
 use Rattle.fw_image.specs.Phases.{state_in, IsInPhase}
 use Rattle.fw_image.specs.declared.phase.Phase.{Phase as Core}
 use Rattle.fw_image.specs.declared.phase.Phase.TheVariants as core
-use Rattle.fw_image.specs.Step.{Operation, block, verify, activate, refused, Refuses, is_faultless}
+use Rattle.fw_image.specs.Step.{Operation, enable, initiate, block, verify, activate, refused, refusal_in, Admits, Refuses, Serves, is_faultless}
 use Rattle.fw_image.specs.declared.error.Refusal.{Refusal}
 use Rattle.fw_image.specs.declared.error.Refusal.TheVariants.{Disabled, Missing}
 use Rattle.fw_meter.specs.Step.{refusal_code}
 use Rattle.fw_meter.specs.Inside.{IsMade, code_number}
 use Rattle.fw_meter.specs.declared.code.Code.TheVariants as code
+
+refused_method : (m : Meter) (operation : Operation) (r : Refusal) → ((m.enabled ≡ false) × (r ≡ Disabled)) ⊎ ((m.enabled ≡ true) × (r ≡ refusal_in m.phase operation) × ¬ Admits m m.phase operation)
+    → (m.enabled ≡ true) × Admits m m.phase operation → ⊥
+refused_method m operation r (inl line) serves = let bad : true ≡ false = sym serves.0 ∙ line.0 in cc
+refused_method m operation r (inr line) serves = line.2 serves.1
+
+-- what a line refuses is not served
+not_served : (m : Meter) (operation : Operation) (r : Refusal) → Refuses m operation r → Serves m operation → ⊥
+not_served m (enable b) r line serves = elim line [ ]
+not_served m (initiate name size) r line serves = refused_method m (initiate name size) r line serves
+not_served m (block i value) r line serves = refused_method m (block i value) r line serves
+not_served m verify r line serves = refused_method m verify r line serves
+not_served m activate r line serves = refused_method m activate r line serves
 
 -- a line refuses the operation
 refused_by : (s : State) (operation : Operation) (r : Refusal) (n : ℕ) → Refuses s.meter operation r → IsTrue (is_faultless (refused r)) → n ≡ refusal_code r → IsMade s operation n s
@@ -23,6 +36,7 @@ refused_by s operation r n line faultless told = (
     untouched = λ _ _. refl;
     follows = record { honesty = refl; soundness = λ h. h; later = omega arith };
     counts = record { counted = ap (λ (ok : Bool). count_after ok s.faults) (sym faultless); never = λ _. faultless };
+    spends = λ serves. absurd (not_served s.meter operation r line serves);
   },
   told,
 )

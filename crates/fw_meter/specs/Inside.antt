@@ -85,6 +85,7 @@ no_state = record {
   honest = false;
   sound = false;
   faults = 0;
+  calls_left = None;
 }
 
 -- the state of the phase

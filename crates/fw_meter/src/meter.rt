@@ -1,13 +1,14 @@
 //! A meter without its wires.
 
-ghost use Rattle.std.specs.Prelude.{◌≡◌, ◌≢◌, ◌≤◌, IsTrue, IfOk, IfErr, IsOkAnd, OnOk, OnErr, None, true, false, length};
-ghost use Rattle.fw_store.specs.Faults.{HasCause, count_after};
+ghost use Rattle.std.specs.Prelude.{◌≡◌, ◌≢◌, ◌≤◌, IsTrue, IfOk, IfErr, IsOkAnd, OnOk, OnErr, Some, None, is_ok, true, false, length};
+ghost use Rattle.fw_store.specs.Faults.{HasCause, Spends, count_after};
 ghost use Rattle.fw_server.specs.Answer.{bits_in_answer};
 ghost use Rattle.fw_server.specs.Meaning.{meaning_of};
 ghost use Rattle.fw_server.specs.View.{answer_of as told_answer, reading_of};
 ghost use Rattle.fw_blocks.specs.Cuts.{max_blocks};
 ghost use Rattle.fw_meter.specs.Step.{answer_of};
 ghost use Rattle.fw_apdu.specs.View.{request_content, request_invoke};
+ghost use Rattle.fw_image.specs.Calls.{opening_calls};
 ghost use Rattle.fw_image.specs.Meter.{Meter, IsTrusted};
 ghost use Rattle.fw_image.specs.Shown.{shown_of, IsView};
 ghost use Rattle.fw_image.specs.State.{Follows, Counts};
@@ -71,9 +72,10 @@ impl<S: ImageStore + Drop> MeterCore<S> {
         ensures opened { IfOk result (λ meter. Holds S.honest S.capacity S.device store meter) }
         ensures sound { IfOk result (λ meter. IsTrue (S.sound store) → IsTrue meter.sound) }
         ensures faultless { IfOk result (λ meter. meter.faults ≡ S.faults store) }
+        ensures spends { IfOk result (λ meter. Spends (opening_calls meter.meter) (S.calls_left store) meter.calls_left true) }
         ensures again { (meter : Meter) → IsMeterOf (S.capacity store) (S.device store) meter → IsTrusted meter
             → IsTrue (S.honest store) → IsTrue (S.sound store) → IsOkAnd result (λ opened. opened.meter ≡ meter) }
-        ensures refused { IfErr result (λ e. Refused S.honest S.sound S.capacity S.faults S.device store e.0 e.1) }
+        ensures refused { IfErr result (λ e. Refused S.honest S.sound S.capacity S.faults S.calls_left S.device store e.0 e.1) }
     {
         let phase = fw_image::open_store(store)?;
         Ok(MeterCore { phase: Some(phase) })
@@ -90,6 +92,7 @@ impl<S: ImageStore + Drop> MeterCore<S> {
         ensures again { IsTrue self.honest → IsTrue self.sound → IsOkAnd result (λ meter. meter.meter ≡ self.meter) }
         ensures fault { IsTrue self.honest → IfErr result (λ e. e.0 ≡ not_opened.Fault) }
         ensures faultless { IfOk result (λ meter. meter.faults ≡ self.faults) }
+        ensures spends { IfOk result (λ meter. Spends (opening_calls meter.meter) self.calls_left meter.calls_left true) }
         ensures counted { IfErr result (λ e. S.faults e.1 ≡ count_after (is_faultless e.0) self.faults) }
         ensures never { IsTrue self.sound → IfErr result (λ e. IsTrue (is_faultless e.0)) }
         ensures back { IfErr result (λ e. Holds S.honest S.capacity S.device e.1 self) }
@@ -146,6 +149,7 @@ impl<S: ImageStore + Drop> MeterCore<S> {
         ensures same { self.new.meter ≡ self.old.meter }
         ensures follows { Follows self.old self.new }
         ensures cause { HasCause self.old.sound self.old.faults self.new.faults result }
+        ensures spends { Spends 1 self.old.calls_left self.new.calls_left (is_ok result) }
     {
         match &mut self.phase {
             Some(phase) => phase.read_running(out),
@@ -219,7 +223,7 @@ impl<S: ImageStore + Drop> MeterCore<S> {
 impl MeterCore<MemoryStore> {
     /// The next `calls` calls of the store succeed, and all later ones fail until `unfuse`, as `MemoryStore::fuse` says.
     pub fn fuse(&mut self, calls: u64, torn: u8)
-        ensures { self.new ≡ record self.old { sound = false } }
+        ensures { self.new ≡ record self.old { sound = false; calls_left = Some calls } }
     {
         match &mut self.phase {
             Some(phase) => phase.fuse(calls, torn),
@@ -229,7 +233,7 @@ impl MeterCore<MemoryStore> {
 
     /// From now on no call of the store fails.
     pub fn unfuse(&mut self)
-        ensures { self.new ≡ record self.old { sound = true } }
+        ensures { self.new ≡ record self.old { sound = true; calls_left = None } }
     {
         match &mut self.phase {
             Some(phase) => phase.unfuse(),

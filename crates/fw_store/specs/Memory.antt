@@ -1,7 +1,7 @@
 -- Public vocabulary: a store in memory as a value.
 use Rattle.std.specs.Prelude.{◌≡◌, ℕ, length, Bool, Option, is_none}
 use Rattle.fw_store.specs.Device.{Device, slot_bytes}
-use Rattle.fw_store.specs.Fuse.{lets_through, burnt}
+use Rattle.fw_store.specs.Fuse.{lets_through, burnt, calls_in}
 use Rattle.fw_store.specs.declared.fuse.Fuse.{Fuse}
 use Rattle.fw_store.specs.declared.slot.Slot.{Slot}
 use Rattle.fw_store.specs.declared.slot.Slot.TheVariants.{First, Second}
@@ -21,6 +21,10 @@ faults_of m = m.fault_count
 
 abbrev pub fuse_of : MemoryStore → Option Fuse
 fuse_of m = m.fuse
+
+-- how many of its calls succeed before all fail
+abbrev pub calls_left_of : MemoryStore → Option ℕ
+calls_left_of m = calls_in (fuse_of m)
 
 -- no fuse is set
 abbrev pub is_sound : MemoryStore → Bool

@@ -1,7 +1,7 @@
 -- Public vocabulary: the laws of what stores hold and of faults. They speak of definitions alone.
-use Rattle.std.specs.Prelude.{◌≡◌, ◌≢◌, ◌⊎◌, ℕ, ◌+◌, ◌<◌, ◌≤◌, false, List, length, slice_range}
+use Rattle.std.specs.Prelude.{◌≡◌, ◌≢◌, ◌⊎◌, ℕ, ◌+◌, ◌<◌, ◌≤◌, Bool, true, false, List, Option, length, slice_range}
 use Rattle.fw_store.specs.Device.{Device, slot_bytes, with_head, written}
-use Rattle.fw_store.specs.Faults.{most_faults, count_after}
+use Rattle.fw_store.specs.Faults.{most_faults, count_after, Spends}
 use Rattle.fw_store.specs.StoreBytes.{IsStore, store_bytes, device_at}
 use Rattle.fw_store.specs.declared.slot.Slot.{Slot}
 
@@ -40,3 +40,12 @@ DeviceIsRead = (d : Device) (capacity : ℕ) → length d.head ≡ 614 → lengt
 -- after a failure the count rose, or stood at its greatest number
 abbrev pub FaultsShow : Type 0
 FaultsShow = (count : ℕ) → count < most_faults → count < count_after false count
+
+-- calls behind calls of which none failed are so many calls together
+abbrev pub CallsAdd : Type 0
+CallsAdd = (calls more : ℕ) (old between new : Option ℕ) (faultless : Bool) → Spends calls old between true → Spends more between new faultless
+    → Spends (calls + more) old new faultless
+
+-- behind a call that failed, those that are not made are counted like it
+abbrev pub CallsEnd : Type 0
+CallsEnd = (calls all : ℕ) (old new : Option ℕ) → calls ≤ all → Spends calls old new false → Spends all old new false

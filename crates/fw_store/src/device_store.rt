@@ -219,7 +219,9 @@ fn lay_out<D: ByteDevice>(
     device.write_at(0, &capacity.to_be_bytes())
 }
 
+// How many calls a device has left is not known.
 impl<D: ByteDevice> ImageStore for DeviceStore<D> {
+    ghost use Rattle.std.specs.Prelude.{None};
     ghost use Rattle.fw_store.specs.StoreBytes.{device_at};
     ghost use Rattle.fw_store.specs.Sizes.{slot_size};
 
@@ -232,6 +234,8 @@ impl<D: ByteDevice> ImageStore for DeviceStore<D> {
     ghost capacity = { λ s. s.capacity };
 
     ghost faults = { λ s. s.fault_count };
+
+    ghost calls_left = { λ _. None };
 
     ghost sized = { λ s slot h. slot_size s.capacity (D.contents s.device) (s.laid_out h) slot };
 

@@ -2,8 +2,8 @@
 
 ghost use Rattle.std.specs.Prelude.{◌≡◌, ◌-◌, ◌≤◌, ◌+◌, length, replicate, is_ok, is_none, IsTrue, IsOk};
 ghost use Rattle.fw_store.specs.Device.{splice};
-ghost use Rattle.fw_store.specs.Faults.{count_after};
-ghost use Rattle.fw_store.specs.Fuse.{lets_through, burnt, torn_of, half_torn};
+ghost use Rattle.fw_store.specs.Faults.{count_after, Spends};
+ghost use Rattle.fw_store.specs.Fuse.{lets_through, burnt, calls_in, torn_of, half_torn};
 
 use crate::error::StoreFault;
 
@@ -19,6 +19,7 @@ pub(crate) fn burn(fuse: &mut Option<Fuse>, faults: &mut u64) -> Result<(), Stor
     ensures through { is_ok result ≡ lets_through fuse.old }
     ensures burns { fuse.new ≡ burnt fuse.old }
     ensures counts { faults.new ≡ count_after (is_ok result) faults.old }
+    ensures spends { Spends 1 (calls_in fuse.old) (calls_in fuse.new) (is_ok result) }
 
     // So the count never falls, and without a fuse no call fails.
     ensures later { faults.old ≤ faults.new }

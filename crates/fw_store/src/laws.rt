@@ -1,7 +1,7 @@
 //! Laws of headers, of what stores hold and of faults, over the definitions alone.
 
 ghost use Rattle.fw_store.specs.Laws.{OneHeader, HeaderSize, FreshIsHeader, VerifiedIsComplete};
-ghost use Rattle.fw_store.specs.StoreLaws.{WrittenIsRead, OthersAreRead, OtherSlotStays, HeaderStays, SlotsStay, FieldsJoin, DeviceIsRead, FaultsShow};
+ghost use Rattle.fw_store.specs.StoreLaws.{WrittenIsRead, OthersAreRead, OtherSlotStays, HeaderStays, SlotsStay, FieldsJoin, DeviceIsRead, FaultsShow, CallsAdd, CallsEnd};
 
 /// A byte string is at most one header's.
 pub fn one_header()
@@ -66,4 +66,14 @@ pub fn device_is_read()
 /// A failure that is counted shows: the count rose, or stood at its greatest number.
 pub fn faults_show()
     ensures { FaultsShow }
+{}
+
+/// Calls behind others are counted together with them.
+pub fn calls_add()
+    ensures { CallsAdd }
+{}
+
+/// Calls that a failure ended are counted as many as there would have been.
+pub fn calls_end()
+    ensures { CallsEnd }
 {}

@@ -2,7 +2,7 @@
 
 ghost use Rattle.std.specs.Prelude.{◌≡◌, ◌+◌, ◌≤◌, length, IfOk, OnOk, OnErr, is_ok, slice_range};
 ghost use Rattle.fw_store.specs.Device.{slot_bytes, with_head, written, Torn};
-ghost use Rattle.fw_store.specs.Faults.{Keeps, HasCause};
+ghost use Rattle.fw_store.specs.Faults.{Keeps, HasCause, Spends};
 ghost use Rattle.fw_store.specs.Fuse.{torn_of, half_torn};
 
 use crate::error::{SetupError, StoreFault};
@@ -103,7 +103,7 @@ impl MemoryStore {
 // failing write leaves.
 impl ImageStore for MemoryStore {
     ghost use Rattle.std.specs.Prelude.{true};
-    ghost use Rattle.fw_store.specs.Memory.{device_of, capacity_of, faults_of, fuse_of, is_sound, slot_size, IsFused};
+    ghost use Rattle.fw_store.specs.Memory.{device_of, capacity_of, faults_of, fuse_of, calls_left_of, is_sound, slot_size, IsFused};
 
     ghost honest = { λ _. true };
 
@@ -114,6 +114,8 @@ impl ImageStore for MemoryStore {
     ghost capacity = { capacity_of };
 
     ghost faults = { faults_of };
+
+    ghost calls_left = { calls_left_of };
 
     ghost sized = { λ m slot _. slot_size m slot };
 
@@ -130,6 +132,7 @@ impl ImageStore for MemoryStore {
         ensures same { device_of self.new ≡ device_of self.old }
         ensures kept { Keeps (λ _. true) is_sound capacity_of faults_of self.old self.new }
         ensures cause { HasCause (is_sound self.old) (faults_of self.old) (faults_of self.new) result }
+        ensures spends { Spends 1 (calls_left_of self.old) (calls_left_of self.new) (is_ok result) }
         ensures fused { IsFused self.old self.new (is_ok result) }
     {
         burn(&mut self.fuse, &mut self.fault_count)?;
@@ -141,6 +144,7 @@ impl ImageStore for MemoryStore {
         ensures same { OnErr result (device_of self.new ≡ device_of self.old) }
         ensures kept { Keeps (λ _. true) is_sound capacity_of faults_of self.old self.new }
         ensures cause { HasCause (is_sound self.old) (faults_of self.old) (faults_of self.new) result }
+        ensures spends { Spends 1 (calls_left_of self.old) (calls_left_of self.new) (is_ok result) }
         ensures fused { IsFused self.old self.new (is_ok result) }
     {
         burn(&mut self.fuse, &mut self.fault_count)?;
@@ -154,6 +158,7 @@ impl ImageStore for MemoryStore {
         ensures same { device_of self.new ≡ device_of self.old }
         ensures kept { Keeps (λ _. true) is_sound capacity_of faults_of self.old self.new }
         ensures cause { HasCause (is_sound self.old) (faults_of self.old) (faults_of self.new) result }
+        ensures spends { Spends 1 (calls_left_of self.old) (calls_left_of self.new) (is_ok result) }
         ensures fused { IsFused self.old self.new (is_ok result) }
     {
         burn(&mut self.fuse, &mut self.fault_count)?;
@@ -171,6 +176,7 @@ impl ImageStore for MemoryStore {
         ensures torn { OnErr result (Torn (device_of self.old) slot at (length bytes.now) (device_of self.new)) }
         ensures kept { Keeps (λ _. true) is_sound capacity_of faults_of self.old self.new }
         ensures cause { HasCause (is_sound self.old) (faults_of self.old) (faults_of self.new) result }
+        ensures spends { Spends 1 (calls_left_of self.old) (calls_left_of self.new) (is_ok result) }
         ensures fused { IsFused self.old self.new (is_ok result) }
         ensures halves { OnErr result (device_of self.new
             ≡ written (device_of self.old) slot at (half_torn bytes.now (torn_of (fuse_of self.old)))) }

@@ -1,8 +1,8 @@
 //! What an image store is.
 
-ghost use Rattle.std.specs.Prelude.{◌≡◌, ◌+◌, ◌≤◌, ℕ, Bool, IsTrue, IfOk, OnOk, OnErr, length, slice_range};
+ghost use Rattle.std.specs.Prelude.{◌≡◌, ◌+◌, ◌≤◌, ℕ, Bool, Option, IsTrue, IfOk, OnOk, OnErr, is_ok, length, slice_range};
 ghost use Rattle.fw_store.specs.Device.{Device, slot_bytes, with_head, written, Torn};
-ghost use Rattle.fw_store.specs.Faults.{Keeps, HasCause};
+ghost use Rattle.fw_store.specs.Faults.{Keeps, HasCause, Spends};
 ghost use Rattle.fw_store.specs.declared.slot.Slot.{Slot};
 
 use crate::error::StoreFault;
@@ -12,7 +12,8 @@ use crate::slot::Slot;
 /// A device with a header of 614 bytes and two slots, which have as many bytes as the capacity. Its calls take no memory.
 ///
 /// Of each call two things are said. What holds of every store: the count of faults rises by one where the call answers
-/// `StoreFault`, unless it stood at its greatest number, and is as before where it doesn't. And what holds of an honest
+/// `StoreFault`, unless it stood at its greatest number, and is as before where it doesn't; and where it is known how many
+/// calls succeed before all fail, as of a store with a fuse, the call is one of them, or fails. And what holds of an honest
 /// one, of which contents are known: reads give what was last written, the header is written whole or not at all, and a
 /// write that fails leaves any bytes in its own range and nowhere else.
 pub trait ImageStore {
@@ -28,6 +29,9 @@ pub trait ImageStore {
     ghost capacity: { Self → ℕ };
 
     ghost faults: { Self → ℕ };
+
+    /// How many calls succeed before all fail, where that is known.
+    ghost calls_left: { Self → Option ℕ };
 
     /// The size of each slot in bytes.
     fn capacity(&self) -> u32
@@ -46,7 +50,8 @@ pub trait ImageStore {
         ensures done { IsTrue (honest self.old) → IfOk result (λ bytes. bytes ≡ (device self.old).head) }
         ensures same { IsTrue (honest self.old) → device self.new ≡ device self.old }
         ensures kept { Keeps honest sound capacity faults self.old self.new }
-        ensures cause { HasCause (sound self.old) (faults self.old) (faults self.new) result };
+        ensures cause { HasCause (sound self.old) (faults self.old) (faults self.new) result }
+        ensures spends { Spends 1 (calls_left self.old) (calls_left self.new) (is_ok result) };
 
     /// Replaces the header.
     ///
@@ -57,7 +62,8 @@ pub trait ImageStore {
         ensures done { IsTrue (honest self.old) → OnOk result (device self.new ≡ with_head (device self.old) bytes.now) }
         ensures same { IsTrue (honest self.old) → OnErr result (device self.new ≡ device self.old) }
         ensures kept { Keeps honest sound capacity faults self.old self.new }
-        ensures cause { HasCause (sound self.old) (faults self.old) (faults self.new) result };
+        ensures cause { HasCause (sound self.old) (faults self.old) (faults self.new) result }
+        ensures spends { Spends 1 (calls_left self.old) (calls_left self.new) (is_ok result) };
 
     /// Fills `out` with the bytes of a slot from `at` on.
     ///
@@ -70,7 +76,8 @@ pub trait ImageStore {
             → OnOk result (out.new ≡ slice_range (slot_bytes (device self.old) slot) at (at + length out.old)) }
         ensures same { IsTrue (honest self.old) → device self.new ≡ device self.old }
         ensures kept { Keeps honest sound capacity faults self.old self.new }
-        ensures cause { HasCause (sound self.old) (faults self.old) (faults self.new) result };
+        ensures cause { HasCause (sound self.old) (faults self.old) (faults self.new) result }
+        ensures spends { Spends 1 (calls_left self.old) (calls_left self.new) (is_ok result) };
 
     /// Writes bytes into a slot from `at` on.
     ///
@@ -84,7 +91,8 @@ pub trait ImageStore {
         ensures torn { IsTrue (honest self.old)
             → OnErr result (Torn (device self.old) slot at (length bytes.now) (device self.new)) }
         ensures kept { Keeps honest sound capacity faults self.old self.new }
-        ensures cause { HasCause (sound self.old) (faults self.old) (faults self.new) result };
+        ensures cause { HasCause (sound self.old) (faults self.old) (faults self.new) result }
+        ensures spends { Spends 1 (calls_left self.old) (calls_left self.new) (is_ok result) };
 
     /// Each slot of an honest store has the capacity.
     ghost sized: { (s : Self) (slot : Slot) → IsTrue (honest s) → length (slot_bytes (device s) slot) ≡ capacity s };

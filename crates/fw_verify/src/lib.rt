@@ -1,13 +1,14 @@
 //! The digest of an image as a store has it (FIPS 180-4).
 #![tactic(auto)]
 
-ghost use Rattle.std.specs.Prelude.{◌≡◌, ◌+◌, ◌≤◌, ◌++◌, ℕ, List, IsTrue, IfOk, OnOk, take, slice_range};
+ghost use Rattle.std.specs.Prelude.{◌≡◌, ◌+◌, ◌≤◌, ◌++◌, ℕ, List, IsTrue, IfOk, OnOk, is_ok, take, slice_range};
 ghost use Rattle.sha2.specs.Hashers.{Holds256};
 ghost use Rattle.sha2.specs.Sha256.{sha256};
 ghost use Rattle.fw_store.specs.Device.{slot_bytes};
-ghost use Rattle.fw_store.specs.Faults.{Keeps, HasCause};
+ghost use Rattle.fw_store.specs.Faults.{Keeps, HasCause, Spends};
+ghost use Rattle.fw_verify.specs.Pieces.{piece_count};
 
-use fw_store::{ImageStore, Slot, StoreFault};
+use fw_store::{ImageStore, Slot, StoreFault, laws};
 use sha2::{Digest, Sha256};
 
 /// The most bytes of a slot that are read at once.
@@ -28,7 +29,12 @@ pub fn digest<S: ImageStore>(store: &mut S, slot: Slot, size: u32) -> Result<[u8
     ensures same { IsTrue (S.honest store.old) → S.device store.new ≡ S.device store.old }
     ensures kept { Keeps S.honest S.sound S.capacity S.faults store.old store.new }
     ensures cause { HasCause (S.sound store.old) (S.faults store.old) (S.faults store.new) result }
+
+    // Each piece is read once.
+    ensures spends { Spends (piece_count size) (S.calls_left store.old) (S.calls_left store.new) (is_ok result) }
 {
+    laws::calls_add();
+    laws::calls_end();
     let mut hasher = Sha256::new();
     let mut at = 0;
     while at < size {
@@ -54,6 +60,7 @@ fn take_piece<S: ImageStore>(
     ensures same { IsTrue (S.honest store.old) → S.device store.new ≡ S.device store.old }
     ensures kept { Keeps S.honest S.sound S.capacity S.faults store.old store.new }
     ensures cause { HasCause (S.sound store.old) (S.faults store.old) (S.faults store.new) result }
+    ensures spends { Spends 1 (S.calls_left store.old) (S.calls_left store.new) (is_ok result) }
 {
     let mut buffer = [0; PIECE_SIZE as usize];
     let piece = &mut buffer[..count as usize];

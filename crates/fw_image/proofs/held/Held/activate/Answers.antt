@@ -34,6 +34,6 @@ returns-clause-makes g c =
     let status : status_of (phase_of h.status h.goal) ≡ VerificationSuccessful = rw (← c.self.view_is) at c.requires in
     let phase = is_sealed _ h wanted valid status c.in-Some.is in
     let admits = subst (λ (p : Phase). Admits m p activate) (sym phase) tt in
-    rw (← c.self.view_is, told.done) (makes_written s store c.replace.new.store h (header_switched h c.other.result wanted c.none.result) activate done refl (g.met.S.ImageStore.sized store) told.kept told.cause.counted told.written (c.if-not-self.false, admits)
+    rw (← c.self.view_is, told.done) (makes_written s store c.replace.new.store h (header_switched h c.other.result wanted c.none.result) activate done refl (g.met.S.ImageStore.sized store) told.kept told.cause.counted told.written told.spends (c.if-not-self.false, admits)
     (λ d d' views.
     leaves _ _ _ (meter_of-switched _ h d d' c.other.result wanted c.none.result c.other.ensures views.same phase (verified_bytes c.cuts_join.ensures _ h d wanted valid views.sized status c.in-Some.is))))

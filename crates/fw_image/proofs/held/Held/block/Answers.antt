@@ -1,4 +1,5 @@
-use Rattle.std.proofs.Common.{◌≡◌, IsTrue, false, length, refl, sym, ◌∙◌}
+use Rattle.std.proofs.Common.{◌≡◌, IsTrue, true, false, cond, length, refl, sym, ◌∙◌}
+use Rattle.fw_blocks.specs.Members.{has}
 use Rattle.fw_store.specs.Device.{slot_bytes, Torn}
 use Rattle.fw_store.specs.declared.slot.Slot.{Slot}
 use Rattle.fw_store.specs.declared.header.TransferStatus.TheVariants.{Initiated}
@@ -9,7 +10,7 @@ use Rattle.fw_image.specs.declared.error.Refusal.TheVariants.{Fault}
 use Rattle.fw_image.proofs.Blocks.{mark_more, mark_again}
 use Rattle.fw_image.proofs.Meters.{seen_size, headed}
 use Rattle.fw_image.proofs.Moves.{makes_served, keeps_twice, fault_told, is_receiving, counted_after}
-use Rattle.fw_image.proofs.Puts.{leaves_put, tears_put, served_block, marks_in, valid_marked, wrote, wrote_then}
+use Rattle.fw_image.proofs.Puts.{leaves_put, tears_put, calls_put, one_or_two, served_block, marks_in, valid_marked, wrote, wrote_then}
 use Rattle.fw_image.proofs.held.Held.block.Goals as goal
 
 pub returns-in_err-write-clause-makes : goal.returns-in_err-write-clause-makes
@@ -22,10 +23,12 @@ returns-in_err-write-clause-makes g c =
     let place = c.in-Some.ensures.found in
     let phase = is_receiving _ h place.goal valid status place.there in
     let m = meter_of (s.capacity store) h (seen (s.honest store) (s.capacity store) (s.device store)) in
+    let calls = calls_put (s.capacity store) h (seen (s.honest store) (s.capacity store) (s.device store)) c.args.number c.in-Some.start c.args.value.now place in
     let sized = seen_size (s.honest store) (s.capacity store) (s.device store) (g.met.S.ImageStore.sized store) in
     let told = c.in_err-write.ensures in
     rw (← c.self.view_is, fault_told c.from_residual.result c.from_residual.ensures.1)
     (makes_served s store c.write.new.self h h (block c.args.number c.args.value.now) (refused Fault) told.kept told.cause.counted told.cause.never
+    (rw calls (c.calls_end.ensures 1 (cond (has h.marks c.args.number) 1 2) _ _ (one_or_two (has h.marks c.args.number)) told.spends))
     (served_block m place.goal c.args.number c.args.value.now c.if-not-self.false phase place.is_block)
     (tears_put c.other_blocks_stay.ensures c.begins_within.ensures (s.honest store) (s.capacity store) h (s.device store) (s.device c.write.new.self) c.other-spare.result c.args.number c.in-Some.start c.args.value.now
     valid sized place c.other-spare.ensures told.torn))
@@ -40,6 +43,7 @@ returns-then-has-clause-makes g c =
     let place = c.in-Some.ensures.found in
     let phase = is_receiving _ h place.goal valid status place.there in
     let m = meter_of (s.capacity store) h (seen (s.honest store) (s.capacity store) (s.device store)) in
+    let calls = calls_put (s.capacity store) h (seen (s.honest store) (s.capacity store) (s.device store)) c.args.number c.in-Some.start c.args.value.now place in
     let sized = seen_size (s.honest store) (s.capacity store) (s.device store) (g.met.S.ImageStore.sized store) in
     let told = c.in_ok-write.ensures in
     let after : (slot : Slot) → IsTrue (s.honest store) → length (slot_bytes (s.device c.write.new.self) slot) ≡ s.capacity store =
@@ -48,6 +52,7 @@ returns-then-has-clause-makes g c =
     let marked = sym c.has.ensures ∙ c.if-has.true in
     rw (← c.self.view_is)
     (makes_served s store c.write.new.self h h (block c.args.number c.args.value.now) done told.kept told.cause.counted (λ _. refl)
+    (rw (calls, marked) told.spends)
     (served_block m place.goal c.args.number c.args.value.now c.if-not-self.false phase place.is_block)
     (leaves_put c.other_blocks_stay.ensures c.begins_within.ensures (s.honest store) (s.capacity store) h (s.device store) (s.device c.write.new.self) c.args.number c.in-Some.start c.args.value.now h.marks
     valid valid sized sized' place (mark_again h.marks c.args.number marked) (λ honest. wrote h c.other-spare.result c.in-Some.start c.args.value.now _ _ c.other-spare.ensures (told.done honest))))
@@ -62,8 +67,10 @@ returns-in_err-replace-clause-makes g c =
     let place = c.in-Some.ensures.found in
     let phase = is_receiving _ h place.goal valid status place.there in
     let m = meter_of (s.capacity store) h (seen (s.honest store) (s.capacity store) (s.device store)) in
+    let calls = calls_put (s.capacity store) h (seen (s.honest store) (s.capacity store) (s.device store)) c.args.number c.in-Some.start c.args.value.now place in
     let sized = seen_size (s.honest store) (s.capacity store) (s.device store) (g.met.S.ImageStore.sized store) in
     let first = c.in_ok-write.ensures in
+    let unmarked = sym c.has.ensures ∙ c.if-has.false in
     let told = c.in_err-replace.ensures in
     let still : IsTrue (s.honest store) → IsTrue (s.honest c.write.new.self) = λ honest. first.kept.honesty ∙ honest in
     let torn : IsTrue (s.honest store) → Torn (s.device store) c.other-spare.result c.in-Some.start (length c.args.value.now) (s.device c.replace.new.store) =
@@ -71,6 +78,7 @@ returns-in_err-replace-clause-makes g c =
     rw (← c.self.view_is, fault_told c.from_residual-in_err-replace.result c.from_residual-in_err-replace.ensures.1, told.failed)
     (makes_served s store c.replace.new.store h h (block c.args.number c.args.value.now) (refused Fault) (keeps_twice s store c.write.new.self c.replace.new.store first.kept told.kept)
     (counted_after false _ _ _ first.cause.counted told.cause.counted) (λ sound. told.cause.never (first.kept.soundness sound))
+    (rw (calls, unmarked) (c.calls_add.ensures 1 1 _ _ _ false first.spends told.spends))
     (served_block m place.goal c.args.number c.args.value.now c.if-not-self.false phase place.is_block)
     (tears_put c.other_blocks_stay.ensures c.begins_within.ensures (s.honest store) (s.capacity store) h (s.device store) (s.device c.replace.new.store) c.other-spare.result c.args.number c.in-Some.start c.args.value.now
     valid sized place c.other-spare.ensures torn))
@@ -85,8 +93,10 @@ returns-clause-makes g c =
     let place = c.in-Some.ensures.found in
     let phase = is_receiving _ h place.goal valid status place.there in
     let m = meter_of (s.capacity store) h (seen (s.honest store) (s.capacity store) (s.device store)) in
+    let calls = calls_put (s.capacity store) h (seen (s.honest store) (s.capacity store) (s.device store)) c.args.number c.in-Some.start c.args.value.now place in
     let sized = seen_size (s.honest store) (s.capacity store) (s.device store) (g.met.S.ImageStore.sized store) in
     let first = c.in_ok-write.ensures in
+    let unmarked = sym c.has.ensures ∙ c.if-has.false in
     let told = c.in_ok-replace.ensures in
     let kept = keeps_twice s store c.write.new.self c.replace.new.store first.kept told.kept in
     let still : IsTrue (s.honest store) → IsTrue (s.honest c.write.new.self) = λ honest. first.kept.honesty ∙ honest in
@@ -97,6 +107,7 @@ returns-clause-makes g c =
     let valid' = valid_marked _ h c.args.number c.in-Some.start c.args.value.now c.mark.new.self valid status place marked told.fits in
     rw (← c.self.view_is, told.done)
     (makes_served s store c.replace.new.store h (record h { marks = c.mark.new.self }) (block c.args.number c.args.value.now) done kept (told.cause.counted ∙ first.cause.counted) (λ _. refl)
+    (rw (calls, unmarked) (c.calls_add.ensures 1 1 _ _ _ true first.spends told.spends))
     (served_block m place.goal c.args.number c.args.value.now c.if-not-self.false phase place.is_block)
     (leaves_put c.other_blocks_stay.ensures c.begins_within.ensures (s.honest store) (s.capacity store) h (s.device store) (s.device c.replace.new.store) c.args.number c.in-Some.start c.args.value.now c.mark.new.self
     valid valid' sized sized' place marked (λ honest.

@@ -20,5 +20,5 @@ returns-clause-makes g c =
     let told = c.in_ok-replace.ensures in
     let none = none_has 4096 c.none.result c.none.ensures in
     let offer = rw c.capacity.ensures at (c.if-not-is_offer.ensures.0 refl) in
-    rw (← c.self.view_is, told.done) (makes_written g.S.ImageStore c.self.inside.store c.replace.new.store h (header_begun h c.args.name c.args.size c.none.result) (initiate c.args.name c.args.size) done refl (g.met.S.ImageStore.sized c.self.inside.store) told.kept told.cause.counted told.written (c.if-not-self.false, offer)
+    rw (← c.self.view_is, told.done) (makes_written g.S.ImageStore c.self.inside.store c.replace.new.store h (header_begun h c.args.name c.args.size c.none.result) (initiate c.args.name c.args.size) done refl (g.met.S.ImageStore.sized c.self.inside.store) told.kept told.cause.counted told.written told.spends (c.if-not-self.false, offer)
     (λ d d' views. leaves _ _ _ (meter_of-begun _ h d d' c.args.name c.args.size c.none.result none views.same)))

@@ -1,4 +1,6 @@
-use Rattle.fw_image.proofs.Openings.{opened_again, not_refused}
+use Rattle.fw_image.specs.Stored.{seen}
+use Rattle.fw_image.proofs.Meters.{seen_size}
+use Rattle.fw_image.proofs.Openings.{opened_again, not_refused, length-running}
 use Rattle.fw_image.proofs.held.Held.open.Goals as goal
 
 pub returns-in-Ok-clause-again : goal.returns-in-Ok-clause-again
@@ -9,3 +11,11 @@ returns-in-Ok-clause-again g c = λ meter is trusted honest sound.
 pub returns-in-Err-clause-again : goal.returns-in-Err-clause-again
 returns-in-Err-clause-again g c = λ meter is trusted honest sound.
     not_refused g.S.ImageStore c.args.store c.examine.new.store c.in-Err.error meter c.one_header.ensures c.in-Err.ensures.refused is trusted honest sound
+
+pub returns-in-Ok-clause-spends : goal.returns-in-Ok-clause-spends
+returns-in-Ok-clause-spends g c =
+    let s = g.S.ImageStore in
+    let store = c.examine.new.store in
+    let told = c.in-Ok.ensures in
+    let sized = seen_size (s.honest store) (s.capacity store) (s.device store) (g.met.S.ImageStore.sized store) in
+    rw (length-running (s.capacity store) c.in-Ok.header (seen (s.honest store) (s.capacity store) (s.device store)) told.held.valid sized) told.spends
