@@ -201,7 +201,7 @@ fn clear<D: ByteDevice>(device: &mut D, len: u64) -> Result<(), DeviceFault>
 }
 
 // Lays out a store on a device, in place of what it holds: this header, the image in the first slot, and zeros behind it
-// and in the other slot. The capacity comes last, so that what is cut short is no store.
+// and in the other slot. The capacity comes last, behind all else, so that what is cut short is no store.
 fn lay_out<D: ByteDevice>(
     device: &mut D,
     capacity: u32,
@@ -216,7 +216,7 @@ fn lay_out<D: ByteDevice>(
     clear(device, store_size(capacity))?;
     device.write_at(SLOTS_AT, image)?;
     device.write_at(HEADER_AT, head)?;
-    device.write_at(0, &capacity.to_be_bytes())
+    device.replace_at(0, &capacity.to_be_bytes())
 }
 
 // How many calls a device has left is not known.

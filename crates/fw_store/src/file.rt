@@ -15,7 +15,8 @@ use std::os::unix::fs::FileExt;
 use std::path::AsPath;
 use std::rt::Files;
 
-/// The bytes of an open file. Nothing is known of what a file holds or gives, so it is neither honest nor sound.
+/// The bytes of an open file, which no other store has open: it is under an exclusive lock. Nothing is known of what a file
+/// holds or gives, so it is neither honest nor sound.
 #[derive(Drop)]
 pub struct FileDevice {
     file: File,
@@ -30,35 +31,42 @@ fn refused(_error: io::Error) -> DeviceFault {
 }
 
 impl FileDevice {
-    // Makes a file, in place of one that is there.
+    // Makes a file where there is none.
     fn create<R: Files<File = File>, P: AsPath>(
         rt: &R,
         path: P,
     ) -> Result<FileDevice, DeviceFault> {
         let mut options = OpenOptions::new();
-        options.read(true).write(true).create(true).truncate(true);
-        let file = options.open(rt, path).map_err(refused)?;
-        Ok(FileDevice { file })
+        options.read(true).write(true).create_new(true);
+        FileDevice::locked(options.open(rt, path).map_err(refused)?)
     }
 
     // Opens a file that is there.
     fn open<R: Files<File = File>, P: AsPath>(rt: &R, path: P) -> Result<FileDevice, DeviceFault> {
         let mut options = OpenOptions::new();
         options.read(true).write(true);
-        let file = options.open(rt, path).map_err(refused)?;
+        FileDevice::locked(options.open(rt, path).map_err(refused)?)
+    }
+
+    // The file under the lock, which ends when it is closed.
+    fn locked(file: File) -> Result<FileDevice, DeviceFault> {
+        if file.try_lock().is_err() {
+            return Err(DeviceFault);
+        }
         Ok(FileDevice { file })
     }
 }
 
 impl DeviceStore<FileDevice> {
-    /// A new store in a file, in place of one that is there: the factory image is in its first slot, with zeros behind it
-    /// and in the other one. `capacity` is the size of a slot in bytes, 1 to 4,194,304, and `block_size` that of a block, 1
-    /// to 1,024. The image has 1 to `capacity` bytes.
+    /// A new store in a new file: the factory image is in its first slot, with zeros behind it and in the other one.
+    /// `capacity` is the size of a slot in bytes, 1 to 4,194,304, and `block_size` that of a block, 1 to 1,024. The image
+    /// has 1 to `capacity` bytes.
     ///
     /// # Errors
     ///
-    /// `BadSetup` where one of these doesn't hold, and no file is made. Otherwise `StoreFault` alone, where the file can't
-    /// be made or written. It may then have any bytes.
+    /// `BadSetup` where one of these doesn't hold, and no file is made. Otherwise `StoreFault` alone: where a file is there
+    /// already, which is left as it is, and where the file can't be made, locked or written. One that was made may then be
+    /// left with any bytes.
     pub fn create<R: Files<File = File>, P: AsPath>(
         rt: &R,
         path: P,
@@ -84,7 +92,7 @@ impl DeviceStore<FileDevice> {
     ///
     /// # Errors
     ///
-    /// `StoreFault` where the file can't be opened or read, and `BadFile` where its bytes don't begin with a capacity of 1
+    /// `StoreFault` where the file can't be opened or read, or another store has it open, and `BadFile` where its bytes don't begin with a capacity of 1
     /// to 4,194,304, or aren't as many as those of a store of that capacity.
     pub fn reopen<R: Files<File = File>, P: AsPath>(
         rt: &R,
@@ -125,7 +133,10 @@ impl ByteDevice for FileDevice {
         self.file.write_all_at(bytes, at).map_err(refused)
     }
 
+    // The disk has all that was written before these bytes when they are written, and has them when the call ends.
     fn replace_at(&mut self, at: u64, bytes: &[u8]) -> Result<(), DeviceFault> {
-        self.file.write_all_at(bytes, at).map_err(refused)
+        self.file.sync_data().map_err(refused)?;
+        self.file.write_all_at(bytes, at).map_err(refused)?;
+        self.file.sync_data().map_err(refused)
     }
 }

@@ -24,9 +24,9 @@ returns-clause-done g c h =
     let blank = g.D.ByteDevice.contents c.clear.new.device in
     let empty : blank ≡ replicate (store_size c.args.capacity) 0 = c.in_ok-clear.ensures.done h ∙ ap (λ (n : ℕ). replicate n 0) c.store_size.ensures in
     let number : length c.to_be_bytes.result ≡ 4 = ap length c.to_be_bytes.ensures in
-    on_ok_too c.write_at-3.result c.write_at-3.result refl
+    on_ok_too c.replace_at.result c.replace_at.result refl
     (λ e. laid c.args.capacity blank (g.D.ByteDevice.contents c.write_at.new.self) (g.D.ByteDevice.contents c.write_at-2.new.self)
-    (g.D.ByteDevice.contents c.write_at-3.new.self) c.to_be_bytes.result c.args.head.now c.args.image.now empty
+    (g.D.ByteDevice.contents c.replace_at.new.self) c.to_be_bytes.result c.args.head.now c.args.image.now empty
     (c.in_ok-write_at.ensures.done cleared) (c.in_ok-write_at-2.ensures.done slotted) e number (omega arith) c.requires
     ∙ ap (λ (l : List ℕ). l ++ c.args.head.now ++ padded c.args.image.now c.args.capacity ++ replicate c.args.capacity 0) c.to_be_bytes.ensures)
-    (c.write_at-3.ensures.done headed)
+    (c.replace_at.ensures.done headed)
