@@ -8,7 +8,7 @@ use std::test::Fail;
 use std::{env, fs};
 
 /// A path of a test's own, where there is no file.
-fn path_of(rt: &HostRuntime, name: &str) -> Result<PathBuf, Fail> {
+pub(crate) fn path_of(rt: &HostRuntime, name: &str) -> Result<PathBuf, Fail> {
     let mut path = env::temp_dir(rt)?;
     path.push(name)?;
     if fs::exists(rt, path.as_path())? {
@@ -18,7 +18,7 @@ fn path_of(rt: &HostRuntime, name: &str) -> Result<PathBuf, Fail> {
 }
 
 /// Whether a file has these bytes.
-fn has(rt: &HostRuntime, path: &PathBuf, bytes: &[u8]) -> Result<bool, Fail> {
+pub(crate) fn has(rt: &HostRuntime, path: &PathBuf, bytes: &[u8]) -> Result<bool, Fail> {
     Ok(fs::read(rt, path.as_path())?.as_slice() == bytes)
 }
 
@@ -79,24 +79,6 @@ fn is_there_when_reopened(rt: HostRuntime) -> Result<(), Fail> {
     assert_eq!(rt; again.header()?, header_of(rt.alloc(), "0102030405")?);
     assert!(rt; reads(rt.alloc(), &mut again, Slot::First, 0, b"axy")?);
     assert!(rt; reads(rt.alloc(), &mut again, Slot::Second, 5, b"pqr")?);
-    fs::remove_file(&rt, path.as_path())?;
-    Ok(())
-}
-
-#[test]
-fn replaces_a_file(rt: HostRuntime) -> Result<(), Fail> {
-    let path = path_of(&rt, "fw_store_replaced")?;
-    let longer = vec![in rt.alloc(); 255; 1000]?;
-    fs::write(&rt, path.as_path(), longer.as_slice())?;
-    drop(FileStore::create(&rt, path.as_path(), 8, 2, b"abc")?);
-    let head = header_of(rt.alloc(), FRESH)?;
-    assert!(rt;
-        has(
-            &rt,
-            &path,
-            &store_of(rt.alloc(), &head, b"abc\0\0\0\0\0", b"\0\0\0\0\0\0\0\0")?
-        )?
-    );
     fs::remove_file(&rt, path.as_path())?;
     Ok(())
 }

@@ -9,6 +9,8 @@ mod file_tests;
 #[cfg(test)]
 mod fuse_tests;
 #[cfg(test)]
+mod held_file_tests;
+#[cfg(test)]
 mod memory_tests;
 #[cfg(test)]
 mod support;
