@@ -1,0 +1,59 @@
+//! The loads that `bench/` measures. Each line of standard input is one: a word, two numbers, and byte strings in hexadecimal.
+//! Standard output gets a line for each, which counts what was done.
+//!
+//! - `codec READS WRITES SPELLING`: the A-XDR Data is read and written so many times.
+//! - `memory BLOCK_SIZE SENT DATAGRAM ..`: a meter over a store in memory handles so many of the datagrams.
+//! - `file BLOCK_SIZE SENT DATAGRAM ..`: the same over a store in the file `store`, which is made anew and removed.
+//! - `copy SIZE TIMES`: so many bytes are copied so many times.
+//! - `verify SIZE ROUNDS DATAGRAM ..`: a meter handles the datagrams so many times, which move an image of so many bytes `a`.
+//!   The last two are its verify and its activate. `timed` does the same, and each round has a line before: the processor time
+//!   of verify, and that of the digest of the same bytes alone, in nanoseconds.
+#![tactic(auto)]
+
+mod codec;
+mod meter;
+mod verify;
+
+use anyhow::{Context, Result, bail};
+use std::alloc::Global;
+use std::io;
+
+fn main(rt: HostRuntime) -> Result<()> {
+    let text = io::read_to_string(rt.alloc(), rt.reader())?;
+    for line in text.lines() {
+        let count = measure(&rt, line)?;
+        println!(rt; "{count}")?;
+    }
+    Ok(())
+}
+
+/// Does what the line says, and counts what was done.
+fn measure(rt: &HostRuntime, line: &str) -> Result<u64> {
+    let words: Vec<&str> = line.split_whitespace().collect(rt.alloc())?;
+    let [word, first, second, strings @ ..] = words.as_slice() else {
+        bail!("a line is a word, two numbers and byte strings");
+    };
+    let (first, second) = (number(first)?, number(second)?);
+    let bytes = bytes_of(rt.alloc(), strings)?;
+    match *word {
+        "codec" => codec::measure(rt.alloc(), first, second, &bytes),
+        "memory" => meter::in_memory(rt.alloc(), first, second, &bytes),
+        "file" => meter::in_file(rt, first, second, &bytes),
+        "copy" => Ok(meter::copy(rt.alloc(), first, second)?),
+        "verify" => verify::measure(rt, first, second, &bytes, false),
+        "timed" => verify::measure(rt, first, second, &bytes, true),
+        _ => bail!("no load has this name"),
+    }
+}
+
+fn number(word: &str) -> Result<u32> {
+    word.parse::<u32>().context("a number")
+}
+
+fn bytes_of(alloc: Global, strings: &[&str]) -> Result<Vec<Vec<u8>>> {
+    let mut all = Vec::new(alloc);
+    for digits in strings {
+        all.push(hex::decode(alloc, digits.as_bytes())?)?;
+    }
+    Ok(all)
+}
