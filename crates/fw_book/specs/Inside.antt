@@ -6,7 +6,7 @@ use Rattle.fw_book.specs.declared.error.BookError.TheVariants.{NoMeters, TooMany
 use Rattle.fw_book.specs.declared.row.Row.{Row}
 use Rattle.fw_book.specs.Rows.{is_live, repeats, meters_of}
 use Rattle.fw_book.specs.Contents.{Offered, Contents, max_meters, has_serial, is_busy, IsEntry, max_image, IsBook}
-use Rattle.fw_book.specs.Changes.{first_applying}
+use Rattle.fw_wrapper.specs.Refusals.{first_applying}
 use Rattle.std.specs.Int.{w16, w32, to_be_bytes, from_be_bytes}
 use Rattle.fw_book.specs.declared.row.RowState.{RowState}
 use Rattle.fw_book.specs.declared.row.RowState.TheVariants.{Live, Done, Failed, Cancelled}

@@ -6,7 +6,7 @@ ghost use Rattle.fw_book.specs.Rows.{state_of, is_live_in, has_live, with_state,
 
 use crate::error::BookError;
 use crate::row::{Row, RowState, cancel_rows, mark_row};
-use fw_names::{CampaignId, ImageName, MeterId, factory_name};
+use fw_names::{CampaignId, ImageName, MeterId, digest_of};
 use std::alloc::Global;
 use std::marker::Model;
 
@@ -27,14 +27,14 @@ pub struct Offer {
 
 impl Model for Offer {
     ghost use Rattle.std.specs.Prelude.{◌≡◌};
-    ghost use Rattle.fw_names.specs.Name.{factory_name};
+    ghost use Rattle.sha2.specs.Sha256.{sha256};
     ghost use Rattle.fw_book.specs.Contents.{Offered};
 
     ghost Value = { Offered };
 
     ghost view = { λ o. record { image = o.image.items; rows = o.rows.items } };
 
-    ghost invariant = { λ o. o.digest ≡ (factory_name o.image.items).digest };
+    ghost invariant = { λ o. o.digest ≡ sha256 o.image.items };
 }
 
 impl Offer {
@@ -45,7 +45,7 @@ impl Offer {
         ensures offer { IfOk result (λ offer. offer ≡ record { image = image.now; rows = rows.items }) }
         ensures memory { IfErr result (λ e. e ≡ BookError.OutOfMemory) }
     {
-        let digest = factory_name(image).digest;
+        let digest = digest_of(image);
         let image = Vec::from_slice(alloc, image)?;
         Ok(Offer {
             image,

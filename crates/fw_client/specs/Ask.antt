@@ -3,6 +3,7 @@
 use Rattle.std.specs.Prelude.{◌≤◌, ℕ, ℤ, pos, true, List, [], ◌∷◌, length, Some}
 use Rattle.fw_axdr.specs.Value.{Value, structure, boolean, double_long_unsigned, octet_string, integer, none, more}
 use Rattle.fw_names.specs.Name.{Name, name_bytes}
+use Rattle.fw_apdu.specs.Cosem as cosem
 use Rattle.fw_apdu.specs.Request.{Descriptor, RequestContent, get_request, set_request, action_request, SpellsRequest}
 use Rattle.fw_wrapper.specs.Wrapper.{Wraps}
 use Rattle.fw_client.specs.declared.ask.Asked.{Asked}
@@ -23,11 +24,11 @@ pub data Ask : Type 0 where
 
 -- an attribute or a method of Image transfer, 0-0:44.0.0.255
 abbrev pub image_transfer : ℤ → Descriptor
-image_transfer number = record { class = 18; instance = 0 ∷ 0 ∷ 44 ∷ 0 ∷ 0 ∷ 255 ∷ []; number = number }
+image_transfer number = record { class = cosem.image_transfer_class; instance = cosem.image_transfer; number = number }
 
 -- an attribute of the active firmware identifier, 1-0:0.2.0.255, a Data object
 abbrev pub active_identifier : ℤ → Descriptor
-active_identifier number = record { class = 1; instance = 1 ∷ 0 ∷ 0 ∷ 2 ∷ 0 ∷ 255 ∷ []; number = number }
+active_identifier number = record { class = cosem.data_class; instance = cosem.active_firmware_identifier; number = number }
 
 abbrev pub pair : Value → Value → Value
 pair first second = structure (more first (more second none))
@@ -35,17 +36,17 @@ pair first second = structure (more first (more second none))
 -- An initiate takes the structure of an identifier and a size, a block that of its number and its bytes. Verify and activate take an
 -- integer, and 0 is written.
 abbrev pub request_of : Ask → RequestContent
-request_of block_size = get_request (image_transfer (pos 2))
-request_of blocks = get_request (image_transfer (pos 3))
-request_of first_missing = get_request (image_transfer (pos 4))
-request_of status = get_request (image_transfer (pos 6))
-request_of info = get_request (image_transfer (pos 7))
-request_of active_name = get_request (active_identifier (pos 2))
-request_of enable = set_request (image_transfer (pos 5)) (boolean true)
-request_of (initiate name size) = action_request (image_transfer (pos 1)) (Some (pair (octet_string (name_bytes name)) (double_long_unsigned size)))
-request_of (block number value) = action_request (image_transfer (pos 2)) (Some (pair (double_long_unsigned number) (octet_string value)))
-request_of verify = action_request (image_transfer (pos 3)) (Some (integer (pos 0)))
-request_of activate = action_request (image_transfer (pos 4)) (Some (integer (pos 0)))
+request_of block_size = get_request (image_transfer cosem.image_block_size)
+request_of blocks = get_request (image_transfer cosem.image_transferred_blocks_status)
+request_of first_missing = get_request (image_transfer cosem.image_first_not_transferred_block_number)
+request_of status = get_request (image_transfer cosem.image_transfer_status)
+request_of info = get_request (image_transfer cosem.image_to_activate_info)
+request_of active_name = get_request (active_identifier cosem.value)
+request_of enable = set_request (image_transfer cosem.image_transfer_enabled) (boolean true)
+request_of (initiate name size) = action_request (image_transfer cosem.image_transfer_initiate) (Some (pair (octet_string (name_bytes name)) (double_long_unsigned size)))
+request_of (block number value) = action_request (image_transfer cosem.image_block_transfer) (Some (pair (double_long_unsigned number) (octet_string value)))
+request_of verify = action_request (image_transfer cosem.image_verify) (Some (integer (pos 0)))
+request_of activate = action_request (image_transfer cosem.image_activate) (Some (integer (pos 0)))
 
 -- what is kept of an ask until its answer comes: its kind, and of a block its number
 abbrev pub kind_of : Ask → Asked

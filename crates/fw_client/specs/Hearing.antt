@@ -19,7 +19,7 @@ pub record CarriesResponse (datagram : List ℕ) (invoke : ℕ) (content : Respo
   pub wraps : Wraps datagram 1 1 apdu
   pub spells : SpellsResponse apdu invoke content
 
--- a datagram carries an APDU between the ports 1 that may hold a Data, whatever it spells
+-- a datagram carries an APDU between the ports 1 that may return a Data that takes memory, whatever it spells
 abbrev pub MayCarryData : List ℕ → Type 0
 MayCarryData datagram = (apdu : List ℕ) × Wraps datagram 1 1 apdu × MayReturnData apdu
 

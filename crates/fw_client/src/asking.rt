@@ -13,7 +13,7 @@ ghost use Rattle.fw_client.specs.View.{ask_of};
 
 use crate::ask::Ask;
 use crate::error::OutOfMemory;
-use fw_apdu::{ApduError, Invoke, LogicalName, Request, write_request};
+use fw_apdu::{ApduError, Invoke, Request, cosem, write_request};
 use fw_axdr::{Data, Items, Octets};
 use fw_names::ImageName;
 use fw_wrapper::{WrapError, join};
@@ -21,16 +21,6 @@ use std::alloc::{AllocError, Global};
 
 /// The wPort of both ends.
 pub(crate) const PORT: u16 = 1;
-
-const IMAGE_TRANSFER: LogicalName = LogicalName([0, 0, 44, 0, 0, 255]);
-
-/// The class_id of Image transfer.
-const IMAGE_TRANSFER_CLASS: u16 = 18;
-
-const ACTIVE_IDENTIFIER: LogicalName = LogicalName([1, 0, 0, 2, 0, 255]);
-
-/// The class_id of Data objects.
-const DATA: u16 = 1;
 
 /// The datagram that asks, under this invoke byte.
 pub(crate) fn datagram(alloc: Global, invoke: Invoke, ask: &Ask<'_>) -> Result<Vec<u8>, OutOfMemory>
@@ -69,17 +59,25 @@ fn request(alloc: Global, invoke: Invoke, ask: &Ask<'_>) -> Result<Request, Allo
     ensures named { OnOk result (IsNamed (ask_of ask.now)) }
 {
     Ok(match ask {
-        Ask::BlockSize => get(invoke, 2),
-        Ask::Blocks => get(invoke, 3),
-        Ask::FirstMissing => get(invoke, 4),
-        Ask::Status => get(invoke, 6),
-        Ask::Info => get(invoke, 7),
+        Ask::BlockSize => get(invoke, cosem::IMAGE_BLOCK_SIZE),
+        Ask::Blocks => get(invoke, cosem::IMAGE_TRANSFERRED_BLOCKS_STATUS),
+        Ask::FirstMissing => get(invoke, cosem::IMAGE_FIRST_NOT_TRANSFERRED_BLOCK_NUMBER),
+        Ask::Status => get(invoke, cosem::IMAGE_TRANSFER_STATUS),
+        Ask::Info => get(invoke, cosem::IMAGE_TO_ACTIVATE_INFO),
         Ask::ActiveName => get_active_name(invoke),
         Ask::Enable => enable(invoke),
-        Ask::Initiate { name, size } => action(invoke, 1, identified(alloc, name, *size)?),
-        Ask::Block { number, value } => action(invoke, 2, numbered(alloc, *number, value)?),
-        Ask::Verify => action(invoke, 3, Data::Integer(0)),
-        Ask::Activate => action(invoke, 4, Data::Integer(0)),
+        Ask::Initiate { name, size } => action(
+            invoke,
+            cosem::IMAGE_TRANSFER_INITIATE,
+            identified(alloc, name, *size)?,
+        ),
+        Ask::Block { number, value } => action(
+            invoke,
+            cosem::IMAGE_BLOCK_TRANSFER,
+            numbered(alloc, *number, value)?,
+        ),
+        Ask::Verify => action(invoke, cosem::IMAGE_VERIFY, Data::Integer(0)),
+        Ask::Activate => action(invoke, cosem::IMAGE_ACTIVATE, Data::Integer(0)),
     })
 }
 
@@ -90,8 +88,8 @@ fn get(invoke: Invoke, attribute: i8) -> Request
 {
     Request::Get {
         invoke,
-        class: IMAGE_TRANSFER_CLASS,
-        instance: IMAGE_TRANSFER,
+        class: cosem::IMAGE_TRANSFER_CLASS,
+        instance: cosem::IMAGE_TRANSFER,
         attribute,
     }
 }
@@ -99,13 +97,13 @@ fn get(invoke: Invoke, attribute: i8) -> Request
 // GET of the value of the active firmware identifier.
 fn get_active_name(invoke: Invoke) -> Request
     ensures invoke { request_invoke result ≡ invoke.0 }
-    ensures content { request_content result ≡ get_request (active_identifier (pos 2)) }
+    ensures content { request_content result ≡ request_of (ask_of Ask.ActiveName) }
 {
     Request::Get {
         invoke,
-        class: DATA,
-        instance: ACTIVE_IDENTIFIER,
-        attribute: 2,
+        class: cosem::DATA_CLASS,
+        instance: cosem::ACTIVE_FIRMWARE_IDENTIFIER,
+        attribute: cosem::VALUE,
     }
 }
 
@@ -116,9 +114,9 @@ fn enable(invoke: Invoke) -> Request
 {
     Request::Set {
         invoke,
-        class: IMAGE_TRANSFER_CLASS,
-        instance: IMAGE_TRANSFER,
-        attribute: 5,
+        class: cosem::IMAGE_TRANSFER_CLASS,
+        instance: cosem::IMAGE_TRANSFER,
+        attribute: cosem::IMAGE_TRANSFER_ENABLED,
         value: Data::Boolean(true),
     }
 }
@@ -130,8 +128,8 @@ fn action(invoke: Invoke, method: i8, parameter: Data) -> Request
 {
     Request::Action {
         invoke,
-        class: IMAGE_TRANSFER_CLASS,
-        instance: IMAGE_TRANSFER,
+        class: cosem::IMAGE_TRANSFER_CLASS,
+        instance: cosem::IMAGE_TRANSFER,
         method,
         parameter: Some(parameter),
     }

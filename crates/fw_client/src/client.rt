@@ -79,7 +79,8 @@ impl Client {
     ///
     /// # Errors
     ///
-    /// `AllBusy` where that id is outstanding, and otherwise `OutOfMemory` alone. The client is then as before.
+    /// `AllBusy` where that id is outstanding, and otherwise `OutOfMemory` alone, since each datagram takes memory. The client is then
+    /// as before.
     pub fn ask(&mut self, alloc: Global, ask: &Ask<'_>) -> Result<Vec<u8>, AskError>
         requires { Fits (ask_of ask.now) }
         ensures written { IfOk result (λ datagram. datagram.items
@@ -112,7 +113,8 @@ impl Client {
     ///
     /// # Errors
     ///
-    /// `OutOfMemory`, and only for the response to a GET or an ACTION. The client is then as before.
+    /// `OutOfMemory`, and only for the bytes and elements of a value that a response to a GET or an ACTION returns. The client is then
+    /// as before.
     pub fn hear(&mut self, alloc: Global, datagram: &[u8]) -> Result<Heard, OutOfMemory>
         ensures hears { IfOk result (λ heard. Hears self.old datagram.now heard self.new) }
         // A claim is given exactly where the meter's answer spells it.
