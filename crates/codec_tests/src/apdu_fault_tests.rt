@@ -1,202 +1,203 @@
 //! Faults of byte strings that are no request or no response: which one, and that the leftmost one decides.
 
-use crate::support::joined;
+use crate::support::{Case, each};
 use fw_apdu::{ApduError, read_request, read_response};
 use fw_axdr::AxdrError;
 use fw_wrapper::WrapError;
 use std::alloc::{AllocError, Global};
+use std::test::Fail;
 
-const TRUNCATED: ApduError = ApduError::BadData(AxdrError::Truncated);
-
-const UNKNOWN_TAG: ApduError = ApduError::BadData(AxdrError::UnknownTag);
-
-const BAD_LENGTH: ApduError = ApduError::BadData(AxdrError::BadLength);
-
-const TOO_DEEP: ApduError = ApduError::BadData(AxdrError::TooDeep);
-
-fn request_fault(alloc: Global, apdu: &[u8]) -> Option<ApduError> {
-    read_request(alloc, apdu).err()
+/// The fault, as `Debug` gives it.
+fn fault_text(alloc: Global, fault: Option<ApduError>) -> Result<String, AllocError> {
+    match fault {
+        Some(fault) => format!(in alloc; "{fault:?}"),
+        None => String::from_str(alloc, "none"),
+    }
 }
 
-fn response_fault(alloc: Global, apdu: &[u8]) -> Option<ApduError> {
-    read_response(alloc, apdu).err()
+/// The fault of a request.
+struct Asked(&'static str);
+
+impl Case for Asked {
+    fn told(&self, alloc: Global) -> Result<String, Fail> {
+        let fault = read_request(alloc, &hex::decode(alloc, self.0)?).err();
+        Ok(fault_text(alloc, fault)?)
+    }
+}
+
+/// The fault of a response.
+struct Answered(&'static str);
+
+impl Case for Answered {
+    fn told(&self, alloc: Global) -> Result<String, Fail> {
+        let fault = read_response(alloc, &hex::decode(alloc, self.0)?).err();
+        Ok(fault_text(alloc, fault)?)
+    }
 }
 
 /// First bytes of no request.
-const FRONTS: &[(&[u8], ApduError)] = &[
-    (&[], ApduError::Truncated),
-    (&[0xc0], ApduError::Truncated),
-    (&[0x00], ApduError::UnknownService),
-    (&[0xbf, 0x01], ApduError::UnknownService),
-    (&[0xc2, 0x02], ApduError::UnknownService),
-    (&[0xc4, 0x01], ApduError::UnknownService),
-    (&[0xc5], ApduError::UnknownService),
-    (&[0xc7], ApduError::UnknownService),
-    (&[0xff], ApduError::UnknownService),
-    (&[0xc0, 0x00], ApduError::UnsupportedForm),
-    (&[0xc1, 0x02, 0xc1], ApduError::UnsupportedForm),
-    (&[0xc3, 0xff], ApduError::UnsupportedForm),
+const FRONTS: &[(Asked, &str)] = &[
+    (Asked(""), "Truncated"),
+    (Asked("c0"), "Truncated"),
+    (Asked("00"), "UnknownService"),
+    (Asked("bf01"), "UnknownService"),
+    (Asked("c202"), "UnknownService"),
+    (Asked("c401"), "UnknownService"),
+    (Asked("c5"), "UnknownService"),
+    (Asked("c7"), "UnknownService"),
+    (Asked("ff"), "UnknownService"),
+    (Asked("c000"), "UnsupportedForm"),
+    (Asked("c102c1"), "UnsupportedForm"),
+    (Asked("c3ff"), "UnsupportedForm"),
 ];
 
 #[test]
-fn first_bytes_of_no_request(rt: HostRuntime) {
-    for (apdu, wanted) in FRONTS {
-        assert_eq!(rt;
-            request_fault(rt.alloc(), apdu),
-            Some(*wanted),
-            "at {apdu:?}"
-        );
-    }
+fn first_bytes_of_no_request(rt: HostRuntime) -> Result<(), Fail> {
+    each(rt.alloc(), FRONTS)
 }
 
-/// What stands between the first byte of a request and its access selection or its presence byte.
-const HEAD: &[u8] = &[
-    0x01, 0xc1, 0x00, 0x12, 0x00, 0x00, 0x2c, 0x00, 0x00, 0xff, 0x05,
-];
-
-/// First bytes, what stands behind the head, and the fault.
-const REQUESTS: &[(u8, &[u8], Option<ApduError>)] = &[
-    (0xc0, &[0x00], None),
-    (0xc0, &[0x00, 0x00], Some(ApduError::Trailing)),
-    (0xc0, &[0x01], Some(ApduError::UnsupportedForm)),
-    (0xc0, &[0xff, 0x00], Some(ApduError::UnsupportedForm)),
-    (0xc1, &[0x00, 0x03, 0x01], None),
-    (0xc1, &[0x00, 0x03, 0x01, 0x00], Some(ApduError::Trailing)),
-    (0xc1, &[0x01, 0x03, 0x01], Some(ApduError::UnsupportedForm)),
-    (0xc1, &[0x00, 0x07], Some(UNKNOWN_TAG)),
-    (0xc1, &[0x00, 0x09, 0x80, 0x07], Some(BAD_LENGTH)),
-    (0xc1, &[0x00, 0x06, 0x00], Some(TRUNCATED)),
+/// A GET, SETs and ACTIONs of an attribute or a method 5 of class 18, 0-0:44.0.0.255.
+const REQUESTS: &[(Asked, &str)] = &[
+    (Asked("c001c1001200002c0000ff0500"), "none"),
+    (Asked("c001c1001200002c0000ff050000"), "Trailing"),
+    (Asked("c001c1001200002c0000ff0501"), "UnsupportedForm"),
+    (Asked("c001c1001200002c0000ff05ff00"), "UnsupportedForm"),
+    (Asked("c101c1001200002c0000ff05000301"), "none"),
+    (Asked("c101c1001200002c0000ff0500030100"), "Trailing"),
+    (Asked("c101c1001200002c0000ff05010301"), "UnsupportedForm"),
+    (Asked("c101c1001200002c0000ff050007"), "BadData(UnknownTag)"),
     (
-        0xc1,
-        &[0x00, 2, 1, 2, 1, 2, 1, 2, 1, 2, 1, 2, 1, 2, 1, 2, 1, 0],
-        Some(TOO_DEEP),
+        Asked("c101c1001200002c0000ff0500098007"),
+        "BadData(BadLength)",
     ),
-    (0xc3, &[0x00], None),
-    (0xc3, &[0x00, 0x00], Some(ApduError::Trailing)),
-    (0xc3, &[0x01, 0x0f, 0x00], None),
-    (0xc3, &[0x01, 0x0f, 0x00, 0x00], Some(ApduError::Trailing)),
-    (0xc3, &[0x01, 0x07, 0x00], Some(UNKNOWN_TAG)),
-    (0xc3, &[0xff, 0x09, 0x80], Some(BAD_LENGTH)),
-    (0xc3, &[0x01, 0x06, 0x00], Some(TRUNCATED)),
     (
-        0xc3,
-        &[0x01, 1, 1, 1, 1, 1, 1, 1, 1, 1, 1, 1, 1, 1, 1, 1, 1, 0],
-        Some(TOO_DEEP),
+        Asked("c101c1001200002c0000ff05000600"),
+        "BadData(Truncated)",
+    ),
+    (
+        Asked("c101c1001200002c0000ff05000201020102010201020102010201020100"),
+        "BadData(TooDeep)",
+    ),
+    (Asked("c301c1001200002c0000ff0500"), "none"),
+    (Asked("c301c1001200002c0000ff050000"), "Trailing"),
+    (Asked("c301c1001200002c0000ff05010f00"), "none"),
+    (Asked("c301c1001200002c0000ff05010f0000"), "Trailing"),
+    (
+        Asked("c301c1001200002c0000ff05010700"),
+        "BadData(UnknownTag)",
+    ),
+    (
+        Asked("c301c1001200002c0000ff05ff0980"),
+        "BadData(BadLength)",
+    ),
+    (
+        Asked("c301c1001200002c0000ff05010600"),
+        "BadData(Truncated)",
+    ),
+    (
+        Asked("c301c1001200002c0000ff05010101010101010101010101010101010100"),
+        "BadData(TooDeep)",
     ),
 ];
-
-fn fault_of_request(
-    alloc: Global,
-    service: u8,
-    behind: &[u8],
-) -> Result<Option<ApduError>, AllocError> {
-    let apdu = joined(alloc, &[&[service], HEAD, behind])?;
-    Ok(request_fault(alloc, &apdu))
-}
 
 #[test]
-fn faults_of_requests(rt: HostRuntime) {
-    for (service, behind, wanted) in REQUESTS {
-        let found = fault_of_request(rt.alloc(), *service, behind);
-        assert_eq!(rt; found, Ok(*wanted), "at {service}, {behind:?}");
-    }
+fn faults_of_requests(rt: HostRuntime) -> Result<(), Fail> {
+    each(rt.alloc(), REQUESTS)
 }
 
 /// Responses and their faults.
-const RESPONSES: &[(&[u8], ApduError)] = &[
-    (&[], ApduError::Truncated),
-    (&[0xc0, 0x01], ApduError::UnknownService),
-    (&[0xc6, 0x02], ApduError::UnknownService),
-    (&[0xc4, 0x02, 0xc1], ApduError::UnsupportedForm),
-    (&[0xc5, 0x00], ApduError::UnsupportedForm),
-    (&[0xc7, 0x02], ApduError::UnsupportedForm),
-    (&[0xc4, 0x01, 0xc1, 0x02], ApduError::UnsupportedForm),
+const RESPONSES: &[(Answered, &str)] = &[
+    (Answered(""), "Truncated"),
+    (Answered("c001"), "UnknownService"),
+    (Answered("c602"), "UnknownService"),
+    (Answered("c402c1"), "UnsupportedForm"),
+    (Answered("c500"), "UnsupportedForm"),
+    (Answered("c702"), "UnsupportedForm"),
+    (Answered("c401c102"), "UnsupportedForm"),
+    (Answered("c701c10001ff"), "UnsupportedForm"),
+    (Answered("c401c1000700"), "BadData(UnknownTag)"),
+    (Answered("c701c10001000980"), "BadData(BadLength)"),
     (
-        &[0xc7, 0x01, 0xc1, 0x00, 0x01, 0xff],
-        ApduError::UnsupportedForm,
+        Answered("c401c1000201020102010201020102010201020100"),
+        "BadData(TooDeep)",
     ),
-    (&[0xc4, 0x01, 0xc1, 0x00, 0x07, 0x00], UNKNOWN_TAG),
-    (
-        &[0xc7, 0x01, 0xc1, 0x00, 0x01, 0x00, 0x09, 0x80],
-        BAD_LENGTH,
-    ),
-    (
-        &[
-            0xc4, 0x01, 0xc1, 0x00, 2, 1, 2, 1, 2, 1, 2, 1, 2, 1, 2, 1, 2, 1, 2, 1, 0,
-        ],
-        TOO_DEEP,
-    ),
-    (&[0xc4, 0x01, 0xc1, 0x00, 0x00, 0x00], ApduError::Trailing),
-    (&[0xc4, 0x01, 0xc1, 0x01, 0x04, 0x00], ApduError::Trailing),
-    (&[0xc5, 0x01, 0xc1, 0x00, 0x00], ApduError::Trailing),
-    (&[0xc7, 0x01, 0xc1, 0x00, 0x00, 0x00], ApduError::Trailing),
-    (
-        &[0xc7, 0x01, 0xc1, 0x00, 0x01, 0x00, 0x00, 0x00],
-        ApduError::Trailing,
-    ),
-    (
-        &[0xc7, 0x01, 0xc1, 0x00, 0x01, 0x01, 0x04, 0x00],
-        ApduError::Trailing,
-    ),
+    (Answered("c401c1000000"), "Trailing"),
+    (Answered("c401c1010400"), "Trailing"),
+    (Answered("c501c10000"), "Trailing"),
+    (Answered("c701c1000000"), "Trailing"),
+    (Answered("c701c10001000000"), "Trailing"),
+    (Answered("c701c10001010400"), "Trailing"),
 ];
 
 #[test]
-fn faults_of_responses(rt: HostRuntime) {
-    for (apdu, wanted) in RESPONSES {
-        assert_eq!(rt;
-            response_fault(rt.alloc(), apdu),
-            Some(*wanted),
-            "at {apdu:?}"
-        );
+fn faults_of_responses(rt: HostRuntime) -> Result<(), Fail> {
+    each(rt.alloc(), RESPONSES)
+}
+
+/// The fault of each proper prefix of an APDU, of no byte first: S where the service is truncated, and D where the Data is.
+struct Prefixes(&'static str);
+
+impl Case for Prefixes {
+    fn told(&self, alloc: Global) -> Result<String, Fail> {
+        let apdu = hex::decode(alloc, self.0)?;
+        let apdu = apdu.as_slice();
+        let mut told = String::new(alloc);
+        for len in 0..apdu.len() {
+            told.push_str(letter(fault_of(alloc, apdu.first(), &apdu[..len])))?;
+        }
+        Ok(told)
     }
 }
 
-/// APDUs, and where their Data begins: a missing byte before that is the service's fault, from there on the Data's.
-const WHOLE: &[(&[u8], usize)] = &[
+/// The fault of bytes that begin an APDU with this first byte.
+fn fault_of(alloc: Global, first: Option<&u8>, prefix: &[u8]) -> Option<ApduError> {
+    match first {
+        Some(0xc0..=0xc3) => read_request(alloc, prefix).err(),
+        _ => read_response(alloc, prefix).err(),
+    }
+}
+
+fn letter(fault: Option<ApduError>) -> &'static str {
+    match fault {
+        Some(ApduError::Truncated) => "S",
+        Some(ApduError::BadData(AxdrError::Truncated)) => "D",
+        _ => "?",
+    }
+}
+
+/// The Data begins behind what the service itself has.
+const WHOLE: &[(Prefixes, &str)] = &[
+    (Prefixes("c001c100010100000200ff0200"), "SSSSSSSSSSSSS"),
     (
-        &[
-            0xc0, 0x01, 0xc1, 0x00, 0x01, 0x01, 0x00, 0x00, 0x02, 0x00, 0xff, 0x02, 0x00,
-        ],
-        13,
+        Prefixes("c101c1001200002c0000ff05000301"),
+        "SSSSSSSSSSSSSDD",
     ),
     (
-        &[
-            0xc1, 0x01, 0xc1, 0x00, 0x12, 0x00, 0x00, 0x2c, 0x00, 0x00, 0xff, 0x05, 0x00, 0x03,
-            0x01,
-        ],
-        13,
+        Prefixes("c301c1001200002c0000ff02010202060000000009026162"),
+        "SSSSSSSSSSSSSDDDDDDDDDDD",
     ),
-    (
-        &[
-            0xc3, 0x01, 0xc1, 0x00, 0x12, 0x00, 0x00, 0x2c, 0x00, 0x00, 0xff, 0x02, 0x01, 0x02,
-            0x02, 0x06, 0x00, 0x00, 0x00, 0x00, 0x09, 0x02, 0x61, 0x62,
-        ],
-        13,
-    ),
-    (&[0xc4, 0x01, 0xc1, 0x00, 0x09, 0x02, 0x61, 0x62], 4),
-    (&[0xc4, 0x01, 0xc1, 0x01, 0x04], 5),
-    (&[0xc5, 0x01, 0xc1, 0x00], 4),
-    (&[0xc7, 0x01, 0xc1, 0xfa, 0x00], 5),
-    (&[0xc7, 0x01, 0xc1, 0x00, 0x01, 0x00, 0x16, 0x04], 6),
-    (&[0xc7, 0x01, 0xc1, 0x00, 0x01, 0x01, 0x04], 7),
+    (Prefixes("c401c10009026162"), "SSSSDDDD"),
+    (Prefixes("c401c10104"), "SSSSS"),
+    (Prefixes("c501c100"), "SSSS"),
+    (Prefixes("c701c1fa00"), "SSSSS"),
+    (Prefixes("c701c10001001604"), "SSSSSSDD"),
+    (Prefixes("c701c100010104"), "SSSSSSS"),
 ];
 
 #[test]
-fn each_proper_prefix_is_truncated(rt: HostRuntime) {
-    for (apdu, begin) in WHOLE {
-        for len in 0..apdu.len() {
-            let prefix = &apdu[..len];
-            let found = match apdu.first() {
-                Some(0xc0..=0xc3) => request_fault(rt.alloc(), prefix),
-                _ => response_fault(rt.alloc(), prefix),
-            };
-            let wanted = if len < *begin {
-                ApduError::Truncated
-            } else {
-                TRUNCATED
-            };
-            assert_eq!(rt; found, Some(wanted), "at {prefix:?}");
-        }
+fn each_proper_prefix_is_truncated(rt: HostRuntime) -> Result<(), Fail> {
+    each(rt.alloc(), WHOLE)
+}
+
+impl Case for ApduError {
+    fn told(&self, alloc: Global) -> Result<String, Fail> {
+        Ok(self.to_string(alloc)?)
+    }
+}
+
+impl Case for WrapError {
+    fn told(&self, alloc: Global) -> Result<String, Fail> {
+        Ok(self.to_string(alloc)?)
     }
 }
 
@@ -205,10 +206,10 @@ const NAMES: &[(ApduError, &str)] = &[
     (ApduError::Truncated, "Truncated"),
     (ApduError::UnknownService, "UnknownService"),
     (ApduError::UnsupportedForm, "UnsupportedForm"),
-    (TRUNCATED, "Truncated"),
-    (UNKNOWN_TAG, "UnknownTag"),
-    (BAD_LENGTH, "BadLength"),
-    (TOO_DEEP, "TooDeep"),
+    (ApduError::BadData(AxdrError::Truncated), "Truncated"),
+    (ApduError::BadData(AxdrError::UnknownTag), "UnknownTag"),
+    (ApduError::BadData(AxdrError::BadLength), "BadLength"),
+    (ApduError::BadData(AxdrError::TooDeep), "TooDeep"),
     (ApduError::BadData(AxdrError::OutOfMemory), "OutOfMemory"),
     (ApduError::Trailing, "Trailing"),
     (ApduError::OutOfMemory, "OutOfMemory"),
@@ -223,12 +224,7 @@ const WRAPPER_NAMES: &[(WrapError, &str)] = &[
 ];
 
 #[test]
-fn printed_names(rt: HostRuntime) -> Result<(), AllocError> {
-    for (fault, name) in NAMES {
-        assert_eq!(rt; fault.to_string(rt.alloc())?.as_str(), *name);
-    }
-    for (fault, name) in WRAPPER_NAMES {
-        assert_eq!(rt; fault.to_string(rt.alloc())?.as_str(), *name);
-    }
-    Ok(())
+fn printed_names(rt: HostRuntime) -> Result<(), Fail> {
+    each(rt.alloc(), NAMES)?;
+    each(rt.alloc(), WRAPPER_NAMES)
 }

@@ -1,181 +1,196 @@
 //! The services GET, SET and ACTION in their normal forms (IEC 62056-5-3).
 
-use crate::support::deepened;
+use crate::support::{Case, deepened, each};
 use fw_apdu::{
     ApduError, GetDataResult, Invoke, LogicalName, Request, Response, read_request, read_response,
     write_request, write_response,
 };
 use fw_axdr::AxdrError;
 use std::alloc::Global;
+use std::test::Fail;
 
-/// GET of the active firmware identifier, class 1, 1-0:0.2.0.255, attribute 2: confirmed, of high priority, invoke-id 1.
-const GET: &[u8] = &[
-    0xc0, 0x01, 0xc1, 0x00, 0x01, 0x01, 0x00, 0x00, 0x02, 0x00, 0xff, 0x02, 0x00,
-];
-
-/// SET of attribute 5 of the Image transfer object, class 18, 0-0:44.0.0.255, to true.
-const SET: &[u8] = &[
-    0xc1, 0x01, 0xc1, 0x00, 0x12, 0x00, 0x00, 0x2c, 0x00, 0x00, 0xff, 0x05, 0x00, 0x03, 0x01,
-];
-
-/// ACTION of its method 3 with the parameter 0, an integer.
-const VERIFY: &[u8] = &[
-    0xc3, 0x01, 0xc1, 0x00, 0x12, 0x00, 0x00, 0x2c, 0x00, 0x00, 0xff, 0x03, 0x01, 0x0f, 0x00,
-];
-
-const VERIFY_TEXT: &str =
-    "Action { invoke: Invoke(193), class: 18, instance: LogicalName([0, 0, 44, 0, 0, 255]), method: 3, parameter: Some(Integer(0)) }";
-
-/// Whether the APDU is read as the request of which `Debug` gives this text, and that is written as `short`.
-fn is_request(alloc: Global, apdu: &[u8], text: &str, short: &[u8]) -> Result<bool, ApduError> {
-    let request = read_request(alloc, apdu)?;
-    let found = format!(in alloc; "{request:?}")?;
-    let written = write_request(alloc, &request)?;
-    Ok(found.as_str() == text && written.as_slice() == short)
+/// The text of what was read of an APDU, and how that is written, if it is otherwise.
+fn beside(alloc: Global, text: String, apdu: &str, written: &[u8]) -> Result<String, Fail> {
+    let written = hex::encode(alloc, written)?;
+    if written.as_str() == apdu {
+        return Ok(text);
+    }
+    Ok(format!(in alloc; "{text}, written {written}")?)
 }
 
-/// Requests, and what they ask.
-const REQUESTS: &[(&[u8], &str)] = &[
+/// A request, as `Debug` gives it.
+struct Asked(&'static str);
+
+impl Case for Asked {
+    fn told(&self, alloc: Global) -> Result<String, Fail> {
+        let request = read_request(alloc, &hex::decode(alloc, self.0)?)?;
+        let text = format!(in alloc; "{request:?}")?;
+        beside(alloc, text, self.0, &write_request(alloc, &request)?)
+    }
+}
+
+/// A response.
+struct Answered(&'static str);
+
+impl Case for Answered {
+    fn told(&self, alloc: Global) -> Result<String, Fail> {
+        let response = read_response(alloc, &hex::decode(alloc, self.0)?)?;
+        let text = format!(in alloc; "{response:?}")?;
+        beside(alloc, text, self.0, &write_response(alloc, &response)?)
+    }
+}
+
+/// Requests, and what they ask. Confirmed and of high priority, with the invoke-id 1, are a GET of the active firmware identifier
+/// (class 1, 1-0:0.2.0.255, attribute 2), a SET of attribute 5 of the Image transfer object (class 18, 0-0:44.0.0.255), and an
+/// ACTION of its method 3.
+const REQUESTS: &[(Asked, &str)] = &[
     (
-        GET,
+        Asked("c001c100010100000200ff0200"),
         "Get { invoke: Invoke(193), class: 1, instance: LogicalName([1, 0, 0, 2, 0, 255]), attribute: 2 }",
     ),
     // Attributes and methods have signed numbers.
     (
-        &[
-            0xc0, 0x01, 0x0f, 0xfe, 0xdc, 0x01, 0x02, 0x03, 0x04, 0x05, 0x06, 0x80, 0x00,
-        ],
+        Asked("c0010ffedc0102030405068000"),
         "Get { invoke: Invoke(15), class: 65244, instance: LogicalName([1, 2, 3, 4, 5, 6]), attribute: -128 }",
     ),
     (
-        SET,
+        Asked("c101c1001200002c0000ff05000301"),
         "Set { invoke: Invoke(193), class: 18, instance: LogicalName([0, 0, 44, 0, 0, 255]), attribute: 5, value: Boolean(true) }",
     ),
     (
-        &[
-            0xc3, 0x01, 0x81, 0x00, 0x12, 0x00, 0x00, 0x2c, 0x00, 0x00, 0xff, 0xff, 0x00,
-        ],
+        Asked("c30181001200002c0000ffff00"),
         "Action { invoke: Invoke(129), class: 18, instance: LogicalName([0, 0, 44, 0, 0, 255]), method: -1, parameter: None }",
     ),
-    (VERIFY, VERIFY_TEXT),
+    (
+        Asked("c301c1001200002c0000ff03010f00"),
+        "Action { invoke: Invoke(193), class: 18, instance: LogicalName([0, 0, 44, 0, 0, 255]), method: 3, parameter: Some(Integer(0)) }",
+    ),
+    // any nonzero presence is read, and 01 is written
+    (
+        Asked("c301c1001200002c0000ff03ff0f00"),
+        "Action { invoke: Invoke(193), class: 18, instance: LogicalName([0, 0, 44, 0, 0, 255]), method: 3, parameter: Some(Integer(0)) }, written c301c1001200002c0000ff03010f00",
+    ),
 ];
 
 #[test]
-fn requests(rt: HostRuntime) {
-    for (apdu, text) in REQUESTS {
-        assert_eq!(rt;
-            is_request(rt.alloc(), apdu, text, apdu),
-            Ok(true),
-            "at {text}"
-        );
-    }
+fn requests(rt: HostRuntime) -> Result<(), Fail> {
+    each(rt.alloc(), REQUESTS)
 }
-
-/// Requests, and the class_id and the logical name of the object that each addresses.
-const OBJECTS: &[(&[u8], u16, [u8; 6])] = &[
-    (GET, 1, [1, 0, 0, 2, 0, 255]),
-    (SET, 18, [0, 0, 44, 0, 0, 255]),
-    (VERIFY, 18, [0, 0, 44, 0, 0, 255]),
-];
-
-#[test]
-fn the_object_that_is_addressed(rt: HostRuntime) -> Result<(), ApduError> {
-    for (apdu, class, instance) in OBJECTS {
-        let request = read_request(rt.alloc(), apdu)?;
-        let found = (request.invoke(), request.class(), request.instance());
-        assert_eq!(rt; found, (Invoke(0xc1), *class, LogicalName(*instance)));
-    }
-    Ok(())
-}
-
-/// Whether the APDU is read as the response of which `Debug` gives this text, and that is written as `short`.
-fn is_response(alloc: Global, apdu: &[u8], text: &str, short: &[u8]) -> Result<bool, ApduError> {
-    let response = read_response(alloc, apdu)?;
-    let found = format!(in alloc; "{response:?}")?;
-    let written = write_response(alloc, &response)?;
-    Ok(found.as_str() == text && written.as_slice() == short)
-}
-
-/// The answer to an ACTION with a code that returns another code.
-const RETURNED: &[u8] = &[0xc7, 0x01, 0xc1, 0x02, 0x01, 0x01, 0xff];
-
-const RETURNED_TEXT: &str = "Action { invoke: Invoke(193), code: 2, returned: Some(Code(255)) }";
 
 /// Responses, and what they answer.
-const RESPONSES: &[(&[u8], &str)] = &[
+const RESPONSES: &[(Answered, &str)] = &[
     (
-        &[0xc4, 0x01, 0xc1, 0x00, 0x06, 0x00, 0x00, 0x00, 0x02],
+        Answered("c401c1000600000002"),
         "Get { invoke: Invoke(193), result: Data(DoubleLongUnsigned(2)) }",
     ),
     (
-        &[0xc4, 0x01, 0xc1, 0x01, 0x04],
+        Answered("c401c10104"),
         "Get { invoke: Invoke(193), result: Code(4) }",
     ),
+    (Answered("c5014200"), "Set { invoke: Invoke(66), code: 0 }"),
     (
-        &[0xc5, 0x01, 0x42, 0x00],
-        "Set { invoke: Invoke(66), code: 0 }",
-    ),
-    (
-        &[0xc7, 0x01, 0xc1, 0xfa, 0x00],
+        Answered("c701c1fa00"),
         "Action { invoke: Invoke(193), code: 250, returned: None }",
     ),
     (
-        &[0xc7, 0x01, 0xc1, 0x00, 0x01, 0x00, 0x16, 0x04],
+        Answered("c701c10001001604"),
         "Action { invoke: Invoke(193), code: 0, returned: Some(Data(Enumerated(4))) }",
     ),
-    (RETURNED, RETURNED_TEXT),
+    (
+        Answered("c701c1020101ff"),
+        "Action { invoke: Invoke(193), code: 2, returned: Some(Code(255)) }",
+    ),
+    (
+        Answered("c701c1028001ff"),
+        "Action { invoke: Invoke(193), code: 2, returned: Some(Code(255)) }, written c701c1020101ff",
+    ),
 ];
 
 #[test]
-fn responses(rt: HostRuntime) {
-    for (apdu, text) in RESPONSES {
-        assert_eq!(rt;
-            is_response(rt.alloc(), apdu, text, apdu),
-            Ok(true),
-            "at {text}"
-        );
+fn responses(rt: HostRuntime) -> Result<(), Fail> {
+    each(rt.alloc(), RESPONSES)
+}
+
+/// A request: its invoke byte, and the class_id and the logical name of the object that it addresses.
+struct Addressed(&'static str);
+
+impl Case for Addressed {
+    fn told(&self, alloc: Global) -> Result<String, Fail> {
+        let request = read_request(alloc, &hex::decode(alloc, self.0)?)?;
+        Ok(format!(in alloc;
+            "{:?} {} {:?}",
+            request.invoke(),
+            request.class(),
+            request.instance()
+        )?)
     }
 }
 
-#[test]
-fn any_nonzero_presence_is_read_and_01_is_written(rt: HostRuntime) {
-    let lenient = [
-        0xc3, 0x01, 0xc1, 0x00, 0x12, 0x00, 0x00, 0x2c, 0x00, 0x00, 0xff, 0x03, 0xff, 0x0f, 0x00,
-    ];
-    assert_eq!(rt;
-        is_request(rt.alloc(), &lenient, VERIFY_TEXT, VERIFY),
-        Ok(true)
-    );
-    let lenient = [0xc7, 0x01, 0xc1, 0x02, 0x80, 0x01, 0xff];
-    assert_eq!(rt;
-        is_response(rt.alloc(), &lenient, RETURNED_TEXT, RETURNED),
-        Ok(true)
-    );
-}
-
-/// Invoke bytes, their ids, and whether they are confirmed. Bits 4 and 5 are ignored, and bit 7 is the priority.
-const INVOKES: &[(u8, u8, bool)] = &[
-    (0x00, 0, false),
-    (0x01, 1, false),
-    (0x4f, 15, true),
-    (0x81, 1, false),
-    (0xb0, 0, false),
-    (0xc1, 1, true),
-    (0xff, 15, true),
+const OBJECTS: &[(Addressed, &str)] = &[
+    (
+        Addressed("c001c100010100000200ff0200"),
+        "Invoke(193) 1 LogicalName([1, 0, 0, 2, 0, 255])",
+    ),
+    (
+        Addressed("c101c1001200002c0000ff05000301"),
+        "Invoke(193) 18 LogicalName([0, 0, 44, 0, 0, 255])",
+    ),
+    (
+        Addressed("c301c1001200002c0000ff03010f00"),
+        "Invoke(193) 18 LogicalName([0, 0, 44, 0, 0, 255])",
+    ),
 ];
 
 #[test]
-fn invoke_bytes(rt: HostRuntime) {
-    for (byte, id, confirmed) in INVOKES {
-        assert_eq!(rt; Invoke(*byte).id(), *id, "at {byte}");
-        assert_eq!(rt; Invoke(*byte).confirmed(), *confirmed, "at {byte}");
+fn the_object_that_is_addressed(rt: HostRuntime) -> Result<(), Fail> {
+    each(rt.alloc(), OBJECTS)
+}
+
+/// An invoke byte: its id, and whether it is confirmed.
+struct Byte(u8);
+
+impl Case for Byte {
+    fn told(&self, alloc: Global) -> Result<String, Fail> {
+        let invoke = Invoke(self.0);
+        Ok(format!(in alloc; "{} {}", invoke.id(), invoke.confirmed())?)
     }
+}
+
+/// Bits 4 and 5 are ignored, and bit 7 is the priority.
+const INVOKES: &[(Byte, &str)] = &[
+    (Byte(0x00), "0 false"),
+    (Byte(0x01), "1 false"),
+    (Byte(0x4f), "15 true"),
+    (Byte(0x81), "1 false"),
+    (Byte(0xb0), "0 false"),
+    (Byte(0xc1), "1 true"),
+    (Byte(0xff), "15 true"),
+];
+
+#[test]
+fn invoke_bytes(rt: HostRuntime) -> Result<(), Fail> {
+    each(rt.alloc(), INVOKES)
 }
 
 /// Eight levels, which are nine as an element.
 const EIGHT_LEVELS: &[u8] = &[2, 1, 2, 1, 2, 1, 2, 1, 2, 1, 2, 1, 2, 1, 0];
 
-/// What is answered to the writing of a parameter of nine levels.
+/// What is answered to the writing of a parameter or a value of nine levels.
+enum Nine {
+    Parameter,
+    Value,
+}
+
+impl Case for Nine {
+    fn told(&self, alloc: Global) -> Result<String, Fail> {
+        let answer = match self {
+            Nine::Parameter => refused_request(alloc)?,
+            Nine::Value => refused_response(alloc)?,
+        };
+        Ok(format!(in alloc; "{answer:?}")?)
+    }
+}
+
 fn refused_request(alloc: Global) -> Result<Option<ApduError>, AxdrError> {
     let request = Request::Action {
         invoke: Invoke(0xc1),
@@ -187,7 +202,6 @@ fn refused_request(alloc: Global) -> Result<Option<ApduError>, AxdrError> {
     Ok(write_request(alloc, &request).err())
 }
 
-/// What is answered to the writing of a value of nine levels.
 fn refused_response(alloc: Global) -> Result<Option<ApduError>, AxdrError> {
     let response = Response::Get {
         invoke: Invoke(0xc1),
@@ -196,9 +210,12 @@ fn refused_response(alloc: Global) -> Result<Option<ApduError>, AxdrError> {
     Ok(write_response(alloc, &response).err())
 }
 
+const NINE: &[(Nine, &str)] = &[
+    (Nine::Parameter, "Some(BadData(TooDeep))"),
+    (Nine::Value, "Some(BadData(TooDeep))"),
+];
+
 #[test]
-fn nine_levels_are_not_written(rt: HostRuntime) {
-    let too_deep = Some(ApduError::BadData(AxdrError::TooDeep));
-    assert_eq!(rt; refused_request(rt.alloc()), Ok(too_deep));
-    assert_eq!(rt; refused_response(rt.alloc()), Ok(too_deep));
+fn nine_levels_are_not_written(rt: HostRuntime) -> Result<(), Fail> {
+    each(rt.alloc(), NINE)
 }

@@ -1,137 +1,82 @@
-//! Faults of byte strings that are no Data: which one, and that the leftmost one decides.
+//! Faults of byte strings that are made up: of each tag, of each size, and at each depth.
 
-use crate::support::joined;
+use crate::support::{Case, each, joined};
 use fw_axdr::{AxdrError, read};
 use std::alloc::{AllocError, Global};
+use std::test::Fail;
 
-fn fault(alloc: Global, bytes: &[u8]) -> Option<AxdrError> {
-    read(alloc, bytes).err()
+/// The fault of the parts, one behind another, by the first letter of its name, or `.`; D is for the depth.
+fn letter(alloc: Global, parts: &[&[u8]]) -> Result<&'static str, AllocError> {
+    let bytes = joined(alloc, parts)?;
+    Ok(match read(alloc, &bytes).err() {
+        None => ".",
+        Some(AxdrError::Truncated) => "T",
+        Some(AxdrError::UnknownTag) => "U",
+        Some(AxdrError::BadLength) => "B",
+        Some(AxdrError::TooDeep) => "D",
+        Some(AxdrError::OutOfMemory) => "M",
+    })
 }
 
-#[test]
-fn each_tag(rt: HostRuntime) {
-    assert_eq!(rt; fault(rt.alloc(), &[]), Some(AxdrError::Truncated));
-    for tag in 0..=0xff {
-        let wanted = match tag {
-            0 => None,
-            1..=6 | 9 | 10 | 15..=18 | 20..=22 => Some(AxdrError::Truncated),
-            _ => Some(AxdrError::UnknownTag),
-        };
-        assert_eq!(rt; fault(rt.alloc(), &[tag]), wanted, "at {tag}");
-    }
-}
+/// Each byte alone, from 00 to ff.
+struct Tags;
 
-/// The tags of the types of a fixed size, and the size of their contents.
-const SIZES: &[(u8, usize)] = &[
-    (0x03, 1),
-    (0x05, 4),
-    (0x06, 4),
-    (0x0f, 1),
-    (0x10, 2),
-    (0x11, 1),
-    (0x12, 2),
-    (0x14, 8),
-    (0x15, 8),
-    (0x16, 1),
-];
-
-/// The fault of the tag with so many bytes behind it.
-fn fault_with(alloc: Global, tag: u8, size: usize) -> Result<Option<AxdrError>, AllocError> {
-    let contents = vec![in alloc; 0xff; size]?;
-    Ok(fault(alloc, &joined(alloc, &[&[tag], &contents])?))
-}
-
-#[test]
-fn missing_contents(rt: HostRuntime) {
-    for (tag, size) in SIZES {
-        for there in 0..*size {
-            let found = fault_with(rt.alloc(), *tag, there);
-            assert_eq!(rt;
-                found,
-                Ok(Some(AxdrError::Truncated)),
-                "tag {tag}, {there} bytes"
-            );
+impl Case for Tags {
+    fn told(&self, alloc: Global) -> Result<String, Fail> {
+        let mut told = String::new(alloc);
+        for tag in 0..=0xff {
+            told.push_str(letter(alloc, &[&[tag]])?)?;
         }
-        assert_eq!(rt; fault_with(rt.alloc(), *tag, *size), Ok(None), "tag {tag}");
+        Ok(told)
     }
 }
 
-/// Byte strings and their leftmost fault.
-const FAULTS: &[(&[u8], AxdrError)] = &[
-    // Of a length: a refused first byte, or a missing byte.
-    (&[0x01, 0x80], AxdrError::BadLength),
-    (&[0x01, 0x85], AxdrError::BadLength),
-    (&[0x02, 0x80, 0x00], AxdrError::BadLength),
-    (&[0x02, 0xff, 0x00], AxdrError::BadLength),
-    (&[0x04, 0x80], AxdrError::BadLength),
-    (&[0x04, 0x85], AxdrError::BadLength),
-    (&[0x09, 0x80], AxdrError::BadLength),
-    (
-        &[0x09, 0x85, 0x00, 0x00, 0x00, 0x00, 0x01, 0x61],
-        AxdrError::BadLength,
-    ),
-    (&[0x09, 0xff], AxdrError::BadLength),
-    (&[0x0a, 0x80], AxdrError::BadLength),
-    (&[0x0a, 0x88, 0x00], AxdrError::BadLength),
-    (&[0x09, 0x81], AxdrError::Truncated),
-    (&[0x09, 0x82, 0x01], AxdrError::Truncated),
-    (&[0x0a, 0x83, 0x00, 0x01], AxdrError::Truncated),
-    (&[0x01, 0x84, 0x00, 0x00, 0x00], AxdrError::Truncated),
-    // Of contents.
-    (&[0x06, 0x00, 0x00, 0x00], AxdrError::Truncated),
-    (&[0x09, 0x02, 0x61], AxdrError::Truncated),
-    (&[0x0a, 0x81, 0x80, 0x61], AxdrError::Truncated),
-    (&[0x04, 0x09, 0xff], AxdrError::Truncated),
-    // Of an element.
-    (&[0x02, 0x02, 0x00], AxdrError::Truncated),
-    (&[0x02, 0x02, 0x00, 0x07], AxdrError::UnknownTag),
-    (&[0x02, 0x02, 0x00, 0x09], AxdrError::Truncated),
-    (&[0x02, 0x02, 0x00, 0x09, 0x80], AxdrError::BadLength),
-    (&[0x02, 0x02, 0x00, 0x09, 0x81], AxdrError::Truncated),
-    (&[0x02, 0x02, 0x00, 0x06, 0x00], AxdrError::Truncated),
-    (
-        &[0x01, 0x02, 0x01, 0x01, 0x00, 0x01, 0x01, 0x13],
-        AxdrError::UnknownTag,
-    ),
-    // The leftmost of two.
-    (&[0x07, 0x80], AxdrError::UnknownTag),
-    (&[0x09, 0x80, 0x07], AxdrError::BadLength),
-    (&[0x02, 0x80, 0x07], AxdrError::BadLength),
-    (&[0x02, 0x02, 0x07, 0x09, 0x80], AxdrError::UnknownTag),
-    (&[0x02, 0x02, 0x09, 0x80, 0x07], AxdrError::BadLength),
-    (&[0x02, 0x03, 0x00, 0x07], AxdrError::UnknownTag),
-    (&[0x02, 0x02, 0x09, 0x03, 0x07, 0x80], AxdrError::Truncated),
-];
+/// The tags are 0, 1 to 6, 9, 10, 15 to 18, and 20 to 22.
+const TAGS: &[(Tags, &str)] = &[(
+    Tags,
+    "\
+.TTTTTTUUTTUUUUTTTTUTTTUUUUUUUUUUUUUUUUUUUUUUUUUUUUUUUUUUUUUUUUU\
+UUUUUUUUUUUUUUUUUUUUUUUUUUUUUUUUUUUUUUUUUUUUUUUUUUUUUUUUUUUUUUUU\
+UUUUUUUUUUUUUUUUUUUUUUUUUUUUUUUUUUUUUUUUUUUUUUUUUUUUUUUUUUUUUUUU\
+UUUUUUUUUUUUUUUUUUUUUUUUUUUUUUUUUUUUUUUUUUUUUUUUUUUUUUUUUUUUUUUU",
+)];
 
 #[test]
-fn the_leftmost_fault_decides(rt: HostRuntime) {
-    for (bytes, wanted) in FAULTS {
-        assert_eq!(rt; fault(rt.alloc(), bytes), Some(*wanted), "at {bytes:?}");
+fn each_tag(rt: HostRuntime) -> Result<(), Fail> {
+    each(rt.alloc(), TAGS)
+}
+
+/// A tag with none to eight bytes behind it.
+struct Fixed(u8);
+
+impl Case for Fixed {
+    fn told(&self, alloc: Global) -> Result<String, Fail> {
+        let mut told = String::new(alloc);
+        for size in 0..9 {
+            let contents = vec![in alloc; 0xff; size]?;
+            told.push_str(letter(alloc, &[&[self.0], &contents])?)?;
+        }
+        Ok(told)
     }
 }
 
-/// Byte strings that claim up to 2^32 - 1 bytes, bits or elements, and have none or one.
-const CLAIMS: &[&[u8]] = &[
-    &[0x01, 0x84, 0xff, 0xff, 0xff, 0xff],
-    &[0x01, 0x84, 0xff, 0xff, 0xff, 0xff, 0x00],
-    &[0x02, 0x84, 0xff, 0xff, 0xff, 0xff],
-    &[0x02, 0x84, 0xff, 0xff, 0xff, 0xff, 0x00],
-    &[0x04, 0x84, 0xff, 0xff, 0xff, 0xff],
-    &[0x04, 0x84, 0xff, 0xff, 0xff, 0xff, 0x00],
-    &[0x09, 0x84, 0xff, 0xff, 0xff, 0xff],
-    &[0x09, 0x84, 0xff, 0xff, 0xff, 0xff, 0x00],
-    &[0x0a, 0x84, 0xff, 0xff, 0xff, 0xff],
+/// The types of a fixed size, which is 1, 2, 4 or 8 bytes.
+const FIXED: &[(Fixed, &str)] = &[
+    (Fixed(0x03), "T........"),
+    (Fixed(0x05), "TTTT....."),
+    (Fixed(0x06), "TTTT....."),
+    (Fixed(0x0f), "T........"),
+    (Fixed(0x10), "TT......."),
+    (Fixed(0x11), "T........"),
+    (Fixed(0x12), "TT......."),
+    (Fixed(0x14), "TTTTTTTT."),
+    (Fixed(0x15), "TTTTTTTT."),
+    (Fixed(0x16), "T........"),
 ];
 
 #[test]
-fn a_claim_is_truncated_at_once(rt: HostRuntime) {
-    for bytes in CLAIMS {
-        assert_eq!(rt;
-            fault(rt.alloc(), bytes),
-            Some(AxdrError::Truncated),
-            "at {bytes:?}"
-        );
-    }
+fn missing_contents(rt: HostRuntime) -> Result<(), Fail> {
+    each(rt.alloc(), FIXED)
 }
 
 /// Arrays, structures, and both in turn, of one element each and one in another: eight of them.
@@ -141,45 +86,31 @@ const NESTINGS: &[[u8; 16]] = &[
     [1, 1, 2, 1, 1, 1, 2, 1, 1, 1, 2, 1, 1, 1, 2, 1],
 ];
 
-/// What stands in the innermost of them, and its fault at depth 8, behind seven, and at depth 9, behind eight.
-const INNERMOST: &[(&[u8], Option<AxdrError>, AxdrError)] = &[
-    (&[], Some(AxdrError::Truncated), AxdrError::Truncated),
-    (&[0x00], None, AxdrError::TooDeep),
-    (&[0x07], Some(AxdrError::UnknownTag), AxdrError::TooDeep),
-    (
-        &[0x09, 0x80],
-        Some(AxdrError::BadLength),
-        AxdrError::TooDeep,
-    ),
-    (&[0x01, 0x00], None, AxdrError::TooDeep),
-    (
-        &[0x01, 0x01],
-        Some(AxdrError::Truncated),
-        AxdrError::TooDeep,
-    ),
-    (
-        &[0x02, 0x02, 0x00],
-        Some(AxdrError::TooDeep),
-        AxdrError::TooDeep,
-    ),
-];
+/// What stands in the innermost of them: its fault at depth 8, behind seven, and at depth 9, behind eight, of each nesting.
+struct Innermost(&'static [u8]);
 
-fn fault_in(
-    alloc: Global,
-    outer: &[u8],
-    innermost: &[u8],
-) -> Result<Option<AxdrError>, AllocError> {
-    Ok(fault(alloc, &joined(alloc, &[outer, innermost])?))
+impl Case for Innermost {
+    fn told(&self, alloc: Global) -> Result<String, Fail> {
+        let mut told = String::new(alloc);
+        for outer in NESTINGS {
+            told.push_str(letter(alloc, &[&outer[..14], self.0])?)?;
+            told.push_str(letter(alloc, &[outer, self.0])?)?;
+        }
+        Ok(told)
+    }
 }
 
+const INNERMOST: &[(Innermost, &str)] = &[
+    (Innermost(&[]), "TTTTTT"),
+    (Innermost(&[0x00]), ".D.D.D"),
+    (Innermost(&[0x07]), "UDUDUD"),
+    (Innermost(&[0x09, 0x80]), "BDBDBD"),
+    (Innermost(&[0x01, 0x00]), ".D.D.D"),
+    (Innermost(&[0x01, 0x01]), "TDTDTD"),
+    (Innermost(&[0x02, 0x02, 0x00]), "DDDDDD"),
+];
+
 #[test]
-fn depth_nine_is_too_deep(rt: HostRuntime) {
-    for outer in NESTINGS {
-        for (innermost, at_eight, at_nine) in INNERMOST {
-            let found = fault_in(rt.alloc(), &outer[..14], innermost);
-            assert_eq!(rt; found, Ok(*at_eight), "at {outer:?}, {innermost:?}");
-            let found = fault_in(rt.alloc(), outer, innermost);
-            assert_eq!(rt; found, Ok(Some(*at_nine)), "at {outer:?}, {innermost:?}");
-        }
-    }
+fn depth_nine_is_too_deep(rt: HostRuntime) -> Result<(), Fail> {
+    each(rt.alloc(), INNERMOST)
 }

@@ -1,5 +1,5 @@
-//! Tests of the codecs (A-XDR Data, the wrapper, the services, image names) through their public calls alone, and two
-//! callers that are proved from the public contracts alone.
+//! Tests of the codecs (A-XDR Data, the wrapper, the services, image names) and of the blocks of an image, through their public
+//! calls alone, and two callers that are proved from the public contracts alone.
 //!
 //! Expected values are worked out from the rules of the standard, never taken from the codecs.
 #![tactic(auto)]
@@ -12,6 +12,8 @@ mod apdu_tests;
 mod axdr_fault_tests;
 #[cfg(test)]
 mod axdr_tests;
+#[cfg(test)]
+mod block_tests;
 #[cfg(test)]
 mod name_tests;
 mod round_trip;

@@ -1,123 +1,134 @@
 //! Names of images: 01, the head end's number, the campaign's serial number, and the SHA-256 (FIPS 180-4) of the image.
 
-use crate::support::joined;
+use crate::support::{Case, each};
 use fw_names::{CampaignId, HeadId, ImageName, MeterId, factory_name, name_of};
-use std::alloc::{AllocError, Global};
+use std::alloc::Global;
 use std::test::Fail;
 
 /// The SHA-256 of `abc`, from the examples of FIPS 180-4.
-const ABC: [u8; 32] = [
-    0xba, 0x78, 0x16, 0xbf, 0x8f, 0x01, 0xcf, 0xea, 0x41, 0x41, 0x40, 0xde, 0x5d, 0xae, 0x22, 0x23,
-    0xb0, 0x03, 0x61, 0xa3, 0x96, 0x17, 0x7a, 0x9c, 0xb4, 0x10, 0xff, 0x61, 0xf2, 0x00, 0x15, 0xad,
-];
+const ABC: &str = "ba7816bf8f01cfea414140de5dae2223b00361a396177a9cb410ff61f20015ad";
 
-/// First bytes, and whether a name begins with them.
-const FRONTS: &[(&[u8], bool)] = &[
-    (
-        &[0x01, 0x00, 0x00, 0x00, 0x07, 0x00, 0x00, 0x00, 0x01],
-        true,
-    ),
-    (
-        &[0x01, 0x00, 0x00, 0x00, 0x00, 0x00, 0x00, 0x00, 0x00],
-        true,
-    ),
-    (
-        &[0x01, 0x01, 0x02, 0x03, 0x04, 0xff, 0xff, 0xff, 0xff],
-        true,
-    ),
-    // Another first byte.
-    (
-        &[0x00, 0x00, 0x00, 0x00, 0x07, 0x00, 0x00, 0x00, 0x01],
-        false,
-    ),
-    (
-        &[0x02, 0x00, 0x00, 0x00, 0x07, 0x00, 0x00, 0x00, 0x01],
-        false,
-    ),
-    // One of the two numbers is 0.
-    (
-        &[0x01, 0x00, 0x00, 0x00, 0x00, 0x00, 0x00, 0x00, 0x01],
-        false,
-    ),
-    (
-        &[0x01, 0x00, 0x00, 0x00, 0x01, 0x00, 0x00, 0x00, 0x00],
-        false,
-    ),
-    (
-        &[0x01, 0x00, 0x00, 0x00, 0x00, 0xff, 0x00, 0x00, 0x00],
-        false,
-    ),
-    (
-        &[0x01, 0xff, 0x00, 0x00, 0x00, 0x00, 0x00, 0x00, 0x00],
-        false,
-    ),
-    // 40 and 42 bytes.
-    (&[0x01, 0x00, 0x00, 0x00, 0x07, 0x00, 0x00, 0x01], false),
-    (
-        &[0x01, 0x00, 0x00, 0x00, 0x07, 0x00, 0x00, 0x00, 0x01, 0xba],
-        false,
-    ),
-];
+/// First bytes: whether they and the digest above spell a name, whose spelling they then are.
+struct Front(&'static str);
 
-/// Whether the front and a digest spell a name, whose spelling they then are.
-fn is_name(alloc: Global, front: &[u8]) -> Result<bool, AllocError> {
-    let bytes = joined(alloc, &[front, &ABC])?;
-    let Some(name) = ImageName::from_bytes(&bytes) else {
-        return Ok(false);
-    };
-    Ok(bytes.as_slice() == name.to_bytes().as_slice())
-}
-
-#[test]
-fn reads_names_alone(rt: HostRuntime) {
-    for (front, wanted) in FRONTS {
-        assert_eq!(rt; is_name(rt.alloc(), front), Ok(*wanted), "at {front:?}");
+impl Case for Front {
+    fn told(&self, alloc: Global) -> Result<String, Fail> {
+        let spelling = format!(in alloc; "{}{ABC}", self.0)?;
+        let bytes = hex::decode(alloc, spelling.as_str())?;
+        let name = ImageName::from_bytes(&bytes);
+        let same = name.is_some_and(|name| bytes.as_slice() == name.to_bytes().as_slice());
+        Ok(format!(in alloc; "{same}")?)
     }
 }
 
-/// The name under which a head end's campaign offers `abc`.
+const FRONTS: &[(Front, &str)] = &[
+    (Front("010000000700000001"), "true"),
+    (Front("010000000000000000"), "true"),
+    (Front("0101020304ffffffff"), "true"),
+    // Another first byte.
+    (Front("000000000700000001"), "false"),
+    (Front("020000000700000001"), "false"),
+    // One of the two numbers is 0.
+    (Front("010000000000000001"), "false"),
+    (Front("010000000100000000"), "false"),
+    (Front("0100000000ff000000"), "false"),
+    (Front("01ff00000000000000"), "false"),
+    // 40 and 42 bytes.
+    (Front("0100000007000001"), "false"),
+    (Front("010000000700000001ba"), "false"),
+];
+
+#[test]
+fn reads_names_alone(rt: HostRuntime) -> Result<(), Fail> {
+    each(rt.alloc(), FRONTS)
+}
+
+/// The spelling of a name of `abc`: as a factory image, or under a head end's campaign.
+enum Named {
+    Factory,
+    Offered(u32, u32),
+}
+
+impl Case for Named {
+    fn told(&self, alloc: Global) -> Result<String, Fail> {
+        let name = match *self {
+            Named::Factory => Some(factory_name(b"abc")),
+            Named::Offered(head, serial) => offered(head, serial),
+        };
+        Ok(match name {
+            Some(name) => hex::encode(alloc, name.to_bytes())?,
+            None => String::from_str(alloc, "none")?,
+        })
+    }
+}
+
 fn offered(head: u32, serial: u32) -> Option<ImageName> {
     let campaign = CampaignId::new(HeadId::new(head)?, serial)?;
     Some(name_of(campaign, b"abc"))
 }
 
-/// The spelling of the name under which campaign 1 of head end 7 offers `abc`.
-const OFFERED: [u8; 41] = [
-    0x01, 0x00, 0x00, 0x00, 0x07, 0x00, 0x00, 0x00, 0x01, 0xba, 0x78, 0x16, 0xbf, 0x8f, 0x01, 0xcf,
-    0xea, 0x41, 0x41, 0x40, 0xde, 0x5d, 0xae, 0x22, 0x23, 0xb0, 0x03, 0x61, 0xa3, 0x96, 0x17, 0x7a,
-    0x9c, 0xb4, 0x10, 0xff, 0x61, 0xf2, 0x00, 0x15, 0xad,
+/// Numbers of head ends and serial numbers begin at 1.
+const NAMES: &[(Named, &str)] = &[
+    (
+        Named::Offered(7, 1),
+        "010000000700000001ba7816bf8f01cfea414140de5dae2223b00361a396177a9cb410ff61f20015ad",
+    ),
+    (
+        Named::Factory,
+        "010000000000000000ba7816bf8f01cfea414140de5dae2223b00361a396177a9cb410ff61f20015ad",
+    ),
+    (Named::Offered(0, 1), "none"),
+    (Named::Offered(1, 0), "none"),
 ];
 
-/// The spelling of the name of `abc` as a factory image.
-const FACTORY: [u8; 41] = [
-    0x01, 0x00, 0x00, 0x00, 0x00, 0x00, 0x00, 0x00, 0x00, 0xba, 0x78, 0x16, 0xbf, 0x8f, 0x01, 0xcf,
-    0xea, 0x41, 0x41, 0x40, 0xde, 0x5d, 0xae, 0x22, 0x23, 0xb0, 0x03, 0x61, 0xa3, 0x96, 0x17, 0x7a,
-    0x9c, 0xb4, 0x10, 0xff, 0x61, 0xf2, 0x00, 0x15, 0xad,
+#[test]
+fn the_name_of_an_image(rt: HostRuntime) -> Result<(), Fail> {
+    each(rt.alloc(), NAMES)
+}
+
+/// Numbers as they are taken and told again: of a head end and of a meter, and what a campaign tells of itself.
+enum Number {
+    Head(u32),
+    Meter(u32),
+    Campaign(u32, u32),
+    Factory,
+}
+
+impl Case for Number {
+    fn told(&self, alloc: Global) -> Result<String, Fail> {
+        let campaign = match *self {
+            Number::Head(number) => {
+                let told = HeadId::new(number).map(HeadId::number);
+                return Ok(format!(in alloc; "{told:?}")?);
+            }
+            Number::Meter(number) => {
+                let told = MeterId::new(number).map(MeterId::number);
+                return Ok(format!(in alloc; "{told:?}")?);
+            }
+            Number::Campaign(head, serial) => {
+                HeadId::new(head).and_then(|head| CampaignId::new(head, serial))
+            }
+            Number::Factory => Some(CampaignId::FACTORY),
+        };
+        let campaign = campaign.ok_or("no campaign")?;
+        let head = campaign.head().map(HeadId::number);
+        let (serial, factory) = (campaign.serial(), campaign.is_factory());
+        Ok(format!(in alloc; "{head:?} {serial} {factory}")?)
+    }
+}
+
+const NUMBERS: &[(Number, &str)] = &[
+    (Number::Head(1), "Some(1)"),
+    // a meter's begins at 0
+    (Number::Meter(0), "Some(0)"),
+    (
+        Number::Campaign(4_294_967_295, 9),
+        "Some(4294967295) 9 false",
+    ),
+    (Number::Factory, "None 0 true"),
 ];
 
 #[test]
-fn the_name_of_an_image(rt: HostRuntime) {
-    assert_eq!(rt; offered(7, 1).map(|name| name.to_bytes()), Some(OFFERED));
-    assert_eq!(rt; factory_name(b"abc").to_bytes(), FACTORY);
-}
-
-#[test]
-fn heads_and_serials_begin_at_1_and_meters_at_0(rt: HostRuntime) {
-    assert_eq!(rt; offered(0, 1), None);
-    assert_eq!(rt; offered(1, 0), None);
-    assert_eq!(rt; HeadId::new(1).map(HeadId::number), Some(1));
-    assert_eq!(rt; MeterId::new(0).map(MeterId::number), Some(0));
-}
-
-#[test]
-fn a_campaign_has_a_head_and_a_serial(rt: HostRuntime) -> Result<(), Fail> {
-    let head = HeadId::new(u32::MAX).ok_or("a head end")?;
-    let campaign = CampaignId::new(head, 9).ok_or("a campaign")?;
-    assert_eq!(rt; (campaign.head(), campaign.serial()), (Some(head), 9));
-    assert_eq!(rt;
-        [campaign.is_factory(), CampaignId::FACTORY.is_factory()],
-        [false, true]
-    );
-    assert_eq!(rt; CampaignId::FACTORY.head(), None);
-    Ok(())
+fn numbers(rt: HostRuntime) -> Result<(), Fail> {
+    each(rt.alloc(), NUMBERS)
 }

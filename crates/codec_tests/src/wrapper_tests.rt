@@ -1,121 +1,97 @@
 //! Datagrams of the wrapper over UDP (IEC 62056-4-7).
 
 use crate::split_back;
-use crate::support::joined;
-use fw_wrapper::{WrapError, join, split};
-use std::alloc::{AllocError, Global};
+use crate::support::{Case, each, joined};
+use fw_wrapper::{join, split};
+use std::alloc::Global;
+use std::test::Fail;
 
-/// From wPort 0102 to wPort 0304, the APDU c001c1.
-const DATAGRAM: &[u8] = &[
-    0x00, 0x01, 0x01, 0x02, 0x03, 0x04, 0x00, 0x03, 0xc0, 0x01, 0xc1,
-];
+/// A datagram: its two wPorts, its APDU, and the datagram that they are joined to, or the refusal.
+struct Datagram(&'static str);
 
-/// Whether it is split so, and joined again.
-fn is_frame(
-    alloc: Global,
-    datagram: &[u8],
-    source: u16,
-    dest: u16,
-    apdu: &[u8],
-) -> Result<bool, WrapError> {
-    let frame = split(datagram)?;
-    let again = join(alloc, source, dest, apdu)?;
-    Ok(
-        frame.source == source
-            && frame.dest == dest
-            && frame.apdu == apdu
-            && again.as_slice() == datagram,
-    )
-}
-
-#[test]
-fn splits_and_joins(rt: HostRuntime) {
-    let found = is_frame(rt.alloc(), DATAGRAM, 0x0102, 0x0304, &[0xc0, 0x01, 0xc1]);
-    assert_eq!(rt; found, Ok(true));
-}
-
-/// Datagrams and the first refusal that applies.
-const REFUSALS: &[(&[u8], WrapError)] = &[
-    (&[], WrapError::Short),
-    (
-        &[0x00, 0x01, 0x00, 0x01, 0x00, 0x01, 0x00],
-        WrapError::Short,
-    ),
-    (
-        &[0x00, 0x02, 0x00, 0x01, 0x00, 0x01, 0x00],
-        WrapError::Short,
-    ),
-    (
-        &[0x00, 0x00, 0x00, 0x01, 0x00, 0x01, 0x00, 0x00],
-        WrapError::Version,
-    ),
-    (
-        &[0x00, 0x02, 0x00, 0x01, 0x00, 0x01, 0x00, 0x00],
-        WrapError::Version,
-    ),
-    (
-        &[0x01, 0x00, 0x00, 0x01, 0x00, 0x01, 0x00, 0x00],
-        WrapError::Version,
-    ),
-    (
-        &[0x01, 0x01, 0x00, 0x01, 0x00, 0x01, 0x00, 0x00],
-        WrapError::Version,
-    ),
-    (
-        &[0x00, 0x02, 0x00, 0x01, 0x00, 0x01, 0x00, 0x09],
-        WrapError::Version,
-    ),
-    (
-        &[0x00, 0x01, 0x00, 0x01, 0x00, 0x01, 0x00, 0x01],
-        WrapError::Length,
-    ),
-    (
-        &[0x00, 0x01, 0x00, 0x01, 0x00, 0x01, 0x00, 0x00, 0x07],
-        WrapError::Length,
-    ),
-    (
-        &[0x00, 0x01, 0x00, 0x01, 0x00, 0x01, 0x01, 0x00, 0x07],
-        WrapError::Length,
-    ),
-];
-
-#[test]
-fn the_first_refusal_that_applies(rt: HostRuntime) {
-    for (datagram, wanted) in REFUSALS {
-        assert_eq!(rt; split(datagram).err(), Some(*wanted), "at {datagram:?}");
+impl Case for Datagram {
+    fn told(&self, alloc: Global) -> Result<String, Fail> {
+        let datagram = hex::decode(alloc, self.0)?;
+        let frame = match split(&datagram) {
+            Ok(frame) => frame,
+            Err(refusal) => return Ok(format!(in alloc; "{refusal:?}")?),
+        };
+        let again = join(alloc, frame.source, frame.dest, frame.apdu)?;
+        let apdu = hex::encode(alloc, frame.apdu)?;
+        let again = hex::encode(alloc, again.as_slice())?;
+        Ok(format!(in alloc; "{:04x} {:04x} {apdu}, {again}", frame.source, frame.dest)?)
     }
 }
 
-/// Length fields, the numbers of bytes that are there, and the refusal of the datagram.
-const LENGTHS: &[(u16, usize, Option<WrapError>)] = &[
-    (0, 0, None),
-    (1280, 1280, None),
-    (1281, 1281, Some(WrapError::TooLong)),
-    (1280, 1281, Some(WrapError::Length)),
-    (1281, 1280, Some(WrapError::Length)),
-    (0, 65536, Some(WrapError::Length)),
+/// From wPort 0102 to wPort 0304, the APDU c001c1, and then datagrams that the first refusal that applies is told of.
+const DATAGRAMS: &[(Datagram, &str)] = &[
+    (
+        Datagram("0001010203040003c001c1"),
+        "0102 0304 c001c1, 0001010203040003c001c1",
+    ),
+    (Datagram(""), "Short"),
+    (Datagram("00010001000100"), "Short"),
+    (Datagram("00020001000100"), "Short"),
+    (Datagram("0000000100010000"), "Version"),
+    (Datagram("0002000100010000"), "Version"),
+    (Datagram("0100000100010000"), "Version"),
+    (Datagram("0101000100010000"), "Version"),
+    (Datagram("0002000100010009"), "Version"),
+    (Datagram("0001000100010001"), "Length"),
+    (Datagram("000100010001000007"), "Length"),
+    (Datagram("000100010001010007"), "Length"),
 ];
 
-fn refusal(alloc: Global, length: u16, size: usize) -> Result<Option<WrapError>, AllocError> {
-    let apdu = vec![in alloc; 0x00; size]?;
-    let ports = &[0x00, 0x01, 0x00, 0x01, 0x00, 0x01];
-    let datagram = joined(alloc, &[ports, &length.to_be_bytes(), &apdu])?;
-    Ok(split(&datagram).err())
+#[test]
+fn splits_and_joins(rt: HostRuntime) -> Result<(), Fail> {
+    each(rt.alloc(), DATAGRAMS)
 }
 
-/// What `split_back` answers to an APDU of so many bytes: whether it gives the same back.
-fn carried(alloc: Global, size: usize) -> Result<bool, WrapError> {
-    let apdu = vec![in alloc; 0x00; size]?;
-    let (source, dest, found) = split_back(alloc, 0xfffe, 0x0100, &apdu)?;
-    Ok(source == 0xfffe && dest == 0x0100 && found == apdu)
+/// A length field, and the number of bytes that are there: the refusal of the datagram.
+struct Field(u16, usize);
+
+impl Case for Field {
+    fn told(&self, alloc: Global) -> Result<String, Fail> {
+        let Field(length, size) = *self;
+        let apdu = vec![in alloc; 0x00; size]?;
+        let ports = &[0x00, 0x01, 0x00, 0x01, 0x00, 0x01];
+        let datagram = joined(alloc, &[ports, &length.to_be_bytes(), &apdu])?;
+        Ok(format!(in alloc; "{:?}", split(&datagram).err())?)
+    }
 }
+
+const LENGTHS: &[(Field, &str)] = &[
+    (Field(0, 0), "None"),
+    (Field(1280, 1280), "None"),
+    (Field(1281, 1281), "Some(TooLong)"),
+    (Field(1280, 1281), "Some(Length)"),
+    (Field(1281, 1280), "Some(Length)"),
+    (Field(0, 65536), "Some(Length)"),
+];
+
+/// An APDU of so many bytes: what `split_back` answers, and whether it gives the same back.
+struct Carried(usize);
+
+impl Case for Carried {
+    fn told(&self, alloc: Global) -> Result<String, Fail> {
+        let apdu = vec![in alloc; 0x00; self.0]?;
+        Ok(match split_back(alloc, 0xfffe, 0x0100, &apdu) {
+            Ok((source, dest, found)) => {
+                let same = found == apdu;
+                format!(in alloc; "{source:04x} {dest:04x} {same}")?
+            }
+            Err(refusal) => format!(in alloc; "{refusal:?}")?,
+        })
+    }
+}
+
+const CARRIED: &[(Carried, &str)] = &[
+    (Carried(1280), "fffe 0100 true"),
+    (Carried(1281), "TooLong"),
+];
 
 #[test]
-fn the_longest_apdu_has_1280_bytes(rt: HostRuntime) {
-    for (length, size, wanted) in LENGTHS {
-        let found = refusal(rt.alloc(), *length, *size);
-        assert_eq!(rt; found, Ok(*wanted), "at {length}, {size} bytes");
-    }
-    assert_eq!(rt; carried(rt.alloc(), 1280), Ok(true));
-    assert_eq!(rt; carried(rt.alloc(), 1281), Err(WrapError::TooLong));
+fn the_longest_apdu_has_1280_bytes(rt: HostRuntime) -> Result<(), Fail> {
+    each(rt.alloc(), LENGTHS)?;
+    each(rt.alloc(), CARRIED)
 }

@@ -1,0 +1,324 @@
+//! The blocks of an image, sets of their numbers, marks and windows.
+
+use crate::support::{Case, each};
+use fw_axdr::Bits;
+use fw_blocks::{BlockSet, Geometry, MARKS_SIZE, MAX_BLOCK_SIZE, MAX_BLOCKS, Marks, Width, Window};
+use std::alloc::{AllocError, Global};
+use std::test::Fail;
+
+/// A block size, the size of an image, and the number of a block: both sizes, how many blocks there are, and where that one lies.
+struct Lies(u32, u32, u32);
+
+impl Case for Lies {
+    fn told(&self, alloc: Global) -> Result<String, Fail> {
+        let Some(geometry) = Geometry::new(self.0, self.1) else {
+            return Ok(String::from_str(alloc, "none")?);
+        };
+        let (block_size, size) = (geometry.block_size(), geometry.size());
+        let (count, range) = (geometry.count(), geometry.range(self.2));
+        Ok(format!(in alloc; "{block_size} {size} {count} {range:?}")?)
+    }
+}
+
+const GEOMETRIES: &[(Lies, &str)] = &[
+    // three bytes in blocks of two
+    (Lies(2, 3, 0), "2 3 2 Some((0, 2))"),
+    (Lies(2, 3, 1), "2 3 2 Some((2, 3))"),
+    (Lies(2, 3, 2), "2 3 2 None"),
+    (Lies(2, 3, 4_294_967_295), "2 3 2 None"),
+    // a block that is longer than the image
+    (Lies(1024, 1, 0), "1024 1 1 Some((0, 1))"),
+    // the longest image
+    (
+        Lies(MAX_BLOCK_SIZE, 4_194_304, 4095),
+        "1024 4194304 4096 Some((4193280, 4194304))",
+    ),
+    (
+        Lies(MAX_BLOCK_SIZE, 4_194_304, MAX_BLOCKS),
+        "1024 4194304 4096 None",
+    ),
+    // outside the limits
+    (Lies(0, 5, 0), "none"),
+    (Lies(5, 0, 0), "none"),
+    (Lies(1025, 5, 0), "none"),
+    (Lies(1, 4097, 0), "none"),
+    (Lies(1024, 4_194_305, 0), "none"),
+];
+
+#[test]
+fn where_blocks_lie(rt: HostRuntime) -> Result<(), Fail> {
+    each(rt.alloc(), GEOMETRIES)
+}
+
+/// The bytes that aren't zero, each behind its place.
+fn nonzero(alloc: Global, bytes: &[u8]) -> Result<String, AllocError> {
+    let mut text = String::new(alloc);
+    for (at, byte) in bytes.iter().enumerate() {
+        if *byte != 0 {
+            let shown = format!(in alloc; " {at}:{byte:02x}")?;
+            text.push_str(shown.as_str())?;
+        }
+    }
+    Ok(text)
+}
+
+/// The set below a count with these numbers, marked in this order.
+fn set_of(alloc: Global, count: u32, numbers: &[u32]) -> Result<BlockSet, AllocError> {
+    let mut set = BlockSet::empty(alloc, count)?;
+    for number in numbers {
+        if *number < set.count() {
+            set.mark(*number);
+        }
+    }
+    Ok(set)
+}
+
+/// The count, the first number that is missing, those below eight that are there, how many bits show them, and which bytes.
+fn set_text(alloc: Global, set: &BlockSet) -> Result<String, AllocError> {
+    let bits = set.to_bits(alloc)?;
+    let mut there = String::new(alloc);
+    for number in 0..8 {
+        there.push_str(if set.has(number) { "x" } else { "." })?;
+    }
+    let shown = nonzero(alloc, bits.as_bytes())?;
+    let (count, first) = (set.count(), set.first_missing());
+    format!(in alloc; "{count} {first} {there}, {} bits,{shown}", bits.len())
+}
+
+/// A set below a count.
+struct Set(u32, &'static [u32]);
+
+impl Case for Set {
+    fn told(&self, alloc: Global) -> Result<String, Fail> {
+        Ok(set_text(alloc, &set_of(alloc, self.0, self.1)?)?)
+    }
+}
+
+/// Number i is bit i, and the first bit is the top bit of the first byte.
+const SETS: &[(Set, &str)] = &[
+    (Set(6, &[]), "6 0 ........, 6 bits,"),
+    (Set(6, &[1, 2]), "6 0 .xx....., 6 bits, 0:60"),
+    (Set(6, &[0, 2]), "6 1 x.x....., 6 bits, 0:a0"),
+    (Set(6, &[0, 2, 1]), "6 3 xxx....., 6 bits, 0:e0"),
+    (Set(6, &[0, 0, 0]), "6 1 x......., 6 bits, 0:80"),
+    (Set(6, &[5, 4, 3, 2, 1, 0]), "6 6 xxxxxx.., 6 bits, 0:fc"),
+    (Set(0, &[]), "0 0 ........, 0 bits,"),
+];
+
+/// The set that bytes of so many bits show, below a count.
+struct Shown(&'static [u8], usize, u32);
+
+impl Case for Shown {
+    fn told(&self, alloc: Global) -> Result<String, Fail> {
+        let bits = bits_of(alloc, self.0, self.1)?.ok_or("other bytes")?;
+        Ok(match BlockSet::from_bits(alloc, &bits, self.2)? {
+            Some(set) => set_text(alloc, &set)?,
+            None => String::from_str(alloc, "none")?,
+        })
+    }
+}
+
+/// So many bits, of these bytes.
+fn bits_of(alloc: Global, bytes: &[u8], len: usize) -> Result<Option<Bits>, AllocError> {
+    if bytes.len() != len.div_ceil(8) {
+        return Ok(None);
+    }
+    Ok(Some(Bits::from_vec(bytes.to_vec(alloc)?, len)))
+}
+
+const SHOWN: &[(Shown, &str)] = &[
+    (Shown(&[0xa0], 6, 6), "6 1 x.x....., 6 bits, 0:a0"),
+    // of another length
+    (Shown(&[0xa0], 6, 0), "none"),
+    (Shown(&[0xa0], 6, 5), "none"),
+    (Shown(&[0xa0], 6, 7), "none"),
+    (Shown(&[0xa0], 6, 8), "none"),
+    // no blocks
+    (Shown(&[], 0, 0), "0 0 ........, 0 bits,"),
+    (Shown(&[], 0, 1), "none"),
+];
+
+#[test]
+fn sets_of_blocks(rt: HostRuntime) -> Result<(), Fail> {
+    each(rt.alloc(), SETS)?;
+    each(rt.alloc(), SHOWN)
+}
+
+/// The bits of a set below so many with every other number, from 0 on: how many, of how many bytes, and whether each is aa.
+struct EveryOther(u32);
+
+impl Case for EveryOther {
+    fn told(&self, alloc: Global) -> Result<String, Fail> {
+        let mut set = BlockSet::empty(alloc, self.0)?;
+        for half in 0..self.0 {
+            if half < 2048 && 2 * half < set.count() {
+                set.mark(2 * half);
+            }
+        }
+        let bits = set.to_bits(alloc)?;
+        let all = bits.as_bytes().iter().all(|byte| *byte == 0xaa);
+        Ok(format!(in alloc;
+            "{} bits, {} bytes, {all}",
+            bits.len(),
+            bits.as_bytes().len()
+        )?)
+    }
+}
+
+#[test]
+fn every_other_block_of_4096(rt: HostRuntime) -> Result<(), Fail> {
+    each(
+        rt.alloc(),
+        &[(EveryOther(4096), "4096 bits, 512 bytes, true")],
+    )
+}
+
+/// The marks with these numbers, marked in this order.
+fn marks_of(numbers: &[u32]) -> Marks {
+    let mut marks = Marks::none();
+    for number in numbers {
+        if *number < MAX_BLOCKS {
+            marks.mark(*number);
+        }
+    }
+    marks
+}
+
+/// Numbers round the ends of bytes and of all marks.
+const ASKED: &[u32] = &[0, 1, 2, 3, 7, 8, 9, 15, 16, 4094, 4095, 4096, 4_294_967_295];
+
+/// The first number that is missing, those of the numbers above that are there, and the bytes.
+fn marks_text(alloc: Global, marks: &Marks) -> Result<String, AllocError> {
+    let mut there = String::new(alloc);
+    for number in ASKED {
+        there.push_str(if marks.has(*number) { "x" } else { "." })?;
+    }
+    let shown = nonzero(alloc, marks.to_bytes().as_slice())?;
+    format!(in alloc; "{} {there},{shown}", marks.first_missing())
+}
+
+/// Marks with these numbers, and as they are read again.
+struct Marked(&'static [u32]);
+
+impl Case for Marked {
+    fn told(&self, alloc: Global) -> Result<String, Fail> {
+        let marks = marks_of(self.0);
+        if Marks::from_bytes(&marks.to_bytes()) != marks {
+            return Err("they are read otherwise".into());
+        }
+        Ok(marks_text(alloc, &marks)?)
+    }
+}
+
+const MARKED: &[(Marked, &str)] = &[
+    (Marked(&[]), "0 .............,"),
+    (Marked(&[1, 2]), "0 .xx.........., 0:60"),
+    (Marked(&[0, 2]), "1 x.x.........., 0:a0"),
+    (Marked(&[0, 2, 1]), "3 xxx.........., 0:e0"),
+    (Marked(&[0, 0, 0]), "1 x............, 0:80"),
+    (
+        Marked(&[8, 7, 6, 5, 4, 3, 2, 1, 0]),
+        "9 xxxxxx......., 0:ff 1:80",
+    ),
+    (Marked(&[4095]), "0 ..........x.., 511:01"),
+    (
+        Marked(&[4095, 8, 7, 1, 1]),
+        "0 .x..xx....x.., 0:41 1:80 511:01",
+    ),
+];
+
+/// All are marked, and then a number again: the first that is missing, whether 4,095 and 4,096 are there, and whether each byte is
+/// ff.
+struct AllMarked(u32);
+
+impl Case for AllMarked {
+    fn told(&self, alloc: Global) -> Result<String, Fail> {
+        let mut marks = Marks::from_bytes(&[0xff; MARKS_SIZE]);
+        let told = (marks.first_missing(), marks.has(4095), marks.has(4096));
+        if self.0 < MAX_BLOCKS {
+            marks.mark(self.0);
+        }
+        let all = marks.to_bytes() == [0xff; MARKS_SIZE];
+        Ok(format!(in alloc; "{told:?} {all}")?)
+    }
+}
+
+#[test]
+fn marks(rt: HostRuntime) -> Result<(), Fail> {
+    each(rt.alloc(), MARKED)?;
+    each(rt.alloc(), &[(AllMarked(17), "(4096, true, false) true")])
+}
+
+/// The marks with these numbers below a count: the first that is missing, and the bits that are shown.
+struct Below(&'static [u32], u32);
+
+impl Case for Below {
+    fn told(&self, alloc: Global) -> Result<String, Fail> {
+        let marks = marks_of(self.0);
+        let count = self.1.min(MAX_BLOCKS);
+        let bits = marks.to_bits(alloc, count)?;
+        let shown = nonzero(alloc, bits.as_bytes())?;
+        let (first, len) = (marks.first_missing_below(count), bits.as_bytes().len());
+        Ok(format!(in alloc; "{first}, {} bits, {len} bytes,{shown}", bits.len())?)
+    }
+}
+
+const BELOW: &[(Below, &str)] = &[
+    (Below(&[0, 2], 6), "1, 6 bits, 1 bytes, 0:a0"),
+    (Below(&[0, 2], 0), "0, 0 bits, 0 bytes,"),
+    (Below(&[], 6), "0, 6 bits, 1 bytes,"),
+    // all below the count are marked, and others above it, which aren't shown
+    (Below(&[0, 1, 2], 3), "3, 3 bits, 1 bytes, 0:e0"),
+    (Below(&[0, 1, 2, 3, 4, 5], 3), "3, 3 bits, 1 bytes, 0:e0"),
+    (Below(&[0, 1, 2, 5], 4), "3, 4 bits, 1 bytes, 0:e0"),
+    // round the end of a byte
+    (Below(&[7, 8], 7), "0, 7 bits, 1 bytes,"),
+    (Below(&[7, 8], 8), "0, 8 bits, 1 bytes, 0:01"),
+    (Below(&[0, 7, 8], 9), "1, 9 bits, 2 bytes, 0:81 1:80"),
+    // the highest number of all, below the greatest count and below the one before it
+    (
+        Below(&[0, 4095], 4096),
+        "1, 4096 bits, 512 bytes, 0:80 511:01",
+    ),
+    (Below(&[0, 4095], 4095), "1, 4095 bits, 512 bytes, 0:80"),
+];
+
+#[test]
+fn marks_below_a_count(rt: HostRuntime) -> Result<(), Fail> {
+    each(rt.alloc(), BELOW)
+}
+
+/// The set below a count with these numbers: the lowest that aren't there, as many as a window of this width has.
+struct Lowest(u32, &'static [u32], u8);
+
+impl Case for Lowest {
+    fn told(&self, alloc: Global) -> Result<String, Fail> {
+        let set = set_of(alloc, self.0, self.1)?;
+        let Some(width) = Width::new(self.2) else {
+            return Ok(String::from_str(alloc, "no width")?);
+        };
+        let window = Window::next(&set, width);
+        Ok(format!(in alloc; "{}: {:?}", width.number(), window.as_slice())?)
+    }
+}
+
+const WINDOWS: &[(Lowest, &str)] = &[
+    (Lowest(6, &[0, 2], 3), "3: [1, 3, 4]"),
+    (Lowest(6, &[0, 2, 1], 3), "3: [3, 4, 5]"),
+    (Lowest(6, &[], 1), "1: [0]"),
+    (Lowest(6, &[], 15), "15: [0, 1, 2, 3, 4, 5]"),
+    (Lowest(6, &[0, 1, 2, 4, 5], 3), "3: [3]"),
+    (Lowest(6, &[0, 1, 2, 3, 4, 5], 15), "15: []"),
+    // the widest, and none
+    (
+        Lowest(4096, &[0, 3], 15),
+        "15: [1, 2, 4, 5, 6, 7, 8, 9, 10, 11, 12, 13, 14, 15, 16]",
+    ),
+    (Lowest(6, &[], 0), "no width"),
+    (Lowest(6, &[], 16), "no width"),
+];
+
+#[test]
+fn the_lowest_missing_blocks(rt: HostRuntime) -> Result<(), Fail> {
+    each(rt.alloc(), WINDOWS)
+}
