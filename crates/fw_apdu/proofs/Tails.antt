@@ -1,14 +1,15 @@
 -- Places that requests and responses have in common: bytes, and what ends them.
-use Rattle.std.proofs.Common.{◌≡◌, ℕ, Bool, true, false, ltb, List, [], ◌∷◌, ◌++◌, length, take, drop, inl, inr, refl, sym, ap, ◌∙◌, arith}
-use Rattle.std.specs.Prelude.{MatchBool, nat_lt}
-use Rattle.std.proofs.lemmas.Bool.{le-ltb}
+use Rattle.std.proofs.Common.{◌≡◌, ℕ, ◌-◌, ◌≤◌, Bool, true, false, ltb, get_or, List, [], ◌∷◌, ◌++◌, length, take, drop, inl, inr, refl, sym, ap, subst, ◌∙◌, arith}
+use Rattle.std.specs.Prelude.{MatchBool, nat_lt, ◌==◌}
+use Rattle.std.proofs.lemmas.Bool.{le-ltb, eq-eqb}
 use Rattle.std.proofs.lemmas.List.{length-append, append-nil, take-append-drop}
+use Rattle.std.proofs.Math.Seq.{take-length}
 use Rattle.fw_axdr.specs.Value.{Value}
 use Rattle.fw_axdr.specs.Spelling.{IsData, max_depth}
 use Rattle.fw_axdr.specs.Laws as axdr
 use Rattle.fw_apdu.specs.declared.error.ApduError.{ApduError}
 use Rattle.fw_apdu.specs.declared.error.ApduError.TheVariants.{Truncated, BadData}
-use Rattle.fw_apdu.specs.Fault.{EndFails, DataFails, ByteFails, BytesFail}
+use Rattle.fw_apdu.specs.Fault.{EndFails, DataFails, ByteFails, BytesFail, ResultFails, IfFault}
 
 -- ---- what follows a Data
 
@@ -30,6 +31,15 @@ one_data_fault faults s e f (inl h) (inl k) = h.2 ∙ ap BadData ((faults max_de
 one_data_fault faults s e f (inl h) (inr k) = absurd ((faults max_depth s h.0 h.0 h.1).0 k.1 (k.2 ∷ k.3) k.0 k.5 k.4)
 one_data_fault faults s e f (inr h) (inl k) = absurd ((faults max_depth s k.0 k.0 k.1).0 h.1 (h.2 ∷ h.3) h.0 h.5 h.4)
 one_data_fault faults s e f (inr h) (inr k) = h.6 ∙ sym k.6
+
+-- a value behind 00
+pub value_fails : (s : List ℕ) (e : ApduError) → 1 ≤ length s → get_or s 0 0 ≡ 0 → IfFault e (DataFails (take (length s - 1) (drop 1 s)) e) → IfFault e (ResultFails s e)
+value_fails [] e some is h = absurd (omega arith)
+value_fails (b ∷ s) e some is h =
+    let at : (b == 0x00) ≡ true = eq-eqb b 0x00 is in
+    let size : length (b ∷ s) - 1 ≡ length s = omega arith in
+    let whole : take (length (b ∷ s) - 1) s ≡ s = rw size (take-length s) in
+    rw at (subst (λ (x : List ℕ). IfFault e (DataFails x e)) whole h)
 
 -- ---- one fault
 

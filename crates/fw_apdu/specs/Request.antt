@@ -5,6 +5,7 @@ use Rattle.std.specs.Int.{w8, w16, to_be_bytes, cast_unsigned}
 use Rattle.fw_axdr.specs.Value.{Value}
 use Rattle.fw_axdr.specs.Spelling.{IsData, max_depth, short}
 use Rattle.fw_axdr.specs.Fault.{unwritable}
+use Rattle.fw_axdr.specs.Memory.{MayTakeMemory}
 use Rattle.fw_axdr.specs.declared.error.AxdrError.{AxdrError}
 
 -- an attribute or a method: its object's class and logical name, and its own number
@@ -62,10 +63,15 @@ unwritable_request (set_request d v) = unwritable v max_depth
 unwritable_request (action_request d None) = None
 unwritable_request (action_request d (Some v)) = unwritable v max_depth
 
--- by its first byte the request may hold a Data: it is a SET or an ACTION
+-- where a request holds a Data: behind the head of a SET and 00, and behind that of an ACTION and any byte but 00
+abbrev pub HoldsDataAt : List ℕ → List ℕ → Type 0
+HoldsDataAt s body =
+    (invoke : ℕ) × (d : Descriptor) × IsDescriptor d
+    × ((s ≡ 0xc1 ∷ head_bytes invoke d ++ 0x00 ∷ body) ⊎ ((present : ℕ) × (s ≡ 0xc3 ∷ head_bytes invoke d ++ present ∷ body) × (present ≢ 0)))
+
+-- a request may hold a Data that takes memory: at its place stand bytes for which reading may want some
 abbrev pub MayHoldData : List ℕ → Type 0
-MayHoldData [] = ⊥
-MayHoldData (b ∷ s) = (b ≡ 0xc1) ⊎ (b ≡ 0xc3)
+MayHoldData s = (body : List ℕ) × HoldsDataAt s body × MayTakeMemory max_depth body
 
 -- the byte string spells no request
 abbrev pub NoRequest : List ℕ → Type 0

@@ -4,6 +4,7 @@ use Rattle.std.specs.Prelude.{◌≡◌, ◌≢◌, ◌⊎◌, ℕ, List, [], �
 use Rattle.fw_axdr.specs.Value.{Value}
 use Rattle.fw_axdr.specs.Spelling.{IsData, max_depth, short}
 use Rattle.fw_axdr.specs.Fault.{unwritable}
+use Rattle.fw_axdr.specs.Memory.{MayTakeMemory}
 use Rattle.fw_axdr.specs.declared.error.AxdrError.{AxdrError}
 
 -- Get-Data-Result: a value, or the code of a Data-Access-Result
@@ -30,10 +31,15 @@ SpellsResponse s invoke (action_response c None) = s ≡ 0xc7 ∷ 0x01 ∷ invok
 SpellsResponse s invoke (action_response c (Some r)) =
     (present : ℕ) × (body : List ℕ) × (s ≡ 0xc7 ∷ 0x01 ∷ invoke ∷ c ∷ present ∷ body) × (present ≢ 0) × SpellsResult body r
 
--- by its first byte the response may hold a Data: it answers a GET or an ACTION
+-- where a response holds a Data: in the result of a GET, and in that of an ACTION where any byte but 00 says that there is one
+abbrev pub ReturnsDataAt : List ℕ → List ℕ → Type 0
+ReturnsDataAt s body =
+    (invoke : ℕ)
+    × ((s ≡ 0xc4 ∷ 0x01 ∷ invoke ∷ 0x00 ∷ body) ⊎ ((c present : ℕ) × (s ≡ 0xc7 ∷ 0x01 ∷ invoke ∷ c ∷ present ∷ 0x00 ∷ body) × (present ≢ 0)))
+
+-- a response may hold a Data that takes memory: at its place stand bytes for which reading may want some
 abbrev pub MayReturnData : List ℕ → Type 0
-MayReturnData [] = ⊥
-MayReturnData (b ∷ s) = (b ≡ 0xc4) ⊎ (b ≡ 0xc7)
+MayReturnData s = (body : List ℕ) × ReturnsDataAt s body × MayTakeMemory max_depth body
 
 -- the byte string spells no response
 abbrev pub NoResponse : List ℕ → Type 0

@@ -1,5 +1,6 @@
-//! The numbers that both ends of Image transfer have for its objects (IEC 62056-6-1, IEC 62056-6-2), and the codes by which a
-//! request is answered (IEC 62056-5-3). Clauses cite them by the words of `specs/Cosem.antt`.
+//! The numbers that both ends of Image transfer have for its objects (IEC 62056-6-1,
+//! IEC 62056-6-2), and the codes by which a request is answered (IEC 62056-5-3). Clauses cite them
+//! by the words of `specs/Cosem.antt`.
 
 use crate::fields::LogicalName;
 
@@ -54,7 +55,8 @@ pub const IMAGE_VERIFY: i8 = 3;
 /// Method 4, image_activate.
 pub const IMAGE_ACTIVATE: i8 = 4;
 
-/// The code success. This code and those that follow are both a Data-Access-Result's and an Action-Result's.
+/// The code success. This code and those that follow are both a Data-Access-Result's and an
+/// Action-Result's.
 pub const SUCCESS: u8 = 0;
 
 /// The code hardware-fault.

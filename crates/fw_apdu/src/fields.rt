@@ -3,8 +3,8 @@
 ghost use Rattle.std.specs.Prelude.{◌≡◌};
 ghost use Rattle.fw_apdu.specs.Request.{invoke_id, is_confirmed};
 
-/// The byte of the invoke-id and the priority (IEC 62056-5-3, Invoke-Id-And-Priority). A response repeats that of its
-/// request, so a client can tell its answers apart.
+/// The byte of the invoke-id and the priority (IEC 62056-5-3, Invoke-Id-And-Priority). A response
+/// repeats that of its request, so a client can tell its answers apart.
 #[derive(Clone, Copy, Debug, PartialEq, Eq)]
 pub struct Invoke(pub u8);
 
@@ -30,6 +30,7 @@ impl Invoke {
     }
 }
 
-/// The logical name of a COSEM object: the six value groups A to F of its OBIS code (IEC 62056-6-1).
+/// The logical name of a COSEM object: the six value groups A to F of its OBIS code
+/// (IEC 62056-6-1).
 #[derive(Clone, Copy, Debug, PartialEq, Eq)]
 pub struct LogicalName(pub [u8; 6]);

@@ -1,4 +1,5 @@
-//! The services GET, SET and ACTION of COSEM in their normal forms, with logical names (IEC 62056-5-3).
+//! The services GET, SET and ACTION of COSEM in their normal forms, with logical names
+//! (IEC 62056-5-3).
 #![tactic(auto)]
 
 pub mod cosem;

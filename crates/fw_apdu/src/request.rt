@@ -1,6 +1,6 @@
 //! Requests, and how they are read.
 
-ghost use Rattle.std.specs.Prelude.{◌≡◌, [], ◌∷◌, ◌++◌, IfOk, IfErr, OnOk};
+ghost use Rattle.std.specs.Prelude.{◌≡◌, [], ◌∷◌, ◌++◌, None, IfOk, IfErr, OnOk};
 ghost use Rattle.std.specs.Option.{option_map};
 ghost use Rattle.fw_axdr.specs.Spelling.{IsData, max_depth, short};
 ghost use Rattle.fw_axdr.specs.Fault.{unwritable};
@@ -8,16 +8,17 @@ ghost use Rattle.fw_axdr.specs.View.{value_of};
 ghost use Rattle.fw_apdu.specs.Request.{IsDescriptor, SpellsRequest, NoRequest, MayHoldData, request_descriptor, head_bytes, request_bytes, unwritable_request};
 ghost use Rattle.fw_apdu.specs.Fault.{RequestFails, GetFails, SetFails, ActionFails, ParameterFails, IfFault, IfMemory, IsBadData};
 ghost use Rattle.fw_apdu.specs.View.{request_content, request_invoke};
-ghost use Rattle.fw_apdu.specs.Reading.{descriptor_of, HeadRead, HeadStops, SelectionStops, IsParameter};
+ghost use Rattle.fw_apdu.specs.Inside.{descriptor_of, HeadRead, HeadStops, SelectionStops, IsParameter, ParameterTakes};
 
 use crate::error::ApduError;
 use crate::fields::{Invoke, LogicalName};
 use crate::laws;
-use crate::places::{data_at, end_at};
+use crate::places::{data_at, end_at, judge};
 use fw_axdr::{Data, write_to};
 use std::alloc::{AllocError, Global};
 
-/// What a client asks of a server. `class` is the object's class_id and `instance` its logical name.
+/// What a client asks of a server. `class` is the object's class_id and `instance` its logical
+/// name.
 #[derive(Debug, Drop)]
 pub enum Request {
     /// GET.request-normal: the value of an attribute.
@@ -132,14 +133,16 @@ struct Head {
 ///
 /// # Errors
 ///
-/// The leftmost fault of the bytes: `Truncated`, `UnknownService`, `UnsupportedForm`, `BadData` or `Trailing`. Otherwise
-/// `OutOfMemory` alone, and only in a SET or an ACTION.
+/// The leftmost fault of the bytes: `Truncated`, `UnknownService`, `UnsupportedForm`, `BadData` or
+/// `Trailing`. Otherwise `OutOfMemory` alone, and only for the value of a SET or the parameter of
+/// an ACTION.
 pub fn read_request(alloc: Global, apdu: &[u8]) -> Result<Request, ApduError>
-    ensures found { IfOk result (λ r. SpellsRequest apdu.now (request_invoke r) (request_content r)) }
+    ensures found { IfOk result
+        (λ r. SpellsRequest apdu.now (request_invoke r) (request_content r)) }
     // A fault is the leftmost one, and comes only where the bytes spell no request.
     ensures none { IfErr result (λ e. IfFault e (NoRequest apdu.now)) }
     ensures fault { IfErr result (λ e. IfFault e (RequestFails apdu.now e)) }
-    // A GET is read without memory.
+    // Memory is wanted only for a Data, and there only for strings and elements that are there.
     ensures memory { IfErr result (λ e. IfMemory e (MayHoldData apdu.now)) }
 {
     laws::one_request_fault();
@@ -148,7 +151,8 @@ pub fn read_request(alloc: Global, apdu: &[u8]) -> Result<Request, ApduError>
 
 /// The request that the bytes are, by its first byte.
 fn request_at(alloc: Global, bytes: &[u8]) -> Result<Request, ApduError>
-    ensures found { IfOk result (λ r. SpellsRequest bytes.now (request_invoke r) (request_content r)) }
+    ensures found { IfOk result
+        (λ r. SpellsRequest bytes.now (request_invoke r) (request_content r)) }
     ensures fault { IfErr result (λ e. IfFault e (RequestFails bytes.now e)) }
     ensures memory { IfErr result (λ e. IfMemory e (MayHoldData bytes.now)) }
 {
@@ -165,8 +169,10 @@ fn request_at(alloc: Global, bytes: &[u8]) -> Result<Request, ApduError>
 
 /// The GET that the bytes behind its first byte are.
 fn get_request(bytes: &[u8]) -> Result<Request, ApduError>
-    ensures found { IfOk result (λ r. SpellsRequest (0xc0 ∷ bytes.now) (request_invoke r) (request_content r)) }
+    ensures found { IfOk result
+        (λ r. SpellsRequest (0xc0 ∷ bytes.now) (request_invoke r) (request_content r)) }
     ensures fault { IfErr result (λ e. GetFails bytes.now e) }
+    ensures memory { IfErr result (λ e. IfMemory e ⊥) }
 {
     let (head, rest) = head_at(bytes)?;
     let rest = selection_at(rest)?;
@@ -181,8 +187,10 @@ fn get_request(bytes: &[u8]) -> Result<Request, ApduError>
 
 /// The SET that the bytes behind its first byte are.
 fn set_request(alloc: Global, bytes: &[u8]) -> Result<Request, ApduError>
-    ensures found { IfOk result (λ r. SpellsRequest (0xc1 ∷ bytes.now) (request_invoke r) (request_content r)) }
+    ensures found { IfOk result
+        (λ r. SpellsRequest (0xc1 ∷ bytes.now) (request_invoke r) (request_content r)) }
     ensures fault { IfErr result (λ e. IfFault e (SetFails bytes.now e)) }
+    ensures memory { IfErr result (λ e. IfMemory e (MayHoldData (0xc1 ∷ bytes.now))) }
 {
     let (head, rest) = head_at(bytes)?;
     let rest = selection_at(rest)?;
@@ -198,8 +206,10 @@ fn set_request(alloc: Global, bytes: &[u8]) -> Result<Request, ApduError>
 
 /// The ACTION that the bytes behind its first byte are.
 fn action_request(alloc: Global, bytes: &[u8]) -> Result<Request, ApduError>
-    ensures found { IfOk result (λ r. SpellsRequest (0xc3 ∷ bytes.now) (request_invoke r) (request_content r)) }
+    ensures found { IfOk result
+        (λ r. SpellsRequest (0xc3 ∷ bytes.now) (request_invoke r) (request_content r)) }
     ensures fault { IfErr result (λ e. IfFault e (ActionFails bytes.now e)) }
+    ensures memory { IfErr result (λ e. IfMemory e (MayHoldData (0xc3 ∷ bytes.now))) }
 {
     let (head, rest) = head_at(bytes)?;
     let parameter = parameter_at(alloc, rest)?;
@@ -216,6 +226,7 @@ fn action_request(alloc: Global, bytes: &[u8]) -> Result<Request, ApduError>
 fn head_at(bytes: &[u8]) -> Result<(Head, &[u8]), ApduError>
     ensures found { IfOk result (λ x. HeadRead bytes.now x.0 x.1.now) }
     ensures fault { IfErr result (λ e. HeadStops bytes.now e) }
+    ensures memory { IfErr result (λ e. IfMemory e ⊥) }
 {
     match bytes {
         [
@@ -249,6 +260,7 @@ fn head_at(bytes: &[u8]) -> Result<(Head, &[u8]), ApduError>
 fn selection_at(bytes: &[u8]) -> Result<&[u8], ApduError>
     ensures found { IfOk result (λ rest. bytes.now ≡ 0x00 ∷ rest.now) }
     ensures fault { IfErr result (λ e. SelectionStops bytes.now e) }
+    ensures memory { IfErr result (λ e. IfMemory e ⊥) }
 {
     match bytes {
         [ABSENT, rest @ ..] => Ok(rest),
@@ -259,8 +271,10 @@ fn selection_at(bytes: &[u8]) -> Result<&[u8], ApduError>
 
 /// The parameter that the bytes are, all of them, or none.
 fn parameter_at(alloc: Global, bytes: &[u8]) -> Result<Option<Data>, ApduError>
-    ensures found { IfOk result (λ parameter. IsParameter bytes.now (option_map value_of parameter)) }
+    ensures found { IfOk result
+        (λ parameter. IsParameter bytes.now (option_map value_of parameter)) }
     ensures fault { IfErr result (λ e. IfFault e (ParameterFails bytes.now e)) }
+    ensures memory { IfErr result (λ e. IfMemory e (ParameterTakes bytes.now)) }
 {
     let [present, rest @ ..] = bytes else {
         return Err(ApduError::Truncated);
@@ -278,10 +292,16 @@ fn parameter_at(alloc: Global, bytes: &[u8]) -> Result<Option<Data>, ApduError>
 ///
 /// `BadData` where a value in it has no spelling, and otherwise `OutOfMemory` alone.
 pub fn write_request(alloc: Global, request: &Request) -> Result<Vec<u8>, ApduError>
-    ensures written { IfOk result (λ apdu. apdu.items ≡ request_bytes (request_invoke request.now) (request_content request.now)) }
-    ensures spelled { IfOk result (λ apdu. SpellsRequest apdu.items (request_invoke request.now) (request_content request.now)) }
+    ensures written { IfOk result (λ apdu. apdu.items
+        ≡ request_bytes (request_invoke request.now) (request_content request.now)) }
+    ensures spelled { IfOk result (λ apdu.
+        SpellsRequest apdu.items (request_invoke request.now) (request_content request.now)) }
     // A request is refused where a value in it has no spelling, and for its fault.
-    ensures refused { IfErr result (λ e. IfFault e (IsBadData (unwritable_request (request_content request.now)) e)) }
+    ensures refused { IfErr result
+        (λ e. IfFault e (IsBadData (unwritable_request (request_content request.now)) e)) }
+    // Memory is wanted only for a request that can be written.
+    ensures memory { IfErr result
+        (λ e. IfMemory e (unwritable_request (request_content request.now) ≡ None)) }
 {
     let head = request.head();
     match request {
@@ -297,7 +317,8 @@ pub fn write_request(alloc: Global, request: &Request) -> Result<Vec<u8>, ApduEr
 impl Head {
     /// The first byte of a request, the head, and the byte that says what follows.
     fn written(self, alloc: Global, service: u8, follows: u8) -> Result<Vec<u8>, AllocError>
-        ensures written { IfOk result (λ apdu. apdu.items ≡ service ∷ head_bytes self.invoke.0 (descriptor_of self) ++ follows ∷ []) }
+        ensures written { IfOk result (λ apdu. apdu.items
+            ≡ service ∷ head_bytes self.invoke.0 (descriptor_of self) ++ follows ∷ []) }
         ensures fits { IsDescriptor (descriptor_of self) }
     {
         let mut apdu = [service, NORMAL, self.invoke.0].to_vec(alloc)?;
@@ -318,9 +339,14 @@ impl Head {
         ensures written { IfOk result (λ apdu. apdu.items
             ≡ service ∷ head_bytes self.invoke.0 (descriptor_of self) ++ follows ∷ short (value_of value.now)) }
         ensures fits { IsDescriptor (descriptor_of self) }
-        ensures spelled { OnOk result (IsData max_depth (short (value_of value.now)) (value_of value.now)) }
-        ensures refused { IfErr result (λ e. IfFault e (IsBadData (unwritable (value_of value.now) max_depth) e)) }
+        ensures spelled { OnOk result
+            (IsData max_depth (short (value_of value.now)) (value_of value.now)) }
+        ensures refused { IfErr result
+            (λ e. IfFault e (IsBadData (unwritable (value_of value.now) max_depth) e)) }
+        ensures memory { IfErr result
+            (λ e. IfMemory e (unwritable (value_of value.now) max_depth ≡ None)) }
     {
+        judge(value)?;
         let mut apdu = self.written(alloc, service, follows)?;
         write_to(value, &mut apdu)?;
         Ok(apdu)

@@ -1,16 +1,16 @@
 //! Responses, and how they are written.
 
-ghost use Rattle.std.specs.Prelude.{◌≡◌, ◌∷◌, ◌++◌, IfOk, IfErr, OnOk};
+ghost use Rattle.std.specs.Prelude.{◌≡◌, ◌∷◌, ◌++◌, None, IfOk, IfErr, OnOk};
 ghost use Rattle.std.specs.Option.{option_map};
 ghost use Rattle.fw_apdu.specs.Response.{SpellsResult, NoResponse, SpellsResponse, MayReturnData, response_bytes, result_bytes, unwritable_response, unwritable_result};
 ghost use Rattle.fw_apdu.specs.Fault.{ResponseFails, GetAnswerFails, SetAnswerFails, ActionAnswerFails, ReturnedFails, ResultFails, IfFault, IfMemory, IsBadData};
-ghost use Rattle.fw_apdu.specs.Reading.{AnswerRead, AnswerStops, CodeStops, IsReturned};
+ghost use Rattle.fw_apdu.specs.Inside.{AnswerRead, AnswerStops, CodeStops, IsReturned, ResultTakes, ReturnedTakes};
 ghost use Rattle.fw_apdu.specs.View.{response_content, response_invoke, result_of};
 
 use crate::error::ApduError;
 use crate::fields::Invoke;
 use crate::laws;
-use crate::places::{data_at, end_at};
+use crate::places::{data_at, end_at, judge};
 use crate::request::{ABSENT, NORMAL};
 use fw_axdr::{Data, write_to};
 use std::alloc::Global;
@@ -35,7 +35,8 @@ pub enum Response {
         invoke: Invoke,
         code: u8,
     },
-    /// ACTION.response-normal, with the code of an Action-Result, and return parameters where there are any.
+    /// ACTION.response-normal, with the code of an Action-Result, and return parameters where there
+    /// are any.
     Action {
         invoke: Invoke,
         code: u8,
@@ -62,14 +63,16 @@ const PRESENT: u8 = 0x01;
 ///
 /// # Errors
 ///
-/// The leftmost fault of the bytes: `Truncated`, `UnknownService`, `UnsupportedForm`, `BadData` or `Trailing`. Otherwise
-/// `OutOfMemory` alone, and only in the answer to a GET or an ACTION.
+/// The leftmost fault of the bytes: `Truncated`, `UnknownService`, `UnsupportedForm`, `BadData` or
+/// `Trailing`. Otherwise `OutOfMemory` alone, and only for the value in the answer to a GET or an
+/// ACTION.
 pub fn read_response(alloc: Global, apdu: &[u8]) -> Result<Response, ApduError>
-    ensures found { IfOk result (λ r. SpellsResponse apdu.now (response_invoke r) (response_content r)) }
+    ensures found { IfOk result
+        (λ r. SpellsResponse apdu.now (response_invoke r) (response_content r)) }
     // A fault is the leftmost one, and comes only where the bytes spell no response.
     ensures none { IfErr result (λ e. IfFault e (NoResponse apdu.now)) }
     ensures fault { IfErr result (λ e. IfFault e (ResponseFails apdu.now e)) }
-    // The answer to a SET is read without memory.
+    // Memory is wanted only for a Data, and there only for strings and elements that are there.
     ensures memory { IfErr result (λ e. IfMemory e (MayReturnData apdu.now)) }
 {
     laws::one_response_fault();
@@ -78,7 +81,8 @@ pub fn read_response(alloc: Global, apdu: &[u8]) -> Result<Response, ApduError>
 
 /// The response that the bytes are, by its first byte.
 fn response_at(alloc: Global, bytes: &[u8]) -> Result<Response, ApduError>
-    ensures found { IfOk result (λ r. SpellsResponse bytes.now (response_invoke r) (response_content r)) }
+    ensures found { IfOk result
+        (λ r. SpellsResponse bytes.now (response_invoke r) (response_content r)) }
     ensures fault { IfErr result (λ e. IfFault e (ResponseFails bytes.now e)) }
     ensures memory { IfErr result (λ e. IfMemory e (MayReturnData bytes.now)) }
 {
@@ -95,8 +99,10 @@ fn response_at(alloc: Global, bytes: &[u8]) -> Result<Response, ApduError>
 
 /// The answer to a GET that the bytes behind its first byte are.
 fn get_response(alloc: Global, bytes: &[u8]) -> Result<Response, ApduError>
-    ensures found { IfOk result (λ r. SpellsResponse (0xc4 ∷ bytes.now) (response_invoke r) (response_content r)) }
+    ensures found { IfOk result
+        (λ r. SpellsResponse (0xc4 ∷ bytes.now) (response_invoke r) (response_content r)) }
     ensures fault { IfErr result (λ e. IfFault e (GetAnswerFails bytes.now e)) }
+    ensures memory { IfErr result (λ e. IfMemory e (MayReturnData (0xc4 ∷ bytes.now))) }
 {
     let (invoke, rest) = invoke_at(bytes)?;
     let result = result_at(alloc, rest)?;
@@ -105,8 +111,10 @@ fn get_response(alloc: Global, bytes: &[u8]) -> Result<Response, ApduError>
 
 /// The answer to a SET that the bytes behind its first byte are.
 fn set_response(bytes: &[u8]) -> Result<Response, ApduError>
-    ensures found { IfOk result (λ r. SpellsResponse (0xc5 ∷ bytes.now) (response_invoke r) (response_content r)) }
+    ensures found { IfOk result
+        (λ r. SpellsResponse (0xc5 ∷ bytes.now) (response_invoke r) (response_content r)) }
     ensures fault { IfErr result (λ e. SetAnswerFails bytes.now e) }
+    ensures memory { IfErr result (λ e. IfMemory e ⊥) }
 {
     let (invoke, rest) = invoke_at(bytes)?;
     let (code, rest) = code_at(rest)?;
@@ -116,8 +124,10 @@ fn set_response(bytes: &[u8]) -> Result<Response, ApduError>
 
 /// The answer to an ACTION that the bytes behind its first byte are.
 fn action_response(alloc: Global, bytes: &[u8]) -> Result<Response, ApduError>
-    ensures found { IfOk result (λ r. SpellsResponse (0xc7 ∷ bytes.now) (response_invoke r) (response_content r)) }
+    ensures found { IfOk result
+        (λ r. SpellsResponse (0xc7 ∷ bytes.now) (response_invoke r) (response_content r)) }
     ensures fault { IfErr result (λ e. IfFault e (ActionAnswerFails bytes.now e)) }
+    ensures memory { IfErr result (λ e. IfMemory e (MayReturnData (0xc7 ∷ bytes.now))) }
 {
     let (invoke, rest) = invoke_at(bytes)?;
     let (code, rest) = code_at(rest)?;
@@ -133,6 +143,7 @@ fn action_response(alloc: Global, bytes: &[u8]) -> Result<Response, ApduError>
 fn invoke_at(bytes: &[u8]) -> Result<(Invoke, &[u8]), ApduError>
     ensures found { IfOk result (λ x. AnswerRead bytes.now x.0.0 x.1.now) }
     ensures fault { IfErr result (λ e. AnswerStops bytes.now e) }
+    ensures memory { IfErr result (λ e. IfMemory e ⊥) }
 {
     match bytes {
         [NORMAL, invoke, rest @ ..] => Ok((Invoke(*invoke), rest)),
@@ -145,6 +156,7 @@ fn invoke_at(bytes: &[u8]) -> Result<(Invoke, &[u8]), ApduError>
 fn code_at(bytes: &[u8]) -> Result<(u8, &[u8]), ApduError>
     ensures found { IfOk result (λ x. bytes.now ≡ x.0 ∷ x.1.now) }
     ensures fault { IfErr result (λ e. CodeStops bytes.now e) }
+    ensures memory { IfErr result (λ e. IfMemory e ⊥) }
 {
     let [code, rest @ ..] = bytes else {
         return Err(ApduError::Truncated);
@@ -156,6 +168,7 @@ fn code_at(bytes: &[u8]) -> Result<(u8, &[u8]), ApduError>
 fn returned_at(alloc: Global, bytes: &[u8]) -> Result<Option<GetDataResult>, ApduError>
     ensures found { IfOk result (λ returned. IsReturned bytes.now (option_map result_of returned)) }
     ensures fault { IfErr result (λ e. IfFault e (ReturnedFails bytes.now e)) }
+    ensures memory { IfErr result (λ e. IfMemory e (ReturnedTakes bytes.now)) }
 {
     let [present, rest @ ..] = bytes else {
         return Err(ApduError::Truncated);
@@ -171,16 +184,19 @@ fn returned_at(alloc: Global, bytes: &[u8]) -> Result<Option<GetDataResult>, Apd
 fn result_at(alloc: Global, bytes: &[u8]) -> Result<GetDataResult, ApduError>
     ensures found { IfOk result (λ r. SpellsResult bytes.now (result_of r)) }
     ensures fault { IfErr result (λ e. IfFault e (ResultFails bytes.now e)) }
+    ensures memory { IfErr result (λ e. IfMemory e (ResultTakes bytes.now)) }
 {
-    match bytes {
-        [VALUE, rest @ ..] => Ok(GetDataResult::Data(data_at(alloc, rest)?)),
-        [CODE, rest @ ..] => {
+    let [kind, rest @ ..] = bytes else {
+        return Err(ApduError::Truncated);
+    };
+    match *kind {
+        VALUE => Ok(GetDataResult::Data(data_at(alloc, rest)?)),
+        CODE => {
             let (code, rest) = code_at(rest)?;
             end_at(rest)?;
             Ok(GetDataResult::Code(code))
         }
-        [] => Err(ApduError::Truncated),
-        [_, ..] => Err(ApduError::UnsupportedForm),
+        _ => Err(ApduError::UnsupportedForm),
     }
 }
 
@@ -190,10 +206,16 @@ fn result_at(alloc: Global, bytes: &[u8]) -> Result<GetDataResult, ApduError>
 ///
 /// `BadData` where a value in it has no spelling, and otherwise `OutOfMemory` alone.
 pub fn write_response(alloc: Global, response: &Response) -> Result<Vec<u8>, ApduError>
-    ensures written { IfOk result (λ apdu. apdu.items ≡ response_bytes (response_invoke response.now) (response_content response.now)) }
-    ensures spelled { IfOk result (λ apdu. SpellsResponse apdu.items (response_invoke response.now) (response_content response.now)) }
+    ensures written { IfOk result (λ apdu. apdu.items
+        ≡ response_bytes (response_invoke response.now) (response_content response.now)) }
+    ensures spelled { IfOk result (λ apdu.
+        SpellsResponse apdu.items (response_invoke response.now) (response_content response.now)) }
     // A response is refused where a value in it has no spelling, and for its fault.
-    ensures refused { IfErr result (λ e. IfFault e (IsBadData (unwritable_response (response_content response.now)) e)) }
+    ensures refused { IfErr result
+        (λ e. IfFault e (IsBadData (unwritable_response (response_content response.now)) e)) }
+    // Memory is wanted only for a response that can be written.
+    ensures memory { IfErr result
+        (λ e. IfMemory e (unwritable_response (response_content response.now) ≡ None)) }
 {
     match response {
         Response::Get { invoke, result } => {
@@ -219,17 +241,27 @@ pub fn write_response(alloc: Global, response: &Response) -> Result<Vec<u8>, Apd
 
 /// The bytes, and behind them the short spelling of a result.
 fn ending_in(alloc: Global, front: &[u8], answer: &GetDataResult) -> Result<Vec<u8>, ApduError>
-    ensures written { IfOk result (λ apdu. apdu.items ≡ front.now ++ result_bytes (result_of answer.now)) }
-    ensures spelled { OnOk result (SpellsResult (result_bytes (result_of answer.now)) (result_of answer.now)) }
-    ensures refused { IfErr result (λ e. IfFault e (IsBadData (unwritable_result (result_of answer.now)) e)) }
+    ensures written { IfOk result
+        (λ apdu. apdu.items ≡ front.now ++ result_bytes (result_of answer.now)) }
+    ensures spelled { OnOk result
+        (SpellsResult (result_bytes (result_of answer.now)) (result_of answer.now)) }
+    ensures refused { IfErr result
+        (λ e. IfFault e (IsBadData (unwritable_result (result_of answer.now)) e)) }
+    ensures memory { IfErr result
+        (λ e. IfMemory e (unwritable_result (result_of answer.now) ≡ None)) }
 {
-    let mut apdu = front.to_vec(alloc)?;
     match answer {
         GetDataResult::Data(value) => {
+            judge(value)?;
+            let mut apdu = front.to_vec(alloc)?;
             apdu.push(VALUE)?;
             write_to(value, &mut apdu)?;
+            Ok(apdu)
         }
-        GetDataResult::Code(code) => apdu.extend_from_slice(&[CODE, *code])?,
+        GetDataResult::Code(code) => {
+            let mut apdu = front.to_vec(alloc)?;
+            apdu.extend_from_slice(&[CODE, *code])?;
+            Ok(apdu)
+        }
     }
-    Ok(apdu)
 }

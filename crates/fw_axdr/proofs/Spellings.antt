@@ -8,13 +8,12 @@ use Rattle.fw_axdr.specs.declared.error.AxdrError.{AxdrError}
 use Rattle.fw_axdr.specs.declared.error.AxdrError.TheVariants.{UnknownTag}
 use Rattle.fw_axdr.specs.declared.tag.Tag.{Tag}
 use Rattle.fw_axdr.specs.declared.tag.Tag.TheVariants as tag
-use Rattle.fw_axdr.specs.Tag.{tag_at, code}
+use Rattle.fw_axdr.specs.Inside.{tag_at, code, length_at, bytes_at, number_at, octets_at, bits_at, each_at, items_at, contents_at, tagged_at, data_at}
 use Rattle.fw_axdr.specs.Bits.{bits, bytes_for}
 use Rattle.fw_axdr.specs.Value.{Value, Values, none, more, count, deepest}
 use Rattle.fw_axdr.specs.Spelling.{number, IsLength, SpellEach, IsData}
 use Rattle.fw_axdr.specs.Fault.{tags, contents_in, LengthFails, BytesFail, CountedFails, EachFails, ContentsFail, Fails}
 use Rattle.fw_axdr.proofs.Tags.{shape, contents_in-code, tag_code, tag_none}
-use Rattle.fw_axdr.specs.Reading.{length_at, bytes_at, number_at, octets_at, bits_at, each_at, items_at, contents_at, tagged_at, data_at}
 use Rattle.fw_axdr.proofs.Lengths.{bind_both, LengthTaken, length_sound, length_again}
 use Rattle.fw_axdr.proofs.Cuts.{length_bits}
 

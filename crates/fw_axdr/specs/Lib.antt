@@ -6,10 +6,8 @@ pub mod Spelling
 pub mod Fault
 pub mod Memory
 pub mod Laws
--- For private clauses and the model of `Items` alone: no public clause cites them.
-pub mod Tag
-pub mod Reading
-pub mod Writing
-pub mod Clearing
+-- For private clauses alone: no public clause cites it.
+pub mod Inside
+-- For the model of `Items` alone.
 pub mod Stored
 pub mod Falls

@@ -1,2 +1,3 @@
+-- Public vocabulary: the words of public clauses, for callers and readers.
 pub mod Name
 pub mod Laws

@@ -41,7 +41,7 @@ impl CampaignId {
         Some(CampaignId { head, serial })
     }
 
-    // The campaign with these two numbers, if they are a campaign's.
+    /// The campaign with these two numbers, if they are a campaign's.
     pub(crate) fn from_numbers(head: u32, serial: u32) -> Option<CampaignId>
         ensures { let campaign : Campaign = record { head = head; serial = serial } in
             SomeIff result (IsCampaign campaign) campaign }
@@ -53,7 +53,7 @@ impl CampaignId {
         }
     }
 
-    // The head end's number, and 0 for the factory's.
+    /// The head end's number, and 0 for the factory's.
     pub(crate) fn head_number(self) -> u32
         ensures value { result ≡ self.head }
         ensures is_campaign { IsCampaign self }

@@ -31,7 +31,7 @@ impl Model for ImageName {
     ghost inverse = { λ n. record { campaign = n.campaign; digest = n.digest } };
 }
 
-// Writes a part of a name's bytes behind those that are there, and answers where it ends.
+/// Writes a part of a name's bytes behind those that are there, and answers where it ends.
 fn put(bytes: &mut [u8; NAME_SIZE], at: usize, part: &[u8]) -> usize
     requires { at + length part.now ≤ NAME_SIZE }
     ensures next { result ≡ at + length part.now }

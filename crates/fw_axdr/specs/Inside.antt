@@ -1,14 +1,44 @@
--- For private clauses: reading from left to right, as a plain program beside the relations.
-use Rattle.std.specs.Prelude.{◌≡◌, ℕ, zero, suc, ◌-◌, Bool, not, List, [], ◌∷◌, length, take, drop, Option, Some, None, Result, Ok, Err, nat_lt, ◌==◌, ◌||◌, if◌then◌else◌}
+-- For private clauses alone: tags, reading, writing and the clearing of unused bits, beside the relations.
+use Rattle.std.specs.Prelude.{ℕ, Option, Some, None, ◌==◌, if◌then◌else◌, ◌≡◌, zero, suc, ◌-◌, Bool, not, List, [], ◌∷◌, length, take, drop, Result, Ok, Err, nat_lt, ◌||◌}
 use Rattle.std.specs.Int.{w8, w16, w32, w64, cast_signed}
 use Rattle.fw_axdr.specs.declared.error.AxdrError.{AxdrError}
 use Rattle.fw_axdr.specs.declared.error.AxdrError.TheVariants.{Truncated, UnknownTag, BadLength, TooDeep, OutOfMemory}
-use Rattle.fw_axdr.specs.declared.tag.Tag.{Tag}
-use Rattle.fw_axdr.specs.declared.tag.Tag.TheVariants as tag
-use Rattle.fw_axdr.specs.Tag.{tag_at}
-use Rattle.fw_axdr.specs.Bits.{bits, bytes_for}
+use Rattle.fw_axdr.specs.Bits.{bits, bytes_for, packed}
 use Rattle.fw_axdr.specs.Value.{Value, Values, null, array, structure, boolean, bit_string, double_long, double_long_unsigned, octet_string, visible_string, integer, long, unsigned, long_unsigned, long64, long64_unsigned, enumerated, none, more}
 use Rattle.fw_axdr.specs.Spelling.{number}
+use Rattle.fw_axdr.specs.declared.tag.Tag.{Tag}
+use Rattle.fw_axdr.specs.declared.tag.Tag.TheVariants as tag
+
+-- ---- the code's tags beside their bytes
+
+abbrev pub tag_at : ℕ → Option Tag
+tag_at t =
+    if t == 0 then Some tag.Null else (if t == 1 then Some tag.Array else (if t == 2 then Some tag.Structure else (if t == 3 then Some tag.Boolean else
+    (if t == 4 then Some tag.BitString else (if t == 5 then Some tag.DoubleLong else (if t == 6 then Some tag.DoubleLongUnsigned else
+    (if t == 9 then Some tag.OctetString else (if t == 10 then Some tag.VisibleString else (if t == 15 then Some tag.Integer else
+    (if t == 16 then Some tag.Long else (if t == 17 then Some tag.Unsigned else (if t == 18 then Some tag.LongUnsigned else
+    (if t == 20 then Some tag.Long64 else (if t == 21 then Some tag.Long64Unsigned else (if t == 22 then Some tag.Enumerated else None)))))))))))))))
+
+-- the byte of a tag
+abbrev pub code : Tag → ℕ
+code tag.Null = 0
+code tag.Array = 1
+code tag.Structure = 2
+code tag.Boolean = 3
+code tag.BitString = 4
+code tag.DoubleLong = 5
+code tag.DoubleLongUnsigned = 6
+code tag.OctetString = 9
+code tag.VisibleString = 10
+code tag.Integer = 15
+code tag.Long = 16
+code tag.Unsigned = 17
+code tag.LongUnsigned = 18
+code tag.Long64 = 20
+code tag.Long64Unsigned = 21
+code tag.Enumerated = 22
+
+-- ---- reading from left to right, as a plain program beside the relations
 
 infixl 10 ◌>>=◌
 abbrev pub ◌>>=◌ : {A B : Type 0} → Result A AxdrError → (A → Result B AxdrError) → Result B AxdrError
@@ -101,3 +131,17 @@ unfoldable pub data_at : ℕ → List ℕ → Result (Value × List ℕ) AxdrErr
 data_at levels [] = Err Truncated
 data_at zero (t ∷ c) = Err TooDeep
 data_at (suc levels) (t ∷ c) = tagged_at (λ s. data_at levels s) (tag_at t) c
+
+-- ---- what writing leaves, also after an error
+
+-- new begins with old
+abbrev pub Begins : List ℕ → List ℕ → Type 0
+Begins old new = take (length old) new ≡ old
+
+-- ---- what clearing the unused bits leaves
+
+-- new has the first n bits of old, and zeros behind them
+pub record Keeps (n : ℕ) (old new : List ℕ) : Type 0 where
+  pub same : take n (bits new) ≡ take n (bits old)
+  pub len : length (take n (bits new)) ≡ n
+  pub packs : new ≡ packed (take n (bits new))

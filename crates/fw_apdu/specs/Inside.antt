@@ -1,7 +1,8 @@
--- What the parts of the reader give. For private clauses alone.
+-- For private clauses alone: what the parts of the readers give, and where they may want memory.
 use Rattle.std.specs.Prelude.{◌≡◌, ◌≢◌, ℕ, List, [], ◌∷◌, ◌++◌, Option, Some, None}
 use Rattle.fw_axdr.specs.Value.{Value}
 use Rattle.fw_axdr.specs.Spelling.{IsData, max_depth}
+use Rattle.fw_axdr.specs.Memory.{MayTakeMemory}
 use Rattle.fw_apdu.specs.declared.error.ApduError.{ApduError}
 use Rattle.fw_apdu.specs.declared.request.Head.{Head}
 use Rattle.fw_apdu.specs.Request.{Descriptor, IsDescriptor, head_bytes}
@@ -45,3 +46,17 @@ SelectionStops s e = SelectionFails (λ t f. ⊥) s e
 abbrev pub IsParameter : List ℕ → Option Value → Type 0
 IsParameter s None = s ≡ 0x00 ∷ []
 IsParameter s (Some v) = (present : ℕ) × (body : List ℕ) × (s ≡ present ∷ body) × (present ≢ 0) × IsData max_depth body v
+
+-- ---- where memory may be wanted
+
+-- for a parameter, which stands behind any byte but 00
+abbrev pub ParameterTakes : List ℕ → Type 0
+ParameterTakes s = (present : ℕ) × (body : List ℕ) × (s ≡ present ∷ body) × (present ≢ 0) × MayTakeMemory max_depth body
+
+-- for the value of a Get-Data-Result, which stands behind 00
+abbrev pub ResultTakes : List ℕ → Type 0
+ResultTakes s = (body : List ℕ) × (s ≡ 0x00 ∷ body) × MayTakeMemory max_depth body
+
+-- for return parameters, which stand behind any byte but 00
+abbrev pub ReturnedTakes : List ℕ → Type 0
+ReturnedTakes s = (present : ℕ) × (body : List ℕ) × (s ≡ present ∷ body) × (present ≢ 0) × ResultTakes body
