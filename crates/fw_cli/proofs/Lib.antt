@@ -1,3 +1,5 @@
+pub mod Described
+pub mod Digits
 pub mod LineLemmas
 pub mod NewStores
 pub mod OneAnswer

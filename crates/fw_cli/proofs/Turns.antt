@@ -1,10 +1,10 @@
 -- A session as far as it has come, one line after another.
 use Rattle.std.proofs.Common.{◌≡◌, ℕ, ◌+◌, List, [], ◌∷◌, ◌++◌, length, None, Some, refl, sym, ap, subst, ◌∙◌, append_assoc, append-nil, arith, length-append}
-use Rattle.std.specs.Prelude.{IsErr}
+use Rattle.std.specs.Prelude.{IsErr, IsOk, OnErr, Result, Ok, Err}
 use Rattle.hex.specs.Hex.{decode_of}
 use Rattle.fw_image.specs.Meter.{Meter}
 use Rattle.fw_cli.specs.Lines.{lines_of}
-use Rattle.fw_cli.specs.Session.{AnswersLine, AnswersLines, Session}
+use Rattle.fw_cli.specs.Session.{AnswersLine, AnswersLines, Session, BeginsWell}
 
 -- The first meter answered some lines of the input by the text and became this meter. The line of this number is the
 -- first of the rest.
@@ -57,3 +57,17 @@ stops first meter input text line rest after number so_far cut bad = record {
   answers = so_far.answers;
   ends = (bad, ap Some so_far.counted);
 }
+
+-- a line that spells a datagram is met: then the first line spelled one
+begun : (first meter : Meter) (input text line rest after : List ℕ) (answered : List (List ℕ)) → lines_of input ≡ answered ++ lines_of rest → AnswersLines first answered text meter → lines_of rest ≡ line ∷ lines_of after
+    → IsOk (decode_of line) → BeginsWell input
+begun first meter input text line rest after [] lines answers cut ok = (line, lines_of after, lines ∙ cut, ok)
+begun first meter input text line rest after (l ∷ answered) lines (front, back, next, turn, more, told) cut ok = (l, answered ++ lines_of rest, lines, rw turn.spelled refl)
+
+pub begins_well : (first meter : Meter) (input text line rest after : List ℕ) (number : ℕ) → SoFar first input text meter number rest → lines_of rest ≡ line ∷ lines_of after → IsOk (decode_of line) → BeginsWell input
+begins_well first meter input text line rest after number so_far cut ok = begun first meter input text line rest after so_far.answered so_far.lines so_far.answers cut ok
+
+-- what holds, also on an error
+pub on_err : {A B : Type 0} (r : Result A B) (P : Type 0) → P → OnErr r P
+on_err (Ok x) P h = tt
+on_err (Err e) P h = h

@@ -1,4 +1,4 @@
--- What the command `answer` does to its reader and its writer, where the bytes that these hold are known: what the reader
+-- Public vocabulary: what the command `answer` does to its reader and its writer, where the bytes that these hold are known: what the reader
 -- has left before and after, and what the writer holds at first and at last.
 use Rattle.std.specs.Prelude.{ℕ, List, Option}
 use Rattle.std.specs.Io.KnownBytes.{Appends}
@@ -11,7 +11,7 @@ use Rattle.fw_cli.specs.Session.{Session}
 use Rattle.fw_cli.specs.Reading.{ReadsAll}
 
 -- All input was read, and the meter's answer to it was written. The bad line, if there is one, ended that.
-pub record Serves (meter : Meter) (bad_line : Option ℕ) (before after first last : Option (List ℕ)) : Type 0 where
+pub record WritesSession (meter : Meter) (bad_line : Option ℕ) (before after first last : Option (List ℕ)) : Type 0 where
   pub input : List ℕ
   pub text : List ℕ
   pub read : ReadsAll before after input
@@ -21,7 +21,7 @@ pub record Serves (meter : Meter) (bad_line : Option ℕ) (before after first la
 -- the same by the meter that the options describe
 abbrev pub Answers : AnswerOptions → Option ℕ → Option (List ℕ) → Option (List ℕ) → Option (List ℕ) → Option (List ℕ) → Type 0
 Answers options bad_line before after first last =
-    (meter : Meter) × Describes options meter × Serves meter bad_line before after first last
+    (meter : Meter) × Describes options meter × WritesSession meter bad_line before after first last
 
 -- the faults that come before anything is written
 abbrev pub ComesBeforeOutput : Fault → Type 0

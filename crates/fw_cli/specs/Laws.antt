@@ -1,4 +1,4 @@
--- What the laws say.
+-- Public vocabulary: what the laws say.
 use Rattle.std.specs.Prelude.{◌≡◌, ◌≢◌, ℕ, List, [], ◌∷◌, ◌++◌, Option, All}
 use Rattle.fw_image.specs.Meter.{Meter}
 use Rattle.fw_cli.specs.declared.answer.AnswerOptions.{AnswerOptions}

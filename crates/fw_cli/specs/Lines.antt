@@ -1,4 +1,4 @@
--- The lines of a text. A line feed (10) ends each, and the last line may lack it.
+-- Public vocabulary: the lines of a text. A line feed (10) ends each, and the last line may lack it.
 use Rattle.std.specs.Prelude.{ℕ, List, [], ◌∷◌, ◌==◌, if◌then◌else◌}
 
 -- these lines with a byte more at the front of the first, or that byte as the only line

@@ -1,4 +1,4 @@
--- The meter that the options of `answer` describe.
+-- Public vocabulary: the meter that the options of `answer` describe.
 use Rattle.std.specs.Prelude.{◌≡◌, ℕ, List, Ok}
 use Rattle.hex.specs.Hex.{decode_of}
 use Rattle.fw_store.specs.Setup.{IsSetup}
@@ -12,6 +12,10 @@ pub record Describes (options : AnswerOptions) (meter : Meter) : Type 0 where
   pub spelled : decode_of options.factory.now ≡ Ok factory
   pub setup : IsSetup options.block_size options.capacity factory
   pub fresh : meter ≡ fresh_meter options.block_size options.capacity factory
+
+-- the options describe a meter
+abbrev pub DescribesOne : AnswerOptions → Type 0
+DescribesOne options = (meter : Meter) × Describes options meter
 
 -- the options describe no meter
 abbrev pub DescribesNone : AnswerOptions → Type 0

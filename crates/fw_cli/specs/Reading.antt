@@ -1,10 +1,14 @@
--- What a command takes from its reader, where the bytes that the reader has left are known: those before and those after.
-use Rattle.std.specs.Prelude.{ℕ, ◌≤◌, ◌*◌, List, length, Option}
+-- Public vocabulary: what a command takes from its reader, where the bytes that the reader has left are known: those before and those after.
+use Rattle.std.specs.Prelude.{ℕ, ◌≤◌, ◌*◌, ◌^◌, List, length, Option}
 use Rattle.std.specs.Io.KnownBytes.{Consumes, IsAtEnd}
 
 -- the most bytes that a command reads: 64 MiB
 abbrev pub max_input : ℕ
 max_input = 64 * 1024 * 1024
+
+-- the most times that a command asks its reader
+abbrev pub max_reads : ℕ
+max_reads = 2 ^ 32
 
 -- The reader gave this input and has nothing left, and the input isn't too long.
 pub record ReadsAll (before after : Option (List ℕ)) (input : List ℕ) : Type 0 where

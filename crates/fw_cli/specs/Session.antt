@@ -1,5 +1,5 @@
--- A session: the lines that a meter is given, and the text that answers them.
-use Rattle.std.specs.Prelude.{◌≡◌, ℕ, true, IsTrue, ◌+◌, List, [], ◌∷◌, ◌++◌, length, Option, Some, None, Ok, IsErr, codes}
+-- Public vocabulary: a session, the lines that a meter is given, and the text that answers them.
+use Rattle.std.specs.Prelude.{◌≡◌, ℕ, true, IsTrue, ◌+◌, List, [], ◌∷◌, ◌++◌, length, Option, Some, None, Ok, IsOk, IsErr, codes}
 use Rattle.hex.specs.Hex.{decode_of, encode_lower}
 use Rattle.fw_names.specs.Name.{Name}
 use Rattle.fw_image.specs.Meter.{Meter}
@@ -41,3 +41,7 @@ pub record Session (meter : Meter) (input text : List ℕ) (bad_line : Option �
   pub lines : lines_of input ≡ answered ++ left
   pub answers : AnswersLines meter answered text after
   pub ends : EndsAt (length answered + 1) left bad_line
+
+-- the input has a line, and the first one spells a datagram
+abbrev pub BeginsWell : List ℕ → Type 0
+BeginsWell input = (line : List ℕ) × (rest : List (List ℕ)) × (lines_of input ≡ line ∷ rest) × IsOk (decode_of line)

@@ -1,19 +1,24 @@
 //! The command `answer`: a new meter answers datagrams, one a line.
 
-ghost use Rattle.std.specs.Prelude.{◌≡◌, ◌≢◌, ◌<◌, ◌≤◌, ◌⊎◌, ◌++◌, ℕ, List, None, Some, length, IfOk, IfErr, IsTrue, IsErr, IsErrAnd, MatchOption, OnOk};
+ghost use Rattle.std.specs.Prelude.{◌≡◌, ◌≢◌, ◌<◌, ◌≤◌, ◌⊎◌, ◌++◌, ◌↔◌, ℕ, List, None, Some, length, IfOk, IfErr, IsTrue, false, IsOk, IsErr, MatchOption, OnOk, OnErr};
 ghost use Rattle.std.specs.Io.KnownBytes.{Keeps};
+ghost use Rattle.std.specs.List.{list_all};
+ghost use Rattle.std.specs.Char.{is_ascii_hexdigit};
 ghost use Rattle.hex.specs.Hex.{decode_of};
+ghost use Rattle.fw_store.specs.Setup.{IsSetup};
 ghost use Rattle.fw_meter.specs.Handling.{reply_bytes};
-ghost use Rattle.fw_cli.specs.Options.{Describes, DescribesNone};
-ghost use Rattle.fw_cli.specs.Session.{Session, line_for};
+ghost use Rattle.fw_cli.specs.Options.{Describes, DescribesOne, DescribesNone};
+ghost use Rattle.fw_cli.specs.Session.{Session, BeginsWell, line_for};
 ghost use Rattle.fw_cli.specs.Reading.{Gives, ReadsAll, max_input};
-ghost use Rattle.fw_cli.specs.Answering.{Answers, ComesBeforeOutput, Serves};
+ghost use Rattle.fw_cli.specs.Answering.{Answers, ComesBeforeOutput, WritesSession};
 
 use crate::fault::Fault;
 use crate::input::read_input;
 use crate::lines::first_line;
+use crate::reads::Reads;
+use fw_blocks::MAX_BLOCK_SIZE;
 use fw_meter::MeterCore;
-use fw_store::{MemoryStore, SetupError};
+use fw_store::{MAX_CAPACITY, MemoryStore, SetupError};
 use hex::FromHexError;
 use std::alloc::{AllocError, Global};
 use std::io::{Read, Write};
@@ -62,11 +67,11 @@ pub fn run_answer<R: Read, W: Write>(
         → Answers options.now (Some number) (R.remaining reader.old) (R.remaining reader.new)
         (W.contents writer.old) (W.contents writer.new) }
 
-    // Options that describe no meter are refused before anything is read, and no others are.
+    // Options that describe no meter are refused before memory is taken or anything is read, and no others are.
     ensures bad_setup { result ≡ Err Fault.BadSetup → DescribesNone options.now }
-    ensures setup_first { DescribesNone options.now
-        → IsErrAnd result (λ f. (f ≡ Fault.BadSetup) ⊎ (f ≡ Fault.OutOfMemory))
-        × Keeps (R.remaining reader.old) (R.remaining reader.new) }
+    ensures setup_refused { DescribesNone options.now → result ≡ Err Fault.BadSetup }
+    ensures setup_first { DescribesNone options.now → Keeps (R.remaining reader.old) (R.remaining reader.new) }
+    ensures memory { result ≡ Err Fault.OutOfMemory → DescribesOne options.now }
 
     // How far the reading was.
     ensures input { result ≡ Err Fault.Input
@@ -82,8 +87,23 @@ pub fn run_answer<R: Read, W: Write>(
     serve(alloc, meter, reader, writer)
 }
 
-/// The meter that the options describe, over a new store in memory.
+/// The meter that the options describe, over a new store in memory. Where memory is refused, the options are judged without it.
 fn set_up(alloc: Global, options: &AnswerOptions<'_>) -> Result<MeterCore<MemoryStore>, Fault>
+    ensures ok { IfOk result (λ meter. Describes options.now meter.meter) }
+    ensures honest { IfOk result (λ meter. IsTrue meter.honest) }
+    ensures sound { IfOk result (λ meter. IsTrue meter.sound) }
+    ensures bad_setup { result ≡ Err Fault.BadSetup → DescribesNone options.now }
+    ensures memory { result ≡ Err Fault.OutOfMemory → DescribesOne options.now }
+    ensures only { IfErr result (λ f. (f ≡ Fault.BadSetup) ⊎ (f ≡ Fault.OutOfMemory)) }
+{
+    match new_meter(alloc, options) {
+        Err(Fault::OutOfMemory) if !describes_one(options) => Err(Fault::BadSetup),
+        made => made,
+    }
+}
+
+/// The meter that the options describe, as far as memory reaches.
+fn new_meter(alloc: Global, options: &AnswerOptions<'_>) -> Result<MeterCore<MemoryStore>, Fault>
     ensures ok { IfOk result (λ meter. Describes options.now meter.meter) }
     ensures honest { IfOk result (λ meter. IsTrue meter.honest) }
     ensures sound { IfOk result (λ meter. IsTrue meter.sound) }
@@ -106,6 +126,24 @@ fn set_up(alloc: Global, options: &AnswerOptions<'_>) -> Result<MeterCore<Memory
     }
 }
 
+/// Whether the options describe a meter. No memory is taken.
+fn describes_one(options: &AnswerOptions<'_>) -> bool
+    ensures one { IsTrue result → DescribesOne options.now }
+    ensures none { result ≡ false → DescribesNone options.now }
+{
+    is_hexadecimal(options.factory.as_bytes())
+        && is_setup(options.block_size, options.capacity, options.factory.len() / 2)
+}
+
+/// Whether a store can be made with these, and an image of so many bytes.
+fn is_setup(block_size: u64, capacity: u64, size: usize) -> bool
+    ensures { (bytes : List ℕ) → length bytes ≡ size → IsTrue result ↔ IsSetup block_size capacity bytes }
+{
+    let block_fits = (1..=u64::from(MAX_BLOCK_SIZE)).contains(&block_size);
+    let room_fits = (1..=u64::from(MAX_CAPACITY)).contains(&capacity);
+    block_fits && room_fits && size > 0 && size as u64 <= capacity
+}
+
 /// The meter answers what the reader has.
 fn serve<R: Read, W: Write>(
     alloc: Global,
@@ -115,10 +153,10 @@ fn serve<R: Read, W: Write>(
 ) -> Result<(), Fault>
     requires honest { IsTrue meter.honest }
     requires sound { IsTrue meter.sound }
-    ensures ok { OnOk result (Serves meter.meter None (R.remaining reader.old) (R.remaining reader.new)
+    ensures ok { OnOk result (WritesSession meter.meter None (R.remaining reader.old) (R.remaining reader.new)
         (W.contents writer.old) (W.contents writer.new)) }
     ensures bad_line { (number : ℕ) → result ≡ Err (Fault.BadLine number)
-        → Serves meter.meter (Some number) (R.remaining reader.old) (R.remaining reader.new)
+        → WritesSession meter.meter (Some number) (R.remaining reader.old) (R.remaining reader.new)
         (W.contents writer.old) (W.contents writer.new) }
     ensures not_setup { result ≢ Err Fault.BadSetup }
     ensures input { result ≡ Err Fault.Input
@@ -129,7 +167,8 @@ fn serve<R: Read, W: Write>(
         → (input : List ℕ) × ReadsAll (R.remaining reader.old) (R.remaining reader.new) input }
     ensures silent { IfErr result (λ f. ComesBeforeOutput f → Keeps (W.contents writer.old) (W.contents writer.new)) }
 {
-    let input = read_input(alloc, reader)?;
+    let mut reads = Reads::none();
+    let input = read_input(alloc, reader, &mut reads)?;
     let transcript = answer_lines(alloc, meter, &input)?;
     writer
         .write_all(&transcript.text)
@@ -152,6 +191,8 @@ fn answer_lines(
     requires sound { IsTrue meter.sound }
     ensures ok { IfOk result (λ t. Session meter.meter input.now t.text.items t.bad_line) }
     ensures err { IfErr result (λ f. f ≡ Fault.OutOfMemory) }
+    // Nothing is answered where the first line is a bad one.
+    ensures memory { OnErr result (BeginsWell input.now) }
 {
     fw_meter::laws::faultless();
     let mut text = Vec::new(alloc);
@@ -189,13 +230,27 @@ fn append_line(alloc: Global, text: &mut Vec<u8>, reply: &Option<Vec<u8>>) -> Re
     }
 }
 
-/// The bytes that hexadecimal digits spell, if the text is such digits.
+/// The bytes that hexadecimal digits spell, if the text is such digits. Where memory is refused, the digits are judged without it.
 fn bytes_of(alloc: Global, text: &[u8]) -> Result<Option<Vec<u8>>, AllocError>
-    ensures { IfOk result (λ r. MatchOption r (IsErr (decode_of text.now)) (λ bytes. decode_of text.now ≡ Ok bytes.items)) }
+    ensures bytes { IfOk result (λ r. MatchOption r (IsErr (decode_of text.now)) (λ bytes. decode_of text.now ≡ Ok bytes.items)) }
+    ensures memory { OnErr result (IsOk (decode_of text.now)) }
 {
     match hex::decode(alloc, text) {
         Ok(bytes) => Ok(Some(bytes)),
-        Err(FromHexError::OutOfMemory) => Err(AllocError),
+        Err(FromHexError::OutOfMemory) if is_hexadecimal(text) => Err(AllocError),
         Err(_) => Ok(None),
     }
+}
+
+/// Whether a text is pairs of hexadecimal digits.
+fn is_hexadecimal(text: &[u8]) -> bool
+    ensures { IsTrue result ↔ IsOk (decode_of text.now) }
+{
+    text.len() % 2 == 0 && are_digits(text)
+}
+
+fn are_digits(text: &[u8]) -> bool
+    ensures { result ≡ list_all is_ascii_hexdigit text.now }
+{
+    text.iter().all(|byte| byte.is_ascii_hexdigit())
 }

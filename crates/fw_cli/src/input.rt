@@ -1,11 +1,12 @@
 //! Reading all that a reader has, within limits.
 
-ghost use Rattle.std.specs.Prelude.{◌≡◌, ◌<◌, ◌≤◌, ◌⊎◌, IfOk, IfErr};
-ghost use Rattle.fw_cli.specs.Reading.{Gives, ReadsAll, max_input};
+ghost use Rattle.std.specs.Prelude.{◌≡◌, ◌<◌, ◌≤◌, ◌⊎◌, IsTrue, IfOk, IfErr, false};
+ghost use Rattle.fw_cli.specs.Reading.{Gives, ReadsAll, max_input, max_reads};
 
 use crate::fault::Fault;
+use crate::reads::Reads;
 use std::alloc::Global;
-use std::io::{ErrorKind, Read};
+use std::io::Read;
 
 /// The most bytes that are read: 64 MiB.
 const MAX_INPUT: usize = 67_108_864;
@@ -17,25 +18,31 @@ const MAX_READS: u64 = 4_294_967_296;
 const CHUNK: usize = 4096;
 
 /// All the bytes that the reader has left. A read that was interrupted is made again, and counts as one.
-pub(crate) fn read_input<R: Read>(alloc: Global, reader: &mut R) -> Result<Vec<u8>, Fault>
+pub(crate) fn read_input<R: Read>(
+    alloc: Global,
+    reader: &mut R,
+    reads: &mut Reads,
+) -> Result<Vec<u8>, Fault>
+    requires { reads.old ≡ record { made = 0; failed = false } }
     ensures all { IfOk result (λ input. ReadsAll (R.remaining reader.old) (R.remaining reader.new) input.items) }
 
     // The fault that the reading meets first.
     ensures input { result ≡ Err Fault.Input
         → Gives (R.remaining reader.old) (R.remaining reader.new) (λ count. count ≤ max_input) }
+    ensures input_only { result ≡ Err Fault.Input → IsTrue reads.new.failed ⊎ (max_reads ≤ reads.new.made) }
     ensures too_much { result ≡ Err Fault.TooMuchInput
         → Gives (R.remaining reader.old) (R.remaining reader.new) (λ count. max_input < count) }
     ensures only { IfErr result (λ f. (f ≡ Fault.Input) ⊎ ((f ≡ Fault.TooMuchInput) ⊎ (f ≡ Fault.OutOfMemory))) }
 {
     let mut input = Vec::new(alloc);
     let mut chunk = [0; CHUNK];
-    for _ in 0..MAX_READS {
-        let count = match reader.read(&mut chunk) {
-            Ok(0) => return Ok(input),
-            Ok(count) => count,
-            Err(error) if error.kind() == ErrorKind::Interrupted => continue,
-            Err(_) => return Err(Fault::Input),
+    while reads.made() < MAX_READS {
+        let Some(count) = reads.read(reader, &mut chunk)? else {
+            continue;
         };
+        if count == 0 {
+            return Ok(input);
+        }
         if count > MAX_INPUT - input.len() {
             return Err(Fault::TooMuchInput);
         }

@@ -6,6 +6,7 @@ mod fault;
 mod input;
 pub mod laws;
 mod lines;
+mod reads;
 
 pub use answer::{AnswerOptions, run_answer};
 pub use fault::Fault;

@@ -3,7 +3,7 @@ use Rattle.std.proofs.Common.{ℕ, Bool, true, IsTrue, List, Option, inl, inr}
 use Rattle.fw_names.specs.Name.{Name}
 use Rattle.fw_image.specs.Meter.{Meter}
 use Rattle.fw_image.specs.State.{Counts}
-use Rattle.fw_meter.specs.Step.{is_faultless}
+use Rattle.fw_meter.specs.Step.{tells_no_fault}
 use Rattle.fw_meter.specs.Handling.{Handles}
 use Rattle.fw_meter.specs.Laws.{Faultless}
 
@@ -16,11 +16,11 @@ knowing honest A B old new datagram reply activated more (inl serves) = inl (rec
   content = serves.content;
   brings = serves.brings;
   responds = record {
-    outcome = serves.responds.outcome;
+    result = serves.responds.result;
     steps = serves.responds.steps;
     replies = serves.responds.replies;
     activates = serves.responds.activates;
-    faults = more (is_faultless serves.responds.outcome) serves.responds.faults;
+    faults = more (tells_no_fault serves.responds.result) serves.responds.faults;
   };
 })
 knowing honest A B old new datagram reply activated more (inr drops) = inr (record {

@@ -13,39 +13,39 @@ use Rattle.fw_image.specs.Step.{Operation, refused}
 use Rattle.fw_image.specs.declared.error.Refusal.TheVariants.{Fault}
 use Rattle.fw_meter.specs.Handling.{Brings, reply_to}
 use Rattle.fw_meter.specs.Laws.{OneAnswer}
-use Rattle.fw_meter.specs.Step.{Outcome, coded, is_faultless, Operates, MeterStep, operation_code, activation_of}
+use Rattle.fw_meter.specs.Step.{MeterResult, coded, tells_no_fault, Operates, MeterStep, operation_code, activation_of}
 
-pub record Same (a b : Outcome) (new other : Meter) : Type 0 where
-  pub outcomes : a ≡ b
+pub record Same (a b : MeterResult) (new other : Meter) : Type 0 where
+  pub results : a ≡ b
   pub meters : new ≡ other
 
 -- an operation that isn't told a fault has none
-no_fault : (a : Outcome) (made : operations.Outcome) → a ≢ coded 1 → a ≡ coded (operation_code made) → made ≢ refused Fault
+no_fault : (a : MeterResult) (made : operations.Outcome) → a ≢ coded 1 → a ≡ coded (operation_code made) → made ≢ refused Fault
 no_fault a made n told e = n (told ∙ ap (λ (x : operations.Outcome). coded (operation_code x)) e)
 
-made_once : image.OneStep → (old new other : Meter) (operation : Operation) (a b : Outcome) → a ≢ coded 1 → b ≢ coded 1
+made_once : image.OneStep → (old new other : Meter) (operation : Operation) (a b : MeterResult) → a ≢ coded 1 → b ≢ coded 1
     → Operates true old operation a new → Operates true old operation b other → Same a b new other
 made_once law old new other operation a b n m (made, step, told) (made', step', told') =
     let both = law old new other operation made made' step step' (no_fault a made n told) (no_fault b made' m told') in
-    record { outcomes = told ∙ ap (λ (x : operations.Outcome). coded (operation_code x)) both.0 ∙ sym told'; meters = both.1 }
+    record { results = told ∙ ap (λ (x : operations.Outcome). coded (operation_code x)) both.0 ∙ sym told'; meters = both.1 }
 
-one_step : names.OneName → image.OneStep → (old new other : Meter) (m : Meaning) (a b : Outcome) → a ≢ coded 1 → b ≢ coded 1
+one_step : names.OneName → image.OneStep → (old new other : Meter) (m : Meaning) (a b : MeterResult) → a ≢ coded 1 → b ≢ coded 1
     → MeterStep true old m a new → MeterStep true old m b other → Same a b new other
-one_step spelled law old new other (read reading) a b n m h k = record { outcomes = h.0 ∙ sym k.0; meters = h.1 ∙ sym k.1 }
-one_step spelled law old new other (denied code) a b n m h k = record { outcomes = h.0 ∙ sym k.0; meters = h.1 ∙ sym k.1 }
+one_step spelled law old new other (read reading) a b n m h k = record { results = h.0 ∙ sym k.0; meters = h.1 ∙ sym k.1 }
+one_step spelled law old new other (denied code) a b n m h k = record { results = h.0 ∙ sym k.0; meters = h.1 ∙ sym k.1 }
 one_step spelled law old new other (enable e) a b n m h k = made_once law old new other (operations.enable e) a b n m h k
 one_step spelled law old new other (initiate identifier size) a b n m (inl (name, spells, h)) (inl (name', spells', k)) =
     let same : name ≡ name' = spelled identifier name name' spells spells' in
     made_once law old new other (operations.initiate name' size) a b n m (subst (λ (x : Name). Operates true old (operations.initiate x size) a new) same h) k
 one_step spelled law old new other (initiate identifier size) a b n m (inl (name, spells, h)) (inr k) = absurd (k.0 name spells)
 one_step spelled law old new other (initiate identifier size) a b n m (inr h) (inl (name, spells, k)) = absurd (h.0 name spells)
-one_step spelled law old new other (initiate identifier size) a b n m (inr h) (inr k) = record { outcomes = h.1 ∙ sym k.1; meters = h.2 ∙ sym k.2 }
+one_step spelled law old new other (initiate identifier size) a b n m (inr h) (inr k) = record { results = h.1 ∙ sym k.1; meters = h.2 ∙ sym k.2 }
 one_step spelled law old new other (block i value) a b n m h k = made_once law old new other (operations.block i value) a b n m h k
 one_step spelled law old new other verify a b n m h k = made_once law old new other operations.verify a b n m h k
 one_step spelled law old new other activate a b n m h k = made_once law old new other operations.activate a b n m h k
 
-not_fault : (a : Outcome) → IsTrue (is_faultless a) → a ≢ coded 1
-not_fault a faultless e = let bad : false ≡ true = subst (λ (x : Outcome). IsTrue (is_faultless x)) e faultless in cc
+not_fault : (a : MeterResult) → IsTrue (tells_no_fault a) → a ≢ coded 1
+not_fault a faultless e = let bad : false ≡ true = subst (λ (x : MeterResult). IsTrue (tells_no_fault x)) e faultless in cc
 
 -- a datagram brings one request
 pub record SameRequest (source s invoke i : ℕ) (content c : RequestContent) : Type 0 where
@@ -66,12 +66,12 @@ one_answer spelled frames requests law old new other datagram r s a b (inl h) (i
     let same = one_brought frames requests datagram h.source k.source h.invoke k.invoke h.content k.content h.brings k.brings in
     let did = h.responds in
     let does = k.responds in
-    let step : MeterStep true old (meaning_of k.content) did.outcome new = subst (λ (x : RequestContent). MeterStep true old (meaning_of x) did.outcome new) same.contents did.steps in
-    let both = one_step spelled law old new other (meaning_of k.content) did.outcome does.outcome (not_fault did.outcome did.faults) (not_fault does.outcome does.faults) step does.steps in
-    let replies : reply_to h.source h.invoke h.content did.outcome ≡ reply_to k.source k.invoke k.content does.outcome =
-    λ x. reply_to (same.sources x) (same.invokes x) (same.contents x) (both.outcomes x) in
-    let activations : activation_of (meaning_of h.content) did.outcome new ≡ activation_of (meaning_of k.content) does.outcome other =
-    λ x. activation_of (meaning_of (same.contents x)) (both.outcomes x) (both.meters x) in
+    let step : MeterStep true old (meaning_of k.content) did.result new = subst (λ (x : RequestContent). MeterStep true old (meaning_of x) did.result new) same.contents did.steps in
+    let both = one_step spelled law old new other (meaning_of k.content) did.result does.result (not_fault did.result did.faults) (not_fault does.result does.faults) step does.steps in
+    let replies : reply_to h.source h.invoke h.content did.result ≡ reply_to k.source k.invoke k.content does.result =
+    λ x. reply_to (same.sources x) (same.invokes x) (same.contents x) (both.results x) in
+    let activations : activation_of (meaning_of h.content) did.result new ≡ activation_of (meaning_of k.content) does.result other =
+    λ x. activation_of (meaning_of (same.contents x)) (both.results x) (both.meters x) in
     (did.replies ∙ replies ∙ sym does.replies, did.activates ∙ activations ∙ sym does.activates, both.meters)
 one_answer spelled frames requests law old new other datagram r s a b (inl h) (inr k) = absurd (k.nothing h.source h.invoke h.content h.brings)
 one_answer spelled frames requests law old new other datagram r s a b (inr h) (inl k) = absurd (h.nothing k.source k.invoke k.content k.brings)

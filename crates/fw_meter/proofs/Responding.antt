@@ -2,10 +2,12 @@
 use Rattle.std.proofs.Common.{◌≡◌, ℕ, List, Option, None, refl, subst, ap, ◌∙◌}
 use Rattle.fw_apdu.specs.Request.{RequestContent}
 use Rattle.fw_names.specs.Name.{Name}
-use Rattle.fw_server.specs.Answer.{Answer}
-use Rattle.fw_server.specs.Meaning.{Meaning, Reading, read, refused, meaning_of, Code, object_undefined, object_class_inconsistent, read_write_denied, type_unmatched, temporary_failure, other_reason, code_number}
+use Rattle.fw_server.specs.Meaning.{Meaning, read, refused, meaning_of, code_number}
+use Rattle.fw_server.specs.declared.object.Reading.{Reading}
+use Rattle.fw_server.specs.declared.planning.Refusal.{Refusal}
+use Rattle.fw_server.specs.declared.planning.Refusal.TheVariants.{ObjectUndefined, ObjectClassInconsistent, ReadWriteDenied, TypeUnmatched}
 use Rattle.fw_image.specs.State.{State, Counts}
-use Rattle.fw_meter.specs.Step.{got, coded, is_faultless, activation_of, answer_of, MeterStep}
+use Rattle.fw_meter.specs.Step.{got, coded, tells_no_fault, activation_of, answer_of, MeterStep}
 use Rattle.fw_meter.specs.Handling.{Responds, reply_to}
 use Rattle.fw_meter.specs.Inside.{Steps}
 
@@ -13,7 +15,7 @@ pub responds : (old new : State) (asked : Meaning) (source invoke : ℕ) (conten
     → asked ≡ meaning_of content → Steps old asked c new → reply ≡ reply_to source invoke content (coded c) → activated ≡ activation_of asked (coded c) new.meter
     → Responds old.honest (Counts old new) old.meter source invoke content reply activated new.meter
 responds old new asked source invoke content c reply activated asks steps replies activates = record {
-  outcome = coded c;
+  result = coded c;
   steps = subst (λ (m : Meaning). MeterStep old.honest old.meter m (coded c) new.meter) asks steps.step;
   replies = replies;
   activates = activates ∙ ap (λ (m : Meaning). activation_of m (coded c) new.meter) asks;
@@ -23,32 +25,30 @@ responds old new asked source invoke content c reply activated asks steps replie
 -- ---- what changes nothing
 
 -- the codes of refused requests are not that of a fault
-refused_faultless : (this : State) (code : Code) → Counts this this (is_faultless (coded (code_number code)))
-refused_faultless this object_undefined = record { counted = refl; never = λ _. refl }
-refused_faultless this object_class_inconsistent = record { counted = refl; never = λ _. refl }
-refused_faultless this read_write_denied = record { counted = refl; never = λ _. refl }
-refused_faultless this type_unmatched = record { counted = refl; never = λ _. refl }
-refused_faultless this temporary_failure = record { counted = refl; never = λ _. refl }
-refused_faultless this other_reason = record { counted = refl; never = λ _. refl }
+refused_faultless : (this : State) (refusal : Refusal) → Counts this this (tells_no_fault (coded (code_number refusal)))
+refused_faultless this ObjectUndefined = record { counted = refl; never = λ _. refl }
+refused_faultless this ObjectClassInconsistent = record { counted = refl; never = λ _. refl }
+refused_faultless this ReadWriteDenied = record { counted = refl; never = λ _. refl }
+refused_faultless this TypeUnmatched = record { counted = refl; never = λ _. refl }
 
-pub responds_value : (this : State) (reading : Reading) (source invoke : ℕ) (content : RequestContent) (answer : Answer) (reply : Option (List ℕ)) (activated : Option Name)
-    → read reading ≡ meaning_of content → answer ≡ answer_of this.meter reading → reply ≡ reply_to source invoke content (got answer) → activated ≡ None
+pub responds_value : (this : State) (reading : Reading) (source invoke : ℕ) (content : RequestContent) (reply : Option (List ℕ)) (activated : Option Name)
+    → read reading ≡ meaning_of content → reply ≡ reply_to source invoke content (got (answer_of this.meter reading)) → activated ≡ None
     → Responds this.honest (Counts this this) this.meter source invoke content reply activated this.meter
-responds_value this reading source invoke content answer reply activated asks is replies none = record {
-  outcome = got answer;
-  steps = subst (λ (m : Meaning). MeterStep this.honest this.meter m (got answer) this.meter) asks (ap got is, refl);
+responds_value this reading source invoke content reply activated asks replies none = record {
+  result = got (answer_of this.meter reading);
+  steps = subst (λ (m : Meaning). MeterStep this.honest this.meter m (got (answer_of this.meter reading)) this.meter) asks (refl, refl);
   replies = replies;
-  activates = none ∙ ap (λ (m : Meaning). activation_of m (got answer) this.meter) asks;
+  activates = none ∙ ap (λ (m : Meaning). activation_of m (got (answer_of this.meter reading)) this.meter) asks;
   faults = record { counted = refl; never = λ _. refl };
 }
 
-pub responds_code : (this : State) (code : Code) (source invoke : ℕ) (content : RequestContent) (reply : Option (List ℕ)) (activated : Option Name)
-    → refused code ≡ meaning_of content → reply ≡ reply_to source invoke content (coded (code_number code)) → activated ≡ None
+pub responds_code : (this : State) (refusal : Refusal) (source invoke : ℕ) (content : RequestContent) (reply : Option (List ℕ)) (activated : Option Name)
+    → refused refusal ≡ meaning_of content → reply ≡ reply_to source invoke content (coded (code_number refusal)) → activated ≡ None
     → Responds this.honest (Counts this this) this.meter source invoke content reply activated this.meter
-responds_code this code source invoke content reply activated asks replies none = record {
-  outcome = coded (code_number code);
-  steps = subst (λ (m : Meaning). MeterStep this.honest this.meter m (coded (code_number code)) this.meter) asks (refl, refl);
+responds_code this refusal source invoke content reply activated asks replies none = record {
+  result = coded (code_number refusal);
+  steps = subst (λ (m : Meaning). MeterStep this.honest this.meter m (coded (code_number refusal)) this.meter) asks (refl, refl);
   replies = replies;
-  activates = none ∙ ap (λ (m : Meaning). activation_of m (coded (code_number code)) this.meter) asks;
-  faults = refused_faultless this code;
+  activates = none ∙ ap (λ (m : Meaning). activation_of m (coded (code_number refusal)) this.meter) asks;
+  faults = refused_faultless this refusal;
 }

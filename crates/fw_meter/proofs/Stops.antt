@@ -12,7 +12,7 @@ use Rattle.fw_image.specs.declared.error.Refusal.TheVariants.{Disabled, BadIniti
 use Rattle.fw_names.specs.Name.{Name}
 use Rattle.fw_meter.specs.Handling.{Handles}
 use Rattle.fw_meter.specs.Laws.{Stops, FaultIsStop}
-use Rattle.fw_meter.specs.Step.{Outcome, got, coded, is_faultless, Operates, MeterStep, operation_code, activation_of}
+use Rattle.fw_meter.specs.Step.{MeterResult, got, coded, tells_no_fault, Operates, MeterStep, operation_code, activation_of}
 
 -- ---- an operation that is told a fault
 
@@ -88,7 +88,7 @@ left old new activate h = left_by old new activate operations.activate (λ does.
 
 -- ---- what is told no fault, and what activates nothing
 
-is_fault : (a : Outcome) → (a ≡ coded 1) ⊎ (a ≢ coded 1)
+is_fault : (a : MeterResult) → (a ≡ coded 1) ⊎ (a ≢ coded 1)
 is_fault (got answer) = inr (λ e. cc)
 is_fault (coded c) = elim (cases_eq c 1) [ inl e ↦ inl (ap coded e) | inr n ↦ inr (λ e. n cc) ]
 
@@ -101,7 +101,7 @@ activates_none (block i value) new = refl
 activates_none verify new = refl
 activates_none activate new = refl
 
-told_faultless : (a : Outcome) → a ≢ coded 1 → IsTrue (is_faultless a)
+told_faultless : (a : MeterResult) → a ≢ coded 1 → IsTrue (tells_no_fault a)
 told_faultless (got answer) n = refl
 told_faultless (coded zero) n = refl
 told_faultless (coded (suc zero)) n = absurd (n refl)
@@ -112,10 +112,10 @@ stops B old new datagram reply activated (inr h) = inl (h.same, h.none_activated
 stops B old new datagram reply activated (inl h) =
     let did = h.responds in
     let asked = meaning_of h.content in
-    elim (is_fault did.outcome) [
+    elim (is_fault did.result) [
       | inl fault ↦
-          let none : activated ≡ None = did.activates ∙ ap (λ (a : Outcome). activation_of asked a new) fault ∙ activates_none asked new in
-          elim (left old new asked (subst (λ (a : Outcome). MeterStep true old asked a new) fault did.steps)) [
+          let none : activated ≡ None = did.activates ∙ ap (λ (a : MeterResult). activation_of asked a new) fault ∙ activates_none asked new in
+          elim (left old new asked (subst (λ (a : MeterResult). MeterStep true old asked a new) fault did.steps)) [
             | inl same ↦ inl (same, none)
             | inr t ↦ inr (inl (
               record {
@@ -143,7 +143,7 @@ stops B old new datagram reply activated (inl h) =
           invoke = h.invoke;
           content = h.content;
           brings = h.brings;
-          responds = record { outcome = did.outcome; steps = did.steps; replies = did.replies; activates = did.activates; faults = told_faultless did.outcome n };
+          responds = record { result = did.result; steps = did.steps; replies = did.replies; activates = did.activates; faults = told_faultless did.result n };
         }),
       ))
     ]

@@ -8,20 +8,17 @@ use Rattle.fw_wrapper.specs.Wrapper.{wrapped}
 use Rattle.fw_apdu.specs.Request.{is_confirmed}
 use Rattle.fw_apdu.specs.Response.{response_bytes}
 use Rattle.fw_apdu.specs.View.{request_content, request_invoke}
-use Rattle.fw_server.specs.Answer as server
 use Rattle.fw_server.specs.Answer.{response_of}
-use Rattle.fw_server.specs.Meaning as meaning
 use Rattle.fw_server.specs.Meaning.{Meaning}
+use Rattle.fw_server.specs.declared.outcome.Outcome.{Outcome}
 use Rattle.fw_image.specs.Phases.{state_in, IsInPhase}
 use Rattle.fw_image.specs.State.{State, Follows, Counts, Makes}
 use Rattle.fw_image.specs.Step as image
 use Rattle.fw_image.specs.declared.phase.Phase.{Phase}
-use Rattle.fw_meter.specs.Step.{coded, is_faultless, operation_code, MeterStep}
+use Rattle.fw_meter.specs.Step.{coded, tells_no_fault, operation_code, MeterStep}
 use Rattle.fw_meter.specs.Handling.{Brings, BringsNothing, reply_to, reply_bytes}
 use Rattle.fw_meter.specs.declared.code.Code.{Code}
 use Rattle.fw_meter.specs.declared.code.Code.TheVariants as code
-use Rattle.fw_meter.specs.declared.operation.Operation.{Operation}
-use Rattle.fw_meter.specs.declared.operation.Operation.TheVariants as operation
 use Rattle.fw_meter.specs.declared.replies.Replies.{Replies}
 use Rattle.fw_meter.specs.declared.serving.Heard.{Heard}
 
@@ -32,20 +29,13 @@ code_number code.TemporaryFailure = 2
 code_number code.ReadWriteDenied = 3
 code_number code.OtherReason = 250
 
-abbrev pub asked : Operation → Meaning
-asked (operation.Enable enabled) = meaning.enable enabled
-asked (operation.Initiate identifier size) = meaning.initiate identifier.now size
-asked (operation.Block number value) = meaning.block number value.now
-asked operation.Verify = meaning.verify
-asked operation.Activate = meaning.activate
-
 -- what a datagram brought
 abbrev pub IsHeard : List ℕ → Option Heard → Type 0
 IsHeard datagram (Some heard) = Brings datagram heard.source (request_invoke heard.request) (request_content heard.request)
 IsHeard datagram None = BringsNothing datagram
 
 -- the datagram that tells an outcome, where a response was asked for
-abbrev pub told_by : ℕ → ℕ → server.Outcome → Option (List ℕ)
+abbrev pub told_by : ℕ → ℕ → Outcome → Option (List ℕ)
 told_by source invoke outcome = if is_confirmed invoke then Some (wrapped 1 source (response_bytes invoke (response_of outcome))) else None
 
 -- the reply to a request by a code
@@ -70,7 +60,7 @@ IsMade old operation c new = (outcome : image.Outcome) × Makes old operation ou
 pub record Steps (old : State) (asked : Meaning) (c : ℕ) (new : State) : Type 0 where
   pub step : MeterStep old.honest old.meter asked (coded c) new.meter
   pub follows : Follows old new
-  pub faults : Counts old new (is_faultless (coded c))
+  pub faults : Counts old new (tells_no_fault (coded c))
 
 -- a phase is there
 abbrev pub IsThere : {S : Type 0} → Option (Phase S) → Type 0

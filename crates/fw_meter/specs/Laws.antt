@@ -23,7 +23,7 @@ Faultless =
     → Handles old.honest (Counts old new) old.meter datagram reply activated new.meter → Handles true IsTrue old.meter datagram reply activated new.meter
 
 -- a block that was there is written again, and the write is cut: any bytes of its length stand in its cell
-pub record Tears (old : Meter) (datagram : List ℕ) (new : Meter) : Type 0 where
+pub record TearsBlock (old : Meter) (datagram : List ℕ) (new : Meter) : Type 0 where
   pub source : ℕ
   pub invoke : ℕ
   pub content : RequestContent
@@ -43,7 +43,7 @@ pub record Tears (old : Meter) (datagram : List ℕ) (new : Meter) : Type 0 wher
 abbrev pub Stops : Meter → List ℕ → Option Name → Meter → Type 0
 Stops old datagram activated new =
     ((new ≡ old) × (activated ≡ None))
-    ⊎ ((Tears old datagram new × (activated ≡ None))
+    ⊎ ((TearsBlock old datagram new × (activated ≡ None))
     ⊎ ((reply : Option (List ℕ)) × Handles true IsTrue old datagram reply activated new))
 
 -- whichever call of an honest store fails, the meter is left as a stop may leave it

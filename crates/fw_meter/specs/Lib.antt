@@ -1,4 +1,6 @@
+-- Public vocabulary: the words of public clauses, for callers and readers.
 pub mod Step
 pub mod Handling
-pub mod Inside
 pub mod Laws
+-- For private clauses and the model of `MeterCore` alone: no public clause cites it.
+pub mod Inside

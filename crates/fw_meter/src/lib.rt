@@ -1,12 +1,12 @@
 //! A meter: it receives images into a store, switches to them, and answers the datagrams that it is given.
 #![tactic(auto)]
 
+mod attributes;
 mod code;
 mod error;
 pub mod laws;
 mod meter;
 mod operation;
-mod reading;
 mod replies;
 mod serving;
 

@@ -2,11 +2,10 @@
 
 ghost use Rattle.std.specs.Prelude.{◌≡◌, ◌≢◌, ◌≤◌, IsTrue, IfOk, IfErr, IsOkAnd, OnOk, OnErr, Some, None, is_ok, true, false, length};
 ghost use Rattle.fw_store.specs.Faults.{HasCause, Spends, count_after};
-ghost use Rattle.fw_server.specs.Answer.{bits_in_answer};
 ghost use Rattle.fw_server.specs.Meaning.{meaning_of};
-ghost use Rattle.fw_server.specs.View.{answer_of as told_answer, reading_of};
-ghost use Rattle.fw_blocks.specs.Cuts.{max_blocks};
-ghost use Rattle.fw_meter.specs.Step.{answer_of};
+ghost use Rattle.fw_server.specs.View.{operation_meaning};
+ghost use Rattle.fw_meter.specs.Step.{got, answer_of};
+ghost use Rattle.fw_apdu.specs.Request.{is_confirmed};
 ghost use Rattle.fw_apdu.specs.View.{request_content, request_invoke};
 ghost use Rattle.fw_image.specs.Calls.{opening_calls};
 ghost use Rattle.fw_image.specs.Meter.{Meter, IsTrusted};
@@ -14,19 +13,18 @@ ghost use Rattle.fw_image.specs.Shown.{shown_of, IsView};
 ghost use Rattle.fw_image.specs.State.{Follows, Counts};
 ghost use Rattle.fw_image.specs.Stored.{Holds, IsMeterOf, Refused, is_faultless};
 ghost use Rattle.fw_image.specs.declared.error.OpenError.TheVariants as not_opened;
-ghost use Rattle.fw_meter.specs.Handling.{Handles, Responds, IsForMeter, reply_bytes};
-ghost use Rattle.fw_meter.specs.Inside.{asked};
+ghost use Rattle.fw_meter.specs.Handling.{Handles, Responds, MayWantMemory, reply_to, reply_bytes};
 
+use crate::attributes::read;
 use crate::error::OutOfMemory;
-use crate::operation::{Operation, activated, make};
-use crate::reading::read;
+use crate::operation::{activated, make};
 use crate::replies::Replies;
 use crate::serving::{Heard, hear};
 use fw_image::{MeterView, OpenError, Phase};
 use fw_names::ImageName;
-use fw_server::{Answer, Planned, Reading, plan};
+use fw_server::{Operation, Planned, Reading, plan};
 use fw_store::{ImageStore, MemoryStore, StoreFault};
-use std::alloc::{AllocError, Global};
+use std::alloc::Global;
 use std::marker::Model;
 
 /// A meter over a store.
@@ -110,14 +108,15 @@ impl<S: ImageStore + Drop> MeterCore<S> {
     ///
     /// # Errors
     ///
-    /// `OutOfMemory`, for a datagram that carries an APDU to wPort 1 alone, and the meter and its store are as before.
+    /// `OutOfMemory`, only where a request asks for a response or an APDU to wPort 1 may hold a Data. The meter and its store
+    /// are then as before.
     pub fn handle(&mut self, alloc: Global, datagram: &[u8]) -> Result<Handled, OutOfMemory>
         ensures step { IfOk result (λ h. Handles self.old.honest (Counts self.old self.new) self.old.meter datagram.now
             (reply_bytes h.reply) h.activated self.new.meter) }
         ensures follows { Follows self.old self.new }
         ensures err { OnErr result (self.new ≡ self.old) }
-        // Any other datagram is dropped without memory.
-        ensures memory { OnErr result (IsForMeter datagram.now) }
+        // Any other datagram is handled without memory.
+        ensures memory { OnErr result (MayWantMemory datagram.now) }
     {
         match hear(alloc, datagram)? {
             None => Ok(unchanged(None)),
@@ -157,54 +156,54 @@ impl<S: ImageStore + Drop> MeterCore<S> {
         }
     }
 
-    // Serves a request, and replies where it asks for a response.
+    /// Serves a request, and replies where it asks for a response.
     fn respond(&mut self, alloc: Global, heard: &Heard) -> Result<Handled, OutOfMemory>
         ensures step { IfOk result (λ h. Responds self.old.honest (Counts self.old self.new) self.old.meter heard.now.source
             (request_invoke heard.now.request) (request_content heard.now.request) (reply_bytes h.reply) h.activated self.new.meter) }
         ensures follows { Follows self.old self.new }
         ensures err { OnErr result (self.new ≡ self.old) }
+        ensures memory { OnErr result (IsTrue (is_confirmed (request_invoke heard.now.request))) }
     {
         match plan(&heard.request) {
-            Planned::Read(reading) => {
-                let value = self.read(alloc, reading)?;
-                Ok(unchanged(heard.value(alloc, value)?))
-            }
+            Planned::Read(reading) => Ok(unchanged(self.tell(alloc, heard, reading)?)),
             Planned::Refused(refusal) => Ok(unchanged(heard.code(alloc, refusal.code())?)),
-            Planned::Enable(enabled) => self.operate(alloc, heard, Operation::Enable(enabled)),
-            Planned::Initiate { identifier, size } => {
-                self.operate(alloc, heard, Operation::Initiate { identifier, size })
-            }
-            Planned::Block { number, value } => {
-                self.operate(alloc, heard, Operation::Block { number, value })
-            }
-            Planned::Verify => self.operate(alloc, heard, Operation::Verify),
-            Planned::Activate => self.operate(alloc, heard, Operation::Activate),
+            Planned::Operate(operation) => self.operate(alloc, heard, operation),
         }
     }
 
-    // The value of an attribute.
-    fn read(&self, alloc: Global, reading: Reading) -> Result<Answer, AllocError>
-        ensures value { IfOk result (λ answer. told_answer answer ≡ answer_of self.now.meter (reading_of reading)) }
-        ensures bits { IfOk result (λ answer. bits_in_answer (told_answer answer) ≤ max_blocks) }
+    /// The reply with the value of an attribute. It is made for a request that asks for a response alone.
+    fn tell(
+        &self,
+        alloc: Global,
+        heard: &Heard,
+        reading: Reading,
+    ) -> Result<Option<Vec<u8>>, OutOfMemory>
+        ensures told { IfOk result (λ reply. reply_bytes reply ≡ reply_to heard.now.source (request_invoke heard.now.request)
+            (request_content heard.now.request) (got (answer_of self.now.meter reading))) }
+        ensures memory { OnErr result (IsTrue (is_confirmed (request_invoke heard.now.request))) }
     {
+        if !heard.request.invoke().confirmed() {
+            return Ok(None);
+        }
         match &self.phase {
-            Some(phase) => read(phase, alloc, reading),
+            Some(phase) => heard.value(alloc, read(phase, alloc, reading)?),
             None => unreachable!(),
         }
     }
 
-    // Makes the operation that a request asks for. All replies that it can have are made before.
+    /// Makes the operation that a request asks for. All replies that it can have are made before.
     fn operate(
         &mut self,
         alloc: Global,
         heard: &Heard,
         operation: Operation<'_>,
     ) -> Result<Handled, OutOfMemory>
-        requires { asked operation ≡ meaning_of (request_content heard.now.request) }
+        requires { operation_meaning operation ≡ meaning_of (request_content heard.now.request) }
         ensures step { IfOk result (λ h. Responds self.old.honest (Counts self.old self.new) self.old.meter heard.now.source
             (request_invoke heard.now.request) (request_content heard.now.request) (reply_bytes h.reply) h.activated self.new.meter) }
         ensures follows { Follows self.old self.new }
         ensures err { OnErr result (self.new ≡ self.old) }
+        ensures memory { OnErr result (IsTrue (is_confirmed (request_invoke heard.now.request))) }
     {
         let replies = Replies::prepare(alloc, heard)?;
         let Some(phase) = self.phase.take() else {

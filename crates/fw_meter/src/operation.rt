@@ -3,32 +3,24 @@
 ghost use Rattle.std.specs.Prelude.{◌≡◌, ◌≢◌, if◌then◌else◌};
 ghost use Rattle.fw_store.specs.declared.header.TransferStatus.TheVariants as status;
 ghost use Rattle.fw_server.specs.Meaning as meaning;
+ghost use Rattle.fw_server.specs.View.{operation_meaning};
 ghost use Rattle.fw_image.specs.Meter.{status_of};
 ghost use Rattle.fw_image.specs.Phases.{state_in, IsInPhase};
 ghost use Rattle.fw_image.specs.Step as image;
-ghost use Rattle.fw_meter.specs.Inside.{code_number, asked, IsMade, Steps};
+ghost use Rattle.fw_meter.specs.Inside.{code_number, IsMade, Steps};
 ghost use Rattle.fw_meter.specs.Step.{activation_of, coded};
 ghost use Rattle.fw_meter.specs.declared.code.Code.TheVariants as code;
 
 use crate::code::Code;
 use fw_image::{NotVerified, Phase};
 use fw_names::ImageName;
+use fw_server::Operation;
 use fw_store::ImageStore;
-
-/// An operation of Image transfer.
-#[derive(Clone, Copy, Debug)]
-pub(crate) enum Operation<'a> {
-    Enable(bool),
-    Initiate { identifier: &'a [u8], size: u32 },
-    Block { number: u32, value: &'a [u8] },
-    Verify,
-    Activate,
-}
 
 /// Makes an operation, and answers its code and the transfer that it leaves.
 pub(crate) fn make<S: ImageStore>(phase: Phase<S>, operation: Operation<'_>) -> (Code, Phase<S>)
     requires { IsInPhase phase }
-    ensures steps { Steps (state_in phase) (asked operation.entry) (code_number result.0) (state_in result.1) }
+    ensures steps { Steps (state_in phase) (operation_meaning operation.entry) (code_number result.0) (state_in result.1) }
     ensures phase { IsInPhase result.1 }
 {
     match operation {
@@ -146,7 +138,7 @@ pub(crate) fn activated<S: ImageStore>(
     code: Code,
     next: &Phase<S>,
 ) -> Option<ImageName>
-    ensures { result ≡ activation_of (asked operation.entry) (coded (code_number code)) (state_in next.now).meter }
+    ensures { result ≡ activation_of (operation_meaning operation.entry) (coded (code_number code)) (state_in next.now).meter }
 {
     match (operation, code) {
         (Operation::Activate, Code::Success) => Some(next.view().active),

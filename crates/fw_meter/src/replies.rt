@@ -1,6 +1,8 @@
 //! The replies that an operation can have.
 
-ghost use Rattle.std.specs.Prelude.{◌≡◌, IfOk};
+ghost use Rattle.std.specs.Prelude.{◌≡◌, IfOk, OnErr, IsTrue};
+ghost use Rattle.fw_apdu.specs.Request.{is_confirmed};
+ghost use Rattle.fw_apdu.specs.View.{request_invoke};
 ghost use Rattle.fw_meter.specs.Handling.{reply_bytes};
 ghost use Rattle.fw_meter.specs.Inside.{code_number, coded_reply, AnswersEach, reply_in};
 
@@ -21,7 +23,8 @@ pub(crate) struct Replies {
 
 impl Replies {
     pub(crate) fn prepare(alloc: Global, heard: &Heard) -> Result<Replies, OutOfMemory>
-        ensures { IfOk result (λ replies. AnswersEach heard.now replies) }
+        ensures each { IfOk result (λ replies. AnswersEach heard.now replies) }
+        ensures memory { OnErr result (IsTrue (is_confirmed (request_invoke heard.now.request))) }
     {
         Ok(Replies {
             success: heard.code(alloc, Code::Success.number())?,

@@ -1,12 +1,12 @@
 //! From a datagram to the request in it, and from an outcome to the datagram that replies.
 
-ghost use Rattle.std.specs.Prelude.{◌≡◌, ◌≤◌, IfOk, OnErr};
+ghost use Rattle.std.specs.Prelude.{◌≡◌, ◌≤◌, IfOk, OnErr, IsTrue};
 ghost use Rattle.fw_blocks.specs.Cuts.{max_blocks};
+ghost use Rattle.fw_apdu.specs.Request.{is_confirmed};
 ghost use Rattle.fw_apdu.specs.View.{request_content, request_invoke};
 ghost use Rattle.fw_server.specs.Answer.{bits_in};
-ghost use Rattle.fw_server.specs.View.{outcome_of, answer_of};
 ghost use Rattle.fw_meter.specs.Step.{got, coded};
-ghost use Rattle.fw_meter.specs.Handling.{IsForMeter, reply_to, reply_bytes};
+ghost use Rattle.fw_meter.specs.Handling.{MayBringData, reply_to, reply_bytes};
 ghost use Rattle.fw_meter.specs.Inside.{IsHeard, told_by};
 
 use crate::error::OutOfMemory;
@@ -28,7 +28,8 @@ pub(crate) struct Heard {
 /// The request that a datagram brings, if it carries one to the meter's wPort.
 pub(crate) fn hear(alloc: Global, datagram: &[u8]) -> Result<Option<Heard>, OutOfMemory>
     ensures heard { IfOk result (λ heard. IsHeard datagram.now heard) }
-    ensures memory { OnErr result (IsForMeter datagram.now) }
+    // Nothing else is read into memory.
+    ensures memory { OnErr result (MayBringData datagram.now) }
 {
     let Ok(frame) = split(datagram) else {
         return Ok(None);
@@ -49,17 +50,19 @@ pub(crate) fn hear(alloc: Global, datagram: &[u8]) -> Result<Option<Heard>, OutO
 impl Heard {
     /// The datagram that carries a value back, if the request asked for a response.
     pub(crate) fn value(&self, alloc: Global, value: Answer) -> Result<Option<Vec<u8>>, OutOfMemory>
-        requires { bits_in (outcome_of (Outcome.Got value)) ≤ max_blocks }
-        ensures { IfOk result (λ reply. reply_bytes reply
-            ≡ reply_to self.now.source (request_invoke self.now.request) (request_content self.now.request) (got (answer_of value))) }
+        requires { bits_in (Outcome.Got value) ≤ max_blocks }
+        ensures told { IfOk result (λ reply. reply_bytes reply
+            ≡ reply_to self.now.source (request_invoke self.now.request) (request_content self.now.request) (got value)) }
+        ensures memory { OnErr result (IsTrue (is_confirmed (request_invoke self.now.request))) }
     {
         self.tell(alloc, Outcome::Got(value))
     }
 
     /// The datagram that carries a code back, if the request asked for a response.
     pub(crate) fn code(&self, alloc: Global, code: u8) -> Result<Option<Vec<u8>>, OutOfMemory>
-        ensures { IfOk result (λ reply. reply_bytes reply
+        ensures told { IfOk result (λ reply. reply_bytes reply
             ≡ reply_to self.now.source (request_invoke self.now.request) (request_content self.now.request) (coded code)) }
+        ensures memory { OnErr result (IsTrue (is_confirmed (request_invoke self.now.request))) }
     {
         let outcome = match &self.request {
             Request::Get { .. } => Outcome::GetCode(code),
@@ -70,8 +73,9 @@ impl Heard {
     }
 
     fn tell(&self, alloc: Global, outcome: Outcome) -> Result<Option<Vec<u8>>, OutOfMemory>
-        requires { bits_in (outcome_of outcome) ≤ max_blocks }
-        ensures { IfOk result (λ reply. reply_bytes reply ≡ told_by self.now.source (request_invoke self.now.request) (outcome_of outcome)) }
+        requires { bits_in outcome ≤ max_blocks }
+        ensures told { IfOk result (λ reply. reply_bytes reply ≡ told_by self.now.source (request_invoke self.now.request) outcome) }
+        ensures memory { OnErr result (IsTrue (is_confirmed (request_invoke self.now.request))) }
     {
         let invoke = self.request.invoke();
         if !invoke.confirmed() {

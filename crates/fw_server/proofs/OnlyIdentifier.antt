@@ -6,13 +6,18 @@ use Rattle.std.specs.Option.{option_and_then}
 use Rattle.std.specs.Cmp.Lexicographic.{pointwise, same_text}
 use Rattle.std.proofs.lemmas.Bool.Decides.{Decides-int_eq, Decides-eqb}
 use Rattle.fw_apdu.specs.Request.{Descriptor, get_request}
-use Rattle.fw_server.specs.Meaning.{Instance, image_transfer, active_identifier, active_signature, instance_bytes, instance_at, class_of, Reading, logical_name, block_size, transferred_blocks, first_not_transferred, transfer_enabled, transfer_status, to_activate, active_name, active_digest, attribute_of, Meaning, read, refused, read_write_denied, object_class_inconsistent, or_refused, asked_of, meaning_at, meaning_of}
+use Rattle.fw_server.specs.Meaning.{instance_bytes, object_at, class_of, attribute_of, Meaning, read, refused, or_refused, asked_of, meaning_at, meaning_of}
+use Rattle.fw_server.specs.declared.object.Object.{Object}
+use Rattle.fw_server.specs.declared.object.Object.TheVariants.{ImageTransfer, ActiveIdentifier, ActiveSignature}
+use Rattle.fw_server.specs.declared.object.Reading.{Reading}
+use Rattle.fw_server.specs.declared.object.Reading.TheVariants.{LogicalName, BlockSize, TransferredBlocks, FirstNotTransferred, TransferEnabled, TransferStatus, ToActivate, ActiveName, ActiveDigest}
+use Rattle.fw_server.specs.declared.planning.Refusal.TheVariants.{ObjectClassInconsistent, ReadWriteDenied}
 use Rattle.fw_server.specs.Laws.{OnlyIdentifier}
 
 -- no attribute of Image transfer is it
 image_rows : (a b c d e f g : Bool) →
-    (if a then Some (logical_name image_transfer) else (if b then Some block_size else (if c then Some transferred_blocks else (if d then Some first_not_transferred else (
-    if e then Some transfer_enabled else (if f then Some transfer_status else (if g then Some to_activate else None))))))) ≡ Some active_name → ⊥
+    (if a then Some (LogicalName ImageTransfer) else (if b then Some BlockSize else (if c then Some TransferredBlocks else (if d then Some FirstNotTransferred else (
+    if e then Some TransferEnabled else (if f then Some TransferStatus else (if g then Some ToActivate else None))))))) ≡ Some ActiveName → ⊥
 image_rows true b c d e f g h = grind arith
 image_rows false true c d e f g h = grind arith
 image_rows false false true d e f g h = grind arith
@@ -23,30 +28,30 @@ image_rows false false false false false false true h = grind arith
 image_rows false false false false false false false h = grind arith
 
 -- of a Data object only the value is
-data_rows : (i : Instance) (v : Reading) (a b : Bool) → (if a then Some (logical_name i) else (if b then Some v else None)) ≡ Some active_name → (b ≡ true) × (v ≡ active_name)
+data_rows : (i : Object) (v : Reading) (a b : Bool) → (if a then Some (LogicalName i) else (if b then Some v else None)) ≡ Some ActiveName → (b ≡ true) × (v ≡ ActiveName)
 data_rows i v true b h = absurd (grind arith)
 data_rows i v false true h = (refl, grind arith)
 data_rows i v false false h = absurd (grind arith)
 
-attribute_is : (i : Instance) (n : ℤ) → attribute_of i n ≡ Some active_name → (i ≡ active_identifier) × (n ≡ pos 2)
-attribute_is image_transfer n h =
+attribute_is : (i : Object) (n : ℤ) → attribute_of i n ≡ Some ActiveName → (i ≡ ActiveIdentifier) × (n ≡ pos 2)
+attribute_is ImageTransfer n h =
     absurd (image_rows (int_eq n (pos 1)) (int_eq n (pos 2)) (int_eq n (pos 3)) (int_eq n (pos 4)) (int_eq n (pos 5)) (int_eq n (pos 6)) (int_eq n (pos 7)) h)
-attribute_is active_identifier n h =
-    let second = (data_rows active_identifier active_name (int_eq n (pos 1)) (int_eq n (pos 2)) h).0 in (refl, (Decides-int_eq n (pos 2)).0 second)
-attribute_is active_signature n h =
-    let other = (data_rows active_signature active_digest (int_eq n (pos 1)) (int_eq n (pos 2)) h).1 in absurd (grind arith)
+attribute_is ActiveIdentifier n h =
+    let second = (data_rows ActiveIdentifier ActiveName (int_eq n (pos 1)) (int_eq n (pos 2)) h).0 in (refl, (Decides-int_eq n (pos 2)).0 second)
+attribute_is ActiveSignature n h =
+    let other = (data_rows ActiveSignature ActiveDigest (int_eq n (pos 1)) (int_eq n (pos 2)) h).1 in absurd (grind arith)
 
-reading_is : (r : Option Reading) → or_refused read_write_denied (option_and_then (λ reading. Some (read reading)) r) ≡ read active_name → r ≡ Some active_name
+reading_is : (r : Option Reading) → or_refused ReadWriteDenied (option_and_then (λ reading. Some (read reading)) r) ≡ read ActiveName → r ≡ Some ActiveName
 reading_is None h = absurd (grind arith)
 reading_is (Some r) h = grind arith
 
-class_is : (b : Bool) (m : Meaning) → (if b then m else refused object_class_inconsistent) ≡ read active_name → (b ≡ true) × (m ≡ read active_name)
+class_is : (b : Bool) (m : Meaning) → (if b then m else refused ObjectClassInconsistent) ≡ read ActiveName → (b ≡ true) × (m ≡ read ActiveName)
 class_is true m h = (refl, h)
 class_is false m h = absurd (grind arith)
 
 -- the object, its class and the attribute
-object_is : (found : Option Instance) (d : Descriptor) → meaning_at found (get_request d) ≡ read active_name
-    → (found ≡ Some active_identifier) × (d.class ≡ 1) × (d.number ≡ pos 2)
+object_is : (found : Option Object) (d : Descriptor) → meaning_at found (get_request d) ≡ read ActiveName
+    → (found ≡ Some ActiveIdentifier) × (d.class ≡ 1) × (d.number ≡ pos 2)
 object_is None d h = absurd (grind arith)
 object_is (Some i) d h =
     let class = class_is (d.class == class_of i) (asked_of i (get_request d)) h in
@@ -54,16 +59,16 @@ object_is (Some i) d h =
     let own : d.class ≡ class_of i = (Decides-eqb d.class (class_of i)).0 class.0 in
     (ap Some attribute.0, own ∙ ap class_of attribute.0, attribute.1)
 
-name_rows : (a b c : Bool) → (if a then Some image_transfer else (if b then Some active_identifier else (if c then Some active_signature else None))) ≡ Some active_identifier → b ≡ true
+name_rows : (a b c : Bool) → (if a then Some ImageTransfer else (if b then Some ActiveIdentifier else (if c then Some ActiveSignature else None))) ≡ Some ActiveIdentifier → b ≡ true
 name_rows true b c h = absurd (grind arith)
 name_rows false true c h = refl
 name_rows false false true h = absurd (grind arith)
 name_rows false false false h = absurd (grind arith)
 
-name_is : (s : List ℕ) → instance_at s ≡ Some active_identifier → s ≡ instance_bytes active_identifier
+name_is : (s : List ℕ) → object_at s ≡ Some ActiveIdentifier → s ≡ instance_bytes ActiveIdentifier
 name_is s h =
-    same_text s (instance_bytes active_identifier)
-    (sym (name_rows (pointwise nat_eq s (instance_bytes image_transfer)) (pointwise nat_eq s (instance_bytes active_identifier)) (pointwise nat_eq s (instance_bytes active_signature)) h))
+    same_text s (instance_bytes ActiveIdentifier)
+    (sym (name_rows (pointwise nat_eq s (instance_bytes ImageTransfer)) (pointwise nat_eq s (instance_bytes ActiveIdentifier)) (pointwise nat_eq s (instance_bytes ActiveSignature)) h))
 
 same_descriptor : (d : Descriptor) (c : ℕ) (s : List ℕ) (n : ℤ) → d.class ≡ c → d.instance ≡ s → d.number ≡ n → d ≡ record { class = c; instance = s; number = n }
 same_descriptor d c s n class instance number =
@@ -71,10 +76,10 @@ same_descriptor d c s n class instance number =
     ∙ ap (λ (x : List ℕ). record { class = c; instance = x; number = d.number }) instance
     ∙ ap (λ (x : ℤ). record { class = c; instance = s; number = x }) number
 
-identified : (d : Descriptor) → meaning_of (get_request d) ≡ read active_name → d ≡ record { class = 1; instance = instance_bytes active_identifier; number = pos 2 }
+identified : (d : Descriptor) → meaning_of (get_request d) ≡ read ActiveName → d ≡ record { class = 1; instance = instance_bytes ActiveIdentifier; number = pos 2 }
 identified d h =
-    let parts = object_is (instance_at d.instance) d h in
-    same_descriptor d 1 (instance_bytes active_identifier) (pos 2) parts.1 (name_is d.instance parts.0) parts.2
+    let parts = object_is (object_at d.instance) d h in
+    same_descriptor d 1 (instance_bytes ActiveIdentifier) (pos 2) parts.1 (name_is d.instance parts.0) parts.2
 
 pub only_identifier : OnlyIdentifier
 only_identifier d = (identified d, λ h. ap (λ (x : Descriptor). meaning_of (get_request x)) h)

@@ -2,31 +2,33 @@
 use Rattle.std.proofs.Common.{◌≡◌, ℕ, List, length, refl, arith}
 use Rattle.fw_axdr.specs.Value.{octet_string}
 use Rattle.fw_names.specs.Name.{Name, name_bytes}
-use Rattle.fw_server.specs.Answer.{Answer, logical_name, block_size, transferred_blocks, first_not_transferred, transfer_enabled, transfer_status, to_activate, active_name, active_digest, value_of_answer, HasSizes}
+use Rattle.fw_server.specs.Answer.{value_of_answer, HasSizes}
+use Rattle.fw_server.specs.declared.outcome.Answer.{Answer}
+use Rattle.fw_server.specs.declared.outcome.Answer.TheVariants.{LogicalName, BlockSize, TransferredBlocks, FirstNotTransferred, TransferEnabled, TransferStatus, ToActivate, ActiveName, ActiveDigest}
 use Rattle.fw_server.specs.Laws.{OnlyActiveName}
 use Rattle.fw_server.proofs.Sizes.{name_size}
 
-is_name : (a : Answer) (bytes : List ℕ) → HasSizes a → value_of_answer a ≡ octet_string bytes → length bytes ≡ 41 → (name : Name) × (a ≡ active_name name)
-is_name (logical_name own) bytes h same size = absurd (grind arith)
-is_name (block_size own) bytes h same size = absurd (grind arith)
-is_name (transferred_blocks own) bytes h same size = absurd (grind arith)
-is_name (first_not_transferred own) bytes h same size = absurd (grind arith)
-is_name (transfer_enabled own) bytes h same size = absurd (grind arith)
-is_name (transfer_status own) bytes h same size = absurd (grind arith)
-is_name (to_activate own) bytes h same size = absurd (grind arith)
-is_name (active_name own) bytes h same size = (own, refl)
-is_name (active_digest own) bytes h same size = absurd (grind arith)
+is_name : (a : Answer) (bytes : List ℕ) → HasSizes a → value_of_answer a ≡ octet_string bytes → length bytes ≡ 41 → (name : Name) × (a ≡ ActiveName name)
+is_name (LogicalName own) bytes h same size = absurd (grind arith)
+is_name (BlockSize own) bytes h same size = absurd (grind arith)
+is_name (TransferredBlocks own) bytes h same size = absurd (grind arith)
+is_name (FirstNotTransferred own) bytes h same size = absurd (grind arith)
+is_name (TransferEnabled own) bytes h same size = absurd (grind arith)
+is_name (TransferStatus own) bytes h same size = absurd (grind arith)
+is_name (ToActivate own) bytes h same size = absurd (grind arith)
+is_name (ActiveName own) bytes h same size = (own, refl)
+is_name (ActiveDigest own) bytes h same size = absurd (grind arith)
 
-has_41 : (a : Answer) (name : Name) → HasSizes a → a ≡ active_name name → (bytes : List ℕ) × (value_of_answer a ≡ octet_string bytes) × (length bytes ≡ 41)
-has_41 (active_name own) name h same = (name_bytes own, refl, name_size own h)
-has_41 (logical_name own) name h same = absurd (grind arith)
-has_41 (block_size own) name h same = absurd (grind arith)
-has_41 (transferred_blocks own) name h same = absurd (grind arith)
-has_41 (first_not_transferred own) name h same = absurd (grind arith)
-has_41 (transfer_enabled own) name h same = absurd (grind arith)
-has_41 (transfer_status own) name h same = absurd (grind arith)
-has_41 (to_activate own) name h same = absurd (grind arith)
-has_41 (active_digest own) name h same = absurd (grind arith)
+has_41 : (a : Answer) (name : Name) → HasSizes a → a ≡ ActiveName name → (bytes : List ℕ) × (value_of_answer a ≡ octet_string bytes) × (length bytes ≡ 41)
+has_41 (ActiveName own) name h same = (name_bytes own, refl, name_size own h)
+has_41 (LogicalName own) name h same = absurd (grind arith)
+has_41 (BlockSize own) name h same = absurd (grind arith)
+has_41 (TransferredBlocks own) name h same = absurd (grind arith)
+has_41 (FirstNotTransferred own) name h same = absurd (grind arith)
+has_41 (TransferEnabled own) name h same = absurd (grind arith)
+has_41 (TransferStatus own) name h same = absurd (grind arith)
+has_41 (ToActivate own) name h same = absurd (grind arith)
+has_41 (ActiveDigest own) name h same = absurd (grind arith)
 
 pub only_active_name : OnlyActiveName
 only_active_name a h = (λ x. is_name a x.0 h x.1 x.2, λ x. has_41 a x.0 h x.1)

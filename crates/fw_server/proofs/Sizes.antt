@@ -12,7 +12,11 @@ use Rattle.fw_apdu.specs.declared.error.ApduError.{ApduError}
 use Rattle.fw_apdu.specs.declared.error.ApduError.TheVariants.{Truncated, UnknownService, UnsupportedForm, BadData, Trailing, OutOfMemory}
 use Rattle.fw_apdu.specs.Fault.{IfFault, IsBadData}
 use Rattle.fw_apdu.specs.Response.{ResponseContent, response_bytes, unwritable_response}
-use Rattle.fw_server.specs.Answer.{Answer, logical_name, block_size, transferred_blocks, first_not_transferred, transfer_enabled, transfer_status, to_activate, active_name, active_digest, Outcome, got, get_code, set_code, action_code, value_of_answer, response_of, HasSizes, HasAnswerSizes, bits_in_answer, bits_in}
+use Rattle.fw_server.specs.Answer.{value_of_answer, response_of, HasSizes, HasAnswerSizes, bits_in_answer, bits_in}
+use Rattle.fw_server.specs.declared.outcome.Answer.{Answer}
+use Rattle.fw_server.specs.declared.outcome.Answer.TheVariants.{LogicalName, BlockSize, TransferredBlocks, FirstNotTransferred, TransferEnabled, TransferStatus, ToActivate, ActiveName, ActiveDigest}
+use Rattle.fw_server.specs.declared.outcome.Outcome.{Outcome}
+use Rattle.fw_server.specs.declared.outcome.Outcome.TheVariants.{Got, GetCode, SetCode, ActionCode}
 use Rattle.fw_server.proofs.Packing.{length_packed}
 
 -- a name is spelled in 41 bytes
@@ -20,40 +24,40 @@ pub name_size : (name : Name) → IsName name → length (name_bytes name) ≡ 4
 name_size name h = let digest : length name.digest ≡ 32 = h.digest_size in grind (arith, common_steps)
 
 answer_size : (a : Answer) → HasSizes a → length (short (value_of_answer a)) ≤ 86 + bytes_for (bits_in_answer a)
-answer_size (logical_name bytes) h = grind (arith, common_steps)
-answer_size (block_size bytes) h = grind (arith, common_steps)
-answer_size (transferred_blocks marks) h = let size = length_packed marks in grind (arith, common_steps)
-answer_size (first_not_transferred number) h = grind (arith, common_steps)
-answer_size (transfer_enabled enabled) h = grind (arith, common_steps)
-answer_size (transfer_status status) h = grind (arith, common_steps)
-answer_size (to_activate None) h = grind (arith, common_steps)
-answer_size (to_activate (Some info)) h = let digest : length info.name.digest ≡ 32 = h.digest_size in grind (arith, common_steps)
-answer_size (active_name name) h = let digest : length name.digest ≡ 32 = h.digest_size in grind (arith, common_steps)
-answer_size (active_digest digest) h = grind (arith, common_steps)
+answer_size (LogicalName bytes) h = grind (arith, common_steps)
+answer_size (BlockSize bytes) h = grind (arith, common_steps)
+answer_size (TransferredBlocks marks) h = let size = length_packed marks in grind (arith, common_steps)
+answer_size (FirstNotTransferred number) h = grind (arith, common_steps)
+answer_size (TransferEnabled enabled) h = grind (arith, common_steps)
+answer_size (TransferStatus status) h = grind (arith, common_steps)
+answer_size (ToActivate None) h = grind (arith, common_steps)
+answer_size (ToActivate (Some info)) h = let digest : length info.name.digest ≡ 32 = h.digest_size in grind (arith, common_steps)
+answer_size (ActiveName name) h = let digest : length name.digest ≡ 32 = h.digest_size in grind (arith, common_steps)
+answer_size (ActiveDigest digest) h = grind (arith, common_steps)
 
 answer_writable : (a : Answer) → HasSizes a → bits_in_answer a < 2 ^ 32 → unwritable (value_of_answer a) max_depth ≡ None
-answer_writable (logical_name bytes) h few = grind (arith, common_steps)
-answer_writable (block_size bytes) h few = refl
-answer_writable (transferred_blocks marks) h few = grind (arith, common_steps)
-answer_writable (first_not_transferred number) h few = refl
-answer_writable (transfer_enabled enabled) h few = refl
-answer_writable (transfer_status status) h few = refl
-answer_writable (to_activate None) h few = refl
-answer_writable (to_activate (Some info)) h few = let digest : length info.name.digest ≡ 32 = h.digest_size in grind (arith, common_steps)
-answer_writable (active_name name) h few = let digest : length name.digest ≡ 32 = h.digest_size in grind (arith, common_steps)
-answer_writable (active_digest digest) h few = grind (arith, common_steps)
+answer_writable (LogicalName bytes) h few = grind (arith, common_steps)
+answer_writable (BlockSize bytes) h few = refl
+answer_writable (TransferredBlocks marks) h few = grind (arith, common_steps)
+answer_writable (FirstNotTransferred number) h few = refl
+answer_writable (TransferEnabled enabled) h few = refl
+answer_writable (TransferStatus status) h few = refl
+answer_writable (ToActivate None) h few = refl
+answer_writable (ToActivate (Some info)) h few = let digest : length info.name.digest ≡ 32 = h.digest_size in grind (arith, common_steps)
+answer_writable (ActiveName name) h few = let digest : length name.digest ≡ 32 = h.digest_size in grind (arith, common_steps)
+answer_writable (ActiveDigest digest) h few = grind (arith, common_steps)
 
 outcome_size : (invoke : ℕ) (o : Outcome) → HasAnswerSizes o → length (response_bytes invoke (response_of o)) ≤ 90 + bytes_for (bits_in o)
-outcome_size invoke (got a) h = let size = answer_size a h in omega (arith, size)
-outcome_size invoke (get_code c) h = omega arith
-outcome_size invoke (set_code c) h = omega arith
-outcome_size invoke (action_code c) h = omega arith
+outcome_size invoke (Got a) h = let size = answer_size a h in omega (arith, size)
+outcome_size invoke (GetCode c) h = omega arith
+outcome_size invoke (SetCode c) h = omega arith
+outcome_size invoke (ActionCode c) h = omega arith
 
 outcome_writable : (o : Outcome) → HasAnswerSizes o → bits_in o < 2 ^ 32 → unwritable_response (response_of o) ≡ None
-outcome_writable (got a) h few = answer_writable a h few
-outcome_writable (get_code c) h few = refl
-outcome_writable (set_code c) h few = refl
-outcome_writable (action_code c) h few = refl
+outcome_writable (Got a) h few = answer_writable a h few
+outcome_writable (GetCode c) h few = refl
+outcome_writable (SetCode c) h few = refl
+outcome_writable (ActionCode c) h few = refl
 
 -- ---- of what was written
 

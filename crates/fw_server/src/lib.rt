@@ -10,5 +10,5 @@ mod response;
 
 pub use object::{Object, Reading};
 pub use outcome::{Answer, ImageInfo, Outcome};
-pub use planning::{Planned, Refusal, plan};
+pub use planning::{Operation, Planned, Refusal, plan};
 pub use response::answer;

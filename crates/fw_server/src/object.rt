@@ -1,9 +1,7 @@
 //! The COSEM objects of a meter, and what can be read of them (IEC 62056-6-2).
 
 ghost use Rattle.std.specs.Prelude.{◌≡◌};
-ghost use Rattle.std.specs.Option.{option_map};
-ghost use Rattle.fw_server.specs.Meaning.{attribute_of, image_attribute, data_attribute, instance_at, instance_bytes, class_of};
-ghost use Rattle.fw_server.specs.View.{instance_of, reading_of};
+ghost use Rattle.fw_server.specs.Meaning.{attribute_of, image_attribute, data_attribute, object_at, instance_bytes, class_of};
 
 use fw_apdu::LogicalName;
 
@@ -33,7 +31,7 @@ const IMAGE_TRANSFER_CLASS: u16 = 18;
 impl Object {
     /// The object of this logical name.
     pub(crate) fn named(name: LogicalName) -> Option<Object>
-        ensures { option_map instance_of result ≡ instance_at name.0 }
+        ensures { result ≡ object_at name.0 }
     {
         if name == IMAGE_TRANSFER {
             Some(Object::ImageTransfer)
@@ -48,7 +46,7 @@ impl Object {
 
     /// Attribute 1 of the object.
     pub fn logical_name(self) -> LogicalName
-        ensures { result.0 ≡ instance_bytes (instance_of self) }
+        ensures { result.0 ≡ instance_bytes self }
     {
         match self {
             Object::ImageTransfer => IMAGE_TRANSFER,
@@ -59,7 +57,7 @@ impl Object {
 
     /// The class_id.
     pub(crate) fn class(self) -> u16
-        ensures { result ≡ class_of (instance_of self) }
+        ensures { result ≡ class_of self }
     {
         match self {
             Object::ImageTransfer => IMAGE_TRANSFER_CLASS,
@@ -69,7 +67,7 @@ impl Object {
 
     /// What an attribute of the object is.
     pub(crate) fn attribute(self, number: i8) -> Option<Reading>
-        ensures { option_map reading_of result ≡ attribute_of (instance_of self) number }
+        ensures { result ≡ attribute_of self number }
     {
         match self {
             Object::ImageTransfer => image_attribute(number),
@@ -81,7 +79,7 @@ impl Object {
 
 /// What an attribute of Image transfer is.
 fn image_attribute(number: i8) -> Option<Reading>
-    ensures { option_map reading_of result ≡ image_attribute number }
+    ensures { result ≡ image_attribute number }
 {
     match number {
         1 => Some(Reading::LogicalName(Object::ImageTransfer)),
@@ -97,7 +95,7 @@ fn image_attribute(number: i8) -> Option<Reading>
 
 /// What an attribute of a Data object is, by what its value is.
 fn data_attribute(object: Object, value: Reading, number: i8) -> Option<Reading>
-    ensures { option_map reading_of result ≡ data_attribute (instance_of object) (reading_of value) number }
+    ensures { result ≡ data_attribute object value number }
 {
     match number {
         1 => Some(Reading::LogicalName(object)),

@@ -4,8 +4,9 @@ ghost use Rattle.std.specs.Prelude.{◌≡◌};
 ghost use Rattle.std.specs.Option.{option_map, option_copied};
 ghost use Rattle.fw_axdr.specs.View.{value_of};
 ghost use Rattle.fw_apdu.specs.View.{request_content};
-ghost use Rattle.fw_server.specs.Meaning.{meaning_of, asked_of, method_of, initiate_of, block_of, enable_of, order_of, verify, activate, or_refused, type_unmatched, octets_in, number_in, two_in, two_of, code_number};
-ghost use Rattle.fw_server.specs.View.{instance_of, code_of, planned_meaning};
+ghost use Rattle.fw_server.specs.Meaning.{meaning_of, asked_of, method_of, initiate_of, block_of, enable_of, order_of, verify, activate, or_refused, octets_in, number_in, two_in, two_of, code_number};
+ghost use Rattle.fw_server.specs.View.{operation_meaning, planned_meaning};
+ghost use Rattle.fw_server.specs.declared.planning.Refusal.TheVariants.{TypeUnmatched};
 
 use crate::object::{Object, Reading};
 use fw_apdu::Request;
@@ -28,20 +29,18 @@ pub enum Refusal {
 impl Refusal {
     /// The number of the code.
     pub fn code(self) -> u8
-        ensures { result ≡ code_number (code_of self) }
+        ensures { result ≡ code_number self }
     {
         self as u8
     }
 }
 
-/// What a request asks for, with what it borrows from it.
+/// An operation of Image transfer, with what it borrows from its request.
 #[derive(Clone, Copy, Debug, PartialEq, Eq)]
-pub enum Planned<'a> {
-    /// GET of an attribute.
-    Read(Reading),
-    /// SET of image_transfer_enabled, attribute 5 of Image transfer.
+pub enum Operation<'a> {
+    /// SET of image_transfer_enabled, attribute 5.
     Enable(bool),
-    /// ACTION of image_transfer_initiate, its method 1: the image's identifier, and its size in bytes.
+    /// ACTION of image_transfer_initiate, method 1: the image's identifier, and its size in bytes.
     Initiate { identifier: &'a [u8], size: u32 },
     /// image_block_transfer, method 2: the number of a block, from 0 on, and its bytes.
     Block { number: u32, value: &'a [u8] },
@@ -49,11 +48,20 @@ pub enum Planned<'a> {
     Verify,
     /// image_activate, method 4.
     Activate,
+}
+
+/// What a request asks for.
+#[derive(Clone, Copy, Debug, PartialEq, Eq)]
+pub enum Planned<'a> {
+    /// GET of an attribute.
+    Read(Reading),
+    /// SET or ACTION.
+    Operate(Operation<'a>),
     /// None of these.
     Refused(Refusal),
 }
 
-/// The operation that a request asks for, or the code that refuses it where the request alone decides. No meter is looked
+/// The read or the operation that a request asks for, or the code that refuses it where the request alone decides. No meter is looked
 /// at, and no memory is taken.
 pub fn plan(request: &Request) -> Planned<'_>
     ensures { planned_meaning result ≡ meaning_of (request_content request.now) }
@@ -69,7 +77,7 @@ pub fn plan(request: &Request) -> Planned<'_>
 
 /// What a request asks of an object.
 fn asked(object: Object, request: &Request) -> Planned<'_>
-    ensures { planned_meaning result ≡ asked_of (instance_of object) (request_content request.now) }
+    ensures { planned_meaning result ≡ asked_of object (request_content request.now) }
 {
     match (object, request) {
         (_, Request::Get { attribute, .. }) => match object.attribute(*attribute) {
@@ -110,61 +118,61 @@ fn method_of(method: i8, parameter: &Option<Data>) -> Planned<'_>
 }
 
 /// The operation, or the refusal of a parameter of another shape.
-fn or_unmatched(planned: Option<Planned<'_>>) -> Planned<'_>
-    ensures { planned_meaning result ≡ or_refused type_unmatched (option_map planned_meaning planned.entry) }
+fn or_unmatched(operation: Option<Operation<'_>>) -> Planned<'_>
+    ensures { planned_meaning result ≡ or_refused TypeUnmatched (option_map operation_meaning operation.entry) }
 {
-    match planned {
-        Some(planned) => planned,
+    match operation {
+        Some(operation) => Planned::Operate(operation),
         None => Planned::Refused(Refusal::TypeUnmatched),
     }
 }
 
 /// image_verify, of any integer.
-fn verify(parameter: &Data) -> Option<Planned<'_>>
-    ensures { option_map planned_meaning result ≡ order_of verify (value_of parameter.now) }
+fn verify(parameter: &Data) -> Option<Operation<'_>>
+    ensures { option_map operation_meaning result ≡ order_of verify (value_of parameter.now) }
 {
     match parameter {
-        Data::Integer(_) => Some(Planned::Verify),
+        Data::Integer(_) => Some(Operation::Verify),
         _ => None,
     }
 }
 
 /// image_activate, of any integer.
-fn activate(parameter: &Data) -> Option<Planned<'_>>
-    ensures { option_map planned_meaning result ≡ order_of activate (value_of parameter.now) }
+fn activate(parameter: &Data) -> Option<Operation<'_>>
+    ensures { option_map operation_meaning result ≡ order_of activate (value_of parameter.now) }
 {
     match parameter {
-        Data::Integer(_) => Some(Planned::Activate),
+        Data::Integer(_) => Some(Operation::Activate),
         _ => None,
     }
 }
 
 /// image_transfer_initiate, of the structure of an identifier and a size.
-fn initiate(parameter: &Data) -> Option<Planned<'_>>
-    ensures { option_map planned_meaning result ≡ initiate_of (value_of parameter.now) }
+fn initiate(parameter: &Data) -> Option<Operation<'_>>
+    ensures { option_map operation_meaning result ≡ initiate_of (value_of parameter.now) }
 {
     let (first, second) = two(parameter)?;
     let identifier = octets(first)?;
     let size = number(second)?;
-    Some(Planned::Initiate { identifier, size })
+    Some(Operation::Initiate { identifier, size })
 }
 
 /// image_block_transfer, of the structure of a block number and the block's bytes.
-fn block(parameter: &Data) -> Option<Planned<'_>>
-    ensures { option_map planned_meaning result ≡ block_of (value_of parameter.now) }
+fn block(parameter: &Data) -> Option<Operation<'_>>
+    ensures { option_map operation_meaning result ≡ block_of (value_of parameter.now) }
 {
     let (first, second) = two(parameter)?;
     let number = number(first)?;
     let value = octets(second)?;
-    Some(Planned::Block { number, value })
+    Some(Operation::Block { number, value })
 }
 
 /// A new value of image_transfer_enabled.
-fn enable(value: &Data) -> Option<Planned<'_>>
-    ensures { option_map planned_meaning result ≡ enable_of (value_of value.now) }
+fn enable(value: &Data) -> Option<Operation<'_>>
+    ensures { option_map operation_meaning result ≡ enable_of (value_of value.now) }
 {
     match value {
-        Data::Boolean(enabled) => Some(Planned::Enable(*enabled)),
+        Data::Boolean(enabled) => Some(Operation::Enable(*enabled)),
         _ => None,
     }
 }

@@ -4,44 +4,59 @@ ghost use Rattle.std.specs.Prelude.{◌≡◌, ◌+◌, ◌<◌, ◌≤◌, ◌^
 ghost use Rattle.fw_axdr.specs.Value.{octet_string, array};
 ghost use Rattle.fw_axdr.specs.Bits.{bytes_for};
 ghost use Rattle.fw_axdr.specs.View.{value_of};
-ghost use Rattle.fw_apdu.specs.Fault.{IfFault, IsBadData};
-ghost use Rattle.fw_apdu.specs.Response.{SpellsResponse, response_bytes, unwritable_response};
+ghost use Rattle.fw_axdr.specs.declared.error.AxdrError.TheVariants.{BadLength};
+ghost use Rattle.fw_apdu.specs.Response.{SpellsResponse, response_bytes};
 ghost use Rattle.fw_apdu.specs.View.{response_content, response_invoke};
 ghost use Rattle.fw_apdu.specs.declared.error.ApduError.TheVariants as error;
 ghost use Rattle.fw_names.specs.Name.{IsName};
-ghost use Rattle.fw_server.specs.Answer.{to_activate, value_of_answer, HasSizes, HasAnswerSizes, info_of, infos, response_of, bits_in};
-ghost use Rattle.fw_server.specs.View.{answer_of, outcome_of, info_value};
+ghost use Rattle.fw_server.specs.Answer.{value_of_answer, HasSizes, HasAnswerSizes, info_of, infos, response_of, bits_in};
+ghost use Rattle.fw_server.specs.declared.outcome.Answer.TheVariants as answer;
 
 use crate::outcome::{Answer, ImageInfo, Outcome};
 use fw_apdu::{ApduError, GetDataResult, Invoke, Response, write_response};
-use fw_axdr::{Bits, Data, Items, Octets};
+use fw_axdr::{AxdrError, Bits, Data, Items, Octets};
 use std::alloc::{AllocError, Global};
 
 /// The APDU that answers a request with this invoke byte, in the short spelling.
 ///
 /// # Errors
 ///
-/// `OutOfMemory`, and `BadData(BadLength)` for 2^32 bits or more, which have no spelling. The bits of an image's blocks are fewer.
+/// `BadData(BadLength)` for 2^32 bits or more, which have no spelling, and otherwise `OutOfMemory` alone. The bits of an
+/// image's blocks are fewer.
 pub fn answer(alloc: Global, invoke: &Invoke, outcome: &Outcome) -> Result<Vec<u8>, ApduError>
-    ensures written { IfOk result (λ apdu. apdu.items ≡ response_bytes invoke.now.0 (response_of (outcome_of outcome.now))) }
-    ensures spelled { IfOk result (λ apdu. SpellsResponse apdu.items invoke.now.0 (response_of (outcome_of outcome.now))) }
-    ensures sizes { OnOk result (HasAnswerSizes (outcome_of outcome.now)) }
+    ensures written { IfOk result (λ apdu. apdu.items ≡ response_bytes invoke.now.0 (response_of outcome.now)) }
+    ensures spelled { IfOk result (λ apdu. SpellsResponse apdu.items invoke.now.0 (response_of outcome.now)) }
+    ensures sizes { OnOk result (HasAnswerSizes outcome.now) }
     // The size in bytes, beside the bits.
-    ensures size { IfOk result (λ apdu. length apdu.items ≤ 90 + bytes_for (bits_in (outcome_of outcome.now))) }
+    ensures size { IfOk result (λ apdu. length apdu.items ≤ 90 + bytes_for (bits_in outcome.now)) }
     // So the bits of 4,096 blocks fit one APDU.
-    ensures fits { bits_in (outcome_of outcome.now) ≤ 4096 → IfOk result (λ apdu. length apdu.items ≤ 1280) }
-    ensures memory { bits_in (outcome_of outcome.now) < 2 ^ 32 → IfErr result (λ e. e ≡ error.OutOfMemory) }
-    ensures refused { IfErr result (λ e. IfFault e (IsBadData (unwritable_response (response_of (outcome_of outcome.now))) e)) }
+    ensures fits { bits_in outcome.now ≤ 4096 → IfOk result (λ apdu. length apdu.items ≤ 1280) }
+
+    ensures memory { bits_in outcome.now < 2 ^ 32 → IfErr result (λ e. e ≡ error.OutOfMemory) }
+    ensures too_long { 2 ^ 32 ≤ bits_in outcome.now → result ≡ Err (error.BadData BadLength) }
 {
+    if bit_count(outcome) > u32::MAX as usize {
+        return Err(ApduError::BadData(AxdrError::BadLength));
+    }
     let response = response(alloc, *invoke, outcome)?;
     write_response(alloc, &response)
+}
+
+/// How many bits an outcome carries.
+fn bit_count(outcome: &Outcome) -> usize
+    ensures { result ≡ bits_in outcome.now }
+{
+    match outcome {
+        Outcome::Got(Answer::TransferredBlocks(blocks)) => blocks.len(),
+        _ => 0,
+    }
 }
 
 /// The response with this invoke byte.
 fn response(alloc: Global, invoke: Invoke, outcome: &Outcome) -> Result<Response, AllocError>
     ensures invoke { IfOk result (λ r. response_invoke r ≡ invoke.0) }
-    ensures content { IfOk result (λ r. response_content r ≡ response_of (outcome_of outcome.now)) }
-    ensures sizes { OnOk result (HasAnswerSizes (outcome_of outcome.now)) }
+    ensures content { IfOk result (λ r. response_content r ≡ response_of outcome.now) }
+    ensures sizes { OnOk result (HasAnswerSizes outcome.now) }
 {
     Ok(match outcome {
         Outcome::Got(answer) => Response::Get {
@@ -66,8 +81,8 @@ fn response(alloc: Global, invoke: Invoke, outcome: &Outcome) -> Result<Response
 
 /// The value that a GET has for an answer.
 fn value(alloc: Global, answer: &Answer) -> Result<Data, AllocError>
-    ensures value { IfOk result (λ found. value_of found ≡ value_of_answer (answer_of answer.now)) }
-    ensures sizes { OnOk result (HasSizes (answer_of answer.now)) }
+    ensures value { IfOk result (λ found. value_of found ≡ value_of_answer answer.now) }
+    ensures sizes { OnOk result (HasSizes answer.now) }
 {
     match answer {
         Answer::LogicalName(name) => octets(alloc, &name.0),
@@ -99,8 +114,8 @@ fn copied(alloc: Global, bits: &Bits) -> Result<Bits, AllocError>
 
 /// image_to_activate_info: one element, or none.
 fn infos(alloc: Global, info: Option<ImageInfo>) -> Result<Data, AllocError>
-    ensures value { IfOk result (λ found. value_of found ≡ array (infos (info_value info))) }
-    ensures sizes { OnOk result (HasSizes (to_activate (info_value info))) }
+    ensures value { IfOk result (λ found. value_of found ≡ array (infos info)) }
+    ensures sizes { OnOk result (HasSizes (answer.ToActivate info)) }
 {
     let items = match info {
         None => Vec::new(alloc),
@@ -111,7 +126,7 @@ fn infos(alloc: Global, info: Option<ImageInfo>) -> Result<Data, AllocError>
 
 /// The element of image_to_activate_info.
 fn element(alloc: Global, info: ImageInfo) -> Result<Data, AllocError>
-    ensures value { IfOk result (λ found. value_of found ≡ info_of (record { size = info.size; name = info.name })) }
+    ensures value { IfOk result (λ found. value_of found ≡ info_of info) }
     ensures sizes { OnOk result (IsName info.name) }
 {
     let size = Data::DoubleLongUnsigned(info.size);

@@ -2,7 +2,7 @@
 
 use crate::images::ABC_IDENTIFIER;
 use fw_apdu::{LogicalName, read_request};
-use fw_server::{Object, Planned, Reading, Refusal, plan};
+use fw_server::{Object, Operation, Planned, Reading, Refusal, plan};
 use std::process::Abort;
 use std::test::Fail;
 
@@ -60,42 +60,42 @@ const READS: &[Case] = &[
 
 /// SET of image_transfer_enabled, and each method of Image transfer.
 const OPERATIONS: &[Case] = &[
-    ("c101c1001200002c0000ff05000301", Planned::Enable(true)),
-    ("c101c1001200002c0000ff05000300", Planned::Enable(false)),
+    ("c101c1001200002c0000ff05000301", Planned::Operate(Operation::Enable(true))),
+    ("c101c1001200002c0000ff05000300", Planned::Operate(Operation::Enable(false))),
     (
         "c301c1001200002c0000ff010102020929010000000700000001ba7816bf8f01cfea414140de5dae2223b00361a396177a9cb410ff61f20015ad0600000003",
-        Planned::Initiate {
+        Planned::Operate(Operation::Initiate {
             identifier: ABC_IDENTIFIER,
             size: 3,
-        },
+        }),
     ),
     // The identifier needn't be a name, nor the size be of an image: that is the meter's to judge.
     (
         "c301c1001200002c0000ff0101020209000600000000",
-        Planned::Initiate {
+        Planned::Operate(Operation::Initiate {
             identifier: &[],
             size: 0,
-        },
+        }),
     ),
     (
         "c301c1001200002c0000ff02010202060000000109026162",
-        Planned::Block {
+        Planned::Operate(Operation::Block {
             number: 1,
             value: b"ab",
-        },
+        }),
     ),
     (
         "c301c1001200002c0000ff0201020206ffffffff0900",
-        Planned::Block {
+        Planned::Operate(Operation::Block {
             number: 4_294_967_295,
             value: &[],
-        },
+        }),
     ),
     // Of any integer.
-    ("c301c1001200002c0000ff03010f00", Planned::Verify),
-    ("c301c1001200002c0000ff03010f80", Planned::Verify),
-    ("c301c1001200002c0000ff04010f00", Planned::Activate),
-    ("c301c1001200002c0000ff04010f7f", Planned::Activate),
+    ("c301c1001200002c0000ff03010f00", Planned::Operate(Operation::Verify)),
+    ("c301c1001200002c0000ff03010f80", Planned::Operate(Operation::Verify)),
+    ("c301c1001200002c0000ff04010f00", Planned::Operate(Operation::Activate)),
+    ("c301c1001200002c0000ff04010f7f", Planned::Operate(Operation::Activate)),
 ];
 
 const UNDEFINED: Planned<'static> = Planned::Refused(Refusal::ObjectUndefined);

@@ -1,7 +1,9 @@
-use Rattle.std.proofs.Common.{refl, ◌∙◌, arith}
+use Rattle.std.proofs.Common.{◌≡◌, Ok, refl, ◌∙◌, arith}
+use Rattle.std.specs.Prelude.{IsOk}
+use Rattle.hex.specs.Hex.{decode_of}
 use Rattle.fw_meter.specs.Handling.{reply_bytes}
 use Rattle.fw_cli.specs.Session.{AnswersLine, line_for}
-use Rattle.fw_cli.proofs.Turns.{goes_on, ends, stops}
+use Rattle.fw_cli.proofs.Turns.{goes_on, ends, stops, begins_well, on_err}
 use Rattle.fw_cli.proofs.answer.answer_lines.Goals as goal
 
 pub loop-line-preserved : goal.loop-line-preserved
@@ -11,7 +13,7 @@ loop-line-preserved c =
       datagram = c.in-Some-2.datagram.items;
       reply = reply;
       activated = c.in_ok-handled.handled.activated;
-      spelled = rw c.in-Some-2.is at c.in_ok-datagram.ensures;
+      spelled = rw c.in-Some-2.is at c.in_ok-datagram.ensures.bytes;
       step =
           c.faultless.ensures c.loop-line.meter c.handle.new.self c.in-Some-2.datagram.items reply c.in_ok-handled.handled.activated c.loop-line.invariant.honest c.loop-line.invariant.sound
           (rw c.deref.ensures.value at c.in_ok-handled.ensures.step);
@@ -32,4 +34,26 @@ returns-clause-ok c = ends c.args.meter.meter c.loop-line.meter.meter c.args.inp
 pub returns-in_default-2-clause-ok : goal.returns-in_default-2-clause-ok
 returns-in_default-2-clause-ok c =
     stops c.args.meter.meter c.loop-line.meter.meter c.args.input.now c.loop-line.text.items c.in-Some.line.now c.loop-line.rest.now c.in-Some.after.now c.loop-line.number c.loop-line.invariant.so_far
-    c.in-Some.ensures.lines (rw c.in_default-2.is at c.in_ok-datagram.ensures)
+    c.in-Some.ensures.lines (rw c.in_default-2.is at c.in_ok-datagram.ensures.bytes)
+
+pub returns-in_err-datagram-clause-memory : goal.returns-in_err-datagram-clause-memory
+returns-in_err-datagram-clause-memory c =
+    on_err _ _
+    (begins_well c.args.meter.meter c.loop-line.meter.meter c.args.input.now c.loop-line.text.items c.in-Some.line.now c.loop-line.rest.now c.in-Some.after.now c.loop-line.number
+    c.loop-line.invariant.so_far c.in-Some.ensures.lines c.in_err-datagram.ensures.memory)
+
+pub returns-in_err-handled-clause-memory : goal.returns-in_err-handled-clause-memory
+returns-in_err-handled-clause-memory c =
+    let spelled : decode_of c.in-Some.line.now ≡ Ok c.in-Some-2.datagram.items = rw c.in-Some-2.is at c.in_ok-datagram.ensures.bytes in
+    let ok : IsOk (decode_of c.in-Some.line.now) = rw spelled refl in
+    on_err _ _
+    (begins_well c.args.meter.meter c.loop-line.meter.meter c.args.input.now c.loop-line.text.items c.in-Some.line.now c.loop-line.rest.now c.in-Some.after.now c.loop-line.number
+    c.loop-line.invariant.so_far c.in-Some.ensures.lines ok)
+
+pub returns-in_err-append_line-clause-memory : goal.returns-in_err-append_line-clause-memory
+returns-in_err-append_line-clause-memory c =
+    let spelled : decode_of c.in-Some.line.now ≡ Ok c.in-Some-2.datagram.items = rw c.in-Some-2.is at c.in_ok-datagram.ensures.bytes in
+    let ok : IsOk (decode_of c.in-Some.line.now) = rw spelled refl in
+    on_err _ _
+    (begins_well c.args.meter.meter c.loop-line.meter.meter c.args.input.now c.loop-line.text.items c.in-Some.line.now c.loop-line.rest.now c.in-Some.after.now c.loop-line.number
+    c.loop-line.invariant.so_far c.in-Some.ensures.lines ok)

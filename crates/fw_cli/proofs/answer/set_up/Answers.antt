@@ -1,29 +1,7 @@
-use Rattle.std.proofs.Common.{rules, ◌≡◌, refl}
-use Rattle.std.specs.Prelude.{IsTrue}
-use Rattle.fw_store.specs.Memory.{device_of, capacity_of, is_sound}
-use Rattle.fw_image.specs.Fresh.{fresh_meter}
-use Rattle.fw_cli.proofs.NewStores.{holds_new}
 use Rattle.fw_cli.proofs.answer.set_up.Goals as goal
 
-pub unreachable-requires : goal.unreachable-requires
-unreachable-requires c =
-    let there =
-    holds_new c.fresh_is_meter.ensures c.in_ok-block_size.block_size c.in_ok-capacity.capacity c.deref.result.now (capacity_of c.in-Ok.store) (device_of c.in-Ok.store)
-    c.in-Ok.ensures.setup c.in-Ok.ensures.size c.in-Ok.ensures.fresh in
-    let sound : IsTrue (is_sound c.in-Ok.store) = rw c.in-Ok.ensures.unfused refl in
-    c.in-Err.ensures.again (fresh_meter c.in_ok-block_size.block_size c.in_ok-capacity.capacity c.deref.result.now) there.0 there.1 refl sound
+pub returns-in-Err-OutOfMemory-clause-bad_setup : goal.returns-in-Err-OutOfMemory-clause-bad_setup
+returns-in-Err-OutOfMemory-clause-bad_setup c = λ _. c.describes_one.ensures.none c.if-not-describes_one.true
 
-pub returns-clause-ok : goal.returns-clause-ok
-returns-clause-ok c =
-    let there =
-    holds_new c.fresh_is_meter.ensures c.in_ok-block_size.block_size c.in_ok-capacity.capacity c.deref.result.now (capacity_of c.in-Ok.store) (device_of c.in-Ok.store)
-    c.in-Ok.ensures.setup c.in-Ok.ensures.size c.in-Ok.ensures.fresh in
-    let sound : IsTrue (is_sound c.in-Ok.store) = rw c.in-Ok.ensures.unfused refl in
-    let fresh : c.in-Ok-open_store.meter.meter ≡ fresh_meter c.in_ok-block_size.block_size c.in_ok-capacity.capacity c.deref.result.now =
-    c.in-Ok-open_store.ensures.again (fresh_meter c.in_ok-block_size.block_size c.in_ok-capacity.capacity c.deref.result.now) there.0 there.1 refl sound in
-    record {
-      factory = c.in_ok-factory.factory.items;
-      spelled = search rules;
-      setup = search rules;
-      fresh = search (rules, fresh);
-    }
+pub returns-in_default-clause-memory : goal.returns-in_default-clause-memory
+returns-in_default-clause-memory c = λ _. c.describes_one.ensures.one c.if-not-describes_one.false

@@ -1,10 +1,8 @@
-//! What is read of a meter.
+//! The values of a meter's attributes.
 
 ghost use Rattle.std.specs.Prelude.{◌≡◌, ◌≤◌, IfOk};
-ghost use Rattle.std.specs.Option.{option_map};
 ghost use Rattle.fw_blocks.specs.Cuts.{max_blocks};
 ghost use Rattle.fw_server.specs.Answer.{bits_in_answer};
-ghost use Rattle.fw_server.specs.View.{answer_of as told_answer, reading_of, info_value};
 ghost use Rattle.fw_image.specs.Phases.{state_in};
 ghost use Rattle.fw_image.specs.Shown.{shown_of, IsView};
 ghost use Rattle.fw_image.specs.Meter.{Meter};
@@ -21,8 +19,8 @@ pub(crate) fn read<S: ImageStore>(
     alloc: Global,
     reading: Reading,
 ) -> Result<Answer, AllocError>
-    ensures value { IfOk result (λ answer. told_answer answer ≡ answer_of (state_in phase.now).meter (reading_of reading)) }
-    ensures bits { IfOk result (λ answer. bits_in_answer (told_answer answer) ≤ max_blocks) }
+    ensures value { IfOk result (λ answer. answer ≡ answer_of (state_in phase.now).meter reading) }
+    ensures bits { IfOk result (λ answer. bits_in_answer answer ≤ max_blocks) }
 {
     let view = phase.view();
     let count = phase.block_count();
@@ -45,7 +43,7 @@ pub(crate) fn read<S: ImageStore>(
 
 /// image_to_activate_info: the image that was verified.
 fn to_activate(view: &MeterView) -> Option<ImageInfo>
-    ensures { (meter : Meter) → IsView view.now (shown_of meter) → info_value result ≡ verified_info meter.phase }
+    ensures { (meter : Meter) → IsView view.now (shown_of meter) → result ≡ verified_info meter.phase }
 {
     match (view.status, view.goal) {
         (TransferStatus::VerificationSuccessful, Some(goal)) => Some(ImageInfo {
