@@ -4,4 +4,4 @@ pub mod Members
 pub mod Width
 pub mod Laws
 -- For the models of `BlockSet`, `Marks` and `Window` alone: no public clause cites it.
-pub mod Kept
+pub mod Inside

@@ -27,7 +27,7 @@ pub struct BlockSet {
 // other form, as in runs or in pages, under the same clauses.
 impl Model for BlockSet {
     ghost use Rattle.std.specs.Prelude.{Bool, List};
-    ghost use Rattle.fw_blocks.specs.Kept.{IsKept};
+    ghost use Rattle.fw_blocks.specs.Inside.{IsKept};
 
     ghost Value = { List Bool };
 

@@ -1,8 +1,8 @@
 //! Where the blocks of an image lie.
 
-ghost use Rattle.std.specs.Prelude.{◌≡◌, ℕ, ◌-◌, ◌<◌, ◌≤◌, List, length, slice_range, SomeIff, IfSome};
+ghost use Rattle.std.specs.Prelude.{◌≡◌, ℕ, ◌-◌, ◌<◌, ◌≤◌, List, [], length, slice_range, SomeIff, IfSome, IfNone};
 ghost use Rattle.std.specs.Option.{option_copied};
-ghost use Rattle.fw_blocks.specs.Cuts.{IsWithinLimits, cut, block_count, block_start, block_end, max_blocks};
+ghost use Rattle.fw_blocks.specs.Cuts.{IsWithinLimits, cut, block_count, block_start, block_end, max_block_size, max_blocks};
 
 use std::marker::Model;
 
@@ -98,8 +98,10 @@ impl Geometry {
     /// The bytes of block `number` of an image that is cut into blocks of this size. `None` where it has no
     /// such block.
     pub fn cut(self, image: &[u8], number: u32) -> Option<&[u8]>
-        ensures { SomeIff (option_copied result) (number < block_count self.block_size (length image.now))
+        ensures value { SomeIff (option_copied result) (number < block_count self.block_size (length image.now))
             (cut self.block_size image.now number) }
+        ensures none { IfNone result (cut self.block_size image.now number ≡ []) }
+        ensures short { IfSome result (λ block. length block.now ≤ max_block_size) }
     {
         let block_size = self.block_size as usize;
         let start = number as usize * block_size;

@@ -32,7 +32,7 @@ impl Model for Marks {
     ghost use Rattle.std.specs.Prelude.{Bool, List};
     ghost use Rattle.fw_axdr.specs.Bits.{bits, packed};
     ghost use Rattle.fw_blocks.specs.Members.{first_missing};
-    ghost use Rattle.fw_blocks.specs.Kept.{HoldsMarks};
+    ghost use Rattle.fw_blocks.specs.Inside.{HoldsMarks};
 
     ghost Value = { List Bool };
 

@@ -64,7 +64,7 @@ pub struct Window {
 // Contracts see the list of the numbers.
 impl Model for Window {
     ghost use Rattle.std.specs.Prelude.{ℕ, ◌++◌, ◌-◌, List, length, refl, replicate, take};
-    ghost use Rattle.fw_blocks.specs.Kept.{HoldsFew};
+    ghost use Rattle.fw_blocks.specs.Inside.{HoldsFew};
     ghost use Rattle.fw_blocks.specs.Width.{max_width};
 
     ghost Value = { List ℕ };

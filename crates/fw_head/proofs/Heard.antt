@@ -10,7 +10,6 @@ use Rattle.fw_client.specs.declared.ask.Asked.{Asked}
 use Rattle.fw_client.specs.declared.ask.Asked.TheVariants as asked
 use Rattle.fw_client.specs.declared.heard.Heard.{Heard}
 use Rattle.fw_client.specs.declared.heard.Heard.TheVariants.{Active, Number, BitSet, Status, Info, Code, Stranger}
-use Rattle.fw_head.specs.Row.{IsWrapped}
 use Rattle.fw_head.proofs.OwnClaims.{IsOf}
 
 -- something is heard
@@ -68,9 +67,6 @@ strange c new datagram (inr ignores) = ignores.0
 pub taken : (c new : State) (datagram : List ℕ) (h : Heard) → ¬ (h ≡ Stranger) → Hears c datagram h new → Takes c datagram h new
 taken c new datagram h some (inl takes) = takes
 taken c new datagram h some (inr ignores) = absurd (some ignores.1)
-
-pub carried : (c new : State) (datagram : List ℕ) (h : Heard) → Takes c datagram h new → IsWrapped datagram
-carried c new datagram h takes = (takes.1.carries.apdu, takes.1.carries.wraps)
 
 -- a claim that is heard is of the client's meter
 pub of_meter : (c : State) (datagram : List ℕ) (h : Heard) → ((claim : Claim) → h ≡ Active claim → IsClaimed c datagram claim) → IsOf c.meter h

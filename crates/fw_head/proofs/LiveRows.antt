@@ -80,6 +80,10 @@ pub on_err : {X E : Type 0} (r : Result X E) (P Q : E → Type 0) → ((e : E) �
 on_err (Ok x) P Q f h = h
 on_err (Err e) P Q f h = f e h
 
+pub told_err : {X E : Type 0} (r : Result X E) (P : Type 0) → P → IfErr r (λ _. P)
+told_err (Ok x) P p = tt
+told_err (Err e) P p = p
+
 pub rows_hear : (key meter : ℕ) (datagram : List ℕ) (told : RowNews) (old new : Rows) (row next : Row) → key ≡ meter → lookup (nat_eq key) old ≡ Some row → new ≡ set_value (nat_eq key) old next → RowHears row datagram told next → RowsHear old meter datagram told new
 rows_hear key meter datagram told old new row next same found set hears =
     inl (row, next, ap (λ k. lookup (nat_eq k) old) (sym same) ∙ found, hears, changed_at key meter (λ was. next) old new row next same found refl set)

@@ -1,58 +1,23 @@
 -- A campaign is opened in the book, and each of its meters has a new row: that keeps a head end.
-use Rattle.std.proofs.Common.{◌≡◌, ℕ, ◌≤◌, ◌==◌, nat_eq, ltb, Bool, true, false, cond, ◌||◌, ◌&&◌, ◌⊎◌, inl, inr, is_some, List, [], ◌∷◌, ◌++◌, map, length, Option, Some, None, option_map, refl, sym, ap, subst, ◌∙◌, ⊎_elim, arith}
+use Rattle.std.proofs.Common.{◌≡◌, ℕ, ◌==◌, nat_eq, Bool, true, false, cond, ◌||◌, ◌&&◌, ◌⊎◌, inl, inr, is_some, List, [], ◌∷◌, ◌++◌, map, length, Option, Some, None, option_map, refl, sym, ap, subst, ◌∙◌, ⊎_elim}
 use Rattle.std.specs.List.{IsDistinct, AllByRecursion, list_any}
 use Rattle.std.specs.Map.{lookup, keys_of}
 use Rattle.std.proofs.lemmas.List.{map-append}
 use Rattle.std.proofs.lemmas.Map.Keys.{IsDistinct-head, IsDistinct-tail, IsDistinct-cons}
 use Rattle.std.proofs.lemmas.Bool.{cases_Bool, cond-true, cond-false, false≢true, or_parts, or_cases, or_left, or_right, and_from}
-use Rattle.std.proofs.lemmas.Bool.Decides.{Decides-eqb, nat_tests}
+use Rattle.std.proofs.lemmas.Bool.Decides.{Decides-eqb}
 use Rattle.fw_names.specs.Name.{Name, Campaign, name_of}
-use Rattle.fw_book.specs.declared.error.BookError.{BookError}
 use Rattle.fw_book.specs.declared.row.Row as book_row
 use Rattle.fw_book.specs.declared.row.RowState.{RowState}
 use Rattle.fw_book.specs.declared.row.RowState.TheVariants.{Live}
 use Rattle.fw_book.specs.Rows.{is_live, live_row, repeats, state_of, is_live_in}
-use Rattle.fw_book.specs.Contents.{Contents, Offered, max_image, max_meters, offered_in, state_in, has_serial, is_busy}
-use Rattle.fw_book.specs.Changes.{first_applying, opening_rows, opening_refusal, opened}
+use Rattle.fw_book.specs.Contents.{Contents, Offered, offered_in, state_in, has_serial, is_busy}
+use Rattle.fw_book.specs.Changes.{Opens, opened}
 use Rattle.fw_head.specs.Row.{Row, new_row}
 use Rattle.fw_head.specs.Head.{Rows, row_of, new_rows, IsRowOf, IsHead}
 use Rattle.fw_head.proofs.LiveRows.{some_row}
 use Rattle.fw_head.proofs.Marks.{skipped, first, live_is, none_live, state_at}
 use Rattle.fw_head.proofs.NewRows.{flipped}
-
--- ---- what an opening that nothing refuses has
-
-some_error : (e : BookError) → (let o : Option BookError = Some e in o ≡ None) → ⊥
-some_error e h = cc
-
--- where nothing refuses, no test is true
-tests_none : (tests : List (Bool × BookError)) → first_applying tests ≡ None → AllByRecursion (λ (test : Bool × BookError). test.0 ≡ false) tests
-tests_none [] h = tt
-tests_none (test ∷ tests) h =
-    ⊎_elim
-    (λ here. absurd (some_error test.1 (sym (cond-true test.0 (Some test.1) (first_applying tests) here) ∙ h)))
-    (λ other. (other, tests_none tests (sym (cond-false test.0 (Some test.1) (first_applying tests) other) ∙ h)))
-    (cases_Bool test.0)
-
-pub record Opens (book : Contents) (serial : ℕ) (image meters : List ℕ) : Type 0 where
-  pub serial_new : has_serial book serial ≡ false
-  pub image_fits : length image ≤ max_image
-  pub meters_few : length meters ≤ max_meters
-  pub meters_once : repeats meters ≡ false
-  pub meters_free : list_any (λ meter. is_busy book.campaigns meter) meters ≡ false
-
-pub opens : (book : Contents) (campaign : Campaign) (image meters : List ℕ) → opening_refusal book campaign image meters ≡ None → Opens book campaign.serial image meters
-opens book campaign image meters none =
-    let tests = tests_none (opening_rows book campaign image meters) none in
-    let short_image : ltb max_image (length image) ≡ false = tests.1.1.1.0 in
-    let few_meters : ltb max_meters (length meters) ≡ false = tests.1.1.1.1.1.0 in
-    record {
-      serial_new = tests.1.0;
-      image_fits = grind (arith, nat_tests);
-      meters_few = grind (arith, nat_tests);
-      meters_once = tests.1.1.1.1.1.1.0;
-      meters_free = tests.1.1.1.1.1.1.1.0;
-    }
 
 -- ---- entries behind others
 
@@ -245,8 +210,8 @@ once_behind (entry ∷ entries) meters once apart none =
     (all_append (λ m. nat_eq entry.0 m ≡ false) (keys_of entries) meters (IsDistinct-head nat_eq entry.0 (keys_of entries) once) first_apart)
     (once_behind entries meters (IsDistinct-tail nat_eq entry.0 (keys_of entries) once) apart others_none)
 
-pub all_once : (book : Contents) (width : ℕ) (rows : Rows) (serial : ℕ) (image meters : List ℕ) → IsHead (record { book = book; width = width; rows = rows }) → Opens book serial image meters → IsDistinct nat_eq (keys_of rows ++ meters)
-all_once book width rows serial image meters is o =
+pub all_once : (book : Contents) (width : ℕ) (rows : Rows) (campaign : Campaign) (image meters : List ℕ) → IsHead (record { book = book; width = width; rows = rows }) → Opens book campaign image meters → IsDistinct nat_eq (keys_of rows ++ meters)
+all_once book width rows campaign image meters is o =
     once_behind rows meters is.once (distinct_meters meters o.meters_once) (all_free book width rows meters is o.meters_free)
 
 keys_new : (name : Name) (size : ℕ) (meters : List ℕ) → keys_of (new_rows name size meters) ≡ meters
@@ -313,8 +278,8 @@ one_entry k serial new offer found =
     none_offer offer e = cc
 
 -- a meter that is live then has a row
-live_has_row : (book : Contents) (width : ℕ) (rows : Rows) (campaign : Campaign) (image meters : List ℕ) (c : Campaign) (m : ℕ) → campaign.head ≡ book.head → Opens book campaign.serial image meters → IsHead (record { book = book; width = width; rows = rows }) → state_in (opened book campaign.serial image meters) c m ≡ Some Live → (row : Row) × (row_of (rows ++ new_rows (name_of campaign image) (length image) meters) m ≡ Some row) × (row.name.campaign ≡ c)
-live_has_row book width rows campaign image meters c m own o is live =
+live_has_row : (book : Contents) (width : ℕ) (rows : Rows) (campaign : Campaign) (image meters : List ℕ) (c : Campaign) (m : ℕ) → Opens book campaign image meters → IsHead (record { book = book; width = width; rows = rows }) → state_in (opened book campaign.serial image meters) c m ≡ Some Live → (row : Row) × (row_of (rows ++ new_rows (name_of campaign image) (length image) meters) m ≡ Some row) × (row.name.campaign ≡ c)
+live_has_row book width rows campaign image meters c m o is live =
     let name = name_of campaign image in
     let new : Offered = record { image = image; rows = map live_row meters } in
     let es : List (ℕ × Offered) = (campaign.serial, new) ∷ [] in
@@ -326,7 +291,7 @@ live_has_row book width rows campaign image meters c m own o is live =
     let free : row_of rows m ≡ None = one_of (λ n. row_of rows n ≡ None) meters m (all_free book width rows meters is o.meters_free) there in (
       new_row m name (length image),
       found_behind m rows (new_rows name (length image) meters) free ∙ new_there name (length image) meters m there,
-      same_campaign campaign c (own ∙ sym ((Decides-eqb c.head book.head).0 at.0)) (sym one.0),
+      same_campaign campaign c (o.own ∙ sym ((Decides-eqb c.head book.head).0 at.0)) (sym one.0),
     ))
     (λ found.
     let before = found_before c.serial book.campaigns es found.0 found.1 in
@@ -336,8 +301,8 @@ live_has_row book width rows campaign image meters c m own o is live =
     (was.0, found_before m rows (new_rows name (length image) meters) was.0 was.1, was.2))
     (either (lookup (nat_eq c.serial) book.campaigns))
 
-head_opened : (book : Contents) (width : ℕ) (rows : Rows) (campaign : Campaign) (image meters : List ℕ) → campaign.head ≡ book.head → Opens book campaign.serial image meters → IsHead (record { book = book; width = width; rows = rows }) → IsHead (record { book = opened book campaign.serial image meters; width = width; rows = rows ++ new_rows (name_of campaign image) (length image) meters })
-head_opened book width rows campaign image meters own o is =
+head_opened : (book : Contents) (width : ℕ) (rows : Rows) (campaign : Campaign) (image meters : List ℕ) → Opens book campaign image meters → IsHead (record { book = book; width = width; rows = rows }) → IsHead (record { book = opened book campaign.serial image meters; width = width; rows = rows ++ new_rows (name_of campaign image) (length image) meters })
+head_opened book width rows campaign image meters o is =
     let name = name_of campaign image in
     let added = new_rows name (length image) meters in
     let P : ℕ → Row → Type 0 = λ m r. IsRowOf (opened book campaign.serial image meters) m r in
@@ -347,18 +312,18 @@ head_opened book width rows campaign image meters own o is =
           ⊎_elim
           (λ none.
           let found = new_found name (length image) meters m r (sym (found_behind m rows added none) ∙ at) in
-          subst (P m) (sym found.0) (new_is book campaign image meters m own o.serial_new found.1))
+          subst (P m) (sym found.0) (new_is book campaign image meters m o.own o.serial_new found.1))
           (λ was.
           let same : was.0 ≡ r = some_row was.0 r (sym (found_before m rows added was.0 was.1) ∙ at) in
           subst (P m) same (row_stays book campaign.serial image meters m was.0 (is.of_book m was.0 was.1)))
           (either (row_of rows m));
-      of_rows = λ c m live. live_has_row book width rows campaign image meters c m own o is live;
-      once = subst Q (sym (map-append (λ (entry : ℕ × Row). entry.0) rows added ∙ ap (λ (ks : List ℕ). keys_of rows ++ ks) (keys_new name (length image) meters))) (all_once book width rows campaign.serial image meters is o);
+      of_rows = λ c m live. live_has_row book width rows campaign image meters c m o is live;
+      once = subst Q (sym (map-append (λ (entry : ℕ × Row). entry.0) rows added ∙ ap (λ (ks : List ℕ). keys_of rows ++ ks) (keys_new name (length image) meters))) (all_once book width rows campaign image meters is o);
     }
 
 -- the same for a book and rows that equal these
-pub head_opened_by : (book new : Contents) (width : ℕ) (rows all : Rows) (campaign : Campaign) (image meters : List ℕ) → campaign.head ≡ book.head → Opens book campaign.serial image meters → new ≡ opened book campaign.serial image meters → all ≡ rows ++ new_rows (name_of campaign image) (length image) meters → IsHead (record { book = book; width = width; rows = rows }) → IsHead (record { book = new; width = width; rows = all })
-head_opened_by book new width rows all campaign image meters own o entered add is =
+pub head_opened_by : (book new : Contents) (width : ℕ) (rows all : Rows) (campaign : Campaign) (image meters : List ℕ) → Opens book campaign image meters → new ≡ opened book campaign.serial image meters → all ≡ rows ++ new_rows (name_of campaign image) (length image) meters → IsHead (record { book = book; width = width; rows = rows }) → IsHead (record { book = new; width = width; rows = all })
+head_opened_by book new width rows all campaign image meters o entered add is =
     let P : Contents → Type 0 = λ b. IsHead (record { book = b; width = width; rows = all }) in
     let Q : Rows → Type 0 = λ rs. IsHead (record { book = opened book campaign.serial image meters; width = width; rows = rs }) in
-    subst P (sym entered) (subst Q (sym add) (head_opened book width rows campaign image meters own o is))
+    subst P (sym entered) (subst Q (sym add) (head_opened book width rows campaign image meters o is))

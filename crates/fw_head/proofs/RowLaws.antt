@@ -1,5 +1,5 @@
 -- The laws of a row.
-use Rattle.std.proofs.Common.{◌≡◌, ℕ, ◌+◌, nat_lt, ◌==◌, Bool, true, false, List, length, slice_set, if◌then◌else◌, inl, inr, refl, sym, ap, subst, ◌∙◌}
+use Rattle.std.proofs.Common.{◌≡◌, ℕ, ◌+◌, nat_lt, ◌==◌, Bool, true, false, List, [], ◌∷◌, length, slice_set, if◌then◌else◌, inl, inr, refl, sym, ap, subst, ◌∙◌}
 use Rattle.fw_names.specs.Name.{Name}
 use Rattle.fw_blocks.specs.Cuts.{Partition}
 use Rattle.fw_blocks.specs.Members.{first_missing}
@@ -16,43 +16,26 @@ use Rattle.fw_head.specs.declared.answers.Step.{Step}
 use Rattle.fw_head.specs.declared.answers.Step.TheVariants.{Stay, Took, Move, Return}
 use Rattle.fw_head.specs.declared.news.RowNews.{RowNews}
 use Rattle.fw_head.specs.declared.news.RowNews.TheVariants as news
-use Rattle.fw_head.specs.Phase.{phase_of, Goes, LeadsSize, LeadsInfo, LeadsConfirm, Leads}
+use Rattle.fw_head.specs.Phase.{phase_of, rows, otherwise, First, Leads}
 use Rattle.fw_head.specs.Row.{Row, RowTakes, RowIgnores, max_returns, moved, settled, stepped, with_block, news_in}
 use Rattle.fw_head.specs.Inside.{StageHolds, StepHolds}
-use Rattle.fw_head.specs.Laws.{OneRow, Confirms, DoneByClaim}
+use Rattle.fw_head.specs.Laws.{OneRow, IsConfirmedBy, DoneByClaim}
 use Rattle.fw_head.proofs.OwnClaims.{Ended, ended_step}
 
 -- ---- one step
 
-one_way : (Fact : Type 0) (x y step other : Step) → Goes Fact x y step → Goes Fact x y other → step ≡ other
-one_way Fact x y step other (inl a) (inl b) = a.1 ∙ sym b.1
-one_way Fact x y step other (inl a) (inr b) = absurd (b.0 a.0)
-one_way Fact x y step other (inr a) (inl b) = absurd (a.0 b.0)
-one_way Fact x y step other (inr a) (inr b) = a.1 ∙ sym b.1
-
-one_size : (size : ℕ) (h : Heard) (step other : Step) → LeadsSize size h step → LeadsSize size h other → step ≡ other
-one_size size (heard.Number n) step other a b = one_way _ _ _ step other a b
-one_size size _ step other a b = a ∙ sym b
-
-one_info : (n : Name) (g : Partition) (h : Heard) (step other : Step) → LeadsInfo n g h step → LeadsInfo n g h other → step ≡ other
-one_info n g (heard.Info told) step other a b = one_way _ _ _ step other a b
-one_info n g _ step other a b = a ∙ sym b
-
-one_confirm : (n : Name) (g : Partition) (h : Heard) (step other : Step) → LeadsConfirm n g h step → LeadsConfirm n g h other → step ≡ other
-one_confirm n g (heard.Active claim) step other a b = one_way _ _ _ step other a b
-one_confirm n g _ step other a b = a ∙ sym b
-
-one_step : (n : Name) (size : ℕ) (stage : Stage) (h : Heard) (step other : Step) → Leads n size stage h step → Leads n size stage h other → step ≡ other
-one_step n size Size h step other a b = one_size size h step other a b
-one_step n size (Info g) h step other a b = one_info n g h step other a b
-one_step n size (Confirm g) h step other a b = one_confirm n g h step other a b
-one_step n size _ h step other a b = a ∙ sym b
+one_first : (rows : List ((Type 0) × Step)) (last step other : Step) → First rows last step → First rows last other → step ≡ other
+one_first [] last step other a b = a ∙ sym b
+one_first (row ∷ rows) last step other (inl a) (inl b) = a.1 ∙ sym b.1
+one_first (row ∷ rows) last step other (inl a) (inr b) = absurd (b.0 a.0)
+one_first (row ∷ rows) last step other (inr a) (inl b) = absurd (a.0 b.0)
+one_first (row ∷ rows) last step other (inr a) (inr b) = one_first rows last step other a.1 b.1
 
 both : OneHearing → (old new other : Row) (datagram : List ℕ) (told also : RowNews) → RowTakes old datagram told new → RowTakes old datagram also other → (told ≡ also) × (new ≡ other)
 both one old new other datagram told also a b =
     let same : (a.heard ≡ b.heard) × (a.client ≡ b.client) = one old.client a.client b.client datagram a.heard b.heard (inl a.takes) (inl b.takes) in
     let P : Heard → Type 0 = λ h. Leads old.name old.size old.stage h b.step in
-    let step : a.step ≡ b.step = one_step old.name old.size old.stage a.heard a.step b.step a.leads (subst P (sym same.0) b.leads) in
+    let step : a.step ≡ b.step = one_first (rows old.name old.size old.stage a.heard) (otherwise old.stage) a.step b.step a.leads (subst P (sym same.0) b.leads) in
     let row : new ≡ other =
     a.new_is
     ∙ ap (λ (c : State). stepped (record old { client = c }) a.step) same.1
@@ -113,7 +96,7 @@ ended_by E row (Move stage) claim live ends e = ended_stage E stage claim ends e
 ended_by E row (Return g) claim live ends e = absurd (return_done row g claim (nat_lt (row.returns + 1) max_returns) e)
 
 -- then it waited for the claim that it heard
-confirms : OnlyClaimed → (old new : Row) (datagram : List ℕ) (told : RowNews) (claim : Claim) → ¬ (phase_of old.stage ≡ phase.Done) → RowTakes old datagram told new → told ≡ news.Done claim → Confirms old datagram claim
+confirms : OnlyClaimed → (old new : Row) (datagram : List ℕ) (told : RowNews) (claim : Claim) → ¬ (phase_of old.stage ≡ phase.Done) → RowTakes old datagram told new → told ≡ news.Done claim → IsConfirmedBy old datagram claim
 confirms only old new datagram told claim live takes done =
     let told_so = sym (ap (λ (r : Row). news_in r.stage) takes.new_is) ∙ sym takes.told_is ∙ done in
     let ended = ended_by (Ended old.name old.stage takes.heard) (record old { client = takes.client }) takes.step claim live (ended_step old.name old.size old.stage takes.heard takes.step takes.leads) told_so in
@@ -127,16 +110,13 @@ abbrev IsConfirm : Phase → Type 0
 IsConfirm phase.Confirm = Unit {0}
 IsConfirm p = ⊥
 
-confirmed_here : (n : Name) (g : Partition) (claim : Claim) (step : Step) → claim.name ≡ n → LeadsConfirm n g (heard.Active claim) step → step ≡ Move (Done claim)
-confirmed_here n g claim step named (inl a) = a.1
-confirmed_here n g claim step named (inr a) = absurd (a.0 named)
-
 confirmed_step : (n : Name) (size : ℕ) (stage : Stage) (claim : Claim) (step : Step) → phase_of stage ≡ phase.Confirm → claim.name ≡ n → Leads n size stage (heard.Active claim) step → step ≡ Move (Done claim)
-confirmed_step n size (Confirm g) claim step waits named leads = confirmed_here n g claim step named leads
+confirmed_step n size (Confirm g) claim step waits named (inl here) = here.1
+confirmed_step n size (Confirm g) claim step waits named (inr other) = absurd (other.0 named)
 confirmed_step n size _ claim step waits named leads = absurd (subst IsConfirm (sym waits) tt)
 
 -- and such a claim ends it
-done : OnlyClaimed → (old new : Row) (datagram : List ℕ) (told : RowNews) (claim : Claim) → RowTakes old datagram told new → Confirms old datagram claim → told ≡ news.Done claim
+done : OnlyClaimed → (old new : Row) (datagram : List ℕ) (told : RowNews) (claim : Claim) → RowTakes old datagram told new → IsConfirmedBy old datagram claim → told ≡ news.Done claim
 done only old new datagram told claim takes confirms =
     let heard_is = (only old.client takes.client datagram takes.heard claim (inl takes.takes)).1 confirms.claimed in
     let P : Heard → Type 0 = λ h. Leads old.name old.size old.stage h takes.step in
@@ -146,7 +126,7 @@ done only old new datagram told claim takes confirms =
 stranger_active : (claim : Claim) → (let h : Heard = heard.Stranger in h ≡ heard.Active claim) → ⊥
 stranger_active claim e = cc
 
-unheard : OnlyClaimed → (old new : Row) (datagram : List ℕ) (told : RowNews) (claim : Claim) → RowIgnores old datagram told new → Confirms old datagram claim → ⊥
+unheard : OnlyClaimed → (old new : Row) (datagram : List ℕ) (told : RowNews) (claim : Claim) → RowIgnores old datagram told new → IsConfirmedBy old datagram claim → ⊥
 unheard only old new datagram told claim ignores confirms =
     stranger_active claim ((only old.client old.client datagram heard.Stranger claim (inr (ignores.0, refl, refl))).1 confirms.claimed)
 

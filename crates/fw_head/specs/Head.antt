@@ -11,7 +11,7 @@ use Rattle.fw_head.specs.declared.news.News.{News}
 use Rattle.fw_head.specs.declared.news.News.TheVariants as news
 use Rattle.fw_head.specs.declared.news.RowNews.{RowNews}
 use Rattle.fw_head.specs.declared.news.RowNews.TheVariants.{Nothing, Moved, Done, Failed}
-use Rattle.fw_head.specs.Row.{Row, new_row, sends, ticked, RowHears, IsPermitted}
+use Rattle.fw_head.specs.Row.{Row, new_row, sends, ticked, RowHears, RowMayWant, IsPermitted}
 
 -- the live rows, each behind the number of its meter
 abbrev pub Rows : Type 0
@@ -54,6 +54,10 @@ abbrev pub RowsHear : Rows → ℕ → List ℕ → RowNews → Rows → Type 0
 RowsHear old meter datagram told new =
     ((row next : Row) × (row_of old meter ≡ Some row) × RowHears row datagram told next × (new ≡ at_meter meter (λ was. next) old))
     ⊎ ((row_of old meter ≡ None) × (told ≡ Nothing) × (new ≡ old))
+
+-- the meter has a live row, which may want memory for the datagram
+abbrev pub RowsMayWant : Rows → ℕ → List ℕ → Type 0
+RowsMayWant rows meter datagram = (row : Row) × (row_of rows meter ≡ Some row) × RowMayWant row datagram
 
 -- ---- what each call makes of a head end
 

@@ -15,7 +15,7 @@ OneRow =
     → RowHears old datagram told new → RowHears old datagram also other → (told ≡ also) × (new ≡ other)
 
 -- a row in Confirm is answered by its meter's claim under the row's own name
-pub record Confirms (row : Row) (datagram : List ℕ) (claim : Claim) : Type 0 where
+pub record IsConfirmedBy (row : Row) (datagram : List ℕ) (claim : Claim) : Type 0 where
   pub waits : phase_of row.stage ≡ phase.Confirm
   pub claimed : IsClaimed row.client datagram claim
   pub named : claim.name ≡ row.name
@@ -25,4 +25,4 @@ abbrev pub DoneByClaim : Type 0
 DoneByClaim =
     (old new : Row) (datagram : List ℕ) (told : RowNews) (claim : Claim)
     → ¬ (phase_of old.stage ≡ phase.Done) → RowHears old datagram told new
-    → (told ≡ news.Done claim) ↔ Confirms old datagram claim
+    → (told ≡ news.Done claim) ↔ IsConfirmedBy old datagram claim

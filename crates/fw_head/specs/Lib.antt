@@ -1,5 +1,7 @@
+-- Public vocabulary: the words of public clauses, for callers and readers.
 pub mod Phase
 pub mod Row
 pub mod Head
-pub mod Inside
 pub mod Laws
+-- For private clauses and the models of the head end's types alone: no other public clause cites it.
+pub mod Inside

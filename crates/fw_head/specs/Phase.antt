@@ -1,9 +1,10 @@
 -- Public vocabulary: the table of a row's phases. What a tick asks in each phase, and where a matched answer leads
 -- (IEC 62056-6-2, Image transfer, procedure; the phases are own).
-use Rattle.std.specs.Prelude.{◌≡◌, ℕ, ◌==◌, nat_le, ◌⊎◌, Bool, false, List, [], ◌∷◌, map, length, replicate, Some, if◌then◌else◌}
+use Rattle.std.specs.Prelude.{◌≡◌, ℕ, ◌==◌, ◌<◌, ◌≤◌, ◌⊎◌, Bool, false, List, [], ◌∷◌, map, length, replicate, Some, if◌then◌else◌}
 use Rattle.fw_names.specs.Name.{Name}
 use Rattle.fw_blocks.specs.Cuts.{Partition, cut, block_count, IsWithinLimits}
 use Rattle.fw_blocks.specs.Members.{first_missing, window}
+use Rattle.fw_apdu.specs.Cosem.{success, temporary_failure, transfer_initiated, verification_initiated, verification_successful}
 use Rattle.fw_client.specs.Ask as ask
 use Rattle.fw_client.specs.declared.ask.Asked.TheVariants as asked
 use Rattle.fw_client.specs.declared.heard.Heard.{Heard}
@@ -65,75 +66,70 @@ asks_in name size image width Failed = []
 abbrev pub count : Partition → ℕ
 count g = block_count g.block_size g.size
 
--- the one step where the fact holds, and else the other
-abbrev pub Goes : Type 0 → Step → Step → Step → Type 0
-Goes Fact one other step = (Fact × (step ≡ one)) ⊎ ((¬ Fact) × (step ≡ other))
+-- no block is known
+abbrev pub none_known : Partition → List Bool
+none_known g = replicate (count g) false
 
--- a block size that makes the image one within the limits
-abbrev pub LeadsSize : ℕ → Heard → Step → Type 0
-LeadsSize size (heard.Number n) step = Goes (IsWithinLimits n size) (Move (Enable (record { block_size = n; size = size }))) (Move Failed) step
-LeadsSize size h step = step ≡ Move Failed
-
-abbrev pub from_enable : Partition → Heard → Step
-from_enable g (heard.Code a c) = if c == 0 then Move (Start g) else Move Failed
-from_enable g h = Move Failed
-
--- 0 begins the blocks with none known, and 2 (temporary-failure) waits
-abbrev pub from_start : Partition → Heard → Step
-from_start g (heard.Code a c) = if c == 0 then Move (Blocks g (replicate (count g) false)) else (if c == 2 then Stay else Move Failed)
-from_start g h = Move Failed
-
-abbrev pub from_blocks : Partition → Heard → Step
-from_blocks g (heard.Code (asked.Block number) c) = if c == 0 then Took number else Return g
-from_blocks g h = Return g
-
--- the first block that the meter lacks: none below the count
-abbrev pub from_check : Partition → Heard → Step
-from_check g (heard.Number n) = if nat_le (count g) n then Move (Verify g) else Move (Gaps g)
-from_check g h = Return g
-
--- The stage of a row that knows these blocks: where none is missing, the meter is asked whether it has them all.
+-- the stage of a row that knows these blocks: where none is missing, the meter is asked whether it has them all
 abbrev pub with_known : Partition → List Bool → Stage
 with_known g known = if first_missing known == length known then Check g else Blocks g known
 
--- the meter's own list of the blocks that it has, of the right length
-abbrev pub from_gaps : Partition → Heard → Step
-from_gaps g (heard.BitSet known) =
-    if length known == count g then Move (with_known g known) else Return g
-from_gaps g h = Return g
+-- The table: in this phase, where this is heard and the fact holds, the answer leads there.
+abbrev pub rows : Name → ℕ → Stage → Heard → List ((Type 0) × Step)
+rows name size Size (heard.Number n) =
+    (IsWithinLimits n size, Move (Enable (record { block_size = n; size = size }))) ∷ []
+rows name size (Enable g) (heard.Code a c) =
+    (c ≡ success, Move (Start g)) ∷ []
+rows name size (Start g) (heard.Code a c) =
+    (c ≡ success, Move (Blocks g (none_known g)))
+    ∷ (c ≡ temporary_failure, Stay) ∷ []
+rows name size (Blocks g known) (heard.Code (asked.Block number) c) =
+    (c ≡ success, Took number) ∷ []
+rows name size (Check g) (heard.Number n) =
+    (count g ≤ n, Move (Verify g))
+    ∷ (n < count g, Move (Gaps g)) ∷ []
+rows name size (Gaps g) (heard.BitSet known) =
+    (length known ≡ count g, Move (with_known g known)) ∷ []
+rows name size (Verify g) (heard.Code a c) =
+    (c ≡ success, Move (Info g))
+    ∷ (c ≡ temporary_failure, Move (Poll g)) ∷ []
+rows name size (Poll g) (heard.Status s) =
+    (s ≡ verification_successful, Move (Info g))
+    ∷ (s ≡ verification_initiated, Stay)
+    ∷ (s ≡ transfer_initiated, Move (Check g)) ∷ []
+rows name size (Info g) (heard.Info told) =
+    (told ≡ Some name, Move (Activate g)) ∷ []
+rows name size (Confirm g) (heard.Active claim) =
+    (claim.name ≡ name, Move (Done claim)) ∷ []
+rows name size stage h = []
 
-abbrev pub from_verify : Partition → Heard → Step
-from_verify g (heard.Code a c) = if c == 0 then Move (Info g) else (if c == 2 then Move (Poll g) else Return g)
-from_verify g h = Return g
+-- where any other answer leads
+abbrev pub otherwise : Stage → Step
+otherwise Size = Move Failed
+otherwise (Enable g) = Move Failed
+otherwise (Start g) = Move Failed
+otherwise (Blocks g known) = Return g
+otherwise (Check g) = Return g
+otherwise (Gaps g) = Return g
+otherwise (Verify g) = Return g
+otherwise (Poll g) = Return g
+otherwise (Info g) = Return g
+otherwise (Activate g) = Move (Confirm g)
+otherwise (Confirm g) = Return g
+otherwise (Done claim) = Stay
+otherwise Failed = Stay
 
--- 3 verification successful, 2 verification initiated, 1 initiated
-abbrev pub from_poll : Partition → Heard → Step
-from_poll g (heard.Status s) =
-    if s == 3 then Move (Info g) else (if s == 2 then Stay else (if s == 1 then Move (Check g) else Return g))
-from_poll g h = Return g
-
--- the meter holds the row's own image
-abbrev pub LeadsInfo : Name → Partition → Heard → Step → Type 0
-LeadsInfo name g (heard.Info told) step = Goes (told ≡ Some name) (Move (Activate g)) (Return g) step
-LeadsInfo name g h step = step ≡ Return g
-
--- the meter claims to run the row's own image
-abbrev pub LeadsConfirm : Name → Partition → Heard → Step → Type 0
-LeadsConfirm name g (heard.Active claim) step = Goes (claim.name ≡ name) (Move (Done claim)) (Return g) step
-LeadsConfirm name g h step = step ≡ Return g
+-- the first row whose fact holds, or the last step where none does
+abbrev pub First : List ((Type 0) × Step) → Step → Step → Type 0
+First [] last step = step ≡ last
+First (row ∷ rows) last step = (row.0 × (step ≡ row.1)) ⊎ ((¬ row.0) × First rows last step)
 
 -- from this phase of the row of this image, what was heard leads to this step
 abbrev pub Leads : Name → ℕ → Stage → Heard → Step → Type 0
-Leads name size Size h step = LeadsSize size h step
-Leads name size (Enable g) h step = step ≡ from_enable g h
-Leads name size (Start g) h step = step ≡ from_start g h
-Leads name size (Blocks g known) h step = step ≡ from_blocks g h
-Leads name size (Check g) h step = step ≡ from_check g h
-Leads name size (Gaps g) h step = step ≡ from_gaps g h
-Leads name size (Verify g) h step = step ≡ from_verify g h
-Leads name size (Poll g) h step = step ≡ from_poll g h
-Leads name size (Info g) h step = LeadsInfo name g h step
-Leads name size (Activate g) h step = step ≡ Move (Confirm g)
-Leads name size (Confirm g) h step = LeadsConfirm name g h step
-Leads name size (Done claim) h step = step ≡ Stay
-Leads name size Failed h step = step ≡ Stay
+Leads name size stage h step = First (rows name size stage h) (otherwise stage) step
+
+-- Only a list of known blocks takes memory: none of them at first, and then the meter's own.
+abbrev pub TakesMemory : Stage → Heard → Type 0
+TakesMemory (Start g) (heard.Code a c) = c ≡ success
+TakesMemory (Gaps g) (heard.BitSet known) = length known ≡ count g
+TakesMemory stage h = ⊥

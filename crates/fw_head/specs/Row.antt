@@ -3,11 +3,11 @@ use Rattle.std.specs.Prelude.{◌≡◌, ℕ, ◌+◌, ◌<◌, nat_lt, ◌⊎�
 use Rattle.std.specs.Global.{Vec}
 use Rattle.fw_names.specs.Name.{Name}
 use Rattle.fw_blocks.specs.Cuts.{Partition, IsWithinLimits, block_count, cut}
-use Rattle.fw_wrapper.specs.Wrapper.{wrapped, Wraps}
+use Rattle.fw_wrapper.specs.Wrapper.{wrapped}
 use Rattle.fw_apdu.specs.Request.{request_bytes}
 use Rattle.fw_client.specs.Ask.{Ask, initiate, block, request_of, kind_of}
 use Rattle.fw_client.specs.State.{State, fresh, asking, forgetting, invoke_byte}
-use Rattle.fw_client.specs.Hearing.{Takes, AnswersNone}
+use Rattle.fw_client.specs.Hearing.{Takes, AnswersNone, MayCarryData}
 use Rattle.fw_client.specs.declared.heard.Heard.{Heard}
 use Rattle.fw_head.specs.declared.stage.Stage.{Stage}
 use Rattle.fw_head.specs.declared.stage.Stage.TheVariants.{Size, Start, Blocks, Done, Failed}
@@ -15,7 +15,7 @@ use Rattle.fw_head.specs.declared.answers.Step.{Step}
 use Rattle.fw_head.specs.declared.answers.Step.TheVariants.{Stay, Took, Move, Return}
 use Rattle.fw_head.specs.declared.news.RowNews.{RowNews}
 use Rattle.fw_head.specs.declared.news.RowNews.TheVariants as news
-use Rattle.fw_head.specs.Phase.{asks_in, Leads, with_known}
+use Rattle.fw_head.specs.Phase.{asks_in, Leads, TakesMemory, with_known}
 
 pub record Row : Type 0 where
   -- the name and the size of the image that the meter is to run
@@ -139,6 +139,13 @@ RowIgnores old datagram told new = AnswersNone old.client datagram × (told ≡ 
 abbrev pub RowHears : Row → List ℕ → RowNews → Row → Type 0
 RowHears old datagram told new = RowTakes old datagram told new ⊎ RowIgnores old datagram told new
 
--- a datagram wraps an APDU from and to wPort 1, whatever it spells
-abbrev pub IsWrapped : List ℕ → Type 0
-IsWrapped datagram = (apdu : List ℕ) × Wraps datagram 1 1 apdu
+-- the client takes an answer, and the row begins a list of known blocks by it
+pub record TakesList (row : Row) (datagram : List ℕ) : Type 0 where
+  pub heard : Heard
+  pub client : State
+  pub takes : Takes row.client datagram heard client
+  pub wants : TakesMemory row.stage heard
+
+-- A row may want memory for a datagram only where its client may, or for such a list.
+abbrev pub RowMayWant : Row → List ℕ → Type 0
+RowMayWant row datagram = MayCarryData datagram ⊎ TakesList row datagram

@@ -1,9 +1,13 @@
 //! Where an answer leads, by the phase of the row that asked.
 
-ghost use Rattle.std.specs.Prelude.{◌≡◌, IfOk};
-ghost use Rattle.fw_head.specs.Phase.{Leads, LeadsSize, LeadsInfo, LeadsConfirm, from_enable, from_start, from_blocks, from_check, from_gaps, from_verify, from_poll};
+ghost use Rattle.std.specs.Prelude.{ℕ, Bool, List, IfOk, OnErr};
+ghost use Rattle.fw_names.specs.Name.{Name};
+ghost use Rattle.fw_head.specs.Phase.{Leads, TakesMemory};
 
 use crate::stage::{Stage, with_known};
+use fw_apdu::cosem::{
+    SUCCESS, TEMPORARY_FAILURE, TRANSFER_INITIATED, VERIFICATION_INITIATED, VERIFICATION_SUCCESSFUL,
+};
 use fw_blocks::{BlockSet, Geometry};
 use fw_client::{Asked, Heard};
 use fw_names::ImageName;
@@ -22,21 +26,6 @@ pub(crate) enum Step {
     Return(Geometry),
 }
 
-/// The code of success: Data-Access-Result and Action-Result 0 (IEC 62056-5-3).
-const SUCCESS: u8 = 0;
-
-/// The code temporary-failure of an Action-Result (IEC 62056-5-3).
-const TEMPORARY_FAILURE: u8 = 2;
-
-/// image_transfer_status: Image transfer initiated (IEC 62056-6-2).
-const INITIATED: u8 = 1;
-
-/// image_transfer_status: Image verification initiated.
-const VERIFYING: u8 = 2;
-
-/// image_transfer_status: Image verification successful.
-const VERIFIED: u8 = 3;
-
 /// Where an answer leads from a stage of the row of this image.
 pub(crate) fn next_step(
     alloc: Global,
@@ -45,26 +34,28 @@ pub(crate) fn next_step(
     stage: &Stage,
     heard: Heard,
 ) -> Result<Step, AllocError>
-    ensures { IfOk result (λ step. Leads name size stage.now heard step) }
+    ensures leads { IfOk result (λ step. Leads name size stage.now heard step) }
+    ensures memory { OnErr result (TakesMemory stage.now heard) }
 {
-    Ok(match stage {
-        Stage::Size => from_size(size, heard),
-        Stage::Enable(geometry) => from_enable(*geometry, heard),
-        Stage::Start(geometry) => from_start(alloc, *geometry, heard)?,
-        Stage::Blocks(geometry, _) => from_blocks(*geometry, heard),
-        Stage::Check(geometry) => from_check(*geometry, heard),
-        Stage::Gaps(geometry) => from_gaps(alloc, *geometry, heard)?,
-        Stage::Verify(geometry) => from_verify(*geometry, heard),
-        Stage::Poll(geometry) => from_poll(*geometry, heard),
-        Stage::Info(geometry) => from_info(name, *geometry, heard),
-        Stage::Activate(geometry) => Step::Move(Stage::Confirm(*geometry)),
-        Stage::Confirm(geometry) => from_confirm(name, *geometry, heard),
-        Stage::Done(_) | Stage::Failed => Step::Stay,
-    })
+    match stage {
+        Stage::Size => Ok(from_size(size, heard)),
+        Stage::Enable(geometry) => Ok(from_enable(*geometry, heard)),
+        Stage::Start(geometry) => from_start(alloc, *geometry, heard),
+        Stage::Blocks(geometry, _) => Ok(from_blocks(*geometry, heard)),
+        Stage::Check(geometry) => Ok(from_check(*geometry, heard)),
+        Stage::Gaps(geometry) => from_gaps(alloc, *geometry, heard),
+        Stage::Verify(geometry) => Ok(from_verify(*geometry, heard)),
+        Stage::Poll(geometry) => Ok(from_poll(*geometry, heard)),
+        Stage::Info(geometry) => Ok(from_info(name, *geometry, heard)),
+        Stage::Activate(geometry) => Ok(Step::Move(Stage::Confirm(*geometry))),
+        Stage::Confirm(geometry) => Ok(from_confirm(name, *geometry, heard)),
+        Stage::Done(_) | Stage::Failed => Ok(Step::Stay),
+    }
 }
 
+// The block size tells how the image is cut.
 fn from_size(size: u32, heard: Heard) -> Step
-    ensures { LeadsSize size heard result }
+    ensures { (name : Name) → Leads name size Stage.Size heard result }
 {
     match heard {
         Heard::Number(block_size) => match Geometry::new(block_size, size) {
@@ -75,8 +66,9 @@ fn from_size(size: u32, heard: Heard) -> Step
     }
 }
 
+// The meter takes images from here on.
 fn from_enable(geometry: Geometry, heard: Heard) -> Step
-    ensures { result ≡ from_enable geometry heard }
+    ensures { (name : Name) (size : ℕ) → Leads name size (Stage.Enable geometry) heard result }
 {
     match heard {
         Heard::Code { code: SUCCESS, .. } => Step::Move(Stage::Start(geometry)),
@@ -84,8 +76,10 @@ fn from_enable(geometry: Geometry, heard: Heard) -> Step
     }
 }
 
+// The meter has no block yet, or isn't ready.
 fn from_start(alloc: Global, geometry: Geometry, heard: Heard) -> Result<Step, AllocError>
-    ensures { IfOk result (λ step. step ≡ from_start geometry heard) }
+    ensures leads { IfOk result (λ step. (name : Name) (size : ℕ) → Leads name size (Stage.Start geometry) heard step) }
+    ensures memory { OnErr result (TakesMemory (Stage.Start geometry) heard) }
 {
     Ok(match heard {
         Heard::Code { code: SUCCESS, .. } => {
@@ -100,8 +94,9 @@ fn from_start(alloc: Global, geometry: Geometry, heard: Heard) -> Result<Step, A
     })
 }
 
+// The meter took a block.
 fn from_blocks(geometry: Geometry, heard: Heard) -> Step
-    ensures { result ≡ from_blocks geometry heard }
+    ensures { (name : Name) (size : ℕ) (known : List Bool) → Leads name size (Stage.Blocks geometry known) heard result }
 {
     match heard {
         Heard::Code {
@@ -112,8 +107,9 @@ fn from_blocks(geometry: Geometry, heard: Heard) -> Step
     }
 }
 
+// The first block that the meter lacks: a number at or above the count where it has all.
 fn from_check(geometry: Geometry, heard: Heard) -> Step
-    ensures { result ≡ from_check geometry heard }
+    ensures { (name : Name) (size : ℕ) → Leads name size (Stage.Check geometry) heard result }
 {
     match heard {
         Heard::Number(number) if geometry.count() <= number => {
@@ -124,8 +120,10 @@ fn from_check(geometry: Geometry, heard: Heard) -> Step
     }
 }
 
+// The blocks that the meter has.
 fn from_gaps(alloc: Global, geometry: Geometry, heard: Heard) -> Result<Step, AllocError>
-    ensures { IfOk result (λ step. step ≡ from_gaps geometry heard) }
+    ensures leads { IfOk result (λ step. (name : Name) (size : ℕ) → Leads name size (Stage.Gaps geometry) heard step) }
+    ensures memory { OnErr result (TakesMemory (Stage.Gaps geometry) heard) }
 {
     let Heard::BitSet(bits) = heard else {
         return Ok(Step::Return(geometry));
@@ -136,8 +134,9 @@ fn from_gaps(alloc: Global, geometry: Geometry, heard: Heard) -> Result<Step, Al
     }
 }
 
+// The image is verified, or the meter is still at it.
 fn from_verify(geometry: Geometry, heard: Heard) -> Step
-    ensures { result ≡ from_verify geometry heard }
+    ensures { (name : Name) (size : ℕ) → Leads name size (Stage.Verify geometry) heard result }
 {
     match heard {
         Heard::Code { code: SUCCESS, .. } => Step::Move(Stage::Info(geometry)),
@@ -149,19 +148,21 @@ fn from_verify(geometry: Geometry, heard: Heard) -> Step
     }
 }
 
+// How far the meter is.
 fn from_poll(geometry: Geometry, heard: Heard) -> Step
-    ensures { result ≡ from_poll geometry heard }
+    ensures { (name : Name) (size : ℕ) → Leads name size (Stage.Poll geometry) heard result }
 {
     match heard {
-        Heard::Status(VERIFIED) => Step::Move(Stage::Info(geometry)),
-        Heard::Status(VERIFYING) => Step::Stay,
-        Heard::Status(INITIATED) => Step::Move(Stage::Check(geometry)),
+        Heard::Status(VERIFICATION_SUCCESSFUL) => Step::Move(Stage::Info(geometry)),
+        Heard::Status(VERIFICATION_INITIATED) => Step::Stay,
+        Heard::Status(TRANSFER_INITIATED) => Step::Move(Stage::Check(geometry)),
         _ => Step::Return(geometry),
     }
 }
 
+// The image that the meter would activate.
 fn from_info(name: ImageName, geometry: Geometry, heard: Heard) -> Step
-    ensures { LeadsInfo name geometry heard result }
+    ensures { (size : ℕ) → Leads name size (Stage.Info geometry) heard result }
 {
     match heard {
         Heard::Info(Some(told)) if told == name => Step::Move(Stage::Activate(geometry)),
@@ -169,8 +170,9 @@ fn from_info(name: ImageName, geometry: Geometry, heard: Heard) -> Step
     }
 }
 
+// The image that runs.
 fn from_confirm(name: ImageName, geometry: Geometry, heard: Heard) -> Step
-    ensures { LeadsConfirm name geometry heard result }
+    ensures { (size : ℕ) → Leads name size (Stage.Confirm geometry) heard result }
 {
     let Heard::Active(claim) = heard else {
         return Step::Return(geometry);

@@ -1,6 +1,6 @@
 //! A head end: the book of its campaigns, and a row for each meter that is live in one of them.
 
-ghost use Rattle.std.specs.Prelude.{◌≡◌, ◌≤◌, All, None, IfOk, IfErr, IsOk, OnOk, OnErr};
+ghost use Rattle.std.specs.Prelude.{◌≡◌, ◌≤◌, All, None, IsSomeAnd, IfOk, IfErr, IsOk, OnOk, OnErr};
 ghost use Rattle.std.specs.Map.{values_of};
 ghost use Rattle.fw_names.specs.Name.{name_of};
 ghost use Rattle.fw_book.specs.Changes.{opening_refusal, cancel_refusal, IsRefusal};
@@ -39,8 +39,9 @@ impl Model for HeadCore {
 }
 
 impl HeadCore {
-    ghost use Rattle.fw_head.specs.Row.{bytes_of, IsWrapped};
-    ghost use Rattle.fw_head.specs.Head.{IsHead, new_head, campaign_at, opened_head, cancelled_head, restarted, sends_to, ticked_head, HeadHears, IsOfferedIn};
+    ghost use Rattle.fw_head.specs.Phase.{IsLive};
+    ghost use Rattle.fw_head.specs.Row.{bytes_of};
+    ghost use Rattle.fw_head.specs.Head.{IsHead, row_of, RowsMayWant, new_head, campaign_at, opened_head, cancelled_head, restarted, sends_to, ticked_head, HeadHears, IsOfferedIn};
 
     /// A head end of no campaign, that sends so many blocks at a time. It keeps the allocator, and takes no memory.
     pub fn new(alloc: Global, head: HeadId, width: Width) -> HeadCore
@@ -73,6 +74,7 @@ impl HeadCore {
         ensures refused { IfErr result (IsRefusal (opening_refusal self.old.book (campaign_at self.old serial) image.now meters.now)) }
         ensures same { OnErr result (self.new ≡ self.old) }
     {
+        fw_book::laws::admitted_opens();
         let campaign = self.campaign(serial);
         if self.rows.reserve(meters.len().min(MAX_METERS)).is_err() {
             self.book.check_opening(campaign, image, meters)?;
@@ -117,7 +119,8 @@ impl HeadCore {
     ///
     /// # Errors
     ///
-    /// `OutOfMemory` alone, and only for a datagram that wraps an APDU from and to wPort 1. The head end is then as before.
+    /// `OutOfMemory` alone, and only where the meter has a live row that may want memory for the datagram. The head end is then as
+    /// before.
     pub fn hear(
         &mut self,
         alloc: Global,
@@ -126,7 +129,7 @@ impl HeadCore {
     ) -> Result<News, OutOfMemory>
         ensures heard { IfOk result (λ told. HeadHears self.old from datagram.now told self.new) }
         ensures same { OnErr result (self.new ≡ self.old) }
-        ensures memory { OnErr result (IsWrapped datagram.now) }
+        ensures memory { OnErr result (RowsMayWant self.old.rows from datagram.now) }
     {
         let campaign = match self.rows.get(from) {
             Some(row) => row.name().campaign,
@@ -152,13 +155,14 @@ impl HeadCore {
     ///
     /// # Errors
     ///
-    /// `OutOfMemory` alone. The head end is then as before.
+    /// `OutOfMemory` alone, and only where the meter has a live row. The head end is then as before.
     pub fn tick(&mut self, alloc: Global, meter: MeterId) -> Result<Vec<Vec<u8>>, OutOfMemory>
         ensures sent { IfOk result (λ sent. bytes_of sent.items ≡ sends_to self.old meter) }
         // Each is one that a head end of this book may send.
         ensures permitted { IfOk result (λ sent. All (IsOfferedIn self.old.book) (bytes_of sent.items)) }
         ensures ticked { OnOk result (self.new ≡ ticked_head self.old meter) }
         ensures same { OnErr result (self.new ≡ self.old) }
+        ensures memory { OnErr result (IsSomeAnd (row_of self.old.rows meter) (λ row. IsLive row.stage)) }
     {
         let campaign = match self.rows.get(meter) {
             Some(row) => row.name().campaign,

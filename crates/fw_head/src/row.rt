@@ -48,7 +48,7 @@ impl Model for RowCore {
 }
 
 impl RowCore {
-    ghost use Rattle.fw_head.specs.Row.{Row, bytes_of, new_row, ticked, sends, stepped, moved, returned, settled, with_block, RowHears, IsPermitted, IsWrapped, news_in, tick_asks, datagrams, asking_all};
+    ghost use Rattle.fw_head.specs.Row.{Row, bytes_of, new_row, ticked, sends, stepped, moved, returned, settled, with_block, RowHears, IsPermitted, RowMayWant, news_in, tick_asks, datagrams, asking_all};
     ghost use Rattle.fw_head.specs.Phase.{phase_of, IsLive};
     ghost use Rattle.fw_head.specs.Inside.{IsCutOf, IsOwn, IsOwnStep, IsOwnNews};
 
@@ -115,7 +115,8 @@ impl RowCore {
     ) -> Result<Vec<Vec<u8>>, OutOfMemory>
         ensures sent { IfOk result (λ sent. bytes_of sent.items ≡ sends self.old image.now width) }
         // Where the image has the row's size, each datagram is one that a head end may send.
-        ensures permitted { IfOk result (λ sent. length image.now ≡ self.old.size → All (IsPermitted self.old.name image.now) (bytes_of sent.items)) }
+        ensures permitted { IfOk result (λ sent. length image.now ≡ self.old.size
+            → All (IsPermitted self.old.name image.now) (bytes_of sent.items)) }
         ensures ticked { OnOk result (self.new ≡ ticked self.old image.now width) }
         ensures same { OnErr result (self.new ≡ self.old) }
         ensures memory { OnErr result (IsLive self.old.stage) }
@@ -167,13 +168,14 @@ impl RowCore {
     ///
     /// # Errors
     ///
-    /// `OutOfMemory` alone, and only for a datagram that wraps an APDU from and to wPort 1. The row is then as before.
+    /// `OutOfMemory` alone, and only where the client may want memory, or where the answer tells which blocks the meter has. The row
+    /// is then as before.
     pub fn hear(&mut self, alloc: Global, datagram: &[u8]) -> Result<RowNews, OutOfMemory>
         ensures heard { IfOk result (λ told. RowHears self.old datagram.now told self.new) }
         // A claim that ends the row is of its own meter, under its own name.
         ensures claimed { IfOk result (IsOwnNews self.old.client.meter self.old.name) }
         ensures same { OnErr result (self.new ≡ self.old) }
-        ensures memory { OnErr result (IsWrapped datagram.now) }
+        ensures memory { OnErr result (RowMayWant self.old datagram.now) }
     {
         let mut client = self.client.duplicate();
         let heard = client.hear(alloc, datagram)?;

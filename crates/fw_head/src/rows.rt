@@ -1,13 +1,14 @@
 //! The live rows of a head end.
 
-ghost use Rattle.std.specs.Prelude.{◌≡◌, ◌≤◌, ◌==◌, nat_eq, not, true, [], All, ◌++◌, length, IfOk, OnOk, OnErr};
+ghost use Rattle.std.specs.Prelude.{◌≡◌, ◌≤◌, ◌==◌, nat_eq, not, true, [], All, ◌++◌, length, IsSomeAnd, IfOk, OnOk, OnErr};
 ghost use Rattle.std.specs.List.{IsDistinct};
 ghost use Rattle.std.specs.Map.{keys_of, values_of};
 ghost use Rattle.indexmap.specs.IndexMap.{spare};
 ghost use Rattle.std.specs.Option.{option_copied, option_map_or};
-ghost use Rattle.fw_head.specs.Row.{Row, bytes_of, new_row, sends, ticked, IsPermitted, IsWrapped};
+ghost use Rattle.fw_head.specs.Phase.{IsLive};
+ghost use Rattle.fw_head.specs.Row.{Row, bytes_of, new_row, sends, ticked, IsPermitted};
 ghost use Rattle.fw_head.specs.Inside.{IsOwnNews};
-ghost use Rattle.fw_head.specs.Head.{row_of, at_meter, without_meter, without_serial, new_rows, renewed, RowsHear};
+ghost use Rattle.fw_head.specs.Head.{row_of, at_meter, without_meter, without_serial, new_rows, renewed, RowsHear, RowsMayWant};
 
 use crate::news::RowNews;
 use crate::row::RowCore;
@@ -68,10 +69,13 @@ impl Rows {
         image: &[u8],
         width: Width,
     ) -> Result<Vec<Vec<u8>>, OutOfMemory>
-        ensures sent { IfOk result (λ sent. bytes_of sent.items ≡ option_map_or (λ row. sends row image.now width) (row_of self.old.rows.entries meter) []) }
-        ensures permitted { IfOk result (λ sent. (row : Row) → row_of self.old.rows.entries meter ≡ Some row → length image.now ≡ row.size → All (IsPermitted row.name image.now) (bytes_of sent.items)) }
+        ensures sent { IfOk result (λ sent. bytes_of sent.items
+            ≡ option_map_or (λ row. sends row image.now width) (row_of self.old.rows.entries meter) []) }
+        ensures permitted { IfOk result (λ sent. (row : Row) → row_of self.old.rows.entries meter ≡ Some row
+            → length image.now ≡ row.size → All (IsPermitted row.name image.now) (bytes_of sent.items)) }
         ensures ticked { OnOk result (self.new.rows.entries ≡ at_meter meter (λ row. ticked row image.now width) self.old.rows.entries) }
         ensures same { OnErr result (self.new.rows.entries ≡ self.old.rows.entries) }
+        ensures memory { OnErr result (IsSomeAnd (row_of self.old.rows.entries meter) (λ row. IsLive row.stage)) }
     {
         match self.rows.get_mut(&meter.number()) {
             Some(row) => row.tick(alloc, image, width),
@@ -87,9 +91,10 @@ impl Rows {
         datagram: &[u8],
     ) -> Result<RowNews, OutOfMemory>
         ensures heard { IfOk result (λ told. RowsHear self.old.rows.entries meter datagram.now told self.new.rows.entries) }
-        ensures claimed { IfOk result (λ told. (row : Row) → row_of self.old.rows.entries meter ≡ Some row → IsOwnNews row.client.meter row.name told) }
+        ensures claimed { IfOk result (λ told. (row : Row) → row_of self.old.rows.entries meter ≡ Some row
+            → IsOwnNews row.client.meter row.name told) }
         ensures same { OnErr result (self.new.rows.entries ≡ self.old.rows.entries) }
-        ensures memory { OnErr result (IsWrapped datagram.now) }
+        ensures memory { OnErr result (RowsMayWant self.old.rows.entries meter datagram.now) }
     {
         match self.rows.get_mut(&meter.number()) {
             Some(row) => row.hear(alloc, datagram),

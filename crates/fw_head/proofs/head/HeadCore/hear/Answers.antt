@@ -4,9 +4,10 @@ use Rattle.fw_names.specs.Name.{Name}
 use Rattle.fw_book.specs.declared.row.RowState.TheVariants.{Done, Failed}
 use Rattle.fw_book.specs.Changes.{marked}
 use Rattle.fw_head.specs.declared.news.RowNews.{RowNews}
-use Rattle.fw_head.specs.Head.{Head, Rows, RowsHear, HeadHears, row_of, without_meter}
+use Rattle.fw_head.specs.Head.{Head, Rows, RowsHear, RowsMayWant, HeadHears, row_of, without_meter}
 use Rattle.fw_head.proofs.Offers.{is_marked, claim_meter}
 use Rattle.fw_head.proofs.Endings.{head_ended_by, of_ok}
+use Rattle.fw_head.proofs.LiveRows.{told_err}
 use Rattle.fw_head.proofs.SameRows.{head_heard, name_heard}
 use Rattle.fw_head.proofs.TakenOut.{hears_nothing, hears_moved, hears_done, hears_failed}
 use Rattle.fw_head.proofs.head.HeadCore.hear.Goals.{in-Nothing, in-Moved, in-Done, in-Failed}
@@ -77,3 +78,8 @@ returns-clause-heard c =
           let marks = ap (λ b. (let h : Head = record { book = b; width = head.width; rows = without_meter c.args.from rows } in h)) mark in
           hears_failed head c.match-branch-2.self c.args.from c.args.datagram.now rows row c.match-branch-2.result c.campaign.inside.campaign (subst Q w.in-Failed.is c.in_ok-hear.ensures.heard) found of (w.self-is ∙ end ∙ marks) w.result-is
     ])
+
+pub returns-in_err-hear-clause-memory : goal.returns-in_err-hear-clause-memory
+returns-in_err-hear-clause-memory c =
+    let P : Head → Type 0 = λ h. RowsMayWant h.rows c.args.from c.args.datagram.now in
+    told_err c.from_residual.result (P c.args.self.now) (subst P c.self.view_is c.in_err-hear.ensures.memory)

@@ -1,10 +1,11 @@
 use Rattle.std.proofs.Common.{◌≡◌, ℕ, inl, inr, refl, sym, ap, ◌∙◌, subst}
 use Rattle.fw_client.specs.State.{State}
-use Rattle.fw_head.specs.Phase.{Leads}
+use Rattle.fw_head.specs.Phase.{Leads, TakesMemory}
 use Rattle.fw_head.specs.Inside.{IsOwn}
-use Rattle.fw_head.specs.Row.{Row, RowTakes, news_in, stepped}
+use Rattle.fw_head.specs.Row.{Row, RowTakes, TakesList, RowMayWant, news_in, stepped}
 use Rattle.fw_head.proofs.Heard.{strange_to, taken, taken_by, of_asked, kept_meter}
 use Rattle.fw_head.proofs.OwnClaims.{own_step, own_news}
+use Rattle.fw_head.proofs.LiveRows.{told_err}
 use Rattle.fw_head.proofs.SameRows.{goal_heard}
 use Rattle.fw_head.proofs.row.RowCore.hear.Goals as goal
 
@@ -19,7 +20,7 @@ take-requires c =
     let of = of_asked c.duplicate-client.result c.hear.new.self c.args.datagram.now c.in_ok-heard.heard (λ claim e. (c.in_ok-heard.ensures.claims claim).0 e) takes in
     let meter : c.self.inside.meter ≡ c.hear.new.self.meter = sym c.self.invariant.asks ∙ sym (ap (λ (s : State). s.meter) c.duplicate-client.ensures) ∙ sym (kept_meter c.duplicate-client.result c.hear.new.self c.args.datagram.now c.in_ok-heard.heard takes) in
     let P : ℕ → Type 0 = λ m. IsOwn m c.self.inside.name c.self.inside.size c.self.inside.stage in
-    own_step c.hear.new.self.meter c.self.inside.name c.self.inside.size c.self.inside.stage c.in_ok-heard.heard c.in_ok-step.step (subst P meter c.self.invariant.own) of c.in_ok-step.ensures
+    own_step c.hear.new.self.meter c.self.inside.name c.self.inside.size c.self.inside.stage c.in_ok-heard.heard c.in_ok-step.step (subst P meter c.self.invariant.own) of c.in_ok-step.ensures.leads
 
 pub returns : goal.returns
 returns c =
@@ -34,7 +35,7 @@ returns c =
       client = c.hear.new.self;
       step = c.in_ok-step.step;
       takes = takes;
-      leads = subst P view c.in_ok-step.ensures;
+      leads = subst P view c.in_ok-step.ensures.leads;
       new_is = c.take.ensures ∙ went;
       told_is = c.news.ensures ∙ told;
     } in
@@ -44,3 +45,15 @@ returns c =
     let name : c.self-2.inside.name ≡ c.args.self.now.name = ap (λ (r : Row). r.name) at_view ∙ kept.name in
     let own = own_news c.self-2.inside.meter c.args.self.now.client.meter c.self-2.inside.name c.args.self.now.name c.self-2.inside.size c.self-2.inside.stage c.news.result meter name c.news.ensures c.self-2.invariant.own in
     record { heard = inl takes_all; claimed = own; same = tt; memory = tt }
+
+pub returns-in_err-step-clause-memory : goal.returns-in_err-step-clause-memory
+returns-in_err-step-clause-memory c =
+    let same : c.duplicate-client.result ≡ c.args.self.now.client = c.duplicate-client.ensures ∙ ap (λ (r : Row). r.client) c.self.view_is in
+    let P : Row → Type 0 = λ r. TakesMemory r.stage c.in_ok-heard.heard in
+    let takes : TakesList c.args.self.now c.args.datagram.now = record {
+      heard = c.in_ok-heard.heard;
+      client = c.hear.new.self;
+      takes = taken_by c.duplicate-client.result c.args.self.now.client c.hear.new.self c.args.datagram.now c.in_ok-heard.heard same c.in_default.not-Stranger c.in_ok-heard.ensures.hears;
+      wants = subst P c.self.view_is c.in_err-step.ensures.memory;
+    } in
+    told_err c.from_residual-in_err-step.result (RowMayWant c.args.self.now c.args.datagram.now) (inr takes)

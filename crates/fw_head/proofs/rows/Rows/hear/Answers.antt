@@ -24,3 +24,10 @@ returns-in-Some-clause-claimed c =
     on_ok c.hear.result _ _
     (λ told own row at. own_of_row c.number.result c.args.meter told c.args.self.now.rows.entries c.in-Some.row.now row c.number.ensures found at own)
     c.hear.ensures.claimed
+
+pub returns-in-Some-clause-memory : goal.returns-in-Some-clause-memory
+returns-in-Some-clause-memory c =
+    let rows = c.args.self.now.rows.entries in
+    let found : lookup (nat_eq c.number.result) rows ≡ Some c.in-Some.row.now = sym c.get_mut.ensures.value ∙ ap option_copied_mut c.in-Some.is in
+    let at : lookup (nat_eq c.args.meter) rows ≡ Some c.in-Some.row.now = ap (λ k. lookup (nat_eq k) rows) (sym c.number.ensures) ∙ found in
+    on_err c.hear.result _ _ (λ e want. (c.in-Some.row.now, at, want)) c.hear.ensures.memory

@@ -1,6 +1,8 @@
-use Rattle.std.proofs.Common.{◌≡◌, nat_eq, Some, None, sym, ap, ◌∙◌}
+use Rattle.std.proofs.Common.{◌≡◌, nat_eq, Option, Some, None, sym, ap, subst, ◌∙◌}
+use Rattle.std.specs.Prelude.{IsSomeAnd}
 use Rattle.std.specs.Map.{lookup}
 use Rattle.std.specs.Option.{option_copied_mut}
+use Rattle.fw_head.specs.Phase.{IsLive}
 use Rattle.fw_head.specs.Row.{Row, ticked, bytes_of}
 use Rattle.fw_head.proofs.LiveRows.{changed_at, unchanged_at, none_at, on_ok, on_err}
 use Rattle.fw_head.proofs.Offered.{permitted_of}
@@ -31,3 +33,11 @@ returns-in-Some-clause-permitted c =
     on_ok c.tick.result _ _
     (λ sent may row at. permitted_of c.number.result c.args.meter c.args.image.now (bytes_of sent.items) c.args.self.now.rows.entries c.in-Some.row.now row c.number.ensures found at may)
     c.tick.ensures.permitted
+
+pub returns-in-Some-clause-memory : goal.returns-in-Some-clause-memory
+returns-in-Some-clause-memory c =
+    let rows = c.args.self.now.rows.entries in
+    let found : lookup (nat_eq c.number.result) rows ≡ Some c.in-Some.row.now = sym c.get_mut.ensures.value ∙ ap option_copied_mut c.in-Some.is in
+    let at : lookup (nat_eq c.args.meter) rows ≡ Some c.in-Some.row.now = ap (λ k. lookup (nat_eq k) rows) (sym c.number.ensures) ∙ found in
+    let P : Option Row → Type 0 = λ o. IsSomeAnd o (λ row. IsLive row.stage) in
+    on_err c.tick.result _ _ (λ e live. subst P (sym at) live) c.tick.ensures.memory
