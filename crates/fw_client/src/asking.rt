@@ -25,7 +25,8 @@ pub(crate) const PORT: u16 = 1;
 /// The datagram that asks, under this invoke byte.
 pub(crate) fn datagram(alloc: Global, invoke: Invoke, ask: &Ask<'_>) -> Result<Vec<u8>, OutOfMemory>
     requires { Fits (ask_of ask.now) }
-    ensures written { IfOk result (λ datagram. datagram.items ≡ wrapped 1 1 (request_bytes invoke.0 (request_of (ask_of ask.now)))) }
+    ensures written { IfOk result (λ datagram. datagram.items
+        ≡ wrapped 1 1 (request_bytes invoke.0 (request_of (ask_of ask.now)))) }
     ensures carries { IfOk result (λ datagram. CarriesRequest datagram.items invoke.0 (request_of (ask_of ask.now))) }
 {
     let apdu = match apdu(alloc, invoke, ask) {

@@ -79,13 +79,14 @@ impl Client {
     ///
     /// # Errors
     ///
-    /// `AllBusy` where that id is outstanding, and otherwise `OutOfMemory` alone, since each datagram takes memory. The client is then
-    /// as before.
+    /// `AllBusy` where that id is outstanding, and otherwise `OutOfMemory` alone, since each datagram takes memory. The client is
+    /// then as before.
     pub fn ask(&mut self, alloc: Global, ask: &Ask<'_>) -> Result<Vec<u8>, AskError>
         requires { Fits (ask_of ask.now) }
         ensures written { IfOk result (λ datagram. datagram.items
             ≡ wrapped 1 1 (request_bytes (invoke_byte self.old.next) (request_of (ask_of ask.now)))) }
-        ensures carries { IfOk result (λ datagram. CarriesRequest datagram.items (invoke_byte self.old.next) (request_of (ask_of ask.now))) }
+        ensures carries { IfOk result (λ datagram.
+            CarriesRequest datagram.items (invoke_byte self.old.next) (request_of (ask_of ask.now))) }
         ensures asked { IfOk result (λ _. self.new ≡ asking self.old (kind_of (ask_of ask.now))) }
         ensures busy { (result ≡ Err AskError.AllBusy) ↔ IsSome (get self.old.asks self.old.next) }
         ensures same { OnErr result (self.new ≡ self.old) }
@@ -113,12 +114,13 @@ impl Client {
     ///
     /// # Errors
     ///
-    /// `OutOfMemory`, and only for the bytes and elements of a value that a response to a GET or an ACTION returns. The client is then
-    /// as before.
+    /// `OutOfMemory`, and only for the bytes and elements of a value that a response to a GET or an ACTION returns. The client is
+    /// then as before.
     pub fn hear(&mut self, alloc: Global, datagram: &[u8]) -> Result<Heard, OutOfMemory>
         ensures hears { IfOk result (λ heard. Hears self.old datagram.now heard self.new) }
         // A claim is given exactly where the meter's answer spells it.
-        ensures claims { IfOk result (λ heard. (claim : Claim) → (heard ≡ Heard.Active claim) ↔ IsClaimed self.old datagram.now claim) }
+        ensures claims { IfOk result (λ heard. (claim : Claim)
+            → (heard ≡ Heard.Active claim) ↔ IsClaimed self.old datagram.now claim) }
         ensures same { OnErr result (self.new ≡ self.old) }
         ensures memory { OnErr result (MayCarryData datagram.now) }
     {
