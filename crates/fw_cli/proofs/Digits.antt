@@ -1,5 +1,5 @@
 -- Which texts are pairs of hexadecimal digits.
-use Rattle.std.proofs.Common.{◌≡◌, ℕ, ◌%◌, ◌-◌, Bool, true, false, List, [], ◌∷◌, length, Option, Some, None, Result, Ok, Err, refl, sym, ◌∙◌, arith}
+use Rattle.std.proofs.Common.{◌≡◌, ℕ, ◌%◌, ◌-◌, Bool, true, false, List, [], ◌∷◌, length, Some, None, Result, Ok, Err, refl, sym, ◌∙◌}
 use Rattle.std.specs.Prelude.{IsOk, is_some, nat_le, ◌&&◌, ◌||◌, if◌then◌else◌}
 use Rattle.std.specs.List.{list_all}
 use Rattle.std.specs.Char.{is_ascii_hexdigit}

@@ -132,7 +132,11 @@ fn describes_one(options: &AnswerOptions<'_>) -> bool
     ensures none { result ≡ false → DescribesNone options.now }
 {
     is_hexadecimal(options.factory.as_bytes())
-        && is_setup(options.block_size, options.capacity, options.factory.len() / 2)
+        && is_setup(
+            options.block_size,
+            options.capacity,
+            options.factory.len() / 2,
+        )
 }
 
 /// Whether a store can be made with these, and an image of so many bytes.

@@ -1,4 +1,3 @@
-use Rattle.std.proofs.Common.{sym, ◌∙◌, true, false}
 use Rattle.fw_cli.proofs.Described.{described, no_digits, no_setup}
 use Rattle.fw_cli.proofs.answer.describes_one.Goals as goal
 
