@@ -1,4 +1,3 @@
-mod Splices
 mod Blocks
 mod Meters
 mod Moves

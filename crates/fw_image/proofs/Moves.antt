@@ -20,7 +20,7 @@ use Rattle.fw_store.specs.declared.header.TransferStatus.{TransferStatus}
 use Rattle.fw_store.specs.declared.header.TransferStatus.TheVariants.{Initiated, VerificationSuccessful, VerificationFailed, ActivationSuccessful}
 use Rattle.fw_image.specs.Meter.{Meter, Phase, Cells, IsTrusted, status_of, goal_of, joined, goal_bytes, IsGenuine, idle, receiving, sealed, spoilt, switched}
 use Rattle.fw_image.specs.Shown.{shown_of}
-use Rattle.fw_image.specs.Step.{Operation, Outcome, done, refused, Refuses, Serves, Does, Leaves, IsOffer, begun, sealed_phase, spoilt_phase, switched_to, Admits, refusal_in, is_faultless, enable, initiate, block, verify, activate}
+use Rattle.fw_image.specs.Step.{Operation, OperationOutcome, done, refused, Refuses, Serves, Does, Leaves, IsOffer, begun, sealed_phase, spoilt_phase, switched_to, Admits, refusal_in, is_operation_faultless, enable, initiate, block, verify, activate}
 use Rattle.fw_image.specs.declared.error.Refusal.{Refusal}
 use Rattle.fw_image.specs.declared.error.Refusal.TheVariants.{Disabled, Fault, Missing, Differs}
 use Rattle.fw_image.specs.State.{Makes}
@@ -61,7 +61,7 @@ served_only m verify serves r line = method_only m verify r serves.0 serves.1 li
 served_only m activate serves r line = method_only m activate r serves.0 serves.1 line
 
 -- an operation that a line refuses
-pub makes_refused : {S : Type 0} (t : Ghosts S) (s : S) (h : Header) (operation : Operation) (r : Refusal) → IsTrue (is_faultless (refused r))
+pub makes_refused : {S : Type 0} (t : Ghosts S) (s : S) (h : Header) (operation : Operation) (r : Refusal) → IsTrue (is_operation_faultless (refused r))
     → Refuses (meter_of (t.capacity s) h (seen (t.honest s) (t.capacity s) (t.device s))) operation r
     → Makes (state_of t.honest t.sound t.capacity t.faults t.calls_left t.device s h) operation (refused r) (state_of t.honest t.sound t.capacity t.faults t.calls_left t.device s h)
 makes_refused t s h operation r faultless line = record {
@@ -73,9 +73,9 @@ makes_refused t s h operation r faultless line = record {
 }
 
 -- an operation that is served
-pub makes_served : {S : Type 0} (t : Ghosts S) (s s' : S) (h h' : Header) (operation : Operation) (outcome : Outcome)
-    → Keeps t.honest t.sound t.capacity t.faults s s' → t.faults s' ≡ count_after (is_faultless outcome) (t.faults s) → (IsTrue (t.sound s) → IsTrue (is_faultless outcome))
-    → Spends (calls_for (meter_of (t.capacity s) h (seen (t.honest s) (t.capacity s) (t.device s))) operation) (t.calls_left s) (t.calls_left s') (is_faultless outcome)
+pub makes_served : {S : Type 0} (t : Ghosts S) (s s' : S) (h h' : Header) (operation : Operation) (outcome : OperationOutcome)
+    → Keeps t.honest t.sound t.capacity t.faults s s' → t.faults s' ≡ count_after (is_operation_faultless outcome) (t.faults s) → (IsTrue (t.sound s) → IsTrue (is_operation_faultless outcome))
+    → Spends (calls_for (meter_of (t.capacity s) h (seen (t.honest s) (t.capacity s) (t.device s))) operation) (t.calls_left s) (t.calls_left s') (is_operation_faultless outcome)
     → Serves (meter_of (t.capacity s) h (seen (t.honest s) (t.capacity s) (t.device s))) operation
     → Does (t.honest s) (meter_of (t.capacity s) h (seen (t.honest s) (t.capacity s) (t.device s))) operation outcome (meter_of (t.capacity s) h' (seen (t.honest s) (t.capacity s) (t.device s')))
     → Makes (state_of t.honest t.sound t.capacity t.faults t.calls_left t.device s h) operation outcome (state_of t.honest t.sound t.capacity t.faults t.calls_left t.device s' h')
@@ -101,7 +101,7 @@ makes_failed t s s' h operation kept same counted never spends serves does =
     (does (meter_of (t.capacity s) h d) _ (leaves (t.honest s) (meter_of (t.capacity s) h d) _ (ap (meter_of (t.capacity s) h) e)))
 
 -- one that writes the header, once
-pub makes_written : {S : Type 0} (t : Ghosts S) (s s' : S) (h h' : Header) (operation : Operation) (outcome : Outcome) → IsTrue (is_faultless outcome)
+pub makes_written : {S : Type 0} (t : Ghosts S) (s s' : S) (h h' : Header) (operation : Operation) (outcome : OperationOutcome) → IsTrue (is_operation_faultless outcome)
     → ((slot : Slot) → IsTrue (t.honest s) → length (slot_bytes (t.device s) slot) ≡ t.capacity s)
     → Keeps t.honest t.sound t.capacity t.faults s s' → t.faults s' ≡ t.faults s → (IsTrue (t.honest s) → t.device s' ≡ with_head (t.device s) (header_bytes h'))
     → Spends (calls_for (meter_of (t.capacity s) h (seen (t.honest s) (t.capacity s) (t.device s))) operation) (t.calls_left s) (t.calls_left s') true
@@ -361,7 +361,7 @@ does_judged false honest capacity h d d' status goal bytes e same there phase wh
   λ b. not_genuine (meter_of capacity h d) goal bytes phase whole (λ same_digest. let bad = (digest b).1 same_digest in absurd cc),
 )
 
-pub judged_faultless : (genuine : Bool) → IsTrue (is_faultless (cond genuine done (refused Differs)))
+pub judged_faultless : (genuine : Bool) → IsTrue (is_operation_faultless (cond genuine done (refused Differs)))
 judged_faultless true = refl
 judged_faultless false = refl
 

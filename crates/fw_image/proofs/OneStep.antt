@@ -3,7 +3,7 @@ use Rattle.std.proofs.Common.{◌≡◌, ◌≢◌, ℕ, Bool, true, false, List
 use Rattle.fw_names.specs.Name.{Name}
 use Rattle.fw_image.specs.Laws.{OneStep}
 use Rattle.fw_image.specs.Meter.{Meter, goal_bytes, goal_of, IsGenuine}
-use Rattle.fw_image.specs.Step.{Operation, enable, initiate, block, verify, activate, Outcome, done, refused, Refuses, Serves, Admits, Does, refusal_in, begun, with_cell, sealed_phase, spoilt_phase, switched_to}
+use Rattle.fw_image.specs.Step.{Operation, enable, initiate, block, verify, activate, OperationOutcome, done, refused, Refuses, Serves, Admits, Does, refusal_in, begun, with_cell, sealed_phase, spoilt_phase, switched_to}
 use Rattle.fw_image.specs.declared.error.Refusal.{Refusal}
 use Rattle.fw_image.specs.declared.error.Refusal.TheVariants.{Disabled, BadInitiate, BadBlock, Missing, Fault, Differs}
 
@@ -42,10 +42,10 @@ refused_is_not_served m activate r h s = served m.enabled (refusal_in m.phase (a
 
 -- ---- what is done
 
-abbrev IsDone : Outcome → Meter → Meter → Type 0
+abbrev IsDone : OperationOutcome → Meter → Meter → Type 0
 IsDone outcome new this = (outcome ≡ done) × (new ≡ this)
 
-enabled : (old new : Meter) (b : Bool) (a : Outcome) → a ≢ refused Fault → Does true old (enable b) a new → IsDone a new (record old { enabled = b })
+enabled : (old new : Meter) (b : Bool) (a : OperationOutcome) → a ≢ refused Fault → Does true old (enable b) a new → IsDone a new (record old { enabled = b })
 enabled old new b done n h = (refl, h.is refl)
 enabled old new b (refused Disabled) n h = elim h [ ]
 enabled old new b (refused BadInitiate) n h = elim h [ ]
@@ -54,7 +54,7 @@ enabled old new b (refused Missing) n h = elim h [ ]
 enabled old new b (refused Fault) n h = absurd (n refl)
 enabled old new b (refused Differs) n h = elim h [ ]
 
-initiated : (old new : Meter) (name : Name) (size : ℕ) (a : Outcome) → a ≢ refused Fault → Does true old (initiate name size) a new → IsDone a new (begun old name size)
+initiated : (old new : Meter) (name : Name) (size : ℕ) (a : OperationOutcome) → a ≢ refused Fault → Does true old (initiate name size) a new → IsDone a new (begun old name size)
 initiated old new name size done n h = (refl, h.is refl)
 initiated old new name size (refused Disabled) n h = elim h [ ]
 initiated old new name size (refused BadInitiate) n h = elim h [ ]
@@ -63,7 +63,7 @@ initiated old new name size (refused Missing) n h = elim h [ ]
 initiated old new name size (refused Fault) n h = absurd (n refl)
 initiated old new name size (refused Differs) n h = elim h [ ]
 
-blocked : (old new : Meter) (i : ℕ) (value : List ℕ) (a : Outcome) → a ≢ refused Fault → Does true old (block i value) a new → IsDone a new (with_cell old i value)
+blocked : (old new : Meter) (i : ℕ) (value : List ℕ) (a : OperationOutcome) → a ≢ refused Fault → Does true old (block i value) a new → IsDone a new (with_cell old i value)
 blocked old new i value done n h = (refl, h.is refl)
 blocked old new i value (refused Disabled) n h = elim h [ ]
 blocked old new i value (refused BadInitiate) n h = elim h [ ]
@@ -72,7 +72,7 @@ blocked old new i value (refused Missing) n h = elim h [ ]
 blocked old new i value (refused Fault) n h = absurd (n refl)
 blocked old new i value (refused Differs) n h = elim h [ ]
 
-activated : (old new : Meter) (a : Outcome) → a ≢ refused Fault → Does true old activate a new → IsDone a new (switched_to old old.phase (goal_bytes old))
+activated : (old new : Meter) (a : OperationOutcome) → a ≢ refused Fault → Does true old activate a new → IsDone a new (switched_to old old.phase (goal_bytes old))
 activated old new done n h = (refl, h.is refl)
 activated old new (refused Disabled) n h = elim h [ ]
 activated old new (refused BadInitiate) n h = elim h [ ]
@@ -82,12 +82,12 @@ activated old new (refused Fault) n h = absurd (n refl)
 activated old new (refused Differs) n h = elim h [ ]
 
 -- a verify is done or refused by the digest
-abbrev Judged : Meter → Outcome → Meter → Type 0
+abbrev Judged : Meter → OperationOutcome → Meter → Type 0
 Judged old a new =
     (IsDone a new (record old { phase = sealed_phase old.phase }) × IsGenuine (goal_of old.phase) (goal_bytes old))
     ⊎ ((a ≡ refused Differs) × (new ≡ record old { phase = spoilt_phase old.phase }) × ¬ IsGenuine (goal_of old.phase) (goal_bytes old))
 
-judged : (old new : Meter) (a : Outcome) → a ≢ refused Fault → Does true old verify a new → Judged old a new
+judged : (old new : Meter) (a : OperationOutcome) → a ≢ refused Fault → Does true old verify a new → Judged old a new
 judged old new done n h = inl ((refl, h.0.is refl), h.1 refl)
 judged old new (refused Disabled) n h = elim h [ ]
 judged old new (refused BadInitiate) n h = elim h [ ]
@@ -96,19 +96,19 @@ judged old new (refused Missing) n h = elim h [ ]
 judged old new (refused Fault) n h = absurd (n refl)
 judged old new (refused Differs) n h = inr (refl, h.0.is refl, h.1 refl)
 
-abbrev Same : Outcome → Outcome → Meter → Meter → Type 0
+abbrev Same : OperationOutcome → OperationOutcome → Meter → Meter → Type 0
 Same a b new other = (a ≡ b) × (new ≡ other)
 
-both_done : (a b : Outcome) (new other this : Meter) → IsDone a new this → IsDone b other this → Same a b new other
+both_done : (a b : OperationOutcome) (new other this : Meter) → IsDone a new this → IsDone b other this → Same a b new other
 both_done a b new other this h k = (h.0 ∙ sym k.0, h.1 ∙ sym k.1)
 
-judged_once : (old new other : Meter) (a b : Outcome) → Judged old a new → Judged old b other → Same a b new other
+judged_once : (old new other : Meter) (a b : OperationOutcome) → Judged old a new → Judged old b other → Same a b new other
 judged_once old new other a b (inl h) (inl k) = both_done a b new other (record old { phase = sealed_phase old.phase }) h.0 k.0
 judged_once old new other a b (inl h) (inr k) = absurd (k.2 h.1)
 judged_once old new other a b (inr h) (inl k) = absurd (h.2 k.1)
 judged_once old new other a b (inr h) (inr k) = (h.0 ∙ sym k.0, h.1 ∙ sym k.1)
 
-done_once : (old new other : Meter) (operation : Operation) (a b : Outcome) → a ≢ refused Fault → b ≢ refused Fault
+done_once : (old new other : Meter) (operation : Operation) (a b : OperationOutcome) → a ≢ refused Fault → b ≢ refused Fault
     → Does true old operation a new → Does true old operation b other → Same a b new other
 done_once old new other (enable e) a b n m h k = both_done a b new other (record old { enabled = e }) (enabled old new e a n h) (enabled old other e b m k)
 done_once old new other (initiate name size) a b n m h k = both_done a b new other (begun old name size) (initiated old new name size a n h) (initiated old other name size b m k)

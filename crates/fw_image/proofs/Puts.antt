@@ -1,5 +1,5 @@
 -- Writes of a block are the steps of a meter.
-use Rattle.std.proofs.Common.{cond, ◌≡◌, ◌≢◌, ℕ, ◌+◌, ◌-◌, ◌*◌, ◌<◌, ◌≤◌, ◌||◌, ◌==◌, Bool, true, false, IsTrue, List, length, take, drop, Some, Option, ◌⊎◌, inl, inr, refl, sym, ap, subst, ◌∙◌, arith}
+use Rattle.std.proofs.Common.{cond, ◌≡◌, ◌≢◌, ℕ, ◌+◌, ◌-◌, ◌*◌, ◌<◌, ◌≤◌, ◌||◌, ◌==◌, Bool, true, false, IsTrue, List, length, take, drop, slice_range, Some, Option, ◌⊎◌, inl, inr, refl, sym, ap, subst, ◌∙◌, arith}
 use Rattle.std.specs.Prelude.{IfSome, is_some}
 use Rattle.std.specs.FinMap.{insert, get}
 use Rattle.std.proofs.lemmas.List.{length-take-le}
@@ -7,6 +7,7 @@ use Rattle.fw_blocks.specs.Cuts.{cut, block_start, block_end, block_count, max_b
 use Rattle.fw_blocks.specs.Members.{has}
 use Rattle.fw_blocks.specs.Laws.{OtherBlocksStay, BeginsWithin}
 use Rattle.fw_store.specs.Device.{Device, slot_bytes, written, splice, Torn}
+use Rattle.fw_store.specs.StoreLaws.{SpliceStands}
 use Rattle.fw_store.specs.Slot.{other}
 use Rattle.fw_store.specs.Header.{IsHeader, IsGoal, FieldsFit, goal_count, is_verified}
 use Rattle.fw_store.specs.declared.header.TransferStatus.TheVariants.{Initiated}
@@ -21,7 +22,6 @@ use Rattle.fw_image.specs.Shown.{shown_of}
 use Rattle.fw_image.specs.Step.{IsBlock, Admits, Serves, Leaves, Tears, block, with_cell}
 use Rattle.fw_image.specs.Stored.{phase_of, cells_of, blocks_below, meter_of, seen}
 use Rattle.fw_image.specs.Moves.{IsPlace}
-use Rattle.fw_image.proofs.Splices.{take_of_splice, length-splice, before_splice, behind_splice, there_in_splice}
 use Rattle.fw_image.proofs.Blocks.{blocks_put, blocks_kept, get_marked, is_some-get, mark_again}
 use Rattle.fw_image.proofs.Meters.{SameSlots, shown_is, seen_real, status_again}
 use Rattle.fw_image.proofs.Moves.{leaves}
@@ -43,24 +43,27 @@ block_ends law b size number start bytes value is =
 block_fits : BeginsWithin → (b size number start : ℕ) (bytes value : List ℕ) → Cuts b size number start bytes value → start + length value ≤ length bytes
 block_fits law b size number start bytes value is = omega (arith, block_ends law b size number start bytes value is, is.size_is)
 
-cut_here : BeginsWithin → (b size number start : ℕ) (bytes value : List ℕ) → Cuts b size number start bytes value → cut b (splice bytes start value) number ≡ value
-cut_here law b size number start bytes value is =
+cut_here : BeginsWithin → SpliceStands → (b size number start : ℕ) (bytes value : List ℕ) → Cuts b size number start bytes value → cut b (splice bytes start value) number ≡ value
+cut_here law stand b size number start bytes value is =
     let fits = block_fits law b size number start bytes value is in
     let ends = block_ends law b size number start bytes value is in
-    let same : length (splice bytes start value) ≡ size = length-splice bytes start value fits ∙ is.size_is in
+    let same : length (splice bytes start value) ≡ size = (stand bytes start value fits).size ∙ is.size_is in
     let to : block_end b (length (splice bytes start value)) number ≡ start + length value = ap (λ (n : ℕ). block_end b n number) same ∙ sym ends in
-    ap (λ (from : ℕ). take (block_end b (length (splice bytes start value)) number - from) (drop from (splice bytes start value))) (sym is.begins)
-    ∙ there_in_splice bytes start value (block_end b (length (splice bytes start value)) number) to fits
+    ap (λ (from : ℕ). slice_range (splice bytes start value) from (block_end b (length (splice bytes start value)) number)) (sym is.begins)
+    ∙ ap (slice_range (splice bytes start value) start) to
+    ∙ (stand bytes start value fits).there
 
-cut_elsewhere : OtherBlocksStay → BeginsWithin → (b size number start : ℕ) (bytes value : List ℕ) → Cuts b size number start bytes value
+cut_elsewhere : OtherBlocksStay → BeginsWithin → SpliceStands → (b size number start : ℕ) (bytes value : List ℕ) → Cuts b size number start bytes value
     → (k : ℕ) → k ≢ number → cut b (splice bytes start value) k ≡ cut b bytes k
-cut_elsewhere stay law b size number start bytes value is k apart =
+cut_elsewhere stay law stand b size number start bytes value is k apart =
     let fits = block_fits law b size number start bytes value is in
     let ends = block_ends law b size number start bytes value is in
     let to : block_end b (length bytes) number ≡ start + length value = ap (λ (n : ℕ). block_end b n number) is.size_is ∙ sym ends in
     let before : take (block_start b number) (splice bytes start value) ≡ take (block_start b number) bytes =
-    ap (λ (n : ℕ). take n (splice bytes start value)) (sym is.begins) ∙ before_splice bytes start value fits ∙ ap (λ (n : ℕ). take n bytes) is.begins in
-    stay b number k bytes (splice bytes start value) before (behind_splice bytes start value (block_end b (length bytes) number) to fits) apart
+    ap (λ (n : ℕ). take n (splice bytes start value)) (sym is.begins) ∙ (stand bytes start value fits).before ∙ ap (λ (n : ℕ). take n bytes) is.begins in
+    let behind : drop (block_end b (length bytes) number) (splice bytes start value) ≡ drop (block_end b (length bytes) number) bytes =
+    rw to (stand bytes start value fits).behind in
+    stay b number k bytes (splice bytes start value) before behind apart
 
 -- ---- the cells of a slot into which it was written
 
@@ -89,13 +92,14 @@ front_cuts capacity h spare goal number start value put =
     let fits : goal.size ≤ capacity = put.is_goal.fits in
     record { some = put.valid.block_size_begins; size_is = length-take-le goal.size spare (omega (arith, put.room)); is_block = put.is_block; begins = put.begins }
 
-front_after : BeginsWithin → (capacity : ℕ) (h : Header) (spare : List ℕ) (goal : Goal) (number start : ℕ) (value : List ℕ) → Put capacity h spare goal number start value
+front_after : BeginsWithin → SpliceStands → (capacity : ℕ) (h : Header) (spare : List ℕ) (goal : Goal) (number start : ℕ) (value : List ℕ) → Put capacity h spare goal number start value
     → take goal.size (splice spare start value) ≡ splice (take goal.size spare) start value
-front_after law capacity h spare goal number start value put =
+front_after law stand capacity h spare goal number start value put =
     let cuts = front_cuts capacity h spare goal number start value put in
     let fits : goal.size ≤ capacity = put.is_goal.fits in
     let within : start + length value ≤ length (take goal.size spare) = block_fits law h.block_size goal.size number start (take goal.size spare) value cuts in
-    take_of_splice spare start value goal.size (omega (arith, cuts.size_is)) (omega (arith, put.room))
+    let inside : start + length value ≤ length spare = omega (arith, cuts.size_is, put.room) in
+    (stand spare start value inside).front goal.size (omega (arith, cuts.size_is)) (omega (arith, put.room))
 
 pub slot_fits : BeginsWithin → (capacity : ℕ) (h : Header) (spare : List ℕ) (goal : Goal) (number start : ℕ) (value : List ℕ) → Put capacity h spare goal number start value → start + length value ≤ capacity
 slot_fits law capacity h spare goal number start value put =
@@ -104,22 +108,22 @@ slot_fits law capacity h spare goal number start value put =
     let within : start + length value ≤ length (take goal.size spare) = block_fits law h.block_size goal.size number start (take goal.size spare) value cuts in
     omega (arith, cuts.size_is)
 
-cells_put : OtherBlocksStay → BeginsWithin → (capacity : ℕ) (h : Header) (spare : List ℕ) (goal : Goal) (number start : ℕ) (value : List ℕ) (marks : List Bool) → Put capacity h spare goal number start value
+cells_put : OtherBlocksStay → BeginsWithin → SpliceStands → (capacity : ℕ) (h : Header) (spare : List ℕ) (goal : Goal) (number start : ℕ) (value : List ℕ) (marks : List Bool) → Put capacity h spare goal number start value
     → ((k : ℕ) → has marks k ≡ ((k == number) || has h.marks k)) → cells_of h.block_size marks (splice spare start value) (Some goal) ≡ insert (cells_of h.block_size h.marks spare (Some goal)) number value
-cells_put stay law capacity h spare goal number start value marks put marked =
+cells_put stay law stand capacity h spare goal number start value marks put marked =
     let b = h.block_size in
     let cuts = front_cuts capacity h spare goal number start value put in
-    ap (λ (l : List ℕ). blocks_below b marks l (block_count b goal.size)) (front_after law capacity h spare goal number start value put)
+    ap (λ (l : List ℕ). blocks_below b marks l (block_count b goal.size)) (front_after law stand capacity h spare goal number start value put)
     ∙ blocks_put b number (block_count b goal.size) h.marks marks (take goal.size spare) (splice (take goal.size spare) start value) value put.is_block.below marked
-    (cut_here law b goal.size number start (take goal.size spare) value cuts) (cut_elsewhere stay law b goal.size number start (take goal.size spare) value cuts)
+    (cut_here law stand b goal.size number start (take goal.size spare) value cuts) (cut_elsewhere stay law stand b goal.size number start (take goal.size spare) value cuts)
 
-cells_kept : OtherBlocksStay → BeginsWithin → (capacity : ℕ) (h : Header) (spare : List ℕ) (goal : Goal) (number start : ℕ) (value : List ℕ) → Put capacity h spare goal number start value
+cells_kept : OtherBlocksStay → BeginsWithin → SpliceStands → (capacity : ℕ) (h : Header) (spare : List ℕ) (goal : Goal) (number start : ℕ) (value : List ℕ) → Put capacity h spare goal number start value
     → has h.marks number ≡ false → cells_of h.block_size h.marks (splice spare start value) (Some goal) ≡ cells_of h.block_size h.marks spare (Some goal)
-cells_kept stay law capacity h spare goal number start value put unmarked =
+cells_kept stay law stand capacity h spare goal number start value put unmarked =
     let b = h.block_size in
     let cuts = front_cuts capacity h spare goal number start value put in
-    ap (λ (l : List ℕ). blocks_below b h.marks l (block_count b goal.size)) (front_after law capacity h spare goal number start value put)
-    ∙ blocks_kept b number (block_count b goal.size) h.marks (take goal.size spare) (splice (take goal.size spare) start value) unmarked (cut_elsewhere stay law b goal.size number start (take goal.size spare) value cuts)
+    ap (λ (l : List ℕ). blocks_below b h.marks l (block_count b goal.size)) (front_after law stand capacity h spare goal number start value put)
+    ∙ blocks_kept b number (block_count b goal.size) h.marks (take goal.size spare) (splice (take goal.size spare) start value) unmarked (cut_elsewhere stay law stand b goal.size number start (take goal.size spare) value cuts)
 
 -- ---- the meter of a device into whose spare slot it was written
 
@@ -155,15 +159,15 @@ meter_with capacity h m running goal marks spare = record {
   running = record { name = h.running_name; bytes = take h.running_size running };
 }
 
-pub meter_put : OtherBlocksStay → BeginsWithin → (capacity : ℕ) (h : Header) (d d' : Device) (goal : Goal) (number start : ℕ) (value : List ℕ) (marks : List Bool)
+pub meter_put : OtherBlocksStay → BeginsWithin → SpliceStands → (capacity : ℕ) (h : Header) (d d' : Device) (goal : Goal) (number start : ℕ) (value : List ℕ) (marks : List Bool)
     → Put capacity h (slot_bytes d (other h.running_slot)) goal number start value → ((k : ℕ) → has marks k ≡ ((k == number) || has h.marks k)) → Wrote h start value d d'
     → meter_of capacity (record h { marks = marks }) d' ≡ with_cell (meter_of capacity h d) number value
-meter_put stay law capacity h d d' goal number start value marks put marked is =
+meter_put stay law stand capacity h d d' goal number start value marks put marked is =
     let spare = slot_bytes d (other h.running_slot) in
     let cells : cells_of h.block_size marks (slot_bytes d' (other h.running_slot)) h.goal ≡ insert (cells_of h.block_size h.marks spare h.goal) number value =
     ap (λ (l : List ℕ). cells_of h.block_size marks l h.goal) is.spare
     ∙ ap (cells_of h.block_size marks (splice spare start value)) put.there
-    ∙ cells_put stay law capacity h spare goal number start value marks put marked
+    ∙ cells_put stay law stand capacity h spare goal number start value marks put marked
     ∙ sym (ap (λ (g : Option Goal). insert (cells_of h.block_size h.marks spare g) number value) put.there) in
     λ i. record {
       block_size = h.block_size;
@@ -174,15 +178,15 @@ meter_put stay law capacity h d d' goal number start value marks put marked is =
       running = record { name = h.running_name; bytes = take h.running_size (is.running i) };
     }
 
-pub meter_kept : OtherBlocksStay → BeginsWithin → (capacity : ℕ) (h : Header) (d d' : Device) (goal : Goal) (number start : ℕ) (value : List ℕ)
+pub meter_kept : OtherBlocksStay → BeginsWithin → SpliceStands → (capacity : ℕ) (h : Header) (d d' : Device) (goal : Goal) (number start : ℕ) (value : List ℕ)
     → Put capacity h (slot_bytes d (other h.running_slot)) goal number start value → has h.marks number ≡ false → Wrote h start value d d'
     → meter_of capacity h d' ≡ meter_of capacity h d
-meter_kept stay law capacity h d d' goal number start value put unmarked is =
+meter_kept stay law stand capacity h d d' goal number start value put unmarked is =
     let spare = slot_bytes d (other h.running_slot) in
     let cells : cells_of h.block_size h.marks (slot_bytes d' (other h.running_slot)) h.goal ≡ cells_of h.block_size h.marks spare h.goal =
     ap (λ (l : List ℕ). cells_of h.block_size h.marks l h.goal) is.spare
     ∙ ap (cells_of h.block_size h.marks (splice spare start value)) put.there
-    ∙ cells_kept stay law capacity h spare goal number start value put unmarked
+    ∙ cells_kept stay law stand capacity h spare goal number start value put unmarked
     ∙ sym (ap (cells_of h.block_size h.marks spare) put.there) in
     λ i. record {
       block_size = h.block_size;
@@ -195,31 +199,31 @@ meter_kept stay law capacity h d d' goal number start value put unmarked is =
 
 -- ---- what a meter over a store that is honest or not does
 
-sized_written : (capacity : ℕ) (d : Device) (at : ℕ) (slot : Slot) (bytes : List ℕ) → ((s : Slot) → length (slot_bytes d s) ≡ capacity) → at + length bytes ≤ capacity → (s : Slot) → length (slot_bytes (written d slot at bytes) s) ≡ capacity
-sized_written capacity d at First bytes sized fits First = length-splice d.first at bytes (omega (arith, sized First)) ∙ sized First
-sized_written capacity d at First bytes sized fits Second = sized Second
-sized_written capacity d at Second bytes sized fits First = sized First
-sized_written capacity d at Second bytes sized fits Second = length-splice d.second at bytes (omega (arith, sized Second)) ∙ sized Second
+sized_written : SpliceStands → (capacity : ℕ) (d : Device) (at : ℕ) (slot : Slot) (bytes : List ℕ) → ((s : Slot) → length (slot_bytes d s) ≡ capacity) → at + length bytes ≤ capacity → (s : Slot) → length (slot_bytes (written d slot at bytes) s) ≡ capacity
+sized_written stand capacity d at First bytes sized fits First = (stand d.first at bytes (omega (arith, sized First))).size ∙ sized First
+sized_written stand capacity d at First bytes sized fits Second = sized Second
+sized_written stand capacity d at Second bytes sized fits First = sized First
+sized_written stand capacity d at Second bytes sized fits Second = (stand d.second at bytes (omega (arith, sized Second))).size ∙ sized Second
 
 -- the block is there
-pub leaves_put : OtherBlocksStay → BeginsWithin → (honest : Bool) (capacity : ℕ) (h : Header) (d d' : Device) (number start : ℕ) (value : List ℕ) (marks : List Bool)
+pub leaves_put : OtherBlocksStay → BeginsWithin → SpliceStands → (honest : Bool) (capacity : ℕ) (h : Header) (d d' : Device) (number start : ℕ) (value : List ℕ) (marks : List Bool)
     → IsHeader capacity h → IsHeader capacity (record h { marks = marks }) → ((s : Slot) → length (slot_bytes (seen honest capacity d) s) ≡ capacity) → ((s : Slot) → length (slot_bytes (seen honest capacity d') s) ≡ capacity)
     → IsPlace h number value start → ((k : ℕ) → has marks k ≡ ((k == number) || has h.marks k)) → (IsTrue honest → Wrote h start value d d')
     → Leaves honest (with_cell (meter_of capacity h (seen honest capacity d)) number value) (meter_of capacity (record h { marks = marks }) (seen honest capacity d'))
-leaves_put stay law honest capacity h d d' number start value marks valid valid' sized sized' place marked is =
+leaves_put stay law stand honest capacity h d d' number start value marks valid valid' sized sized' place marked is =
     let old = seen honest capacity d in
     let new = seen honest capacity d' in
     let virtual = written old (other h.running_slot) start value in
     let put = is_put capacity h (slot_bytes old (other h.running_slot)) number start value valid (sized (other h.running_slot)) place in
     let fits = slot_fits law capacity h (slot_bytes old (other h.running_slot)) place.goal number start value put in
-    let stands = meter_put stay law capacity h old virtual place.goal number start value marks put marked (wrote h (other h.running_slot) start value old virtual refl refl) in
+    let stands = meter_put stay law stand capacity h old virtual place.goal number start value marks put marked (wrote h (other h.running_slot) start value old virtual refl refl) in
     let shown : shown_of (meter_of capacity (record h { marks = marks }) new) ≡ shown_of (meter_of capacity (record h { marks = marks }) virtual) =
-    shown_is capacity (record h { marks = marks }) new valid' sized' ∙ sym (shown_is capacity (record h { marks = marks }) virtual valid' (sized_written capacity old start (other h.running_slot) value sized fits)) in
+    shown_is capacity (record h { marks = marks }) new valid' sized' ∙ sym (shown_is capacity (record h { marks = marks }) virtual valid' (sized_written stand capacity old start (other h.running_slot) value sized fits)) in
     record {
       shows = shown ∙ ap shown_of stands;
       is = λ b.
           let there : Wrote h start value old new = rw (seen_real honest capacity d b, seen_real honest capacity d' b) (is b) in
-          meter_put stay law capacity h old new place.goal number start value marks put marked there;
+          meter_put stay law stand capacity h old new place.goal number start value marks put marked there;
     }
 
 mark_or_not : (mark : Bool) → (mark ≡ true) ⊎ (mark ≡ false)
@@ -227,11 +231,11 @@ mark_or_not true = inl refl
 mark_or_not false = inr refl
 
 -- any bytes may be there
-pub tears_put : OtherBlocksStay → BeginsWithin → (honest : Bool) (capacity : ℕ) (h : Header) (d d' : Device) (slot : Slot) (number start : ℕ) (value : List ℕ)
+pub tears_put : OtherBlocksStay → BeginsWithin → SpliceStands → (honest : Bool) (capacity : ℕ) (h : Header) (d d' : Device) (slot : Slot) (number start : ℕ) (value : List ℕ)
     → IsHeader capacity h → ((s : Slot) → length (slot_bytes (seen honest capacity d) s) ≡ capacity) → IsPlace h number value start → slot ≡ other h.running_slot → (IsTrue honest → Torn d slot start (length value) d')
     → Tears honest (meter_of capacity h (seen honest capacity d)) number value (meter_of capacity h (seen honest capacity d'))
-tears_put stay law false capacity h d d' slot number start value valid sized place turned torn = inl (leaves false _ _ refl)
-tears_put stay law true capacity h d d' slot number start value valid sized place turned torn =
+tears_put stay law stand false capacity h d d' slot number start value valid sized place turned torn = inl (leaves false _ _ refl)
+tears_put stay law stand true capacity h d d' slot number start value valid sized place turned torn =
     let is = torn refl in
     let spare = slot_bytes d (other h.running_slot) in
     let place' : IsPlace h number is.left start = record {
@@ -251,9 +255,9 @@ tears_put stay law true capacity h d d' slot number start value valid sized plac
             is.left,
             cell,
             is.size,
-            leaves true _ _ (meter_put stay law capacity h d d' place.goal number start is.left h.marks put (mark_again h.marks number marked) there),
+            leaves true _ _ (meter_put stay law stand capacity h d d' place.goal number start is.left h.marks put (mark_again h.marks number marked) there),
           )
-      | inr unmarked ↦ inl (leaves true _ _ (meter_kept stay law capacity h d d' place.goal number start is.left put unmarked there))
+      | inr unmarked ↦ inl (leaves true _ _ (meter_kept stay law stand capacity h d d' place.goal number start is.left put unmarked there))
     ]
 
 pub served_block : (m : Meter) (goal : Goal) (number : ℕ) (value : List ℕ) → m.enabled ≡ true → m.phase ≡ receiving goal → IsBlock m.block_size goal.size number value → Serves m (block number value)

@@ -5,7 +5,7 @@ use Rattle.fw_store.specs.Fresh.{fresh_device}
 use Rattle.fw_store.specs.Setup.{IsSetup}
 use Rattle.fw_image.specs.Fresh.{fresh_meter}
 use Rattle.fw_image.specs.Meter.{Meter, IsTrusted}
-use Rattle.fw_image.specs.Step.{Operation, Outcome, refused, Step}
+use Rattle.fw_image.specs.Step.{Operation, OperationOutcome, refused, Step}
 use Rattle.fw_image.specs.Stored.{IsMeterOf}
 use Rattle.fw_image.specs.declared.error.Refusal.TheVariants.{Fault}
 
@@ -21,5 +21,5 @@ FreshIsMeter = (block_size capacity : ℕ) (factory : List ℕ) → IsSetup bloc
 
 -- over an honest store, where no call of it failed, a meter and an operation determine what is told and the meter afterwards
 abbrev pub OneStep : Type 0
-OneStep = (old new other : Meter) (operation : Operation) (a b : Outcome) → Step true old operation a new → Step true old operation b other
+OneStep = (old new other : Meter) (operation : Operation) (a b : OperationOutcome) → Step true old operation a new → Step true old operation b other
     → a ≢ refused Fault → b ≢ refused Fault → (a ≡ b) × (new ≡ other)

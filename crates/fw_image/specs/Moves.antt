@@ -6,10 +6,10 @@ use Rattle.fw_store.specs.declared.header.Header.{Header}
 use Rattle.fw_store.specs.declared.header.Goal.{Goal}
 use Rattle.fw_store.specs.declared.header.TransferStatus.TheVariants.{VerificationSuccessful}
 use Rattle.fw_image.specs.Meter.{Meter, status_of, goal_of, goal_bytes, IsGenuine}
-use Rattle.fw_image.specs.Step.{Outcome, done, refused, IsBlock}
+use Rattle.fw_image.specs.Step.{OperationOutcome, done, refused, IsBlock}
 use Rattle.fw_image.specs.declared.error.Refusal.{Refusal}
 
-abbrev pub outcome_of : {A : Type 0} → Result A Refusal → Outcome
+abbrev pub outcome_of : {A : Type 0} → Result A Refusal → OperationOutcome
 outcome_of (Ok a) = done
 outcome_of (Err refusal) = refused refusal
 

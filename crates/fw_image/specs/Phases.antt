@@ -2,7 +2,7 @@
 use Rattle.std.specs.Prelude.{◌≡◌, ◌≢◌, Result, Ok, Err}
 use Rattle.fw_store.specs.declared.header.TransferStatus.TheVariants as status
 use Rattle.fw_image.specs.Meter.{status_of}
-use Rattle.fw_image.specs.Step.{Outcome, done, refused}
+use Rattle.fw_image.specs.Step.{OperationOutcome, done, refused}
 use Rattle.fw_image.specs.State.{State}
 use Rattle.fw_image.specs.declared.error.Refusal.{Refusal}
 use Rattle.fw_image.specs.declared.error.Refusal.TheVariants as refusal
@@ -13,7 +13,7 @@ use Rattle.fw_image.specs.declared.phase.Phase.TheVariants.{Idle, Receiving, Ver
 
 -- ---- what a verification answers, and the state that it leaves
 
-abbrev pub told_verified : {A S : Type 0} → Result A (NotVerified S) → Outcome
+abbrev pub told_verified : {A S : Type 0} → Result A (NotVerified S) → OperationOutcome
 told_verified (Ok next) = done
 told_verified (Err (Refused r back)) = refused r
 told_verified (Err (Differs spoilt)) = refused refusal.Differs

@@ -3,7 +3,7 @@ use Rattle.std.specs.Prelude.{◌≡◌, ◌≤◌, ℕ, Bool, IsTrue, Option, R
 use Rattle.fw_store.specs.Device.{Device}
 use Rattle.fw_store.specs.Faults.{count_after, Spends}
 use Rattle.fw_image.specs.Meter.{Meter}
-use Rattle.fw_image.specs.Step.{Operation, Outcome, done, refused, Refuses, Serves, Step, is_faultless}
+use Rattle.fw_image.specs.Step.{Operation, OperationOutcome, done, refused, Refuses, Serves, Step, is_operation_faultless}
 use Rattle.fw_image.specs.Calls.{calls_for}
 use Rattle.fw_image.specs.declared.error.Refusal.{Refusal}
 
@@ -35,16 +35,16 @@ pub record Counts (old new : State) (faultless : Bool) : Type 0 where
 
 -- From old, a state makes the step of this operation with this outcome and goes on to new. What a line refuses makes no call of the
 -- store, and any other operation makes its calls, one that fails being the last of them. A fault is told just where one failed.
-pub record Makes (old : State) (operation : Operation) (outcome : Outcome) (new : State) : Type 0 where
+pub record Makes (old : State) (operation : Operation) (outcome : OperationOutcome) (new : State) : Type 0 where
   pub step : Step old.honest old.meter operation outcome new.meter
   pub untouched : (r : Refusal) → Refuses old.meter operation r → new ≡ old
   pub follows : Follows old new
-  pub counts : Counts old new (is_faultless outcome)
-  pub spends : Serves old.meter operation → Spends (calls_for old.meter operation) old.calls_left new.calls_left (is_faultless outcome)
+  pub counts : Counts old new (is_operation_faultless outcome)
+  pub spends : Serves old.meter operation → Spends (calls_for old.meter operation) old.calls_left new.calls_left (is_operation_faultless outcome)
 
 -- ---- what a call answers, and the state that it leaves
 
-abbrev pub told : {A B : Type 0} → Result A (Refusal × B) → Outcome
+abbrev pub told : {A B : Type 0} → Result A (Refusal × B) → OperationOutcome
 told (Ok next) = done
 told (Err e) = refused e.0
 

@@ -17,14 +17,14 @@ pub data Operation : Type 0 where
   activate : Operation
 
 -- an operation is done, or refused
-pub data Outcome : Type 0 where
-  done : Outcome
-  refused : Refusal → Outcome
+pub data OperationOutcome : Type 0 where
+  done : OperationOutcome
+  refused : Refusal → OperationOutcome
 
 -- no call of the store failed
-abbrev pub is_faultless : Outcome → Bool
-is_faultless (refused Fault) = false
-is_faultless outcome = true
+abbrev pub is_operation_faultless : OperationOutcome → Bool
+is_operation_faultless (refused Fault) = false
+is_operation_faultless outcome = true
 
 -- ---- the lines before any call of the store
 
@@ -102,7 +102,7 @@ Tears honest old i value new =
     Leaves honest old new
     ⊎ ((there any : List ℕ) × (get old.cells i ≡ Some there) × (length any ≡ length value) × Leaves honest (with_cell old i any) new)
 
-abbrev pub Does : Bool → Meter → Operation → Outcome → Meter → Type 0
+abbrev pub Does : Bool → Meter → Operation → OperationOutcome → Meter → Type 0
 Does honest old (enable b) done new = Leaves honest (record old { enabled = b }) new
 Does honest old (initiate name size) done new = Leaves honest (begun old name size) new
 Does honest old (block i value) done new = Leaves honest (with_cell old i value) new
@@ -118,17 +118,17 @@ Does honest old operation (refused r) new = ⊥
 -- ---- the step
 
 -- a line refuses the operation, and the meter is as it was
-pub record IsRefused (honest : Bool) (old : Meter) (operation : Operation) (outcome : Outcome) (new : Meter) : Type 0 where
+pub record IsRefused (honest : Bool) (old : Meter) (operation : Operation) (outcome : OperationOutcome) (new : Meter) : Type 0 where
   pub refusal : Refusal
   pub line : Refuses old operation refusal
   pub told : outcome ≡ refused refusal
   pub same : Leaves honest old new
 
 -- no line refuses it
-pub record IsServed (honest : Bool) (old : Meter) (operation : Operation) (outcome : Outcome) (new : Meter) : Type 0 where
+pub record IsServed (honest : Bool) (old : Meter) (operation : Operation) (outcome : OperationOutcome) (new : Meter) : Type 0 where
   pub serves : Serves old operation
   pub does : Does honest old operation outcome new
 
 -- From old, a meter over a store that is honest or not comes to this on an operation, and goes on to new.
-abbrev pub Step : Bool → Meter → Operation → Outcome → Meter → Type 0
+abbrev pub Step : Bool → Meter → Operation → OperationOutcome → Meter → Type 0
 Step honest old operation outcome new = IsRefused honest old operation outcome new ⊎ IsServed honest old operation outcome new

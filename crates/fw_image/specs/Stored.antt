@@ -98,10 +98,10 @@ IsCause BadHeader capacity d = (m : Meter) → ¬ IsMeterOf capacity d m
 IsCause BadImage capacity d = (m : Meter) × IsMeterOf capacity d m × ¬ IsTrusted m
 
 -- no call of the store failed
-abbrev pub is_faultless : OpenError → Bool
-is_faultless Fault = false
-is_faultless BadHeader = true
-is_faultless BadImage = true
+abbrev pub is_opening_faultless : OpenError → Bool
+is_opening_faultless Fault = false
+is_opening_faultless BadHeader = true
+is_opening_faultless BadImage = true
 
 -- How many calls of an honest store tell why it was not opened: the one that reads the header, with those that read the image that
 -- runs, or all of an opening. Behind a fault there are none.
@@ -114,12 +114,12 @@ IsFoundIn BadImage capacity d calls =
 -- A store was not opened for this reason, and is handed back. A fault is told just where it failed, and it was not called again then.
 pub record Refused {S : Type 0} (honest sound : S → Bool) (capacity faults : S → ℕ) (calls_left : S → Option ℕ) (device : S → Device) (store : S) (error : OpenError) (back : S) : Type 0 where
   pub reason : IsTrue (honest store) → IsCause error (capacity store) (device store)
-  pub counted : faults back ≡ count_after (is_faultless error) (faults store)
-  pub never : IsTrue (sound store) → IsTrue (is_faultless error)
+  pub counted : faults back ≡ count_after (is_opening_faultless error) (faults store)
+  pub never : IsTrue (sound store) → IsTrue (is_opening_faultless error)
   pub same : IsTrue (honest store) → device back ≡ device store
   pub kept : Keeps honest sound capacity faults store back
   pub calls : ℕ
-  pub spends : Spends calls (calls_left store) (calls_left back) (is_faultless error)
+  pub spends : Spends calls (calls_left store) (calls_left back) (is_opening_faultless error)
   pub found : IsTrue (honest store) → IsFoundIn error (capacity store) (device store) calls
 
 -- two stores have the same capacity, header and slots

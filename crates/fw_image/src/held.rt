@@ -95,6 +95,7 @@ impl<S: ImageStore> Held<S> {
     {
         laws::other_blocks_stay();
         laws::begins_within();
+        store_laws::splice_stands();
         store_laws::calls_add();
         store_laws::calls_end();
         if !self.header.enabled {
@@ -312,7 +313,7 @@ fn replace<S: ImageStore>(
 fn is_offer(block_size: u32, capacity: u32, name: ImageName, size: u32) -> bool
     ensures { IsTrue result ↔ IsOffer block_size capacity name size }
 {
-    !name.campaign.is_factory() && size <= capacity && Geometry::new(block_size, size).is_some()
+    Goal { name, size }.fits(capacity, block_size)
 }
 
 // Where in the image a block begins, if the goal has that block, and of just this length.

@@ -12,7 +12,7 @@ length-splice old at xs within =
     omega (arith, length-append (take at old ++ xs) (drop (at + length xs) old), length-append (take at old) xs, length-take-le at old (omega arith), length-drop (at + length xs) old)
 
 -- dropping past the front
-drop_past : (front rest : List ℕ) (n m : ℕ) → n ≡ length front + m → drop n (front ++ rest) ≡ drop m rest
+pub drop_past : (front rest : List ℕ) (n m : ℕ) → n ≡ length front + m → drop n (front ++ rest) ≡ drop m rest
 drop_past front rest n m e = rw e (drop-append-add front rest m)
 
 -- a part of a part
@@ -53,7 +53,7 @@ slice_before old at xs from to order before within =
     ∙ slice_of_take old at from to order before
 
 -- what stands behind it
-drop-splice : (old : List ℕ) (at : ℕ) (xs : List ℕ) (n : ℕ) → at + length xs ≤ n → at + length xs ≤ length old → drop n (splice old at xs) ≡ drop n old
+pub drop-splice : (old : List ℕ) (at : ℕ) (xs : List ℕ) (n : ℕ) → at + length xs ≤ n → at + length xs ≤ length old → drop n (splice old at xs) ≡ drop n old
 drop-splice old at xs n after within =
     let front = take at old ++ xs in
     let past : ℕ = n - (at + length xs) in
@@ -76,6 +76,21 @@ slice_there old at xs to e within =
     ap (λ (l : List ℕ). take (to - at) (drop at l)) (append_assoc (take at old) xs (drop (at + length xs) old))
     ∙ ap (take (to - at)) (drop_at (take at old) rest at size)
     ∙ take_at xs (drop (at + length xs) old) (to - at) count
+
+-- a write within the front is a write into the front
+pub take_of_splice : (old : List ℕ) (at : ℕ) (xs : List ℕ) (n : ℕ) → at + length xs ≤ n → n ≤ length old → take n (splice old at xs) ≡ splice (take n old) at xs
+take_of_splice old at xs n within fits =
+    let front = take at old ++ xs in
+    let behind : ℕ = at + length xs in
+    let rest : ℕ = n - behind in
+    let size : length front ≡ behind = omega (arith, length-append (take at old) xs, length-take-le at old (omega arith)) in
+    let split : n ≡ length front + rest = omega arith in
+    let split' : behind + rest ≡ n = omega arith in
+    let before : at ≤ n = omega arith in
+    ap (λ (m : ℕ). take m (front ++ drop behind old)) split
+    ∙ take-append-add front (drop behind old) rest
+    ∙ ap (λ (l : List ℕ). front ++ l) (sym (drop-take behind rest old) ∙ ap (λ (m : ℕ). drop behind (take m old)) split')
+    ∙ ap (λ (l : List ℕ). (l ++ xs) ++ drop behind (take n old)) (sym (take-take at n old before))
 
 -- a write within a part is a write into that part
 pub slice_of_splice : (old : List ℕ) (from to at : ℕ) (xs : List ℕ) → from + at + length xs ≤ to → to ≤ length old

@@ -1,16 +1,13 @@
 -- Writes into a byte string.
 use Rattle.std.proofs.Common.{◌≡◌, ℕ, ◌+◌, ◌≤◌, List, ◌++◌, length, take, drop, refl, ap, ◌∙◌, arith, append_assoc, length-append}
 use Rattle.std.proofs.lemmas.List.{length-take-le, drop-drop}
-use Rattle.std.proofs.Math.Seq.{take-append_seam, drop-append-add}
+use Rattle.std.proofs.Math.Seq.{take-append_seam}
 use Rattle.fw_store.specs.Device.{splice}
+use Rattle.fw_store.proofs.SliceLemmas.{drop_past}
 
 -- taking the front off
 take_front : (front rest : List ℕ) (n : ℕ) → n ≡ length front → take n (front ++ rest) ≡ front
 take_front front rest n e = rw e (take-append_seam front rest)
-
--- dropping past the front
-drop_past : (front rest : List ℕ) (n m : ℕ) → n ≡ length front + m → drop n (front ++ rest) ≡ drop m rest
-drop_past front rest n m e = rw e (drop-append-add front rest m)
 
 -- a write and one right behind it are one write
 pub splice_twice : (old : List ℕ) (at : ℕ) (xs ys : List ℕ) (next : ℕ) → next ≡ at + length xs → at + length xs + length ys ≤ length old → splice (splice old at xs) next ys ≡ splice old at (xs ++ ys)

@@ -1,9 +1,21 @@
 -- Public vocabulary: the laws of what stores hold and of faults. They speak of definitions alone.
-use Rattle.std.specs.Prelude.{◌≡◌, ◌≢◌, ◌⊎◌, ℕ, ◌+◌, ◌<◌, ◌≤◌, Bool, true, false, List, Option, length, slice_range}
-use Rattle.fw_store.specs.Device.{Device, slot_bytes, with_head, written}
+use Rattle.std.specs.Prelude.{◌≡◌, ◌≢◌, ◌⊎◌, ℕ, ◌+◌, ◌<◌, ◌≤◌, Bool, true, false, List, Option, length, take, drop, slice_range}
+use Rattle.fw_store.specs.Device.{Device, slot_bytes, with_head, splice, written}
 use Rattle.fw_store.specs.Faults.{most_faults, count_after, Spends}
 use Rattle.fw_store.specs.StoreBytes.{IsStore, store_bytes, device_at}
 use Rattle.fw_store.specs.declared.slot.Slot.{Slot}
+
+-- a byte string into which others were written at an offset
+pub record StandsIn (old : List ℕ) (at : ℕ) (bytes new : List ℕ) : Type 0 where
+  pub size : length new ≡ length old
+  pub before : take at new ≡ take at old
+  pub there : slice_range new at (at + length bytes) ≡ bytes
+  pub behind : drop (at + length bytes) new ≡ drop (at + length bytes) old
+  -- a front in which they are is one into which they were written
+  pub front : (n : ℕ) → at + length bytes ≤ n → n ≤ length old → take n new ≡ splice (take n old) at bytes
+
+abbrev pub SpliceStands : Type 0
+SpliceStands = (old : List ℕ) (at : ℕ) (bytes : List ℕ) → at + length bytes ≤ length old → StandsIn old at bytes (splice old at bytes)
 
 -- what was written is read
 abbrev pub WrittenIsRead : Type 0

@@ -3,6 +3,7 @@
 ghost use Rattle.std.specs.Prelude.{◌≡◌, ◌≢◌, ◌+◌, ◌≤◌, ◌++◌, ◌↔◌, ℕ, Some, false, length, take, IsTrue, IfSome, IfNone};
 ghost use Rattle.std.specs.Int.{w32, from_be_bytes};
 ghost use Rattle.fw_blocks.specs.Members.{has};
+ghost use Rattle.fw_names.specs.Name.{IsOpened};
 ghost use Rattle.fw_store.specs.declared.header.Goal.{Goal};
 ghost use Rattle.fw_store.specs.declared.header.Header.{Header};
 ghost use Rattle.fw_store.specs.declared.header.TransferStatus.{TransferStatus};
@@ -46,6 +47,19 @@ pub struct Goal {
     pub name: ImageName,
     /// The image's bytes.
     pub size: u32,
+}
+
+impl Goal {
+    /// Whether a store of this capacity, in bytes a slot, can receive it in blocks of this size: a campaign offers it, it
+    /// fits a slot, and its blocks are within their limits.
+    pub fn fits(&self, capacity: u32, block_size: u32) -> bool
+        ensures goal { IsTrue result ↔ IsGoal capacity block_size self.now }
+        ensures opened { IsTrue result → IsOpened self.now.name.campaign }
+    {
+        !self.name.campaign.is_factory()
+            && self.size <= capacity
+            && Geometry::new(block_size, self.size).is_some()
+    }
 }
 
 /// What a store keeps beside its two slots: the state of Image transfer, and which image runs.
@@ -204,11 +218,7 @@ fn goal_fits(goal: &Option<Goal>, capacity: u32, block_size: u32) -> bool
 {
     match goal {
         None => true,
-        Some(goal) => {
-            !goal.name.campaign.is_factory()
-                && goal.size <= capacity
-                && Geometry::new(block_size, goal.size).is_some()
-        }
+        Some(goal) => goal.fits(capacity, block_size),
     }
 }
 

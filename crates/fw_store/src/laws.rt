@@ -1,7 +1,7 @@
 //! Laws of headers, of what stores hold and of faults, over the definitions alone.
 
 ghost use Rattle.fw_store.specs.Laws.{OneHeader, HeaderSize, FreshIsHeader, VerifiedIsComplete};
-ghost use Rattle.fw_store.specs.StoreLaws.{WrittenIsRead, OthersAreRead, OtherSlotStays, HeaderStays, SlotsStay, FieldsJoin, DeviceIsRead, FaultsShow, CallsAdd, CallsEnd};
+ghost use Rattle.fw_store.specs.StoreLaws.{SpliceStands, WrittenIsRead, OthersAreRead, OtherSlotStays, HeaderStays, SlotsStay, FieldsJoin, DeviceIsRead, FaultsShow, CallsAdd, CallsEnd};
 
 /// A byte string is at most one header's.
 pub fn one_header()
@@ -27,6 +27,11 @@ pub fn verified_is_complete()
 {
     fw_blocks::laws::one_first_missing();
 }
+
+/// What a write into a byte string leaves of it, and what it makes of it.
+pub fn splice_stands()
+    ensures { SpliceStands }
+{}
 
 /// What was written into a slot is read there.
 pub fn written_is_read()

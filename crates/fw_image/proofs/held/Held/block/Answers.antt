@@ -30,7 +30,7 @@ returns-in_err-write-clause-makes g c =
     (makes_served s store c.write.new.self h h (block c.args.number c.args.value.now) (refused Fault) told.kept told.cause.counted told.cause.never
     (rw calls (c.calls_end.ensures 1 (cond (has h.marks c.args.number) 1 2) _ _ (one_or_two (has h.marks c.args.number)) told.spends))
     (served_block m place.goal c.args.number c.args.value.now c.if-not-self.false phase place.is_block)
-    (tears_put c.other_blocks_stay.ensures c.begins_within.ensures (s.honest store) (s.capacity store) h (s.device store) (s.device c.write.new.self) c.other-spare.result c.args.number c.in-Some.start c.args.value.now
+    (tears_put c.other_blocks_stay.ensures c.begins_within.ensures c.splice_stands.ensures (s.honest store) (s.capacity store) h (s.device store) (s.device c.write.new.self) c.other-spare.result c.args.number c.in-Some.start c.args.value.now
     valid sized place c.other-spare.ensures told.torn))
 
 pub returns-then-has-clause-makes : goal.returns-then-has-clause-makes
@@ -54,7 +54,7 @@ returns-then-has-clause-makes g c =
     (makes_served s store c.write.new.self h h (block c.args.number c.args.value.now) done told.kept told.cause.counted (λ _. refl)
     (rw (calls, marked) told.spends)
     (served_block m place.goal c.args.number c.args.value.now c.if-not-self.false phase place.is_block)
-    (leaves_put c.other_blocks_stay.ensures c.begins_within.ensures (s.honest store) (s.capacity store) h (s.device store) (s.device c.write.new.self) c.args.number c.in-Some.start c.args.value.now h.marks
+    (leaves_put c.other_blocks_stay.ensures c.begins_within.ensures c.splice_stands.ensures (s.honest store) (s.capacity store) h (s.device store) (s.device c.write.new.self) c.args.number c.in-Some.start c.args.value.now h.marks
     valid valid sized sized' place (mark_again h.marks c.args.number marked) (λ honest. wrote h c.other-spare.result c.in-Some.start c.args.value.now _ _ c.other-spare.ensures (told.done honest))))
 
 pub returns-in_err-replace-clause-makes : goal.returns-in_err-replace-clause-makes
@@ -80,7 +80,7 @@ returns-in_err-replace-clause-makes g c =
     (counted_after false _ _ _ first.cause.counted told.cause.counted) (λ sound. told.cause.never (first.kept.soundness sound))
     (rw (calls, unmarked) (c.calls_add.ensures 1 1 _ _ _ false first.spends told.spends))
     (served_block m place.goal c.args.number c.args.value.now c.if-not-self.false phase place.is_block)
-    (tears_put c.other_blocks_stay.ensures c.begins_within.ensures (s.honest store) (s.capacity store) h (s.device store) (s.device c.replace.new.store) c.other-spare.result c.args.number c.in-Some.start c.args.value.now
+    (tears_put c.other_blocks_stay.ensures c.begins_within.ensures c.splice_stands.ensures (s.honest store) (s.capacity store) h (s.device store) (s.device c.replace.new.store) c.other-spare.result c.args.number c.in-Some.start c.args.value.now
     valid sized place c.other-spare.ensures torn))
 
 pub returns-clause-makes : goal.returns-clause-makes
@@ -109,6 +109,6 @@ returns-clause-makes g c =
     (makes_served s store c.replace.new.store h (record h { marks = c.mark.new.self }) (block c.args.number c.args.value.now) done kept (told.cause.counted ∙ first.cause.counted) (λ _. refl)
     (rw (calls, unmarked) (c.calls_add.ensures 1 1 _ _ _ true first.spends told.spends))
     (served_block m place.goal c.args.number c.args.value.now c.if-not-self.false phase place.is_block)
-    (leaves_put c.other_blocks_stay.ensures c.begins_within.ensures (s.honest store) (s.capacity store) h (s.device store) (s.device c.replace.new.store) c.args.number c.in-Some.start c.args.value.now c.mark.new.self
+    (leaves_put c.other_blocks_stay.ensures c.begins_within.ensures c.splice_stands.ensures (s.honest store) (s.capacity store) h (s.device store) (s.device c.replace.new.store) c.args.number c.in-Some.start c.args.value.now c.mark.new.self
     valid valid' sized sized' place marked (λ honest.
     wrote_then h c.in-Some.start c.args.value.now (s.device store) (s.device c.write.new.self) (s.device c.replace.new.store) (wrote h c.other-spare.result c.in-Some.start c.args.value.now (s.device store) (s.device c.write.new.self) c.other-spare.ensures (first.done honest)) (headed (s.device c.write.new.self) (s.device c.replace.new.store) _ (told.written (still honest))))))
