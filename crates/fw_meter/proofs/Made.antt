@@ -7,7 +7,7 @@ use Rattle.fw_image.specs.State.{State}
 use Rattle.fw_image.specs.Phases.{state_in, IsInPhase}
 use Rattle.fw_image.specs.declared.phase.Phase.{Phase as Core}
 use Rattle.fw_image.specs.declared.phase.Phase.TheVariants as core
-use Rattle.fw_image.specs.Step.{Operation, enable, initiate, block, verify, activate, refused, refusal_in, Admits, Refuses, Serves, is_faultless}
+use Rattle.fw_image.specs.Step.{Operation, enable, initiate, block, verify, activate, refused, refusal_in, Admits, Refuses, Serves, is_operation_faultless}
 use Rattle.fw_image.specs.declared.error.Refusal.{Refusal}
 use Rattle.fw_image.specs.declared.error.Refusal.TheVariants.{Disabled, Missing}
 use Rattle.fw_meter.specs.Step.{refusal_code}
@@ -28,7 +28,7 @@ not_served m verify r line serves = refused_method m verify r line serves
 not_served m activate r line serves = refused_method m activate r line serves
 
 -- a line refuses the operation
-refused_by : (s : State) (operation : Operation) (r : Refusal) (n : ℕ) → Refuses s.meter operation r → IsTrue (is_faultless (refused r)) → n ≡ refusal_code r → IsMade s operation n s
+refused_by : (s : State) (operation : Operation) (r : Refusal) (n : ℕ) → Refuses s.meter operation r → IsTrue (is_operation_faultless (refused r)) → n ≡ refusal_code r → IsMade s operation n s
 refused_by s operation r n line faultless told = (
   refused r,
   record {

@@ -20,14 +20,14 @@ pub record Same (a b : MeterResult) (new other : Meter) : Type 0 where
   pub meters : new ≡ other
 
 -- an operation that isn't told a fault has none
-no_fault : (a : MeterResult) (made : operations.Outcome) → a ≢ coded 1 → a ≡ coded (operation_code made) → made ≢ refused Fault
-no_fault a made n told e = n (told ∙ ap (λ (x : operations.Outcome). coded (operation_code x)) e)
+no_fault : (a : MeterResult) (made : operations.OperationOutcome) → a ≢ coded 1 → a ≡ coded (operation_code made) → made ≢ refused Fault
+no_fault a made n told e = n (told ∙ ap (λ (x : operations.OperationOutcome). coded (operation_code x)) e)
 
 made_once : image.OneStep → (old new other : Meter) (operation : Operation) (a b : MeterResult) → a ≢ coded 1 → b ≢ coded 1
     → Operates true old operation a new → Operates true old operation b other → Same a b new other
 made_once law old new other operation a b n m (made, step, told) (made', step', told') =
     let both = law old new other operation made made' step step' (no_fault a made n told) (no_fault b made' m told') in
-    record { results = told ∙ ap (λ (x : operations.Outcome). coded (operation_code x)) both.0 ∙ sym told'; meters = both.1 }
+    record { results = told ∙ ap (λ (x : operations.OperationOutcome). coded (operation_code x)) both.0 ∙ sym told'; meters = both.1 }
 
 one_step : names.OneName → image.OneStep → (old new other : Meter) (m : Meaning) (a b : MeterResult) → a ≢ coded 1 → b ≢ coded 1
     → MeterStep true old m a new → MeterStep true old m b other → Same a b new other

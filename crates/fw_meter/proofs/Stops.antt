@@ -16,7 +16,7 @@ use Rattle.fw_meter.specs.Step.{MeterResult, got, coded, tells_no_fault, Operate
 
 -- ---- an operation that is told a fault
 
-made_fault : (made : operations.Outcome) → coded 1 ≡ coded (operation_code made) → made ≡ refused Fault
+made_fault : (made : operations.OperationOutcome) → coded 1 ≡ coded (operation_code made) → made ≡ refused Fault
 made_fault done e = absurd cc
 made_fault (refused Disabled) e = absurd cc
 made_fault (refused BadInitiate) e = absurd cc
@@ -51,14 +51,14 @@ Left old asked new = (new ≡ old) ⊎ TearsCell old asked new
 left_by : (old new : Meter) (asked : Meaning) (operation : Operation) → (Does true old operation (refused Fault) new → new ≡ old)
     → Operates true old operation (coded 1) new → Left old asked new
 left_by old new asked operation stays (made, step, told) =
-    elim (subst (λ (x : operations.Outcome). Step true old operation x new) (made_fault made told) step) [
+    elim (subst (λ (x : operations.OperationOutcome). Step true old operation x new) (made_fault made told) step) [
       | inl h ↦ inl (h.same.is refl)
       | inr h ↦ inl (stays h.does)
     ]
 
 left_by_block : (old new : Meter) (i : ℕ) (value : List ℕ) → Operates true old (operations.block i value) (coded 1) new → Left old (block i value) new
 left_by_block old new i value (made, step, told) =
-    elim (subst (λ (x : operations.Outcome). Step true old (operations.block i value) x new) (made_fault made told) step) [
+    elim (subst (λ (x : operations.OperationOutcome). Step true old (operations.block i value) x new) (made_fault made told) step) [
       | inl h ↦ inl (h.same.is refl)
       | inr h ↦ elim h.does [
         | inl leaves ↦ inl (leaves.is refl)

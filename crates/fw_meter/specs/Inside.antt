@@ -54,7 +54,7 @@ AnswersEach heard replies = (c : Code) → reply_bytes (reply_in replies c) ≡ 
 
 -- an operation is made, and has this code
 abbrev pub IsMade : State → image.Operation → ℕ → State → Type 0
-IsMade old operation c new = (outcome : image.Outcome) × Makes old operation outcome new × (c ≡ operation_code outcome)
+IsMade old operation c new = (outcome : image.OperationOutcome) × Makes old operation outcome new × (c ≡ operation_code outcome)
 
 -- the meter's step on a meaning, with this code
 pub record Steps (old : State) (asked : Meaning) (c : ℕ) (new : State) : Type 0 where

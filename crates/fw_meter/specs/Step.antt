@@ -57,13 +57,13 @@ refusal_code Missing = 2
 refusal_code Fault = 1
 refusal_code Differs = 250
 
-abbrev pub operation_code : image.Outcome → ℕ
+abbrev pub operation_code : image.OperationOutcome → ℕ
 operation_code done = 0
 operation_code (refused refusal) = refusal_code refusal
 
 -- an operation is made, and its code told
 abbrev pub Operates : Bool → Meter → Operation → MeterResult → Meter → Type 0
-Operates honest old operation result new = (made : image.Outcome) × Step honest old operation made new × (result ≡ coded (operation_code made))
+Operates honest old operation result new = (made : image.OperationOutcome) × Step honest old operation made new × (result ≡ coded (operation_code made))
 
 -- From old, a meter that is asked so comes to this, and goes on to new. An initiate whose identifier is no name is refused as one
 -- whose name is no offer.

@@ -11,7 +11,7 @@ ghost use Rattle.fw_image.specs.Calls.{opening_calls};
 ghost use Rattle.fw_image.specs.Meter.{Meter, IsTrusted};
 ghost use Rattle.fw_image.specs.Shown.{shown_of, IsView};
 ghost use Rattle.fw_image.specs.State.{Follows, Counts};
-ghost use Rattle.fw_image.specs.Stored.{Holds, IsMeterOf, Refused, is_faultless};
+ghost use Rattle.fw_image.specs.Stored.{Holds, IsMeterOf, Refused, is_opening_faultless};
 ghost use Rattle.fw_image.specs.declared.error.OpenError.TheVariants as not_opened;
 ghost use Rattle.fw_meter.specs.Handling.{Handles, Responds, MayWantMemory, reply_to, reply_bytes};
 
@@ -91,8 +91,8 @@ impl<S: ImageStore + Drop> MeterCore<S> {
         ensures fault { IsTrue self.honest → IfErr result (λ e. e.0 ≡ not_opened.Fault) }
         ensures faultless { IfOk result (λ meter. meter.faults ≡ self.faults) }
         ensures spends { IfOk result (λ meter. Spends (opening_calls meter.meter) self.calls_left meter.calls_left true) }
-        ensures counted { IfErr result (λ e. S.faults e.1 ≡ count_after (is_faultless e.0) self.faults) }
-        ensures never { IsTrue self.sound → IfErr result (λ e. IsTrue (is_faultless e.0)) }
+        ensures counted { IfErr result (λ e. S.faults e.1 ≡ count_after (is_opening_faultless e.0) self.faults) }
+        ensures never { IsTrue self.sound → IfErr result (λ e. IsTrue (is_opening_faultless e.0)) }
         ensures back { IfErr result (λ e. Holds S.honest S.capacity S.device e.1 self) }
     {
         fw_image::laws::one_meter();
