@@ -6,11 +6,15 @@ use Rattle.fw_wrapper.specs.Laws as wrapper
 use Rattle.fw_names.specs.Name.{Name, SpellsName}
 use Rattle.fw_names.specs.Laws as names
 use Rattle.fw_apdu.specs.Laws as apdu
-use Rattle.fw_apdu.specs.Response.{value, code, ResponseContent, get_response, set_response, action_response, SpellsResponse}
+use Rattle.fw_wrapper.specs.Wrapper.{Wraps}
+use Rattle.fw_apdu.specs.declared.error.ApduError.{ApduError}
+use Rattle.fw_apdu.specs.declared.error.ApduError.TheVariants.{OutOfMemory}
+use Rattle.fw_apdu.specs.Fault.{IfMemory}
+use Rattle.fw_apdu.specs.Response.{value, code, ResponseContent, get_response, set_response, action_response, SpellsResponse, MayReturnData}
 use Rattle.fw_client.specs.Claim.{Claim}
 use Rattle.fw_client.specs.State.{State, invoke_byte, without}
 use Rattle.fw_client.specs.Matching.{TellsOf, IsInfoOf, IsInfo, IsActive, IsNumber, IsBits, IsStatus, IsValue, Matches, element}
-use Rattle.fw_client.specs.Hearing.{CarriesResponse, Answers, Hears, IsClaimed}
+use Rattle.fw_client.specs.Hearing.{CarriesResponse, MayCarryData, Answers, Hears, IsClaimed}
 use Rattle.fw_client.specs.Laws.{OneHearing, OnlyClaimed}
 use Rattle.fw_apdu.specs.View.{response_content, response_invoke}
 use Rattle.fw_apdu.specs.declared.response.Response.{Response}
@@ -260,3 +264,12 @@ pub ignores : (c : State) (datagram : List ℕ) (o : Option (ℕ × Heard)) → 
     → Hears c datagram heard.Stranger c
 ignores c datagram None e missing = inr (λ id h a. missing (id, h) a, refl, refl)
 ignores c datagram (Some x) e a = absurd cc
+
+-- ---- want of memory
+
+-- a datagram from and to port 1 carries the Data that its APDU may return
+pub data_carried : (datagram apdu : List ℕ) (source dest : ℕ) (e : ApduError) → source ≡ 1 → dest ≡ 1 → Wraps datagram source dest apdu → e ≡ OutOfMemory → IfMemory e (MayReturnData apdu) → MayCarryData datagram
+data_carried datagram apdu source dest e from to wraps is takes =
+    let wraps' : Wraps datagram 1 dest apdu = subst (λ (p : ℕ). Wraps datagram p dest apdu) from wraps in
+    let T : ApduError → Type 0 = λ x. IfMemory x (MayReturnData apdu) in
+    (apdu, subst (λ (p : ℕ). Wraps datagram 1 p apdu) to wraps', subst T is takes)
