@@ -5,6 +5,7 @@ use Rattle.std.specs.FinMap.{empty}
 use Rattle.fw_names.specs.Name.{factory}
 use Rattle.fw_image.specs.Meter.{idle}
 use Rattle.fw_wrapper.specs.Wrapper.{wrapped}
+use Rattle.fw_apdu.specs.Cosem.{success, hardware_fault, temporary_failure, read_write_denied, other_reason}
 use Rattle.fw_apdu.specs.Request.{is_confirmed}
 use Rattle.fw_apdu.specs.Response.{response_bytes}
 use Rattle.fw_apdu.specs.View.{request_content, request_invoke}
@@ -23,11 +24,11 @@ use Rattle.fw_meter.specs.declared.replies.Replies.{Replies}
 use Rattle.fw_meter.specs.declared.serving.Heard.{Heard}
 
 abbrev pub code_number : Code → ℕ
-code_number code.Success = 0
-code_number code.HardwareFault = 1
-code_number code.TemporaryFailure = 2
-code_number code.ReadWriteDenied = 3
-code_number code.OtherReason = 250
+code_number code.Success = success
+code_number code.HardwareFault = hardware_fault
+code_number code.TemporaryFailure = temporary_failure
+code_number code.ReadWriteDenied = read_write_denied
+code_number code.OtherReason = other_reason
 
 -- what a datagram brought
 abbrev pub IsHeard : List ℕ → Option Heard → Type 0

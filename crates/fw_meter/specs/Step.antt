@@ -4,6 +4,7 @@ use Rattle.std.specs.Prelude.{◌≡◌, ℕ, zero, suc, Bool, true, false, Opti
 use Rattle.fw_names.specs.Name.{Name, SpellsName}
 use Rattle.fw_blocks.specs.Members.{first_missing}
 use Rattle.fw_store.specs.Layout.{status_number}
+use Rattle.fw_apdu.specs.Cosem.{success, hardware_fault, temporary_failure, read_write_denied, other_reason}
 use Rattle.fw_server.specs.Meaning as meaning
 use Rattle.fw_server.specs.Meaning.{Meaning, instance_bytes, code_number}
 use Rattle.fw_server.specs.declared.object.Reading.{Reading}
@@ -50,15 +51,15 @@ answer_of m attribute.ActiveDigest = answer.ActiveDigest m.running.name.digest
 
 -- the codes of refusals (own, over the codes of IEC 62056-5-3)
 abbrev pub refusal_code : Refusal → ℕ
-refusal_code Disabled = 3
-refusal_code BadInitiate = 250
-refusal_code BadBlock = 250
-refusal_code Missing = 2
-refusal_code Fault = 1
-refusal_code Differs = 250
+refusal_code Disabled = read_write_denied
+refusal_code BadInitiate = other_reason
+refusal_code BadBlock = other_reason
+refusal_code Missing = temporary_failure
+refusal_code Fault = hardware_fault
+refusal_code Differs = other_reason
 
 abbrev pub operation_code : image.OperationOutcome → ℕ
-operation_code done = 0
+operation_code done = success
 operation_code (refused refusal) = refusal_code refusal
 
 -- an operation is made, and its code told
@@ -73,7 +74,7 @@ MeterStep honest old (meaning.refused refusal) result new = (result ≡ coded (c
 MeterStep honest old (meaning.enable b) result new = Operates honest old (image.enable b) result new
 MeterStep honest old (meaning.initiate identifier size) result new =
     ((name : Name) × SpellsName identifier name × Operates honest old (image.initiate name size) result new)
-    ⊎ (((name : Name) → ¬ SpellsName identifier name) × (result ≡ coded (if old.enabled then 250 else 3)) × (new ≡ old))
+    ⊎ (((name : Name) → ¬ SpellsName identifier name) × (result ≡ coded (if old.enabled then other_reason else read_write_denied)) × (new ≡ old))
 MeterStep honest old (meaning.block i value) result new = Operates honest old (image.block i value) result new
 MeterStep honest old meaning.verify result new = Operates honest old image.verify result new
 MeterStep honest old meaning.activate result new = Operates honest old image.activate result new

@@ -4,23 +4,30 @@ ghost use Rattle.std.specs.Prelude.{◌≡◌};
 ghost use Rattle.fw_meter.specs.Step.{refusal_code};
 ghost use Rattle.fw_meter.specs.Inside.{code_number};
 
+use fw_apdu::cosem;
 use fw_image::Refusal;
 
 /// A Data-Access-Result or an Action-Result (IEC 62056-5-3).
 #[derive(Clone, Copy, Debug, PartialEq, Eq)]
 pub(crate) enum Code {
-    Success = 0,
-    HardwareFault = 1,
-    TemporaryFailure = 2,
-    ReadWriteDenied = 3,
-    OtherReason = 250,
+    Success,
+    HardwareFault,
+    TemporaryFailure,
+    ReadWriteDenied,
+    OtherReason,
 }
 
 impl Code {
     pub(crate) fn number(self) -> u8
         ensures { result ≡ code_number self }
     {
-        self as u8
+        match self {
+            Code::Success => cosem::SUCCESS,
+            Code::HardwareFault => cosem::HARDWARE_FAULT,
+            Code::TemporaryFailure => cosem::TEMPORARY_FAILURE,
+            Code::ReadWriteDenied => cosem::READ_WRITE_DENIED,
+            Code::OtherReason => cosem::OTHER_REASON,
+        }
     }
 
     /// The code of a refused operation.

@@ -1,11 +1,12 @@
 -- Public vocabulary: the laws of what is read. The active firmware identifier alone shows a name of 41 bytes.
-use Rattle.std.specs.Prelude.{◌≡◌, ◌↔◌, ℕ, pos, List, length}
+use Rattle.std.specs.Prelude.{◌≡◌, ◌↔◌, ℕ, List, length}
 use Rattle.fw_axdr.specs.Value.{octet_string}
 use Rattle.fw_names.specs.Name.{Name}
+use Rattle.fw_apdu.specs.Cosem as cosem
+use Rattle.fw_apdu.specs.Cosem.{active_firmware_identifier, data_class}
 use Rattle.fw_apdu.specs.Request.{Descriptor, get_request}
-use Rattle.fw_server.specs.Meaning.{meaning_of, read, instance_bytes}
+use Rattle.fw_server.specs.Meaning.{meaning_of, read}
 use Rattle.fw_server.specs.Answer.{value_of_answer, HasSizes}
-use Rattle.fw_server.specs.declared.object.Object.TheVariants.{ActiveIdentifier}
 use Rattle.fw_server.specs.declared.object.Reading.TheVariants as reading
 use Rattle.fw_server.specs.declared.outcome.Answer.{Answer}
 use Rattle.fw_server.specs.declared.outcome.Answer.TheVariants as answer
@@ -20,4 +21,4 @@ OnlyActiveName =
 abbrev pub OnlyIdentifier : Type 0
 OnlyIdentifier =
     (d : Descriptor)
-    → (meaning_of (get_request d) ≡ read reading.ActiveName) ↔ (d ≡ record { class = 1; instance = instance_bytes ActiveIdentifier; number = pos 2 })
+    → (meaning_of (get_request d) ≡ read reading.ActiveName) ↔ (d ≡ record { class = data_class; instance = active_firmware_identifier; number = cosem.value })

@@ -1,10 +1,12 @@
 -- Public vocabulary: what a request asks of a meter. It is known from the request alone, before any meter is looked at.
-use Rattle.std.specs.Prelude.{ℕ, ℤ, pos, Bool, nat_eq, ◌==◌, List, [], ◌∷◌, Option, Some, None, if◌then◌else◌}
+use Rattle.std.specs.Prelude.{ℕ, ℤ, Bool, nat_eq, ◌==◌, List, Option, Some, None, if◌then◌else◌}
 use Rattle.std.specs.Ordering.{int_eq}
 use Rattle.std.specs.Option.{option_and_then}
 use Rattle.std.specs.Cmp.Lexicographic.{pointwise}
 use Rattle.fw_axdr.specs.Value.{Value, Values, structure, boolean, double_long_unsigned, octet_string, integer, none, more}
 use Rattle.fw_apdu.specs.Request.{RequestContent, get_request, set_request, action_request, request_descriptor}
+use Rattle.fw_apdu.specs.Cosem as cosem
+use Rattle.fw_apdu.specs.Cosem.{image_transfer, active_firmware_identifier, active_firmware_signature, data_class, image_transfer_class, logical_name, image_block_size, image_transferred_blocks_status, image_first_not_transferred_block_number, image_transfer_enabled, image_transfer_status, image_to_activate_info, image_transfer_initiate, image_block_transfer, image_verify, image_activate, read_write_denied, object_undefined, object_class_inconsistent, type_unmatched}
 use Rattle.fw_server.specs.declared.object.Object.{Object}
 use Rattle.fw_server.specs.declared.object.Object.TheVariants.{ImageTransfer, ActiveIdentifier, ActiveSignature}
 use Rattle.fw_server.specs.declared.object.Reading.{Reading}
@@ -14,22 +16,22 @@ use Rattle.fw_server.specs.declared.planning.Refusal.TheVariants.{ObjectUndefine
 
 -- the codes by which a request is refused (IEC 62056-5-3, Data-Access-Result and Action-Result)
 abbrev pub code_number : Refusal → ℕ
-code_number ReadWriteDenied = 3
-code_number ObjectUndefined = 4
-code_number ObjectClassInconsistent = 9
-code_number TypeUnmatched = 12
+code_number ObjectUndefined = object_undefined
+code_number ObjectClassInconsistent = object_class_inconsistent
+code_number ReadWriteDenied = read_write_denied
+code_number TypeUnmatched = type_unmatched
 
--- the logical names of the objects: 0-0:44.0.0.255, 1-0:0.2.0.255 and 1-0:0.2.8.255 (IEC 62056-6-1)
+-- the logical names of the objects
 abbrev pub instance_bytes : Object → List ℕ
-instance_bytes ImageTransfer = 0 ∷ 0 ∷ 44 ∷ 0 ∷ 0 ∷ 255 ∷ []
-instance_bytes ActiveIdentifier = 1 ∷ 0 ∷ 0 ∷ 2 ∷ 0 ∷ 255 ∷ []
-instance_bytes ActiveSignature = 1 ∷ 0 ∷ 0 ∷ 2 ∷ 8 ∷ 255 ∷ []
+instance_bytes ImageTransfer = image_transfer
+instance_bytes ActiveIdentifier = active_firmware_identifier
+instance_bytes ActiveSignature = active_firmware_signature
 
--- their classes: Image transfer is class_id 18, and Data 1 (IEC 62056-6-2)
+-- their classes: Image transfer, and Data (IEC 62056-6-2)
 abbrev pub class_of : Object → ℕ
-class_of ImageTransfer = 18
-class_of ActiveIdentifier = 1
-class_of ActiveSignature = 1
+class_of ImageTransfer = image_transfer_class
+class_of ActiveIdentifier = data_class
+class_of ActiveSignature = data_class
 
 -- the object of a logical name
 abbrev pub object_at : List ℕ → Option Object
@@ -41,17 +43,17 @@ object_at name =
 -- the attributes of Image transfer (IEC 62056-6-2, class_id 18, version 0)
 abbrev pub image_attribute : ℤ → Option Reading
 image_attribute n =
-    if int_eq n (pos 1) then Some (LogicalName ImageTransfer) else (
-    if int_eq n (pos 2) then Some BlockSize else (
-    if int_eq n (pos 3) then Some TransferredBlocks else (
-    if int_eq n (pos 4) then Some FirstNotTransferred else (
-    if int_eq n (pos 5) then Some TransferEnabled else (
-    if int_eq n (pos 6) then Some TransferStatus else (
-    if int_eq n (pos 7) then Some ToActivate else None))))))
+    if int_eq n logical_name then Some (LogicalName ImageTransfer) else (
+    if int_eq n image_block_size then Some BlockSize else (
+    if int_eq n image_transferred_blocks_status then Some TransferredBlocks else (
+    if int_eq n image_first_not_transferred_block_number then Some FirstNotTransferred else (
+    if int_eq n image_transfer_enabled then Some TransferEnabled else (
+    if int_eq n image_transfer_status then Some TransferStatus else (
+    if int_eq n image_to_activate_info then Some ToActivate else None))))))
 
 -- the attributes of a Data object: its logical name, and its value
 abbrev pub data_attribute : Object → Reading → ℤ → Option Reading
-data_attribute object value n = if int_eq n (pos 1) then Some (LogicalName object) else (if int_eq n (pos 2) then Some value else None)
+data_attribute object value n = if int_eq n logical_name then Some (LogicalName object) else (if int_eq n cosem.value then Some value else None)
 
 abbrev pub attribute_of : Object → ℤ → Option Reading
 attribute_of ImageTransfer n = image_attribute n
@@ -121,16 +123,16 @@ enable_of v = option_and_then (λ b. Some (enable b)) (boolean_in v)
 -- the methods of Image transfer
 abbrev pub method_of : ℤ → Option Value → Meaning
 method_of n parameter =
-    if int_eq n (pos 1) then or_refused TypeUnmatched (option_and_then initiate_of parameter) else (
-    if int_eq n (pos 2) then or_refused TypeUnmatched (option_and_then block_of parameter) else (
-    if int_eq n (pos 3) then or_refused TypeUnmatched (option_and_then (order_of verify) parameter) else (
-    if int_eq n (pos 4) then or_refused TypeUnmatched (option_and_then (order_of activate) parameter) else refused ReadWriteDenied)))
+    if int_eq n image_transfer_initiate then or_refused TypeUnmatched (option_and_then initiate_of parameter) else (
+    if int_eq n image_block_transfer then or_refused TypeUnmatched (option_and_then block_of parameter) else (
+    if int_eq n image_verify then or_refused TypeUnmatched (option_and_then (order_of verify) parameter) else (
+    if int_eq n image_activate then or_refused TypeUnmatched (option_and_then (order_of activate) parameter) else refused ReadWriteDenied)))
 
 -- What a request asks of the object that it addresses. Only image_transfer_enabled, attribute 5 of Image transfer, can be
 -- set, and only Image transfer has methods. What is there but has a parameter of another shape is refused for that.
 abbrev pub asked_of : Object → RequestContent → Meaning
 asked_of object (get_request d) = or_refused ReadWriteDenied (option_and_then (λ reading. Some (read reading)) (attribute_of object d.number))
-asked_of ImageTransfer (set_request d v) = if int_eq d.number (pos 5) then or_refused TypeUnmatched (enable_of v) else refused ReadWriteDenied
+asked_of ImageTransfer (set_request d v) = if int_eq d.number image_transfer_enabled then or_refused TypeUnmatched (enable_of v) else refused ReadWriteDenied
 asked_of ActiveIdentifier (set_request d v) = refused ReadWriteDenied
 asked_of ActiveSignature (set_request d v) = refused ReadWriteDenied
 asked_of ImageTransfer (action_request d parameter) = method_of d.number parameter

@@ -3,7 +3,7 @@
 ghost use Rattle.std.specs.Prelude.{◌≡◌};
 ghost use Rattle.fw_server.specs.Meaning.{attribute_of, image_attribute, data_attribute, object_at, instance_bytes, class_of};
 
-use fw_apdu::LogicalName;
+use fw_apdu::{LogicalName, cosem};
 
 /// The COSEM objects of a meter.
 #[derive(Clone, Copy, Debug, PartialEq, Eq)]
@@ -16,28 +16,16 @@ pub enum Object {
     ActiveSignature,
 }
 
-const IMAGE_TRANSFER: LogicalName = LogicalName([0, 0, 44, 0, 0, 255]);
-
-const ACTIVE_IDENTIFIER: LogicalName = LogicalName([1, 0, 0, 2, 0, 255]);
-
-const ACTIVE_SIGNATURE: LogicalName = LogicalName([1, 0, 0, 2, 8, 255]);
-
-/// The class_id of Data objects.
-const DATA: u16 = 1;
-
-/// The class_id of Image transfer.
-const IMAGE_TRANSFER_CLASS: u16 = 18;
-
 impl Object {
     /// The object of this logical name.
     pub(crate) fn named(name: LogicalName) -> Option<Object>
         ensures { result ≡ object_at name.0 }
     {
-        if name == IMAGE_TRANSFER {
+        if name == cosem::IMAGE_TRANSFER {
             Some(Object::ImageTransfer)
-        } else if name == ACTIVE_IDENTIFIER {
+        } else if name == cosem::ACTIVE_FIRMWARE_IDENTIFIER {
             Some(Object::ActiveIdentifier)
-        } else if name == ACTIVE_SIGNATURE {
+        } else if name == cosem::ACTIVE_FIRMWARE_SIGNATURE {
             Some(Object::ActiveSignature)
         } else {
             None
@@ -49,9 +37,9 @@ impl Object {
         ensures { result.0 ≡ instance_bytes self }
     {
         match self {
-            Object::ImageTransfer => IMAGE_TRANSFER,
-            Object::ActiveIdentifier => ACTIVE_IDENTIFIER,
-            Object::ActiveSignature => ACTIVE_SIGNATURE,
+            Object::ImageTransfer => cosem::IMAGE_TRANSFER,
+            Object::ActiveIdentifier => cosem::ACTIVE_FIRMWARE_IDENTIFIER,
+            Object::ActiveSignature => cosem::ACTIVE_FIRMWARE_SIGNATURE,
         }
     }
 
@@ -60,8 +48,8 @@ impl Object {
         ensures { result ≡ class_of self }
     {
         match self {
-            Object::ImageTransfer => IMAGE_TRANSFER_CLASS,
-            Object::ActiveIdentifier | Object::ActiveSignature => DATA,
+            Object::ImageTransfer => cosem::IMAGE_TRANSFER_CLASS,
+            Object::ActiveIdentifier | Object::ActiveSignature => cosem::DATA_CLASS,
         }
     }
 
@@ -82,13 +70,13 @@ fn image_attribute(number: i8) -> Option<Reading>
     ensures { result ≡ image_attribute number }
 {
     match number {
-        1 => Some(Reading::LogicalName(Object::ImageTransfer)),
-        2 => Some(Reading::BlockSize),
-        3 => Some(Reading::TransferredBlocks),
-        4 => Some(Reading::FirstNotTransferred),
-        5 => Some(Reading::TransferEnabled),
-        6 => Some(Reading::TransferStatus),
-        7 => Some(Reading::ToActivate),
+        cosem::LOGICAL_NAME => Some(Reading::LogicalName(Object::ImageTransfer)),
+        cosem::IMAGE_BLOCK_SIZE => Some(Reading::BlockSize),
+        cosem::IMAGE_TRANSFERRED_BLOCKS_STATUS => Some(Reading::TransferredBlocks),
+        cosem::IMAGE_FIRST_NOT_TRANSFERRED_BLOCK_NUMBER => Some(Reading::FirstNotTransferred),
+        cosem::IMAGE_TRANSFER_ENABLED => Some(Reading::TransferEnabled),
+        cosem::IMAGE_TRANSFER_STATUS => Some(Reading::TransferStatus),
+        cosem::IMAGE_TO_ACTIVATE_INFO => Some(Reading::ToActivate),
         _ => None,
     }
 }
@@ -98,8 +86,8 @@ fn data_attribute(object: Object, value: Reading, number: i8) -> Option<Reading>
     ensures { result ≡ data_attribute object value number }
 {
     match number {
-        1 => Some(Reading::LogicalName(object)),
-        2 => Some(value),
+        cosem::LOGICAL_NAME => Some(Reading::LogicalName(object)),
+        cosem::VALUE => Some(value),
         _ => None,
     }
 }

@@ -9,7 +9,7 @@ ghost use Rattle.fw_server.specs.View.{operation_meaning, planned_meaning};
 ghost use Rattle.fw_server.specs.declared.planning.Refusal.TheVariants.{TypeUnmatched};
 
 use crate::object::{Object, Reading};
-use fw_apdu::Request;
+use fw_apdu::{Request, cosem};
 use fw_axdr::{Data, Items};
 
 /// The codes of a Data-Access-Result or an Action-Result by which a request alone is refused, whatever the meter's state
@@ -17,13 +17,13 @@ use fw_axdr::{Data, Items};
 #[derive(Clone, Copy, Debug, PartialEq, Eq)]
 pub enum Refusal {
     /// The meter has no object of the logical name.
-    ObjectUndefined = 4,
+    ObjectUndefined,
     /// The object is of another class.
-    ObjectClassInconsistent = 9,
+    ObjectClassInconsistent,
     /// The object has no such attribute or method, or the attribute can't be set.
-    ReadWriteDenied = 3,
+    ReadWriteDenied,
     /// The parameter or the new value is absent or of another shape.
-    TypeUnmatched = 12,
+    TypeUnmatched,
 }
 
 impl Refusal {
@@ -31,7 +31,12 @@ impl Refusal {
     pub fn code(self) -> u8
         ensures { result ≡ code_number self }
     {
-        self as u8
+        match self {
+            Refusal::ObjectUndefined => cosem::OBJECT_UNDEFINED,
+            Refusal::ObjectClassInconsistent => cosem::OBJECT_CLASS_INCONSISTENT,
+            Refusal::ReadWriteDenied => cosem::READ_WRITE_DENIED,
+            Refusal::TypeUnmatched => cosem::TYPE_UNMATCHED,
+        }
     }
 }
 
@@ -87,7 +92,7 @@ fn asked(object: Object, request: &Request) -> Planned<'_>
         (
             Object::ImageTransfer,
             Request::Set {
-                attribute: 5,
+                attribute: cosem::IMAGE_TRANSFER_ENABLED,
                 value,
                 ..
             },
@@ -109,10 +114,10 @@ fn method_of(method: i8, parameter: &Option<Data>) -> Planned<'_>
     ensures { planned_meaning result ≡ method_of method (option_map value_of parameter.now) }
 {
     match method {
-        1 => or_unmatched(parameter.as_ref().and_then(initiate)),
-        2 => or_unmatched(parameter.as_ref().and_then(block)),
-        3 => or_unmatched(parameter.as_ref().and_then(verify)),
-        4 => or_unmatched(parameter.as_ref().and_then(activate)),
+        cosem::IMAGE_TRANSFER_INITIATE => or_unmatched(parameter.as_ref().and_then(initiate)),
+        cosem::IMAGE_BLOCK_TRANSFER => or_unmatched(parameter.as_ref().and_then(block)),
+        cosem::IMAGE_VERIFY => or_unmatched(parameter.as_ref().and_then(verify)),
+        cosem::IMAGE_ACTIVATE => or_unmatched(parameter.as_ref().and_then(activate)),
         _ => Planned::Refused(Refusal::ReadWriteDenied),
     }
 }

@@ -60,8 +60,14 @@ const READS: &[Case] = &[
 
 /// SET of image_transfer_enabled, and each method of Image transfer.
 const OPERATIONS: &[Case] = &[
-    ("c101c1001200002c0000ff05000301", Planned::Operate(Operation::Enable(true))),
-    ("c101c1001200002c0000ff05000300", Planned::Operate(Operation::Enable(false))),
+    (
+        "c101c1001200002c0000ff05000301",
+        Planned::Operate(Operation::Enable(true)),
+    ),
+    (
+        "c101c1001200002c0000ff05000300",
+        Planned::Operate(Operation::Enable(false)),
+    ),
     (
         "c301c1001200002c0000ff010102020929010000000700000001ba7816bf8f01cfea414140de5dae2223b00361a396177a9cb410ff61f20015ad0600000003",
         Planned::Operate(Operation::Initiate {
@@ -92,10 +98,22 @@ const OPERATIONS: &[Case] = &[
         }),
     ),
     // Of any integer.
-    ("c301c1001200002c0000ff03010f00", Planned::Operate(Operation::Verify)),
-    ("c301c1001200002c0000ff03010f80", Planned::Operate(Operation::Verify)),
-    ("c301c1001200002c0000ff04010f00", Planned::Operate(Operation::Activate)),
-    ("c301c1001200002c0000ff04010f7f", Planned::Operate(Operation::Activate)),
+    (
+        "c301c1001200002c0000ff03010f00",
+        Planned::Operate(Operation::Verify),
+    ),
+    (
+        "c301c1001200002c0000ff03010f80",
+        Planned::Operate(Operation::Verify),
+    ),
+    (
+        "c301c1001200002c0000ff04010f00",
+        Planned::Operate(Operation::Activate),
+    ),
+    (
+        "c301c1001200002c0000ff04010f7f",
+        Planned::Operate(Operation::Activate),
+    ),
 ];
 
 const UNDEFINED: Planned<'static> = Planned::Refused(Refusal::ObjectUndefined);
