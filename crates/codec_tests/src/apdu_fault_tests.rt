@@ -1,6 +1,6 @@
 //! Faults of byte strings that are no request or no response: which one, and that the leftmost one decides.
 
-use crate::support::{Case, each};
+use crate::support::{Case, Way, each, each_by};
 use fw_apdu::{ApduError, read_request, read_response};
 use fw_axdr::AxdrError;
 use fw_wrapper::WrapError;
@@ -16,134 +16,100 @@ fn fault_text(alloc: Global, fault: Option<ApduError>) -> Result<String, AllocEr
 }
 
 /// The fault of a request.
-struct Asked(&'static str);
+struct Asked;
 
-impl Case for Asked {
-    fn told(&self, alloc: Global) -> Result<String, Fail> {
-        let fault = read_request(alloc, &hex::decode(alloc, self.0)?).err();
-        Ok(fault_text(alloc, fault)?)
+impl Way for Asked {
+    fn told(&self, alloc: Global, bytes: &[u8]) -> Result<String, Fail> {
+        Ok(fault_text(alloc, read_request(alloc, bytes).err())?)
     }
 }
 
 /// The fault of a response.
-struct Answered(&'static str);
+struct Answered;
 
-impl Case for Answered {
-    fn told(&self, alloc: Global) -> Result<String, Fail> {
-        let fault = read_response(alloc, &hex::decode(alloc, self.0)?).err();
-        Ok(fault_text(alloc, fault)?)
+impl Way for Answered {
+    fn told(&self, alloc: Global, bytes: &[u8]) -> Result<String, Fail> {
+        Ok(fault_text(alloc, read_response(alloc, bytes).err())?)
     }
 }
 
 /// First bytes of no request.
-const FRONTS: &[(Asked, &str)] = &[
-    (Asked(""), "Truncated"),
-    (Asked("c0"), "Truncated"),
-    (Asked("00"), "UnknownService"),
-    (Asked("bf01"), "UnknownService"),
-    (Asked("c202"), "UnknownService"),
-    (Asked("c401"), "UnknownService"),
-    (Asked("c5"), "UnknownService"),
-    (Asked("c7"), "UnknownService"),
-    (Asked("ff"), "UnknownService"),
-    (Asked("c000"), "UnsupportedForm"),
-    (Asked("c102c1"), "UnsupportedForm"),
-    (Asked("c3ff"), "UnsupportedForm"),
+const FRONTS: &[(&str, &str)] = &[
+    ("", "Truncated"),
+    ("c0", "Truncated"),
+    ("00", "UnknownService"),
+    ("bf01", "UnknownService"),
+    ("c202", "UnknownService"),
+    ("c401", "UnknownService"),
+    ("c5", "UnknownService"),
+    ("c7", "UnknownService"),
+    ("ff", "UnknownService"),
+    ("c000", "UnsupportedForm"),
+    ("c102c1", "UnsupportedForm"),
+    ("c3ff", "UnsupportedForm"),
 ];
-
-#[test]
-fn first_bytes_of_no_request(rt: HostRuntime) -> Result<(), Fail> {
-    each(rt.alloc(), FRONTS)
-}
 
 /// A GET, SETs and ACTIONs of an attribute or a method 5 of class 18, 0-0:44.0.0.255.
-const REQUESTS: &[(Asked, &str)] = &[
-    (Asked("c001c1001200002c0000ff0500"), "none"),
-    (Asked("c001c1001200002c0000ff050000"), "Trailing"),
-    (Asked("c001c1001200002c0000ff0501"), "UnsupportedForm"),
-    (Asked("c001c1001200002c0000ff05ff00"), "UnsupportedForm"),
-    (Asked("c101c1001200002c0000ff05000301"), "none"),
-    (Asked("c101c1001200002c0000ff0500030100"), "Trailing"),
-    (Asked("c101c1001200002c0000ff05010301"), "UnsupportedForm"),
-    (Asked("c101c1001200002c0000ff050007"), "BadData(UnknownTag)"),
+const REQUESTS: &[(&str, &str)] = &[
+    ("c001c1001200002c0000ff0500", "none"),
+    ("c001c1001200002c0000ff050000", "Trailing"),
+    ("c001c1001200002c0000ff0501", "UnsupportedForm"),
+    ("c001c1001200002c0000ff05ff00", "UnsupportedForm"),
+    ("c101c1001200002c0000ff05000301", "none"),
+    ("c101c1001200002c0000ff0500030100", "Trailing"),
+    ("c101c1001200002c0000ff05010301", "UnsupportedForm"),
+    ("c101c1001200002c0000ff050007", "BadData(UnknownTag)"),
+    ("c101c1001200002c0000ff0500098007", "BadData(BadLength)"),
+    ("c101c1001200002c0000ff05000600", "BadData(Truncated)"),
     (
-        Asked("c101c1001200002c0000ff0500098007"),
-        "BadData(BadLength)",
-    ),
-    (
-        Asked("c101c1001200002c0000ff05000600"),
-        "BadData(Truncated)",
-    ),
-    (
-        Asked("c101c1001200002c0000ff05000201020102010201020102010201020100"),
+        "c101c1001200002c0000ff05000201020102010201020102010201020100",
         "BadData(TooDeep)",
     ),
-    (Asked("c301c1001200002c0000ff0500"), "none"),
-    (Asked("c301c1001200002c0000ff050000"), "Trailing"),
-    (Asked("c301c1001200002c0000ff05010f00"), "none"),
-    (Asked("c301c1001200002c0000ff05010f0000"), "Trailing"),
+    ("c301c1001200002c0000ff0500", "none"),
+    ("c301c1001200002c0000ff050000", "Trailing"),
+    ("c301c1001200002c0000ff05010f00", "none"),
+    ("c301c1001200002c0000ff05010f0000", "Trailing"),
+    ("c301c1001200002c0000ff05010700", "BadData(UnknownTag)"),
+    ("c301c1001200002c0000ff05ff0980", "BadData(BadLength)"),
+    ("c301c1001200002c0000ff05010600", "BadData(Truncated)"),
     (
-        Asked("c301c1001200002c0000ff05010700"),
-        "BadData(UnknownTag)",
-    ),
-    (
-        Asked("c301c1001200002c0000ff05ff0980"),
-        "BadData(BadLength)",
-    ),
-    (
-        Asked("c301c1001200002c0000ff05010600"),
-        "BadData(Truncated)",
-    ),
-    (
-        Asked("c301c1001200002c0000ff05010101010101010101010101010101010100"),
+        "c301c1001200002c0000ff05010101010101010101010101010101010100",
         "BadData(TooDeep)",
     ),
 ];
-
-#[test]
-fn faults_of_requests(rt: HostRuntime) -> Result<(), Fail> {
-    each(rt.alloc(), REQUESTS)
-}
 
 /// Responses and their faults.
-const RESPONSES: &[(Answered, &str)] = &[
-    (Answered(""), "Truncated"),
-    (Answered("c001"), "UnknownService"),
-    (Answered("c602"), "UnknownService"),
-    (Answered("c402c1"), "UnsupportedForm"),
-    (Answered("c500"), "UnsupportedForm"),
-    (Answered("c702"), "UnsupportedForm"),
-    (Answered("c401c102"), "UnsupportedForm"),
-    (Answered("c701c10001ff"), "UnsupportedForm"),
-    (Answered("c401c1000700"), "BadData(UnknownTag)"),
-    (Answered("c701c10001000980"), "BadData(BadLength)"),
+const RESPONSES: &[(&str, &str)] = &[
+    ("", "Truncated"),
+    ("c001", "UnknownService"),
+    ("c602", "UnknownService"),
+    ("c402c1", "UnsupportedForm"),
+    ("c500", "UnsupportedForm"),
+    ("c702", "UnsupportedForm"),
+    ("c401c102", "UnsupportedForm"),
+    ("c701c10001ff", "UnsupportedForm"),
+    ("c401c1000700", "BadData(UnknownTag)"),
+    ("c701c10001000980", "BadData(BadLength)"),
     (
-        Answered("c401c1000201020102010201020102010201020100"),
+        "c401c1000201020102010201020102010201020100",
         "BadData(TooDeep)",
     ),
-    (Answered("c401c1000000"), "Trailing"),
-    (Answered("c401c1010400"), "Trailing"),
-    (Answered("c501c10000"), "Trailing"),
-    (Answered("c701c1000000"), "Trailing"),
-    (Answered("c701c10001000000"), "Trailing"),
-    (Answered("c701c10001010400"), "Trailing"),
+    ("c401c1000000", "Trailing"),
+    ("c401c1010400", "Trailing"),
+    ("c501c10000", "Trailing"),
+    ("c701c1000000", "Trailing"),
+    ("c701c10001000000", "Trailing"),
+    ("c701c10001010400", "Trailing"),
 ];
 
-#[test]
-fn faults_of_responses(rt: HostRuntime) -> Result<(), Fail> {
-    each(rt.alloc(), RESPONSES)
-}
-
 /// The fault of each proper prefix of an APDU, of no byte first: S where the service is truncated, and D where the Data is.
-struct Prefixes(&'static str);
+struct Prefixes;
 
-impl Case for Prefixes {
-    fn told(&self, alloc: Global) -> Result<String, Fail> {
-        let apdu = hex::decode(alloc, self.0)?;
-        let apdu = apdu.as_slice();
+impl Way for Prefixes {
+    fn told(&self, alloc: Global, bytes: &[u8]) -> Result<String, Fail> {
         let mut told = String::new(alloc);
-        for len in 0..apdu.len() {
-            told.push_str(letter(fault_of(alloc, apdu.first(), &apdu[..len])))?;
+        for len in 0..bytes.len() {
+            told.push_str(letter(fault_of(alloc, bytes.first(), &bytes[..len])))?;
         }
         Ok(told)
     }
@@ -166,28 +132,20 @@ fn letter(fault: Option<ApduError>) -> &'static str {
 }
 
 /// The Data begins behind what the service itself has.
-const WHOLE: &[(Prefixes, &str)] = &[
-    (Prefixes("c001c100010100000200ff0200"), "SSSSSSSSSSSSS"),
+const WHOLE: &[(&str, &str)] = &[
+    ("c001c100010100000200ff0200", "SSSSSSSSSSSSS"),
+    ("c101c1001200002c0000ff05000301", "SSSSSSSSSSSSSDD"),
     (
-        Prefixes("c101c1001200002c0000ff05000301"),
-        "SSSSSSSSSSSSSDD",
-    ),
-    (
-        Prefixes("c301c1001200002c0000ff02010202060000000009026162"),
+        "c301c1001200002c0000ff02010202060000000009026162",
         "SSSSSSSSSSSSSDDDDDDDDDDD",
     ),
-    (Prefixes("c401c10009026162"), "SSSSDDDD"),
-    (Prefixes("c401c10104"), "SSSSS"),
-    (Prefixes("c501c100"), "SSSS"),
-    (Prefixes("c701c1fa00"), "SSSSS"),
-    (Prefixes("c701c10001001604"), "SSSSSSDD"),
-    (Prefixes("c701c100010104"), "SSSSSSS"),
+    ("c401c10009026162", "SSSSDDDD"),
+    ("c401c10104", "SSSSS"),
+    ("c501c100", "SSSS"),
+    ("c701c1fa00", "SSSSS"),
+    ("c701c10001001604", "SSSSSSDD"),
+    ("c701c100010104", "SSSSSSS"),
 ];
-
-#[test]
-fn each_proper_prefix_is_truncated(rt: HostRuntime) -> Result<(), Fail> {
-    each(rt.alloc(), WHOLE)
-}
 
 impl Case for ApduError {
     fn told(&self, alloc: Global) -> Result<String, Fail> {
@@ -224,7 +182,11 @@ const WRAPPER_NAMES: &[(WrapError, &str)] = &[
 ];
 
 #[test]
-fn printed_names(rt: HostRuntime) -> Result<(), Fail> {
+fn each_fault(rt: HostRuntime) -> Result<(), Fail> {
+    each_by(rt.alloc(), &Asked, FRONTS)?;
+    each_by(rt.alloc(), &Asked, REQUESTS)?;
+    each_by(rt.alloc(), &Answered, RESPONSES)?;
+    each_by(rt.alloc(), &Prefixes, WHOLE)?;
     each(rt.alloc(), NAMES)?;
     each(rt.alloc(), WRAPPER_NAMES)
 }

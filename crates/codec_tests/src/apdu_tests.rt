@@ -1,6 +1,6 @@
 //! The services GET, SET and ACTION in their normal forms (IEC 62056-5-3).
 
-use crate::support::{Case, deepened, each};
+use crate::support::{Case, Way, deepened, each, each_by};
 use fw_apdu::{
     ApduError, GetDataResult, Invoke, LogicalName, Request, Response, read_request, read_response,
     write_request, write_response,
@@ -9,142 +9,129 @@ use fw_axdr::AxdrError;
 use std::alloc::Global;
 use std::test::Fail;
 
-/// The text of what was read of an APDU, and how that is written, if it is otherwise.
-fn beside(alloc: Global, text: String, apdu: &str, written: &[u8]) -> Result<String, Fail> {
-    let written = hex::encode(alloc, written)?;
-    if written.as_str() == apdu {
-        return Ok(text);
-    }
-    Ok(format!(in alloc; "{text}, written {written}")?)
-}
+/// A request, as `Debug` gives it, and how it is written, if that is otherwise.
+struct Asked;
 
-/// A request, as `Debug` gives it.
-struct Asked(&'static str);
-
-impl Case for Asked {
-    fn told(&self, alloc: Global) -> Result<String, Fail> {
-        let request = read_request(alloc, &hex::decode(alloc, self.0)?)?;
-        let text = format!(in alloc; "{request:?}")?;
-        beside(alloc, text, self.0, &write_request(alloc, &request)?)
+impl Way for Asked {
+    fn told(&self, alloc: Global, bytes: &[u8]) -> Result<String, Fail> {
+        request_text(alloc, &read_request(alloc, bytes)?, bytes)
     }
 }
 
-/// A response.
-struct Answered(&'static str);
-
-impl Case for Answered {
-    fn told(&self, alloc: Global) -> Result<String, Fail> {
-        let response = read_response(alloc, &hex::decode(alloc, self.0)?)?;
-        let text = format!(in alloc; "{response:?}")?;
-        beside(alloc, text, self.0, &write_response(alloc, &response)?)
+fn request_text(alloc: Global, request: &Request, bytes: &[u8]) -> Result<String, Fail> {
+    let written = write_request(alloc, request)?;
+    if written.as_slice() == bytes {
+        return Ok(format!(in alloc; "{request:?}")?);
     }
+    let written = hex::encode(alloc, written.as_slice())?;
+    Ok(format!(in alloc; "{request:?}, written {written}")?)
+}
+
+/// The same of a response.
+struct Answered;
+
+impl Way for Answered {
+    fn told(&self, alloc: Global, bytes: &[u8]) -> Result<String, Fail> {
+        response_text(alloc, &read_response(alloc, bytes)?, bytes)
+    }
+}
+
+fn response_text(alloc: Global, response: &Response, bytes: &[u8]) -> Result<String, Fail> {
+    let written = write_response(alloc, response)?;
+    if written.as_slice() == bytes {
+        return Ok(format!(in alloc; "{response:?}")?);
+    }
+    let written = hex::encode(alloc, written.as_slice())?;
+    Ok(format!(in alloc; "{response:?}, written {written}")?)
 }
 
 /// Requests, and what they ask. Confirmed and of high priority, with the invoke-id 1, are a GET of the active firmware identifier
 /// (class 1, 1-0:0.2.0.255, attribute 2), a SET of attribute 5 of the Image transfer object (class 18, 0-0:44.0.0.255), and an
 /// ACTION of its method 3.
-const REQUESTS: &[(Asked, &str)] = &[
+const REQUESTS: &[(&str, &str)] = &[
     (
-        Asked("c001c100010100000200ff0200"),
+        "c001c100010100000200ff0200",
         "Get { invoke: Invoke(193), class: 1, instance: LogicalName([1, 0, 0, 2, 0, 255]), attribute: 2 }",
     ),
     // Attributes and methods have signed numbers.
     (
-        Asked("c0010ffedc0102030405068000"),
+        "c0010ffedc0102030405068000",
         "Get { invoke: Invoke(15), class: 65244, instance: LogicalName([1, 2, 3, 4, 5, 6]), attribute: -128 }",
     ),
     (
-        Asked("c101c1001200002c0000ff05000301"),
+        "c101c1001200002c0000ff05000301",
         "Set { invoke: Invoke(193), class: 18, instance: LogicalName([0, 0, 44, 0, 0, 255]), attribute: 5, value: Boolean(true) }",
     ),
     (
-        Asked("c30181001200002c0000ffff00"),
+        "c30181001200002c0000ffff00",
         "Action { invoke: Invoke(129), class: 18, instance: LogicalName([0, 0, 44, 0, 0, 255]), method: -1, parameter: None }",
     ),
     (
-        Asked("c301c1001200002c0000ff03010f00"),
+        "c301c1001200002c0000ff03010f00",
         "Action { invoke: Invoke(193), class: 18, instance: LogicalName([0, 0, 44, 0, 0, 255]), method: 3, parameter: Some(Integer(0)) }",
     ),
     // any nonzero presence is read, and 01 is written
     (
-        Asked("c301c1001200002c0000ff03ff0f00"),
+        "c301c1001200002c0000ff03ff0f00",
         "Action { invoke: Invoke(193), class: 18, instance: LogicalName([0, 0, 44, 0, 0, 255]), method: 3, parameter: Some(Integer(0)) }, written c301c1001200002c0000ff03010f00",
     ),
 ];
 
-#[test]
-fn requests(rt: HostRuntime) -> Result<(), Fail> {
-    each(rt.alloc(), REQUESTS)
-}
-
 /// Responses, and what they answer.
-const RESPONSES: &[(Answered, &str)] = &[
+const RESPONSES: &[(&str, &str)] = &[
     (
-        Answered("c401c1000600000002"),
+        "c401c1000600000002",
         "Get { invoke: Invoke(193), result: Data(DoubleLongUnsigned(2)) }",
     ),
+    ("c401c10104", "Get { invoke: Invoke(193), result: Code(4) }"),
+    ("c5014200", "Set { invoke: Invoke(66), code: 0 }"),
     (
-        Answered("c401c10104"),
-        "Get { invoke: Invoke(193), result: Code(4) }",
-    ),
-    (Answered("c5014200"), "Set { invoke: Invoke(66), code: 0 }"),
-    (
-        Answered("c701c1fa00"),
+        "c701c1fa00",
         "Action { invoke: Invoke(193), code: 250, returned: None }",
     ),
     (
-        Answered("c701c10001001604"),
+        "c701c10001001604",
         "Action { invoke: Invoke(193), code: 0, returned: Some(Data(Enumerated(4))) }",
     ),
     (
-        Answered("c701c1020101ff"),
+        "c701c1020101ff",
         "Action { invoke: Invoke(193), code: 2, returned: Some(Code(255)) }",
     ),
     (
-        Answered("c701c1028001ff"),
+        "c701c1028001ff",
         "Action { invoke: Invoke(193), code: 2, returned: Some(Code(255)) }, written c701c1020101ff",
     ),
 ];
 
-#[test]
-fn responses(rt: HostRuntime) -> Result<(), Fail> {
-    each(rt.alloc(), RESPONSES)
-}
-
 /// A request: its invoke byte, and the class_id and the logical name of the object that it addresses.
-struct Addressed(&'static str);
+struct Addressed;
 
-impl Case for Addressed {
-    fn told(&self, alloc: Global) -> Result<String, Fail> {
-        let request = read_request(alloc, &hex::decode(alloc, self.0)?)?;
-        Ok(format!(in alloc;
-            "{:?} {} {:?}",
-            request.invoke(),
-            request.class(),
-            request.instance()
-        )?)
+impl Way for Addressed {
+    fn told(&self, alloc: Global, bytes: &[u8]) -> Result<String, Fail> {
+        addressed_text(alloc, &read_request(alloc, bytes)?)
     }
 }
 
-const OBJECTS: &[(Addressed, &str)] = &[
+fn addressed_text(alloc: Global, request: &Request) -> Result<String, Fail> {
+    let (invoke, class) = (request.invoke(), request.class());
+    let instance = request.instance();
+    Ok(format!(in alloc; "{invoke:?} {class} {instance:?}")?)
+}
+
+const OBJECTS: &[(&str, &str)] = &[
     (
-        Addressed("c001c100010100000200ff0200"),
+        "c001c100010100000200ff0200",
         "Invoke(193) 1 LogicalName([1, 0, 0, 2, 0, 255])",
     ),
     (
-        Addressed("c101c1001200002c0000ff05000301"),
+        "c101c1001200002c0000ff05000301",
         "Invoke(193) 18 LogicalName([0, 0, 44, 0, 0, 255])",
     ),
     (
-        Addressed("c301c1001200002c0000ff03010f00"),
+        "c301c1001200002c0000ff03010f00",
         "Invoke(193) 18 LogicalName([0, 0, 44, 0, 0, 255])",
     ),
 ];
-
-#[test]
-fn the_object_that_is_addressed(rt: HostRuntime) -> Result<(), Fail> {
-    each(rt.alloc(), OBJECTS)
-}
 
 /// An invoke byte: its id, and whether it is confirmed.
 struct Byte(u8);
@@ -166,11 +153,6 @@ const INVOKES: &[(Byte, &str)] = &[
     (Byte(0xc1), "1 true"),
     (Byte(0xff), "15 true"),
 ];
-
-#[test]
-fn invoke_bytes(rt: HostRuntime) -> Result<(), Fail> {
-    each(rt.alloc(), INVOKES)
-}
 
 /// Eight levels, which are nine as an element.
 const EIGHT_LEVELS: &[u8] = &[2, 1, 2, 1, 2, 1, 2, 1, 2, 1, 2, 1, 2, 1, 0];
@@ -216,6 +198,10 @@ const NINE: &[(Nine, &str)] = &[
 ];
 
 #[test]
-fn nine_levels_are_not_written(rt: HostRuntime) -> Result<(), Fail> {
+fn requests_and_responses(rt: HostRuntime) -> Result<(), Fail> {
+    each_by(rt.alloc(), &Asked, REQUESTS)?;
+    each_by(rt.alloc(), &Answered, RESPONSES)?;
+    each_by(rt.alloc(), &Addressed, OBJECTS)?;
+    each(rt.alloc(), INVOKES)?;
     each(rt.alloc(), NINE)
 }

@@ -41,11 +41,6 @@ UUUUUUUUUUUUUUUUUUUUUUUUUUUUUUUUUUUUUUUUUUUUUUUUUUUUUUUUUUUUUUUU\
 UUUUUUUUUUUUUUUUUUUUUUUUUUUUUUUUUUUUUUUUUUUUUUUUUUUUUUUUUUUUUUUU",
 )];
 
-#[test]
-fn each_tag(rt: HostRuntime) -> Result<(), Fail> {
-    each(rt.alloc(), TAGS)
-}
-
 /// A tag with none to eight bytes behind it.
 struct Fixed(u8);
 
@@ -73,11 +68,6 @@ const FIXED: &[(Fixed, &str)] = &[
     (Fixed(0x15), "TTTTTTTT."),
     (Fixed(0x16), "T........"),
 ];
-
-#[test]
-fn missing_contents(rt: HostRuntime) -> Result<(), Fail> {
-    each(rt.alloc(), FIXED)
-}
 
 /// Arrays, structures, and both in turn, of one element each and one in another: eight of them.
 const NESTINGS: &[[u8; 16]] = &[
@@ -111,6 +101,8 @@ const INNERMOST: &[(Innermost, &str)] = &[
 ];
 
 #[test]
-fn depth_nine_is_too_deep(rt: HostRuntime) -> Result<(), Fail> {
+fn each_tag_each_size_and_each_depth(rt: HostRuntime) -> Result<(), Fail> {
+    each(rt.alloc(), TAGS)?;
+    each(rt.alloc(), FIXED)?;
     each(rt.alloc(), INNERMOST)
 }

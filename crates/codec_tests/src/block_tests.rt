@@ -45,11 +45,6 @@ const GEOMETRIES: &[(Lies, &str)] = &[
     (Lies(1024, 4_194_305, 0), "none"),
 ];
 
-#[test]
-fn where_blocks_lie(rt: HostRuntime) -> Result<(), Fail> {
-    each(rt.alloc(), GEOMETRIES)
-}
-
 /// The bytes that aren't zero, each behind its place.
 fn nonzero(alloc: Global, bytes: &[u8]) -> Result<String, AllocError> {
     let mut text = String::new(alloc);
@@ -138,12 +133,6 @@ const SHOWN: &[(Shown, &str)] = &[
     (Shown(&[], 0, 1), "none"),
 ];
 
-#[test]
-fn sets_of_blocks(rt: HostRuntime) -> Result<(), Fail> {
-    each(rt.alloc(), SETS)?;
-    each(rt.alloc(), SHOWN)
-}
-
 /// The bits of a set below so many with every other number, from 0 on: how many, of how many bytes, and whether each is aa.
 struct EveryOther(u32);
 
@@ -163,14 +152,6 @@ impl Case for EveryOther {
             bits.as_bytes().len()
         )?)
     }
-}
-
-#[test]
-fn every_other_block_of_4096(rt: HostRuntime) -> Result<(), Fail> {
-    each(
-        rt.alloc(),
-        &[(EveryOther(4096), "4096 bits, 512 bytes, true")],
-    )
 }
 
 /// The marks with these numbers, marked in this order.
@@ -243,12 +224,6 @@ impl Case for AllMarked {
     }
 }
 
-#[test]
-fn marks(rt: HostRuntime) -> Result<(), Fail> {
-    each(rt.alloc(), MARKED)?;
-    each(rt.alloc(), &[(AllMarked(17), "(4096, true, false) true")])
-}
-
 /// The marks with these numbers below a count: the first that is missing, and the bits that are shown.
 struct Below(&'static [u32], u32);
 
@@ -283,11 +258,6 @@ const BELOW: &[(Below, &str)] = &[
     (Below(&[0, 4095], 4095), "1, 4095 bits, 512 bytes, 0:80"),
 ];
 
-#[test]
-fn marks_below_a_count(rt: HostRuntime) -> Result<(), Fail> {
-    each(rt.alloc(), BELOW)
-}
-
 /// The set below a count with these numbers: the lowest that aren't there, as many as a window of this width has.
 struct Lowest(u32, &'static [u32], u8);
 
@@ -319,6 +289,20 @@ const WINDOWS: &[(Lowest, &str)] = &[
 ];
 
 #[test]
-fn the_lowest_missing_blocks(rt: HostRuntime) -> Result<(), Fail> {
+fn blocks_and_sets(rt: HostRuntime) -> Result<(), Fail> {
+    each(rt.alloc(), GEOMETRIES)?;
+    each(rt.alloc(), SETS)?;
+    each(rt.alloc(), SHOWN)?;
+    each(
+        rt.alloc(),
+        &[(EveryOther(4096), "4096 bits, 512 bytes, true")],
+    )
+}
+
+#[test]
+fn marks_and_windows(rt: HostRuntime) -> Result<(), Fail> {
+    each(rt.alloc(), MARKED)?;
+    each(rt.alloc(), &[(AllMarked(17), "(4096, true, false) true")])?;
+    each(rt.alloc(), BELOW)?;
     each(rt.alloc(), WINDOWS)
 }

@@ -1,47 +1,71 @@
 //! Names of images: 01, the head end's number, the campaign's serial number, and the SHA-256 (FIPS 180-4) of the image.
 
-use crate::support::{Case, each};
+use crate::support::{Case, Way, each, each_by};
 use fw_names::{CampaignId, HeadId, ImageName, MeterId, factory_name, name_of};
 use std::alloc::Global;
 use std::test::Fail;
 
-/// The SHA-256 of `abc`, from the examples of FIPS 180-4.
-const ABC: &str = "ba7816bf8f01cfea414140de5dae2223b00361a396177a9cb410ff61f20015ad";
+/// Whether the bytes spell a name, whose spelling they then are.
+struct Spelling;
 
-/// First bytes: whether they and the digest above spell a name, whose spelling they then are.
-struct Front(&'static str);
-
-impl Case for Front {
-    fn told(&self, alloc: Global) -> Result<String, Fail> {
-        let spelling = format!(in alloc; "{}{ABC}", self.0)?;
-        let bytes = hex::decode(alloc, spelling.as_str())?;
-        let name = ImageName::from_bytes(&bytes);
-        let same = name.is_some_and(|name| bytes.as_slice() == name.to_bytes().as_slice());
+impl Way for Spelling {
+    fn told(&self, alloc: Global, bytes: &[u8]) -> Result<String, Fail> {
+        let name = ImageName::from_bytes(bytes);
+        let same = name.is_some_and(|name| bytes == name.to_bytes().as_slice());
         Ok(format!(in alloc; "{same}")?)
     }
 }
 
-const FRONTS: &[(Front, &str)] = &[
-    (Front("010000000700000001"), "true"),
-    (Front("010000000000000000"), "true"),
-    (Front("0101020304ffffffff"), "true"),
+/// Behind the first bytes stands the SHA-256 of `abc`, from the examples of FIPS 180-4.
+const FRONTS: &[(&str, &str)] = &[
+    (
+        "010000000700000001ba7816bf8f01cfea414140de5dae2223b00361a396177a9cb410ff61f20015ad",
+        "true",
+    ),
+    (
+        "010000000000000000ba7816bf8f01cfea414140de5dae2223b00361a396177a9cb410ff61f20015ad",
+        "true",
+    ),
+    (
+        "0101020304ffffffffba7816bf8f01cfea414140de5dae2223b00361a396177a9cb410ff61f20015ad",
+        "true",
+    ),
     // Another first byte.
-    (Front("000000000700000001"), "false"),
-    (Front("020000000700000001"), "false"),
+    (
+        "000000000700000001ba7816bf8f01cfea414140de5dae2223b00361a396177a9cb410ff61f20015ad",
+        "false",
+    ),
+    (
+        "020000000700000001ba7816bf8f01cfea414140de5dae2223b00361a396177a9cb410ff61f20015ad",
+        "false",
+    ),
     // One of the two numbers is 0.
-    (Front("010000000000000001"), "false"),
-    (Front("010000000100000000"), "false"),
-    (Front("0100000000ff000000"), "false"),
-    (Front("01ff00000000000000"), "false"),
+    (
+        "010000000000000001ba7816bf8f01cfea414140de5dae2223b00361a396177a9cb410ff61f20015ad",
+        "false",
+    ),
+    (
+        "010000000100000000ba7816bf8f01cfea414140de5dae2223b00361a396177a9cb410ff61f20015ad",
+        "false",
+    ),
+    (
+        "0100000000ff000000ba7816bf8f01cfea414140de5dae2223b00361a396177a9cb410ff61f20015ad",
+        "false",
+    ),
+    (
+        "01ff00000000000000ba7816bf8f01cfea414140de5dae2223b00361a396177a9cb410ff61f20015ad",
+        "false",
+    ),
     // 40 and 42 bytes.
-    (Front("0100000007000001"), "false"),
-    (Front("010000000700000001ba"), "false"),
+    (
+        "0100000007000001ba7816bf8f01cfea414140de5dae2223b00361a396177a9cb410ff61f20015ad",
+        "false",
+    ),
+    (
+        "010000000700000001baba7816bf8f01cfea414140de5dae2223b00361a396177a9cb410ff61f20015ad",
+        "false",
+    ),
 ];
-
-#[test]
-fn reads_names_alone(rt: HostRuntime) -> Result<(), Fail> {
-    each(rt.alloc(), FRONTS)
-}
 
 /// The spelling of a name of `abc`: as a factory image, or under a head end's campaign.
 enum Named {
@@ -80,11 +104,6 @@ const NAMES: &[(Named, &str)] = &[
     (Named::Offered(0, 1), "none"),
     (Named::Offered(1, 0), "none"),
 ];
-
-#[test]
-fn the_name_of_an_image(rt: HostRuntime) -> Result<(), Fail> {
-    each(rt.alloc(), NAMES)
-}
 
 /// Numbers as they are taken and told again: of a head end and of a meter, and what a campaign tells of itself.
 enum Number {
@@ -129,6 +148,8 @@ const NUMBERS: &[(Number, &str)] = &[
 ];
 
 #[test]
-fn numbers(rt: HostRuntime) -> Result<(), Fail> {
+fn names_and_numbers(rt: HostRuntime) -> Result<(), Fail> {
+    each_by(rt.alloc(), &Spelling, FRONTS)?;
+    each(rt.alloc(), NAMES)?;
     each(rt.alloc(), NUMBERS)
 }

@@ -12,16 +12,31 @@ pub(crate) trait Case {
 /// Of each case is told what stands beside it. What else is told is named with the place of its row.
 pub(crate) fn each<C: Case>(alloc: Global, rows: &[(C, &str)]) -> Result<(), Fail> {
     for (at, (case, want)) in rows.iter().enumerate() {
-        expect(alloc, at, case.told(alloc)?.as_str(), want)?;
+        let row = format!(in alloc; "row {at}")?;
+        expect(alloc, row.as_str(), case.told(alloc)?.as_str(), want)?;
     }
     Ok(())
 }
 
-fn expect(alloc: Global, at: usize, found: &str, want: &str) -> Result<(), Fail> {
+/// A way in which bytes are taken, and told of in a line.
+pub(crate) trait Way {
+    fn told(&self, alloc: Global, bytes: &[u8]) -> Result<String, Fail>;
+}
+
+/// Of bytes in hexadecimal is told what stands beside them.
+pub(crate) fn each_by<W: Way>(alloc: Global, way: &W, rows: &[(&str, &str)]) -> Result<(), Fail> {
+    for (digits, want) in rows {
+        let bytes = hex::decode(alloc, digits)?;
+        expect(alloc, digits, way.told(alloc, &bytes)?.as_str(), want)?;
+    }
+    Ok(())
+}
+
+fn expect(alloc: Global, at: &str, found: &str, want: &str) -> Result<(), Fail> {
     if found == want {
         return Ok(());
     }
-    let told = format!(in alloc; "row {at}: {found} in place of {want}")?;
+    let told = format!(in alloc; "{at}: {found} in place of {want}")?;
     Err(Fail::from(told))
 }
 

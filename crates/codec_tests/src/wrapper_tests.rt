@@ -1,51 +1,48 @@
 //! Datagrams of the wrapper over UDP (IEC 62056-4-7).
 
 use crate::split_back;
-use crate::support::{Case, each, joined};
-use fw_wrapper::{join, split};
+use crate::support::{Case, Way, each, each_by, joined};
+use fw_wrapper::{Frame, join, split};
 use std::alloc::Global;
 use std::test::Fail;
 
 /// A datagram: its two wPorts, its APDU, and the datagram that they are joined to, or the refusal.
-struct Datagram(&'static str);
+struct Datagram;
 
-impl Case for Datagram {
-    fn told(&self, alloc: Global) -> Result<String, Fail> {
-        let datagram = hex::decode(alloc, self.0)?;
-        let frame = match split(&datagram) {
-            Ok(frame) => frame,
-            Err(refusal) => return Ok(format!(in alloc; "{refusal:?}")?),
-        };
-        let again = join(alloc, frame.source, frame.dest, frame.apdu)?;
-        let apdu = hex::encode(alloc, frame.apdu)?;
-        let again = hex::encode(alloc, again.as_slice())?;
-        Ok(format!(in alloc; "{:04x} {:04x} {apdu}, {again}", frame.source, frame.dest)?)
+impl Way for Datagram {
+    fn told(&self, alloc: Global, bytes: &[u8]) -> Result<String, Fail> {
+        match split(bytes) {
+            Ok(frame) => frame_text(alloc, &frame),
+            Err(refusal) => Ok(refusal.to_string(alloc)?),
+        }
     }
 }
 
+fn frame_text(alloc: Global, frame: &Frame<'_>) -> Result<String, Fail> {
+    let again = join(alloc, frame.source, frame.dest, frame.apdu)?;
+    let again = hex::encode(alloc, again.as_slice())?;
+    let apdu = hex::encode(alloc, frame.apdu)?;
+    Ok(format!(in alloc; "{:04x} {:04x} {apdu}, {again}", frame.source, frame.dest)?)
+}
+
 /// From wPort 0102 to wPort 0304, the APDU c001c1, and then datagrams that the first refusal that applies is told of.
-const DATAGRAMS: &[(Datagram, &str)] = &[
+const DATAGRAMS: &[(&str, &str)] = &[
     (
-        Datagram("0001010203040003c001c1"),
+        "0001010203040003c001c1",
         "0102 0304 c001c1, 0001010203040003c001c1",
     ),
-    (Datagram(""), "Short"),
-    (Datagram("00010001000100"), "Short"),
-    (Datagram("00020001000100"), "Short"),
-    (Datagram("0000000100010000"), "Version"),
-    (Datagram("0002000100010000"), "Version"),
-    (Datagram("0100000100010000"), "Version"),
-    (Datagram("0101000100010000"), "Version"),
-    (Datagram("0002000100010009"), "Version"),
-    (Datagram("0001000100010001"), "Length"),
-    (Datagram("000100010001000007"), "Length"),
-    (Datagram("000100010001010007"), "Length"),
+    ("", "Short"),
+    ("00010001000100", "Short"),
+    ("00020001000100", "Short"),
+    ("0000000100010000", "Version"),
+    ("0002000100010000", "Version"),
+    ("0100000100010000", "Version"),
+    ("0101000100010000", "Version"),
+    ("0002000100010009", "Version"),
+    ("0001000100010001", "Length"),
+    ("000100010001000007", "Length"),
+    ("000100010001010007", "Length"),
 ];
-
-#[test]
-fn splits_and_joins(rt: HostRuntime) -> Result<(), Fail> {
-    each(rt.alloc(), DATAGRAMS)
-}
 
 /// A length field, and the number of bytes that are there: the refusal of the datagram.
 struct Field(u16, usize);
@@ -91,7 +88,8 @@ const CARRIED: &[(Carried, &str)] = &[
 ];
 
 #[test]
-fn the_longest_apdu_has_1280_bytes(rt: HostRuntime) -> Result<(), Fail> {
+fn splits_and_joins(rt: HostRuntime) -> Result<(), Fail> {
+    each_by(rt.alloc(), &Datagram, DATAGRAMS)?;
     each(rt.alloc(), LENGTHS)?;
     each(rt.alloc(), CARRIED)
 }

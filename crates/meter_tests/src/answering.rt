@@ -1,5 +1,6 @@
 //! The command `answer`, over readers and writers in memory, and over some that fail.
 
+use crate::support::{Case, each, expect};
 use fw_cli::{AnswerOptions, Fault, run_answer};
 use std::alloc::Global;
 use std::io;
@@ -41,86 +42,147 @@ const TRANSFERRED: &str = "\
 000100010001005ac401c1000101020306000000030929010000000700000001ba7816bf8f01cfea414140de5dae2223b00361a396177a9cb410ff61f20015ad0920ba7816bf8f01cfea414140de5dae2223b00361a396177a9cb410ff61f20015ad
 ";
 
+/// What is written of these lines, and behind it the fault, if there is one.
 pub(crate) fn answered(
     alloc: Global,
     input: &str,
     options: &AnswerOptions<'_>,
-) -> (Vec<u8>, Result<(), Fault>) {
+) -> Result<String, Fail> {
+    from_reader(alloc, &mut input.as_bytes(), options)
+}
+
+fn from_reader<R: Read>(
+    alloc: Global,
+    reader: &mut R,
+    options: &AnswerOptions<'_>,
+) -> Result<String, Fail> {
     let mut written = Vec::new(alloc);
-    let result = run_answer(alloc, &mut input.as_bytes(), &mut written, options);
-    (written, result)
+    let result = run_answer(alloc, reader, &mut written, options);
+    let mut text = String::from_utf8(written)?;
+    if let Err(fault) = result {
+        text.push_str(format!(in alloc; "{fault:?}")?.as_str())?;
+    }
+    Ok(text)
 }
 
-#[test]
-fn answers_each_line(rt: HostRuntime) {
-    let cases = [
-        (GET, NAME),
-        // a length that is one too low
-        ("000100010001000cc001c100010100000200ff0200\n", "-\n"),
-        // no confirmation wanted
-        ("000100010001000dc0018100010100000200ff0200\n", "-\n"),
-        // a byte behind the request
-        ("000100010001000ec001c100010100000200ff020000\n", "-\n"),
-        // an empty datagram, then either case and no LF at the end
-        (
-            "\n000100010001000DC001C100010100000200FF0100",
-            "-\n000100010001000cc401c10009060100000200ff\n",
-        ),
-        ("", ""),
-        (TRANSFER, TRANSFERRED),
-    ];
-    for (input, want) in cases {
-        let (written, result) = answered(rt.alloc(), input, &DEFAULTS);
-        assert_eq!(rt; result, Ok(()), "at {input}");
-        assert_eq!(rt; written.as_slice(), want.as_bytes(), "at {input}");
+/// Lines for a meter with the options above.
+struct Lines(&'static str);
+
+impl Case for Lines {
+    fn told(&self, alloc: Global) -> Result<String, Fail> {
+        answered(alloc, self.0, &DEFAULTS)
     }
 }
 
-#[test]
-fn a_bad_line_comes_after_the_replies_before_it(rt: HostRuntime) {
-    for line in ["0", "0g", " 00", "00 ", "00\r", "-", "#", "0x00"] {
-        let input = format!(in rt.alloc(); "{GET}\n{line}\n{GET}").expect(&rt, "memory");
-        let (written, result) = answered(rt.alloc(), input.as_str(), &DEFAULTS);
-        assert_eq!(rt; result, Err(Fault::BadLine(3)), "at {line}");
-        let want = format!(in rt.alloc(); "{NAME}-\n").expect(&rt, "memory");
-        assert_eq!(rt; written.as_slice(), want.as_bytes(), "at {line}");
+const ANSWERED: &[(Lines, &str)] = &[
+    (Lines(GET), NAME),
+    // a length that is one too low
+    (Lines("000100010001000cc001c100010100000200ff0200\n"), "-\n"),
+    // no confirmation wanted
+    (Lines("000100010001000dc0018100010100000200ff0200\n"), "-\n"),
+    // a byte behind the request
+    (
+        Lines("000100010001000ec001c100010100000200ff020000\n"),
+        "-\n",
+    ),
+    // an empty datagram, then either case and no LF at the end
+    (
+        Lines("\n000100010001000DC001C100010100000200FF0100"),
+        "-\n000100010001000cc401c10009060100000200ff\n",
+    ),
+    (Lines(""), ""),
+    (Lines(TRANSFER), TRANSFERRED),
+];
+
+/// A line behind a GET and an empty datagram, and before another GET.
+struct Third(&'static str);
+
+impl Case for Third {
+    fn told(&self, alloc: Global) -> Result<String, Fail> {
+        let input = format!(in alloc; "{GET}\n{}\n{GET}", self.0)?;
+        answered(alloc, input.as_str(), &DEFAULTS)
     }
 }
 
+/// The replies before a bad line, and the fault.
+const BAD: &str =
+    "000100010001002fc401c1000929010000000000000000ba7816bf8f01cfea414140de5dae2223b00361a396177a9cb410ff61f20015ad\n-\nBadLine(3)";
+
+const BAD_LINES: &[(Third, &str)] = &[
+    (Third("0"), BAD),
+    (Third("0g"), BAD),
+    (Third(" 00"), BAD),
+    (Third("00 "), BAD),
+    (Third("00\r"), BAD),
+    (Third("-"), BAD),
+    (Third("#"), BAD),
+    (Third("0x00"), BAD),
+];
+
 #[test]
-fn options_that_describe_no_meter_are_refused(rt: HostRuntime) {
-    let cases = [
-        AnswerOptions {
+fn answers_each_line_before_a_bad_one(rt: HostRuntime) -> Result<(), Fail> {
+    each(rt.alloc(), ANSWERED)?;
+    each(rt.alloc(), BAD_LINES)
+}
+
+/// Options, where the input would be a bad line.
+struct Options(AnswerOptions<'static>);
+
+impl Case for Options {
+    fn told(&self, alloc: Global) -> Result<String, Fail> {
+        answered(alloc, "x", &self.0)
+    }
+}
+
+/// Options that describe no meter. The input isn't looked at.
+const OPTIONS: &[(Options, &str)] = &[
+    (
+        Options(AnswerOptions {
             factory: "6",
             ..DEFAULTS
-        },
-        AnswerOptions {
+        }),
+        "BadSetup",
+    ),
+    (
+        Options(AnswerOptions {
             factory: "6x",
             ..DEFAULTS
-        },
-        AnswerOptions {
+        }),
+        "BadSetup",
+    ),
+    (
+        Options(AnswerOptions {
             factory: "",
             ..DEFAULTS
-        },
-        AnswerOptions {
+        }),
+        "BadSetup",
+    ),
+    (
+        Options(AnswerOptions {
             block_size: 0,
             ..DEFAULTS
-        },
-        AnswerOptions {
+        }),
+        "BadSetup",
+    ),
+    (
+        Options(AnswerOptions {
             capacity: 2,
             ..DEFAULTS
-        },
-        AnswerOptions {
+        }),
+        "BadSetup",
+    ),
+    (
+        Options(AnswerOptions {
             capacity: 4_294_967_296,
             ..DEFAULTS
-        },
-    ];
-    for options in cases {
-        // The input would be a bad line, but it isn't looked at.
-        let (written, result) = answered(rt.alloc(), "x", &options);
-        assert_eq!(rt; result, Err(Fault::BadSetup), "at {options:?}");
-        assert_eq!(rt; written.len(), 0);
-    }
+        }),
+        "BadSetup",
+    ),
+];
+
+#[test]
+fn options_that_describe_no_meter_are_refused(rt: HostRuntime) -> Result<(), Fail> {
+    each(rt.alloc(), OPTIONS)
 }
 
 /// Interrupted once, then a byte at a time, and then broken.
@@ -147,18 +209,6 @@ impl Read for BrokenReader<'_> {
     }
 }
 
-#[test]
-fn a_reader_that_breaks_is_an_input_fault(rt: HostRuntime) {
-    let mut reader = BrokenReader {
-        interrupted: false,
-        left: GET.as_bytes(),
-    };
-    let mut written = Vec::new(rt.alloc());
-    let result = run_answer(rt.alloc(), &mut reader, &mut written, &DEFAULTS);
-    assert_eq!(rt; result, Err(Fault::Input));
-    assert_eq!(rt; written.len(), 0);
-}
-
 /// Fills each buffer, without end.
 #[derive(Drop)]
 struct EndlessReader;
@@ -167,14 +217,6 @@ impl Read for EndlessReader {
     fn read(&mut self, buf: &mut [u8]) -> io::Result<usize> {
         Ok(buf.len())
     }
-}
-
-#[test]
-fn a_reader_with_too_many_bytes_is_refused(rt: HostRuntime) {
-    let mut written = Vec::new(rt.alloc());
-    let result = run_answer(rt.alloc(), &mut EndlessReader, &mut written, &DEFAULTS);
-    assert_eq!(rt; result, Err(Fault::TooMuchInput));
-    assert_eq!(rt; written.len(), 0);
 }
 
 /// Interrupted without end. It counts how often it is asked.
@@ -191,13 +233,27 @@ impl Read for InterruptedReader {
 }
 
 #[test]
-fn a_reader_is_asked_so_often_at_most(rt: HostRuntime) {
-    let mut reader = InterruptedReader { reads: 0 };
-    let mut written = Vec::new(rt.alloc());
-    let result = run_answer(rt.alloc(), &mut reader, &mut written, &DEFAULTS);
-    assert_eq!(rt; result, Err(Fault::Input));
-    assert_eq!(rt; reader.reads, 4_294_967_296);
-    assert_eq!(rt; written.len(), 0);
+fn readers_that_fail(rt: HostRuntime) -> Result<(), Fail> {
+    let alloc = rt.alloc();
+    let mut broken = BrokenReader {
+        interrupted: false,
+        left: GET.as_bytes(),
+    };
+    let found = from_reader(alloc, &mut broken, &DEFAULTS)?;
+    expect(alloc, "broken", found.as_str(), "Input")?;
+    let found = from_reader(alloc, &mut EndlessReader, &DEFAULTS)?;
+    expect(alloc, "endless", found.as_str(), "TooMuchInput")?;
+    Ok(())
+}
+
+#[test]
+fn a_reader_is_asked_so_often_at_most(rt: HostRuntime) -> Result<(), Fail> {
+    let alloc = rt.alloc();
+    let mut interrupted = InterruptedReader { reads: 0 };
+    let found = from_reader(alloc, &mut interrupted, &DEFAULTS)?;
+    expect(alloc, "interrupted", found.as_str(), "Input")?;
+    let reads = format!(in alloc; "{}", interrupted.reads)?;
+    expect(alloc, "reads", reads.as_str(), "4294967296")
 }
 
 /// Takes so many bytes, and then fails.
@@ -221,30 +277,41 @@ impl Write for FullWriter {
     }
 }
 
-/// Also where a bad line comes behind what can't be written.
-#[test]
-fn a_writer_that_fails_is_an_output_fault(rt: HostRuntime) {
-    for room in [0, 1, 40] {
-        let input = format!(in rt.alloc(); "{GET}x\n").expect(&rt, "memory");
-        let mut writer = FullWriter { room };
-        let result = run_answer(rt.alloc(), &mut input.as_bytes(), &mut writer, &DEFAULTS);
-        assert_eq!(rt; result, Err(Fault::Output), "with room for {room}");
+/// A writer with room for so many bytes, where a bad line comes behind a GET.
+struct Room(usize);
+
+impl Case for Room {
+    fn told(&self, alloc: Global) -> Result<String, Fail> {
+        let input = format!(in alloc; "{GET}x\n")?;
+        let mut writer = FullWriter { room: self.0 };
+        let result = run_answer(alloc, &mut input.as_bytes(), &mut writer, &DEFAULTS);
+        Ok(format!(in alloc; "{result:?}")?)
     }
 }
 
-#[test]
-fn a_fault_prints_its_name(rt: HostRuntime) -> Result<(), Fail> {
-    let cases = [
-        (Fault::BadLine(3), "BadLine 3"),
-        (Fault::BadSetup, "BadSetup"),
-        (Fault::Input, "Input"),
-        (Fault::TooMuchInput, "TooMuchInput"),
-        (Fault::Output, "Output"),
-        (Fault::OutOfMemory, "OutOfMemory"),
-    ];
-    for (fault, want) in cases {
-        let name = format!(in rt.alloc(); "{fault}")?;
-        assert_eq!(rt; name.as_str(), want);
+const ROOMS: &[(Room, &str)] = &[
+    (Room(0), "Err(Output)"),
+    (Room(1), "Err(Output)"),
+    (Room(40), "Err(Output)"),
+];
+
+impl Case for Fault {
+    fn told(&self, alloc: Global) -> Result<String, Fail> {
+        Ok(self.to_string(alloc)?)
     }
-    Ok(())
+}
+
+const FAULTS: &[(Fault, &str)] = &[
+    (Fault::BadLine(3), "BadLine 3"),
+    (Fault::BadSetup, "BadSetup"),
+    (Fault::Input, "Input"),
+    (Fault::TooMuchInput, "TooMuchInput"),
+    (Fault::Output, "Output"),
+    (Fault::OutOfMemory, "OutOfMemory"),
+];
+
+#[test]
+fn writers_that_fail_and_printed_faults(rt: HostRuntime) -> Result<(), Fail> {
+    each(rt.alloc(), ROOMS)?;
+    each(rt.alloc(), FAULTS)
 }

@@ -3,8 +3,8 @@
 //! is after a restart. What was refused for a fault is done once the store doesn't fail any more.
 
 use crate::apdus::*;
-use crate::wire::{Exchange, Part, session};
-use std::process::Abort;
+use crate::wire::{Exchange, Part, sessions};
+use std::alloc::Global;
 use std::test::Fail;
 
 /// A request to a meter over a store that fails after some calls.
@@ -355,53 +355,37 @@ const NO_CALLS: &[Row] = &[
     },
 ];
 
-/// Each row, with a new meter.
-fn each<R: AllocGlobal + Abort>(rt: &R, rows: &[Row]) -> Result<(), Fail> {
-    rows.iter().try_for_each(|row| {
-        session(
-            rt,
-            &[
-                Part::Says(row.before),
-                Part::Fuses(row.calls),
-                Part::Says(row.asks),
-                Part::Unfuses,
-                Part::Says(row.reads),
-                Part::Restarts,
-                Part::Says(row.reads),
-                Part::Says(row.afterwards),
-            ],
-        )
-    })
+/// All rows, by the operation.
+const ROWS: &[&[Row]] = &[
+    SETS,
+    INITIATES,
+    NEW_BLOCKS,
+    BLOCKS_AGAIN,
+    VERIFIES,
+    VERIFIES_IN_VAIN,
+    ACTIVATES,
+    NO_CALLS,
+];
+
+/// A row, with a new meter.
+fn played(alloc: Global, row: &Row) -> Result<(), Fail> {
+    let parts = [
+        Part::Says(row.before),
+        Part::Fuses(row.calls),
+        Part::Says(row.asks),
+        Part::Unfuses,
+        Part::Says(row.reads),
+        Part::Restarts,
+        Part::Says(row.reads),
+        Part::Says(row.afterwards),
+    ];
+    sessions(alloc, &[&parts])
 }
 
 #[test]
-fn of_a_set(rt: HostRuntime) -> Result<(), Fail> {
-    each(&rt, SETS)
-}
-
-#[test]
-fn of_an_initiate(rt: HostRuntime) -> Result<(), Fail> {
-    each(&rt, INITIATES)
-}
-
-#[test]
-fn of_a_block(rt: HostRuntime) -> Result<(), Fail> {
-    each(&rt, NEW_BLOCKS)?;
-    each(&rt, BLOCKS_AGAIN)
-}
-
-#[test]
-fn of_a_verify(rt: HostRuntime) -> Result<(), Fail> {
-    each(&rt, VERIFIES)?;
-    each(&rt, VERIFIES_IN_VAIN)
-}
-
-#[test]
-fn of_an_activate(rt: HostRuntime) -> Result<(), Fail> {
-    each(&rt, ACTIVATES)
-}
-
-#[test]
-fn of_what_makes_no_call(rt: HostRuntime) -> Result<(), Fail> {
-    each(&rt, NO_CALLS)
+fn each_call_that_fails(rt: HostRuntime) -> Result<(), Fail> {
+    for row in ROWS.iter().flat_map(|rows| rows.iter()) {
+        played(rt.alloc(), row)?;
+    }
+    Ok(())
 }

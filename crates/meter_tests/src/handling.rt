@@ -1,7 +1,7 @@
 //! The datagrams round requests: ports, invoke bytes, confirmation, and what brings no request.
 
 use crate::apdus::*;
-use crate::wire::{Exchange, Part, session};
+use crate::wire::{Exchange, Part, sessions};
 use std::test::Fail;
 
 /// Datagrams to a meter, and what it replies.
@@ -110,40 +110,37 @@ const OTHER_FORMS: &[Exchange] = &[
     (GET_NAME, ABC_NAME),
 ];
 
-/// With ample memory a meter answers, so a body that always lacks memory is refused here.
-#[test]
-fn replies_to_where_the_request_comes_from(rt: HostRuntime) -> Result<(), Fail> {
-    session(&rt, &[Part::Says(SERVED)])
-}
-
-/// Here of a meter that could be disabled, and that could switch.
-#[test]
-fn drops_what_brings_no_request(rt: HostRuntime) -> Result<(), Fail> {
-    session(
-        &rt,
-        &[
-            Part::Says(&[(ENABLE, SET_DONE), (INITIATE_ABC, DONE)]),
-            Part::Says(&[(AB_AT_0, DONE), (C_AT_1, DONE), (VERIFY, DONE)]),
-            Part::SaysInVain(DROPPED),
-        ],
-    )
-}
-
-/// Of an activate too, which tells the name all the same.
-#[test]
-fn an_unconfirmed_request_is_served_without_a_reply(rt: HostRuntime) -> Result<(), Fail> {
-    session(
-        &rt,
-        &[
-            Part::Says(UNCONFIRMED),
-            Part::Shows(
-                "runs 616263 of 7 1 ba7816bf, enabled true, ActivationSuccessful, no goal, marks, switched to 7 1 ba7816bf",
-            ),
-        ],
-    )
-}
+/// What brings no request is dropped by a meter that could be disabled, and that could switch. An activate that asks for no response
+/// tells the name all the same.
+const SESSIONS: &[&[Part]] = &[
+    &[Part::Says(SERVED)],
+    &[
+        Part::Says(&[(ENABLE, SET_DONE), (INITIATE_ABC, DONE)]),
+        Part::Says(&[(AB_AT_0, DONE), (C_AT_1, DONE), (VERIFY, DONE)]),
+        Part::SaysInVain(DROPPED),
+    ],
+    &[
+        Part::Says(UNCONFIRMED),
+        Part::Shows(
+            "runs 616263 of 7 1 ba7816bf, enabled true, ActivationSuccessful, no goal, marks, switched to 7 1 ba7816bf",
+        ),
+    ],
+    &[Part::Says(OTHER_FORMS)],
+];
 
 #[test]
-fn other_forms_are_read(rt: HostRuntime) -> Result<(), Fail> {
-    session(&rt, &[Part::Says(OTHER_FORMS)])
+fn each_session(rt: HostRuntime) -> Result<(), Fail> {
+    sessions(rt.alloc(), SESSIONS)
+}
+
+/// A GET of the active firmware identifier, and its reply.
+const ANSWERED: &[&[Part]] = &[&[Part::Says(&[(
+    "000100010001000dc001c100010100000200ff0200",
+    "000100010001002fc401c1000929010000000000000000ba7816bf8f01cfea414140de5dae2223b00361a396177a9cb410ff61f20015ad",
+)])]];
+
+/// With ample memory a meter answers: a meter that always lacks it is refused here.
+#[test]
+fn always_out_of_memory(rt: HostRuntime) -> Result<(), Fail> {
+    sessions(rt.alloc(), ANSWERED)
 }

@@ -23,6 +23,8 @@ mod sessions;
 #[cfg(test)]
 mod stores;
 #[cfg(test)]
+mod support;
+#[cfg(test)]
 mod transfer;
 #[cfg(test)]
 mod wire;

@@ -45,17 +45,14 @@ c401c10004821000\
 0000000000000000000000000000000000000000000000000000000000000000\
 0000000000000000000000000000000000000000000000000000000000002001";
 
+const PARTS: &[Part] = &[
+    Part::Says(BLOCKS_OF_ONE_BYTE),
+    Part::Shows(
+        "runs 616263 of 0 0 ba7816bf, enabled true, Initiated, goal 4096 of 7 1 ba7816bf, marks 4082 4095",
+    ),
+];
+
 #[test]
 fn the_most_blocks(rt: HostRuntime) -> Result<(), Fail> {
-    session_with(
-        &rt,
-        1,
-        5000,
-        &[
-            Part::Says(BLOCKS_OF_ONE_BYTE),
-            Part::Shows(
-                "runs 616263 of 0 0 ba7816bf, enabled true, Initiated, goal 4096 of 7 1 ba7816bf, marks 4082 4095",
-            ),
-        ],
-    )
+    session_with(rt.alloc(), 1, 5000, PARTS)
 }

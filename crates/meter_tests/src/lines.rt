@@ -2,6 +2,7 @@
 
 use crate::answering::{DEFAULTS, answered};
 use crate::sessions::*;
+use crate::support::expect;
 use crate::wire::{Exchange, datagram};
 use std::alloc::{AllocError, Global};
 use std::test::Fail;
@@ -43,9 +44,8 @@ fn push_line(alloc: Global, lines: &mut String, text: &str) -> Result<(), AllocE
 fn each_session(rt: HostRuntime) -> Result<(), Fail> {
     for session in SESSIONS {
         let (read, want) = lines(rt.alloc(), session)?;
-        let (written, result) = answered(rt.alloc(), &read, &DEFAULTS);
-        assert_eq!(rt; result, Ok(()), "at {read}");
-        assert_eq!(rt; written.as_slice(), want.as_bytes(), "at {read}");
+        let found = answered(rt.alloc(), &read, &DEFAULTS)?;
+        expect(rt.alloc(), read.as_str(), found.as_str(), want.as_str())?;
     }
     Ok(())
 }

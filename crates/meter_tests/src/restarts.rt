@@ -2,7 +2,7 @@
 
 use crate::apdus::*;
 use crate::sessions::*;
-use crate::wire::{Exchange, Part, session};
+use crate::wire::{Exchange, Part, sessions};
 use std::test::Fail;
 
 /// What is read of a meter in status 1 with one of two blocks, before and after a restart.
@@ -106,11 +106,6 @@ const SESSIONS: &[&[Part]] = &[
     ],
 ];
 
-#[test]
-fn each_session(rt: HostRuntime) -> Result<(), Fail> {
-    SESSIONS.iter().try_for_each(|parts| session(&rt, parts))
-}
-
 /// Before the one call of the store that an activate makes, and after it. No reply is looked for.
 const STOPS: &[Part] = &[
     Part::Says(TWO_BLOCKS),
@@ -131,6 +126,7 @@ const STOPS: &[Part] = &[
 ];
 
 #[test]
-fn stopped_at_an_activate(rt: HostRuntime) -> Result<(), Fail> {
-    session(&rt, STOPS)
+fn each_session(rt: HostRuntime) -> Result<(), Fail> {
+    sessions(rt.alloc(), SESSIONS)?;
+    sessions(rt.alloc(), &[STOPS])
 }

@@ -2,7 +2,7 @@
 //! and nothing changes.
 
 use crate::apdus::*;
-use crate::wire::{Exchange, Part, session};
+use crate::wire::{Exchange, Part, sessions};
 use std::test::Fail;
 
 const INITIATE_OF_NOTHING: &str =
@@ -212,45 +212,38 @@ const VERIFIED_ALREADY: &[Exchange] = &[
 ];
 
 /// The code that the request alone decides, before the meter is looked at.
-#[test]
-fn judged_by_the_request_alone(rt: HostRuntime) -> Result<(), Fail> {
-    session(
-        &rt,
-        &[
-            Part::SaysInVain(UNKNOWN_INSTANCES),
-            Part::SaysInVain(OTHER_CLASSES),
-            Part::SaysInVain(UNKNOWN_ATTRIBUTES_AND_METHODS),
-            Part::SaysInVain(OTHER_SHAPES),
-        ],
-    )
-}
+const BY_THE_REQUEST: &[Part] = &[
+    Part::SaysInVain(UNKNOWN_INSTANCES),
+    Part::SaysInVain(OTHER_CLASSES),
+    Part::SaysInVain(UNKNOWN_ATTRIBUTES_AND_METHODS),
+    Part::SaysInVain(OTHER_SHAPES),
+];
 
 /// Through each status. An image that was verified is kept while the meter isn't enabled.
+const BY_THE_METER: &[Part] = &[
+    Part::SaysInVain(METHODS),
+    Part::Says(&[(ENABLE, SET_DONE)]),
+    Part::SaysInVain(BAD_INITIATES),
+    Part::SaysInVain(NOT_INITIATED_YET),
+    Part::Says(&[(INITIATE_ABC, DONE)]),
+    Part::SaysInVain(BLOCKS_MISSING),
+    Part::SaysInVain(BAD_BLOCKS),
+    Part::Says(&[(C_AT_1, DONE)]),
+    Part::SaysInVain(BAD_BLOCKS),
+    Part::SaysInVain(BAD_INITIATES),
+    Part::Says(&[(AB_AT_0, DONE)]),
+    Part::SaysInVain(&[(ACTIVATE, TEMPORARY_FAILURE)]),
+    Part::Says(&[(VERIFY, DONE)]),
+    Part::SaysInVain(VERIFIED_ALREADY),
+    Part::SaysInVain(BAD_INITIATES),
+    Part::Says(&[(DISABLE, SET_DONE)]),
+    Part::SaysInVain(METHODS),
+    Part::Says(&[(ENABLE, SET_DONE), (ACTIVATE, DONE)]),
+    Part::SaysInVain(NOT_INITIATED_YET),
+    Part::SaysInVain(BAD_INITIATES),
+];
+
 #[test]
-fn judged_by_what_the_meter_holds(rt: HostRuntime) -> Result<(), Fail> {
-    session(
-        &rt,
-        &[
-            Part::SaysInVain(METHODS),
-            Part::Says(&[(ENABLE, SET_DONE)]),
-            Part::SaysInVain(BAD_INITIATES),
-            Part::SaysInVain(NOT_INITIATED_YET),
-            Part::Says(&[(INITIATE_ABC, DONE)]),
-            Part::SaysInVain(BLOCKS_MISSING),
-            Part::SaysInVain(BAD_BLOCKS),
-            Part::Says(&[(C_AT_1, DONE)]),
-            Part::SaysInVain(BAD_BLOCKS),
-            Part::SaysInVain(BAD_INITIATES),
-            Part::Says(&[(AB_AT_0, DONE)]),
-            Part::SaysInVain(&[(ACTIVATE, TEMPORARY_FAILURE)]),
-            Part::Says(&[(VERIFY, DONE)]),
-            Part::SaysInVain(VERIFIED_ALREADY),
-            Part::SaysInVain(BAD_INITIATES),
-            Part::Says(&[(DISABLE, SET_DONE)]),
-            Part::SaysInVain(METHODS),
-            Part::Says(&[(ENABLE, SET_DONE), (ACTIVATE, DONE)]),
-            Part::SaysInVain(NOT_INITIATED_YET),
-            Part::SaysInVain(BAD_INITIATES),
-        ],
-    )
+fn each_refusal(rt: HostRuntime) -> Result<(), Fail> {
+    sessions(rt.alloc(), &[BY_THE_REQUEST, BY_THE_METER])
 }

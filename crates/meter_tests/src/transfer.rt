@@ -1,7 +1,7 @@
 //! Sessions with a meter, and what is then seen of it.
 
 use crate::sessions::*;
-use crate::wire::{Part, session};
+use crate::wire::{Part, sessions};
 use std::test::Fail;
 
 /// What is seen of a new meter.
@@ -31,11 +31,6 @@ const RECEIVED: &[&[Part]] = &[
     &[Part::SaysInVain(REFUSED_BY_A_NEW_METER), NEW],
 ];
 
-#[test]
-fn receives(rt: HostRuntime) -> Result<(), Fail> {
-    RECEIVED.iter().try_for_each(|parts| session(&rt, parts))
-}
-
 /// A late block, and another image, after an image is verified.
 const LATE: &[&[Part]] = &[
     &[
@@ -57,11 +52,6 @@ const LATE: &[&[Part]] = &[
     ],
 ];
 
-#[test]
-fn takes_no_late_block(rt: HostRuntime) -> Result<(), Fail> {
-    LATE.iter().try_for_each(|parts| session(&rt, parts))
-}
-
 /// Whole transfers.
 const WHOLE: &[&[Part]] = &[
     &[
@@ -78,11 +68,6 @@ const WHOLE: &[&[Part]] = &[
     ],
 ];
 
-#[test]
-fn transfers(rt: HostRuntime) -> Result<(), Fail> {
-    WHOLE.iter().try_for_each(|parts| session(&rt, parts))
-}
-
 /// An image whose bytes aren't those that its name stands for never runs. The same name can be offered again.
 const MIXED: &[Part] = &[
     Part::Says(MIXED_BLOCKS),
@@ -96,6 +81,9 @@ const MIXED: &[Part] = &[
 ];
 
 #[test]
-fn verify_refuses_mixed_blocks(rt: HostRuntime) -> Result<(), Fail> {
-    session(&rt, MIXED)
+fn each_session(rt: HostRuntime) -> Result<(), Fail> {
+    sessions(rt.alloc(), RECEIVED)?;
+    sessions(rt.alloc(), LATE)?;
+    sessions(rt.alloc(), WHOLE)?;
+    sessions(rt.alloc(), &[MIXED])
 }

@@ -1,11 +1,11 @@
 //! Sessions with a meter, in hexadecimal.
 
+use crate::support::expect;
 use fw_image::MeterView;
 use fw_meter::MeterCore;
 use fw_names::ImageName;
-use fw_store::{Goal, MemoryStore};
+use fw_store::MemoryStore;
 use std::alloc::{AllocError, Global};
-use std::process::Abort;
 use std::test::Fail;
 
 /// A request, and the reply to it, or `-` where there is none. APDUs go from wPort 1 to wPort 1; what begins with another
@@ -19,7 +19,7 @@ pub(crate) enum Part {
     Says(&'static [Exchange]),
     /// Each request gets its reply, and changes nothing that can be seen.
     SaysInVain(&'static [Exchange]),
-    /// What can be seen of the meter, as `Wire::sight` tells it.
+    /// What can be seen of the meter, as `sight` tells it.
     Shows(&'static str),
     /// So many more calls of the store succeed. A write that then fails leaves the byte ee.
     Fuses(u64),
@@ -29,32 +29,29 @@ pub(crate) enum Part {
     Restarts,
 }
 
-/// A session with a new meter that runs `abc`, with blocks of two bytes and room for 64.
-pub(crate) fn session<R: AllocGlobal + Abort>(rt: &R, parts: &[Part]) -> Result<(), Fail> {
-    session_with(rt, 2, 64, parts)
+/// Sessions, each with a new meter that runs `abc`, with blocks of two bytes and room for 64.
+pub(crate) fn sessions(alloc: Global, sessions: &[&[Part]]) -> Result<(), Fail> {
+    for parts in sessions {
+        session_with(alloc, 2, 64, parts)?;
+    }
+    Ok(())
 }
 
 /// A session with a new meter that runs `abc`.
-pub(crate) fn session_with<R: AllocGlobal + Abort>(
-    rt: &R,
+pub(crate) fn session_with(
+    alloc: Global,
     block_size: u32,
     capacity: u32,
     parts: &[Part],
 ) -> Result<(), Fail> {
-    played(rt, block_size, capacity, parts)?;
+    played(alloc, block_size, capacity, parts)?;
     Ok(())
 }
 
-/// The store of a new meter that runs `abc`, with blocks of two bytes and room for 64, after a session.
-pub(crate) fn store_after<R: AllocGlobal + Abort>(
-    rt: &R,
-    parts: &[Part],
-) -> Result<MemoryStore, Fail> {
-    store_of(played(rt, 2, 64, parts)?.meter)
-}
-
-/// The store of a meter, which a restart hands back where a call of it fails.
-fn store_of(mut meter: MeterCore<MemoryStore>) -> Result<MemoryStore, Fail> {
+/// The store of a new meter that runs `abc`, with blocks of two bytes and room for 64, after a session. A restart hands it back
+/// where a call of it fails.
+pub(crate) fn store_after(alloc: Global, parts: &[Part]) -> Result<MemoryStore, Fail> {
+    let mut meter = played(alloc, 2, 64, parts)?.meter;
     meter.fuse(0, 0);
     match meter.restart() {
         Ok(_meter) => Err("a meter was opened from a store that fails".into()),
@@ -65,19 +62,17 @@ fn store_of(mut meter: MeterCore<MemoryStore>) -> Result<MemoryStore, Fail> {
     }
 }
 
-fn played<R: AllocGlobal + Abort>(
-    rt: &R,
-    block_size: u32,
-    capacity: u32,
-    parts: &[Part],
-) -> Result<Wire, Fail> {
-    let store = MemoryStore::new(rt.alloc(), capacity, block_size, b"abc")?;
+fn played(alloc: Global, block_size: u32, capacity: u32, parts: &[Part]) -> Result<Wire, Fail> {
+    let store = MemoryStore::new(alloc, capacity, block_size, b"abc")?;
     let mut wire = Wire {
         meter: opened(store)?,
-        told: String::new(rt.alloc()),
+        told: String::new(alloc),
     };
     for part in parts {
-        wire = wire.after(rt, part)?;
+        match part {
+            Part::Restarts => wire = wire.restarted()?,
+            part => wire.take(alloc, part)?,
+        }
     }
     Ok(wire)
 }
@@ -98,22 +93,6 @@ struct Wire {
 }
 
 impl Wire {
-    fn after<R: AllocGlobal + Abort>(mut self, rt: &R, part: &Part) -> Result<Wire, Fail> {
-        match part {
-            Part::Says(exchanges) => exchanges
-                .iter()
-                .try_for_each(|exchange| self.says(rt, exchange))?,
-            Part::SaysInVain(exchanges) => exchanges
-                .iter()
-                .try_for_each(|exchange| self.says_in_vain(rt, exchange))?,
-            Part::Shows(want) => self.shows(rt, want)?,
-            Part::Fuses(calls) => self.meter.fuse(*calls, 0xee),
-            Part::Unfuses => self.meter.unfuse(),
-            Part::Restarts => return self.restarted(),
-        }
-        Ok(self)
-    }
-
     fn restarted(self) -> Result<Wire, Fail> {
         let Wire { meter, told } = self;
         match meter.restart() {
@@ -122,28 +101,50 @@ impl Wire {
         }
     }
 
-    fn says<R: AllocGlobal + Abort>(&mut self, rt: &R, exchange: &Exchange) -> Result<(), Fail> {
+    /// Plays a part that is no restart.
+    fn take(&mut self, alloc: Global, part: &Part) -> Result<(), Fail> {
+        match part {
+            Part::Says(exchanges) => self.all(alloc, exchanges, false),
+            Part::SaysInVain(exchanges) => self.all(alloc, exchanges, true),
+            Part::Shows(want) => expect(alloc, "in sight", self.sight(alloc)?.as_str(), want),
+            Part::Fuses(calls) => {
+                self.meter.fuse(*calls, 0xee);
+                Ok(())
+            }
+            Part::Unfuses | Part::Restarts => {
+                self.meter.unfuse();
+                Ok(())
+            }
+        }
+    }
+
+    fn all(&mut self, alloc: Global, exchanges: &[Exchange], in_vain: bool) -> Result<(), Fail> {
+        for exchange in exchanges {
+            if in_vain {
+                self.says_in_vain(alloc, exchange)?;
+            } else {
+                self.says(alloc, exchange)?;
+            }
+        }
+        Ok(())
+    }
+
+    fn says(&mut self, alloc: Global, exchange: &Exchange) -> Result<(), Fail> {
         let (request, want) = exchange;
-        let reply = self.reply_to(rt.alloc(), request)?;
-        let want = datagram(rt.alloc(), want)?;
-        assert_eq!(rt; reply.as_str(), want.as_str(), "to {request}");
-        Ok(())
+        let reply = self.reply_to(alloc, request)?;
+        let want = datagram(alloc, want)?;
+        expect(alloc, request, reply.as_str(), want.as_str())
     }
 
-    fn says_in_vain<R: AllocGlobal + Abort>(
-        &mut self,
-        rt: &R,
-        exchange: &Exchange,
-    ) -> Result<(), Fail> {
-        let before = self.sight(rt.alloc())?;
-        self.says(rt, exchange)?;
-        self.shows(rt, &before)
-    }
-
-    fn shows<R: AllocGlobal + Abort>(&mut self, rt: &R, want: &str) -> Result<(), Fail> {
-        let sight = self.sight(rt.alloc())?;
-        assert_eq!(rt; sight.as_str(), want);
-        Ok(())
+    fn says_in_vain(&mut self, alloc: Global, exchange: &Exchange) -> Result<(), Fail> {
+        let before = self.sight(alloc)?;
+        self.says(alloc, exchange)?;
+        expect(
+            alloc,
+            exchange.0,
+            self.sight(alloc)?.as_str(),
+            before.as_str(),
+        )
     }
 
     /// The reply to a request, or `-` where there is none.
@@ -151,46 +152,39 @@ impl Wire {
         let datagram = hex::decode(alloc, datagram(alloc, request)?.as_str())?;
         let handled = self.meter.handle(alloc, &datagram)?;
         if let Some(name) = handled.activated {
-            self.tell(alloc, name)?;
+            self.told.push_str(", switched to ")?;
+            self.told.push_str(name_text(alloc, name)?.as_str())?;
         }
-        Ok(reply_text(alloc, handled.reply)?)
+        Ok(match handled.reply {
+            Some(reply) => hex::encode(alloc, reply.as_slice())?,
+            None => String::from_str(alloc, "-")?,
+        })
     }
 
-    fn tell(&mut self, alloc: Global, name: ImageName) -> Result<(), AllocError> {
-        let name = name_text(alloc, name)?;
-        self.told.push_str(", switched to ")?;
-        self.told.push_str(&name)
-    }
-
-    /// What can be seen: the image that runs and its name, whether transfer is enabled, the status, the goal's size and
-    /// name, the blocks that are marked, and the names that the meter has told of.
+    /// What can be seen: the image that runs and its name, whether transfer is enabled, the status, the goal's size and name, the
+    /// blocks that are marked, and the names that the meter has told of.
     fn sight(&mut self, alloc: Global) -> Result<String, Fail> {
         let view = self.meter.view();
-        let image = self.running(alloc)?;
+        let mut image = vec![in alloc; 0; view.active_size as usize]?;
+        self.meter.read_running(&mut image)?;
+        let image = hex::encode(alloc, image.as_slice())?;
         let name = name_text(alloc, view.active)?;
         let transfer = transfer_text(alloc, &view)?;
         let told = self.told.as_str();
         Ok(format!(in alloc; "runs {image} of {name}, {transfer}{told}")?)
     }
-
-    /// The image that runs.
-    fn running(&mut self, alloc: Global) -> Result<String, Fail> {
-        let mut image = vec![in alloc; 0; self.meter.view().active_size as usize]?;
-        self.meter.read_running(&mut image)?;
-        Ok(hex::encode(alloc, image.as_slice())?)
-    }
-}
-
-fn reply_text(alloc: Global, reply: Option<Vec<u8>>) -> Result<String, AllocError> {
-    match reply {
-        Some(reply) => hex::encode(alloc, reply.as_slice()),
-        None => String::from_str(alloc, "-"),
-    }
 }
 
 /// What can be seen of a transfer.
 fn transfer_text(alloc: Global, view: &MeterView) -> Result<String, AllocError> {
-    let goal = goal_text(alloc, view.goal)?;
+    let goal = match view.goal {
+        None => String::from_str(alloc, "no goal")?,
+        Some(goal) => {
+            let name = name_text(alloc, goal.name)?;
+            let size = goal.size;
+            format!(in alloc; "goal {size} of {name}")?
+        }
+    };
     let marks = marks_text(alloc, view)?;
     let MeterView {
         enabled,
@@ -207,17 +201,6 @@ fn name_text(alloc: Global, name: ImageName) -> Result<String, AllocError> {
     let [a, b, c, d, ..] = name.digest;
     let digest = u32::from_be_bytes([a, b, c, d]);
     format!(in alloc; "{head} {serial} {digest:08x}")
-}
-
-fn goal_text(alloc: Global, goal: Option<Goal>) -> Result<String, AllocError> {
-    match goal {
-        None => String::from_str(alloc, "no goal"),
-        Some(goal) => {
-            let name = name_text(alloc, goal.name)?;
-            let size = goal.size;
-            format!(in alloc; "goal {size} of {name}")
-        }
-    }
 }
 
 /// The numbers of the blocks that are marked: block i by bit i, the first bit the top bit of the first byte.

@@ -1,18 +1,42 @@
-//! Tests of stores in memory, on devices and in files, through their public calls. Expected bytes are worked out by hand
-//! from the format, and the SHA-256 of `abc` is the published one.
+//! Tests of the header of a store, of stores in memory, on devices and in files, of the digest of a slot, of Image transfer over a store
+//! in memory, and of what a meter makes of requests and how it spells answers, through their public calls alone, and two callers that are
+//! proved from the public contracts alone. Expected bytes are worked out by hand from the standards and the formats, and SHA-256 values
+//! are the published ones or those of `sha256sum`.
 #![tactic(auto)]
 
 #[cfg(test)]
-mod device_tests;
+mod answers;
 #[cfg(test)]
-mod file_tests;
+mod calls;
 #[cfg(test)]
-mod fuse_tests;
+mod devices;
 #[cfg(test)]
-mod held_file_tests;
+mod digests;
 #[cfg(test)]
-mod memory_tests;
+mod faults;
+#[cfg(test)]
+mod files;
+pub mod fresh;
+#[cfg(test)]
+mod headers;
+#[cfg(test)]
+mod memory;
+#[cfg(test)]
+mod opening;
+#[cfg(test)]
+mod plans;
+#[cfg(test)]
+mod refusals;
+mod replying;
+#[cfg(test)]
+mod session;
 #[cfg(test)]
 mod support;
 #[cfg(test)]
 mod test_device;
+#[cfg(test)]
+mod transfers;
+#[cfg(test)]
+mod types;
+
+pub use replying::wrapped_answer;

@@ -1,0 +1,167 @@
+//! Openings: what they are refused for, in order, and what they answer.
+
+use crate::book::{Call, Last, campaign, fresh, meters};
+use crate::support::{Case, each};
+use std::alloc::Global;
+use std::test::Fail;
+
+/// Each refusal by itself, and before all that come after it.
+const REFUSED: &[(Last, &str)] = &[
+    (Last(&[Call::Open(8, 1, b"abc", &[1])]), "ForeignHead"),
+    (
+        Last(&[Call::Open(7, 1, b"abc", &[1]), Call::Open(8, 1, b"", &[])]),
+        "ForeignHead",
+    ),
+    (
+        Last(&[
+            Call::Open(7, 1, b"abc", &[1]),
+            Call::Open(7, 1, b"abc", &[2]),
+        ]),
+        "SerialUsed",
+    ),
+    (
+        Last(&[Call::Open(7, 1, b"abc", &[1]), Call::Open(7, 1, b"", &[])]),
+        "SerialUsed",
+    ),
+    (
+        Last(&[
+            Call::Open(7, 1, b"abc", &[1]),
+            Call::Open(7, 1, b"abc", &[1]),
+        ]),
+        "SerialUsed",
+    ),
+    (Last(&[Call::Open(7, 1, b"", &[1])]), "EmptyImage"),
+    (Last(&[Call::Open(7, 1, b"", &[])]), "EmptyImage"),
+    (Last(&[Call::Open(7, 1, b"abc", &[])]), "NoMeters"),
+    (Last(&[Call::Open(7, 1, b"abc", &[1, 1])]), "MeterTwice"),
+    (
+        Last(&[Call::Open(7, 1, b"abc", &[3, 1, 2, 1])]),
+        "MeterTwice",
+    ),
+    (
+        Last(&[
+            Call::Open(7, 1, b"abc", &[1]),
+            Call::Open(7, 2, b"abc", &[1, 1]),
+        ]),
+        "MeterTwice",
+    ),
+    (
+        Last(&[
+            Call::Open(7, 1, b"abc", &[1]),
+            Call::Open(7, 2, b"abc", &[1]),
+        ]),
+        "MeterBusy",
+    ),
+    (
+        Last(&[
+            Call::Open(7, 1, b"abc", &[1, 2]),
+            Call::Fail(7, 1, 1),
+            Call::Open(7, 2, b"abc", &[1]),
+            Call::Open(7, 3, b"abc", &[3, 2]),
+        ]),
+        "MeterBusy",
+    ),
+];
+
+/// A meter is free again once its row has ended.
+const TAKEN: &[(Last, &str)] = &[
+    (
+        Last(&[
+            Call::Open(7, 1, b"abc", &[1]),
+            Call::Fail(7, 1, 1),
+            Call::Open(7, 2, b"abc", &[1]),
+        ]),
+        "done",
+    ),
+    (
+        Last(&[
+            Call::Open(7, 1, b"abc", &[1]),
+            Call::Cancel(7, 1),
+            Call::Open(7, 2, b"abc", &[1]),
+        ]),
+        "done",
+    ),
+    (
+        Last(&[
+            Call::Open(7, 2, b"abc", &[1]),
+            Call::Open(7, 1, b"abc", &[2]),
+        ]),
+        "done",
+    ),
+];
+
+#[test]
+fn openings_are_refused_in_order(rt: HostRuntime) -> Result<(), Fail> {
+    each(rt.alloc(), REFUSED)?;
+    each(rt.alloc(), TAKEN)
+}
+
+/// An image of so many bytes for so many meters, whose numbers go round after so many: the refusal.
+struct Sized(usize, u32, u32);
+
+impl Case for Sized {
+    fn told(&self, alloc: Global) -> Result<String, Fail> {
+        let image = vec![in alloc; 0u8; self.0]?;
+        let mut numbers = Vec::new(alloc);
+        for number in 0..self.1 {
+            numbers.push(number.checked_rem(self.2).unwrap_or(number))?;
+        }
+        let meters = meters(alloc, &numbers)?;
+        let opened = fresh(alloc)?.open_campaign(alloc, campaign(7, 1)?, &image, &meters);
+        Ok(format!(in alloc; "{:?}", opened.err())?)
+    }
+}
+
+const LIMITS: &[(Sized, &str)] = &[
+    (Sized(4_194_304, 256, 256), "None"),
+    (Sized(4_194_305, 1, 1), "Some(ImageTooLong)"),
+    (Sized(4_194_305, 0, 1), "Some(ImageTooLong)"),
+    (Sized(1, 257, 257), "Some(TooManyMeters)"),
+    // too many meters is told before that one of them is named twice
+    (Sized(1, 257, 1), "Some(TooManyMeters)"),
+    (Sized(1, 256, 255), "Some(MeterTwice)"),
+];
+
+#[test]
+fn limits_of_an_opening(rt: HostRuntime) -> Result<(), Fail> {
+    each(rt.alloc(), LIMITS)
+}
+
+/// Serial 1 of head end 7 is opened with `abc` for meter 1: the name that is answered, and the one of this campaign in the book.
+struct Name(u32, u32);
+
+impl Case for Name {
+    fn told(&self, alloc: Global) -> Result<String, Fail> {
+        let mut book = fresh(alloc)?;
+        let meters = meters(alloc, &[1])?;
+        let answered = book.open_campaign(alloc, campaign(7, 1)?, b"abc", &meters)?;
+        let answered = hex::encode(alloc, answered.to_bytes())?;
+        Ok(match book.name(campaign(self.0, self.1)?) {
+            Some(name) => {
+                let name = hex::encode(alloc, name.to_bytes())?;
+                format!(in alloc; "{answered}, {name}")?
+            }
+            None => format!(in alloc; "{answered}, none")?,
+        })
+    }
+}
+
+const NAMES: &[(Name, &str)] = &[
+    (
+        Name(7, 1),
+        "010000000700000001ba7816bf8f01cfea414140de5dae2223b00361a396177a9cb410ff61f20015ad, 010000000700000001ba7816bf8f01cfea414140de5dae2223b00361a396177a9cb410ff61f20015ad",
+    ),
+    (
+        Name(7, 2),
+        "010000000700000001ba7816bf8f01cfea414140de5dae2223b00361a396177a9cb410ff61f20015ad, none",
+    ),
+    (
+        Name(8, 1),
+        "010000000700000001ba7816bf8f01cfea414140de5dae2223b00361a396177a9cb410ff61f20015ad, none",
+    ),
+];
+
+#[test]
+fn an_opening_answers_the_name(rt: HostRuntime) -> Result<(), Fail> {
+    each(rt.alloc(), NAMES)
+}

@@ -1,0 +1,183 @@
+//! How answers are spelled.
+
+ghost use Rattle.std.specs.Prelude.{◌≤◌, IfOk};
+ghost use Rattle.fw_server.specs.Answer.{bits_in};
+ghost use Rattle.fw_server.specs.View.{outcome_of};
+
+use crate::replying::wrapped_answer;
+use crate::support::{Case, each};
+use fw_apdu::{Invoke, LogicalName};
+use fw_axdr::Bits;
+use fw_names::{CampaignId, HeadId, ImageName, factory_name, name_of};
+use fw_server::{Answer, ImageInfo, Outcome, answer};
+use std::alloc::Global;
+use std::test::Fail;
+
+/// What is told of a request that is confirmed, of high priority, and has the invoke-id 1.
+enum Told {
+    LogicalName([u8; 6]),
+    BlockSize(u32),
+    FirstNotTransferred(u32),
+    Enabled(bool),
+    Status(u8),
+    /// So many blocks, and the bytes of their bits.
+    Blocks(&'static [u8], usize),
+    NothingToActivate,
+    /// Of 3 bytes, from campaign 1 of head end 7.
+    AbcToActivate,
+    /// The name of `abc` as a factory image, and its digest.
+    AbcName,
+    AbcDigest,
+    GetCode(u8),
+    SetCode(u8),
+    ActionCode(u8),
+}
+
+impl Case for Told {
+    fn told(&self, alloc: Global) -> Result<String, Fail> {
+        let apdu = answer(alloc, &Invoke(0xc1), &outcome(alloc, self)?)?;
+        Ok(hex::encode(alloc, apdu.as_slice())?)
+    }
+}
+
+fn outcome(alloc: Global, told: &Told) -> Result<Outcome, Fail> {
+    let answer = match *told {
+        Told::LogicalName(name) => Answer::LogicalName(LogicalName(name)),
+        Told::BlockSize(size) => Answer::BlockSize(size),
+        Told::FirstNotTransferred(number) => Answer::FirstNotTransferred(number),
+        Told::Enabled(enabled) => Answer::TransferEnabled(enabled),
+        Told::Status(status) => Answer::TransferStatus(status),
+        Told::Blocks(bytes, len) => Answer::TransferredBlocks(bits(alloc, bytes, len)?),
+        Told::NothingToActivate => Answer::ToActivate(None),
+        Told::AbcToActivate => {
+            let name = abc_name().ok_or("a name")?;
+            Answer::ToActivate(Some(ImageInfo { size: 3, name }))
+        }
+        Told::AbcName => Answer::ActiveName(factory_name(b"abc")),
+        Told::AbcDigest => Answer::ActiveDigest(factory_name(b"abc").digest),
+        Told::GetCode(code) => return Ok(Outcome::GetCode(code)),
+        Told::SetCode(code) => return Ok(Outcome::SetCode(code)),
+        Told::ActionCode(code) => return Ok(Outcome::ActionCode(code)),
+    };
+    Ok(Outcome::Got(answer))
+}
+
+/// So many bits, of these bytes.
+fn bits(alloc: Global, bytes: &[u8], len: usize) -> Result<Bits, Fail> {
+    if bytes.len() != len.div_ceil(8) {
+        return Err("another number of bytes".into());
+    }
+    Ok(Bits::from_vec(bytes.to_vec(alloc)?, len))
+}
+
+fn abc_name() -> Option<ImageName> {
+    Some(name_of(CampaignId::new(HeadId::new(7)?, 1)?, b"abc"))
+}
+
+const TOLD: &[(Told, &str)] = &[
+    (
+        Told::LogicalName([0, 0, 44, 0, 0, 255]),
+        "c401c100090600002c0000ff",
+    ),
+    (
+        Told::LogicalName([1, 0, 0, 2, 0, 255]),
+        "c401c10009060100000200ff",
+    ),
+    (
+        Told::LogicalName([1, 0, 0, 2, 8, 255]),
+        "c401c10009060100000208ff",
+    ),
+    (Told::BlockSize(1024), "c401c1000600000400"),
+    (Told::FirstNotTransferred(2), "c401c1000600000002"),
+    (
+        Told::FirstNotTransferred(4_294_967_295),
+        "c401c10006ffffffff",
+    ),
+    (Told::Enabled(true), "c401c1000301"),
+    (Told::Enabled(false), "c401c1000300"),
+    (Told::Status(0), "c401c1001600"),
+    (Told::Status(1), "c401c1001601"),
+    (Told::Status(3), "c401c1001603"),
+    (Told::Status(4), "c401c1001604"),
+    (Told::Status(6), "c401c1001606"),
+    // ten blocks of which 0, 1 and 9 are there, two that aren't, and no blocks
+    (Told::Blocks(&[0xc0, 0x40], 10), "c401c100040ac040"),
+    (Told::Blocks(&[0], 2), "c401c100040200"),
+    (Told::Blocks(&[], 0), "c401c1000400"),
+    // an empty array, and an array of one structure of the size, the name and its digest
+    (Told::NothingToActivate, "c401c1000100"),
+    (
+        Told::AbcToActivate,
+        "c401c1000101020306000000030929010000000700000001ba7816bf8f01cfea414140de5dae2223b00361a396177a9cb410ff61f20015ad0920ba7816bf8f01cfea414140de5dae2223b00361a396177a9cb410ff61f20015ad",
+    ),
+    (
+        Told::AbcName,
+        "c401c1000929010000000000000000ba7816bf8f01cfea414140de5dae2223b00361a396177a9cb410ff61f20015ad",
+    ),
+    (
+        Told::AbcDigest,
+        "c401c1000920ba7816bf8f01cfea414140de5dae2223b00361a396177a9cb410ff61f20015ad",
+    ),
+    (Told::GetCode(4), "c401c10104"),
+    (Told::SetCode(0), "c501c100"),
+    (Told::SetCode(12), "c501c10c"),
+    (Told::ActionCode(0), "c701c10000"),
+    (Told::ActionCode(250), "c701c1fa00"),
+];
+
+/// So many blocks, of which the first is there: the size of the answer and its first ten bytes.
+struct Most(usize);
+
+impl Case for Most {
+    fn told(&self, alloc: Global) -> Result<String, Fail> {
+        let mut bytes = vec![in alloc; 0; self.0.div_ceil(8)]?;
+        if let Some(first) = bytes.first_mut() {
+            *first = 0x80;
+        }
+        let blocks = bits(alloc, &bytes, self.0)?;
+        let outcome = Outcome::Got(Answer::TransferredBlocks(blocks));
+        let apdu = answer(alloc, &Invoke(0xc1), &outcome)?;
+        let front = hex::encode(alloc, apdu.as_slice().get(..10).unwrap_or(&[]))?;
+        Ok(format!(in alloc; "{} {front}", apdu.len())?)
+    }
+}
+
+/// An invoke byte, which is repeated whole: the answer to a SET that is done.
+struct Repeated(u8);
+
+impl Case for Repeated {
+    fn told(&self, alloc: Global) -> Result<String, Fail> {
+        let apdu = answer(alloc, &Invoke(self.0), &Outcome::SetCode(0))?;
+        Ok(hex::encode(alloc, apdu.as_slice())?)
+    }
+}
+
+const REPEATED: &[(Repeated, &str)] = &[
+    (Repeated(0x00), "c5010000"),
+    (Repeated(0x4f), "c5014f00"),
+    (Repeated(0x7f), "c5017f00"),
+    (Repeated(0xb0), "c501b000"),
+    (Repeated(0xff), "c501ff00"),
+];
+
+/// The datagram that tells this status from wPort 1 to another.
+struct Wrapped(u16, u8);
+
+impl Case for Wrapped {
+    fn told(&self, alloc: Global) -> Result<String, Fail> {
+        let outcome = Outcome::Got(Answer::TransferStatus(self.1));
+        let datagram = wrapped_answer(alloc, 1, self.0, &Invoke(0xc1), &outcome);
+        Ok(hex::encode(alloc, datagram.as_deref().unwrap_or(&[]))?)
+    }
+}
+
+#[test]
+fn each_answer(rt: HostRuntime) -> Result<(), Fail> {
+    each(rt.alloc(), TOLD)?;
+    each(rt.alloc(), &[(Most(4096), "520 c401c100048210008000")])?;
+    each(rt.alloc(), REPEATED)?;
+    each(
+        rt.alloc(),
+        &[(Wrapped(0x1234, 3), "0001000112340006c401c1001603")],
+    )
+}

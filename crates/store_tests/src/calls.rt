@@ -1,0 +1,165 @@
+//! Calls of a store, one after another. Expected bytes are worked out by hand from the format, and the SHA-256 of `abc` is the
+//! published one.
+
+use crate::support::Takes;
+use crate::test_device::TestDevice;
+use fw_store::{DeviceStore, FileStore, HEADER_SIZE, ImageStore, MemoryStore, Slot, StoreFault};
+use std::alloc::{AllocError, Global};
+use std::test::Fail;
+
+/// A call of a store.
+#[derive(Clone, Copy)]
+pub(crate) enum Call {
+    /// The header's bytes, as far as they aren't zeros.
+    Header,
+    /// A header that begins with these bytes, and has zeros behind them.
+    WriteHeader(&'static [u8]),
+    /// So many bytes of a slot, from a place on.
+    Read(Slot, u32, u32),
+    Write(Slot, u32, &'static [u8]),
+    Capacity,
+    Faults,
+}
+
+/// What a store answers to a call: bytes in hexadecimal, `done`, or the fault, and `outside` where the bytes don't lie in a slot.
+pub(crate) fn called<S: ImageStore>(
+    alloc: Global,
+    store: &mut S,
+    call: &Call,
+) -> Result<String, Fail> {
+    match *call {
+        Call::Header => header_text(alloc, store.header()),
+        Call::WriteHeader(begin) => {
+            let mut bytes = [0; HEADER_SIZE];
+            for (byte, is) in bytes.iter_mut().zip(begin) {
+                *byte = *is;
+            }
+            Ok(done_text(alloc, store.write_header(&bytes))?)
+        }
+        Call::Read(slot, at, count) => read_text(alloc, store, slot, at, count),
+        Call::Write(slot, at, bytes) => write_text(alloc, store, slot, at, bytes),
+        Call::Capacity => Ok(format!(in alloc; "{}", store.capacity())?),
+        Call::Faults => Ok(format!(in alloc; "{}", store.faults())?),
+    }
+}
+
+fn header_text(
+    alloc: Global,
+    header: Result<[u8; HEADER_SIZE], StoreFault>,
+) -> Result<String, Fail> {
+    Ok(match header {
+        Ok(bytes) => trimmed_text(alloc, bytes.as_slice())?,
+        Err(fault) => fault.to_string(alloc)?,
+    })
+}
+
+/// Bytes in hexadecimal, without the zeros at their end.
+pub(crate) fn trimmed_text(alloc: Global, bytes: &[u8]) -> Result<String, AllocError> {
+    let mut len = 0;
+    for (at, byte) in bytes.iter().enumerate() {
+        if *byte != 0 {
+            len = at.saturating_add(1);
+        }
+    }
+    hex::encode(alloc, bytes.get(..len).unwrap_or(&[]))
+}
+
+fn done_text(alloc: Global, answer: Result<(), StoreFault>) -> Result<String, AllocError> {
+    match answer {
+        Ok(()) => String::from_str(alloc, "done"),
+        Err(fault) => fault.to_string(alloc),
+    }
+}
+
+fn read_text<S: ImageStore>(
+    alloc: Global,
+    store: &mut S,
+    slot: Slot,
+    at: u32,
+    count: u32,
+) -> Result<String, Fail> {
+    if u64::from(at) + u64::from(count) > u64::from(store.capacity()) {
+        return Ok(String::from_str(alloc, "outside")?);
+    }
+    let mut bytes = vec![in alloc; 0; count as usize]?;
+    Ok(match store.read(slot, at, &mut bytes) {
+        Ok(()) => hex::encode(alloc, bytes.as_slice())?,
+        Err(fault) => fault.to_string(alloc)?,
+    })
+}
+
+fn write_text<S: ImageStore>(
+    alloc: Global,
+    store: &mut S,
+    slot: Slot,
+    at: u32,
+    bytes: &[u8],
+) -> Result<String, Fail> {
+    if u64::from(at) + bytes.len() as u64 > u64::from(store.capacity()) {
+        return Ok(String::from_str(alloc, "outside")?);
+    }
+    Ok(done_text(alloc, store.write(slot, at, bytes))?)
+}
+
+impl Takes<Call> for MemoryStore {
+    fn take(&mut self, alloc: Global, step: &Call) -> Result<String, Fail> {
+        called(alloc, self, step)
+    }
+}
+
+impl Takes<Call> for DeviceStore<TestDevice> {
+    fn take(&mut self, alloc: Global, step: &Call) -> Result<String, Fail> {
+        called(alloc, self, step)
+    }
+}
+
+impl Takes<Call> for FileStore {
+    fn take(&mut self, alloc: Global, step: &Call) -> Result<String, Fail> {
+        called(alloc, self, step)
+    }
+}
+
+/// Of a new store with blocks of 2 bytes, the factory image `abc`, and 8 bytes a slot.
+pub(crate) const FRESH: &[(Call, &str)] = &[
+    (Call::Capacity, "8"),
+    (Call::Faults, "0"),
+    (
+        Call::Header,
+        "46574831000000000000000200000003010000000000000000ba7816bf8f01cfea414140de5dae2223b00361a396177a9cb410ff61f20015ad",
+    ),
+    (Call::Read(Slot::First, 0, 8), "6162630000000000"),
+    (Call::Read(Slot::Second, 0, 8), "0000000000000000"),
+    (Call::Read(Slot::Second, 8, 1), "outside"),
+];
+
+/// It keeps a header and what is written into either slot, and leaves the rest.
+pub(crate) const WRITES: &[(Call, &str)] = &[
+    (Call::WriteHeader(&[1, 2, 3, 4, 5]), "done"),
+    (Call::Write(Slot::First, 1, b"xy"), "done"),
+    (Call::Write(Slot::Second, 5, b"pqr"), "done"),
+];
+
+pub(crate) const KEPT: &[(Call, &str)] = &[
+    (Call::Capacity, "8"),
+    (Call::Faults, "0"),
+    (Call::Header, "0102030405"),
+    (Call::Read(Slot::First, 0, 8), "6178790000000000"),
+    (Call::Read(Slot::Second, 0, 8), "0000000000707172"),
+    (Call::Read(Slot::Second, 5, 3), "707172"),
+];
+
+/// The bytes of a store with 8 bytes a slot: how many there are, the capacity, the header as far as it isn't zeros, and both slots.
+pub(crate) fn stored_text(alloc: Global, bytes: &[u8]) -> Result<String, Fail> {
+    let len = bytes.len();
+    if len != 634 {
+        return Ok(format!(in alloc; "{len} bytes")?);
+    }
+    let capacity = hex::encode(alloc, &bytes[..4])?;
+    let header = trimmed_text(alloc, &bytes[4..618])?;
+    let slots = hex::encode(alloc, &bytes[618..])?;
+    Ok(format!(in alloc; "{len} bytes: {capacity} {header} {slots}")?)
+}
+
+/// Those of a new one.
+pub(crate) const FRESH_BYTES: &str =
+    "634 bytes: 00000008 46574831000000000000000200000003010000000000000000ba7816bf8f01cfea414140de5dae2223b00361a396177a9cb410ff61f20015ad 61626300000000000000000000000000";

@@ -1,0 +1,291 @@
+//! The bytes of a store's header, which are worked out by hand from the format: how headers are written, and which bytes are one's,
+//! each condition once, met and not met.
+
+use crate::support::{Case, each};
+use fw_blocks::Marks;
+use fw_names::{CampaignId, HeadId, ImageName, factory_name, name_of};
+use fw_store::{Goal, HEADER_SIZE, Header, Slot, TransferStatus};
+use std::alloc::Global;
+use std::test::Fail;
+
+/// A header's bytes.
+type Bytes = [u8; HEADER_SIZE];
+
+/// The bytes with others from an offset on.
+fn with_patch(bytes: &Bytes, at: usize, patch: &[u8]) -> Option<Bytes> {
+    let mut bytes = *bytes;
+    let Some(rest) = bytes.get_mut(at..) else {
+        return None;
+    };
+    let Some(place) = rest.get_mut(..patch.len()) else {
+        return None;
+    };
+    place.copy_from_slice(patch);
+    Some(bytes)
+}
+
+/// The bytes that begin with these, and zeros behind them.
+fn padded(begin: &[u8]) -> Option<Bytes> {
+    with_patch(&[0; HEADER_SIZE], 0, begin)
+}
+
+/// A new store with blocks of two bytes and the factory image `abc`.
+const NEW: &str = concat!(
+    "46574831", // FWH1
+    "00",       // not enabled
+    "00",       // the first slot runs
+    "00",       // not initiated
+    "00",       // no goal
+    "00000002", // block size
+    "00000003", // running size
+    "010000000000000000",
+    "ba7816bf8f01cfea414140de5dae2223b00361a396177a9cb410ff61f20015ad",
+);
+
+/// That store after transfer was enabled, campaign 1 of head end 7 has initiated `abc`, and block 1 came.
+const RECEIVING: &str = concat!(
+    "46574831",
+    "01", // enabled
+    "00",
+    "01", // initiated
+    "01", // a goal
+    "00000002",
+    "00000003",
+    "010000000000000000",
+    "ba7816bf8f01cfea414140de5dae2223b00361a396177a9cb410ff61f20015ad",
+    "00000003",           // the goal's size
+    "010000000700000001", // the goal's campaign
+    "ba7816bf8f01cfea414140de5dae2223b00361a396177a9cb410ff61f20015ad",
+    "40", // block 1 of two
+);
+
+/// `RECEIVING` after block 0 came too, and the image was verified.
+const VERIFIED: &str = concat!(
+    "4657483101000301",
+    "0000000200000003",
+    "010000000000000000",
+    "ba7816bf8f01cfea414140de5dae2223b00361a396177a9cb410ff61f20015ad",
+    "00000003",
+    "010000000700000001",
+    "ba7816bf8f01cfea414140de5dae2223b00361a396177a9cb410ff61f20015ad",
+    "c0",
+);
+
+/// The digits of a header, a change of its bytes (an offset and the digits from there on), and the capacity of the store: whether that
+/// is a header's, and then written so.
+struct Patched(&'static str, usize, &'static str, u32);
+
+impl Case for Patched {
+    fn told(&self, alloc: Global) -> Result<String, Fail> {
+        let begin = hex::decode(alloc, self.0)?;
+        let patch = hex::decode(alloc, self.2)?;
+        let whole = padded(&begin).ok_or("it is too long")?;
+        let bytes = with_patch(&whole, self.1, &patch).ok_or("it is too long")?;
+        Ok(String::from_str(alloc, read_text(self.3, &bytes))?)
+    }
+}
+
+fn read_text(capacity: u32, bytes: &Bytes) -> &'static str {
+    match Header::from_bytes(capacity, bytes) {
+        None => "none",
+        Some(header) if header.to_bytes() == *bytes => "read",
+        Some(_) => "written otherwise",
+    }
+}
+
+/// A store can have each of these.
+const HEADERS: &[(Patched, &str)] = &[
+    // the greatest and the least block size
+    (Patched(NEW, 8, "00000400", 64), "read"),
+    (Patched(NEW, 8, "00000001", 64), "read"),
+    // the running image fills its slot
+    (Patched(NEW, 12, "00000003", 3), "read"),
+    // the second slot runs
+    (Patched(NEW, 5, "01", 64), "read"),
+    // a campaign's image runs
+    (Patched(NEW, 17, "0000000700000001", 64), "read"),
+    // an image was activated
+    (Patched(NEW, 6, "06", 64), "read"),
+    // not enabled any more
+    (Patched(RECEIVING, 4, "00", 64), "read"),
+    // no block came, or all came
+    (Patched(RECEIVING, 102, "00", 64), "read"),
+    (Patched(RECEIVING, 102, "c0", 64), "read"),
+    // the goal fills its slot
+    (Patched(RECEIVING, 57, "00000003", 3), "read"),
+    (Patched(RECEIVING, 57, "00000040", 64), "read"),
+    // a goal of 4,096 blocks
+    (Patched(RECEIVING, 57, "00002000", 8192), "read"),
+    // verified, with either result
+    (Patched(VERIFIED, 6, "03", 64), "read"),
+    (Patched(VERIFIED, 6, "04", 64), "read"),
+    // the same goal again, before its verification
+    (Patched(VERIFIED, 6, "01", 64), "read"),
+];
+
+/// No store can have one of these.
+const REFUSED: &[(Patched, &str)] = &[
+    // another form, or another version
+    (Patched(NEW, 0, "47", 64), "none"),
+    (Patched(NEW, 3, "32", 64), "none"),
+    // flags that are no flags
+    (Patched(NEW, 4, "02", 64), "none"),
+    (Patched(NEW, 5, "02", 64), "none"),
+    (Patched(NEW, 7, "02", 64), "none"),
+    (Patched(RECEIVING, 7, "02", 64), "none"),
+    // statuses that a header doesn't keep
+    (Patched(NEW, 6, "02", 64), "none"),
+    (Patched(RECEIVING, 6, "02", 64), "none"),
+    (Patched(NEW, 6, "05", 64), "none"),
+    (Patched(RECEIVING, 6, "05", 64), "none"),
+    (Patched(NEW, 6, "07", 64), "none"),
+    // block size
+    (Patched(NEW, 8, "00000000", 64), "none"),
+    (Patched(NEW, 8, "00000401", 64), "none"),
+    (Patched(NEW, 8, "01000001", 64), "none"),
+    // running size
+    (Patched(NEW, 12, "00000000", 64), "none"),
+    (Patched(NEW, 12, "00000041", 64), "none"),
+    (Patched(NEW, 12, "00000003", 2), "none"),
+    (Patched(NEW, 12, "00000003", 0), "none"),
+    // running name
+    (Patched(NEW, 16, "00", 64), "none"),
+    (Patched(NEW, 16, "02", 64), "none"),
+    (Patched(NEW, 17, "0000000100000000", 64), "none"),
+    (Patched(NEW, 17, "0000000000000001", 64), "none"),
+    // a goal that isn't there in statuses 1, 3 and 4
+    (Patched(NEW, 6, "01", 64), "none"),
+    (Patched(NEW, 6, "03", 64), "none"),
+    (Patched(NEW, 6, "04", 64), "none"),
+    (Patched(RECEIVING, 7, "00", 64), "none"),
+    // a goal in statuses 0 and 6
+    (Patched(RECEIVING, 6, "00", 64), "none"),
+    (Patched(RECEIVING, 6, "06", 64), "none"),
+    // bytes of a goal that isn't there
+    (Patched(NEW, 60, "01", 64), "none"),
+    (Patched(NEW, 61, "01", 64), "none"),
+    (Patched(NEW, 102, "80", 64), "none"),
+    (Patched(NEW, 613, "01", 64), "none"),
+    // the goal's name is none, or the factory's
+    (Patched(RECEIVING, 61, "00", 64), "none"),
+    (Patched(RECEIVING, 62, "0000000700000000", 64), "none"),
+    (Patched(RECEIVING, 62, "0000000000000000", 64), "none"),
+    // the goal's size: 0, above the capacity, too many blocks
+    (Patched(RECEIVING, 57, "00000000", 64), "none"),
+    (Patched(RECEIVING, 57, "00000041", 64), "none"),
+    (Patched(RECEIVING, 57, "00002001", 8193), "none"),
+    // marks at the count, and at the end
+    (Patched(RECEIVING, 102, "60", 64), "none"),
+    (Patched(RECEIVING, 613, "01", 64), "none"),
+    // a block is missing, and the image was verified
+    (Patched(RECEIVING, 6, "03", 64), "none"),
+    (Patched(RECEIVING, 6, "04", 64), "none"),
+];
+
+#[test]
+fn headers_are_read_and_others_refused(rt: HostRuntime) -> Result<(), Fail> {
+    each(rt.alloc(), HEADERS)?;
+    each(rt.alloc(), REFUSED)
+}
+
+/// A header: whether it is written by these digits, and whether it is what they are read as.
+enum Written {
+    /// Of a new store.
+    New(&'static str),
+    /// Of one that receives.
+    Receiving(&'static str),
+    /// After activation the slots have changed roles, and the goal is dropped.
+    Switched(&'static str),
+}
+
+impl Case for Written {
+    fn told(&self, alloc: Global) -> Result<String, Fail> {
+        let (header, digits) = match self {
+            Written::New(digits) => (Header::fresh(2, 3, factory_name(b"abc")), digits),
+            Written::Receiving(digits) => (receiving().ok_or("a header")?, digits),
+            Written::Switched(digits) => (switched().ok_or("a header")?, digits),
+        };
+        let begin = hex::decode(alloc, digits)?;
+        let bytes = padded(&begin).ok_or("it is too long")?;
+        let written = header.to_bytes() == bytes;
+        let read = Header::from_bytes(64, &bytes) == Some(header);
+        Ok(format!(in alloc; "{written} {read}")?)
+    }
+}
+
+/// The name under which campaign 1 of head end 7 offers `abc`.
+fn abc_name() -> Option<ImageName> {
+    Some(name_of(CampaignId::new(HeadId::new(7)?, 1)?, b"abc"))
+}
+
+fn receiving() -> Option<Header> {
+    let name = abc_name()?;
+    let mut marks = Marks::none();
+    marks.mark(1);
+    Some(Header {
+        enabled: true,
+        running_slot: Slot::First,
+        status: TransferStatus::Initiated,
+        block_size: 2,
+        running_size: 3,
+        running_name: factory_name(b"abc"),
+        goal: Some(Goal { name, size: 3 }),
+        marks,
+    })
+}
+
+fn switched() -> Option<Header> {
+    let before = receiving()?;
+    let goal = before.goal?;
+    Some(Header {
+        running_slot: before.running_slot.other(),
+        status: TransferStatus::ActivationSuccessful,
+        running_size: goal.size,
+        running_name: goal.name,
+        goal: None,
+        marks: Marks::none(),
+        ..before
+    })
+}
+
+const WRITTEN: &[(Written, &str)] = &[
+    (Written::New(NEW), "true true"),
+    (Written::Receiving(RECEIVING), "true true"),
+    (
+        Written::Switched(
+            "46574831010106000000000200000003010000000700000001ba7816bf8f01cfea414140de5dae2223b00361a396177a9cb410ff61f20015ad",
+        ),
+        "true true",
+    ),
+];
+
+impl Case for TransferStatus {
+    fn told(&self, alloc: Global) -> Result<String, Fail> {
+        Ok(format!(in alloc; "{}", self.number())?)
+    }
+}
+
+/// The numbers are those of IEC 62056-6-2, image_transfer_status.
+const STATUSES: &[(TransferStatus, &str)] = &[
+    (TransferStatus::NotInitiated, "0"),
+    (TransferStatus::Initiated, "1"),
+    (TransferStatus::VerificationSuccessful, "3"),
+    (TransferStatus::VerificationFailed, "4"),
+    (TransferStatus::ActivationSuccessful, "6"),
+];
+
+impl Case for Slot {
+    fn told(&self, alloc: Global) -> Result<String, Fail> {
+        Ok(format!(in alloc; "{:?}", self.other())?)
+    }
+}
+
+/// The other slot.
+const SLOTS: &[(Slot, &str)] = &[(Slot::First, "Second"), (Slot::Second, "First")];
+
+#[test]
+fn headers_are_written(rt: HostRuntime) -> Result<(), Fail> {
+    each(rt.alloc(), WRITTEN)?;
+    each(rt.alloc(), STATUSES)?;
+    each(rt.alloc(), SLOTS)
+}

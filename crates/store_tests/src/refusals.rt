@@ -1,0 +1,178 @@
+//! Calls that are refused before any call of the store, and leave all as it was.
+
+use crate::session::{
+    BLOCK_0, BOTH_BLOCKS, Call, ENABLED, Meter, NO_BLOCK, Row, SWITCHED, VERIFIED, make,
+    meter_with, session,
+};
+use crate::support::{Case, each};
+use fw_image::Refusal;
+use std::alloc::Global;
+use std::test::Fail;
+
+/// Calls that are done, then one in vain: why it is refused, if it leaves the store and what can be seen.
+struct Vain(&'static [Call], Call);
+
+impl Case for Vain {
+    fn told(&self, alloc: Global) -> Result<String, Fail> {
+        let before = after(alloc, self.0)?;
+        let (refusal, meter) = make(alloc, after(alloc, self.0)?, &self.1)?;
+        if is_same(&meter, &before) {
+            refusal_text(alloc, refusal)
+        } else {
+            Err("it has changed".into())
+        }
+    }
+}
+
+fn refusal_text(alloc: Global, refusal: Option<Refusal>) -> Result<String, Fail> {
+    Ok(match refusal {
+        Some(refusal) => refusal.to_string(alloc)?,
+        None => String::from_str(alloc, "done")?,
+    })
+}
+
+const VAIN: &[(Vain, &str)] = &[
+    // before it was ever enabled, and an offer that wouldn't do either
+    (Vain(&[], Call::Initiate(4)), "Disabled"),
+    (Vain(&[], Call::InitiateFactory(0)), "Disabled"),
+    // an offer of the factory's, of no bytes, above the capacity, of 4,097 blocks
+    (Vain(ENABLED_NOW, Call::InitiateFactory(4)), "BadInitiate"),
+    (Vain(ENABLED_NOW, Call::Initiate(0)), "BadInitiate"),
+    (Vain(ENABLED_NOW, Call::Initiate(10_001)), "BadInitiate"),
+    (Vain(ENABLED_NOW, Call::Initiate(8_193)), "BadInitiate"),
+    // a block behind the last, one that is too short, too long, empty, and a last one that is too long
+    (Vain(RECEIVING, Call::Block(3, b"bb")), "BadBlock"),
+    (Vain(RECEIVING, Call::Block(0, b"b")), "BadBlock"),
+    (Vain(RECEIVING, Call::Block(1, b"bbb")), "BadBlock"),
+    (Vain(RECEIVING, Call::Block(1, b"")), "BadBlock"),
+    (Vain(RECEIVING, Call::Block(2, b"bb")), "BadBlock"),
+    // a block is missing
+    (Vain(RECEIVING, Call::Verify), "Missing"),
+    // disabled meanwhile, and a block that wouldn't do either
+    (Vain(DISABLED, Call::Block(9, b"bb")), "Disabled"),
+    (Vain(DISABLED, Call::Verify), "Disabled"),
+    (Vain(DISABLED_THEN, Call::Activate), "Disabled"),
+];
+
+const ENABLED_NOW: &[Call] = &[Call::Enable(true)];
+
+/// Block 1 of three came, of which the last has one byte.
+const RECEIVING: &[Call] = &[Call::Enable(true), Call::Initiate(5), Call::Block(1, b"bb")];
+
+const DISABLED: &[Call] = &[
+    Call::Enable(true),
+    Call::Initiate(5),
+    Call::Block(1, b"bb"),
+    Call::Enable(false),
+];
+
+/// Disabled after it was verified.
+const DISABLED_THEN: &[Call] = &[
+    Call::Enable(true),
+    Call::Initiate(4),
+    Call::Block(0, b"bb"),
+    Call::Block(1, b"bb"),
+    Call::Verify,
+    Call::Enable(false),
+];
+
+/// A new meter with room for 10,000 bytes after these calls.
+fn after(alloc: Global, calls: &[Call]) -> Result<Meter, Fail> {
+    let mut meter = meter_with(alloc, 10_000)?;
+    for done in calls {
+        meter = make(alloc, meter, done)?.1;
+    }
+    Ok(meter)
+}
+
+fn is_same(meter: &Meter, other: &Meter) -> bool {
+    meter.same(other) && meter.view() == other.view()
+}
+
+/// Calls of one meter and of another: whether both are the same then.
+struct Same(&'static [Call], &'static [Call]);
+
+impl Case for Same {
+    fn told(&self, alloc: Global) -> Result<String, Fail> {
+        let same = is_same(&after(alloc, self.0)?, &after(alloc, self.1)?);
+        Ok(format!(in alloc; "{same}")?)
+    }
+}
+
+/// A change of the store is no refusal in vain.
+const SAME: &[(Same, &str)] = &[
+    (Same(ENABLED_NOW, ENABLED_NOW), "true"),
+    (Same(ENABLED_NOW, RECEIVING), "false"),
+    (Same(RECEIVING, RECEIVING), "true"),
+    (Same(RECEIVING, DISABLED), "false"),
+];
+
+/// Calls that are done, then one more: whether that is done too.
+struct Done(&'static [Call], Call);
+
+impl Case for Done {
+    fn told(&self, alloc: Global) -> Result<String, Fail> {
+        let (refusal, _meter) = make(alloc, after(alloc, self.0)?, &self.1)?;
+        refusal_text(alloc, refusal)
+    }
+}
+
+/// 8,192 bytes in 4,096 blocks are no refusal.
+const DONE: &[(Done, &str)] = &[(Done(ENABLED_NOW, Call::Initiate(8_192)), "done")];
+
+impl Case for Refusal {
+    fn told(&self, alloc: Global) -> Result<String, Fail> {
+        Ok(self.to_string(alloc)?)
+    }
+}
+
+const REFUSALS: &[(Refusal, &str)] = &[
+    (Refusal::Disabled, "Disabled"),
+    (Refusal::BadInitiate, "BadInitiate"),
+    (Refusal::BadBlock, "BadBlock"),
+    (Refusal::Missing, "Missing"),
+    (Refusal::Fault, "Fault"),
+    (Refusal::Differs, "Differs"),
+];
+
+/// While transfer is disabled no block is taken and a verified image isn't activated.
+const DISABLED_MEANWHILE: &[Row] = &[
+    (Call::Enable(true), None, ENABLED),
+    (Call::Initiate(4), None, NO_BLOCK),
+    (Call::Block(0, b"bb"), None, BLOCK_0),
+    (Call::Enable(false), None, DISABLED_BLOCK_0),
+    (
+        Call::Block(1, b"bb"),
+        Some(Refusal::Disabled),
+        DISABLED_BLOCK_0,
+    ),
+    (Call::Enable(true), None, BLOCK_0),
+    (Call::Block(1, b"bb"), None, BOTH_BLOCKS),
+    (Call::Verify, None, VERIFIED),
+    (Call::Enable(false), None, DISABLED_VERIFIED),
+    (Call::Activate, Some(Refusal::Disabled), DISABLED_VERIFIED),
+    (
+        Call::Initiate(4),
+        Some(Refusal::Disabled),
+        DISABLED_VERIFIED,
+    ),
+    (Call::Runs(b"abc"), None, DISABLED_VERIFIED),
+    (Call::Enable(true), None, VERIFIED),
+    (Call::Activate, None, SWITCHED),
+    (Call::Runs(b"bbbb"), None, SWITCHED),
+];
+
+const DISABLED_BLOCK_0: &str =
+    "false, Initiated, goal 4 of 2 1 81cc5b17, marks 0, runs 3 of 0 0 ba7816bf";
+
+const DISABLED_VERIFIED: &str =
+    "false, VerificationSuccessful, goal 4 of 2 1 81cc5b17, marks 0 1, runs 3 of 0 0 ba7816bf";
+
+#[test]
+fn leave_all_as_it_was(rt: HostRuntime) -> Result<(), Fail> {
+    each(rt.alloc(), VAIN)?;
+    each(rt.alloc(), SAME)?;
+    each(rt.alloc(), DONE)?;
+    each(rt.alloc(), REFUSALS)?;
+    session(rt.alloc(), false, &[DISABLED_MEANWHILE])
+}

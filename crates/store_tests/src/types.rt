@@ -1,0 +1,150 @@
+//! Calls of a transfer whose type tells its status.
+
+use crate::session::{BLOCK_0, ENABLED, NO_BLOCK, bbbb, meter_with, opened, sight};
+use crate::support::{Case, each};
+use fw_image::{Idle, MeterView, Phase, Receiving, Refusal};
+use fw_store::MemoryStore;
+use std::alloc::Global;
+use std::test::Fail;
+
+/// What is seen of a new meter that runs `abc`.
+const NEW: &str = "false, NotInitiated, no goal, marks, runs 3 of 0 0 ba7816bf";
+
+/// The transfer of a new meter.
+fn idle(alloc: Global) -> Result<Idle<MemoryStore>, Fail> {
+    match meter_with(alloc, 64)? {
+        Phase::Idle(transfer) => Ok(transfer),
+        _ => Err("it isn't new".into()),
+    }
+}
+
+fn enabled(alloc: Global) -> Result<Idle<MemoryStore>, Fail> {
+    match idle(alloc)?.set_enabled(true) {
+        Ok(next) => Ok(next),
+        Err((refusal, _back)) => Err(refusal.into()),
+    }
+}
+
+/// It receives an image of four bytes.
+fn begun(alloc: Global) -> Result<Receiving<MemoryStore>, Fail> {
+    match enabled(alloc)?.initiate(bbbb()?, 4) {
+        Ok(next) => Ok(next),
+        Err((refusal, _back)) => Err(refusal.into()),
+    }
+}
+
+/// It receives the same image anew.
+fn begun_again(alloc: Global) -> Result<Receiving<MemoryStore>, Fail> {
+    match with_block(alloc)?.initiate(bbbb()?, 4) {
+        Ok(next) => Ok(next),
+        Err((refusal, _back)) => Err(refusal.into()),
+    }
+}
+
+/// It has block 0.
+fn with_block(alloc: Global) -> Result<Receiving<MemoryStore>, Fail> {
+    match begun(alloc)?.block(0, b"bb") {
+        Ok(next) => Ok(next),
+        Err((refusal, _back)) => Err(refusal.into()),
+    }
+}
+
+/// A transfer whose store fails isn't disabled.
+fn not_disabled(alloc: Global) -> Result<(Refusal, MeterView), Fail> {
+    let mut transfer = enabled(alloc)?;
+    transfer.fuse(0, 0);
+    match transfer.set_enabled(false) {
+        Ok(_next) => Err("the header was written".into()),
+        Err((refusal, back)) => Ok((refusal, back.view())),
+    }
+}
+
+/// An image of this size isn't initiated.
+fn in_vain(transfer: Idle<MemoryStore>, size: u32) -> Result<(Refusal, MeterView), Fail> {
+    match transfer.initiate(bbbb()?, size) {
+        Ok(_next) => Err("it was initiated".into()),
+        Err((refusal, back)) => Ok((refusal, back.view())),
+    }
+}
+
+/// A transfer: the refusal of its last call, if there is one, and what is seen.
+enum Transfer {
+    New,
+    Enabled,
+    NotDisabled,
+    /// While it is disabled.
+    NotInitiated(u32),
+    /// Once it is enabled.
+    NotEvenThen(u32),
+    Begun,
+    WithBlock,
+    BegunAgain,
+    /// Its store is opened in the status of that transfer.
+    Opened,
+}
+
+impl Case for Transfer {
+    fn told(&self, alloc: Global) -> Result<String, Fail> {
+        let view = match self {
+            Transfer::New => idle(alloc)?.view(),
+            Transfer::Enabled => enabled(alloc)?.view(),
+            Transfer::NotDisabled => return refused_text(alloc, not_disabled(alloc)?),
+            Transfer::NotInitiated(size) => {
+                return refused_text(alloc, in_vain(idle(alloc)?, *size)?);
+            }
+            Transfer::NotEvenThen(size) => {
+                return refused_text(alloc, in_vain(enabled(alloc)?, *size)?);
+            }
+            Transfer::Begun => begun(alloc)?.view(),
+            Transfer::WithBlock => with_block(alloc)?.view(),
+            Transfer::BegunAgain => begun_again(alloc)?.view(),
+            Transfer::Opened => opened(with_block(alloc)?.into_store())?.view(),
+        };
+        Ok(sight(alloc, &view)?)
+    }
+}
+
+fn refused_text(alloc: Global, refused: (Refusal, MeterView)) -> Result<String, Fail> {
+    let (refusal, view) = refused;
+    let seen = sight(alloc, &view)?;
+    Ok(format!(in alloc; "{refusal:?}: {seen}")?)
+}
+
+const TRANSFERS: &[(Transfer, &str)] = &[
+    (Transfer::New, NEW),
+    (Transfer::Enabled, ENABLED),
+    (
+        Transfer::NotDisabled,
+        "Fault: true, NotInitiated, no goal, marks, runs 3 of 0 0 ba7816bf",
+    ),
+    (
+        Transfer::NotInitiated(4),
+        "Disabled: false, NotInitiated, no goal, marks, runs 3 of 0 0 ba7816bf",
+    ),
+    (
+        Transfer::NotEvenThen(0),
+        "BadInitiate: true, NotInitiated, no goal, marks, runs 3 of 0 0 ba7816bf",
+    ),
+    (Transfer::Begun, NO_BLOCK),
+    (Transfer::WithBlock, BLOCK_0),
+    (Transfer::BegunAgain, NO_BLOCK),
+    (Transfer::Opened, BLOCK_0),
+];
+
+/// Whether two transfers that receive the same image are the same, and whether they are once one has a block.
+struct Compared;
+
+impl Case for Compared {
+    fn told(&self, alloc: Global) -> Result<String, Fail> {
+        let one = begun(alloc)?;
+        let before = one.same(&begun(alloc)?);
+        let after = one.same(&with_block(alloc)?);
+        Ok(format!(in alloc; "{before} {after}")?)
+    }
+}
+
+#[test]
+fn by_its_type(rt: HostRuntime) -> Result<(), Fail> {
+    each(rt.alloc(), TRANSFERS)?;
+    each(rt.alloc(), &[(Compared, "true false")])
+}
