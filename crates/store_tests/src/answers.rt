@@ -2,7 +2,6 @@
 
 ghost use Rattle.std.specs.Prelude.{◌≤◌, IfOk};
 ghost use Rattle.fw_server.specs.Answer.{bits_in};
-ghost use Rattle.fw_server.specs.View.{outcome_of};
 
 use crate::replying::wrapped_answer;
 use crate::support::{Case, each};

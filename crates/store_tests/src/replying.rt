@@ -4,7 +4,6 @@ ghost use Rattle.std.specs.Prelude.{◌≡◌, ◌≤◌, IfSome};
 ghost use Rattle.fw_apdu.specs.Response.{response_bytes};
 ghost use Rattle.fw_wrapper.specs.Wrapper.{wrapped};
 ghost use Rattle.fw_server.specs.Answer.{bits_in, response_of};
-ghost use Rattle.fw_server.specs.View.{outcome_of};
 
 use fw_apdu::{ApduError, Invoke};
 use fw_server::{Outcome, answer};
@@ -19,8 +18,8 @@ pub fn wrapped_answer(
     invoke: &Invoke,
     outcome: &Outcome,
 ) -> Option<Vec<u8>>
-    requires { bits_in (outcome_of outcome.now) ≤ 4096 }
-    ensures { IfSome result (λ datagram. datagram.items ≡ wrapped source dest (response_bytes invoke.now.0 (response_of (outcome_of outcome.now)))) }
+    requires { bits_in outcome.now ≤ 4096 }
+    ensures { IfSome result (λ datagram. datagram.items ≡ wrapped source dest (response_bytes invoke.now.0 (response_of outcome.now))) }
 {
     let apdu = match answer(alloc, invoke, outcome) {
         Ok(apdu) => apdu,
