@@ -355,18 +355,6 @@ const NO_CALLS: &[Row] = &[
     },
 ];
 
-/// All rows, by the operation.
-const ROWS: &[&[Row]] = &[
-    SETS,
-    INITIATES,
-    NEW_BLOCKS,
-    BLOCKS_AGAIN,
-    VERIFIES,
-    VERIFIES_IN_VAIN,
-    ACTIVATES,
-    NO_CALLS,
-];
-
 /// A row, with a new meter.
 fn played(alloc: Global, row: &Row) -> Result<(), Fail> {
     let parts = [
@@ -382,10 +370,50 @@ fn played(alloc: Global, row: &Row) -> Result<(), Fail> {
     sessions(alloc, &[&parts])
 }
 
-#[test]
-fn each_call_that_fails(rt: HostRuntime) -> Result<(), Fail> {
-    for row in ROWS.iter().flat_map(|rows| rows.iter()) {
-        played(rt.alloc(), row)?;
+/// Each row, with a new meter each.
+fn each_played(alloc: Global, rows: &[Row]) -> Result<(), Fail> {
+    for row in rows {
+        played(alloc, row)?;
     }
     Ok(())
+}
+
+#[test]
+fn faults_in_a_set(rt: HostRuntime) -> Result<(), Fail> {
+    each_played(rt.alloc(), SETS)
+}
+
+#[test]
+fn faults_in_an_initiate(rt: HostRuntime) -> Result<(), Fail> {
+    each_played(rt.alloc(), INITIATES)
+}
+
+#[test]
+fn faults_in_a_new_block(rt: HostRuntime) -> Result<(), Fail> {
+    each_played(rt.alloc(), NEW_BLOCKS)
+}
+
+#[test]
+fn faults_in_a_block_again(rt: HostRuntime) -> Result<(), Fail> {
+    each_played(rt.alloc(), BLOCKS_AGAIN)
+}
+
+#[test]
+fn faults_in_a_verify(rt: HostRuntime) -> Result<(), Fail> {
+    each_played(rt.alloc(), VERIFIES)
+}
+
+#[test]
+fn faults_in_a_verify_in_vain(rt: HostRuntime) -> Result<(), Fail> {
+    each_played(rt.alloc(), VERIFIES_IN_VAIN)
+}
+
+#[test]
+fn faults_in_an_activate(rt: HostRuntime) -> Result<(), Fail> {
+    each_played(rt.alloc(), ACTIVATES)
+}
+
+#[test]
+fn no_calls_to_fail(rt: HostRuntime) -> Result<(), Fail> {
+    each_played(rt.alloc(), NO_CALLS)
 }
