@@ -16,9 +16,9 @@ use std::marker::Model;
 /// each number.
 #[derive(Debug, Drop)]
 pub struct BlockSet {
-    // For each number below the count, whether it is in the set.
+    /// For each number below the count, whether it is in the set.
     members: Vec<bool>,
-    // The least number that is not in the set, or the count.
+    /// The least number that is not in the set, or the count.
     first: u32,
 }
 
@@ -102,14 +102,14 @@ impl BlockSet {
     }
 }
 
-// Whether a bit is there and set.
+/// Whether a bit is there and set.
 fn has_bit(members: &[bool], number: u32) -> bool
     ensures { result ≡ has members.now number }
 {
     members.get(number as usize) == Some(&true)
 }
 
-// The least number that is not a member, or the count, looked for from a number on that isn't above it.
+/// The least number that is not a member, or the count, looked for from a number on that isn't above it.
 fn first_missing_from(members: &[bool], from: u32) -> u32
     requires small { length members.now < 2 ^ 32 }
     requires before { from ≤ first_missing members.now }
@@ -122,7 +122,7 @@ fn first_missing_from(members: &[bool], from: u32) -> u32
     first
 }
 
-// The bits of a bit-string, one by one.
+/// The bits of a bit-string, one by one.
 fn bits_of(alloc: Global, bits: &Bits) -> Result<Vec<bool>, AllocError>
     ensures members { IfOk result (λ members. members.items ≡ bits.now) }
     ensures memory { OnErr result (1 ≤ length bits.now) }
@@ -134,7 +134,7 @@ fn bits_of(alloc: Global, bits: &Bits) -> Result<Vec<bool>, AllocError>
     Ok(members)
 }
 
-// The bytes that hold the bits, as few as serve, with zeros in the unused bits.
+/// The bytes that hold the bits, as few as serve, with zeros in the unused bits.
 fn packed_bytes(alloc: Global, bits: &[bool]) -> Result<Vec<u8>, AllocError>
     ensures bytes { IfOk result (λ bytes. bytes.items ≡ packed bits.now) }
     ensures memory { OnErr result (1 ≤ length bits.now) }
@@ -147,7 +147,7 @@ fn packed_bytes(alloc: Global, bits: &[bool]) -> Result<Vec<u8>, AllocError>
     Ok(bytes)
 }
 
-// The byte of the first eight bits, the first one on top, with zeros where there are fewer.
+/// The byte of the first eight bits, the first one on top, with zeros where there are fewer.
 fn first_byte(bits: &[bool]) -> u8
     ensures { result ≡ byte_of bits.now }
 {
@@ -161,7 +161,7 @@ fn first_byte(bits: &[bool]) -> u8
         + worth_of(bits, 7, 1)
 }
 
-// What the bit at an index adds to its byte: so much if it is there and set.
+/// What the bit at an index adds to its byte: so much if it is there and set.
 fn worth_of(bits: &[bool], index: usize, worth: u8) -> u8
     ensures value { result ≡ (if slice_index_or bits.now index false then worth else 0) }
     ensures most { result ≤ worth }

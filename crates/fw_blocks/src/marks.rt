@@ -21,9 +21,9 @@ pub const MARKS_SIZE: usize = 512;
 /// least one is kept, and over all marks it moves on at most once past each number.
 #[derive(Clone, Copy, Debug, PartialEq, Eq)]
 pub struct Marks {
-    // Eight marks a byte, the first one its top bit.
+    /// Eight marks a byte, the first one its top bit.
     bytes: [u8; MARKS_SIZE],
-    // The least number that is not marked, or 4,096.
+    /// The least number that is not marked, or 4,096.
     first: u32,
 }
 
@@ -124,14 +124,14 @@ impl Marks {
     }
 }
 
-// Whether a bit is there and set.
+/// Whether a bit is there and set.
 fn has_bit(bytes: &[u8; MARKS_SIZE], number: u32) -> bool
     ensures { result ≡ has (bits bytes.now) number }
 {
     number < MAX_BLOCKS && (bytes[number as usize / 8] >> (7 - number % 8)) % 2 == 1
 }
 
-// The byte that a bit stands in, with the bit set.
+/// The byte that a bit stands in, with the bit set.
 fn with_bit(bytes: &[u8; MARKS_SIZE], number: u32) -> u8
     requires { number < MAX_BLOCKS }
     ensures { bits (slice_set bytes.now (number / 8) result) ≡ slice_set (bits bytes.now) number true }
@@ -139,7 +139,7 @@ fn with_bit(bytes: &[u8; MARKS_SIZE], number: u32) -> u8
     bytes[number as usize / 8] | 1 << (7 - number % 8)
 }
 
-// The least number whose bit isn't set, or 4,096, looked for from a number on that isn't above it.
+/// The least number whose bit isn't set, or 4,096, looked for from a number on that isn't above it.
 fn first_missing_from(bytes: &[u8; MARKS_SIZE], from: u32) -> u32
     requires { from ≤ first_missing (bits bytes.now) }
     ensures { result ≡ first_missing (bits bytes.now) }

@@ -102,7 +102,7 @@ impl Window {
     }
 }
 
-// The lowest absent numbers, as many as the width, looked for from the first missing one on.
+/// The lowest absent numbers, as many as the width, looked for from the first missing one on.
 fn lowest_absent(set: &BlockSet, width: usize) -> Window
     requires { width ≤ PLACES }
     ensures { result ≡ window set.now width }

@@ -91,7 +91,7 @@ impl Book {
         self.offer(campaign)?.state(meter)
     }
 
-    // Whether the book has a campaign of this serial number.
+    /// Whether the book has a campaign of this serial number.
     fn has_serial(&self, serial: u32) -> bool
         ensures { result ≡ has_serial self.now serial }
     {
@@ -105,7 +105,7 @@ impl Book {
         self.campaigns.values().any(|offer| offer.is_live(meter))
     }
 
-    // Whether one of the meters is live in a campaign of this book.
+    /// Whether one of the meters is live in a campaign of this book.
     fn any_busy(&self, meters: &[MeterId]) -> bool
         ensures { result ≡ list_any (λ meter. is_busy self.now.campaigns meter) meters.now }
     {
@@ -169,7 +169,7 @@ impl Book {
         self.check_meters(meters)
     }
 
-    // The refusals of an opening for its meters, in their order.
+    /// The refusals of an opening for its meters, in their order.
     fn check_meters(&self, meters: &[MeterId]) -> Result<(), BookError>
         ensures admitted { OnOk result (meters_refusal self.now meters.now ≡ None) }
         ensures refused { IfErr result (λ e. meters_refusal self.now meters.now ≡ Some e) }
@@ -189,7 +189,7 @@ impl Book {
         Ok(())
     }
 
-    // Adds a campaign behind the others.
+    /// Adds a campaign behind the others.
     fn add(&mut self, serial: u32, offer: Offer) -> Result<(), BookError>
         requires { Admits self.old serial offer }
         ensures ok { OnOk result (self.new ≡ added self.old serial offer) }
@@ -259,7 +259,7 @@ impl Book {
         self.mark(campaign, meter, RowState::Failed)
     }
 
-    // Gives the row of a meter, which is live, the state in which it ends.
+    /// Gives the row of a meter, which is live, the state in which it ends.
     fn mark(
         &mut self,
         campaign: CampaignId,

@@ -39,7 +39,7 @@ pub(crate) fn live_rows(alloc: Global, meters: &[MeterId]) -> Result<Vec<Row>, B
     Ok(rows)
 }
 
-// The row of a meter whose campaign was just opened.
+/// The row of a meter whose campaign was just opened.
 fn live_row(meter: MeterId) -> Row
     ensures row { result ≡ live_row meter }
     ensures fits { result.meter < 2 ^ 32 }

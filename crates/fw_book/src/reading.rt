@@ -26,7 +26,7 @@ pub(crate) struct Entry<'a> {
     pub(crate) rows: &'a [u8],
 }
 
-// A number of two bytes, high byte first, and what follows it.
+/// A number of two bytes, high byte first, and what follows it.
 fn u16_at(bytes: &[u8]) -> Option<(u16, &[u8])>
     ensures found { IfSome result (λ r. bytes.now ≡ to_be_bytes w16 r.0 ++ r.1.now) }
     ensures fits { IfSome result (λ r. r.0 < 2 ^ 16) }
@@ -38,7 +38,7 @@ fn u16_at(bytes: &[u8]) -> Option<(u16, &[u8])>
     Some((u16::from_be_bytes([*a, *b]), rest))
 }
 
-// A number of four bytes, high byte first, and what follows it.
+/// A number of four bytes, high byte first, and what follows it.
 fn u32_at(bytes: &[u8]) -> Option<(u32, &[u8])>
     ensures found { IfSome result (λ r. bytes.now ≡ to_be_bytes w32 r.0 ++ r.1.now) }
     ensures fits { IfSome result (λ r. r.0 < 2 ^ 32) }
@@ -65,7 +65,7 @@ pub(crate) fn head_at(bytes: &[u8]) -> Option<(HeadId, &[u8])>
     Some((HeadId::new(head)?, rest))
 }
 
-// An image behind its size, and what follows it.
+/// An image behind its size, and what follows it.
 fn image_at(bytes: &[u8]) -> Option<(&[u8], &[u8])>
     ensures found { IfSome result (λ r. bytes.now ≡ image_bytes r.0.now ++ r.1.now) }
     ensures fits { IfSome result (λ r. IsImage r.0.now) }
@@ -99,7 +99,7 @@ pub(crate) fn row_at(bytes: &[u8]) -> Option<(Row, &[u8])>
     Some((Row { meter, state }, rest))
 }
 
-// The bytes of so many rows, and what follows them.
+/// The bytes of so many rows, and what follows them.
 fn split_rows(count: usize, bytes: &[u8]) -> Option<(&[u8], &[u8])>
     ensures found { IfSome result (λ r. bytes.now ≡ rows_bytes (rows_in r.0.now) ++ r.1.now) }
     ensures count { IfSome result (λ r. length (rows_in r.0.now) ≡ count) }
@@ -116,7 +116,7 @@ fn split_rows(count: usize, bytes: &[u8]) -> Option<(&[u8], &[u8])>
     Some(bytes.split_at(bytes.len() - rest.len()))
 }
 
-// The bytes of a campaign's rows behind their number, and what follows them.
+/// The bytes of a campaign's rows behind their number, and what follows them.
 fn rows_at(bytes: &[u8]) -> Option<(&[u8], &[u8])>
     ensures found { IfSome result (λ r. bytes.now ≡ counted_bytes (rows_in r.0.now) ++ r.1.now) }
     ensures fits { IfSome result (λ r. IsRows (rows_in r.0.now)) }
@@ -157,7 +157,7 @@ pub(crate) fn entry_at(bytes: &[u8]) -> Option<(Entry<'_>, &[u8])>
     ))
 }
 
-// The bytes of rows behind their number, and what follows them. No row is looked at.
+/// The bytes of rows behind their number, and what follows them. No row is looked at.
 fn skim_rows(bytes: &[u8]) -> Option<(&[u8], &[u8])>
     ensures found { IfSome result (λ r. SkimsRows bytes.now r.0.now r.1.now) }
     ensures none { IfNone result (NoCounted bytes.now) }

@@ -66,7 +66,7 @@ impl RowState {
     }
 }
 
-// The row, in this state where it is the meter's.
+/// The row, in this state where it is the meter's.
 fn marked_row(row: Row, meter: MeterId, state: RowState) -> Row
     ensures { result ≡ marked_row meter state row }
 {
@@ -77,7 +77,7 @@ fn marked_row(row: Row, meter: MeterId, state: RowState) -> Row
     }
 }
 
-// The row, cancelled where it is live.
+/// The row, cancelled where it is live.
 fn cancelled_row(row: Row) -> Row
     ensures { result ≡ cancelled_row row }
 {

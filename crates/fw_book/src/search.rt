@@ -12,7 +12,7 @@ ghost use Rattle.fw_book.specs.Format.{SpellsBook};
 use crate::reading::{entry_at, head_at, row_at, skim};
 use fw_names::{HeadId, MeterId};
 
-// Whether a row in these bytes is the meter's.
+/// Whether a row in these bytes is the meter's.
 fn has_meter(rows: &[u8], meter: MeterId) -> bool
     ensures { result ≡ list_any (λ (row : Row). row.meter == meter) (rows_in rows.now) }
 {
@@ -41,7 +41,7 @@ pub(crate) fn repeats(rows: &[u8]) -> bool
     false
 }
 
-// Whether a row of the meter in these bytes is live.
+/// Whether a row of the meter in these bytes is live.
 fn is_live(rows: &[u8], meter: MeterId) -> bool
     ensures { result ≡ is_live_in (rows_in rows.now) meter }
 {
@@ -55,7 +55,7 @@ fn is_live(rows: &[u8], meter: MeterId) -> bool
     false
 }
 
-// Whether a campaign in these bytes has the serial number.
+/// Whether a campaign in these bytes has the serial number.
 fn has_serial(entries: &[u8], serial: u32) -> bool
     ensures { (list : List (ℕ × Offered)) → AreEntries entries.now list
         → result ≡ is_some (lookup (nat_eq serial) list) }
@@ -70,7 +70,7 @@ fn has_serial(entries: &[u8], serial: u32) -> bool
     false
 }
 
-// Whether the meter is live in a campaign in these bytes.
+/// Whether the meter is live in a campaign in these bytes.
 fn is_busy(entries: &[u8], meter: MeterId) -> bool
     ensures { (list : List (ℕ × Offered)) → AreEntries entries.now list
         → result ≡ is_busy list meter }
@@ -85,7 +85,7 @@ fn is_busy(entries: &[u8], meter: MeterId) -> bool
     false
 }
 
-// Whether a meter that is live in the rows is live in a campaign in these bytes.
+/// Whether a meter that is live in the rows is live in a campaign in these bytes.
 fn clashes(entries: &[u8], rows: &[u8]) -> bool
     ensures { (list : List (ℕ × Offered)) → AreEntries entries.now list
         → result ≡ clashes list (rows_in rows.now) }
@@ -100,7 +100,7 @@ fn clashes(entries: &[u8], rows: &[u8]) -> bool
     false
 }
 
-// Whether the bytes are those of the campaigns of a book of this head end. Each campaign is compared with those before it.
+/// Whether the bytes are those of the campaigns of a book of this head end. Each campaign is compared with those before it.
 fn are_campaigns(head: HeadId, entries: &[u8]) -> bool
     requires begins { 1 ≤ head }
     requires fits { head < 2 ^ 32 }

@@ -22,7 +22,7 @@ pub(crate) fn write_head(bytes: &mut Vec<u8>, head: HeadId) -> Result<(), BookEr
     Ok(())
 }
 
-// Writes a row behind what is there.
+/// Writes a row behind what is there.
 fn write_row(bytes: &mut Vec<u8>, row: &Row) -> Result<(), BookError>
     ensures ok { OnOk result (bytes.new.items ≡ bytes.old.items ++ row_bytes row.now) }
     ensures memory { IfErr result (λ e. e ≡ BookError.OutOfMemory) }
@@ -32,7 +32,7 @@ fn write_row(bytes: &mut Vec<u8>, row: &Row) -> Result<(), BookError>
     Ok(())
 }
 
-// Writes rows behind what is there.
+/// Writes rows behind what is there.
 fn write_rows(bytes: &mut Vec<u8>, rows: &[Row]) -> Result<(), BookError>
     ensures ok { OnOk result (bytes.new.items ≡ bytes.old.items ++ rows_bytes rows.now) }
     ensures memory { IfErr result (λ e. e ≡ BookError.OutOfMemory) }

@@ -73,7 +73,7 @@ impl Ask<'_> {
     }
 }
 
-// The service of an ask.
+/// The service of an ask.
 #[derive(Clone, Copy, Debug, PartialEq, Eq)]
 pub(crate) enum Service {
     Get,

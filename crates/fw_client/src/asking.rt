@@ -41,7 +41,7 @@ pub(crate) fn datagram(alloc: Global, invoke: Invoke, ask: &Ask<'_>) -> Result<V
     }
 }
 
-// The APDU in it.
+/// The APDU in it.
 fn apdu(alloc: Global, invoke: Invoke, ask: &Ask<'_>) -> Result<Vec<u8>, ApduError>
     requires { Fits (ask_of ask.now) }
     ensures written { IfOk result (λ apdu. apdu.items ≡ request_bytes invoke.0 (request_of (ask_of ask.now))) }
@@ -53,7 +53,7 @@ fn apdu(alloc: Global, invoke: Invoke, ask: &Ask<'_>) -> Result<Vec<u8>, ApduErr
     write_request(alloc, &request)
 }
 
-// The request with this invoke byte.
+/// The request with this invoke byte.
 fn request(alloc: Global, invoke: Invoke, ask: &Ask<'_>) -> Result<Request, AllocError>
     ensures invoke { IfOk result (λ r. request_invoke r ≡ invoke.0) }
     ensures content { IfOk result (λ r. request_content r ≡ request_of (ask_of ask.now)) }
@@ -82,7 +82,7 @@ fn request(alloc: Global, invoke: Invoke, ask: &Ask<'_>) -> Result<Request, Allo
     })
 }
 
-// GET of an attribute of Image transfer.
+/// GET of an attribute of Image transfer.
 fn get(invoke: Invoke, attribute: i8) -> Request
     ensures invoke { request_invoke result ≡ invoke.0 }
     ensures content { request_content result ≡ get_request (image_transfer attribute) }
@@ -95,7 +95,7 @@ fn get(invoke: Invoke, attribute: i8) -> Request
     }
 }
 
-// GET of the value of the active firmware identifier.
+/// GET of the value of the active firmware identifier.
 fn get_active_name(invoke: Invoke) -> Request
     ensures invoke { request_invoke result ≡ invoke.0 }
     ensures content { request_content result ≡ request_of (ask_of Ask.ActiveName) }
@@ -108,7 +108,7 @@ fn get_active_name(invoke: Invoke) -> Request
     }
 }
 
-// SET of image_transfer_enabled.
+/// SET of image_transfer_enabled.
 fn enable(invoke: Invoke) -> Request
     ensures invoke { request_invoke result ≡ invoke.0 }
     ensures content { request_content result ≡ request_of (ask_of Ask.Enable) }
@@ -122,7 +122,7 @@ fn enable(invoke: Invoke) -> Request
     }
 }
 
-// ACTION of a method of Image transfer, with its parameter.
+/// ACTION of a method of Image transfer, with its parameter.
 fn action(invoke: Invoke, method: i8, parameter: Data) -> Request
     ensures invoke { request_invoke result ≡ invoke.0 }
     ensures content { request_content result ≡ action_request (image_transfer method) (Some (value_of parameter)) }
@@ -136,7 +136,7 @@ fn action(invoke: Invoke, method: i8, parameter: Data) -> Request
     }
 }
 
-// The structure of an image's identifier and size.
+/// The structure of an image's identifier and size.
 fn identified(alloc: Global, name: &ImageName, size: u32) -> Result<Data, AllocError>
     ensures value { IfOk result (λ found. value_of found ≡ pair (octet_string (name_bytes name.now)) (double_long_unsigned size)) }
     ensures named { OnOk result (IsName name.now) }
@@ -145,7 +145,7 @@ fn identified(alloc: Global, name: &ImageName, size: u32) -> Result<Data, AllocE
     structure(alloc, identifier, Data::DoubleLongUnsigned(size))
 }
 
-// The structure of a block's number and bytes.
+/// The structure of a block's number and bytes.
 fn numbered(alloc: Global, number: u32, value: &[u8]) -> Result<Data, AllocError>
     ensures { IfOk result (λ found. value_of found ≡ pair (double_long_unsigned number) (octet_string value.now)) }
 {
@@ -153,14 +153,14 @@ fn numbered(alloc: Global, number: u32, value: &[u8]) -> Result<Data, AllocError
     structure(alloc, Data::DoubleLongUnsigned(number), bytes)
 }
 
-// The structure of two values.
+/// The structure of two values.
 fn structure(alloc: Global, first: Data, second: Data) -> Result<Data, AllocError>
     ensures { IfOk result (λ found. value_of found ≡ pair (value_of first) (value_of second)) }
 {
     Ok(Data::Structure(Items::from_vec(vec![in alloc; first, second]?)))
 }
 
-// The octet-string of these bytes.
+/// The octet-string of these bytes.
 fn octets(alloc: Global, bytes: &[u8]) -> Result<Data, AllocError>
     ensures { IfOk result (λ found. value_of found ≡ octet_string bytes.now) }
 {

@@ -128,7 +128,7 @@ impl Client {
         self.take_answer(alloc, datagram)
     }
 
-    // Takes out the ask that a datagram answers, if there is one.
+    /// Takes out the ask that a datagram answers, if there is one.
     fn take_answer(&mut self, alloc: Global, datagram: &[u8]) -> Result<Heard, OutOfMemory>
         ensures hears { IfOk result (λ heard. Hears self.old datagram.now heard self.new) }
         ensures same { OnErr result (self.new ≡ self.old) }
@@ -143,7 +143,7 @@ impl Client {
         }
     }
 
-    // The id of the ask that a datagram answers, and what is heard by it.
+    /// The id of the ask that a datagram answers, and what is heard by it.
     fn answered(&self, alloc: Global, datagram: &[u8]) -> Result<Option<(u8, Heard)>, OutOfMemory>
         ensures answered { IfOk result (λ found. Finds (λ x. Answers self.now datagram.now x.0 x.1) found) }
         ensures within { IfOk result (λ found. IfSome found (λ x. x.0 < 16)) }
@@ -157,7 +157,7 @@ impl Client {
         }
     }
 
-    // The id of the ask that a response answers, and what is heard by it.
+    /// The id of the ask that a response answers, and what is heard by it.
     fn answer(&self, response: Response) -> Option<(u8, Heard)>
         ensures answered { Finds (λ x. AnsweredBy self.now (response_invoke response) (response_content response) x.0 x.1) result }
         ensures within { IfSome result (λ x. x.0 < 16) }
@@ -167,7 +167,7 @@ impl Client {
         Some((id, heard))
     }
 
-    // The id of an invoke byte, and what is outstanding there.
+    /// The id of an invoke byte, and what is outstanding there.
     fn asked_by(&self, invoke: Invoke) -> Option<(u8, Asked)>
         ensures asked { Finds (λ x. (get self.now.asks x.0 ≡ Some x.1) × (invoke.0 ≡ invoke_byte x.0)) result }
         ensures within { IfSome result (λ x. x.0 < 16) }

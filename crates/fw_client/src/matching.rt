@@ -73,7 +73,7 @@ pub(crate) fn matched(meter: MeterId, asked: Asked, response: Response) -> Optio
     }
 }
 
-// What is heard by the value that a GET reads.
+/// What is heard by the value that a GET reads.
 fn heard_by(meter: MeterId, asked: Asked, value: Data) -> Option<Heard>
     ensures { Finds (λ heard. IsValue meter asked (value_of value) heard) result }
 {
@@ -88,7 +88,7 @@ fn heard_by(meter: MeterId, asked: Asked, value: Data) -> Option<Heard>
     }
 }
 
-// The number that a value is heard as.
+/// The number that a value is heard as.
 fn number(value: Data) -> Option<Heard>
     ensures { Finds (λ heard. IsNumber (value_of value) heard) result }
 {
@@ -98,7 +98,7 @@ fn number(value: Data) -> Option<Heard>
     }
 }
 
-// The bits that a value is heard as.
+/// The bits that a value is heard as.
 fn bits(value: Data) -> Option<Heard>
     ensures { Finds (λ heard. IsBits (value_of value) heard) result }
 {
@@ -108,7 +108,7 @@ fn bits(value: Data) -> Option<Heard>
     }
 }
 
-// The status that a value is heard as.
+/// The status that a value is heard as.
 fn status(value: Data) -> Option<Heard>
     ensures { Finds (λ heard. IsStatus (value_of value) heard) result }
 {
@@ -118,7 +118,7 @@ fn status(value: Data) -> Option<Heard>
     }
 }
 
-// The image that a value of image_to_activate_info is heard as.
+/// The image that a value of image_to_activate_info is heard as.
 fn info(value: Data) -> Option<Heard>
     ensures { Finds (λ heard. IsInfo (value_of value) heard) result }
 {
@@ -128,7 +128,7 @@ fn info(value: Data) -> Option<Heard>
     }
 }
 
-// The claim that a value of the active firmware identifier is heard as.
+/// The claim that a value of the active firmware identifier is heard as.
 fn active(meter: MeterId, value: Data) -> Option<Heard>
     ensures { Finds (λ heard. IsActive meter (value_of value) heard) result }
 {
@@ -141,14 +141,14 @@ fn active(meter: MeterId, value: Data) -> Option<Heard>
     }
 }
 
-// The name of the one image that the elements of image_to_activate_info tell of.
+/// The name of the one image that the elements of image_to_activate_info tell of.
 fn image_in(elements: &Items) -> Option<ImageName>
     ensures { IsInfoOf elements.now result }
 {
     ImageName::from_bytes(identification(elements)?)
 }
 
-// The identification of that image.
+/// The identification of that image.
 fn identification(elements: &Items) -> Option<&[u8]>
     ensures { option_copied result ≡ identification_of elements.now }
 {
@@ -158,7 +158,7 @@ fn identification(elements: &Items) -> Option<&[u8]>
 /// How many bytes the signature of an image has.
 const SIGNATURE_SIZE: usize = 32;
 
-// The identification in the fields of an element: the size, the identification and the signature.
+/// The identification in the fields of an element: the size, the identification and the signature.
 fn signed(fields: &Items) -> Option<&[u8]>
     ensures { option_copied result ≡ signed_of fields.now }
 {
@@ -172,7 +172,7 @@ fn signed(fields: &Items) -> Option<&[u8]>
     }
 }
 
-// The one element.
+/// The one element.
 #[tactic(auto, using(crate::proofs::Shapes::not_one))]
 fn one(items: &Items) -> Option<&Data>
     ensures { option_map (λ d. value_of d.now) result ≡ one_of items.now }
@@ -183,7 +183,7 @@ fn one(items: &Items) -> Option<&Data>
     }
 }
 
-// The three elements.
+/// The three elements.
 #[tactic(auto, using(crate::proofs::Shapes::not_three))]
 fn three(items: &Items) -> Option<(&Data, &Data, &Data)>
     ensures { option_map (λ x. (value_of x.0.now, value_of x.1.now, value_of x.2.now)) result ≡ three_of items.now }
@@ -194,7 +194,7 @@ fn three(items: &Items) -> Option<(&Data, &Data, &Data)>
     }
 }
 
-// The fields of a structure.
+/// The fields of a structure.
 fn fields(value: &Data) -> Option<&Items>
     ensures { option_copied result ≡ fields_in (value_of value.now) }
 {
@@ -204,7 +204,7 @@ fn fields(value: &Data) -> Option<&Items>
     }
 }
 
-// The number that a size is.
+/// The number that a size is.
 fn size_in(value: &Data) -> Option<u32>
     ensures { result ≡ size_in (value_of value.now) }
 {
@@ -214,7 +214,7 @@ fn size_in(value: &Data) -> Option<u32>
     }
 }
 
-// The bytes of an octet-string.
+/// The bytes of an octet-string.
 fn octets(value: &Data) -> Option<&[u8]>
     ensures { option_copied result ≡ octets_in (value_of value.now) }
 {

@@ -53,7 +53,7 @@ pub(crate) fn next_step(
     }
 }
 
-// The block size tells how the image is cut.
+/// The block size tells how the image is cut.
 fn from_size(size: u32, heard: Heard) -> Step
     ensures { (name : Name) → Leads name size Stage.Size heard result }
 {
@@ -66,7 +66,7 @@ fn from_size(size: u32, heard: Heard) -> Step
     }
 }
 
-// The meter takes images from here on.
+/// The meter takes images from here on.
 fn from_enable(geometry: Geometry, heard: Heard) -> Step
     ensures { (name : Name) (size : ℕ) → Leads name size (Stage.Enable geometry) heard result }
 {
@@ -76,7 +76,7 @@ fn from_enable(geometry: Geometry, heard: Heard) -> Step
     }
 }
 
-// The meter has no block yet, or isn't ready.
+/// The meter has no block yet, or isn't ready.
 fn from_start(alloc: Global, geometry: Geometry, heard: Heard) -> Result<Step, AllocError>
     ensures leads { IfOk result (λ step. (name : Name) (size : ℕ) → Leads name size (Stage.Start geometry) heard step) }
     ensures memory { OnErr result (TakesMemory (Stage.Start geometry) heard) }
@@ -94,7 +94,7 @@ fn from_start(alloc: Global, geometry: Geometry, heard: Heard) -> Result<Step, A
     })
 }
 
-// The meter took a block.
+/// The meter took a block.
 fn from_blocks(geometry: Geometry, heard: Heard) -> Step
     ensures { (name : Name) (size : ℕ) (known : List Bool) → Leads name size (Stage.Blocks geometry known) heard result }
 {
@@ -107,7 +107,7 @@ fn from_blocks(geometry: Geometry, heard: Heard) -> Step
     }
 }
 
-// The first block that the meter lacks: a number at or above the count where it has all.
+/// The first block that the meter lacks: a number at or above the count where it has all.
 fn from_check(geometry: Geometry, heard: Heard) -> Step
     ensures { (name : Name) (size : ℕ) → Leads name size (Stage.Check geometry) heard result }
 {
@@ -120,7 +120,7 @@ fn from_check(geometry: Geometry, heard: Heard) -> Step
     }
 }
 
-// The blocks that the meter has.
+/// The blocks that the meter has.
 fn from_gaps(alloc: Global, geometry: Geometry, heard: Heard) -> Result<Step, AllocError>
     ensures leads { IfOk result (λ step. (name : Name) (size : ℕ) → Leads name size (Stage.Gaps geometry) heard step) }
     ensures memory { OnErr result (TakesMemory (Stage.Gaps geometry) heard) }
@@ -134,7 +134,7 @@ fn from_gaps(alloc: Global, geometry: Geometry, heard: Heard) -> Result<Step, Al
     }
 }
 
-// The image is verified, or the meter is still at it.
+/// The image is verified, or the meter is still at it.
 fn from_verify(geometry: Geometry, heard: Heard) -> Step
     ensures { (name : Name) (size : ℕ) → Leads name size (Stage.Verify geometry) heard result }
 {
@@ -148,7 +148,7 @@ fn from_verify(geometry: Geometry, heard: Heard) -> Step
     }
 }
 
-// How far the meter is.
+/// How far the meter is.
 fn from_poll(geometry: Geometry, heard: Heard) -> Step
     ensures { (name : Name) (size : ℕ) → Leads name size (Stage.Poll geometry) heard result }
 {
@@ -160,7 +160,7 @@ fn from_poll(geometry: Geometry, heard: Heard) -> Step
     }
 }
 
-// The image that the meter would activate.
+/// The image that the meter would activate.
 fn from_info(name: ImageName, geometry: Geometry, heard: Heard) -> Step
     ensures { (size : ℕ) → Leads name size (Stage.Info geometry) heard result }
 {
@@ -170,7 +170,7 @@ fn from_info(name: ImageName, geometry: Geometry, heard: Heard) -> Step
     }
 }
 
-// The image that runs.
+/// The image that runs.
 fn from_confirm(name: ImageName, geometry: Geometry, heard: Heard) -> Step
     ensures { (size : ℕ) → Leads name size (Stage.Confirm geometry) heard result }
 {

@@ -57,7 +57,7 @@ pub(crate) fn ask_blocks(
     Ok(sent)
 }
 
-// The datagram of an ask whose id isn't outstanding.
+/// The datagram of an ask whose id isn't outstanding.
 fn datagram(alloc: Global, client: &mut Client, ask: &Ask<'_>) -> Result<Vec<u8>, OutOfMemory>
     requires free { get client.old.asks client.old.next ≡ None }
     requires fits { Fits (ask_of ask.now) }
@@ -72,7 +72,7 @@ fn datagram(alloc: Global, client: &mut Client, ask: &Ask<'_>) -> Result<Vec<u8>
     }
 }
 
-// The bytes of a block of the image, none where there is no such block.
+/// The bytes of a block of the image, none where there is no such block.
 fn block(image: &[u8], geometry: Geometry, number: u32) -> &[u8]
     ensures cut { result.now ≡ cut geometry.block_size image.now number }
     ensures fits { length result.now ≤ 1024 }

@@ -85,7 +85,7 @@ impl HeadCore {
         Ok(name)
     }
 
-    // The campaign of this serial number.
+    /// The campaign of this serial number.
     fn campaign(&self, serial: u32) -> CampaignId
         requires { 1 ≤ serial }
         ensures { result ≡ campaign_at self.now serial }
@@ -196,7 +196,7 @@ impl HeadCore {
     }
 }
 
-// A row that ends here was live in the book, so that its end is marked.
+/// A row that ends here was live in the book, so that its end is marked.
 fn expect_marked(marked: Result<(), BookError>)
     requires { IsOk marked }
     ensures { IsOk marked }

@@ -128,7 +128,7 @@ impl RowCore {
         Ok(sent)
     }
 
-    // Asks by this client what the phase asks.
+    /// Asks by this client what the phase asks.
     fn ask(
         &self,
         alloc: Global,
@@ -188,7 +188,7 @@ impl RowCore {
         Ok(self.stage.news())
     }
 
-    // Goes where an answer leads.
+    /// Goes where an answer leads.
     fn take(&mut self, step: Step)
         requires { IsOwnStep self.old.client.meter self.old.name self.old.size step }
         ensures { self.new ≡ stepped self.old step }
@@ -201,7 +201,7 @@ impl RowCore {
         }
     }
 
-    // The meter took a block: the phase ends once it has them all.
+    /// The meter took a block: the phase ends once it has them all.
     fn took(&mut self, number: u32)
         ensures { self.new ≡ settled self.old (with_block self.old.stage number) }
     {
@@ -212,7 +212,7 @@ impl RowCore {
         }
     }
 
-    // Goes to another phase. The outstanding asks are forgotten.
+    /// Goes to another phase. The outstanding asks are forgotten.
     fn go(&mut self, stage: Stage)
         requires { IsOwn self.old.client.meter self.old.name self.old.size stage }
         ensures { self.new ≡ moved self.old stage }
@@ -221,7 +221,7 @@ impl RowCore {
         self.stage = stage;
     }
 
-    // Returns to `Start`, or gives up at the last return.
+    /// Returns to `Start`, or gives up at the last return.
     fn go_back(&mut self, geometry: Geometry)
         requires { IsCutOf self.old.size geometry }
         ensures { self.new ≡ returned self.old geometry }

@@ -12,8 +12,8 @@ use Rattle.fw_store.specs.declared.slot.Slot.{Slot}
 use Rattle.fw_store.specs.declared.slot.Slot.TheVariants.{First, Second}
 use Rattle.fw_store.specs.declared.header.Header.{Header}
 use Rattle.fw_store.specs.declared.header.Goal.{Goal}
-use Rattle.fw_store.specs.declared.header.TransferStatus.{TransferStatus}
-use Rattle.fw_store.specs.declared.header.TransferStatus.TheVariants.{NotInitiated, Initiated, VerificationSuccessful, VerificationFailed, ActivationSuccessful}
+use Rattle.fw_store.specs.declared.header.StoredStatus.{StoredStatus}
+use Rattle.fw_store.specs.declared.header.StoredStatus.TheVariants.{NotInitiated, Initiated, VerificationSuccessful, VerificationFailed, ActivationSuccessful}
 use Rattle.fw_image.specs.Meter.{status_of, goal_of, joined, marks_of, goal_bytes}
 use Rattle.fw_image.specs.Shown.{Shown, shown_of}
 use Rattle.fw_image.specs.Stored.{phase_of, cells_of, blocks_below, meter_of, seen}
@@ -21,7 +21,7 @@ use Rattle.fw_image.proofs.Blocks.{marks_again, joined_all, joined_unmarked}
 
 -- ---- the phase gives its goal and its status back
 
-pub goal_again : (status : TransferStatus) (goal : Option Goal) → is_some goal ≡ has_goal status → goal_of (phase_of status goal) ≡ goal
+pub goal_again : (status : StoredStatus) (goal : Option Goal) → is_some goal ≡ has_goal status → goal_of (phase_of status goal) ≡ goal
 goal_again NotInitiated None e = refl
 goal_again NotInitiated (Some goal) e = cc
 goal_again Initiated None e = cc
@@ -33,7 +33,7 @@ goal_again VerificationFailed (Some goal) e = refl
 goal_again ActivationSuccessful None e = refl
 goal_again ActivationSuccessful (Some goal) e = cc
 
-pub status_again : (status : TransferStatus) (goal : Option Goal) → is_some goal ≡ has_goal status → status_of (phase_of status goal) ≡ status
+pub status_again : (status : StoredStatus) (goal : Option Goal) → is_some goal ≡ has_goal status → status_of (phase_of status goal) ≡ status
 status_again NotInitiated goal e = refl
 status_again Initiated None e = absurd cc
 status_again Initiated (Some goal) e = refl

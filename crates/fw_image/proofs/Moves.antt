@@ -16,8 +16,8 @@ use Rattle.fw_store.specs.declared.slot.Slot.{Slot}
 use Rattle.fw_store.specs.declared.store.ImageStore.{Ghosts}
 use Rattle.fw_store.specs.declared.header.Header.{Header}
 use Rattle.fw_store.specs.declared.header.Goal.{Goal}
-use Rattle.fw_store.specs.declared.header.TransferStatus.{TransferStatus}
-use Rattle.fw_store.specs.declared.header.TransferStatus.TheVariants.{Initiated, VerificationSuccessful, VerificationFailed, ActivationSuccessful}
+use Rattle.fw_store.specs.declared.header.StoredStatus.{StoredStatus}
+use Rattle.fw_store.specs.declared.header.StoredStatus.TheVariants.{Initiated, VerificationSuccessful, VerificationFailed, ActivationSuccessful}
 use Rattle.fw_image.specs.Meter.{Meter, Phase, Cells, IsTrusted, status_of, goal_of, joined, goal_bytes, IsGenuine, idle, receiving, sealed, spoilt, switched}
 use Rattle.fw_image.specs.Shown.{shown_of}
 use Rattle.fw_image.specs.Step.{Operation, OperationOutcome, done, refused, Refuses, Serves, Does, Leaves, IsOffer, begun, sealed_phase, spoilt_phase, switched_to, Admits, refusal_in, is_operation_faultless, enable, initiate, block, verify, activate}
@@ -250,16 +250,16 @@ valid_switched capacity h slot goal marks none there is fits =
 
 -- ---- verify
 
-pub meter_of-judged : (capacity : ℕ) (h : Header) (d d' : Device) (status : TransferStatus) → SameSlots d d'
+pub meter_of-judged : (capacity : ℕ) (h : Header) (d d' : Device) (status : StoredStatus) → SameSlots d d'
     → meter_of capacity (record h { status = status }) d' ≡ record (meter_of capacity h d) { phase = phase_of status h.goal }
 meter_of-judged capacity h d d' status same = rw (same (other h.running_slot), same h.running_slot) refl
 
 -- the phase of the goal with its new status
-judged_phase : (status : TransferStatus) (next : Phase → Phase) (p : Phase) (g : Option Goal) (goal : Goal) → g ≡ Some goal → p ≡ receiving goal
+judged_phase : (status : StoredStatus) (next : Phase → Phase) (p : Phase) (g : Option Goal) (goal : Goal) → g ≡ Some goal → p ≡ receiving goal
     → phase_of status (Some goal) ≡ next (receiving goal) → phase_of status g ≡ next p
 judged_phase status next p g goal there phase e = ap (phase_of status) there ∙ e ∙ sym (ap next phase)
 
-pub meter_judged : (capacity : ℕ) (h : Header) (d d' : Device) (status : TransferStatus) (next : Phase → Phase) (goal : Goal) → SameSlots d d' → h.goal ≡ Some goal
+pub meter_judged : (capacity : ℕ) (h : Header) (d d' : Device) (status : StoredStatus) (next : Phase → Phase) (goal : Goal) → SameSlots d d' → h.goal ≡ Some goal
     → phase_of h.status h.goal ≡ receiving goal → phase_of status (Some goal) ≡ next (receiving goal)
     → meter_of capacity (record h { status = status }) d' ≡ record (meter_of capacity h d) { phase = next (phase_of h.status h.goal) }
 meter_judged capacity h d d' status next goal same there phase e =
@@ -309,7 +309,7 @@ pub trusted_sealed : (m : Meter) (goal : Goal) (bytes : List ℕ) → m.phase �
 trusted_sealed m goal bytes phase whole digest is =
     record { running = is.running; verified = λ _. trusted_at m.cells m.block_size goal bytes m.phase phase whole digest }
 
-pub valid_judged : (capacity : ℕ) (h : Header) (status : TransferStatus) (goal : Goal) → h.goal ≡ Some goal → has_goal status ≡ true → ((i : ℕ) → i < block_count h.block_size goal.size → has h.marks i ≡ true)
+pub valid_judged : (capacity : ℕ) (h : Header) (status : StoredStatus) (goal : Goal) → h.goal ≡ Some goal → has_goal status ≡ true → ((i : ℕ) → i < block_count h.block_size goal.size → has h.marks i ≡ true)
     → IsHeader capacity h → FieldsFit (record h { status = status }) → IsHeader capacity (record h { status = status })
 valid_judged capacity h status goal there keeps all is fits =
     let count : goal_count h.block_size h.goal ≡ block_count h.block_size goal.size = ap (goal_count h.block_size) there in
@@ -330,34 +330,34 @@ trusted_spoilt m goal phase is =
     record { running = is.running; verified = λ e. let f : status_of (spoilt_phase m.phase) ≡ VerificationFailed = rw phase refl in absurd cc }
 
 -- the status after a judgement
-abbrev pub judged : Bool → TransferStatus
+abbrev pub judged : Bool → StoredStatus
 judged genuine = cond genuine VerificationSuccessful VerificationFailed
 
-pub judged_keeps : (genuine : Bool) (status : TransferStatus) → status ≡ judged genuine → has_goal status ≡ true
+pub judged_keeps : (genuine : Bool) (status : StoredStatus) → status ≡ judged genuine → has_goal status ≡ true
 judged_keeps true status e = ap has_goal e
 judged_keeps false status e = ap has_goal e
 
-pub trusted_judged : (genuine : Bool) (capacity : ℕ) (h : Header) (d d' : Device) (status : TransferStatus) (goal : Goal) (bytes : List ℕ) → status ≡ judged genuine → SameSlots d d' → h.goal ≡ Some goal
+pub trusted_judged : (genuine : Bool) (capacity : ℕ) (h : Header) (d d' : Device) (status : StoredStatus) (goal : Goal) (bytes : List ℕ) → status ≡ judged genuine → SameSlots d d' → h.goal ≡ Some goal
     → phase_of h.status h.goal ≡ receiving goal → goal_bytes (meter_of capacity h d) ≡ Some bytes → (IsTrue genuine → sha256 bytes ≡ goal.name.digest)
     → IsTrusted (meter_of capacity h d) → IsTrusted (meter_of capacity (record h { status = status }) d')
 trusted_judged true capacity h d d' status goal bytes e same there phase whole digest trusted =
-    rw (meter_judged capacity h d d' status sealed_phase goal same there phase (ap (λ (s : TransferStatus). phase_of s (Some goal)) e))
+    rw (meter_judged capacity h d d' status sealed_phase goal same there phase (ap (λ (s : StoredStatus). phase_of s (Some goal)) e))
     (trusted_sealed (meter_of capacity h d) goal bytes phase whole (digest refl) trusted)
 trusted_judged false capacity h d d' status goal bytes e same there phase whole digest trusted =
-    rw (meter_judged capacity h d d' status spoilt_phase goal same there phase (ap (λ (s : TransferStatus). phase_of s (Some goal)) e))
+    rw (meter_judged capacity h d d' status spoilt_phase goal same there phase (ap (λ (s : StoredStatus). phase_of s (Some goal)) e))
     (trusted_spoilt (meter_of capacity h d) goal phase trusted)
 
 -- what a verify does, by the judgement
-pub does_judged : (genuine : Bool) (honest : Bool) (capacity : ℕ) (h : Header) (d d' : Device) (status : TransferStatus) (goal : Goal) (bytes : List ℕ) → status ≡ judged genuine → SameSlots d d'
+pub does_judged : (genuine : Bool) (honest : Bool) (capacity : ℕ) (h : Header) (d d' : Device) (status : StoredStatus) (goal : Goal) (bytes : List ℕ) → status ≡ judged genuine → SameSlots d d'
     → h.goal ≡ Some goal → phase_of h.status h.goal ≡ receiving goal → goal_bytes (meter_of capacity h d) ≡ Some bytes
     → (IsTrue honest → IsTrue genuine ↔ (sha256 bytes ≡ goal.name.digest))
     → Does honest (meter_of capacity h d) verify (cond genuine done (refused Differs)) (meter_of capacity (record h { status = status }) d')
 does_judged true honest capacity h d d' status goal bytes e same there phase whole digest = (
-  leaves honest _ _ (meter_judged capacity h d d' status sealed_phase goal same there phase (ap (λ (s : TransferStatus). phase_of s (Some goal)) e)),
+  leaves honest _ _ (meter_judged capacity h d d' status sealed_phase goal same there phase (ap (λ (s : StoredStatus). phase_of s (Some goal)) e)),
   λ b. is_genuine (meter_of capacity h d) goal bytes phase whole ((digest b).0 refl),
 )
 does_judged false honest capacity h d d' status goal bytes e same there phase whole digest = (
-  leaves honest _ _ (meter_judged capacity h d d' status spoilt_phase goal same there phase (ap (λ (s : TransferStatus). phase_of s (Some goal)) e)),
+  leaves honest _ _ (meter_judged capacity h d d' status spoilt_phase goal same there phase (ap (λ (s : StoredStatus). phase_of s (Some goal)) e)),
   λ b. not_genuine (meter_of capacity h d) goal bytes phase whole (λ same_digest. let bad = (digest b).1 same_digest in absurd cc),
 )
 

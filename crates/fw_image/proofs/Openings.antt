@@ -16,7 +16,7 @@ use Rattle.fw_store.specs.declared.slot.Slot.{Slot}
 use Rattle.fw_store.specs.declared.store.ImageStore.{Ghosts}
 use Rattle.fw_store.specs.declared.header.Header.{Header}
 use Rattle.fw_store.specs.declared.header.Goal.{Goal}
-use Rattle.fw_store.specs.declared.header.TransferStatus.TheVariants.{VerificationSuccessful}
+use Rattle.fw_store.specs.declared.header.StoredStatus.TheVariants.{VerificationSuccessful}
 use Rattle.fw_image.specs.Meter.{Meter, IsTrusted, status_of, goal_of, goal_bytes}
 use Rattle.fw_image.specs.Calls.{opening_calls}
 use Rattle.fw_verify.specs.Pieces.{piece_count}

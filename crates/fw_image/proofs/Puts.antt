@@ -10,7 +10,7 @@ use Rattle.fw_store.specs.Device.{Device, slot_bytes, written, splice, Torn}
 use Rattle.fw_store.specs.StoreLaws.{SpliceStands}
 use Rattle.fw_store.specs.Slot.{other}
 use Rattle.fw_store.specs.Header.{IsHeader, IsGoal, FieldsFit, goal_count, is_verified}
-use Rattle.fw_store.specs.declared.header.TransferStatus.TheVariants.{Initiated}
+use Rattle.fw_store.specs.declared.header.StoredStatus.TheVariants.{Initiated}
 use Rattle.std.proofs.lemmas.Bool.Decides.{nat_tests}
 use Rattle.fw_store.specs.declared.slot.Slot.{Slot}
 use Rattle.fw_store.specs.declared.slot.Slot.TheVariants.{First, Second}

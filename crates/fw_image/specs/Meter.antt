@@ -7,8 +7,8 @@ use Rattle.sha2.specs.Sha256.{sha256}
 use Rattle.fw_names.specs.Name.{Name}
 use Rattle.fw_store.specs.Header.{goal_count}
 use Rattle.fw_store.specs.declared.header.Goal.{Goal}
-use Rattle.fw_store.specs.declared.header.TransferStatus.{TransferStatus}
-use Rattle.fw_store.specs.declared.header.TransferStatus.TheVariants.{NotInitiated, Initiated, VerificationSuccessful, VerificationFailed, ActivationSuccessful}
+use Rattle.fw_store.specs.declared.header.StoredStatus.{StoredStatus}
+use Rattle.fw_store.specs.declared.header.StoredStatus.TheVariants.{NotInitiated, Initiated, VerificationSuccessful, VerificationFailed, ActivationSuccessful}
 
 -- an image: its name, and its bytes
 pub record Image : Type 0 where
@@ -42,7 +42,7 @@ pub record Meter : Type 0 where
   pub cells : Cells
   pub running : Image
 
-abbrev pub status_of : Phase → TransferStatus
+abbrev pub status_of : Phase → StoredStatus
 status_of idle = NotInitiated
 status_of (receiving goal) = Initiated
 status_of (sealed goal) = VerificationSuccessful

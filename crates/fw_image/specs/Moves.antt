@@ -4,7 +4,7 @@ use Rattle.fw_blocks.specs.Cuts.{block_start, block_count}
 use Rattle.fw_blocks.specs.Members.{has}
 use Rattle.fw_store.specs.declared.header.Header.{Header}
 use Rattle.fw_store.specs.declared.header.Goal.{Goal}
-use Rattle.fw_store.specs.declared.header.TransferStatus.TheVariants.{VerificationSuccessful}
+use Rattle.fw_store.specs.declared.header.StoredStatus.TheVariants.{VerificationSuccessful}
 use Rattle.fw_image.specs.Meter.{Meter, status_of, goal_of, goal_bytes, IsGenuine}
 use Rattle.fw_image.specs.Step.{OperationOutcome, done, refused, IsBlock}
 use Rattle.fw_image.specs.declared.error.Refusal.{Refusal}

@@ -1,6 +1,6 @@
 -- Public vocabulary: the state of a transfer whose status is only known when the program runs, and what a verification leaves.
 use Rattle.std.specs.Prelude.{◌≡◌, ◌≢◌, Result, Ok, Err}
-use Rattle.fw_store.specs.declared.header.TransferStatus.TheVariants as status
+use Rattle.fw_store.specs.declared.header.StoredStatus.TheVariants as status
 use Rattle.fw_image.specs.Meter.{status_of}
 use Rattle.fw_image.specs.Step.{OperationOutcome, done, refused}
 use Rattle.fw_image.specs.State.{State}

@@ -10,8 +10,8 @@ use Rattle.fw_store.specs.Layout.{header_bytes}
 use Rattle.fw_store.specs.Header.{IsHeader}
 use Rattle.fw_store.specs.declared.header.Header.{Header}
 use Rattle.fw_store.specs.declared.header.Goal.{Goal}
-use Rattle.fw_store.specs.declared.header.TransferStatus.{TransferStatus}
-use Rattle.fw_store.specs.declared.header.TransferStatus.TheVariants.{NotInitiated, Initiated, VerificationSuccessful, VerificationFailed, ActivationSuccessful}
+use Rattle.fw_store.specs.declared.header.StoredStatus.{StoredStatus}
+use Rattle.fw_store.specs.declared.header.StoredStatus.TheVariants.{NotInitiated, Initiated, VerificationSuccessful, VerificationFailed, ActivationSuccessful}
 use Rattle.fw_image.specs.Meter.{Meter, Phase, idle, receiving, sealed, spoilt, switched, Cells, IsTrusted}
 use Rattle.fw_image.specs.State.{State}
 use Rattle.fw_image.specs.Calls.{opening_calls}
@@ -20,7 +20,7 @@ use Rattle.fw_image.specs.declared.error.OpenError.{OpenError}
 use Rattle.fw_image.specs.declared.error.OpenError.TheVariants.{Fault, BadHeader, BadImage}
 
 -- the phase of a status and a goal: a header that a store can have has a goal in just the statuses whose phase has one
-abbrev pub phase_of : TransferStatus → Option Goal → Phase
+abbrev pub phase_of : StoredStatus → Option Goal → Phase
 phase_of NotInitiated goal = idle
 phase_of ActivationSuccessful goal = switched
 phase_of Initiated (Some goal) = receiving goal

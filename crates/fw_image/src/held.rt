@@ -8,7 +8,7 @@ ghost use Rattle.fw_store.specs.Faults.{Keeps, HasCause, Spends};
 ghost use Rattle.fw_store.specs.Header.{FieldsFit, IsHeader};
 ghost use Rattle.fw_store.specs.Layout.{header_bytes};
 ghost use Rattle.fw_store.specs.declared.header.Goal.{Goal};
-ghost use Rattle.fw_store.specs.declared.header.TransferStatus.TheVariants.{Initiated, VerificationSuccessful, VerificationFailed, ActivationSuccessful};
+ghost use Rattle.fw_store.specs.declared.header.StoredStatus.TheVariants.{Initiated, VerificationSuccessful, VerificationFailed, ActivationSuccessful};
 ghost use Rattle.fw_verify.specs.Pieces.{piece_count};
 ghost use Rattle.fw_image.specs.Calls.{verified_size, opening_calls};
 ghost use Rattle.fw_image.specs.Meter.{Meter, status_of, count_of, marks_of, IsTrusted};
@@ -23,7 +23,7 @@ use crate::view::MeterView;
 use fw_blocks::{Geometry, Marks, laws};
 use fw_names::ImageName;
 use fw_store::{
-    Goal, Header, ImageStore, MemoryStore, Slot, StoreFault, TransferStatus, laws as store_laws,
+    Goal, Header, ImageStore, MemoryStore, Slot, StoreFault, StoredStatus, laws as store_laws,
 };
 use fw_verify::digest;
 use std::marker::Model;
@@ -78,7 +78,7 @@ impl<S: ImageStore> Held<S> {
             return Err(Refusal::BadInitiate);
         }
         let next = Header {
-            status: TransferStatus::Initiated,
+            status: StoredStatus::Initiated,
             goal: Some(Goal { name, size }),
             marks: Marks::none(),
             ..self.header
@@ -162,7 +162,7 @@ impl<S: ImageStore> Held<S> {
         };
         let next = Header {
             running_slot: self.header.running_slot.other(),
-            status: TransferStatus::ActivationSuccessful,
+            status: StoredStatus::ActivationSuccessful,
             running_size: goal.size,
             running_name: goal.name,
             goal: None,
@@ -191,7 +191,7 @@ impl<S: ImageStore> Held<S> {
     }
 
     /// The status of the transfer.
-    pub(crate) fn status(&self) -> TransferStatus
+    pub(crate) fn status(&self) -> StoredStatus
         ensures { result ≡ status_of self.now.meter.phase }
     {
         self.header.status
@@ -288,7 +288,7 @@ impl Held<MemoryStore> {
     }
 }
 
-// Writes a header to a store, and keeps it where that succeeded.
+/// Writes a header to a store, and keeps it where that succeeded.
 fn replace<S: ImageStore>(
     store: &mut S,
     header: &mut Header,
@@ -309,14 +309,14 @@ fn replace<S: ImageStore>(
     Ok(())
 }
 
-// Whether an image of this name and size can be received.
+/// Whether an image of this name and size can be received.
 fn is_offer(block_size: u32, capacity: u32, name: ImageName, size: u32) -> bool
     ensures { IsTrue result ↔ IsOffer block_size capacity name size }
 {
     Goal { name, size }.fits(capacity, block_size)
 }
 
-// Where in the image a block begins, if the goal has that block, and of just this length.
+/// Where in the image a block begins, if the goal has that block, and of just this length.
 fn place_of(header: &Header, number: u32, value: &[u8]) -> Option<u32>
     requires { IfSome header.now.goal (λ goal. IsWithinLimits header.now.block_size goal.size) }
     ensures found { IfSome result (IsPlace header.now number value.now) }
@@ -332,7 +332,7 @@ fn place_of(header: &Header, number: u32, value: &[u8]) -> Option<u32>
     }
 }
 
-// The goal, if all its blocks are there.
+/// The goal, if all its blocks are there.
 fn whole_goal(header: &Header) -> Option<Goal>
     requires some { 1 ≤ header.now.block_size }
     requires few { IfSome header.now.goal (λ goal. block_count header.now.block_size goal.size ≤ max_blocks) }
@@ -346,7 +346,7 @@ fn whole_goal(header: &Header) -> Option<Goal>
     Some(goal)
 }
 
-// Whether the first bytes of a slot have the digest of a name.
+/// Whether the first bytes of a slot have the digest of a name.
 fn is_genuine<S: ImageStore>(
     store: &mut S,
     slot: Slot,
@@ -365,18 +365,18 @@ fn is_genuine<S: ImageStore>(
     Ok(found == name.digest)
 }
 
-// The status after the image was judged.
-fn judged(genuine: bool) -> TransferStatus
+/// The status after the image was judged.
+fn judged(genuine: bool) -> StoredStatus
     ensures { result ≡ (if genuine then VerificationSuccessful else VerificationFailed) }
 {
     if genuine {
-        TransferStatus::VerificationSuccessful
+        StoredStatus::VerificationSuccessful
     } else {
-        TransferStatus::VerificationFailed
+        StoredStatus::VerificationFailed
     }
 }
 
-// Reads the header of a store, and checks it and the images.
+/// Reads the header of a store, and checks it and the images.
 fn examine<S: ImageStore>(store: &mut S) -> Result<Header, OpenError>
     ensures held { IfOk result (IsHeld S.honest S.capacity S.device store.new) }
     ensures same { IsTrue (S.honest store.old) → S.device store.new ≡ S.device store.old }
@@ -402,7 +402,7 @@ fn examine<S: ImageStore>(store: &mut S) -> Result<Header, OpenError>
     Ok(header)
 }
 
-// Whether the goal, where it was verified, has the digest of its name.
+/// Whether the goal, where it was verified, has the digest of its name.
 fn is_goal_genuine<S: ImageStore>(store: &mut S, header: &Header) -> Result<bool, StoreFault>
     requires { IsHeader (S.capacity store.old) header.now }
     ensures genuine { IsTrue (S.honest store.old) → IfOk result (λ genuine. IsTrue genuine
@@ -414,7 +414,7 @@ fn is_goal_genuine<S: ImageStore>(store: &mut S, header: &Header) -> Result<bool
         (S.calls_left store.old) (S.calls_left store.new) (is_ok result) }
 {
     laws::cuts_join();
-    let TransferStatus::VerificationSuccessful = header.status else {
+    let StoredStatus::VerificationSuccessful = header.status else {
         return Ok(true);
     };
     let Some(goal) = header.goal else {

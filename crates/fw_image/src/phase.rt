@@ -3,7 +3,7 @@
 ghost use Rattle.std.specs.Prelude.{◌≡◌, ◌≤◌, ◌↔◌, true, false, IsTrue, IfOk, IfErr, IsOkAnd, OnOk, Some, None, is_ok, length, take};
 ghost use Rattle.fw_blocks.specs.Cuts.{max_blocks};
 ghost use Rattle.fw_store.specs.Faults.{HasCause, Spends};
-ghost use Rattle.fw_store.specs.declared.header.TransferStatus.TheVariants as status;
+ghost use Rattle.fw_store.specs.declared.header.StoredStatus.TheVariants as status;
 ghost use Rattle.fw_image.specs.Calls.{opening_calls};
 ghost use Rattle.fw_image.specs.Meter.{Meter, status_of, count_of, marks_of, IsTrusted};
 ghost use Rattle.fw_image.specs.Phases.{state_in, IsInPhase, left_in, left_begun};
@@ -18,7 +18,7 @@ use crate::transfer::{Idle, Receiving, Spoilt, Switched, Transfer, Verified};
 use crate::view::MeterView;
 use fw_blocks::Marks;
 use fw_names::ImageName;
-use fw_store::{ImageStore, MemoryStore, StoreFault, TransferStatus};
+use fw_store::{ImageStore, MemoryStore, StoreFault, StoredStatus};
 
 /// A transfer in one of its statuses. What all of them can do can be asked of it as well.
 #[derive(Drop)]
@@ -53,21 +53,21 @@ pub fn open_store<S: ImageStore>(store: S) -> Result<Phase<S>, (OpenError, S)>
 }
 
 impl<S: ImageStore> Phase<S> {
-    // What is held, in its status.
+    /// What is held, in its status.
     fn of(held: Held<S>) -> Phase<S>
         ensures state { state_in result ≡ held }
         ensures phase { IsInPhase result }
     {
         match held.status() {
-            TransferStatus::NotInitiated => Phase::Idle(Transfer::new(held)),
-            TransferStatus::Initiated => Phase::Receiving(Transfer::new(held)),
-            TransferStatus::VerificationSuccessful => Phase::Verified(Transfer::new(held)),
-            TransferStatus::VerificationFailed => Phase::Spoilt(Transfer::new(held)),
-            TransferStatus::ActivationSuccessful => Phase::Switched(Transfer::new(held)),
+            StoredStatus::NotInitiated => Phase::Idle(Transfer::new(held)),
+            StoredStatus::Initiated => Phase::Receiving(Transfer::new(held)),
+            StoredStatus::VerificationSuccessful => Phase::Verified(Transfer::new(held)),
+            StoredStatus::VerificationFailed => Phase::Spoilt(Transfer::new(held)),
+            StoredStatus::ActivationSuccessful => Phase::Switched(Transfer::new(held)),
         }
     }
 
-    // What is held.
+    /// What is held.
     fn held(&self) -> &Held<S>
         ensures { result.now ≡ state_in self.now }
     {
@@ -80,7 +80,7 @@ impl<S: ImageStore> Phase<S> {
         }
     }
 
-    // What is held, on its own.
+    /// What is held, on its own.
     fn into_held(self) -> Held<S>
         ensures { result ≡ state_in self }
     {

@@ -1,11 +1,11 @@
 //! The statuses of Image transfer as types.
 
-ghost use Rattle.fw_store.specs.declared.header.TransferStatus.{TransferStatus};
-ghost use Rattle.fw_store.specs.declared.header.TransferStatus.TheVariants as status;
+ghost use Rattle.fw_store.specs.declared.header.StoredStatus.{StoredStatus};
+ghost use Rattle.fw_store.specs.declared.header.StoredStatus.TheVariants as status;
 
 /// A status of Image transfer (IEC 62056-6-2, image_transfer_status).
 pub trait Status {
-    ghost status: { TransferStatus };
+    ghost status: { StoredStatus };
 }
 
 /// 0: nothing was initiated since the meter was made.

@@ -2,7 +2,7 @@
 
 ghost use Rattle.std.specs.Prelude.{◌≡◌, ◌↔◌, true, false, IsTrue, IfOk, IfErr, OnOk, Some, None, is_ok, length};
 ghost use Rattle.fw_store.specs.Faults.{HasCause, Spends};
-ghost use Rattle.fw_store.specs.declared.header.TransferStatus.TheVariants as status;
+ghost use Rattle.fw_store.specs.declared.header.StoredStatus.TheVariants as status;
 ghost use Rattle.fw_image.specs.Meter.{status_of, IsTrusted};
 ghost use Rattle.fw_image.specs.Phases.{told_verified, left_verified, IsNotVerified};
 ghost use Rattle.fw_image.specs.Shown.{shown_of, IsView};
@@ -59,7 +59,7 @@ pub type Spoilt<S> = Transfer<S, VerificationFailed>;
 pub type Switched<S> = Transfer<S, ActivationSuccessful>;
 
 impl<S: ImageStore, P: Status> Transfer<S, P> {
-    // The transfer of what is held in this status.
+    /// The transfer of what is held in this status.
     pub(crate) fn new(held: Held<S>) -> Transfer<S, P>
         requires { status_of held.meter.phase ≡ P.status }
         ensures { result ≡ held }
@@ -70,14 +70,14 @@ impl<S: ImageStore, P: Status> Transfer<S, P> {
         }
     }
 
-    // What is held.
+    /// What is held.
     pub(crate) fn held(&self) -> &Held<S>
         ensures { result.now ≡ self.now }
     {
         &self.held
     }
 
-    // What is held, on its own.
+    /// What is held, on its own.
     pub(crate) fn into_held(self) -> Held<S>
         ensures { result ≡ self }
     {

@@ -1,6 +1,6 @@
 -- Operations that are refused, and those that a status lacks.
 use Rattle.std.proofs.Common.{◌≡◌, ◌≢◌, ℕ, Bool, true, false, IsTrue, List, if◌then◌else◌, ◌⊎◌, inl, inr, refl, sym, ap, ◌∙◌, arith}
-use Rattle.fw_store.specs.declared.header.TransferStatus.TheVariants as status
+use Rattle.fw_store.specs.declared.header.StoredStatus.TheVariants as status
 use Rattle.fw_store.specs.Faults.{count_after}
 use Rattle.fw_image.specs.Meter.{Meter, Phase, idle, receiving, sealed, spoilt, switched, status_of}
 use Rattle.fw_image.specs.State.{State}

@@ -3,7 +3,7 @@ use Rattle.std.proofs.Common.{◌≡◌, ◌≢◌, ℕ, zero, suc, Bool, true, 
 use Rattle.std.proofs.lemmas.Bool.{cases_eq}
 use Rattle.std.specs.FinMap.{get}
 use Rattle.fw_server.specs.Meaning.{Meaning, read, enable, initiate, block, verify, activate, refused as denied, meaning_of}
-use Rattle.fw_store.specs.declared.header.TransferStatus.TheVariants.{Initiated}
+use Rattle.fw_store.specs.declared.header.StoredStatus.TheVariants.{Initiated}
 use Rattle.fw_image.specs.Meter.{Meter, Phase, idle, receiving, sealed, spoilt, switched, status_of}
 use Rattle.fw_image.specs.State.{Counts}
 use Rattle.fw_image.specs.Step as operations

@@ -4,7 +4,7 @@ use Rattle.std.specs.FinMap.{get}
 use Rattle.fw_apdu.specs.Request.{RequestContent}
 use Rattle.fw_names.specs.Name.{Name}
 use Rattle.fw_server.specs.Meaning.{meaning_of, block}
-use Rattle.fw_store.specs.declared.header.TransferStatus.TheVariants.{Initiated}
+use Rattle.fw_store.specs.declared.header.StoredStatus.TheVariants.{Initiated}
 use Rattle.fw_image.specs.Meter.{Meter, status_of}
 use Rattle.fw_image.specs.State.{State, Counts}
 use Rattle.fw_image.specs.Step.{with_cell}

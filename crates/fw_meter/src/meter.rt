@@ -30,7 +30,7 @@ use std::marker::Model;
 /// A meter over a store.
 #[derive(Drop)]
 pub struct MeterCore<S: ImageStore + Drop> {
-    // It moves out and back within a call.
+    /// It moves out and back within a call.
     phase: Option<Phase<S>>,
 }
 

@@ -1,7 +1,7 @@
 //! The operations of Image transfer that requests ask for, in whatever status a transfer is.
 
 ghost use Rattle.std.specs.Prelude.{◌≡◌, ◌≢◌, if◌then◌else◌};
-ghost use Rattle.fw_store.specs.declared.header.TransferStatus.TheVariants as status;
+ghost use Rattle.fw_store.specs.declared.header.StoredStatus.TheVariants as status;
 ghost use Rattle.fw_server.specs.Meaning as meaning;
 ghost use Rattle.fw_server.specs.View.{operation_meaning};
 ghost use Rattle.fw_image.specs.Meter.{status_of};

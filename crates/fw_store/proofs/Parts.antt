@@ -13,8 +13,8 @@ use Rattle.fw_blocks.specs.Laws.{OneSetForBytes}
 use Rattle.fw_blocks.specs.Cuts.{max_blocks}
 use Rattle.fw_store.specs.declared.slot.Slot.{Slot}
 use Rattle.fw_store.specs.declared.slot.Slot.TheVariants.{First, Second}
-use Rattle.fw_store.specs.declared.header.TransferStatus.{TransferStatus}
-use Rattle.fw_store.specs.declared.header.TransferStatus.TheVariants.{NotInitiated, Initiated, VerificationSuccessful, VerificationFailed, ActivationSuccessful}
+use Rattle.fw_store.specs.declared.header.StoredStatus.{StoredStatus}
+use Rattle.fw_store.specs.declared.header.StoredStatus.TheVariants.{NotInitiated, Initiated, VerificationSuccessful, VerificationFailed, ActivationSuccessful}
 use Rattle.fw_store.specs.declared.header.Goal.{Goal}
 use Rattle.fw_store.specs.declared.header.Header.{Header}
 use Rattle.fw_store.specs.Layout.{flag, slot_number, status_number, goal_bytes, header_bytes}
@@ -97,10 +97,10 @@ unfolding slot_at
 slot_again First = refl
 slot_again Second = refl
 
-status_at : ℕ → TransferStatus
+status_at : ℕ → StoredStatus
 status_at n = cond (eqb n 0) NotInitiated (cond (eqb n 1) Initiated (cond (eqb n 3) VerificationSuccessful (cond (eqb n 4) VerificationFailed ActivationSuccessful)))
 
-status_again : (status : TransferStatus) → status_at (status_number status) ≡ status
+status_again : (status : StoredStatus) → status_at (status_number status) ≡ status
 unfolding status_at
 status_again NotInitiated = refl
 status_again Initiated = refl

@@ -4,8 +4,8 @@ use Rattle.fw_blocks.specs.Cuts.{IsWithinLimits, block_count, max_block_size, ma
 use Rattle.fw_blocks.specs.Members.{has}
 use Rattle.fw_names.specs.Name.{Name, IsName, factory}
 use Rattle.fw_store.specs.declared.slot.Slot.TheVariants.{First}
-use Rattle.fw_store.specs.declared.header.TransferStatus.{TransferStatus}
-use Rattle.fw_store.specs.declared.header.TransferStatus.TheVariants.{NotInitiated, Initiated, VerificationSuccessful, VerificationFailed, ActivationSuccessful}
+use Rattle.fw_store.specs.declared.header.StoredStatus.{StoredStatus}
+use Rattle.fw_store.specs.declared.header.StoredStatus.TheVariants.{NotInitiated, Initiated, VerificationSuccessful, VerificationFailed, ActivationSuccessful}
 use Rattle.fw_store.specs.declared.header.Goal.{Goal}
 use Rattle.fw_store.specs.declared.header.Header.{Header}
 
@@ -25,7 +25,7 @@ pub record FieldsFit (h : Header) : Type 0 where
 -- ---- what a store can have
 
 -- whether there is a goal in a status: it is being received, or was verified
-abbrev pub has_goal : TransferStatus → Bool
+abbrev pub has_goal : StoredStatus → Bool
 has_goal NotInitiated = false
 has_goal Initiated = true
 has_goal VerificationSuccessful = true
@@ -33,7 +33,7 @@ has_goal VerificationFailed = true
 has_goal ActivationSuccessful = false
 
 -- whether the goal was verified, with either result
-abbrev pub is_verified : TransferStatus → Bool
+abbrev pub is_verified : StoredStatus → Bool
 is_verified NotInitiated = false
 is_verified Initiated = false
 is_verified VerificationSuccessful = true

@@ -5,8 +5,8 @@ use Rattle.fw_axdr.specs.Bits.{packed}
 use Rattle.fw_names.specs.Name.{name_bytes}
 use Rattle.fw_store.specs.declared.slot.Slot.{Slot}
 use Rattle.fw_store.specs.declared.slot.Slot.TheVariants.{First, Second}
-use Rattle.fw_store.specs.declared.header.TransferStatus.{TransferStatus}
-use Rattle.fw_store.specs.declared.header.TransferStatus.TheVariants.{NotInitiated, Initiated, VerificationSuccessful, VerificationFailed, ActivationSuccessful}
+use Rattle.fw_store.specs.declared.header.StoredStatus.{StoredStatus}
+use Rattle.fw_store.specs.declared.header.StoredStatus.TheVariants.{NotInitiated, Initiated, VerificationSuccessful, VerificationFailed, ActivationSuccessful}
 use Rattle.fw_store.specs.declared.header.Goal.{Goal}
 use Rattle.fw_store.specs.declared.header.Header.{Header}
 
@@ -24,7 +24,7 @@ slot_number First = 0
 slot_number Second = 1
 
 -- the byte of a status: its number in the standard (IEC 62056-6-2, Image transfer: image_transfer_status)
-abbrev pub status_number : TransferStatus → ℕ
+abbrev pub status_number : StoredStatus → ℕ
 status_number NotInitiated = 0
 status_number Initiated = 1
 status_number VerificationSuccessful = 3

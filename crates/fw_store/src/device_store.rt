@@ -128,7 +128,7 @@ impl<D: ByteDevice + Drop> DeviceStore<D> {
     }
 }
 
-// The store's answer to a call of its device. A refusal is counted.
+/// The store's answer to a call of its device. A refusal is counted.
 fn answer(outcome: Result<(), DeviceFault>, faults: &mut u64) -> Result<(), StoreFault>
     ensures through { is_ok result ≡ is_ok outcome }
     ensures counts { faults.new ≡ count_after (is_ok result) faults.old }
@@ -141,7 +141,7 @@ fn answer(outcome: Result<(), DeviceFault>, faults: &mut u64) -> Result<(), Stor
     Ok(())
 }
 
-// Where a place in a slot is on the device.
+/// Where a place in a slot is on the device.
 fn place(capacity: u32, slot: Slot, at: u32) -> u64
     ensures { result ≡ slot_start capacity slot + at }
 {
@@ -152,7 +152,7 @@ fn place(capacity: u32, slot: Slot, at: u32) -> u64
     start + u64::from(at)
 }
 
-// The capacity with which the bytes of a device begin, where they are as many as those of a store of that capacity.
+/// The capacity with which the bytes of a device begin, where they are as many as those of a store of that capacity.
 fn stored_capacity<D: ByteDevice>(device: &mut D) -> Result<Option<u32>, DeviceFault>
     ensures found { IfOk result (λ answer. IfSome answer IsCapacity) }
     ensures store { IsTrue (D.honest device.old)
@@ -177,21 +177,21 @@ fn stored_capacity<D: ByteDevice>(device: &mut D) -> Result<Option<u32>, DeviceF
     }
 }
 
-// The number whose bytes these are, high byte first.
+/// The number whose bytes these are, high byte first.
 fn number(bytes: [u8; 4]) -> u32
     ensures { to_be_bytes w32 result ≡ bytes }
 {
     u32::from_be_bytes(bytes)
 }
 
-// How many bytes a store has.
+/// How many bytes a store has.
 fn store_size(capacity: u32) -> u64
     ensures { result ≡ store_size capacity }
 {
     SLOTS_AT + 2 * u64::from(capacity)
 }
 
-// Leaves so many zeros on a device, and nothing else.
+/// Leaves so many zeros on a device, and nothing else.
 fn clear<D: ByteDevice>(device: &mut D, len: u64) -> Result<(), DeviceFault>
     ensures done { IsTrue (D.honest device.old) → OnOk result (D.contents device.new ≡ replicate len 0) }
     ensures kept { KeepsDevice D.honest D.sound device.old device.new }
@@ -200,8 +200,8 @@ fn clear<D: ByteDevice>(device: &mut D, len: u64) -> Result<(), DeviceFault>
     device.set_len(len)
 }
 
-// Lays out a store on a device, in place of what it holds: this header, the image in the first slot, and zeros behind it
-// and in the other slot. The capacity comes last, behind all else, so that what is cut short is no store.
+/// Lays out a store on a device, in place of what it holds: this header, the image in the first slot, and zeros behind it
+/// and in the other slot. The capacity comes last, behind all else, so that what is cut short is no store.
 fn lay_out<D: ByteDevice>(
     device: &mut D,
     capacity: u32,

@@ -25,13 +25,13 @@ pub struct FileDevice {
 /// A store in a file.
 pub type FileStore = DeviceStore<FileDevice>;
 
-// What the operating system refused.
+/// What the operating system refused.
 fn refused(_error: io::Error) -> DeviceFault {
     DeviceFault
 }
 
 impl FileDevice {
-    // Makes a file where there is none.
+    /// Makes a file where there is none.
     fn create<R: Files<File = File>, P: AsPath>(
         rt: &R,
         path: P,
@@ -41,14 +41,14 @@ impl FileDevice {
         FileDevice::locked(options.open(rt, path).map_err(refused)?)
     }
 
-    // Opens a file that is there.
+    /// Opens a file that is there.
     fn open<R: Files<File = File>, P: AsPath>(rt: &R, path: P) -> Result<FileDevice, DeviceFault> {
         let mut options = OpenOptions::new();
         options.read(true).write(true);
         FileDevice::locked(options.open(rt, path).map_err(refused)?)
     }
 
-    // The file under the lock, which ends when it is closed.
+    /// The file under the lock, which ends when it is closed.
     fn locked(file: File) -> Result<FileDevice, DeviceFault> {
         if file.try_lock().is_err() {
             return Err(DeviceFault);
@@ -133,7 +133,7 @@ impl ByteDevice for FileDevice {
         self.file.write_all_at(bytes, at).map_err(refused)
     }
 
-    // The disk has all that was written before these bytes when they are written, and has them when the call ends.
+    /// The disk has all that was written before these bytes when they are written, and has them when the call ends.
     fn replace_at(&mut self, at: u64, bytes: &[u8]) -> Result<(), DeviceFault> {
         self.file.sync_data().map_err(refused)?;
         self.file.write_all_at(bytes, at).map_err(refused)?;

@@ -14,7 +14,7 @@ pub(crate) struct Fuse {
     pub(crate) torn: u8,
 }
 
-// One call of the device: it burns the fuse, and is counted where it fails.
+/// One call of the device: it burns the fuse, and is counted where it fails.
 pub(crate) fn burn(fuse: &mut Option<Fuse>, faults: &mut u64) -> Result<(), StoreFault>
     ensures through { is_ok result ≡ lets_through fuse.old }
     ensures burns { fuse.new ≡ burnt fuse.old }
@@ -39,14 +39,14 @@ pub(crate) fn burn(fuse: &mut Option<Fuse>, faults: &mut u64) -> Result<(), Stor
     Ok(())
 }
 
-// The byte that a failing write leaves, where a fuse is set.
+/// The byte that a failing write leaves, where a fuse is set.
 pub(crate) fn torn_byte(fuse: &Option<Fuse>) -> u8
     ensures { result ≡ torn_of fuse.now }
 {
     fuse.map_or(0, |set| set.torn)
 }
 
-// Writes bytes over those at an offset.
+/// Writes bytes over those at an offset.
 pub(crate) fn overwrite(slot: &mut Vec<u8>, at: usize, bytes: &[u8])
     requires { at + length bytes.now ≤ length slot.old.items }
     ensures { slot.new.items ≡ splice slot.old.items at bytes.now }
@@ -54,7 +54,7 @@ pub(crate) fn overwrite(slot: &mut Vec<u8>, at: usize, bytes: &[u8])
     slot[at..at + bytes.len()].copy_from_slice(bytes);
 }
 
-// A write that fails half way: the first half of the bytes, rounded down, and then one byte over and over.
+/// A write that fails half way: the first half of the bytes, rounded down, and then one byte over and over.
 pub(crate) fn tear(slot: &mut Vec<u8>, at: usize, bytes: &[u8], torn: u8)
     requires { at + length bytes.now ≤ length slot.old.items }
     ensures { slot.new.items ≡ splice slot.old.items at (half_torn bytes.now torn) }
@@ -64,7 +64,7 @@ pub(crate) fn tear(slot: &mut Vec<u8>, at: usize, bytes: &[u8], torn: u8)
     fill(slot, at + half, bytes.len() - half, torn);
 }
 
-// Fills a range with one byte.
+/// Fills a range with one byte.
 fn fill(slot: &mut Vec<u8>, at: usize, count: usize, byte: u8)
     requires { at + count ≤ length slot.old.items }
     ensures { slot.new.items ≡ splice slot.old.items at (replicate count byte) }

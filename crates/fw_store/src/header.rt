@@ -6,7 +6,7 @@ ghost use Rattle.fw_blocks.specs.Members.{has};
 ghost use Rattle.fw_names.specs.Name.{IsOpened};
 ghost use Rattle.fw_store.specs.declared.header.Goal.{Goal};
 ghost use Rattle.fw_store.specs.declared.header.Header.{Header};
-ghost use Rattle.fw_store.specs.declared.header.TransferStatus.{TransferStatus};
+ghost use Rattle.fw_store.specs.declared.header.StoredStatus.{StoredStatus};
 ghost use Rattle.fw_store.specs.declared.slot.Slot.{Slot};
 ghost use Rattle.fw_store.specs.Layout.{status_number, slot_number, goal_bytes, header_bytes};
 ghost use Rattle.fw_store.specs.Header.{GoalFieldsFit, FieldsFit, IsGoal, IsHeader, fresh_header, goal_count, has_goal, is_verified};
@@ -24,10 +24,10 @@ const FORM: [u8; 4] = *b"FWH1";
 /// The bytes of a goal: its size and its name.
 const GOAL_SIZE: usize = 4 + NAME_SIZE;
 
-/// How far a transfer is (IEC 62056-6-2, Image transfer: image_transfer_status). Of the standard's values these are
-/// the ones that a header keeps.
+/// How far a transfer is, as a header keeps it: these of the values of image_transfer_status (IEC 62056-6-2, Image
+/// transfer).
 #[derive(Clone, Copy, Debug, PartialEq, Eq)]
-pub enum TransferStatus {
+pub enum StoredStatus {
     /// Nothing was initiated since the meter was made.
     NotInitiated = 0,
     /// Blocks are being received.
@@ -70,7 +70,7 @@ pub struct Header {
     /// The slot of the image that runs. The other is the spare one.
     pub running_slot: Slot,
     /// How far the transfer is.
-    pub status: TransferStatus,
+    pub status: StoredStatus,
     /// The bytes of a block (image_block_size).
     pub block_size: u32,
     /// The bytes of the image that runs.
@@ -83,7 +83,7 @@ pub struct Header {
     pub marks: Marks,
 }
 
-impl TransferStatus {
+impl StoredStatus {
     /// The standard's number.
     pub fn number(self) -> u8
         ensures { result ≡ status_number self }
@@ -91,41 +91,41 @@ impl TransferStatus {
         self as u8
     }
 
-    // The status with this number, if there is one.
-    fn from_number(number: u8) -> Option<TransferStatus>
-        ensures { (status : TransferStatus) → status_number status ≡ number → result ≡ Some status }
+    /// The status with this number, if there is one.
+    fn from_number(number: u8) -> Option<StoredStatus>
+        ensures { (status : StoredStatus) → status_number status ≡ number → result ≡ Some status }
     {
         match number {
-            0 => Some(TransferStatus::NotInitiated),
-            1 => Some(TransferStatus::Initiated),
-            3 => Some(TransferStatus::VerificationSuccessful),
-            4 => Some(TransferStatus::VerificationFailed),
-            6 => Some(TransferStatus::ActivationSuccessful),
+            0 => Some(StoredStatus::NotInitiated),
+            1 => Some(StoredStatus::Initiated),
+            3 => Some(StoredStatus::VerificationSuccessful),
+            4 => Some(StoredStatus::VerificationFailed),
+            6 => Some(StoredStatus::ActivationSuccessful),
             _ => None,
         }
     }
 
-    // Whether there is a goal in this status.
+    /// Whether there is a goal in this status.
     fn has_goal(self) -> bool
         ensures { result ≡ has_goal self }
     {
         match self {
-            TransferStatus::NotInitiated | TransferStatus::ActivationSuccessful => false,
-            TransferStatus::Initiated
-            | TransferStatus::VerificationSuccessful
-            | TransferStatus::VerificationFailed => true,
+            StoredStatus::NotInitiated | StoredStatus::ActivationSuccessful => false,
+            StoredStatus::Initiated
+            | StoredStatus::VerificationSuccessful
+            | StoredStatus::VerificationFailed => true,
         }
     }
 
-    // Whether the goal was verified, with either result.
+    /// Whether the goal was verified, with either result.
     fn is_verified(self) -> bool
         ensures { result ≡ is_verified self }
     {
         match self {
-            TransferStatus::VerificationSuccessful | TransferStatus::VerificationFailed => true,
-            TransferStatus::NotInitiated
-            | TransferStatus::Initiated
-            | TransferStatus::ActivationSuccessful => false,
+            StoredStatus::VerificationSuccessful | StoredStatus::VerificationFailed => true,
+            StoredStatus::NotInitiated
+            | StoredStatus::Initiated
+            | StoredStatus::ActivationSuccessful => false,
         }
     }
 }
@@ -139,7 +139,7 @@ impl Header {
         Header {
             enabled: false,
             running_slot: Slot::First,
-            status: TransferStatus::NotInitiated,
+            status: StoredStatus::NotInitiated,
             block_size,
             running_size,
             running_name,
@@ -187,7 +187,7 @@ impl Header {
         }
     }
 
-    // Whether a store of this capacity can have the header.
+    /// Whether a store of this capacity can have the header.
     fn is_for(&self, capacity: u32) -> bool
         requires { FieldsFit self.now }
         ensures { IsTrue result ↔ IsHeader capacity self.now }
@@ -212,7 +212,7 @@ impl Header {
     }
 }
 
-// Whether the goal, if there is one, fits a store of this capacity.
+/// Whether the goal, if there is one, fits a store of this capacity.
 fn goal_fits(goal: &Option<Goal>, capacity: u32, block_size: u32) -> bool
     ensures { IsTrue result ↔ IfSome goal.now (IsGoal capacity block_size) }
 {
@@ -222,7 +222,7 @@ fn goal_fits(goal: &Option<Goal>, capacity: u32, block_size: u32) -> bool
     }
 }
 
-// How many blocks the goal has, 0 where there is none.
+/// How many blocks the goal has, 0 where there is none.
 fn goal_count(goal: Option<Goal>, block_size: u32) -> u32
     requires { 1 ≤ block_size }
     ensures { result ≡ goal_count block_size goal }
@@ -233,7 +233,7 @@ fn goal_count(goal: Option<Goal>, block_size: u32) -> u32
     }
 }
 
-// Whether no number from this one on is marked.
+/// Whether no number from this one on is marked.
 fn is_unmarked_from(marks: &Marks, first: u32) -> bool
     requires { length marks.now ≡ MAX_BLOCKS }
     ensures { IsTrue result ↔ ((i : ℕ) → first ≤ i → has marks.now i ≡ false) }
@@ -241,7 +241,7 @@ fn is_unmarked_from(marks: &Marks, first: u32) -> bool
     (first..MAX_BLOCKS).all(|number| !marks.has(number))
 }
 
-// The byte of a slot.
+/// The byte of a slot.
 fn slot_number(slot: Slot) -> u8
     ensures { result ≡ slot_number slot }
 {
@@ -251,7 +251,7 @@ fn slot_number(slot: Slot) -> u8
     }
 }
 
-// The bytes of a goal, zeros where there is none.
+/// The bytes of a goal, zeros where there is none.
 fn goal_to_bytes(goal: Option<Goal>) -> [u8; GOAL_SIZE]
     ensures value { result ≡ goal_bytes goal }
     ensures fields { IfSome goal GoalFieldsFit }
@@ -264,7 +264,7 @@ fn goal_to_bytes(goal: Option<Goal>) -> [u8; GOAL_SIZE]
     bytes
 }
 
-// Writes a part of a header behind those that are there, and answers where it ends.
+/// Writes a part of a header behind those that are there, and answers where it ends.
 fn put(bytes: &mut [u8; HEADER_SIZE], at: usize, part: &[u8]) -> usize
     requires { at + length part.now ≤ HEADER_SIZE }
     ensures next { result ≡ at + length part.now }
@@ -275,8 +275,8 @@ fn put(bytes: &mut [u8; HEADER_SIZE], at: usize, part: &[u8]) -> usize
     end
 }
 
-// What the bytes are read as. A header's bytes are read as that header; others may be read as some header too, which
-// has other bytes.
+/// What the bytes are read as. A header's bytes are read as that header; others may be read as some header too, which
+/// has other bytes.
 fn read(bytes: &[u8; HEADER_SIZE]) -> Option<Header>
     ensures { (header : Header) → FieldsFit header →
         header_bytes header ≡ bytes.now → result ≡ Some header }
@@ -291,7 +291,7 @@ fn read(bytes: &[u8; HEADER_SIZE]) -> Option<Header>
     Some(Header {
         enabled: bytes[4] == 1,
         running_slot: slot_at(bytes[5]),
-        status: TransferStatus::from_number(bytes[6])?,
+        status: StoredStatus::from_number(bytes[6])?,
         block_size: number_at(&bytes[8..12]),
         running_size: number_at(&bytes[12..16]),
         running_name: ImageName::from_bytes(&bytes[16..57])?,
@@ -300,7 +300,7 @@ fn read(bytes: &[u8; HEADER_SIZE]) -> Option<Header>
     })
 }
 
-// The goal that the bytes are read as.
+/// The goal that the bytes are read as.
 fn read_goal(bytes: &[u8]) -> Option<Goal>
     requires { length bytes.now ≡ GOAL_SIZE }
     ensures { (goal : Goal) → GoalFieldsFit goal →
@@ -313,7 +313,7 @@ fn read_goal(bytes: &[u8]) -> Option<Goal>
     })
 }
 
-// The number in four bytes.
+/// The number in four bytes.
 fn number_at(bytes: &[u8]) -> u32
     requires { length bytes.now ≡ 4 }
     ensures { result ≡ from_be_bytes w32 bytes.now }
@@ -321,7 +321,7 @@ fn number_at(bytes: &[u8]) -> u32
     u32::from_be_bytes([bytes[0], bytes[1], bytes[2], bytes[3]])
 }
 
-// The slot that a byte is read as.
+/// The slot that a byte is read as.
 fn slot_at(byte: u8) -> Slot
     ensures { (slot : Slot) → slot_number slot ≡ byte → result ≡ slot }
 {

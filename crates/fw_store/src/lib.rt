@@ -21,7 +21,7 @@ pub use device::{ByteDevice, DeviceFault};
 pub use device_store::DeviceStore;
 pub use error::{FileStoreError, SetupError, StoreFault};
 pub use file::{FileDevice, FileStore};
-pub use header::{Goal, HEADER_SIZE, Header, TransferStatus};
+pub use header::{Goal, HEADER_SIZE, Header, StoredStatus};
 pub use memory::MemoryStore;
 pub use setup::MAX_CAPACITY;
 pub use slot::Slot;

@@ -13,7 +13,7 @@ use fw_names::factory_name;
 /// The largest image, in bytes: 4,096 of the largest blocks.
 pub const MAX_CAPACITY: u32 = 4_194_304;
 
-// Whether a store can be made with these.
+/// Whether a store can be made with these.
 pub(crate) fn is_setup(capacity: u32, block_size: u32, factory: &[u8]) -> bool
     ensures { IsTrue result ↔ IsSetup block_size capacity factory.now }
 {
@@ -22,14 +22,14 @@ pub(crate) fn is_setup(capacity: u32, block_size: u32, factory: &[u8]) -> bool
     block_fits && room_fits && !factory.is_empty() && factory.len() <= capacity as usize
 }
 
-// Whether a store can have slots of this size.
+/// Whether a store can have slots of this size.
 pub(crate) fn is_capacity(capacity: u32) -> bool
     ensures { IsTrue result ↔ IsCapacity capacity }
 {
     (1..=MAX_CAPACITY).contains(&capacity)
 }
 
-// The bytes of the header of a new store with this factory image.
+/// The bytes of the header of a new store with this factory image.
 pub(crate) fn fresh_bytes(block_size: u32, factory: &[u8]) -> [u8; HEADER_SIZE]
     requires { length factory.now < 2 ^ 32 }
     ensures { result ≡ header_bytes (fresh_header block_size (length factory.now) (factory_name factory.now)) }

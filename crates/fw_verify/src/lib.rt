@@ -45,7 +45,7 @@ pub fn digest<S: ImageStore>(store: &mut S, slot: Slot, size: u32) -> Result<[u8
     Ok(hasher.finalize())
 }
 
-// Feeds the hasher with the bytes of a slot from an offset on.
+/// Feeds the hasher with the bytes of a slot from an offset on.
 fn take_piece<S: ImageStore>(
     store: &mut S,
     slot: Slot,

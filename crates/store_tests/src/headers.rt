@@ -4,7 +4,7 @@
 use crate::support::{Case, each};
 use fw_blocks::Marks;
 use fw_names::{CampaignId, HeadId, ImageName, factory_name, name_of};
-use fw_store::{Goal, HEADER_SIZE, Header, Slot, TransferStatus};
+use fw_store::{Goal, HEADER_SIZE, Header, Slot, StoredStatus};
 use std::alloc::Global;
 use std::test::Fail;
 
@@ -225,7 +225,7 @@ fn receiving() -> Option<Header> {
     Some(Header {
         enabled: true,
         running_slot: Slot::First,
-        status: TransferStatus::Initiated,
+        status: StoredStatus::Initiated,
         block_size: 2,
         running_size: 3,
         running_name: factory_name(b"abc"),
@@ -239,7 +239,7 @@ fn switched() -> Option<Header> {
     let goal = before.goal?;
     Some(Header {
         running_slot: before.running_slot.other(),
-        status: TransferStatus::ActivationSuccessful,
+        status: StoredStatus::ActivationSuccessful,
         running_size: goal.size,
         running_name: goal.name,
         goal: None,
@@ -259,19 +259,19 @@ const WRITTEN: &[(Written, &str)] = &[
     ),
 ];
 
-impl Case for TransferStatus {
+impl Case for StoredStatus {
     fn told(&self, alloc: Global) -> Result<String, Fail> {
         Ok(format!(in alloc; "{}", self.number())?)
     }
 }
 
 /// The numbers are those of IEC 62056-6-2, image_transfer_status.
-const STATUSES: &[(TransferStatus, &str)] = &[
-    (TransferStatus::NotInitiated, "0"),
-    (TransferStatus::Initiated, "1"),
-    (TransferStatus::VerificationSuccessful, "3"),
-    (TransferStatus::VerificationFailed, "4"),
-    (TransferStatus::ActivationSuccessful, "6"),
+const STATUSES: &[(StoredStatus, &str)] = &[
+    (StoredStatus::NotInitiated, "0"),
+    (StoredStatus::Initiated, "1"),
+    (StoredStatus::VerificationSuccessful, "3"),
+    (StoredStatus::VerificationFailed, "4"),
+    (StoredStatus::ActivationSuccessful, "6"),
 ];
 
 impl Case for Slot {

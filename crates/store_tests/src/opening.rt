@@ -5,7 +5,7 @@ use crate::support::{Case, each};
 use fw_blocks::Marks;
 use fw_image::{OpenError, open_store};
 use fw_names::factory_name;
-use fw_store::{Goal, HEADER_SIZE, Header, ImageStore, MemoryStore, Slot, TransferStatus};
+use fw_store::{Goal, HEADER_SIZE, Header, ImageStore, MemoryStore, Slot, StoredStatus};
 use std::alloc::Global;
 use std::test::Fail;
 
@@ -17,7 +17,7 @@ struct Stored(Head, &'static [u8], Option<u64>);
 #[derive(Clone, Copy)]
 enum Head {
     /// It runs `abc`, in this status.
-    In(TransferStatus),
+    In(StoredStatus),
     /// It runs `abc` under the name of these bytes.
     Runs(&'static [u8]),
     /// The form's first byte is another.
@@ -30,9 +30,9 @@ enum Head {
 fn bytes_of(head: &Head) -> Result<[u8; HEADER_SIZE], Fail> {
     match head {
         Head::In(status) => spelled(*status, b"abc"),
-        Head::Runs(image) => spelled(TransferStatus::Initiated, image),
+        Head::Runs(image) => spelled(StoredStatus::Initiated, image),
         Head::OtherForm => {
-            let mut bytes = spelled(TransferStatus::VerificationSuccessful, b"abc")?;
+            let mut bytes = spelled(StoredStatus::VerificationSuccessful, b"abc")?;
             bytes[0] = 0x47;
             Ok(bytes)
         }
@@ -40,7 +40,7 @@ fn bytes_of(head: &Head) -> Result<[u8; HEADER_SIZE], Fail> {
     }
 }
 
-fn spelled(status: TransferStatus, image: &[u8]) -> Result<[u8; HEADER_SIZE], Fail> {
+fn spelled(status: StoredStatus, image: &[u8]) -> Result<[u8; HEADER_SIZE], Fail> {
     let mut marks = Marks::none();
     marks.mark(0);
     marks.mark(1);
@@ -93,11 +93,11 @@ fn store_of(alloc: Global, head: &[u8; HEADER_SIZE], spare: &[u8]) -> Result<Mem
     Ok(store)
 }
 
-const VERIFIED: Head = Head::In(TransferStatus::VerificationSuccessful);
+const VERIFIED: Head = Head::In(StoredStatus::VerificationSuccessful);
 
-const SPOILT: Head = Head::In(TransferStatus::VerificationFailed);
+const SPOILT: Head = Head::In(StoredStatus::VerificationFailed);
 
-const RECEIVING: Head = Head::In(TransferStatus::Initiated);
+const RECEIVING: Head = Head::In(StoredStatus::Initiated);
 
 const STORED: &[(Stored, &str)] = &[
     // a goal that was verified has the digest of its name, and another one needn't have

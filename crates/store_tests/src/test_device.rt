@@ -23,7 +23,7 @@ impl TestDevice {
     }
 }
 
-// One call.
+/// One call.
 fn spend(calls_left: &mut Option<u64>) -> Result<(), DeviceFault>
     ensures never { IsTrue (is_none calls_left.old) → IsOk result }
     ensures stays { IsTrue (is_none calls_left.old) → IsTrue (is_none calls_left.new) }

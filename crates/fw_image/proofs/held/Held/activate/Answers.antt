@@ -2,7 +2,7 @@ use Rattle.std.proofs.Common.{◌≡◌, refl, sym, subst}
 use Rattle.fw_image.specs.Step.{activate, done, Admits}
 use Rattle.fw_image.specs.Meter.{Phase, status_of}
 use Rattle.fw_image.specs.Stored.{meter_of, phase_of, seen}
-use Rattle.fw_store.specs.declared.header.TransferStatus.TheVariants.{VerificationSuccessful}
+use Rattle.fw_store.specs.declared.header.StoredStatus.TheVariants.{VerificationSuccessful}
 use Rattle.fw_image.proofs.Blocks.{none_has}
 use Rattle.fw_image.proofs.Moves.{leaves, makes_written, held_written, is_sealed, verified_bytes, header_switched, meter_of-switched, trusted_switched, valid_switched}
 use Rattle.fw_image.proofs.held.Held.activate.Goals as goal

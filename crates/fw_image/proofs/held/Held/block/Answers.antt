@@ -2,7 +2,7 @@ use Rattle.std.proofs.Common.{◌≡◌, IsTrue, true, false, cond, length, refl
 use Rattle.fw_blocks.specs.Members.{has}
 use Rattle.fw_store.specs.Device.{slot_bytes, Torn}
 use Rattle.fw_store.specs.declared.slot.Slot.{Slot}
-use Rattle.fw_store.specs.declared.header.TransferStatus.TheVariants.{Initiated}
+use Rattle.fw_store.specs.declared.header.StoredStatus.TheVariants.{Initiated}
 use Rattle.fw_image.specs.Meter.{status_of}
 use Rattle.fw_image.specs.Step.{block, done, refused}
 use Rattle.fw_image.specs.Stored.{meter_of, phase_of, seen}

@@ -1,5 +1,5 @@
 use Rattle.std.proofs.Common.{◌≡◌, IsTrue, true, false, cond, ◌+◌, ◌∙◌, refl, arith}
-use Rattle.fw_store.specs.declared.header.TransferStatus.TheVariants.{Initiated}
+use Rattle.fw_store.specs.declared.header.StoredStatus.TheVariants.{Initiated}
 use Rattle.fw_verify.specs.Pieces.{piece_count}
 use Rattle.fw_image.specs.Meter.{status_of}
 use Rattle.fw_image.specs.Step.{verify, done, refused}
