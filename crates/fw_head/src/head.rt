@@ -75,6 +75,8 @@ impl HeadCore {
         ensures same { OnErr result (self.new ≡ self.old) }
     {
         fw_book::laws::admitted_opens();
+        fw_book::laws::states_follow();
+        fw_book::laws::opening_offers();
         let campaign = self.campaign(serial);
         if self.rows.reserve(meters.len().min(MAX_METERS)).is_err() {
             self.book.check_opening(campaign, image, meters)?;
@@ -108,6 +110,8 @@ impl HeadCore {
         ensures refused { IfErr result (λ e. cancel_refusal self.old.book (campaign_at self.old serial) ≡ Some e) }
         ensures same { OnErr result (self.new ≡ self.old) }
     {
+        fw_book::laws::states_follow();
+        fw_book::laws::images_stay();
         let campaign = self.campaign(serial);
         self.book.cancel(campaign)?;
         self.rows.cancel(serial);
@@ -131,6 +135,8 @@ impl HeadCore {
         ensures same { OnErr result (self.new ≡ self.old) }
         ensures memory { OnErr result (RowsMayWant self.old.rows from datagram.now) }
     {
+        fw_book::laws::states_follow();
+        fw_book::laws::images_stay();
         let campaign = match self.rows.get(from) {
             Some(row) => row.name().campaign,
             None => return Ok(News::Nothing),

@@ -37,7 +37,7 @@ invariant_of-self-in-Failed c =
     let is = head_heard c.self.inside.book c.self.inside.width c.self.inside.rows.rows.entries rows c.args.from c.args.datagram.now c.in_ok-hear.field-0 c.in_ok-hear.ensures.heard c.self.invariant in
     let of : c.campaign.inside.campaign.serial ≡ now.0.name.campaign.serial = ap (λ (n : Name). n.campaign.serial) (c.campaign.view_is ∙ c.name.ensures ∙ sym now.2) in
     let mark = of_ok c.mark_failed.result _ c.expect_marked-in-Failed.ensures c.mark_failed.ensures.failed in
-    head_ended_by c.self.inside.book c.mark_failed.new.self c.self.inside.width rows c.end-in-Failed.new.self.rows.entries c.args.from now.0 c.campaign.inside.campaign.serial Failed refl now.1 of mark c.end-in-Failed.ensures is
+    head_ended_by c.states_follow.ensures c.images_stay.ensures c.self.inside.book c.mark_failed.new.self c.self.inside.width rows c.end-in-Failed.new.self.rows.entries c.args.from now.0 c.campaign.inside.campaign.serial Failed refl now.1 of mark c.end-in-Failed.ensures is
 
 pub invariant_of-self-in-Done : goal.invariant_of-self-in-Done
 invariant_of-self-in-Done c =
@@ -50,7 +50,7 @@ invariant_of-self-in-Done c =
     let mark = of_ok c.mark_done.result _ c.expect_marked.ensures c.mark_done.ensures.done in
     let meter = claim_meter c.args.from row c.in_ok-hear.field-0 c.in-Done.claim (c.self.invariant.of_book c.args.from row found) c.in-Done.is (c.in_ok-hear.ensures.claimed row found) in
     let at_meter = ap (λ m. marked c.self.inside.book c.campaign.inside.campaign.serial m Done) meter in
-    head_ended_by c.self.inside.book c.mark_done.new.self c.self.inside.width rows c.end.new.self.rows.entries c.args.from now.0 c.campaign.inside.campaign.serial Done refl now.1 of (mark ∙ at_meter) c.end.ensures is
+    head_ended_by c.states_follow.ensures c.images_stay.ensures c.self.inside.book c.mark_done.new.self c.self.inside.width rows c.end.new.self.rows.entries c.args.from now.0 c.campaign.inside.campaign.serial Done refl now.1 of (mark ∙ at_meter) c.end.ensures is
 
 pub returns-clause-heard : goal.returns-clause-heard
 returns-clause-heard c =
