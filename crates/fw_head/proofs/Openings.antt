@@ -236,6 +236,7 @@ module _ (follow : StatesFollowCalls) (offers : OpeningOffers) where
         live = goes.own m ∙ cond-true (among meters m) (Some Live) None there;
         named = ap (λ (x : Option (List ℕ)). option_map (λ (bytes : List ℕ). name_of campaign bytes) x) adds.own;
         sized = ap (λ (x : Option (List ℕ)). option_map length x) adds.own;
+        going = tt;
       }
 
   old_is : (book : Contents) (campaign : Campaign) (image meters : List ℕ) (m : ℕ) (row : Row) → Opens book campaign image meters → IsRowOf book m row → IsRowOf (opened book campaign.serial image meters) m row

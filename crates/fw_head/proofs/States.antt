@@ -118,4 +118,5 @@ row_stays before after m row states images is = record {
   live = states ∙ is.live;
   named = ap (λ (o : Option (List ℕ)). option_map (λ (bytes : List ℕ). name_of row.name.campaign bytes) o) images ∙ is.named;
   sized = ap (λ (o : Option (List ℕ)). option_map length o) images ∙ is.sized;
+  going = is.going;
 }

@@ -20,7 +20,7 @@ use Rattle.fw_head.proofs.LiveRows.{at_meter-alike, at_meter-same, same_found}
 use Rattle.fw_head.proofs.SameRows.{SameGoal, goal_heard}
 
 -- a row that is taken out is taken out as it was before
-pub taken_before : (meter : ℕ) (change : Row → Row) (rows : Rows) → without_meter meter (at_meter meter change rows) ≡ without_meter meter rows
+taken_before : (meter : ℕ) (change : Row → Row) (rows : Rows) → without_meter meter (at_meter meter change rows) ≡ without_meter meter rows
 taken_before meter change [] = refl
 taken_before meter change (entry ∷ entries) =
     let one : Rows = (entry.0, change entry.1) ∷ entries in
@@ -37,6 +37,10 @@ taken_before meter change (entry ∷ entries) =
     ap (λ (rs : Rows). without_meter meter rs) (cond-false (meter == entry.0) one rest other)
     ∙ ap (λ (rs : Rows). if not (entry.0 == meter) then (let all : Rows = entry ∷ rs in all) else rs) (taken_before meter change entries))
     (cases_Bool (meter == entry.0))
+
+pub taken_heard : (old new : Rows) (meter : ℕ) (datagram : List ℕ) (told : RowNews) → RowsHear old meter datagram told new → without_meter meter new ≡ without_meter meter old
+taken_heard old new meter datagram told (inl x) = ap (λ (rs : Rows). without_meter meter rs) x.4 ∙ taken_before meter (λ was. x.1) old
+taken_heard old new meter datagram told (inr x) = ap (λ (rs : Rows). without_meter meter rs) x.2
 
 none_some : (row : Row) → (let o : Option Row = None in o ≡ Some row) → ⊥
 none_some row e = cc

@@ -11,6 +11,7 @@ use Rattle.fw_head.specs.declared.news.News.{News}
 use Rattle.fw_head.specs.declared.news.News.TheVariants as news
 use Rattle.fw_head.specs.declared.news.RowNews.{RowNews}
 use Rattle.fw_head.specs.declared.news.RowNews.TheVariants.{Nothing, Moved, Done, Failed}
+use Rattle.fw_head.specs.Phase.{IsLive}
 use Rattle.fw_head.specs.Row.{Row, new_row, sends, ticked, RowHears, RowMayWant, IsPermitted}
 
 -- the live rows, each behind the number of its meter
@@ -128,12 +129,13 @@ HeadHears old meter datagram told new = HeadTakes old meter datagram told new �
 
 -- ---- what every head end keeps
 
--- a row is that of its meter in a campaign of the book, which is live there, for the image that the campaign offers
+-- a row is that of its meter in a campaign of the book, which is live there, for the image that the campaign offers, and hasn't ended
 pub record IsRowOf (book : Contents) (meter : ℕ) (row : Row) : Type 0 where
   pub asks : row.client.meter ≡ meter
   pub live : state_in book row.name.campaign meter ≡ Some state.Live
   pub named : name_in book row.name.campaign ≡ Some row.name
   pub sized : option_map length (image_in book row.name.campaign) ≡ Some row.size
+  pub going : IsLive row.stage
 
 -- the live rows are those of the book, and a meter has one row at most
 pub record IsHead (head : Head) : Type 0 where

@@ -8,18 +8,18 @@ use Rattle.fw_head.specs.Head.{Head, Rows, RowsHear, RowsMayWant, HeadHears, row
 use Rattle.fw_head.proofs.Offers.{is_marked, claim_meter}
 use Rattle.fw_head.proofs.Endings.{head_ended_by, of_ok}
 use Rattle.fw_head.proofs.LiveRows.{told_err}
-use Rattle.fw_head.proofs.SameRows.{head_heard, name_heard}
-use Rattle.fw_head.proofs.TakenOut.{hears_nothing, hears_moved, hears_done, hears_failed}
+use Rattle.fw_head.proofs.SameRows.{TellsNoEnd, head_heard}
+use Rattle.fw_head.proofs.TakenOut.{taken_heard, hears_nothing, hears_moved, hears_done, hears_failed}
 use Rattle.fw_head.proofs.head.HeadCore.hear.Goals.{in-Nothing, in-Moved, in-Done, in-Failed}
 use Rattle.fw_head.proofs.head.HeadCore.hear.Goals as goal
 
 pub invariant_of-self-in-Nothing : goal.invariant_of-self-in-Nothing
 invariant_of-self-in-Nothing c =
-    head_heard c.self.inside.book c.self.inside.width c.self.inside.rows.rows.entries c.hear.new.self.rows.entries c.args.from c.args.datagram.now c.in_ok-hear.field-0 c.in_ok-hear.ensures.heard c.self.invariant
+    head_heard c.self.inside.book c.self.inside.width c.self.inside.rows.rows.entries c.hear.new.self.rows.entries c.args.from c.args.datagram.now c.in_ok-hear.field-0 c.in_ok-hear.ensures.heard (subst TellsNoEnd (sym c.in-Nothing.is) tt) c.self.invariant
 
 pub invariant_of-self-in-Moved : goal.invariant_of-self-in-Moved
 invariant_of-self-in-Moved c =
-    head_heard c.self.inside.book c.self.inside.width c.self.inside.rows.rows.entries c.hear.new.self.rows.entries c.args.from c.args.datagram.now c.in_ok-hear.field-0 c.in_ok-hear.ensures.heard c.self.invariant
+    head_heard c.self.inside.book c.self.inside.width c.self.inside.rows.rows.entries c.hear.new.self.rows.entries c.args.from c.args.datagram.now c.in_ok-hear.field-0 c.in_ok-hear.ensures.heard (subst TellsNoEnd (sym c.in-Moved.is) tt) c.self.invariant
 
 pub expect_marked-requires : goal.expect_marked-requires
 expect_marked-requires c =
@@ -31,26 +31,24 @@ expect_marked-requires c =
 pub invariant_of-self-in-Failed : goal.invariant_of-self-in-Failed
 invariant_of-self-in-Failed c =
     let row = c.in-Some.row.now in
-    let rows = c.hear.new.self.rows.entries in
-    let found : row_of c.self.inside.rows.rows.entries c.args.from ≡ Some row = sym c.get.ensures ∙ ap option_copied c.in-Some.is in
-    let now = name_heard c.self.inside.rows.rows.entries rows c.args.from c.args.datagram.now c.in_ok-hear.field-0 row c.in_ok-hear.ensures.heard found in
-    let is = head_heard c.self.inside.book c.self.inside.width c.self.inside.rows.rows.entries rows c.args.from c.args.datagram.now c.in_ok-hear.field-0 c.in_ok-hear.ensures.heard c.self.invariant in
-    let of : c.campaign.inside.campaign.serial ≡ now.0.name.campaign.serial = ap (λ (n : Name). n.campaign.serial) (c.campaign.view_is ∙ c.name.ensures ∙ sym now.2) in
+    let old = c.self.inside.rows.rows.entries in
+    let found : row_of old c.args.from ≡ Some row = sym c.get.ensures ∙ ap option_copied c.in-Some.is in
+    let of : c.campaign.inside.campaign.serial ≡ row.name.campaign.serial = ap (λ (n : Name). n.campaign.serial) (c.campaign.view_is ∙ c.name.ensures) in
     let mark = of_ok c.mark_failed.result _ c.expect_marked-in-Failed.ensures c.mark_failed.ensures.failed in
-    head_ended_by c.states_follow.ensures c.images_stay.ensures c.self.inside.book c.mark_failed.new.self c.self.inside.width rows c.end-in-Failed.new.self.rows.entries c.args.from now.0 c.campaign.inside.campaign.serial Failed refl now.1 of mark c.end-in-Failed.ensures is
+    let out = c.end-in-Failed.ensures ∙ taken_heard old c.hear.new.self.rows.entries c.args.from c.args.datagram.now c.in_ok-hear.field-0 c.in_ok-hear.ensures.heard in
+    head_ended_by c.states_follow.ensures c.images_stay.ensures c.self.inside.book c.mark_failed.new.self c.self.inside.width old c.end-in-Failed.new.self.rows.entries c.args.from row c.campaign.inside.campaign.serial Failed refl found of mark out c.self.invariant
 
 pub invariant_of-self-in-Done : goal.invariant_of-self-in-Done
 invariant_of-self-in-Done c =
     let row = c.in-Some.row.now in
-    let rows = c.hear.new.self.rows.entries in
-    let found : row_of c.self.inside.rows.rows.entries c.args.from ≡ Some row = sym c.get.ensures ∙ ap option_copied c.in-Some.is in
-    let now = name_heard c.self.inside.rows.rows.entries rows c.args.from c.args.datagram.now c.in_ok-hear.field-0 row c.in_ok-hear.ensures.heard found in
-    let is = head_heard c.self.inside.book c.self.inside.width c.self.inside.rows.rows.entries rows c.args.from c.args.datagram.now c.in_ok-hear.field-0 c.in_ok-hear.ensures.heard c.self.invariant in
-    let of : c.campaign.inside.campaign.serial ≡ now.0.name.campaign.serial = ap (λ (n : Name). n.campaign.serial) (c.campaign.view_is ∙ c.name.ensures ∙ sym now.2) in
+    let old = c.self.inside.rows.rows.entries in
+    let found : row_of old c.args.from ≡ Some row = sym c.get.ensures ∙ ap option_copied c.in-Some.is in
+    let of : c.campaign.inside.campaign.serial ≡ row.name.campaign.serial = ap (λ (n : Name). n.campaign.serial) (c.campaign.view_is ∙ c.name.ensures) in
     let mark = of_ok c.mark_done.result _ c.expect_marked.ensures c.mark_done.ensures.done in
     let meter = claim_meter c.args.from row c.in_ok-hear.field-0 c.in-Done.claim (c.self.invariant.of_book c.args.from row found) c.in-Done.is (c.in_ok-hear.ensures.claimed row found) in
     let at_meter = ap (λ m. marked c.self.inside.book c.campaign.inside.campaign.serial m Done) meter in
-    head_ended_by c.states_follow.ensures c.images_stay.ensures c.self.inside.book c.mark_done.new.self c.self.inside.width rows c.end.new.self.rows.entries c.args.from now.0 c.campaign.inside.campaign.serial Done refl now.1 of (mark ∙ at_meter) c.end.ensures is
+    let out = c.end.ensures ∙ taken_heard old c.hear.new.self.rows.entries c.args.from c.args.datagram.now c.in_ok-hear.field-0 c.in_ok-hear.ensures.heard in
+    head_ended_by c.states_follow.ensures c.images_stay.ensures c.self.inside.book c.mark_done.new.self c.self.inside.width old c.end.new.self.rows.entries c.args.from row c.campaign.inside.campaign.serial Done refl found of (mark ∙ at_meter) out c.self.invariant
 
 pub returns-clause-heard : goal.returns-clause-heard
 returns-clause-heard c =
