@@ -87,6 +87,7 @@ impl Client {
             ≡ wrapped 1 1 (request_bytes (invoke_byte self.old.next) (request_of (ask_of ask.now)))) }
         ensures carries { IfOk result (λ datagram.
             CarriesRequest datagram.items (invoke_byte self.old.next) (request_of (ask_of ask.now))) }
+        ensures id { self.old.next < 16 }
         ensures asked { IfOk result (λ _. self.new ≡ asking self.old (kind_of (ask_of ask.now))) }
         ensures busy { (result ≡ Err AskError.AllBusy) ↔ IsSome (get self.old.asks self.old.next) }
         ensures same { OnErr result (self.new ≡ self.old) }

@@ -15,3 +15,4 @@ pub mod Offered
 mod NewRows
 mod Cancelling
 mod Openings
+mod DoneIn

@@ -1,10 +1,11 @@
 -- For private clauses, and for the models of the head end's types.
-use Rattle.std.specs.Prelude.{◌≡◌, ℕ, ◌+◌, ◌%◌, ◌<◌, ◌≤◌, length, IsSome}
+use Rattle.std.specs.Prelude.{◌≡◌, ℕ, ◌+◌, ◌%◌, ◌<◌, ◌≤◌, List, [], ◌∷◌, length, IsSome}
 use Rattle.std.specs.FinMap.{get}
 use Rattle.fw_names.specs.Name.{Name}
 use Rattle.fw_blocks.specs.Cuts.{Partition, IsWithinLimits}
 use Rattle.fw_client.specs.Claim.{Claim}
-use Rattle.fw_client.specs.State.{State}
+use Rattle.fw_client.specs.Ask.{Ask, request_of, kind_of, CarriesRequest}
+use Rattle.fw_client.specs.State.{State, asking, invoke_byte}
 use Rattle.fw_head.specs.declared.stage.Stage.{Stage}
 use Rattle.fw_head.specs.declared.stage.Stage.TheVariants.{Size, Enable, Start, Blocks, Check, Gaps, Verify, Poll, Info, Activate, Confirm, Done, Failed}
 use Rattle.fw_head.specs.declared.answers.Step.{Step}
@@ -69,3 +70,10 @@ pub record IsRow (meter : ℕ) (name : Name) (size : ℕ) (stage : Stage) (clien
 -- each outstanding ask is one of the last so many
 abbrev pub AskedLately : State → ℕ → Type 0
 AskedLately c n = (id : ℕ) → IsSome (get c.asks id) → (back : ℕ) × (1 ≤ back) × (back ≤ n) × ((id + back) % 16 ≡ c.next % 16)
+
+-- the datagrams carry these asks of a client, one each, under one id after the other
+abbrev pub Carry : State → List Ask → List (List ℕ) → Type 0
+Carry c [] [] = Unit {0}
+Carry c (asked ∷ asks) (datagram ∷ datagrams) =
+    (c.next < 16) × CarriesRequest datagram (invoke_byte c.next) (request_of asked) × Carry (asking c (kind_of asked)) asks datagrams
+Carry c asks datagrams = ⊥

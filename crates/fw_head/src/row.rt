@@ -1,6 +1,6 @@
 //! One row of a campaign: a head end's work on one meter.
 
-ghost use Rattle.std.specs.Prelude.{◌≡◌, ◌<◌, All, length, IfOk, OnOk, OnErr};
+ghost use Rattle.std.specs.Prelude.{◌≡◌, ◌<◌, ◌≤◌, All, length, IfOk, OnOk, OnErr};
 ghost use Rattle.std.specs.FinMap.{empty};
 
 use crate::answers::{Step, next_step};
@@ -50,7 +50,7 @@ impl Model for RowCore {
 impl RowCore {
     ghost use Rattle.fw_head.specs.Row.{Row, bytes_of, new_row, ticked, sends, stepped, moved, returned, settled, with_block, RowHears, IsPermitted, RowMayWant, news_in, tick_asks, datagrams, asking_all};
     ghost use Rattle.fw_head.specs.Phase.{phase_of, IsLive};
-    ghost use Rattle.fw_head.specs.Inside.{IsCutOf, IsOwn, IsOwnStep, IsOwnNews};
+    ghost use Rattle.fw_head.specs.Inside.{Carry, IsCutOf, IsOwn, IsOwnStep, IsOwnNews};
 
     /// A new row of this meter, for the image of this name and size in bytes.
     pub fn new(meter: MeterId, name: ImageName, size: u32) -> RowCore
@@ -117,6 +117,7 @@ impl RowCore {
         // Where the image has the row's size, each datagram is one that a head end may send.
         ensures permitted { IfOk result (λ sent. length image.now ≡ self.old.size
             → All (IsPermitted self.old.name image.now) (bytes_of sent.items)) }
+        ensures few { IfOk result (λ sent. length sent.items ≤ 15) }
         ensures ticked { OnOk result (self.new ≡ ticked self.old image.now width) }
         ensures same { OnErr result (self.new ≡ self.old) }
         ensures memory { OnErr result (IsLive self.old.stage) }
@@ -138,6 +139,8 @@ impl RowCore {
     ) -> Result<Vec<Vec<u8>>, OutOfMemory>
         requires { client.old.asks ≡ empty }
         ensures sent { IfOk result (λ sent. bytes_of sent.items ≡ datagrams client.old (tick_asks self.now image.now width)) }
+        ensures carry { IfOk result (λ sent. Carry client.old (tick_asks self.now image.now width) (bytes_of sent.items)) }
+        ensures few { IfOk result (λ sent. length sent.items ≤ 15) }
         ensures asked { OnOk result (client.new ≡ asking_all client.old (tick_asks self.now image.now width)) }
         ensures memory { OnErr result (IsLive self.now.stage) }
     {

@@ -1,7 +1,8 @@
-use Rattle.std.proofs.Common.{◌≡◌, ap, ◌∙◌}
+use Rattle.std.proofs.Common.{◌≡◌, ap, subst, ◌∙◌}
 use Rattle.fw_client.specs.State.{State, forgetting}
-use Rattle.fw_head.specs.Row.{Row, datagrams, tick_asks}
-use Rattle.fw_head.proofs.Permitted.{tick_permitted_of}
+use Rattle.fw_head.specs.Row.{Row, bytes_of, tick_asks}
+use Rattle.fw_head.specs.Inside.{Carry}
+use Rattle.fw_head.proofs.Permitted.{tick_permitted}
 use Rattle.fw_head.proofs.Sending.{same_meter}
 use Rattle.fw_head.proofs.row.RowCore.tick.Goals as goal
 
@@ -18,5 +19,5 @@ invariant_of-self c =
 pub returns-clause-permitted : goal.returns-clause-permitted
 returns-clause-permitted c =
     let client : c.forget.new.self ≡ forgetting c.args.self.now.client = c.forget.ensures ∙ ap forgetting (c.duplicate-client.ensures ∙ ap (λ (r : Row). r.client) c.self.view_is) in
-    let sent = c.in_ok-sent.ensures.sent ∙ ap (λ (s : State). datagrams s (tick_asks c.args.self.now c.args.image.now c.args.width)) client in
-    tick_permitted_of c.self.inside.meter _ c.args.self.now c.args.image.now c.args.width _ c.self.view_is c.self.invariant.own sent
+    let carry = subst (λ (s : State). Carry s (tick_asks c.args.self.now c.args.image.now c.args.width) (bytes_of c.in_ok-sent.sent.items)) client c.in_ok-sent.ensures.carry in
+    tick_permitted c.self.inside.meter _ c.args.self.now c.args.image.now c.args.width _ c.self.view_is c.self.invariant.own carry
