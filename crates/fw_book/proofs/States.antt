@@ -1,5 +1,5 @@
 -- What each call makes of the states of meters.
-use Rattle.std.proofs.Common.{◌≡◌, ◌≢◌, ℕ, ◌==◌, nat_eq, ◌||◌, Bool, true, false, cond, is_some, find, List, [], ◌∷◌, ◌++◌, map, Option, Some, None, option_map, refl, sym, ap, ◌∙◌, ⊎_elim}
+use Rattle.std.proofs.Common.{◌≡◌, ◌≢◌, ℕ, ◌==◌, nat_eq, ◌||◌, Bool, true, false, cond, find, List, [], ◌∷◌, map, Option, Some, None, option_map, refl, sym, ap, ◌∙◌, ⊎_elim}
 use Rattle.std.specs.List.{list_any}
 use Rattle.std.specs.Map.{lookup}
 use Rattle.std.specs.Option.{option_and_then}
@@ -9,9 +9,9 @@ use Rattle.fw_names.specs.Name.{Campaign}
 use Rattle.fw_book.specs.declared.row.Row.{Row}
 use Rattle.fw_book.specs.declared.row.RowState.{RowState}
 use Rattle.fw_book.specs.declared.row.RowState.TheVariants.{Live, Cancelled}
-use Rattle.fw_book.specs.Rows.{is_live, live_row, state_of, with_state, marked_row, cancelled_row, cancelled_rows}
-use Rattle.fw_book.specs.Contents.{Contents, Offered, state_in, has_serial}
-use Rattle.fw_book.specs.Changes.{at_serial, opened, marked, cancelled}
+use Rattle.fw_book.specs.Rows.{is_live, live_row, state_of, with_state, cancelled_row, cancelled_rows}
+use Rattle.fw_book.specs.Contents.{Contents, Offered, state_in}
+use Rattle.fw_book.specs.Changes.{at_serial, opened}
 use Rattle.fw_book.specs.Laws.{opening_state, marked_state, cancelled_state, StatesGoOn, StatesFollowCalls}
 use Rattle.fw_book.proofs.Images.{found_last, passed_over, same_campaign}
 

@@ -1,20 +1,17 @@
 -- A campaign is cancelled in the book, and its rows are taken out: that keeps a head end.
-use Rattle.std.proofs.Common.{◌≡◌, ◌≢◌, ℕ, ◌==◌, nat_eq, not, Bool, true, false, cond, List, [], ◌∷◌, length, Option, Some, None, option_map, refl, sym, ap, subst, ◌∙◌, ⊎_elim}
+use Rattle.std.proofs.Common.{◌≡◌, ◌≢◌, ℕ, ◌==◌, nat_eq, not, Bool, true, false, [], ◌∷◌, Option, Some, None, refl, sym, ap, subst, ◌∙◌, ⊎_elim}
 use Rattle.std.specs.List.{IsDistinct, AllByRecursion}
 use Rattle.std.specs.Map.{lookup, keys_of}
 use Rattle.std.proofs.lemmas.Map.Keys.{IsDistinct-head, IsDistinct-tail}
 use Rattle.std.proofs.lemmas.Map.Made.{IsDistinct-keys_filter}
 use Rattle.std.proofs.lemmas.Bool.{cases_Bool, cond-true, cond-false, false_from_ne_true, false≢true}
 use Rattle.std.proofs.lemmas.Bool.Decides.{Decides-eqb}
-use Rattle.fw_names.specs.Name.{Campaign, name_of}
-use Rattle.fw_book.specs.declared.row.Row as book_row
-use Rattle.fw_book.specs.declared.row.RowState.TheVariants.{Live, Cancelled}
-use Rattle.fw_book.specs.Rows.{is_live, state_of, cancelled_row, cancelled_rows}
-use Rattle.fw_book.specs.Contents.{Contents, Offered, state_in, image_in}
-use Rattle.fw_book.specs.Changes.{at_serial, cancelled}
+use Rattle.fw_names.specs.Name.{Campaign}
+use Rattle.fw_book.specs.Contents.{Contents}
+use Rattle.fw_book.specs.Changes.{cancelled}
 use Rattle.fw_book.specs.Laws.{ImagesStay, StatesFollowCalls}
 use Rattle.fw_head.specs.Row.{Row}
-use Rattle.fw_head.specs.Head.{Rows, row_of, without_serial, IsRowOf, IsHead}
+use Rattle.fw_head.specs.Head.{Rows, row_of, without_serial, IsHead}
 use Rattle.fw_head.proofs.LiveRows.{some_row}
 use Rattle.fw_head.proofs.States.{cancelled_ends, elsewhere_stays, row_stays}
 

@@ -67,16 +67,18 @@ module _ (law : DoneByClaim) (head : Head) (is : IsHead head) where
       let parts = told_done takes.heard takes.row.name.campaign campaign from meter (sym takes.told_is ∙ done) in
       let row = is.of_book from takes.row takes.found in
       let confirmed = (law takes.row takes.next datagram takes.heard parts.0 (not_done takes.row.stage row.going) takes.hears).0 parts.1 in
-      let P : ℕ → Type 0 = λ m. IsDoneBy head m datagram campaign in
-      (sym parts.3, subst P parts.3 (record {
-        row = takes.row;
-        claim = parts.0;
-        found = takes.found;
-        of = parts.2;
-        waits = confirmed.waits;
-        claimed = confirmed.claimed;
-        named = ap (λ c. name_in head.book c) (sym parts.2) ∙ row.named ∙ ap (λ (n : Name). (let o : Option Name = Some n in o)) (sym confirmed.named);
-      }))
+      let P : ℕ → Type 0 = λ m. IsDoneBy head m datagram campaign in (
+        sym parts.3,
+        subst P parts.3 (record {
+          row = takes.row;
+          claim = parts.0;
+          found = takes.found;
+          of = parts.2;
+          waits = confirmed.waits;
+          claimed = confirmed.claimed;
+          named = ap (λ c. name_in head.book c) (sym parts.2) ∙ row.named ∙ ap (λ (n : Name). (let o : Option Name = Some n in o)) (sym confirmed.named);
+        }),
+      )
   only_done from datagram told new (inr ignores) campaign meter done = absurd (nothing (sym ignores.1 ∙ done))
     where
       nothing : news.Nothing ≡ news.Done campaign meter → ⊥

@@ -1,9 +1,9 @@
 -- A row that ends is marked in the book and taken out: that keeps a head end.
-use Rattle.std.proofs.Common.{◌≡◌, ℕ, ◌==◌, nat_eq, not, false, List, length, Option, Some, None, option_map, Result, Ok, Err, IfOk, IsOk, refl, sym, ap, subst, ◌∙◌, ⊎_elim}
+use Rattle.std.proofs.Common.{◌≡◌, ℕ, ◌==◌, nat_eq, not, false, Option, Some, None, Result, Ok, Err, IfOk, IsOk, refl, sym, ap, subst, ◌∙◌, ⊎_elim}
 use Rattle.std.proofs.lemmas.Map.Made.{IsDistinct-keys_filter}
 use Rattle.std.proofs.lemmas.Bool.{cases_Bool, false≢true}
 use Rattle.std.proofs.lemmas.Bool.Decides.{Decides-eqb}
-use Rattle.fw_names.specs.Name.{Campaign, name_of}
+use Rattle.fw_names.specs.Name.{Campaign}
 use Rattle.fw_book.specs.declared.row.RowState.{RowState}
 use Rattle.fw_book.specs.declared.row.RowState.TheVariants.{Live}
 use Rattle.fw_book.specs.Rows.{is_live}
@@ -11,7 +11,7 @@ use Rattle.fw_book.specs.Contents.{Contents, state_in}
 use Rattle.fw_book.specs.Changes.{marked}
 use Rattle.fw_book.specs.Laws.{ImagesStay, StatesFollowCalls}
 use Rattle.fw_head.specs.Row.{Row}
-use Rattle.fw_head.specs.Head.{Rows, row_of, without_meter, IsRowOf, IsHead}
+use Rattle.fw_head.specs.Head.{Rows, row_of, without_meter, IsHead}
 use Rattle.fw_head.proofs.LiveRows.{same_found}
 use Rattle.fw_head.proofs.Ended.{elsewhere, taken_out}
 use Rattle.fw_head.proofs.States.{state_stays, marked_ends, row_stays}

@@ -1,5 +1,5 @@
 -- A campaign is opened in the book, and each of its meters has a new row: that keeps a head end.
-use Rattle.std.proofs.Common.{◌≡◌, ◌≢◌, ℕ, ◌==◌, nat_eq, Bool, true, false, cond, ◌||◌, ◌&&◌, ◌⊎◌, inl, inr, is_some, find, List, [], ◌∷◌, ◌++◌, map, length, Option, Some, None, option_map, refl, sym, ap, subst, ◌∙◌, ⊎_elim}
+use Rattle.std.proofs.Common.{◌≡◌, ◌≢◌, ℕ, ◌==◌, nat_eq, Bool, true, false, cond, ◌||◌, ◌&&◌, ◌⊎◌, inl, inr, is_some, find, List, [], ◌∷◌, ◌++◌, length, Option, Some, None, option_map, refl, sym, ap, subst, ◌∙◌, ⊎_elim}
 use Rattle.std.specs.List.{IsDistinct, AllByRecursion, list_any}
 use Rattle.std.specs.Map.{lookup, keys_of}
 use Rattle.std.specs.Option.{option_and_then}
@@ -11,8 +11,8 @@ use Rattle.fw_names.specs.Name.{Name, Campaign, name_of}
 use Rattle.fw_book.specs.declared.row.Row as book_row
 use Rattle.fw_book.specs.declared.row.RowState.{RowState}
 use Rattle.fw_book.specs.declared.row.RowState.TheVariants.{Live}
-use Rattle.fw_book.specs.Rows.{is_live, live_row, repeats, state_of, is_live_in}
-use Rattle.fw_book.specs.Contents.{Contents, Offered, offered_in, state_in, has_serial, is_busy}
+use Rattle.fw_book.specs.Rows.{is_live, repeats, state_of, is_live_in}
+use Rattle.fw_book.specs.Contents.{Contents, Offered, state_in, has_serial, is_busy}
 use Rattle.fw_book.specs.Changes.{Opens, opened}
 use Rattle.fw_book.specs.Laws.{OpeningOffers, StatesFollowCalls}
 use Rattle.fw_head.specs.Row.{Row, new_row}

@@ -1,15 +1,13 @@
 -- A tick of a row sends what a head end may send.
 use Rattle.std.proofs.Common.{◌≡◌, ℕ, ◌+◌, ◌<◌, ◌≤◌, suc, zero, not, Bool, List, [], ◌∷◌, All, length, map, slice_index_or, refl, sym, subst, ◌∙◌, arith}
 use Rattle.std.specs.List.{range_with_len}
-use Rattle.std.proofs.lemmas.List.Elements.{All-nil, All-cons, All-head, All-tail, All-take, All-filter, All-map, All-same}
+use Rattle.std.proofs.lemmas.List.Elements.{All-nil, All-cons, All-head, All-tail, All-take, All-filter, All-map}
 use Rattle.fw_names.specs.Name.{Name}
 use Rattle.fw_blocks.specs.Cuts.{Partition, IsWithinLimits, block_count}
 use Rattle.fw_blocks.specs.Members.{has, absent_numbers, window}
-use Rattle.fw_apdu.specs.Request.{request_bytes}
-use Rattle.fw_wrapper.specs.Wrapper.{wrapped}
 use Rattle.fw_client.specs.Ask as ask
 use Rattle.fw_client.specs.Ask.{Ask, request_of, kind_of}
-use Rattle.fw_client.specs.State.{State, asking, forgetting, invoke_byte}
+use Rattle.fw_client.specs.State.{State, asking, forgetting}
 use Rattle.fw_head.specs.declared.stage.Stage.{Stage}
 use Rattle.fw_head.specs.declared.stage.Stage.TheVariants.{Size, Enable, Start, Blocks, Check, Gaps, Verify, Poll, Info, Activate, Confirm, Done, Failed}
 use Rattle.fw_head.specs.Phase.{block_ask, asks_in, count}

@@ -65,9 +65,9 @@ carry_more f before after d c new whole numbers rest number others so_far next f
     let W : List (List ℕ) → Type 0 = λ ds. Carry whole (map f numbers) ds in
     let there = so_far (d.items ∷ later) (subst L (sym next) (fits, carries, subst S asked carry)) in
     let joined : bytes_of after ++ later ≡ bytes_of before ++ d.items ∷ later =
-        ap (λ (l : List (Vec ℕ)). bytes_of l ++ later) pushed
-        ∙ ap (λ (l : List (List ℕ)). l ++ later) (map-append (λ (datagram : Vec ℕ). datagram.items) before (d ∷ []))
-        ∙ append_assoc (bytes_of before) (d.items ∷ []) later in
+    ap (λ (l : List (Vec ℕ)). bytes_of l ++ later) pushed
+    ∙ ap (λ (l : List (List ℕ)). l ++ later) (map-append (λ (datagram : Vec ℕ). datagram.items) before (d ∷ []))
+    ∙ append_assoc (bytes_of before) (d.items ∷ []) later in
     subst W (sym joined) there
 
 -- asking leaves the meter that is asked

@@ -146,12 +146,7 @@ impl HeadCore {
     }
 
     /// The live row of a meter hears a datagram, and the book notes where it ended.
-    fn take(
-        &mut self,
-        alloc: Global,
-        from: MeterId,
-        datagram: &[u8],
-    ) -> Result<News, OutOfMemory>
+    fn take(&mut self, alloc: Global, from: MeterId, datagram: &[u8]) -> Result<News, OutOfMemory>
         ensures was { IsHead self.old }
         ensures heard { IfOk result (λ told. HeadHears self.old from datagram.now told self.new) }
         ensures same { OnErr result (self.new ≡ self.old) }
