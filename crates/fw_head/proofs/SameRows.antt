@@ -18,22 +18,17 @@ use Rattle.fw_head.specs.declared.news.RowNews.TheVariants as news
 use Rattle.fw_head.specs.Phase.{IsLive}
 use Rattle.fw_head.specs.Row.{Row, news_in, max_returns, new_row, ticked, tick_asks, moved, returned, settled, with_block, stepped, RowHears}
 use Rattle.fw_head.specs.Head.{Rows, RowsHear, row_of, at_meter, renewed, IsRowOf, IsHead}
+use Rattle.fw_head.specs.Laws.{IsOfSameGoal, RowKeepsGoal}
 use Rattle.fw_head.proofs.Heard.{kept_meter}
 use Rattle.fw_head.proofs.LiveRows.{same_found}
 use Rattle.fw_head.proofs.Sending.{same_meter}
 
--- two rows for one image and one meter
-pub record SameGoal (a b : Row) : Type 0 where
-  pub name : b.name ≡ a.name
-  pub size : b.size ≡ a.size
-  pub meter : b.client.meter ≡ a.client.meter
-
-itself : (row : Row) → SameGoal row row
+itself : (row : Row) → IsOfSameGoal row row
 itself row = record { name = refl; size = refl; meter = refl }
 
 -- and the second hasn't ended where the first hasn't
 pub record GoesOn (a b : Row) : Type 0 where
-  pub goal : SameGoal a b
+  pub goal : IsOfSameGoal a b
   pub going : IsLive a.stage → IsLive b.stage
 
 stays : (row : Row) → GoesOn row row
@@ -41,23 +36,23 @@ stays row = record { goal = itself row; going = λ live. live }
 
 -- ---- what a row does keeps its goal
 
-goal_moved : (row : Row) (stage : Stage) → SameGoal row (moved row stage)
+goal_moved : (row : Row) (stage : Stage) → IsOfSameGoal row (moved row stage)
 goal_moved row stage = record { name = refl; size = refl; meter = refl }
 
-goal_settled : (row : Row) (stage : Stage) → SameGoal row (settled row stage)
+goal_settled : (row : Row) (stage : Stage) → IsOfSameGoal row (settled row stage)
 goal_settled row (Blocks g known) = record { name = refl; size = refl; meter = refl }
 goal_settled row _ = record { name = refl; size = refl; meter = refl }
 
-goal_either : (b : Bool) (row x y : Row) → SameGoal row x → SameGoal row y → SameGoal row (if b then x else y)
+goal_either : (b : Bool) (row x y : Row) → IsOfSameGoal row x → IsOfSameGoal row y → IsOfSameGoal row (if b then x else y)
 goal_either true row x y h k = h
 goal_either false row x y h k = k
 
-goal_returned : (row : Row) (g : Partition) → SameGoal row (returned row g)
+goal_returned : (row : Row) (g : Partition) → IsOfSameGoal row (returned row g)
 goal_returned row g =
     goal_either (nat_lt (row.returns + 1) max_returns) row (record (moved row (Start g)) { returns = row.returns + 1 }) (moved row Failed)
     (record { name = refl; size = refl; meter = refl }) (goal_moved row Failed)
 
-goal_stepped : (row : Row) (step : Step) → SameGoal row (stepped row step)
+goal_stepped : (row : Row) (step : Step) → IsOfSameGoal row (stepped row step)
 goal_stepped row Stay = itself row
 goal_stepped row (Took n) = goal_settled row (with_block row.stage n)
 goal_stepped row (Move stage) = goal_moved row stage
@@ -67,7 +62,7 @@ pub goes_ticked : (row : Row) (image : List ℕ) (width : ℕ) → GoesOn row (t
 goes_ticked row image width =
     record { goal = record { name = refl; size = refl; meter = same_meter (forgetting row.client) (tick_asks row image width) }; going = λ live. live }
 
-pub goal_heard : (row next : Row) (datagram : List ℕ) (told : RowNews) → RowHears row datagram told next → SameGoal row next
+pub goal_heard : RowKeepsGoal
 goal_heard row next datagram told (inl takes) =
     let between : Row = record row { client = takes.client } in
     let kept = goal_stepped between takes.step in
