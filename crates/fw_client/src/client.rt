@@ -63,6 +63,13 @@ impl Client {
         }
     }
 
+    /// Whose client it is.
+    pub fn meter(&self) -> MeterId
+        ensures { result ≡ self.now.meter }
+    {
+        self.meter
+    }
+
     /// The same client once more. A caller that tries a step on it still has the client before the step.
     pub fn duplicate(&self) -> Client
         ensures { result ≡ self.now }

@@ -60,12 +60,11 @@ abbrev pub IsOwnNews : ℕ → Name → RowNews → Type 0
 IsOwnNews meter name (news.Done claim) = (claim.meter ≡ meter) × (claim.name ≡ name)
 IsOwnNews meter name told = Unit {0}
 
--- what every row keeps: its client asks its meter, the last return ends it, its image is cut within the limits, and once it is done its
--- own meter claimed its own name
-pub record IsRow (meter : ℕ) (name : Name) (size : ℕ) (stage : Stage) (client : State) (returns : ℕ) : Type 0 where
-  pub asks : client.meter ≡ meter
+-- what every row keeps: the last return ends it, its image is cut within the limits, and once it is done the meter of its client claimed
+-- its own name
+pub record IsRow (name : Name) (size : ℕ) (stage : Stage) (client : State) (returns : ℕ) : Type 0 where
   pub few : returns < max_returns
-  pub own : IsOwn meter name size stage
+  pub own : IsOwn client.meter name size stage
 
 -- each outstanding ask is one of the last so many
 abbrev pub AskedLately : State → ℕ → Type 0

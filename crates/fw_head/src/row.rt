@@ -21,7 +21,6 @@ const MAX_RETURNS: u8 = 8;
 /// A head end's work on one meter for one campaign.
 #[derive(Debug, Drop)]
 pub struct RowCore {
-    meter: MeterId,
     name: ImageName,
     size: u32,
     stage: Stage,
@@ -29,8 +28,8 @@ pub struct RowCore {
     returns: u8,
 }
 
-// Contracts see the row machine. The client asks the row's own meter, a row that is live returned fewer than eight times, its image is
-// cut within the limits with as many blocks known as it has, and a row that is done was claimed by its own meter under its own name.
+// Contracts see the row machine. A row that is live returned fewer than eight times, its image is cut within the limits with as many
+// blocks known as it has, and a row that is done was claimed by its own meter, its client's, under its own name.
 impl Model for RowCore {
     ghost use Rattle.std.specs.Coded.{codes};
     ghost use Rattle.std.specs.FinMap.{code};
@@ -44,7 +43,7 @@ impl Model for RowCore {
 
     ghost view = { λ r. record { name = r.name; size = r.size; stage = r.stage; client = r.client; returns = r.returns } };
 
-    ghost invariant = { λ r. IsRow r.meter r.name r.size r.stage r.client r.returns };
+    ghost invariant = { λ r. IsRow r.name r.size r.stage r.client r.returns };
 }
 
 impl RowCore {
@@ -57,7 +56,6 @@ impl RowCore {
         ensures { result ≡ new_row meter name size }
     {
         RowCore {
-            meter,
             name,
             size,
             stage: Stage::Size,
@@ -70,14 +68,14 @@ impl RowCore {
     pub fn restart(&mut self)
         ensures { self.new ≡ new_row self.old.client.meter self.old.name self.old.size }
     {
-        *self = RowCore::new(self.meter, self.name, self.size);
+        *self = RowCore::new(self.meter(), self.name, self.size);
     }
 
     /// Whose row it is.
     pub fn meter(&self) -> MeterId
         ensures { result ≡ self.now.client.meter }
     {
-        self.meter
+        self.client.meter()
     }
 
     /// The name of the image that the meter is to run.
