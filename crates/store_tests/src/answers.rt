@@ -129,16 +129,24 @@ struct Most(usize);
 
 impl Case for Most {
     fn told(&self, alloc: Global) -> Result<String, Fail> {
-        let mut bytes = vec![in alloc; 0; self.0.div_ceil(8)]?;
-        if let Some(first) = bytes.first_mut() {
-            *first = 0x80;
-        }
-        let blocks = bits(alloc, &bytes, self.0)?;
-        let outcome = Outcome::Got(Answer::TransferredBlocks(blocks));
+        let outcome = Outcome::Got(Answer::TransferredBlocks(first_of(alloc, self.0)?));
         let apdu = answer(alloc, &Invoke(0xc1), &outcome)?;
-        let front = hex::encode(alloc, apdu.as_slice().get(..10).unwrap_or(&[]))?;
-        Ok(format!(in alloc; "{} {front}", apdu.len())?)
+        front_text(alloc, apdu.as_slice())
     }
+}
+
+/// So many bits, of which the first is set.
+fn first_of(alloc: Global, len: usize) -> Result<Bits, Fail> {
+    let mut bytes = vec![in alloc; 0; len.div_ceil(8)]?;
+    if let Some(first) = bytes.first_mut() {
+        *first = 0x80;
+    }
+    bits(alloc, &bytes, len)
+}
+
+fn front_text(alloc: Global, apdu: &[u8]) -> Result<String, Fail> {
+    let front = hex::encode(alloc, apdu.get(..10).unwrap_or(&[]))?;
+    Ok(format!(in alloc; "{} {front}", apdu.len())?)
 }
 
 /// An invoke byte, which is repeated whole: the answer to a SET that is done.
