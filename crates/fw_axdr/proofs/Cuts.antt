@@ -1,8 +1,9 @@
 -- A byte string cut to so many bits, with zeros behind them.
-use Rattle.std.proofs.Common.{◌≡◌, ◌≢◌, ℕ, zero, suc, ◌+◌, ◌-◌, ◌*◌, ◌/◌, ◌%◌, ◌^◌, ◌<◌, ◌≤◌, Bool, false, cond, eqb, List, [], ◌∷◌, ◌++◌, length, get_or, set, take, drop, Some, refl, inl, inr, sym, ap, subst, ◌∙◌, arith}
+use Rattle.std.proofs.Common.{◌≡◌, ◌≢◌, ℕ, zero, suc, ◌+◌, ◌-◌, ◌*◌, ◌/◌, ◌%◌, ◌^◌, ◌<◌, ◌≤◌, Bool, false, cond, eqb, List, [], ◌∷◌, ◌++◌, length, get_or, set, take, drop, Some, refl, inl, inr, sym, ap, subst, ◌∙◌, arith, lit<}
 use Rattle.std.proofs.lemmas.List.{length-append, length-take, take-append-drop, append-nil, nil_from_length, length-drop, get_or-take, get_or_past}
 use Rattle.std.proofs.lemmas.Bool.{cases_lt}
 use Rattle.std.proofs.lemmas.Grind.{flat_map-append}
+use Rattle.std.proofs.Math.Nat.{mod-eq-sub-mul-div, mul-div-le, mul-div-mul_left, div-div-eq-div-mul}
 use Rattle.std.proofs.Math.Seq.{take-append-add, set-append_seam, take-length, drop-cons}
 use Rattle.std.specs.Prelude.{slice_get, All}
 use Rattle.std.proofs.lemmas.Option.{slice_get-get_or}
@@ -30,6 +31,12 @@ byte_again y h =
     let e1 = bit_worth (y / 1 % 2) 1 (omega arith) in
     omega (arith, e128, e64, e32, e16, e8, e4, e2, e1)
 
+-- a bit above those that are cut stays
+bit_cut : (y w m : ℕ) → 0 < w → (y - y % w) / (w * m) % 2 ≡ y / (w * m) % 2
+bit_cut y w m some =
+    let whole : y - y % w ≡ w * (y / w) = omega (arith, mod-eq-sub-mul-div y w, mul-div-le y w) in
+    ap (λ x. x % 2) (ap (λ x. x / (w * m)) whole ∙ mul-div-mul_left (y / w) m some ∙ div-div-eq-div-mul y w m)
+
 -- the first r bits of a byte stay, and are those of the byte with zeros behind them
 record Cut (y r cut : ℕ) : Type 0 where
   pub packs : byte_of (take r (byte_bits y)) ≡ cut
@@ -40,35 +47,25 @@ byte_cut zero y some few h = absurd (omega arith)
 byte_cut (suc zero) y some few h =
     let e128 = bit_worth (y / 128 % 2) 128 (omega arith) in
     let packs : byte_of (take 1 (byte_bits y)) ≡ y - y % 128 = omega (arith, e128) in
-    let q128 : (y - y % 128) / 128 % 2 ≡ y / 128 % 2 = omega arith in
-    record { packs = packs; same = rw (q128) refl }
+    record { packs = packs; same = rw (bit_cut y 128 1 (lit< tt)) refl }
 byte_cut (suc (suc zero)) y some few h =
     let e128 = bit_worth (y / 128 % 2) 128 (omega arith) in
     let e64 = bit_worth (y / 64 % 2) 64 (omega arith) in
     let packs : byte_of (take 2 (byte_bits y)) ≡ y - y % 64 = omega (arith, e128, e64) in
-    let q128 : (y - y % 64) / 128 % 2 ≡ y / 128 % 2 = omega arith in
-    let q64 : (y - y % 64) / 64 % 2 ≡ y / 64 % 2 = omega arith in
-    record { packs = packs; same = rw (q128, q64) refl }
+    record { packs = packs; same = rw (bit_cut y 64 2 (lit< tt), bit_cut y 64 1 (lit< tt)) refl }
 byte_cut (suc (suc (suc zero))) y some few h =
     let e128 = bit_worth (y / 128 % 2) 128 (omega arith) in
     let e64 = bit_worth (y / 64 % 2) 64 (omega arith) in
     let e32 = bit_worth (y / 32 % 2) 32 (omega arith) in
     let packs : byte_of (take 3 (byte_bits y)) ≡ y - y % 32 = omega (arith, e128, e64, e32) in
-    let q128 : (y - y % 32) / 128 % 2 ≡ y / 128 % 2 = omega arith in
-    let q64 : (y - y % 32) / 64 % 2 ≡ y / 64 % 2 = omega arith in
-    let q32 : (y - y % 32) / 32 % 2 ≡ y / 32 % 2 = omega arith in
-    record { packs = packs; same = rw (q128, q64, q32) refl }
+    record { packs = packs; same = rw (bit_cut y 32 4 (lit< tt), bit_cut y 32 2 (lit< tt), bit_cut y 32 1 (lit< tt)) refl }
 byte_cut (suc (suc (suc (suc zero)))) y some few h =
     let e128 = bit_worth (y / 128 % 2) 128 (omega arith) in
     let e64 = bit_worth (y / 64 % 2) 64 (omega arith) in
     let e32 = bit_worth (y / 32 % 2) 32 (omega arith) in
     let e16 = bit_worth (y / 16 % 2) 16 (omega arith) in
     let packs : byte_of (take 4 (byte_bits y)) ≡ y - y % 16 = omega (arith, e128, e64, e32, e16) in
-    let q128 : (y - y % 16) / 128 % 2 ≡ y / 128 % 2 = omega arith in
-    let q64 : (y - y % 16) / 64 % 2 ≡ y / 64 % 2 = omega arith in
-    let q32 : (y - y % 16) / 32 % 2 ≡ y / 32 % 2 = omega arith in
-    let q16 : (y - y % 16) / 16 % 2 ≡ y / 16 % 2 = omega arith in
-    record { packs = packs; same = rw (q128, q64, q32, q16) refl }
+    record { packs = packs; same = rw (bit_cut y 16 8 (lit< tt), bit_cut y 16 4 (lit< tt), bit_cut y 16 2 (lit< tt), bit_cut y 16 1 (lit< tt)) refl }
 byte_cut (suc (suc (suc (suc (suc zero))))) y some few h =
     let e128 = bit_worth (y / 128 % 2) 128 (omega arith) in
     let e64 = bit_worth (y / 64 % 2) 64 (omega arith) in
@@ -76,12 +73,7 @@ byte_cut (suc (suc (suc (suc (suc zero))))) y some few h =
     let e16 = bit_worth (y / 16 % 2) 16 (omega arith) in
     let e8 = bit_worth (y / 8 % 2) 8 (omega arith) in
     let packs : byte_of (take 5 (byte_bits y)) ≡ y - y % 8 = omega (arith, e128, e64, e32, e16, e8) in
-    let q128 : (y - y % 8) / 128 % 2 ≡ y / 128 % 2 = omega arith in
-    let q64 : (y - y % 8) / 64 % 2 ≡ y / 64 % 2 = omega arith in
-    let q32 : (y - y % 8) / 32 % 2 ≡ y / 32 % 2 = omega arith in
-    let q16 : (y - y % 8) / 16 % 2 ≡ y / 16 % 2 = omega arith in
-    let q8 : (y - y % 8) / 8 % 2 ≡ y / 8 % 2 = omega arith in
-    record { packs = packs; same = rw (q128, q64, q32, q16, q8) refl }
+    record { packs = packs; same = rw (bit_cut y 8 16 (lit< tt), bit_cut y 8 8 (lit< tt), bit_cut y 8 4 (lit< tt), bit_cut y 8 2 (lit< tt), bit_cut y 8 1 (lit< tt)) refl }
 byte_cut (suc (suc (suc (suc (suc (suc zero)))))) y some few h =
     let e128 = bit_worth (y / 128 % 2) 128 (omega arith) in
     let e64 = bit_worth (y / 64 % 2) 64 (omega arith) in
@@ -90,13 +82,7 @@ byte_cut (suc (suc (suc (suc (suc (suc zero)))))) y some few h =
     let e8 = bit_worth (y / 8 % 2) 8 (omega arith) in
     let e4 = bit_worth (y / 4 % 2) 4 (omega arith) in
     let packs : byte_of (take 6 (byte_bits y)) ≡ y - y % 4 = omega (arith, e128, e64, e32, e16, e8, e4) in
-    let q128 : (y - y % 4) / 128 % 2 ≡ y / 128 % 2 = omega arith in
-    let q64 : (y - y % 4) / 64 % 2 ≡ y / 64 % 2 = omega arith in
-    let q32 : (y - y % 4) / 32 % 2 ≡ y / 32 % 2 = omega arith in
-    let q16 : (y - y % 4) / 16 % 2 ≡ y / 16 % 2 = omega arith in
-    let q8 : (y - y % 4) / 8 % 2 ≡ y / 8 % 2 = omega arith in
-    let q4 : (y - y % 4) / 4 % 2 ≡ y / 4 % 2 = omega arith in
-    record { packs = packs; same = rw (q128, q64, q32, q16, q8, q4) refl }
+    record { packs = packs; same = rw (bit_cut y 4 32 (lit< tt), bit_cut y 4 16 (lit< tt), bit_cut y 4 8 (lit< tt), bit_cut y 4 4 (lit< tt), bit_cut y 4 2 (lit< tt), bit_cut y 4 1 (lit< tt)) refl }
 byte_cut (suc (suc (suc (suc (suc (suc (suc zero))))))) y some few h =
     let e128 = bit_worth (y / 128 % 2) 128 (omega arith) in
     let e64 = bit_worth (y / 64 % 2) 64 (omega arith) in
@@ -106,14 +92,7 @@ byte_cut (suc (suc (suc (suc (suc (suc (suc zero))))))) y some few h =
     let e4 = bit_worth (y / 4 % 2) 4 (omega arith) in
     let e2 = bit_worth (y / 2 % 2) 2 (omega arith) in
     let packs : byte_of (take 7 (byte_bits y)) ≡ y - y % 2 = omega (arith, e128, e64, e32, e16, e8, e4, e2) in
-    let q128 : (y - y % 2) / 128 % 2 ≡ y / 128 % 2 = omega arith in
-    let q64 : (y - y % 2) / 64 % 2 ≡ y / 64 % 2 = omega arith in
-    let q32 : (y - y % 2) / 32 % 2 ≡ y / 32 % 2 = omega arith in
-    let q16 : (y - y % 2) / 16 % 2 ≡ y / 16 % 2 = omega arith in
-    let q8 : (y - y % 2) / 8 % 2 ≡ y / 8 % 2 = omega arith in
-    let q4 : (y - y % 2) / 4 % 2 ≡ y / 4 % 2 = omega arith in
-    let q2 : (y - y % 2) / 2 % 2 ≡ y / 2 % 2 = omega arith in
-    record { packs = packs; same = rw (q128, q64, q32, q16, q8, q4, q2) refl }
+    record { packs = packs; same = rw (bit_cut y 2 64 (lit< tt), bit_cut y 2 32 (lit< tt), bit_cut y 2 16 (lit< tt), bit_cut y 2 8 (lit< tt), bit_cut y 2 4 (lit< tt), bit_cut y 2 2 (lit< tt), bit_cut y 2 1 (lit< tt)) refl }
 byte_cut (suc (suc (suc (suc (suc (suc (suc (suc zero)))))))) y some few h =
     let whole : y - y % 1 ≡ y = omega arith in
     record { packs = byte_again y h ∙ sym whole; same = ap byte_bits whole }

@@ -74,17 +74,17 @@ found_step : (b : Bool) (o : Offered) (r r' : Option Offered) (offer : Offered) 
 found_step true o r r' offer step h = absurd (false≢true (sym h))
 found_step false o r r' offer step h = step h
 
-found_last : (k : ℕ) (entries : List (ℕ × Offered)) (offer : Offered) → is_some (lookup (nat_eq k) entries) ≡ false → lookup (nat_eq k) (entries ++ (k, offer) ∷ []) ≡ Some offer
+pub found_last : (k : ℕ) (entries : List (ℕ × Offered)) (offer : Offered) → is_some (lookup (nat_eq k) entries) ≡ false → lookup (nat_eq k) (entries ++ (k, offer) ∷ []) ≡ Some offer
 found_last k [] offer h = cond-true (nat_eq k k) (Some offer) None ((Decides-eqb k k).1 refl)
 found_last k (x ∷ xs) offer h =
     found_step (nat_eq k x.0) x.1 (lookup (nat_eq k) xs) (lookup (nat_eq k) (xs ++ (k, offer) ∷ [])) offer (found_last k xs offer) h
 
 -- of another serial number nothing else is found
-passed_over : (j k : ℕ) (entries : List (ℕ × Offered)) (offer : Offered) → nat_eq j k ≡ false → lookup (nat_eq j) (entries ++ (k, offer) ∷ []) ≡ lookup (nat_eq j) entries
+pub passed_over : (j k : ℕ) (entries : List (ℕ × Offered)) (offer : Offered) → nat_eq j k ≡ false → lookup (nat_eq j) (entries ++ (k, offer) ∷ []) ≡ lookup (nat_eq j) entries
 passed_over j k [] offer differ = cond-false (nat_eq j k) (Some offer) None differ
 passed_over j k (x ∷ xs) offer differ = ap (λ (r : Option Offered). cond (nat_eq j x.0) (Some x.1) r) (passed_over j k xs offer differ)
 
-same_campaign : (a b : Campaign) → a.head ≡ b.head → a.serial ≡ b.serial → a ≡ b
+pub same_campaign : (a b : Campaign) → a.head ≡ b.head → a.serial ≡ b.serial → a ≡ b
 same_campaign a b heads serials =
     let at_head : ℕ → Campaign = λ n. record { head = n; serial = a.serial } in
     let at_serial : ℕ → Campaign = λ n. record { head = b.head; serial = n } in

@@ -5,3 +5,4 @@ pub mod Spellings
 pub mod Parts
 pub mod Images
 pub mod Walks
+pub mod States

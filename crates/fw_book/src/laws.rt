@@ -1,6 +1,6 @@
 //! Laws of a book, over the definitions alone.
 
-ghost use Rattle.fw_book.specs.Laws.{OneBook, ImagesStay, OpeningOffers, AdmittedOpens};
+ghost use Rattle.fw_book.specs.Laws.{OneBook, ImagesStay, OpeningOffers, StatesFollowCalls, AdmittedOpens};
 
 /// A byte string spells at most one book.
 pub fn one_book()
@@ -16,6 +16,12 @@ pub fn images_stay()
 /// An opening adds its image under its campaign, and nothing else.
 pub fn opening_offers()
     ensures { OpeningOffers }
+{}
+
+/// An opening makes its meters live in its campaign, a mark changes the state of one meter in one campaign, cancelling turns the live
+/// rows of one campaign, and no state changes beside these.
+pub fn states_follow()
+    ensures { StatesFollowCalls }
 {}
 
 /// An opening is refused for nothing exactly where the campaign is of the book's head end and its serial number is new, the image

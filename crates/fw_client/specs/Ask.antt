@@ -1,6 +1,6 @@
 -- Public vocabulary: what a client asks of a meter's Image transfer object and of its active firmware identifier, and the request
 -- that asks it (IEC 62056-6-2, class_id 18, version 0, and Data, class_id 1; IEC 62056-5-3).
-use Rattle.std.specs.Prelude.{◌≤◌, ℕ, ℤ, pos, true, List, [], ◌∷◌, length, Some}
+use Rattle.std.specs.Prelude.{◌≤◌, ℕ, ℤ, pos, true, List, length, Some}
 use Rattle.fw_axdr.specs.Value.{Value, structure, boolean, double_long_unsigned, octet_string, integer, none, more}
 use Rattle.fw_names.specs.Name.{Name, name_bytes}
 use Rattle.fw_apdu.specs.Cosem as cosem

@@ -63,6 +63,13 @@ impl Client {
         }
     }
 
+    /// Whose client it is.
+    pub fn meter(&self) -> MeterId
+        ensures { result ≡ self.now.meter }
+    {
+        self.meter
+    }
+
     /// The same client once more. A caller that tries a step on it still has the client before the step.
     pub fn duplicate(&self) -> Client
         ensures { result ≡ self.now }
@@ -87,6 +94,7 @@ impl Client {
             ≡ wrapped 1 1 (request_bytes (invoke_byte self.old.next) (request_of (ask_of ask.now)))) }
         ensures carries { IfOk result (λ datagram.
             CarriesRequest datagram.items (invoke_byte self.old.next) (request_of (ask_of ask.now))) }
+        ensures id { self.old.next < 16 }
         ensures asked { IfOk result (λ _. self.new ≡ asking self.old (kind_of (ask_of ask.now))) }
         ensures busy { (result ≡ Err AskError.AllBusy) ↔ IsSome (get self.old.asks self.old.next) }
         ensures same { OnErr result (self.new ≡ self.old) }

@@ -6,7 +6,7 @@ pub mod LiveRows
 pub mod SameRows
 pub mod Offers
 pub mod Ended
-pub mod Marks
+pub mod States
 pub mod Endings
 pub mod TakenOut
 pub mod RowLaws
@@ -15,3 +15,4 @@ pub mod Offered
 mod NewRows
 mod Cancelling
 mod Openings
+mod DoneIn

@@ -1,7 +1,8 @@
 -- A campaign is opened in the book, and each of its meters has a new row: that keeps a head end.
-use Rattle.std.proofs.Common.{◌≡◌, ℕ, ◌==◌, nat_eq, Bool, true, false, cond, ◌||◌, ◌&&◌, ◌⊎◌, inl, inr, is_some, List, [], ◌∷◌, ◌++◌, map, length, Option, Some, None, option_map, refl, sym, ap, subst, ◌∙◌, ⊎_elim}
+use Rattle.std.proofs.Common.{◌≡◌, ◌≢◌, ℕ, ◌==◌, nat_eq, Bool, true, false, cond, ◌||◌, ◌&&◌, ◌⊎◌, inl, inr, is_some, find, List, [], ◌∷◌, ◌++◌, length, Option, Some, None, option_map, refl, sym, ap, subst, ◌∙◌, ⊎_elim}
 use Rattle.std.specs.List.{IsDistinct, AllByRecursion, list_any}
 use Rattle.std.specs.Map.{lookup, keys_of}
+use Rattle.std.specs.Option.{option_and_then}
 use Rattle.std.proofs.lemmas.List.{map-append}
 use Rattle.std.proofs.lemmas.Map.Keys.{IsDistinct-head, IsDistinct-tail, IsDistinct-cons}
 use Rattle.std.proofs.lemmas.Bool.{cases_Bool, cond-true, cond-false, false≢true, or_parts, or_cases, or_left, or_right, and_from}
@@ -10,13 +11,14 @@ use Rattle.fw_names.specs.Name.{Name, Campaign, name_of}
 use Rattle.fw_book.specs.declared.row.Row as book_row
 use Rattle.fw_book.specs.declared.row.RowState.{RowState}
 use Rattle.fw_book.specs.declared.row.RowState.TheVariants.{Live}
-use Rattle.fw_book.specs.Rows.{is_live, live_row, repeats, state_of, is_live_in}
-use Rattle.fw_book.specs.Contents.{Contents, Offered, offered_in, state_in, has_serial, is_busy}
+use Rattle.fw_book.specs.Rows.{is_live, repeats, state_of, is_live_in}
+use Rattle.fw_book.specs.Contents.{Contents, Offered, state_in, has_serial, is_busy}
 use Rattle.fw_book.specs.Changes.{Opens, opened}
+use Rattle.fw_book.specs.Laws.{OpeningOffers, StatesFollowCalls}
 use Rattle.fw_head.specs.Row.{Row, new_row}
 use Rattle.fw_head.specs.Head.{Rows, row_of, new_rows, IsRowOf, IsHead}
 use Rattle.fw_head.proofs.LiveRows.{some_row}
-use Rattle.fw_head.proofs.Marks.{skipped, first, live_is, none_live, state_at}
+use Rattle.fw_head.proofs.States.{either_campaign, row_stays}
 use Rattle.fw_head.proofs.NewRows.{flipped}
 
 -- ---- entries behind others
@@ -69,26 +71,6 @@ none_state s e = cc
 abbrev among : List ℕ → ℕ → Bool
 among meters m = list_any (λ other. other == m) meters
 
--- each of its meters is live in it
-live_among : (meters : List ℕ) (m : ℕ) → among meters m ≡ true → state_of (map live_row meters) m ≡ Some Live
-live_among [] m there = absurd (false≢true there)
-live_among (meter ∷ meters) m there =
-    let rest : List book_row.Row = map live_row meters in
-    ⊎_elim
-    (λ here. first (live_row meter) rest m here)
-    (λ other. skipped (live_row meter) rest m other ∙ live_among meters m (ap (λ b. b || among meters m) (sym other) ∙ there))
-    (cases_Bool (meter == m))
-
--- and no other is
-among_live : (meters : List ℕ) (m : ℕ) (state : RowState) → state_of (map live_row meters) m ≡ Some state → among meters m ≡ true
-among_live [] m state found = absurd (none_state state found)
-among_live (meter ∷ meters) m state found =
-    let rest : List book_row.Row = map live_row meters in
-    ⊎_elim
-    (λ here. ap (λ b. b || among meters m) here)
-    (λ other. ap (λ b. b || among meters m) other ∙ among_live meters m state (sym (skipped (live_row meter) rest m other) ∙ found))
-    (cases_Bool (meter == m))
-
 -- a new row that is found is that of the meter
 new_found : (name : Name) (size : ℕ) (meters : List ℕ) (m : ℕ) (row : Row) → row_of (new_rows name size meters) m ≡ Some row → (row ≡ new_row m name size) × (among meters m ≡ true)
 new_found name size [] m row found = absurd (none_row row found)
@@ -120,6 +102,21 @@ new_there name size (meter ∷ meters) m there =
     (cases_Bool (nat_eq m meter))
 
 -- ---- a meter that is live in no campaign has no row
+
+skipped : (row : book_row.Row) (rows : List book_row.Row) (m : ℕ) → (row.meter == m) ≡ false → state_of (row ∷ rows) m ≡ state_of rows m
+skipped row rows m away = ap (λ (o : Option book_row.Row). option_map (λ (r : book_row.Row). r.state) o) (cond-false (row.meter == m) (Some row) (find (λ (r : book_row.Row). r.meter == m) rows) away)
+
+first : (row : book_row.Row) (rows : List book_row.Row) (m : ℕ) → (row.meter == m) ≡ true → state_of (row ∷ rows) m ≡ Some row.state
+first row rows m here = ap (λ (o : Option book_row.Row). option_map (λ (r : book_row.Row). r.state) o) (cond-true (row.meter == m) (Some row) (find (λ (r : book_row.Row). r.meter == m) rows) here)
+
+live_is : (s : RowState) → (let o : Option RowState = Some s in o ≡ Some Live) → s ≡ Live
+live_is s e = cc
+
+none_live : (let o : Option RowState = None in o ≡ Some Live) → ⊥
+none_live e = cc
+
+abbrev state_at : ℕ → Option Offered → Option RowState
+state_at m o = option_and_then (λ (offer : Offered). state_of offer.rows m) o
 
 live_in : (rows : List book_row.Row) (m : ℕ) → state_of rows m ≡ Some Live → is_live_in rows m ≡ true
 live_in [] m live = absurd (none_live live)
@@ -220,110 +217,83 @@ keys_new name size (meter ∷ meters) = ap (λ (ms : List ℕ). (let all : List 
 
 -- ---- the head end
 
--- a campaign of the book stays as it was
-same_offer : (book : Contents) (serial : ℕ) (image meters : List ℕ) (c : Campaign) (m : ℕ) (s : RowState) → state_in book c m ≡ Some s → offered_in (opened book serial image meters) c ≡ offered_in book c
-same_offer book serial image meters c m s found =
-    let new : Offered = record { image = image; rows = map live_row meters } in
-    let at = offer_at m s (c.head == book.head) (lookup (nat_eq c.serial) book.campaigns) found in
-    ap (λ (x : Option Offered). cond (c.head == book.head) x None)
-    (found_before c.serial book.campaigns ((serial, new) ∷ []) at.1.0 at.1.1 ∙ sym at.1.1)
-
-row_stays : (book : Contents) (serial : ℕ) (image meters : List ℕ) (m : ℕ) (row : Row) → IsRowOf book m row → IsRowOf (opened book serial image meters) m row
-row_stays book serial image meters m row is =
-    let same = same_offer book serial image meters row.name.campaign m Live is.live in
-    record {
-      asks = is.asks;
-      live = ap (λ (o : Option Offered). state_at m o) same ∙ is.live;
-      named = ap (λ (o : Option Offered). option_map (λ (bytes : List ℕ). name_of row.name.campaign bytes) (option_map (λ (offer : Offered). offer.image) o)) same ∙ is.named;
-      sized = ap (λ (o : Option Offered). option_map length (option_map (λ (offer : Offered). offer.image) o)) same ∙ is.sized;
-    }
-
--- what the new campaign offers
-new_offer : (book : Contents) (campaign : Campaign) (image meters : List ℕ) → campaign.head ≡ book.head → has_serial book campaign.serial ≡ false → offered_in (opened book campaign.serial image meters) campaign ≡ Some (record { image = image; rows = map live_row meters })
-new_offer book campaign image meters own new =
-    let offer : Offered = record { image = image; rows = map live_row meters } in
-    let es : List (ℕ × Offered) = (campaign.serial, offer) ∷ [] in
-    cond-true (campaign.head == book.head) (lookup (nat_eq campaign.serial) (book.campaigns ++ es)) None ((Decides-eqb campaign.head book.head).1 own)
-    ∙ found_behind campaign.serial book.campaigns es (is_none (lookup (nat_eq campaign.serial) book.campaigns) new)
-    ∙ cond-true (nat_eq campaign.serial campaign.serial) (Some offer) None ((Decides-eqb campaign.serial campaign.serial).1 refl)
-
-new_is : (book : Contents) (campaign : Campaign) (image meters : List ℕ) (m : ℕ) → campaign.head ≡ book.head → has_serial book campaign.serial ≡ false → among meters m ≡ true → IsRowOf (opened book campaign.serial image meters) m (new_row m (name_of campaign image) (length image))
-new_is book campaign image meters m own new there =
-    let offer = new_offer book campaign image meters own new in
-    record {
-      asks = refl;
-      live = ap (λ (o : Option Offered). state_at m o) offer ∙ live_among meters m there;
-      named = ap (λ (o : Option Offered). option_map (λ (bytes : List ℕ). name_of campaign bytes) (option_map (λ (x : Offered). x.image) o)) offer;
-      sized = ap (λ (o : Option Offered). option_map length (option_map (λ (x : Offered). x.image) o)) offer;
-    }
-
-same_campaign : (a b : Campaign) → a.head ≡ b.head → a.serial ≡ b.serial → a ≡ b
-same_campaign a b h s =
-    let at_head : ℕ → Campaign = λ n. record { head = n; serial = a.serial } in
-    let at_serial : ℕ → Campaign = λ n. record { head = b.head; serial = n } in
-    ap at_head h ∙ ap at_serial s
-
--- an entry that is alone is found by its own number
-one_entry : (k serial : ℕ) (new offer : Offered) → (let es : List (ℕ × Offered) = (serial, new) ∷ [] in lookup (nat_eq k) es) ≡ Some offer → (k ≡ serial) × (new ≡ offer)
-one_entry k serial new offer found =
-    ⊎_elim
-    (λ here. ((Decides-eqb k serial).0 here, some_offer new offer (sym (cond-true (nat_eq k serial) (Some new) None here) ∙ found)))
-    (λ away. absurd (none_offer offer (sym (cond-false (nat_eq k serial) (Some new) None away) ∙ found)))
-    (cases_Bool (nat_eq k serial))
+-- a campaign that the book hasn't has no states in it
+unknown : (book : Contents) (c : Campaign) (m : ℕ) → has_serial book c.serial ≡ false → state_in book c m ≡ None
+unknown book c m new = go (c.head == book.head) (lookup (nat_eq c.serial) book.campaigns) new
   where
-    some_offer : (a b : Offered) → (let o : Option Offered = Some a in o ≡ Some b) → a ≡ b
-    some_offer a b e = cc
+    go : (b : Bool) (x : Option Offered) → is_some x ≡ false → state_at m (cond b x None) ≡ None
+    go true None h = refl
+    go true (Some offer) h = absurd (false≢true (sym h))
+    go false x h = refl
 
-    none_offer : (offer : Offered) → (let o : Option Offered = None in o ≡ Some offer) → ⊥
-    none_offer offer e = cc
+module _ (follow : StatesFollowCalls) (offers : OpeningOffers) where
+  new_is : (book : Contents) (campaign : Campaign) (image meters : List ℕ) (m : ℕ) → Opens book campaign image meters → among meters m ≡ true → IsRowOf (opened book campaign.serial image meters) m (new_row m (name_of campaign image) (length image))
+  new_is book campaign image meters m o there =
+      let adds = offers book campaign image meters o.own o.serial_new in
+      let goes = (follow book campaign o.own).at_opening image meters o.serial_new in
+      record {
+        asks = refl;
+        live = goes.own m ∙ cond-true (among meters m) (Some Live) None there;
+        named = ap (λ (x : Option (List ℕ)). option_map (λ (bytes : List ℕ). name_of campaign bytes) x) adds.own;
+        sized = ap (λ (x : Option (List ℕ)). option_map length x) adds.own;
+        going = tt;
+      }
 
--- a meter that is live then has a row
-live_has_row : (book : Contents) (width : ℕ) (rows : Rows) (campaign : Campaign) (image meters : List ℕ) (c : Campaign) (m : ℕ) → Opens book campaign image meters → IsHead (record { book = book; width = width; rows = rows }) → state_in (opened book campaign.serial image meters) c m ≡ Some Live → (row : Row) × (row_of (rows ++ new_rows (name_of campaign image) (length image) meters) m ≡ Some row) × (row.name.campaign ≡ c)
-live_has_row book width rows campaign image meters c m o is live =
-    let name = name_of campaign image in
-    let new : Offered = record { image = image; rows = map live_row meters } in
-    let es : List (ℕ × Offered) = (campaign.serial, new) ∷ [] in
-    let at = offer_at m Live (c.head == book.head) (lookup (nat_eq c.serial) (book.campaigns ++ es)) live in
-    ⊎_elim
-    (λ none.
-    let one = one_entry c.serial campaign.serial new at.1.0 (sym (found_behind c.serial book.campaigns es none) ∙ at.1.1) in
-    let there = among_live meters m Live (ap (λ (x : Offered). state_of x.rows m) one.1 ∙ at.1.2) in
-    let free : row_of rows m ≡ None = one_of (λ n. row_of rows n ≡ None) meters m (all_free book width rows meters is o.meters_free) there in (
-      new_row m name (length image),
-      found_behind m rows (new_rows name (length image) meters) free ∙ new_there name (length image) meters m there,
-      same_campaign campaign c (o.own ∙ sym ((Decides-eqb c.head book.head).0 at.0)) (sym one.0),
-    ))
-    (λ found.
-    let before = found_before c.serial book.campaigns es found.0 found.1 in
-    let was_live : state_in book c m ≡ Some Live =
-    ap (λ (x : Option Offered). state_at m (cond (c.head == book.head) x None)) (found.1 ∙ sym before) ∙ live in
-    let was = is.of_rows c m was_live in
-    (was.0, found_before m rows (new_rows name (length image) meters) was.0 was.1, was.2))
-    (either (lookup (nat_eq c.serial) book.campaigns))
+  old_is : (book : Contents) (campaign : Campaign) (image meters : List ℕ) (m : ℕ) (row : Row) → Opens book campaign image meters → IsRowOf book m row → IsRowOf (opened book campaign.serial image meters) m row
+  old_is book campaign image meters m row o is =
+      let other : row.name.campaign ≢ campaign = λ same. none_state Live (sym (ap (λ c. state_in book c m) same ∙ unknown book campaign m o.serial_new) ∙ is.live) in
+      row_stays book (opened book campaign.serial image meters) m row
+      (((follow book campaign o.own).at_opening image meters o.serial_new).others row.name.campaign m other)
+      ((offers book campaign image meters o.own o.serial_new).others row.name.campaign other) is
 
-head_opened : (book : Contents) (width : ℕ) (rows : Rows) (campaign : Campaign) (image meters : List ℕ) → Opens book campaign image meters → IsHead (record { book = book; width = width; rows = rows }) → IsHead (record { book = opened book campaign.serial image meters; width = width; rows = rows ++ new_rows (name_of campaign image) (length image) meters })
-head_opened book width rows campaign image meters o is =
-    let name = name_of campaign image in
-    let added = new_rows name (length image) meters in
-    let P : ℕ → Row → Type 0 = λ m r. IsRowOf (opened book campaign.serial image meters) m r in
-    let Q : List ℕ → Type 0 = λ ks. IsDistinct nat_eq ks in
-    record {
-      of_book = λ m r at.
-          ⊎_elim
-          (λ none.
-          let found = new_found name (length image) meters m r (sym (found_behind m rows added none) ∙ at) in
-          subst (P m) (sym found.0) (new_is book campaign image meters m o.own o.serial_new found.1))
-          (λ was.
-          let same : was.0 ≡ r = some_row was.0 r (sym (found_before m rows added was.0 was.1) ∙ at) in
-          subst (P m) same (row_stays book campaign.serial image meters m was.0 (is.of_book m was.0 was.1)))
-          (either (row_of rows m));
-      of_rows = λ c m live. live_has_row book width rows campaign image meters c m o is live;
-      once = subst Q (sym (map-append (λ (entry : ℕ × Row). entry.0) rows added ∙ ap (λ (ks : List ℕ). keys_of rows ++ ks) (keys_new name (length image) meters))) (all_once book width rows campaign image meters is o);
-    }
+  -- a meter that is live then has a row
+  live_has_row : (book : Contents) (width : ℕ) (rows : Rows) (campaign : Campaign) (image meters : List ℕ) (c : Campaign) (m : ℕ) → Opens book campaign image meters → IsHead (record { book = book; width = width; rows = rows }) → state_in (opened book campaign.serial image meters) c m ≡ Some Live → (row : Row) × (row_of (rows ++ new_rows (name_of campaign image) (length image) meters) m ≡ Some row) × (row.name.campaign ≡ c)
+  live_has_row book width rows campaign image meters c m o is live =
+      let name = name_of campaign image in
+      let goes = (follow book campaign o.own).at_opening image meters o.serial_new in
+      ⊎_elim
+      (λ same.
+      let there : among meters m ≡ true = among_of meters m (sym (goes.own m) ∙ ap (λ x. state_in (opened book campaign.serial image meters) x m) (sym (same ∙ whole)) ∙ live) in
+      let free : row_of rows m ≡ None = one_of (λ n. row_of rows n ≡ None) meters m (all_free book width rows meters is o.meters_free) there in
+      (new_row m name (length image), found_behind m rows (new_rows name (length image) meters) free ∙ new_there name (length image) meters m there, sym (same ∙ whole)))
+      (λ other.
+      let was = is.of_rows c m (sym (goes.others c m (λ same. other (same ∙ sym whole))) ∙ live) in
+      (was.0, found_before m rows (new_rows name (length image) meters) was.0 was.1, was.2))
+      (either_campaign c book campaign.serial)
+    where
+      whole : record { head = book.head; serial = campaign.serial } ≡ campaign
+      whole = ap (λ n. (let x : Campaign = record { head = n; serial = campaign.serial } in x)) (sym o.own)
 
--- the same for a book and rows that equal these
-pub head_opened_by : (book new : Contents) (width : ℕ) (rows all : Rows) (campaign : Campaign) (image meters : List ℕ) → Opens book campaign image meters → new ≡ opened book campaign.serial image meters → all ≡ rows ++ new_rows (name_of campaign image) (length image) meters → IsHead (record { book = book; width = width; rows = rows }) → IsHead (record { book = new; width = width; rows = all })
-head_opened_by book new width rows all campaign image meters o entered add is =
-    let P : Contents → Type 0 = λ b. IsHead (record { book = b; width = width; rows = all }) in
-    let Q : Rows → Type 0 = λ rs. IsHead (record { book = opened book campaign.serial image meters; width = width; rows = rs }) in
-    subst P (sym entered) (subst Q (sym add) (head_opened book width rows campaign image meters o is))
+      among_of : (meters : List ℕ) (m : ℕ) → cond (among meters m) (Some Live) None ≡ Some Live → among meters m ≡ true
+      among_of meters m e = go (among meters m) refl e
+        where
+          go : (b : Bool) → among meters m ≡ b → cond b (Some Live) None ≡ Some Live → among meters m ≡ true
+          go true is e = is
+          go false is e = absurd (none_live e)
+
+  head_opened : (book : Contents) (width : ℕ) (rows : Rows) (campaign : Campaign) (image meters : List ℕ) → Opens book campaign image meters → IsHead (record { book = book; width = width; rows = rows }) → IsHead (record { book = opened book campaign.serial image meters; width = width; rows = rows ++ new_rows (name_of campaign image) (length image) meters })
+  head_opened book width rows campaign image meters o is =
+      let name = name_of campaign image in
+      let added = new_rows name (length image) meters in
+      let P : ℕ → Row → Type 0 = λ m r. IsRowOf (opened book campaign.serial image meters) m r in
+      let Q : List ℕ → Type 0 = λ ks. IsDistinct nat_eq ks in
+      record {
+        of_book = λ m r at.
+            ⊎_elim
+            (λ none.
+            let found = new_found name (length image) meters m r (sym (found_behind m rows added none) ∙ at) in
+            subst (P m) (sym found.0) (new_is book campaign image meters m o found.1))
+            (λ was.
+            let same : was.0 ≡ r = some_row was.0 r (sym (found_before m rows added was.0 was.1) ∙ at) in
+            subst (P m) same (old_is book campaign image meters m was.0 o (is.of_book m was.0 was.1)))
+            (either (row_of rows m));
+        of_rows = λ c m live. live_has_row book width rows campaign image meters c m o is live;
+        once = subst Q (sym (map-append (λ (entry : ℕ × Row). entry.0) rows added ∙ ap (λ (ks : List ℕ). keys_of rows ++ ks) (keys_new name (length image) meters))) (all_once book width rows campaign image meters is o);
+      }
+
+  -- the same for a book and rows that equal these
+  pub head_opened_by : (book new : Contents) (width : ℕ) (rows all : Rows) (campaign : Campaign) (image meters : List ℕ) → Opens book campaign image meters → new ≡ opened book campaign.serial image meters → all ≡ rows ++ new_rows (name_of campaign image) (length image) meters → IsHead (record { book = book; width = width; rows = rows }) → IsHead (record { book = new; width = width; rows = all })
+  head_opened_by book new width rows all campaign image meters o entered add is =
+      let P : Contents → Type 0 = λ b. IsHead (record { book = b; width = width; rows = all }) in
+      let Q : Rows → Type 0 = λ rs. IsHead (record { book = opened book campaign.serial image meters; width = width; rows = rs }) in
+      subst P (sym entered) (subst Q (sym add) (head_opened book width rows campaign image meters o is))

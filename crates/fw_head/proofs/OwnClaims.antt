@@ -13,7 +13,6 @@ use Rattle.fw_head.specs.declared.phase.Phase.TheVariants as phase
 use Rattle.fw_head.specs.declared.stage.Stage.{Stage}
 use Rattle.fw_head.specs.declared.stage.Stage.TheVariants.{Size, Enable, Start, Blocks, Check, Gaps, Verify, Poll, Info, Activate, Confirm, Done, Failed}
 use Rattle.fw_head.specs.declared.answers.Step.{Step}
-use Rattle.fw_head.specs.declared.answers.Step.TheVariants.{Stay, Took, Move, Return}
 use Rattle.fw_head.specs.Phase.{count, phase_of, rows, otherwise, First, Leads}
 use Rattle.fw_head.specs.Inside.{StageHolds, StepHolds, IsCutOf, IsClaimOf, IsOwn, IsOwnStep, IsOwnNews}
 use Rattle.fw_head.specs.declared.news.RowNews.{RowNews}

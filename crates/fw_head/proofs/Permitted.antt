@@ -1,20 +1,18 @@
 -- A tick of a row sends what a head end may send.
 use Rattle.std.proofs.Common.{◌≡◌, ℕ, ◌+◌, ◌<◌, ◌≤◌, suc, zero, not, Bool, List, [], ◌∷◌, All, length, map, slice_index_or, refl, sym, subst, ◌∙◌, arith}
 use Rattle.std.specs.List.{range_with_len}
-use Rattle.std.proofs.lemmas.List.Elements.{All-nil, All-cons, All-head, All-tail, All-take, All-filter, All-map, All-same}
+use Rattle.std.proofs.lemmas.List.Elements.{All-nil, All-cons, All-head, All-tail, All-take, All-filter, All-map}
 use Rattle.fw_names.specs.Name.{Name}
 use Rattle.fw_blocks.specs.Cuts.{Partition, IsWithinLimits, block_count}
 use Rattle.fw_blocks.specs.Members.{has, absent_numbers, window}
-use Rattle.fw_apdu.specs.Request.{request_bytes}
-use Rattle.fw_wrapper.specs.Wrapper.{wrapped}
 use Rattle.fw_client.specs.Ask as ask
 use Rattle.fw_client.specs.Ask.{Ask, request_of, kind_of}
-use Rattle.fw_client.specs.State.{State, asking, forgetting, invoke_byte}
+use Rattle.fw_client.specs.State.{State, asking, forgetting}
 use Rattle.fw_head.specs.declared.stage.Stage.{Stage}
 use Rattle.fw_head.specs.declared.stage.Stage.TheVariants.{Size, Enable, Start, Blocks, Check, Gaps, Verify, Poll, Info, Activate, Confirm, Done, Failed}
 use Rattle.fw_head.specs.Phase.{block_ask, asks_in, count}
-use Rattle.fw_head.specs.Row.{Row, MaySend, IsPermitted, datagrams, sends, tick_asks}
-use Rattle.fw_head.specs.Inside.{IsCutOf, IsOwn}
+use Rattle.fw_head.specs.Row.{Row, MaySend, IsPermitted, tick_asks}
+use Rattle.fw_head.specs.Inside.{IsCutOf, IsOwn, Carry}
 
 -- ---- the numbers of a window are below the count
 
@@ -65,20 +63,17 @@ may_in meter name size image width Failed own long = All-nil (MaySend name image
 
 -- ---- each datagram
 
-all_permitted : (name : Name) (image : List ℕ) (c : State) (asks : List Ask) → All (MaySend name image) asks → All (IsPermitted name image) (datagrams c asks)
-all_permitted name image c [] may = All-nil (IsPermitted name image)
-all_permitted name image c (asked ∷ asks) may =
-    All-cons (IsPermitted name image) (wrapped 1 1 (request_bytes (invoke_byte c.next) (request_of asked))) (datagrams (asking c (kind_of asked)) asks)
-    (record { asked = asked; id = c.next; may = All-head (MaySend name image) asked asks may; carries = refl })
-    (all_permitted name image (asking c (kind_of asked)) asks (All-tail (MaySend name image) asked asks may))
+all_permitted : (name : Name) (image : List ℕ) (c : State) (asks : List Ask) (sent : List (List ℕ)) → All (MaySend name image) asks → Carry c asks sent → All (IsPermitted name image) sent
+all_permitted name image c [] [] may carry = All-nil (IsPermitted name image)
+all_permitted name image c [] (datagram ∷ datagrams) may carry = absurd carry
+all_permitted name image c (asked ∷ asks) [] may carry = absurd carry
+all_permitted name image c (asked ∷ asks) (datagram ∷ datagrams) may carry =
+    All-cons (IsPermitted name image) datagram datagrams
+    (record { asked = asked; id = c.next; is_id = carry.0; may = All-head (MaySend name image) asked asks may; carries = carry.1 })
+    (all_permitted name image (asking c (kind_of asked)) asks datagrams (All-tail (MaySend name image) asked asks may) carry.2)
 
 -- what a row sends of its image
-pub tick_permitted : (meter : ℕ) (row : Row) (image : List ℕ) (width : ℕ) (sent : List (List ℕ)) → IsOwn meter row.name row.size row.stage → sent ≡ sends row image width → length image ≡ row.size → All (IsPermitted row.name image) sent
-tick_permitted meter row image width sent own is long =
-    All-same (IsPermitted row.name image) sent (sends row image width) is
-    (all_permitted row.name image (forgetting row.client) (tick_asks row image width) (may_in meter row.name row.size image width row.stage own long))
-
--- the same of a row that equals it
-pub tick_permitted_of : (meter : ℕ) (inside row : Row) (image : List ℕ) (width : ℕ) (sent : List (List ℕ)) → inside ≡ row → IsOwn meter inside.name inside.size inside.stage → sent ≡ sends row image width → length image ≡ row.size → All (IsPermitted row.name image) sent
-tick_permitted_of meter inside row image width sent same own is long =
-    tick_permitted meter row image width sent (subst (λ (r : Row). IsOwn meter r.name r.size r.stage) same own) is long
+pub tick_permitted : (meter : ℕ) (inside row : Row) (image : List ℕ) (width : ℕ) (sent : List (List ℕ)) → inside ≡ row → IsOwn meter inside.name inside.size inside.stage → Carry (forgetting row.client) (tick_asks row image width) sent → length image ≡ row.size → All (IsPermitted row.name image) sent
+tick_permitted meter inside row image width sent same own carry long =
+    all_permitted row.name image (forgetting row.client) (tick_asks row image width) sent
+    (may_in meter row.name row.size image width row.stage (subst (λ (r : Row). IsOwn meter r.name r.size r.stage) same own) long) carry

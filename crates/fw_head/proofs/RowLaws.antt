@@ -11,7 +11,7 @@ use Rattle.fw_client.specs.declared.heard.Heard.TheVariants as heard
 use Rattle.fw_head.specs.declared.phase.Phase.{Phase}
 use Rattle.fw_head.specs.declared.phase.Phase.TheVariants as phase
 use Rattle.fw_head.specs.declared.stage.Stage.{Stage}
-use Rattle.fw_head.specs.declared.stage.Stage.TheVariants.{Size, Start, Blocks, Check, Info, Confirm, Done, Failed}
+use Rattle.fw_head.specs.declared.stage.Stage.TheVariants.{Start, Blocks, Check, Confirm, Done, Failed}
 use Rattle.fw_head.specs.declared.answers.Step.{Step}
 use Rattle.fw_head.specs.declared.answers.Step.TheVariants.{Stay, Took, Move, Return}
 use Rattle.fw_head.specs.declared.news.RowNews.{RowNews}

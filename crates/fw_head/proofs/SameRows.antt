@@ -10,54 +10,59 @@ use Rattle.fw_client.specs.State.{forgetting}
 use Rattle.fw_book.specs.declared.row.RowState.TheVariants as state
 use Rattle.fw_book.specs.Contents.{Contents, state_in}
 use Rattle.fw_head.specs.declared.stage.Stage.{Stage}
-use Rattle.fw_head.specs.declared.stage.Stage.TheVariants.{Start, Blocks, Failed}
+use Rattle.fw_head.specs.declared.stage.Stage.TheVariants.{Start, Blocks, Done, Failed}
 use Rattle.fw_head.specs.declared.answers.Step.{Step}
 use Rattle.fw_head.specs.declared.answers.Step.TheVariants.{Stay, Took, Move, Return}
 use Rattle.fw_head.specs.declared.news.RowNews.{RowNews}
-use Rattle.fw_head.specs.Row.{Row, max_returns, new_row, ticked, tick_asks, moved, returned, settled, with_block, stepped, RowHears}
+use Rattle.fw_head.specs.declared.news.RowNews.TheVariants as news
+use Rattle.fw_head.specs.Phase.{IsLive}
+use Rattle.fw_head.specs.Row.{Row, news_in, max_returns, new_row, ticked, tick_asks, moved, returned, settled, with_block, stepped, RowHears}
 use Rattle.fw_head.specs.Head.{Rows, RowsHear, row_of, at_meter, renewed, IsRowOf, IsHead}
+use Rattle.fw_head.specs.Laws.{IsOfSameGoal, RowKeepsGoal}
 use Rattle.fw_head.proofs.Heard.{kept_meter}
 use Rattle.fw_head.proofs.LiveRows.{same_found}
 use Rattle.fw_head.proofs.Sending.{same_meter}
 
--- two rows for one image and one meter
-pub record SameGoal (a b : Row) : Type 0 where
-  pub name : b.name ≡ a.name
-  pub size : b.size ≡ a.size
-  pub meter : b.client.meter ≡ a.client.meter
-
-itself : (row : Row) → SameGoal row row
+itself : (row : Row) → IsOfSameGoal row row
 itself row = record { name = refl; size = refl; meter = refl }
+
+-- and the second hasn't ended where the first hasn't
+pub record GoesOn (a b : Row) : Type 0 where
+  pub goal : IsOfSameGoal a b
+  pub going : IsLive a.stage → IsLive b.stage
+
+stays : (row : Row) → GoesOn row row
+stays row = record { goal = itself row; going = λ live. live }
 
 -- ---- what a row does keeps its goal
 
-goal_moved : (row : Row) (stage : Stage) → SameGoal row (moved row stage)
+goal_moved : (row : Row) (stage : Stage) → IsOfSameGoal row (moved row stage)
 goal_moved row stage = record { name = refl; size = refl; meter = refl }
 
-goal_settled : (row : Row) (stage : Stage) → SameGoal row (settled row stage)
+goal_settled : (row : Row) (stage : Stage) → IsOfSameGoal row (settled row stage)
 goal_settled row (Blocks g known) = record { name = refl; size = refl; meter = refl }
 goal_settled row _ = record { name = refl; size = refl; meter = refl }
 
-goal_either : (b : Bool) (row x y : Row) → SameGoal row x → SameGoal row y → SameGoal row (if b then x else y)
+goal_either : (b : Bool) (row x y : Row) → IsOfSameGoal row x → IsOfSameGoal row y → IsOfSameGoal row (if b then x else y)
 goal_either true row x y h k = h
 goal_either false row x y h k = k
 
-goal_returned : (row : Row) (g : Partition) → SameGoal row (returned row g)
+goal_returned : (row : Row) (g : Partition) → IsOfSameGoal row (returned row g)
 goal_returned row g =
     goal_either (nat_lt (row.returns + 1) max_returns) row (record (moved row (Start g)) { returns = row.returns + 1 }) (moved row Failed)
     (record { name = refl; size = refl; meter = refl }) (goal_moved row Failed)
 
-goal_stepped : (row : Row) (step : Step) → SameGoal row (stepped row step)
+goal_stepped : (row : Row) (step : Step) → IsOfSameGoal row (stepped row step)
 goal_stepped row Stay = itself row
 goal_stepped row (Took n) = goal_settled row (with_block row.stage n)
 goal_stepped row (Move stage) = goal_moved row stage
 goal_stepped row (Return g) = goal_returned row g
 
-pub goal_ticked : (row : Row) (image : List ℕ) (width : ℕ) → SameGoal row (ticked row image width)
-goal_ticked row image width =
-    record { name = refl; size = refl; meter = same_meter (forgetting row.client) (tick_asks row image width) }
+pub goes_ticked : (row : Row) (image : List ℕ) (width : ℕ) → GoesOn row (ticked row image width)
+goes_ticked row image width =
+    record { goal = record { name = refl; size = refl; meter = same_meter (forgetting row.client) (tick_asks row image width) }; going = λ live. live }
 
-pub goal_heard : (row next : Row) (datagram : List ℕ) (told : RowNews) → RowHears row datagram told next → SameGoal row next
+pub goal_heard : RowKeepsGoal
 goal_heard row next datagram told (inl takes) =
     let between : Row = record row { client = takes.client } in
     let kept = goal_stepped between takes.step in
@@ -73,16 +78,34 @@ goal_heard row next datagram told (inr ignores) =
       meter = ap (λ (r : Row). r.client.meter) ignores.2;
     }
 
+-- what tells nothing of an end leaves the row going
+abbrev pub TellsNoEnd : RowNews → Type 0
+TellsNoEnd (news.Done claim) = ⊥
+TellsNoEnd news.Failed = ⊥
+TellsNoEnd told = Unit {0}
+
+no_end : (stage : Stage) (told : RowNews) → told ≡ news_in stage → TellsNoEnd told → IsLive stage
+no_end (Done claim) told is none = subst TellsNoEnd is none
+no_end Failed told is none = subst TellsNoEnd is none
+no_end stage told is none = tt
+
+goes_heard : (row next : Row) (datagram : List ℕ) (told : RowNews) → RowHears row datagram told next → TellsNoEnd told → GoesOn row next
+goes_heard row next datagram told (inl takes) none =
+    record { goal = goal_heard row next datagram told (inl takes); going = λ live. no_end next.stage told takes.told_is none }
+goes_heard row next datagram told (inr ignores) none =
+    let P : Row → Type 0 = λ r. GoesOn row r in
+    subst P (sym ignores.2) (stays row)
+
 -- ---- rows of the same meters for the same goals
 
 abbrev pub Agree : Option Row → Option Row → Type 0
-Agree (Some a) (Some b) = SameGoal a b
+Agree (Some a) (Some b) = GoesOn a b
 Agree None None = Unit {0}
 Agree _ _ = ⊥
 
 agree_itself : (o : Option Row) → Agree o o
 agree_itself None = tt
-agree_itself (Some row) = itself row
+agree_itself (Some row) = stays row
 
 agree_same : (a b : Option Row) → a ≡ b → Agree a b
 agree_same a b e =
@@ -95,7 +118,7 @@ agree_along a a' b b' p q h =
     let Q : Option Row → Type 0 = λ o. Agree a' o in
     subst P (sym p) (subst Q (sym q) h)
 
-pub agree_at : (meter : ℕ) (change : Row → Row) (rows : Rows) → ((row : Row) → row_of rows meter ≡ Some row → SameGoal row (change row)) → (m : ℕ) → Agree (row_of rows m) (row_of (at_meter meter change rows) m)
+pub agree_at : (meter : ℕ) (change : Row → Row) (rows : Rows) → ((row : Row) → row_of rows meter ≡ Some row → GoesOn row (change row)) → (m : ℕ) → Agree (row_of rows m) (row_of (at_meter meter change rows) m)
 agree_at meter change [] keeps m = tt
 agree_at meter change (entry ∷ entries) keeps m =
     let rows : Rows = entry ∷ entries in
@@ -124,7 +147,7 @@ agree_at meter change (entry ∷ entries) keeps m =
     (λ it. agree_along _ (Some entry.1) _ (Some entry.1)
     (cond-true (nat_eq m entry.0) (Some entry.1) (lookup (nat_eq m) entries) it)
     (written ∙ cond-true (nat_eq m entry.0) (Some entry.1) (lookup (nat_eq m) (at_meter meter change entries)) it)
-    (itself entry.1))
+    (stays entry.1))
     (λ other. agree_along _ (lookup (nat_eq m) entries) _ (lookup (nat_eq m) (at_meter meter change entries))
     (cond-false (nat_eq m entry.0) (Some entry.1) (lookup (nat_eq m) entries) other)
     (written ∙ cond-false (nat_eq m entry.0) (Some entry.1) (lookup (nat_eq m) (at_meter meter change entries)) other)
@@ -140,7 +163,7 @@ agree_renewed (entry ∷ entries) m =
     (λ it. agree_along _ (Some entry.1) _ (Some new)
     (cond-true (nat_eq m entry.0) (Some entry.1) (lookup (nat_eq m) entries) it)
     (cond-true (nat_eq m entry.0) (Some new) (lookup (nat_eq m) (renewed entries)) it)
-    (record { name = refl; size = refl; meter = refl }))
+    (record { goal = record { name = refl; size = refl; meter = refl }; going = λ live. tt }))
     (λ other. agree_along _ (lookup (nat_eq m) entries) _ (lookup (nat_eq m) (renewed entries))
     (cond-false (nat_eq m entry.0) (Some entry.1) (lookup (nat_eq m) entries) other)
     (cond-false (nat_eq m entry.0) (Some new) (lookup (nat_eq m) (renewed entries)) other)
@@ -167,22 +190,24 @@ pub keys_heard : (old new : Rows) (meter : ℕ) (datagram : List ℕ) (told : Ro
 keys_heard old new meter datagram told (inl x) = ap (λ (rs : Rows). keys_of rs) x.4 ∙ keys_at meter (λ was. x.1) old
 keys_heard old new meter datagram told (inr x) = ap (λ (rs : Rows). keys_of rs) x.2
 
-back : (a : Option Row) (b : Row) → Agree a (Some b) → (row : Row) × (a ≡ Some row) × SameGoal row b
+back : (a : Option Row) (b : Row) → Agree a (Some b) → (row : Row) × (a ≡ Some row) × GoesOn row b
 back None b h = absurd h
 back (Some row) b h = (row, refl, h)
 
-forth : (a : Row) (b : Option Row) → Agree (Some a) b → (row : Row) × (b ≡ Some row) × SameGoal a row
+forth : (a : Row) (b : Option Row) → Agree (Some a) b → (row : Row) × (b ≡ Some row) × GoesOn a row
 forth a None h = absurd h
 forth a (Some row) h = (row, refl, h)
 
-row_kept : (book : Contents) (meter : ℕ) (a b : Row) → SameGoal a b → IsRowOf book meter a → IsRowOf book meter b
-row_kept book meter a b same is =
+row_kept : (book : Contents) (meter : ℕ) (a b : Row) → GoesOn a b → IsRowOf book meter a → IsRowOf book meter b
+row_kept book meter a b goes is =
+    let same = goes.goal in
     let P : Name → Type 0 = λ n. state_in book n.campaign meter ≡ Some state.Live in
     record {
       asks = same.meter ∙ is.asks;
       live = subst P (sym same.name) is.live;
       named = rw same.name is.named;
       sized = rw (same.name, same.size) is.sized;
+      going = goes.going is.going;
     }
 
 pub head_kept : (book : Contents) (width : ℕ) (old new : Rows) → keys_of new ≡ keys_of old → ((m : ℕ) → Agree (row_of old m) (row_of new m)) → IsHead (record { book = book; width = width; rows = old }) → IsHead (record { book = book; width = width; rows = new })
@@ -197,7 +222,7 @@ head_kept book width old new keys agree is =
       of_rows = λ campaign m live.
           let was = is.of_rows campaign m live in
           let now = forth was.0 (row_of new m) (subst (Q m) was.1 (agree m)) in
-          (now.0, now.1, ap (λ (n : Name). n.campaign) now.2.name ∙ was.2);
+          (now.0, now.1, ap (λ (n : Name). n.campaign) now.2.goal.name ∙ was.2);
       once = subst R (sym keys) is.once;
     }
 
@@ -211,22 +236,15 @@ pub agree_all : (rows : Rows) (m : ℕ) → Agree (row_of rows m) (row_of rows m
 agree_all rows m = agree_itself (row_of rows m)
 
 -- a row that goes on
-pub agree_heard : (old new : Rows) (meter : ℕ) (datagram : List ℕ) (told : RowNews) → RowsHear old meter datagram told new → (m : ℕ) → Agree (row_of old m) (row_of new m)
-agree_heard old new meter datagram told (inl x) m =
-    let P : Row → Type 0 = λ r. SameGoal r x.1 in
-    let went = goal_heard x.0 x.1 datagram told x.3 in
+agree_heard : (old new : Rows) (meter : ℕ) (datagram : List ℕ) (told : RowNews) → RowsHear old meter datagram told new → TellsNoEnd told → (m : ℕ) → Agree (row_of old m) (row_of new m)
+agree_heard old new meter datagram told (inl x) none m =
+    let P : Row → Type 0 = λ r. GoesOn r x.1 in
+    let went = goes_heard x.0 x.1 datagram told x.3 none in
     agree_along (row_of old m) (row_of old m) (row_of new m) (row_of (at_meter meter (λ was. x.1) old) m) refl (ap (λ (rs : Rows). row_of rs m) x.4)
     (agree_at meter (λ was. x.1) old (λ row found. subst P (same_found meter meter old x.0 row refl x.2 found) went) m)
-agree_heard old new meter datagram told (inr x) m = agree_same (row_of old m) (row_of new m) (ap (λ (rs : Rows). row_of rs m) (sym x.2))
+agree_heard old new meter datagram told (inr x) none m = agree_same (row_of old m) (row_of new m) (ap (λ (rs : Rows). row_of rs m) (sym x.2))
 
 -- keeps the head end
-pub head_heard : (book : Contents) (width : ℕ) (old new : Rows) (meter : ℕ) (datagram : List ℕ) (told : RowNews) → RowsHear old meter datagram told new → IsHead (record { book = book; width = width; rows = old }) → IsHead (record { book = book; width = width; rows = new })
-head_heard book width old new meter datagram told hears is =
-    head_kept book width old new (keys_heard old new meter datagram told hears) (agree_heard old new meter datagram told hears) is
-
--- and the name of its row
-pub name_heard : (old new : Rows) (meter : ℕ) (datagram : List ℕ) (told : RowNews) (row : Row) → RowsHear old meter datagram told new → row_of old meter ≡ Some row → (r : Row) × (row_of new meter ≡ Some r) × (r.name ≡ row.name)
-name_heard old new meter datagram told row hears found =
-    let P : Option Row → Type 0 = λ o. Agree o (row_of new meter) in
-    let now = forth row (row_of new meter) (subst P found (agree_heard old new meter datagram told hears meter)) in
-    (now.0, now.1, now.2.name)
+pub head_heard : (book : Contents) (width : ℕ) (old new : Rows) (meter : ℕ) (datagram : List ℕ) (told : RowNews) → RowsHear old meter datagram told new → TellsNoEnd told → IsHead (record { book = book; width = width; rows = old }) → IsHead (record { book = book; width = width; rows = new })
+head_heard book width old new meter datagram told hears none is =
+    head_kept book width old new (keys_heard old new meter datagram told hears) (agree_heard old new meter datagram told hears none) is

@@ -1,14 +1,14 @@
 -- A step of the loop that asks for blocks one after another.
-use Rattle.std.proofs.Common.{◌≡◌, ℕ, ◌+◌, ◌-◌, ◌≤◌, List, [], ◌∷◌, ◌++◌, length, map, refl, sym, ap, subst, ◌∙◌, arith, append_assoc}
+use Rattle.std.proofs.Common.{◌≡◌, ℕ, ◌+◌, ◌-◌, ◌<◌, ◌≤◌, List, [], ◌∷◌, ◌++◌, length, map, refl, sym, ap, subst, ◌∙◌, arith, append_assoc}
 use Rattle.std.proofs.lemmas.List.{map-append}
 use Rattle.std.proofs.lemmas.Grind.{common_steps}
 use Rattle.std.specs.Global.{Vec}
 use Rattle.fw_apdu.specs.Request.{request_bytes}
 use Rattle.fw_wrapper.specs.Wrapper.{wrapped}
-use Rattle.fw_client.specs.Ask.{Ask, request_of, kind_of}
+use Rattle.fw_client.specs.Ask.{Ask, request_of, kind_of, CarriesRequest}
 use Rattle.fw_client.specs.State.{State, asking, invoke_byte}
 use Rattle.fw_head.specs.Row.{bytes_of, datagrams, asking_all}
-use Rattle.fw_head.specs.Inside.{AskedLately}
+use Rattle.fw_head.specs.Inside.{AskedLately, Carry}
 use Rattle.fw_head.proofs.FreeIds.{one_later}
 
 -- what was sent grows by the datagram of the next ask
@@ -47,6 +47,28 @@ pub fewer : (rest others : List ℕ) (number : ℕ) → length rest ≤ 15 → r
 fewer rest others number few next =
     let one : length rest ≡ 1 + length others = shorter rest others number next in
     omega (arith, one, few)
+
+pub no_more : (before after : List (Vec ℕ)) (d : Vec ℕ) (rest others : List ℕ) (number : ℕ) → length before + length rest ≤ 15 → rest ≡ number ∷ others → after ≡ before ++ d ∷ [] → length after + length others ≤ 15
+no_more before after d rest others number few next pushed =
+    let one : length rest ≡ 1 + length others = shorter rest others number next in
+    let more : length after ≡ length before + 1 = grind (arith, common_steps, pushed) in
+    omega (arith, one, more, few)
+
+-- and so does what carries the asks
+pub carry_more : (f : ℕ → Ask) (before after : List (Vec ℕ)) (d : Vec ℕ) (c new whole : State) (numbers rest : List ℕ) (number : ℕ) (others : List ℕ)
+    → ((later : List (List ℕ)) → Carry c (map f rest) later → Carry whole (map f numbers) (bytes_of before ++ later))
+    → rest ≡ number ∷ others → c.next < 16 → CarriesRequest d.items (invoke_byte c.next) (request_of (f number)) → after ≡ before ++ d ∷ [] → new ≡ asking c (kind_of (f number))
+    → (later : List (List ℕ)) → Carry new (map f others) later → Carry whole (map f numbers) (bytes_of after ++ later)
+carry_more f before after d c new whole numbers rest number others so_far next fits carries pushed asked later carry =
+    let S : State → Type 0 = λ s. Carry s (map f others) later in
+    let L : List ℕ → Type 0 = λ l. Carry c (map f l) (d.items ∷ later) in
+    let W : List (List ℕ) → Type 0 = λ ds. Carry whole (map f numbers) ds in
+    let there = so_far (d.items ∷ later) (subst L (sym next) (fits, carries, subst S asked carry)) in
+    let joined : bytes_of after ++ later ≡ bytes_of before ++ d.items ∷ later =
+    ap (λ (l : List (Vec ℕ)). bytes_of l ++ later) pushed
+    ∙ ap (λ (l : List (List ℕ)). l ++ later) (map-append (λ (datagram : Vec ℕ). datagram.items) before (d ∷ []))
+    ∙ append_assoc (bytes_of before) (d.items ∷ []) later in
+    subst W (sym joined) there
 
 -- asking leaves the meter that is asked
 pub same_meter : (c : State) (asks : List Ask) → (asking_all c asks).meter ≡ c.meter

@@ -17,10 +17,11 @@ use Rattle.fw_head.specs.declared.stage.Stage.TheVariants.{Done, Failed}
 use Rattle.fw_head.specs.Row.{Row, news_in}
 use Rattle.fw_head.specs.Head.{Head, Rows, RowsHear, HeadHears, row_of, at_meter, without_meter}
 use Rattle.fw_head.proofs.LiveRows.{at_meter-alike, at_meter-same, same_found}
-use Rattle.fw_head.proofs.SameRows.{SameGoal, goal_heard}
+use Rattle.fw_head.specs.Laws.{IsOfSameGoal}
+use Rattle.fw_head.proofs.SameRows.{goal_heard}
 
 -- a row that is taken out is taken out as it was before
-pub taken_before : (meter : ℕ) (change : Row → Row) (rows : Rows) → without_meter meter (at_meter meter change rows) ≡ without_meter meter rows
+taken_before : (meter : ℕ) (change : Row → Row) (rows : Rows) → without_meter meter (at_meter meter change rows) ≡ without_meter meter rows
 taken_before meter change [] = refl
 taken_before meter change (entry ∷ entries) =
     let one : Rows = (entry.0, change entry.1) ∷ entries in
@@ -37,6 +38,10 @@ taken_before meter change (entry ∷ entries) =
     ap (λ (rs : Rows). without_meter meter rs) (cond-false (meter == entry.0) one rest other)
     ∙ ap (λ (rs : Rows). if not (entry.0 == meter) then (let all : Rows = entry ∷ rs in all) else rs) (taken_before meter change entries))
     (cases_Bool (meter == entry.0))
+
+pub taken_heard : (old new : Rows) (meter : ℕ) (datagram : List ℕ) (told : RowNews) → RowsHear old meter datagram told new → without_meter meter new ≡ without_meter meter old
+taken_heard old new meter datagram told (inl x) = ap (λ (rs : Rows). without_meter meter rs) x.4 ∙ taken_before meter (λ was. x.1) old
+taken_heard old new meter datagram told (inr x) = ap (λ (rs : Rows). without_meter meter rs) x.2
 
 none_some : (row : Row) → (let o : Option Row = None in o ≡ Some row) → ⊥
 none_some row e = cc
@@ -79,7 +84,7 @@ hears_moved head new meter datagram rows row told (inr x) at is tell = absurd (n
 abbrev left_of : Head → ℕ → ℕ → RowState → Head
 left_of head meter serial state = record head { book = marked head.book serial meter state; rows = without_meter meter head.rows }
 
-ends : (head : Head) (meter serial : ℕ) (state : RowState) (rows : Rows) (a b row : Row) → a ≡ row → SameGoal a b → serial ≡ row.name.campaign.serial → rows ≡ at_meter meter (λ was. b) head.rows → (let h : Head = record head { book = marked head.book serial meter state; rows = without_meter meter rows } in h) ≡ left_of head meter b.name.campaign.serial state
+ends : (head : Head) (meter serial : ℕ) (state : RowState) (rows : Rows) (a b row : Row) → a ≡ row → IsOfSameGoal a b → serial ≡ row.name.campaign.serial → rows ≡ at_meter meter (λ was. b) head.rows → (let h : Head = record head { book = marked head.book serial meter state; rows = without_meter meter rows } in h) ≡ left_of head meter b.name.campaign.serial state
 ends head meter serial state rows a b row it same of e =
     let at_row : serial ≡ b.name.campaign.serial = of ∙ ap (λ (r : Row). r.name.campaign.serial) (sym it) ∙ sym (ap (λ (n : Name). n.campaign.serial) same.name) in
     ap (λ (rs : Rows). (let h : Head = record head { book = marked head.book serial meter state; rows = rs } in h)) (ap (λ (rs : Rows). without_meter meter rs) e ∙ taken_before meter (λ was. b) head.rows)

@@ -4,6 +4,8 @@ use Rattle.std.specs.List.{IsDistinct}
 use Rattle.std.specs.Map.{lookup, keys_of}
 use Rattle.std.specs.Option.{option_map, option_map_or}
 use Rattle.fw_names.specs.Name.{Name, Campaign, name_of}
+use Rattle.fw_client.specs.Claim.{Claim}
+use Rattle.fw_client.specs.Hearing.{IsClaimed}
 use Rattle.fw_book.specs.declared.row.RowState.TheVariants as state
 use Rattle.fw_book.specs.Contents.{Contents, image_in, name_in, state_in}
 use Rattle.fw_book.specs.Changes.{empty_book, opened, cancelled, marked}
@@ -11,6 +13,8 @@ use Rattle.fw_head.specs.declared.news.News.{News}
 use Rattle.fw_head.specs.declared.news.News.TheVariants as news
 use Rattle.fw_head.specs.declared.news.RowNews.{RowNews}
 use Rattle.fw_head.specs.declared.news.RowNews.TheVariants.{Nothing, Moved, Done, Failed}
+use Rattle.fw_head.specs.declared.phase.Phase.TheVariants as phase
+use Rattle.fw_head.specs.Phase.{phase_of, IsLive}
 use Rattle.fw_head.specs.Row.{Row, new_row, sends, ticked, RowHears, RowMayWant, IsPermitted}
 
 -- the live rows, each behind the number of its meter
@@ -126,14 +130,26 @@ HeadIgnores old meter told new = (row_of old.rows meter ≡ None) × (told ≡ n
 abbrev pub HeadHears : Head → ℕ → List ℕ → News → Head → Type 0
 HeadHears old meter datagram told new = HeadTakes old meter datagram told new ⊎ HeadIgnores old meter told new
 
+-- A meter's answer makes it done in a campaign: its live row is of that campaign and waits for the name of the image that runs, the
+-- datagram is the response to that GET, and the name in it is the one under which the campaign offers its image.
+pub record IsDoneBy (head : Head) (meter : ℕ) (datagram : List ℕ) (campaign : Campaign) : Type 0 where
+  pub row : Row
+  pub claim : Claim
+  pub found : row_of head.rows meter ≡ Some row
+  pub of : row.name.campaign ≡ campaign
+  pub waits : phase_of row.stage ≡ phase.Confirm
+  pub claimed : IsClaimed row.client datagram claim
+  pub named : name_in head.book campaign ≡ Some claim.name
+
 -- ---- what every head end keeps
 
--- a row is that of its meter in a campaign of the book, which is live there, for the image that the campaign offers
+-- a row is that of its meter in a campaign of the book, which is live there, for the image that the campaign offers, and hasn't ended
 pub record IsRowOf (book : Contents) (meter : ℕ) (row : Row) : Type 0 where
   pub asks : row.client.meter ≡ meter
   pub live : state_in book row.name.campaign meter ≡ Some state.Live
   pub named : name_in book row.name.campaign ≡ Some row.name
   pub sized : option_map length (image_in book row.name.campaign) ≡ Some row.size
+  pub going : IsLive row.stage
 
 -- the live rows are those of the book, and a meter has one row at most
 pub record IsHead (head : Head) : Type 0 where

@@ -1,10 +1,11 @@
 -- For private clauses, and for the models of the head end's types.
-use Rattle.std.specs.Prelude.{◌≡◌, ℕ, ◌+◌, ◌%◌, ◌<◌, ◌≤◌, length, IsSome}
+use Rattle.std.specs.Prelude.{◌≡◌, ℕ, ◌+◌, ◌%◌, ◌<◌, ◌≤◌, List, [], ◌∷◌, length, IsSome}
 use Rattle.std.specs.FinMap.{get}
 use Rattle.fw_names.specs.Name.{Name}
 use Rattle.fw_blocks.specs.Cuts.{Partition, IsWithinLimits}
 use Rattle.fw_client.specs.Claim.{Claim}
-use Rattle.fw_client.specs.State.{State}
+use Rattle.fw_client.specs.Ask.{Ask, request_of, kind_of, CarriesRequest}
+use Rattle.fw_client.specs.State.{State, asking, invoke_byte}
 use Rattle.fw_head.specs.declared.stage.Stage.{Stage}
 use Rattle.fw_head.specs.declared.stage.Stage.TheVariants.{Size, Enable, Start, Blocks, Check, Gaps, Verify, Poll, Info, Activate, Confirm, Done, Failed}
 use Rattle.fw_head.specs.declared.answers.Step.{Step}
@@ -59,13 +60,19 @@ abbrev pub IsOwnNews : ℕ → Name → RowNews → Type 0
 IsOwnNews meter name (news.Done claim) = (claim.meter ≡ meter) × (claim.name ≡ name)
 IsOwnNews meter name told = Unit {0}
 
--- what every row keeps: its client asks its meter, the last return ends it, its image is cut within the limits, and once it is done its
--- own meter claimed its own name
-pub record IsRow (meter : ℕ) (name : Name) (size : ℕ) (stage : Stage) (client : State) (returns : ℕ) : Type 0 where
-  pub asks : client.meter ≡ meter
+-- what every row keeps: the last return ends it, its image is cut within the limits, and once it is done the meter of its client claimed
+-- its own name
+pub record IsRow (name : Name) (size : ℕ) (stage : Stage) (client : State) (returns : ℕ) : Type 0 where
   pub few : returns < max_returns
-  pub own : IsOwn meter name size stage
+  pub own : IsOwn client.meter name size stage
 
 -- each outstanding ask is one of the last so many
 abbrev pub AskedLately : State → ℕ → Type 0
 AskedLately c n = (id : ℕ) → IsSome (get c.asks id) → (back : ℕ) × (1 ≤ back) × (back ≤ n) × ((id + back) % 16 ≡ c.next % 16)
+
+-- the datagrams carry these asks of a client, one each, under one id after the other
+abbrev pub Carry : State → List Ask → List (List ℕ) → Type 0
+Carry c [] [] = Unit {0}
+Carry c (asked ∷ asks) (datagram ∷ datagrams) =
+    (c.next < 16) × CarriesRequest datagram (invoke_byte c.next) (request_of asked) × Carry (asking c (kind_of asked)) asks datagrams
+Carry c asks datagrams = ⊥

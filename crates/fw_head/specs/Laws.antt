@@ -14,6 +14,16 @@ OneRow =
     (old new other : Row) (datagram : List ℕ) (told also : RowNews)
     → RowHears old datagram told new → RowHears old datagram also other → (told ≡ also) × (new ≡ other)
 
+-- two rows of one meter, for one image
+pub record IsOfSameGoal (a b : Row) : Type 0 where
+  pub name : b.name ≡ a.name
+  pub size : b.size ≡ a.size
+  pub meter : b.client.meter ≡ a.client.meter
+
+-- whatever a row hears, it stays a row of its meter, for its image
+abbrev pub RowKeepsGoal : Type 0
+RowKeepsGoal = (old new : Row) (datagram : List ℕ) (told : RowNews) → RowHears old datagram told new → IsOfSameGoal old new
+
 -- a row in Confirm is answered by its meter's claim under the row's own name
 pub record IsConfirmedBy (row : Row) (datagram : List ℕ) (claim : Claim) : Type 0 where
   pub waits : phase_of row.stage ≡ phase.Confirm

@@ -5,7 +5,7 @@ use Rattle.fw_names.specs.Name.{Name}
 use Rattle.fw_blocks.specs.Cuts.{Partition, IsWithinLimits, block_count, cut}
 use Rattle.fw_wrapper.specs.Wrapper.{wrapped}
 use Rattle.fw_apdu.specs.Request.{request_bytes}
-use Rattle.fw_client.specs.Ask.{Ask, initiate, block, request_of, kind_of}
+use Rattle.fw_client.specs.Ask.{Ask, initiate, block, request_of, kind_of, CarriesRequest}
 use Rattle.fw_client.specs.State.{State, fresh, asking, forgetting, invoke_byte}
 use Rattle.fw_client.specs.Hearing.{Takes, AnswersNone, MayCarryData}
 use Rattle.fw_client.specs.declared.heard.Heard.{Heard}
@@ -82,8 +82,9 @@ MaySend name image asked = Unit {0}
 pub record IsPermitted (name : Name) (image datagram : List ℕ) : Type 0 where
   pub asked : Ask
   pub id : ℕ
+  pub is_id : id < 16
   pub may : MaySend name image asked
-  pub carries : datagram ≡ wrapped 1 1 (request_bytes (invoke_byte id) (request_of asked))
+  pub carries : CarriesRequest datagram (invoke_byte id) (request_of asked)
 
 -- ---- an answer
 

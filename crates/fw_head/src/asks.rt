@@ -1,15 +1,16 @@
 //! What a tick sends.
 
-ghost use Rattle.std.specs.Prelude.{◌≡◌, ◌≤◌, [], ◌∷◌, map, length, None, IfOk, OnOk};
+ghost use Rattle.std.specs.Prelude.{◌≡◌, ◌<◌, ◌≤◌, [], ◌∷◌, map, length, None, IfOk, OnOk};
 ghost use Rattle.std.specs.FinMap.{empty, get};
 ghost use Rattle.fw_apdu.specs.Request.{request_bytes};
 ghost use Rattle.fw_wrapper.specs.Wrapper.{wrapped};
 ghost use Rattle.fw_blocks.specs.Cuts.{cut};
-ghost use Rattle.fw_client.specs.Ask.{Fits, request_of, kind_of};
+ghost use Rattle.fw_client.specs.Ask.{Fits, request_of, kind_of, CarriesRequest};
 ghost use Rattle.fw_client.specs.State.{asking, invoke_byte};
 ghost use Rattle.fw_client.specs.View.{ask_of};
 ghost use Rattle.fw_head.specs.Phase.{block_ask};
 ghost use Rattle.fw_head.specs.Row.{bytes_of, datagrams, asking_all};
+ghost use Rattle.fw_head.specs.Inside.{Carry};
 
 use fw_blocks::Geometry;
 use fw_client::{Ask, AskError, Client, OutOfMemory};
@@ -24,6 +25,8 @@ pub(crate) fn ask_one(
     requires idle { client.old.asks ≡ empty }
     requires fits { Fits (ask_of ask.now) }
     ensures sent { IfOk result (λ sent. bytes_of sent.items ≡ datagrams client.old (ask_of ask.now ∷ [])) }
+    ensures carry { IfOk result (λ sent. Carry client.old (ask_of ask.now ∷ []) (bytes_of sent.items)) }
+    ensures few { IfOk result (λ sent. length sent.items ≤ 15) }
     ensures asked { OnOk result (client.new ≡ asking_all client.old (ask_of ask.now ∷ [])) }
 {
     let datagram = datagram(alloc, client, ask)?;
@@ -41,6 +44,8 @@ pub(crate) fn ask_blocks(
     requires idle { client.old.asks ≡ empty }
     requires few { length numbers.now ≤ 15 }
     ensures sent { IfOk result (λ sent. bytes_of sent.items ≡ datagrams client.old (map (block_ask image.now geometry) numbers.now)) }
+    ensures carry { IfOk result (λ sent. Carry client.old (map (block_ask image.now geometry) numbers.now) (bytes_of sent.items)) }
+    ensures few { IfOk result (λ sent. length sent.items ≤ 15) }
     ensures asked { OnOk result (client.new ≡ asking_all client.old (map (block_ask image.now geometry) numbers.now)) }
 {
     let mut sent = Vec::with_capacity(alloc, numbers.len())?;
@@ -63,6 +68,9 @@ fn datagram(alloc: Global, client: &mut Client, ask: &Ask<'_>) -> Result<Vec<u8>
     requires fits { Fits (ask_of ask.now) }
     ensures written { IfOk result (λ datagram. datagram.items
         ≡ wrapped 1 1 (request_bytes (invoke_byte client.old.next) (request_of (ask_of ask.now)))) }
+    ensures carries { IfOk result (λ datagram.
+        CarriesRequest datagram.items (invoke_byte client.old.next) (request_of (ask_of ask.now))) }
+    ensures id { client.old.next < 16 }
     ensures asked { OnOk result (client.new ≡ asking client.old (kind_of (ask_of ask.now))) }
 {
     match client.ask(alloc, ask) {

@@ -1,10 +1,13 @@
 //! A head end: the book of its campaigns, and a row for each meter that is live in one of them.
 
-ghost use Rattle.std.specs.Prelude.{◌≡◌, ◌≤◌, All, None, IsSomeAnd, IfOk, IfErr, IsOk, OnOk, OnErr};
+ghost use Rattle.std.specs.Prelude.{◌≡◌, ◌≤◌, ◌↔◌, ℕ, length, All, None, IsSomeAnd, IfOk, IfErr, IsOk, OnOk, OnErr};
 ghost use Rattle.std.specs.Map.{values_of};
-ghost use Rattle.fw_names.specs.Name.{name_of};
+ghost use Rattle.fw_names.specs.Name.{Campaign, name_of};
+ghost use Rattle.fw_blocks.specs.Width.{IsWidth};
+ghost use Rattle.fw_book.specs.Contents.{IsBook};
 ghost use Rattle.fw_book.specs.Changes.{opening_refusal, cancel_refusal, IsRefusal};
 
+use crate::laws;
 use crate::news::{News, RowNews};
 use crate::rows::Rows;
 use crate::view::HeadView;
@@ -41,7 +44,7 @@ impl Model for HeadCore {
 impl HeadCore {
     ghost use Rattle.fw_head.specs.Phase.{IsLive};
     ghost use Rattle.fw_head.specs.Row.{bytes_of};
-    ghost use Rattle.fw_head.specs.Head.{IsHead, row_of, RowsMayWant, new_head, campaign_at, opened_head, cancelled_head, restarted, sends_to, ticked_head, HeadHears, IsOfferedIn};
+    ghost use Rattle.fw_head.specs.Head.{IsHead, row_of, RowsMayWant, new_head, campaign_at, opened_head, cancelled_head, restarted, sends_to, ticked_head, HeadHears, IsDoneBy, IsOfferedIn};
 
     /// A head end of no campaign, that sends so many blocks at a time. It keeps the allocator, and takes no memory.
     pub fn new(alloc: Global, head: HeadId, width: Width) -> HeadCore
@@ -75,6 +78,8 @@ impl HeadCore {
         ensures same { OnErr result (self.new ≡ self.old) }
     {
         fw_book::laws::admitted_opens();
+        fw_book::laws::states_follow();
+        fw_book::laws::opening_offers();
         let campaign = self.campaign(serial);
         if self.rows.reserve(meters.len().min(MAX_METERS)).is_err() {
             self.book.check_opening(campaign, image, meters)?;
@@ -108,6 +113,8 @@ impl HeadCore {
         ensures refused { IfErr result (λ e. cancel_refusal self.old.book (campaign_at self.old serial) ≡ Some e) }
         ensures same { OnErr result (self.new ≡ self.old) }
     {
+        fw_book::laws::states_follow();
+        fw_book::laws::images_stay();
         let campaign = self.campaign(serial);
         self.book.cancel(campaign)?;
         self.rows.cancel(serial);
@@ -128,9 +135,25 @@ impl HeadCore {
         datagram: &[u8],
     ) -> Result<News, OutOfMemory>
         ensures heard { IfOk result (λ told. HeadHears self.old from datagram.now told self.new) }
+        // A meter is told done exactly where its own answer claims what the campaign offers.
+        ensures done { IfOk result (λ told. (campaign : Campaign) (meter : ℕ) → (told ≡ News.Done campaign meter)
+            ↔ ((meter ≡ from) × IsDoneBy self.old meter datagram.now campaign)) }
         ensures same { OnErr result (self.new ≡ self.old) }
         ensures memory { OnErr result (RowsMayWant self.old.rows from datagram.now) }
     {
+        laws::done_by_claim();
+        self.take(alloc, from, datagram)
+    }
+
+    /// The live row of a meter hears a datagram, and the book notes where it ended.
+    fn take(&mut self, alloc: Global, from: MeterId, datagram: &[u8]) -> Result<News, OutOfMemory>
+        ensures was { IsHead self.old }
+        ensures heard { IfOk result (λ told. HeadHears self.old from datagram.now told self.new) }
+        ensures same { OnErr result (self.new ≡ self.old) }
+        ensures memory { OnErr result (RowsMayWant self.old.rows from datagram.now) }
+    {
+        fw_book::laws::states_follow();
+        fw_book::laws::images_stay();
         let campaign = match self.rows.get(from) {
             Some(row) => row.name().campaign,
             None => return Ok(News::Nothing),
@@ -160,6 +183,7 @@ impl HeadCore {
         ensures sent { IfOk result (λ sent. bytes_of sent.items ≡ sends_to self.old meter) }
         // Each is one that a head end of this book may send.
         ensures permitted { IfOk result (λ sent. All (IsOfferedIn self.old.book) (bytes_of sent.items)) }
+        ensures few { IfOk result (λ sent. length sent.items ≤ 15) }
         ensures ticked { OnOk result (self.new ≡ ticked_head self.old meter) }
         ensures same { OnErr result (self.new ≡ self.old) }
         ensures memory { OnErr result (IsSomeAnd (row_of self.old.rows meter) (λ row. IsLive row.stage)) }
@@ -188,7 +212,11 @@ impl HeadCore {
 
         // The live rows are those of the book, each once.
         ensures live { IsHead self.now }
+        ensures is_book { IsBook self.now.book }
+        ensures is_width { IsWidth self.now.width }
     {
+        let _head = self.book.head();
+        let _number = self.width.number();
         HeadView {
             book: &self.book,
             rows: self.rows.all(),

@@ -1,6 +1,6 @@
 //! One row of a campaign: a head end's work on one meter.
 
-ghost use Rattle.std.specs.Prelude.{◌≡◌, ◌<◌, All, length, IfOk, OnOk, OnErr};
+ghost use Rattle.std.specs.Prelude.{◌≡◌, ◌<◌, ◌≤◌, All, length, IfOk, OnOk, OnErr};
 ghost use Rattle.std.specs.FinMap.{empty};
 
 use crate::answers::{Step, next_step};
@@ -21,7 +21,6 @@ const MAX_RETURNS: u8 = 8;
 /// A head end's work on one meter for one campaign.
 #[derive(Debug, Drop)]
 pub struct RowCore {
-    meter: MeterId,
     name: ImageName,
     size: u32,
     stage: Stage,
@@ -29,8 +28,8 @@ pub struct RowCore {
     returns: u8,
 }
 
-// Contracts see the row machine. The client asks the row's own meter, a row that is live returned fewer than eight times, its image is
-// cut within the limits with as many blocks known as it has, and a row that is done was claimed by its own meter under its own name.
+// Contracts see the row machine. A row that is live returned fewer than eight times, its image is cut within the limits with as many
+// blocks known as it has, and a row that is done was claimed by its own meter, its client's, under its own name.
 impl Model for RowCore {
     ghost use Rattle.std.specs.Coded.{codes};
     ghost use Rattle.std.specs.FinMap.{code};
@@ -44,20 +43,19 @@ impl Model for RowCore {
 
     ghost view = { λ r. record { name = r.name; size = r.size; stage = r.stage; client = r.client; returns = r.returns } };
 
-    ghost invariant = { λ r. IsRow r.meter r.name r.size r.stage r.client r.returns };
+    ghost invariant = { λ r. IsRow r.name r.size r.stage r.client r.returns };
 }
 
 impl RowCore {
     ghost use Rattle.fw_head.specs.Row.{Row, bytes_of, new_row, ticked, sends, stepped, moved, returned, settled, with_block, RowHears, IsPermitted, RowMayWant, news_in, tick_asks, datagrams, asking_all};
     ghost use Rattle.fw_head.specs.Phase.{phase_of, IsLive};
-    ghost use Rattle.fw_head.specs.Inside.{IsCutOf, IsOwn, IsOwnStep, IsOwnNews};
+    ghost use Rattle.fw_head.specs.Inside.{Carry, IsCutOf, IsOwn, IsOwnStep, IsOwnNews};
 
     /// A new row of this meter, for the image of this name and size in bytes.
     pub fn new(meter: MeterId, name: ImageName, size: u32) -> RowCore
         ensures { result ≡ new_row meter name size }
     {
         RowCore {
-            meter,
             name,
             size,
             stage: Stage::Size,
@@ -70,14 +68,14 @@ impl RowCore {
     pub fn restart(&mut self)
         ensures { self.new ≡ new_row self.old.client.meter self.old.name self.old.size }
     {
-        *self = RowCore::new(self.meter, self.name, self.size);
+        *self = RowCore::new(self.meter(), self.name, self.size);
     }
 
     /// Whose row it is.
     pub fn meter(&self) -> MeterId
         ensures { result ≡ self.now.client.meter }
     {
-        self.meter
+        self.client.meter()
     }
 
     /// The name of the image that the meter is to run.
@@ -117,6 +115,7 @@ impl RowCore {
         // Where the image has the row's size, each datagram is one that a head end may send.
         ensures permitted { IfOk result (λ sent. length image.now ≡ self.old.size
             → All (IsPermitted self.old.name image.now) (bytes_of sent.items)) }
+        ensures few { IfOk result (λ sent. length sent.items ≤ 15) }
         ensures ticked { OnOk result (self.new ≡ ticked self.old image.now width) }
         ensures same { OnErr result (self.new ≡ self.old) }
         ensures memory { OnErr result (IsLive self.old.stage) }
@@ -138,6 +137,8 @@ impl RowCore {
     ) -> Result<Vec<Vec<u8>>, OutOfMemory>
         requires { client.old.asks ≡ empty }
         ensures sent { IfOk result (λ sent. bytes_of sent.items ≡ datagrams client.old (tick_asks self.now image.now width)) }
+        ensures carry { IfOk result (λ sent. Carry client.old (tick_asks self.now image.now width) (bytes_of sent.items)) }
+        ensures few { IfOk result (λ sent. length sent.items ≤ 15) }
         ensures asked { OnOk result (client.new ≡ asking_all client.old (tick_asks self.now image.now width)) }
         ensures memory { OnErr result (IsLive self.now.stage) }
     {

@@ -3,11 +3,11 @@ use Rattle.std.proofs.Common.{◌≡◌, ◌≢◌, ℕ, zero, suc, Bool, true, 
 use Rattle.std.proofs.lemmas.Bool.{cases_eq}
 use Rattle.std.specs.FinMap.{get}
 use Rattle.fw_server.specs.Meaning.{Meaning, read, enable, initiate, block, verify, activate, refused as denied, meaning_of}
-use Rattle.fw_store.specs.declared.header.StoredStatus.TheVariants.{Initiated}
-use Rattle.fw_image.specs.Meter.{Meter, Phase, idle, receiving, sealed, spoilt, switched, status_of}
+use Rattle.fw_store.specs.declared.header.Goal.{Goal}
+use Rattle.fw_image.specs.Meter.{Meter, Phase, idle, receiving, sealed, spoilt, switched}
 use Rattle.fw_image.specs.State.{Counts}
 use Rattle.fw_image.specs.Step as operations
-use Rattle.fw_image.specs.Step.{Operation, refused, done, Admits, Does, with_cell, Step}
+use Rattle.fw_image.specs.Step.{Operation, refused, done, Admits, IsBlock, Does, with_cell, Step}
 use Rattle.fw_image.specs.declared.error.Refusal.TheVariants.{Disabled, BadInitiate, BadBlock, Missing, Fault, Differs}
 use Rattle.fw_names.specs.Name.{Name}
 use Rattle.fw_meter.specs.Handling.{Handles}
@@ -27,19 +27,23 @@ made_fault (refused Differs) e = absurd cc
 
 -- the cell of the block that was to be written is torn
 pub record TearsCell (old : Meter) (asked : Meaning) (new : Meter) : Type 0 where
+  pub goal : Goal
   pub number : ℕ
   pub value : List ℕ
   pub there : List ℕ
   pub left : List ℕ
   pub asks : asked ≡ block number value
-  pub receives : status_of old.phase ≡ Initiated
+  pub receives : old.phase ≡ receiving goal
+  pub is_block : IsBlock old.block_size goal.size number value
   pub was : get old.cells number ≡ Some there
   pub size : length left ≡ length value
   pub torn : new ≡ with_cell old number left
 
-admits_block : (m : Meter) (phase : Phase) (i : ℕ) (value : List ℕ) → Admits m phase (operations.block i value) → status_of phase ≡ Initiated
+-- a phase that admits a block receives it
+admits_block : (m : Meter) (phase : Phase) (i : ℕ) (value : List ℕ) → Admits m phase (operations.block i value)
+    → (goal : Goal) × (phase ≡ receiving goal) × IsBlock m.block_size goal.size i value
 admits_block m idle i value h = elim h [ ]
-admits_block m (receiving goal) i value h = refl
+admits_block m (receiving goal) i value h = (goal, refl, h)
 admits_block m (sealed goal) i value h = elim h [ ]
 admits_block m (spoilt goal) i value h = elim h [ ]
 admits_block m switched i value h = elim h [ ]
@@ -62,17 +66,21 @@ left_by_block old new i value (made, step, told) =
       | inl h ↦ inl (h.same.is refl)
       | inr h ↦ elim h.does [
         | inl leaves ↦ inl (leaves.is refl)
-        | inr t ↦ inr (record {
-          number = i;
-          value = value;
-          there = t.0;
-          left = t.1;
-          asks = refl;
-          receives = admits_block old old.phase i value h.serves.1;
-          was = t.2;
-          size = t.3;
-          torn = t.4.is refl;
-        })
+        | inr t ↦
+            let admitted = admits_block old old.phase i value h.serves.1 in
+            inr (record {
+              goal = admitted.0;
+              number = i;
+              value = value;
+              there = t.0;
+              left = t.1;
+              asks = refl;
+              receives = admitted.1;
+              is_block = admitted.2;
+              was = t.2;
+              size = t.3;
+              torn = t.4.is refl;
+            })
       ]
     ]
 
@@ -122,6 +130,7 @@ stops B old new datagram reply activated (inl h) =
                 source = h.source;
                 invoke = h.invoke;
                 content = h.content;
+                goal = t.goal;
                 number = t.number;
                 value = t.value;
                 there = t.there;
@@ -129,6 +138,7 @@ stops B old new datagram reply activated (inl h) =
                 brings = h.brings;
                 asks = t.asks;
                 receives = t.receives;
+                is_block = t.is_block;
                 was = t.was;
                 size = t.size;
                 torn = t.torn;

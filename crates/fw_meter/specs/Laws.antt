@@ -4,10 +4,10 @@ use Rattle.std.specs.FinMap.{get}
 use Rattle.fw_apdu.specs.Request.{RequestContent}
 use Rattle.fw_names.specs.Name.{Name}
 use Rattle.fw_server.specs.Meaning.{meaning_of, block}
-use Rattle.fw_store.specs.declared.header.StoredStatus.TheVariants.{Initiated}
-use Rattle.fw_image.specs.Meter.{Meter, status_of}
+use Rattle.fw_store.specs.declared.header.Goal.{Goal}
+use Rattle.fw_image.specs.Meter.{Meter, receiving}
 use Rattle.fw_image.specs.State.{State, Counts}
-use Rattle.fw_image.specs.Step.{with_cell}
+use Rattle.fw_image.specs.Step.{IsBlock, with_cell}
 use Rattle.fw_meter.specs.Handling.{Brings, Handles}
 
 -- over an honest store that doesn't fail, a meter and a datagram determine the reply, the activation and the meter afterwards
@@ -22,18 +22,20 @@ Faultless =
     (old new : State) (datagram : List ℕ) (reply : Option (List ℕ)) (activated : Option Name) → IsTrue old.honest → IsTrue old.sound
     → Handles old.honest (Counts old new) old.meter datagram reply activated new.meter → Handles true IsTrue old.meter datagram reply activated new.meter
 
--- a block that was there is written again, and the write is cut: any bytes of its length stand in its cell
+-- a block of the goal that was there is written again, and the write is cut: any bytes of its length stand in its cell
 pub record TearsBlock (old : Meter) (datagram : List ℕ) (new : Meter) : Type 0 where
   pub source : ℕ
   pub invoke : ℕ
   pub content : RequestContent
+  pub goal : Goal
   pub number : ℕ
   pub value : List ℕ
   pub there : List ℕ
   pub left : List ℕ
   pub brings : Brings datagram source invoke content
   pub asks : meaning_of content ≡ block number value
-  pub receives : status_of old.phase ≡ Initiated
+  pub receives : old.phase ≡ receiving goal
+  pub is_block : IsBlock old.block_size goal.size number value
   pub was : get old.cells number ≡ Some there
   pub size : length left ≡ length value
   pub torn : new ≡ with_cell old number left

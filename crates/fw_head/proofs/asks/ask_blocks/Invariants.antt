@@ -1,7 +1,7 @@
-use Rattle.std.proofs.Common.{◌≡◌, ◌-◌, ◌≤◌, ◌++◌, length, map}
+use Rattle.std.proofs.Common.{◌≡◌, ℕ, List, ◌+◌, ◌-◌, ◌≤◌, ◌++◌, length, map}
 use Rattle.fw_head.specs.Phase.{block_ask}
 use Rattle.fw_head.specs.Row.{bytes_of, datagrams, asking_all}
-use Rattle.fw_head.specs.Inside.{AskedLately}
+use Rattle.fw_head.specs.Inside.{AskedLately, Carry}
 use Rattle.fw_head.proofs.asks.ask_blocks.Given as goal
 
 -- what was sent, and then what is still to be asked, is the whole
@@ -11,6 +11,8 @@ invariant-loop-number l =
     × (asking_all l.client (map (block_ask l.image l.geometry) l.rest) ≡ asking_all l.fn.client (map (block_ask l.image l.geometry) l.numbers))
     × AskedLately l.client (15 - length l.rest)
     × (length l.rest ≤ 15)
+    × (length l.sent.items + length l.rest ≤ 15)
+    × ((later : List (List ℕ)) → Carry l.client (map (block_ask l.image l.geometry) l.rest) later → Carry l.fn.client (map (block_ask l.image l.geometry) l.numbers) (bytes_of l.sent.items ++ later))
 
 abbrev pub decreases-loop-number : goal.decreases-loop-number
 decreases-loop-number l = length l.rest

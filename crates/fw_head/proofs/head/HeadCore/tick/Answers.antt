@@ -6,7 +6,7 @@ use Rattle.fw_names.specs.Name.{Name}
 use Rattle.fw_head.proofs.Offers.{unoffered, image_found}
 use Rattle.fw_head.proofs.Offered.{offered_image, offered_by}
 use Rattle.fw_head.proofs.LiveRows.{at_meter-none, at_meter-alike, either_way, on_ok, on_err}
-use Rattle.fw_head.proofs.SameRows.{agree_at, agree_all, keys_at, goal_ticked, head_kept_by}
+use Rattle.fw_head.proofs.SameRows.{agree_at, agree_all, keys_at, goes_ticked, head_kept_by}
 use Rattle.fw_head.proofs.head.HeadCore.tick.Goals as goal
 
 pub invariant_of-self : goal.invariant_of-self
@@ -14,7 +14,7 @@ invariant_of-self c =
     let rows = c.self.inside.rows.rows.entries in
     let change = λ (row : Row). ticked row c.image.result.now c.self.inside.width in
     either_way c.tick.result _
-    (on_ok c.tick.result _ _ (λ x new. head_kept_by c.self.inside.book c.self.inside.width rows (at_meter c.args.meter change rows) c.tick.new.self.rows.entries new (keys_at c.args.meter change rows) (agree_at c.args.meter change rows (λ row found. goal_ticked row c.image.result.now c.self.inside.width)) c.self.invariant) c.tick.ensures.ticked)
+    (on_ok c.tick.result _ _ (λ x new. head_kept_by c.self.inside.book c.self.inside.width rows (at_meter c.args.meter change rows) c.tick.new.self.rows.entries new (keys_at c.args.meter change rows) (agree_at c.args.meter change rows (λ row found. goes_ticked row c.image.result.now c.self.inside.width)) c.self.invariant) c.tick.ensures.ticked)
     (on_err c.tick.result _ _ (λ e new. head_kept_by c.self.inside.book c.self.inside.width rows rows c.tick.new.self.rows.entries new refl (agree_all rows) c.self.invariant) c.tick.ensures.same)
 
 pub unreachable-requires : goal.unreachable-requires

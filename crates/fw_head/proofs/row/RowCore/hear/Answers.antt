@@ -18,7 +18,7 @@ pub take-requires : goal.take-requires
 take-requires c =
     let takes = taken c.duplicate-client.result c.hear.new.self c.args.datagram.now c.in_ok-heard.heard c.in_default.not-Stranger c.in_ok-heard.ensures.hears in
     let of = of_asked c.duplicate-client.result c.hear.new.self c.args.datagram.now c.in_ok-heard.heard (λ claim e. (c.in_ok-heard.ensures.claims claim).0 e) takes in
-    let meter : c.self.inside.meter ≡ c.hear.new.self.meter = sym c.self.invariant.asks ∙ sym (ap (λ (s : State). s.meter) c.duplicate-client.ensures) ∙ sym (kept_meter c.duplicate-client.result c.hear.new.self c.args.datagram.now c.in_ok-heard.heard takes) in
+    let meter : c.self.inside.client.meter ≡ c.hear.new.self.meter = sym (ap (λ (s : State). s.meter) c.duplicate-client.ensures) ∙ sym (kept_meter c.duplicate-client.result c.hear.new.self c.args.datagram.now c.in_ok-heard.heard takes) in
     let P : ℕ → Type 0 = λ m. IsOwn m c.self.inside.name c.self.inside.size c.self.inside.stage in
     own_step c.hear.new.self.meter c.self.inside.name c.self.inside.size c.self.inside.stage c.in_ok-heard.heard c.in_ok-step.step (subst P meter c.self.invariant.own) of c.in_ok-step.ensures.leads
 
@@ -41,9 +41,9 @@ returns c =
     } in
     let at_view = c.self-2.view_is in
     let kept = goal_heard c.args.self.now c.take.new.self c.args.datagram.now c.news.result (inl takes_all) in
-    let meter : c.self-2.inside.meter ≡ c.args.self.now.client.meter = sym c.self-2.invariant.asks ∙ ap (λ (r : Row). r.client.meter) at_view ∙ kept.meter in
+    let meter : c.self-2.inside.client.meter ≡ c.args.self.now.client.meter = ap (λ (r : Row). r.client.meter) at_view ∙ kept.meter in
     let name : c.self-2.inside.name ≡ c.args.self.now.name = ap (λ (r : Row). r.name) at_view ∙ kept.name in
-    let own = own_news c.self-2.inside.meter c.args.self.now.client.meter c.self-2.inside.name c.args.self.now.name c.self-2.inside.size c.self-2.inside.stage c.news.result meter name c.news.ensures c.self-2.invariant.own in
+    let own = own_news c.self-2.inside.client.meter c.args.self.now.client.meter c.self-2.inside.name c.args.self.now.name c.self-2.inside.size c.self-2.inside.stage c.news.result meter name c.news.ensures c.self-2.invariant.own in
     record { heard = inl takes_all; claimed = own; same = tt; memory = tt }
 
 pub returns-in_err-step-clause-memory : goal.returns-in_err-step-clause-memory

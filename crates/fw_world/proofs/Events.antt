@@ -1,0 +1,233 @@
+-- What each event keeps.
+use Rattle.std.proofs.Common.{◌≡◌, ℕ, zero, suc, Bool, true, nat_eq, inl, inr, ◌⊎◌, List, [], ◌∷◌, ◌++◌, Option, Some, None, refl, sym, ◌∙◌, ap, subst, eqb-true, arith, All, slice_get}
+use Rattle.std.proofs.lemmas.List.Elements.{All-append, All-weaker, All-head, All-tail, Contains-append_left}
+use Rattle.fw_axdr.specs.Laws as axdr
+use Rattle.fw_names.specs.Laws as names
+use Rattle.fw_names.specs.Name.{Campaign, Name, IsOpened, SpellsName, name_bytes, name_of, factory}
+use Rattle.fw_apdu.specs.Laws as apdu
+use Rattle.fw_client.specs.Ask.{initiate, request_of}
+use Rattle.fw_server.specs.Meaning.{meaning_of}
+use Rattle.fw_image.specs.Meter.{Meter}
+use Rattle.fw_world.specs.declared.datagram.Direction.TheVariants.{ToHead}
+use Rattle.fw_world.specs.World.{Datagram, Activation, Offers, World, put, same_campaign, with_offer, with_meter, with_done}
+use Rattle.fw_world.specs.Step.{IsOfOffer, MayAsk, Permits, replies, activated, Serves, Marks, StopsAt}
+use Rattle.fw_world.specs.Headline.{IsOffered, HasActivated, FirstNames, IsOwn, InitiatesOffered, TellsOwn, IsSafe, IsDoneSafely}
+use Rattle.fw_world.specs.Laws.{IsSafeWorld}
+use Rattle.fw_world.proofs.Maps.{put_cases, put_keeps, same_campaign_is}
+use Rattle.fw_world.proofs.Spelled.{one_brought, is_initiate}
+use Rattle.fw_world.proofs.Meters.{IsSafeMeter, IsSafeAfter, OffersGrow, offered_grows, own_grows, offers_grow, activations_grow, offered_name}
+use Rattle.fw_world.proofs.Handled.{handles_safe, stops_safe, reply_asks, reply_is_own}
+
+pub at_number : {X : Type 0} (P : X → Type 0) (xs : List X) (number : ℕ) (x : X) → All P xs → slice_get xs number ≡ Some x → P x
+at_number P [] number x h e = absurd cc
+at_number P (y ∷ ys) zero x h e = let same : y ≡ x = cc in subst P same (All-head P y ys h)
+at_number P (y ∷ ys) (suc number) x h e = at_number P ys number x (All-tail P y ys h) e
+
+-- ---- a world by its meters
+
+pub meter_of : (IsFirst : FirstNames) (w : World) → IsSafeWorld IsFirst w → (number : ℕ) (meter : Meter) → w.meters number ≡ Some meter → IsSafeMeter IsFirst w.offered w.activations number meter
+meter_of IsFirst w k number meter e =
+    let sound = k.sound.meters number meter e in
+    let trusted = k.goals.trusted number meter e in
+    record {
+      block_size = sound.block_size;
+      named = sound.named;
+      own = k.names.running number meter e;
+      running = trusted.running;
+      goals = λ goal f. k.goals.goals number meter goal e f;
+      cells = λ goal f n cell g. sound.cells goal n cell f g;
+      verified = trusted.verified;
+    }
+
+-- the parts of a safe world, with what holds of each meter in one place
+pub record AreSafe (IsFirst : FirstNames) (w : World) : Type 0 where
+  pub campaigns : (campaign : Campaign) (image : List ℕ) → w.offered campaign ≡ Some image → IsOpened campaign
+  pub meters : (number : ℕ) (meter : Meter) → w.meters number ≡ Some meter → IsSafeMeter IsFirst w.offered w.activations number meter
+  pub initiates : All (InitiatesOffered w.offered) w.sent
+  pub told : All (TellsOwn IsFirst w.activations) w.sent
+  pub activations : All (IsSafe w.offered) w.activations
+  pub done : (campaign : Campaign) (meter : ℕ) → w.done campaign meter ≡ true → IsDoneSafely w campaign meter
+
+pub world_of : (IsFirst : FirstNames) (w : World) → AreSafe IsFirst w → IsSafeWorld IsFirst w
+world_of IsFirst w k = record {
+  sound = record {
+    campaigns = k.campaigns;
+    meters = λ number meter e. let m = k.meters number meter e in record { block_size = m.block_size; named = m.named; cells = λ goal n cell f g. m.cells goal f n cell g };
+  };
+  initiates = k.initiates;
+  names = record { running = λ number meter e. (k.meters number meter e).own; told = k.told };
+  goals = record {
+    goals = λ number meter goal e f. (k.meters number meter e).goals goal f;
+    trusted = λ number meter e. let m = k.meters number meter e in record { running = m.running; verified = m.verified };
+  };
+  activations = record { activations = k.activations; done = k.done };
+}
+
+initiates_grow : (offered more : Offers) → OffersGrow offered more → (d : Datagram) → InitiatesOffered offered d → InitiatesOffered more d
+initiates_grow offered more grows d h source invoke size content identifier brings e =
+    let offer = h source invoke size content identifier brings e in
+    (offer.0, offer.1, offered_grows offered more offer.0 size grows offer.2)
+
+told_grows : (IsFirst : FirstNames) (activations more : List Activation) (d : Datagram) → TellsOwn IsFirst activations d → TellsOwn IsFirst (activations ++ more) d
+told_grows IsFirst activations more d h invoke bytes way carries size =
+    let own = h invoke bytes way carries size in
+    (own.0, own.1, own_grows IsFirst activations more d.meter own.0 own.2)
+
+safe_grows : (offered more : Offers) → OffersGrow offered more → (a : Activation) → IsSafe offered a → IsSafe more a
+safe_grows offered more grows a h = record { image = h.image; offers = grows a.name.campaign h.image h.offers; sized = h.sized; digest = h.digest; named = h.named }
+
+module _ (IsFirst : FirstNames) where
+  -- ---- openings
+
+  pub open_safe : (old : World) → IsSafeWorld IsFirst old → (campaign : Campaign) (image : List ℕ) → IsOpened campaign → old.offered campaign ≡ None → IsSafeWorld IsFirst (with_offer old campaign image)
+  open_safe old k campaign image opened none = world_of IsFirst (with_offer old campaign image) (record {
+    campaigns = λ other found e. elim (put_cases same_campaign old.offered campaign other (Some image) (Some found) e) [
+      | inl same ↦ subst IsOpened (sym (same_campaign_is other campaign same.0)) opened
+      | inr had ↦ k.sound.campaigns other found had
+    ];
+    meters = λ number meter e. offers_grow IsFirst old.offered more old.activations number meter grows (meter_of IsFirst old k number meter e);
+    initiates = All-weaker (InitiatesOffered old.offered) (InitiatesOffered more) (initiates_grow old.offered more grows) old.sent k.initiates;
+    told = k.names.told;
+    activations = All-weaker (IsSafe old.offered) (IsSafe more) (safe_grows old.offered more grows) old.activations k.activations.activations;
+    done = λ c meter e. let d = k.activations.done c meter e in record { image = d.image; offers = grows c d.image d.offers; activated = d.activated };
+  })
+    where
+      more : Offers
+      more = put same_campaign old.offered campaign (Some image)
+
+      grows : OffersGrow old.offered more
+      grows other found e = put_keeps old.offered campaign image other found none e
+
+  -- ---- a head end's sends
+
+  -- what a head end may ask
+  ask_is_offered : apdu.OneRequest → (offered : Offers) → ((campaign : Campaign) (image : List ℕ) → offered campaign ≡ Some image → IsOpened campaign) → (head meter : ℕ) (d : Datagram)
+      → Permits offered head meter d → InitiatesOffered offered d
+  ask_is_offered requests offered campaigns head meter d p source invoke size content identifier brings e =
+      let same : content ≡ request_of p.asked = one_brought requests d.bytes source invoke p.invoke content (request_of p.asked) p.carries brings in
+      let initiates = is_initiate p.asked identifier size (ap meaning_of (sym same) ∙ e) in
+      let of_offer : IsOfOffer offered head (initiate initiates.name size) = subst (MayAsk offered head) initiates.is p.may in
+      let name : Name = name_of of_offer.campaign of_offer.image in
+      let offer : IsOffered offered name size = record { image = of_offer.image; offers = of_offer.offers; named = refl; sized = of_offer.may.1 } in
+      (name, record { is_name = offered_name offered campaigns name size offer; spelled = initiates.spelled ∙ ap name_bytes of_offer.may.0 }, offer)
+
+  ask_tells_nothing : (offered : Offers) (activations : List Activation) (head meter : ℕ) (d : Datagram) → Permits offered head meter d → TellsOwn IsFirst activations d
+  ask_tells_nothing offered activations head meter d p invoke bytes way carries size = let other = ap (λ (x : Datagram). x.direction) p.link in absurd cc
+
+  pub tick_safe : apdu.OneRequest → (old : World) → IsSafeWorld IsFirst old → (head meter : ℕ) (sends : List Datagram) → All (Permits old.offered head meter) sends
+      → IsSafeWorld IsFirst (record old { sent = old.sent ++ sends })
+  tick_safe requests old k head meter sends may = world_of IsFirst (record old { sent = old.sent ++ sends }) (record {
+    campaigns = k.sound.campaigns;
+    meters = meter_of IsFirst old k;
+    initiates = All-append (InitiatesOffered old.offered) old.sent sends k.initiates
+        (All-weaker (Permits old.offered head meter) (InitiatesOffered old.offered) (ask_is_offered requests old.offered k.sound.campaigns head meter) sends may);
+    told = All-append (TellsOwn IsFirst old.activations) old.sent sends k.names.told
+        (All-weaker (Permits old.offered head meter) (TellsOwn IsFirst old.activations) (ask_tells_nothing old.offered old.activations head meter) sends may);
+    activations = k.activations.activations;
+    done = λ c m e. let d = k.activations.done c m e in record { image = d.image; offers = d.offers; activated = d.activated };
+  })
+
+  -- ---- a meter goes on
+
+  -- with datagrams that are sent, and an image that it may have switched to
+  moves_safe : (old : World) → IsSafeWorld IsFirst old → (number : ℕ) (name : Option Name) (after : Meter) → IsSafeAfter IsFirst old.offered old.activations number name after
+      → (sent : List Datagram) → All (InitiatesOffered old.offered) sent → All (TellsOwn IsFirst (old.activations ++ activated number name after)) sent
+      → IsSafeWorld IsFirst (record (with_meter old number after) { sent = sent; activations = old.activations ++ activated number name after })
+  moves_safe old k number name after safe sent initiates told =
+      world_of IsFirst (record (with_meter old number after) { sent = sent; activations = old.activations ++ more }) (record {
+        campaigns = k.sound.campaigns;
+        meters = λ other meter e. elim (put_cases nat_eq old.meters number other (Some after) (Some meter) e) [
+          | inl same ↦
+              let numbers : number ≡ other = sym (eqb-true other number same.0) in
+              let meters : after ≡ meter = cc (same.1) in
+              subst (λ (n : ℕ). IsSafeMeter IsFirst old.offered (old.activations ++ more) n meter) numbers
+              (subst (λ (m : Meter). IsSafeMeter IsFirst old.offered (old.activations ++ more) number m) meters safe.meter)
+          | inr had ↦ activations_grow IsFirst old.offered old.activations more other meter (meter_of IsFirst old k other meter had)
+        ];
+        initiates = initiates;
+        told = told;
+        activations = All-append (IsSafe old.offered) old.activations more k.activations.activations safe.activation;
+        done = λ c m e. let d = k.activations.done c m e in record { image = d.image; offers = d.offers; activated = (d.activated.0, Contains-append_left old.activations more _ d.activated.1) };
+      })
+    where
+      more : List Activation
+      more = activated number name after
+
+  pub serves_safe : names.OneName → axdr.ShortSpells → axdr.OneSpelling → (old : World) → IsSafeWorld IsFirst old → (d : Datagram) → InitiatesOffered old.offered d → (new : World) → Serves old d new → IsSafeWorld IsFirst new
+  serves_safe one_name shorts spellings old k d asks new s =
+      subst (IsSafeWorld IsFirst) (sym s.new_is)
+      (moves_safe old k d.meter s.name s.after (handles_safe one_name IsFirst old.offered k.sound.campaigns old.activations d asks s.before before s.reply s.name s.after s.handles)
+      (old.sent ++ replies d s.reply)
+      (All-append (InitiatesOffered old.offered) old.sent (replies d s.reply) k.initiates
+      (reply_asks one_name IsFirst old.offered k.sound.campaigns old.activations d asks s.before before s.reply s.name s.after s.handles))
+      (All-append (TellsOwn IsFirst (old.activations ++ more)) old.sent (replies d s.reply)
+      (All-weaker (TellsOwn IsFirst old.activations) (TellsOwn IsFirst (old.activations ++ more)) (told_grows IsFirst old.activations more) old.sent k.names.told)
+      (reply_is_own one_name IsFirst old.offered k.sound.campaigns old.activations d asks s.before before shorts spellings more s.reply s.name s.after s.handles)))
+    where
+      more : List Activation
+      more = activated d.meter s.name s.after
+
+      before : IsSafeMeter IsFirst old.offered old.activations d.meter s.before
+      before = meter_of IsFirst old k d.meter s.before s.there
+
+  pub stop_safe : names.OneName → (old : World) → IsSafeWorld IsFirst old → (d : Datagram) → InitiatesOffered old.offered d → (new : World) → StopsAt old d new → IsSafeWorld IsFirst new
+  stop_safe one_name old k d asks new s =
+      subst (IsSafeWorld IsFirst) (sym s.new_is)
+      (moves_safe old k d.meter s.name s.after
+      (stops_safe one_name IsFirst old.offered k.sound.campaigns old.activations d asks s.before (meter_of IsFirst old k d.meter s.before s.there) s.name s.after s.stops)
+      old.sent k.initiates
+      (All-weaker (TellsOwn IsFirst old.activations) (TellsOwn IsFirst (old.activations ++ more)) (told_grows IsFirst old.activations more) old.sent k.names.told))
+    where
+      more : List Activation
+      more = activated d.meter s.name s.after
+
+  -- ---- marks
+
+  done_cases : (old : World) (campaign c : Campaign) (meter m : ℕ) → (with_done old campaign meter).done c m ≡ true → ((c ≡ campaign) × (m ≡ meter)) ⊎ (old.done c m ≡ true)
+  done_cases old campaign c meter m e = elim (put_cases same_campaign old.done campaign c row (put same_campaign old.done campaign row c) refl) [
+    | inl same ↦ elim (put_cases nat_eq (old.done campaign) meter m true true (ap (λ (r : ℕ → Bool). r m) same.1 ∙ e)) [
+      | inl here ↦ inl (same_campaign_is c campaign same.0, eqb-true m meter here.0)
+      | inr had ↦ inr (ap (λ (x : Campaign). old.done x m) (same_campaign_is c campaign same.0) ∙ had)
+    ]
+    | inr had ↦ inr (ap (λ (r : ℕ → Bool). r m) had ∙ e)
+  ]
+    where
+      row : ℕ → Bool
+      row = put nat_eq (old.done campaign) meter true
+
+  -- what a meter told of a campaign is the name of an image that it switched to
+  claim_is_activated : ((number : ℕ) (name : Name) → IsFirst number name → name.campaign ≡ factory) → (activations : List Activation) (meter : ℕ) (campaign : Campaign) (image : List ℕ) (name : Name)
+      → IsOpened campaign → name ≡ name_of campaign image → IsOwn IsFirst activations meter name → HasActivated activations meter (name_of campaign image)
+  claim_is_activated first activations meter campaign image name opened same (inl f) =
+      let none : campaign.head ≡ 0 = ap (λ (n : Name). n.campaign.head) (sym same) ∙ ap (λ (c : Campaign). c.head) (first meter name f) in
+      let begins = opened.head_begins in
+      absurd (omega arith)
+  claim_is_activated first activations meter campaign image name opened same (inr had) = subst (HasActivated activations meter) same had
+
+  pub marks_safe : names.OneName → names.SpellingSize → ((number : ℕ) (name : Name) → IsFirst number name → name.campaign ≡ factory) → (old : World) → IsSafeWorld IsFirst old → (d : Datagram) → d.direction ≡ ToHead
+      → TellsOwn IsFirst old.activations d → (new : World) → Marks old d new → IsSafeWorld IsFirst new
+  marks_safe one_name size first old k d way told new s =
+      subst (IsSafeWorld IsFirst) (sym s.new_is) (world_of IsFirst marked (record {
+        campaigns = k.sound.campaigns;
+        meters = meter_of IsFirst old k;
+        initiates = k.initiates;
+        told = k.names.told;
+        activations = k.activations.activations;
+        done = λ c m e. elim (done_cases old s.campaign c d.meter m e) [
+          | inl same ↦
+              subst (λ (x : Campaign). IsDoneSafely marked x m) (sym same.0)
+              (subst (λ (x : ℕ). IsDoneSafely marked s.campaign x) (sym same.1) (record { image = s.image; offers = s.offers; activated = active }))
+          | inr had ↦ let x = k.activations.done c m had in record { image = x.image; offers = x.offers; activated = x.activated }
+        ];
+      }))
+    where
+      marked : World
+      marked = with_done old s.campaign d.meter
+
+      own : (name : Name) × SpellsName s.bytes name × IsOwn IsFirst old.activations d.meter name
+      own = told s.invoke s.bytes way s.carries (size s.bytes (name_of s.campaign s.image) s.spells)
+
+      active : HasActivated old.activations d.meter (name_of s.campaign s.image)
+      active =
+          claim_is_activated first old.activations d.meter s.campaign s.image own.0 (k.sound.campaigns s.campaign s.image s.offers)
+          (one_name s.bytes own.0 (name_of s.campaign s.image) own.1 s.spells) own.2

@@ -1,0 +1,254 @@
+-- What an operation keeps of a meter of the world.
+use Rattle.std.proofs.Common.{◌≡◌, ℕ, ◌≤◌, ◌-◌, Bool, true, List, [], ◌++◌, length, Option, Some, None, inl, inr, refl, sym, ◌∙◌, ap, subst, All}
+use Rattle.std.proofs.lemmas.List.Elements.{Contains-append_left, Contains-push, All-nil, All-cons}
+use Rattle.sha2.specs.Sha256.{sha256}
+use Rattle.sha2.proofs.Facts256.{length-sha256}
+use Rattle.fw_names.specs.Name.{Campaign, Name, IsOpened, IsName}
+use Rattle.fw_blocks.specs.Cuts.{block_start, block_end}
+use Rattle.fw_store.specs.Header.{goal_count}
+use Rattle.fw_store.specs.declared.header.Goal.{Goal}
+use Rattle.fw_store.specs.declared.header.StoredStatus.TheVariants.{VerificationSuccessful}
+use Rattle.fw_image.specs.Meter.{Meter, Phase, idle, receiving, sealed, spoilt, switched, status_of, goal_of, joined, goal_bytes, IsGenuine}
+use Rattle.fw_image.specs.Step.{Operation, enable, initiate, block, verify, activate, OperationOutcome, done, refused, IsBlock, Admits, Serves, begun, with_cell, sealed_phase, spoilt_phase, switched_to, Does, Step}
+use Rattle.fw_image.specs.declared.error.Refusal.{Refusal}
+use Rattle.fw_image.specs.declared.error.Refusal.TheVariants.{Fault, Differs}
+use Rattle.fw_world.specs.World.{Activation, Offers}
+use Rattle.fw_world.specs.Step.{activated}
+use Rattle.fw_world.specs.Headline.{IsOffered, FirstNames, IsOwn, IsSafe}
+use Rattle.fw_world.proofs.Cells.{get_cases, no_cell, CellsFit, length-all}
+
+-- what holds of the meter of a number
+pub record IsSafeMeter (IsFirst : FirstNames) (offered : Offers) (activations : List Activation) (number : ℕ) (meter : Meter) : Type 0 where
+  pub block_size : 1 ≤ meter.block_size
+  pub named : IsName meter.running.name
+  pub own : IsOwn IsFirst activations number meter.running.name
+  pub running : sha256 meter.running.bytes ≡ meter.running.name.digest
+  pub goals : (goal : Goal) → goal_of meter.phase ≡ Some goal → IsOffered offered goal.name goal.size
+  pub cells : (goal : Goal) → goal_of meter.phase ≡ Some goal → CellsFit meter.block_size goal.size meter.cells
+  pub verified : status_of meter.phase ≡ VerificationSuccessful → IsGenuine (goal_of meter.phase) (goal_bytes meter)
+
+-- ---- more offers and activations
+
+abbrev pub OffersGrow : Offers → Offers → Type 0
+OffersGrow offered more = (campaign : Campaign) (image : List ℕ) → offered campaign ≡ Some image → more campaign ≡ Some image
+
+pub offered_grows : (offered more : Offers) (name : Name) (size : ℕ) → OffersGrow offered more → IsOffered offered name size → IsOffered more name size
+offered_grows offered more name size grows h = record { image = h.image; offers = grows name.campaign h.image h.offers; named = h.named; sized = h.sized }
+
+pub own_grows : (IsFirst : FirstNames) (activations more : List Activation) (number : ℕ) (name : Name) → IsOwn IsFirst activations number name → IsOwn IsFirst (activations ++ more) number name
+own_grows IsFirst activations more number name (inl first) = inl first
+own_grows IsFirst activations more number name (inr had) = inr (had.0, Contains-append_left activations more _ had.1)
+
+pub offers_grow : (IsFirst : FirstNames) (offered more : Offers) (activations : List Activation) (number : ℕ) (meter : Meter) → OffersGrow offered more
+    → IsSafeMeter IsFirst offered activations number meter → IsSafeMeter IsFirst more activations number meter
+offers_grow IsFirst offered more activations number meter grows k = record {
+  block_size = k.block_size;
+  named = k.named;
+  own = k.own;
+  running = k.running;
+  goals = λ goal e. offered_grows offered more goal.name goal.size grows (k.goals goal e);
+  cells = k.cells;
+  verified = k.verified;
+}
+
+pub activations_grow : (IsFirst : FirstNames) (offered : Offers) (activations more : List Activation) (number : ℕ) (meter : Meter) → IsSafeMeter IsFirst offered activations number meter
+    → IsSafeMeter IsFirst offered (activations ++ more) number meter
+activations_grow IsFirst offered activations more number meter k = record {
+  block_size = k.block_size;
+  named = k.named;
+  own = own_grows IsFirst activations more number meter.running.name k.own;
+  running = k.running;
+  goals = k.goals;
+  cells = k.cells;
+  verified = k.verified;
+}
+
+-- an offered image's name has a spelling
+pub offered_name : (offered : Offers) → ((campaign : Campaign) (image : List ℕ) → offered campaign ≡ Some image → IsOpened campaign) → (name : Name) (size : ℕ) → IsOffered offered name size → IsName name
+offered_name offered campaigns name size h = record {
+  is_campaign = inr (campaigns name.campaign h.image h.offers);
+  digest_size = ap length h.named ∙ length-sha256 h.image;
+}
+
+one_goal : (o : Option Goal) (a b : Goal) → o ≡ Some a → o ≡ Some b → a ≡ b
+one_goal o a b e f = cc
+
+-- a phase that admits a block receives it
+admits_block : (m : Meter) (phase : Phase) (number : ℕ) (value : List ℕ) → Admits m phase (block number value) → (goal : Goal) × (phase ≡ receiving goal) × IsBlock m.block_size goal.size number value
+admits_block m idle number value h = elim h [ ]
+admits_block m (receiving goal) number value h = (goal, refl, h)
+admits_block m (sealed goal) number value h = elim h [ ]
+admits_block m (spoilt goal) number value h = elim h [ ]
+admits_block m switched number value h = elim h [ ]
+
+-- one that admits an activate is verified
+admits_activate : (m : Meter) (phase : Phase) → Admits m phase activate → (goal : Goal) × (phase ≡ sealed goal)
+admits_activate m idle h = elim h [ ]
+admits_activate m (receiving goal) h = elim h [ ]
+admits_activate m (sealed goal) h = (goal, refl)
+admits_activate m (spoilt goal) h = elim h [ ]
+admits_activate m switched h = elim h [ ]
+
+-- ---- what each operation does
+
+-- an image that an operation switches to
+abbrev pub switches : Operation → OperationOutcome → Meter → Option Name
+switches activate done new = Some new.running.name
+switches operation outcome new = None
+
+-- what an operation initiates is offered
+abbrev pub IsOfOffers : Offers → Operation → Type 0
+IsOfOffers offered (initiate name size) = IsOffered offered name size
+IsOfOffers offered operation = Unit {0}
+
+module _ (IsFirst : FirstNames) (offered : Offers) (activations : List Activation) (number : ℕ) where
+  -- the meter is safe, and what it switched to is as offered
+  pub record IsSafeAfter (name : Option Name) (new : Meter) : Type 0 where
+    pub meter : IsSafeMeter IsFirst offered (activations ++ activated number name new) number new
+    pub activation : All (IsSafe offered) (activated number name new)
+
+  pub quiet : (new : Meter) → IsSafeMeter IsFirst offered activations number new → IsSafeAfter None new
+  quiet new k = record { meter = activations_grow IsFirst offered activations [] number new k; activation = All-nil (IsSafe offered) }
+
+  enable_safe : (old : Meter) (b : Bool) → IsSafeMeter IsFirst offered activations number old → IsSafeMeter IsFirst offered activations number (record old { enabled = b })
+  enable_safe old b k =
+      record { block_size = k.block_size; named = k.named; own = k.own; running = k.running; goals = k.goals; cells = k.cells; verified = k.verified }
+
+  begun_safe : (old : Meter) (name : Name) (size : ℕ) → IsOffered offered name size → IsSafeMeter IsFirst offered activations number old → IsSafeMeter IsFirst offered activations number (begun old name size)
+  begun_safe old name size offer k = record {
+    block_size = k.block_size;
+    named = k.named;
+    own = k.own;
+    running = k.running;
+    goals = λ goal e. subst (λ (g : Goal). IsOffered offered g.name g.size) (one_goal _ _ goal refl e) offer;
+    cells = λ goal e n cell f. absurd (no_cell n cell f);
+    verified = λ e. absurd cc;
+  }
+
+  -- a block of the goal is written, or any bytes of its length
+  pub cell_safe : (old : Meter) (goal : Goal) (n : ℕ) (value left : List ℕ) → old.phase ≡ receiving goal → IsBlock old.block_size goal.size n value → length left ≡ length value
+      → IsSafeMeter IsFirst offered activations number old → IsSafeMeter IsFirst offered activations number (with_cell old n left)
+  cell_safe old goal n value left receives is_block size k = record {
+    block_size = k.block_size;
+    named = k.named;
+    own = k.own;
+    running = k.running;
+    goals = k.goals;
+    cells = λ g e other cell f. elim (get_cases old.cells n left other cell f) [
+      | inl same ↦
+          let block_length : ℕ → ℕ → ℕ = λ size number. block_end old.block_size size number - block_start old.block_size number in
+          let goals : goal ≡ g = one_goal (goal_of old.phase) goal g (ap goal_of receives) e in
+          sym (ap length same.1) ∙ size ∙ is_block.long ∙ (λ i. block_length (goals i).size (sym same.0 i))
+      | inr had ↦ k.cells g e other cell had
+    ];
+    verified = λ e. let status = ap status_of receives in absurd cc;
+  }
+
+  -- another phase with the same goal, which is verified only where its bytes are genuine
+  pub phase_safe : (old : Meter) (phase : Phase) → goal_of phase ≡ goal_of old.phase → (status_of phase ≡ VerificationSuccessful → IsGenuine (goal_of old.phase) (goal_bytes old))
+      → IsSafeMeter IsFirst offered activations number old → IsSafeMeter IsFirst offered activations number (record old { phase = phase })
+  phase_safe old phase same genuine k = record {
+    block_size = k.block_size;
+    named = k.named;
+    own = k.own;
+    running = k.running;
+    goals = λ goal e. k.goals goal (sym same ∙ e);
+    cells = λ goal e. k.cells goal (sym same ∙ e);
+    verified = λ e. subst (λ (o : Option Goal). IsGenuine o (joined old.cells (goal_count old.block_size o))) (sym same) (genuine e);
+  }
+
+  sealed_goal : (p : Phase) → goal_of (sealed_phase p) ≡ goal_of p
+  sealed_goal idle = refl
+  sealed_goal (receiving goal) = refl
+  sealed_goal (sealed goal) = refl
+  sealed_goal (spoilt goal) = refl
+  sealed_goal switched = refl
+
+  spoilt_goal : (p : Phase) → goal_of (spoilt_phase p) ≡ goal_of p
+  spoilt_goal idle = refl
+  spoilt_goal (receiving goal) = refl
+  spoilt_goal (sealed goal) = refl
+  spoilt_goal (spoilt goal) = refl
+  spoilt_goal switched = refl
+
+  -- what is verified afterwards was so before
+  spoilt_status : (p : Phase) → status_of (spoilt_phase p) ≡ VerificationSuccessful → status_of p ≡ VerificationSuccessful
+  spoilt_status idle e = e
+  spoilt_status (receiving goal) e = absurd cc
+  spoilt_status (sealed goal) e = e
+  spoilt_status (spoilt goal) e = e
+  spoilt_status switched e = e
+
+  -- the bytes of a genuine goal
+  genuine_bytes : (goal : Goal) (o : Option (List ℕ)) → IsGenuine (Some goal) o → (bytes : List ℕ) × (o ≡ Some bytes) × (sha256 bytes ≡ goal.name.digest)
+  genuine_bytes goal None h = elim h [ ]
+  genuine_bytes goal (Some bytes) h = (bytes, refl, h)
+
+  -- the goal of a verified meter becomes the image that runs
+  switched_safe : (old : Meter) (goal : Goal) (bytes : List ℕ) → IsName goal.name → IsOffered offered goal.name goal.size → length bytes ≡ goal.size → sha256 bytes ≡ goal.name.digest
+      → IsSafeMeter IsFirst offered activations number old → IsSafeAfter (Some goal.name) (switched_to old (sealed goal) (Some bytes))
+  switched_safe old goal bytes named offer size digest k = record {
+    meter = record {
+      block_size = k.block_size;
+      named = named;
+      own = inr (bytes, Contains-push activations _);
+      running = digest;
+      goals = λ g e. absurd cc;
+      cells = λ g e. absurd cc;
+      verified = λ e. absurd cc;
+    };
+    activation = All-cons (IsSafe offered) _ []
+        (record { image = offer.image; offers = offer.offers; sized = size ∙ offer.sized; digest = digest; named = sym offer.named })
+        (All-nil (IsSafe offered));
+  }
+
+  activate_safe : ((campaign : Campaign) (image : List ℕ) → offered campaign ≡ Some image → IsOpened campaign) → (old new : Meter) → IsSafeMeter IsFirst offered activations number old
+      → Admits old old.phase activate → new ≡ switched_to old old.phase (goal_bytes old) → IsSafeAfter (Some new.running.name) new
+  activate_safe campaigns old new k admits is =
+      let is_sealed = admits_activate old old.phase admits in
+      let goal : Goal = is_sealed.0 in
+      let phase : old.phase ≡ sealed goal = is_sealed.1 in
+      let goal_is : goal_of old.phase ≡ Some goal = ap goal_of phase in
+      let genuine : IsGenuine (Some goal) (goal_bytes old) =
+      subst (λ (o : Option Goal). IsGenuine o (goal_bytes old)) goal_is (k.verified (ap status_of phase)) in
+      let bytes = genuine_bytes goal (goal_bytes old) genuine in
+      let whole : joined old.cells (goal_count old.block_size (Some goal)) ≡ Some bytes.0 =
+      ap (λ (o : Option Goal). joined old.cells (goal_count old.block_size o)) (sym goal_is) ∙ bytes.1 in
+      let offer : IsOffered offered goal.name goal.size = k.goals goal goal_is in
+      let size : length bytes.0 ≡ goal.size = length-all old.block_size goal.size old.cells bytes.0 k.block_size (k.cells goal goal_is) whole in
+      let same : new ≡ switched_to old (sealed goal) (Some bytes.0) = is ∙ (λ i. switched_to old (phase i) (bytes.1 i)) in
+      subst (λ (m : Meter). IsSafeAfter (Some m.running.name) m) (sym same)
+      (switched_safe old goal bytes.0 (offered_name offered campaigns goal.name goal.size offer) offer size bytes.2 k)
+
+  -- an operation that no line refuses
+  does_safe : ((campaign : Campaign) (image : List ℕ) → offered campaign ≡ Some image → IsOpened campaign) → (old new : Meter) → IsSafeMeter IsFirst offered activations number old
+      → (operation : Operation) (outcome : OperationOutcome) → IsOfOffers offered operation → Serves old operation → Does true old operation outcome new
+      → IsSafeAfter (switches operation outcome new) new
+  does_safe campaigns old new k (enable b) done asks serves does = quiet new (subst (IsSafeMeter IsFirst offered activations number) (sym (does.is refl)) (enable_safe old b k))
+  does_safe campaigns old new k (initiate name size) done asks serves does = quiet new (subst (IsSafeMeter IsFirst offered activations number) (sym (does.is refl)) (begun_safe old name size asks k))
+  does_safe campaigns old new k (block n value) done asks serves does =
+      let admitted = admits_block old old.phase n value serves.1 in
+      quiet new (subst (IsSafeMeter IsFirst offered activations number) (sym (does.is refl)) (cell_safe old admitted.0 n value value admitted.1 admitted.2 refl k))
+  does_safe campaigns old new k verify done asks serves does =
+      quiet new (subst (IsSafeMeter IsFirst offered activations number) (sym (does.0.is refl)) (phase_safe old (sealed_phase old.phase) (sealed_goal old.phase) (λ e. does.1 refl) k))
+  does_safe campaigns old new k activate done asks serves does = activate_safe campaigns old new k serves.1 (does.is refl)
+  does_safe campaigns old new k verify (refused Differs) asks serves does =
+      quiet new (subst (IsSafeMeter IsFirst offered activations number) (sym (does.0.is refl))
+      (phase_safe old (spoilt_phase old.phase) (spoilt_goal old.phase) (λ e. k.verified (spoilt_status old.phase e)) k))
+  does_safe campaigns old new k (block n value) (refused Fault) asks serves (inl leaves) = quiet new (subst (IsSafeMeter IsFirst offered activations number) (sym (leaves.is refl)) k)
+  does_safe campaigns old new k (block n value) (refused Fault) asks serves (inr torn) =
+      let admitted = admits_block old old.phase n value serves.1 in
+      quiet new (subst (IsSafeMeter IsFirst offered activations number) (sym (torn.4.is refl)) (cell_safe old admitted.0 n value torn.1 admitted.1 admitted.2 torn.3 k))
+  does_safe campaigns old new k operation (refused Fault) asks serves does = quiet new (subst (IsSafeMeter IsFirst offered activations number) (sym (does.is refl)) k)
+  does_safe campaigns old new k operation (refused r) asks serves does = elim does [ ]
+
+  pub step_safe : ((campaign : Campaign) (image : List ℕ) → offered campaign ≡ Some image → IsOpened campaign) → (old new : Meter) → IsSafeMeter IsFirst offered activations number old
+      → (operation : Operation) (outcome : OperationOutcome) → IsOfOffers offered operation → Step true old operation outcome new → IsSafeAfter (switches operation outcome new) new
+  step_safe campaigns old new k operation outcome asks (inl h) =
+      subst (λ (o : OperationOutcome). IsSafeAfter (switches operation o new) new) (sym h.told)
+      (refused_safe operation h.refusal (subst (IsSafeMeter IsFirst offered activations number) (sym (h.same.is refl)) k))
+    where
+      refused_safe : (operation : Operation) (r : Refusal) → IsSafeMeter IsFirst offered activations number new → IsSafeAfter (switches operation (refused r) new) new
+      refused_safe activate r safe = quiet new safe
+      refused_safe operation r safe = quiet new safe
+  step_safe campaigns old new k operation outcome asks (inr h) = does_safe campaigns old new k operation outcome asks h.serves h.does

@@ -1,0 +1,86 @@
+-- What every step keeps, and so every run.
+use Rattle.std.proofs.Common.{◌≡◌, ℕ, inl, inr, List, [], ◌∷◌, Some, refl, sym, ◌∙◌, ap, subst, All}
+use Rattle.std.proofs.lemmas.List.Elements.{All-nil, All-contains}
+use Rattle.sha2.proofs.Facts256.{length-sha256}
+use Rattle.fw_axdr.specs.Laws as axdr
+use Rattle.fw_names.specs.Laws as names
+use Rattle.fw_names.specs.Name.{Name, factory}
+use Rattle.fw_apdu.specs.Laws as apdu
+use Rattle.fw_store.specs.Setup.{IsSetup}
+use Rattle.fw_image.specs.Fresh.{fresh_meter}
+use Rattle.fw_image.specs.Meter.{Meter}
+use Rattle.fw_world.specs.declared.datagram.Direction.{Direction}
+use Rattle.fw_world.specs.declared.datagram.Direction.TheVariants.{ToMeter, ToHead}
+use Rattle.fw_world.specs.World.{World}
+use Rattle.fw_world.specs.Step.{Event, open_campaign, cancel_campaign, tick, deliver, stop, restart_meter, restart_head, turn, Delivers, WorldStep, IsOpening, Run}
+use Rattle.fw_world.specs.Headline.{FirstNames, IsFactoryName, IsFirstName, InitiatesOffered, TellsOwn, IsSafe, ActivationsAreEqual}
+use Rattle.fw_world.specs.Laws.{AfterEachRun, IsSafeWorld, EveryStepIsSafe}
+use Rattle.fw_world.proofs.Meters.{IsSafeMeter}
+use Rattle.fw_world.proofs.Events.{at_number, world_of, open_safe, tick_safe, serves_safe, stop_safe, marks_safe}
+
+module _ (one_name : names.OneName) (size : names.SpellingSize) (requests : apdu.OneRequest) (shorts : axdr.ShortSpells) (spellings : axdr.OneSpelling) where
+  module _ (IsFirst : FirstNames) (first : (number : ℕ) (name : Name) → IsFirst number name → name.campaign ≡ factory) where
+    step_safe : (old new : World) (event : Event) → WorldStep old event new → IsSafeWorld IsFirst old → IsSafeWorld IsFirst new
+    step_safe old new (open_campaign campaign image meters) s k = subst (IsSafeWorld IsFirst) (sym s.2) (open_safe IsFirst old k campaign image s.0 s.1)
+    step_safe old new (cancel_campaign campaign) s k = subst (IsSafeWorld IsFirst) (sym s) k
+    step_safe old new (tick head meter) s k = subst (IsSafeWorld IsFirst) (sym s.2) (tick_safe IsFirst requests old k head meter s.0 s.1)
+    step_safe old new (deliver number) s k = delivers s.0.direction refl s.2
+      where
+        delivers : (way : Direction) → s.0.direction ≡ way → Delivers way old s.0 new → IsSafeWorld IsFirst new
+        delivers ToMeter is serves =
+            serves_safe IsFirst one_name shorts spellings old k s.0 (at_number (InitiatesOffered old.offered) old.sent number s.0 k.initiates s.1) new serves
+        delivers ToHead is (inl same) = subst (IsSafeWorld IsFirst) (sym same) k
+        delivers ToHead is (inr marks) =
+            marks_safe IsFirst one_name size first old k s.0 is (at_number (TellsOwn IsFirst old.activations) old.sent number s.0 k.names.told s.1) new marks
+    step_safe old new (stop number calls torn) s k =
+        stop_safe IsFirst one_name old k s.0 (at_number (InitiatesOffered old.offered) old.sent number s.0 k.initiates s.1) new s.3
+    step_safe old new (restart_meter number) s k = subst (IsSafeWorld IsFirst) (sym s.2) k
+    step_safe old new (restart_head head) s k = subst (IsSafeWorld IsFirst) (sym s) k
+    step_safe old new (turn number) s k = subst (IsSafeWorld IsFirst) (sym s.2) k
+
+    run_safe : (old new : World) (events : List Event) → Run old events new → IsSafeWorld IsFirst old → IsSafeWorld IsFirst new
+    run_safe old new [] r k = subst (IsSafeWorld IsFirst) (sym r) k
+    run_safe old new (event ∷ events) r k = run_safe r.0 new events r.2 (step_safe old r.0 event r.1 k)
+
+  pub every_step_is_safe : EveryStepIsSafe
+  every_step_is_safe old new event s k = step_safe IsFactoryName (λ number name e. e) old new event s k
+
+  -- ---- from the opening world on
+
+  fresh_safe : (opening : World) (number : ℕ) (meter : Meter) (block_size capacity : ℕ) (image : List ℕ) → opening.meters number ≡ Some meter → IsSetup block_size capacity image
+      → meter ≡ fresh_meter block_size capacity image → IsSafeMeter (IsFirstName opening) opening.offered opening.activations number meter
+  fresh_safe opening number meter block_size capacity image there setup is =
+      subst (IsSafeMeter (IsFirstName opening) opening.offered opening.activations number) (sym is) (record {
+        block_size = setup.some_block;
+        named = record { is_campaign = inl refl; digest_size = length-sha256 image };
+        own = inl (meter, there, ap (λ (m : Meter). m.running.name) (sym is));
+        running = refl;
+        goals = λ goal e. absurd cc;
+        cells = λ goal e. absurd cc;
+        verified = λ e. absurd cc;
+      })
+
+  opening_safe : (opening : World) → IsOpening opening → IsSafeWorld (IsFirstName opening) opening
+  opening_safe opening o = world_of (IsFirstName opening) opening (record {
+    campaigns = λ campaign image e. let none = o.offered campaign in absurd cc;
+    meters = λ number meter e. let m = o.meters number meter e in fresh_safe opening number meter m.0 m.1 m.2 e m.3 m.4;
+    initiates = subst (All (InitiatesOffered opening.offered)) (sym o.sent) (All-nil (InitiatesOffered opening.offered));
+    told = subst (All (TellsOwn (IsFirstName opening) opening.activations)) (sym o.sent) (All-nil (TellsOwn (IsFirstName opening) opening.activations));
+    activations = subst (All (IsSafe opening.offered)) (sym o.activations) (All-nil (IsSafe opening.offered));
+    done = λ campaign meter e. let none = o.done campaign meter in absurd cc;
+  })
+
+  -- a meter is made with a name of no campaign
+  first_is_factory : (opening : World) → IsOpening opening → (number : ℕ) (name : Name) → IsFirstName opening number name → name.campaign ≡ factory
+  first_is_factory opening o number name f =
+      let m = o.meters number f.0 f.1 in
+      ap (λ (n : Name). n.campaign) (f.2 ∙ ap (λ (x : Meter). x.running.name) m.4)
+
+  pub every_run_is_safe : AfterEachRun (λ opening w. IsSafeWorld (IsFirstName opening) w)
+  every_run_is_safe opening w events o r = run_safe (IsFirstName opening) (first_is_factory opening o) opening w events r (opening_safe opening o)
+
+  pub every_run_is_equal : AfterEachRun (λ opening w. ActivationsAreEqual w)
+  every_run_is_equal opening w events o r free a h =
+      let safe = All-contains (IsSafe w.offered) w.activations a (every_run_is_safe opening w events o r).activations.activations h in
+      let same = free a a.name.campaign safe.image h safe.offers (safe.digest ∙ sym safe.named) in
+      safe.offers ∙ ap Some (sym same)

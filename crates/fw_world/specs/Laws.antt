@@ -1,0 +1,26 @@
+-- Public vocabulary: the laws of the world. They speak of definitions alone.
+use Rattle.std.specs.Prelude.{List}
+use Rattle.fw_world.specs.World.{World}
+use Rattle.fw_world.specs.State.{State, IsState, StateStep, world_of}
+use Rattle.fw_world.specs.Step.{Event, IsOpening, WorldStep, Run}
+use Rattle.fw_world.specs.Headline.{FirstNames, IsFactoryName, IsSound, InitiatesAreOffered, NamesAreOwn, GoalsAreOffered, ActivationsAreSafe}
+
+-- what holds of each world that a run leads to, with the opening one
+abbrev pub AfterEachRun : (World → World → Type 0) → Type 0
+AfterEachRun P = (opening w : World) (events : List Event) → IsOpening opening → Run opening events w → P opening w
+
+-- the four parts, and what the types of the parts say of each world
+pub record IsSafeWorld (IsFirst : FirstNames) (w : World) : Type 0 where
+  pub sound : IsSound w
+  pub initiates : InitiatesAreOffered w
+  pub names : NamesAreOwn IsFirst w
+  pub goals : GoalsAreOffered w
+  pub activations : ActivationsAreSafe w
+
+-- each step keeps it
+abbrev pub EveryStepIsSafe : Type 0
+EveryStepIsSafe = (old new : World) (event : Event) → WorldStep old event new → IsSafeWorld IsFactoryName old → IsSafeWorld IsFactoryName new
+
+-- what is kept makes the steps of the world that it is
+abbrev pub StateStepsAsWorld : Type 0
+StateStepsAsWorld = (old new : State) (event : Event) → IsState old → StateStep old event new → WorldStep (world_of old) event (world_of new)

@@ -1,0 +1,9 @@
+-- Public vocabulary: the words of public clauses, for callers and readers.
+pub mod World
+pub mod Step
+pub mod State
+pub mod View
+pub mod Headline
+pub mod Laws
+-- For private clauses and models alone: no public clause cites it.
+pub mod Inside

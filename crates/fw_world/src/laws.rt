@@ -1,0 +1,41 @@
+//! Laws of the world, over the definitions alone. A caller cites a law by calling it: nothing is done.
+
+ghost use Rattle.fw_world.specs.Laws.{AfterEachRun, EveryStepIsSafe, StateStepsAsWorld};
+ghost use Rattle.fw_world.specs.Headline.{IsFirstName, InitiatesAreOffered, NamesAreOwn, GoalsAreOffered, ActivationsAreSafe, ActivationsAreEqual};
+
+/// Each step keeps what holds of a world that events led to.
+pub fn every_step_is_safe()
+    ensures { EveryStepIsSafe }
+{
+    fw_axdr::laws::short_spells();
+    fw_axdr::laws::one_spelling();
+    fw_names::laws::one_name();
+    fw_names::laws::spelling_size();
+    fw_apdu::laws::one_request();
+}
+
+/// What is kept makes the steps of the world that it is.
+pub fn state_steps_as_world()
+    ensures { StateStepsAsWorld }
+{
+    fw_book::laws::images_stay();
+    fw_book::laws::opening_offers();
+    fw_book::laws::states_follow();
+    fw_book::laws::admitted_opens();
+    fw_head::laws::row_keeps_goal();
+}
+
+/// Over every run, what a meter switches to is what the campaign in its name offers, and a meter that is done switched to it.
+pub fn every_run_is_safe()
+    ensures initiates { AfterEachRun (λ opening w. InitiatesAreOffered w) }
+    ensures names { AfterEachRun (λ opening w. NamesAreOwn (IsFirstName opening) w) }
+    ensures goals { AfterEachRun (λ opening w. GoalsAreOffered w) }
+    ensures activations { AfterEachRun (λ opening w. ActivationsAreSafe w) }
+    ensures equal { AfterEachRun (λ opening w. ActivationsAreEqual w) }
+{
+    fw_axdr::laws::short_spells();
+    fw_axdr::laws::one_spelling();
+    fw_names::laws::one_name();
+    fw_names::laws::spelling_size();
+    fw_apdu::laws::one_request();
+}
