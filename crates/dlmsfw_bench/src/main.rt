@@ -7,7 +7,7 @@
 //! - `copy SIZE TIMES`: so many bytes are copied so many times.
 //! - `verify SIZE ROUNDS DATAGRAM ..`: a meter handles the datagrams so many times, which move an image of so many bytes `a`.
 //!   The last two are its verify and its activate. `timed` does the same, and each round has a line before: the processor time
-//!   of verify, and that of the digest of the same bytes alone, in nanoseconds.
+//!   of verify and its turns, and that of the digest of the same bytes alone, in nanoseconds.
 #![tactic(auto)]
 
 mod codec;

@@ -1,7 +1,9 @@
 //! Windows: the blocks to be sent next.
 
-ghost use Rattle.std.specs.Prelude.{◌≡◌, ℕ, ◌<◌, ◌≤◌, length, SomeIff, All, Contains};
+ghost use Rattle.std.specs.Prelude.{◌≡◌, ℕ, ◌-◌, ◌<◌, ◌≤◌, List, ◌++◌, length, SomeIff, All, Contains};
+ghost use Rattle.std.specs.List.{range_with_len};
 ghost use Rattle.std.specs.List.Sorted.{IsStrictlyIncreasing};
+ghost use Rattle.fw_blocks.specs.Inside.{Lists};
 ghost use Rattle.fw_blocks.specs.Members.{IsAbsent, window};
 ghost use Rattle.fw_blocks.specs.Width.{IsWidth, max_width};
 
@@ -102,21 +104,39 @@ impl Window {
     }
 }
 
-/// The lowest absent numbers, as many as the width, looked for from the first missing one on.
+/// The lowest absent numbers, as many as the width: those in front of a run, and then those behind it, run by run.
 fn lowest_absent(set: &BlockSet, width: usize) -> Window
     requires { width ≤ PLACES }
     ensures { result ≡ window set.now width }
 {
     let mut numbers = [0; PLACES];
     let mut len = 0;
-    for number in set.first_missing()..set.count() {
+    let mut from = 0;
+    for run in set.runs() {
+        if len == width {
+            return Window { numbers, len };
+        }
+        len = list(&mut numbers, len, width, from, run.start);
+        from = run.end;
+    }
+    len = list(&mut numbers, len, width, from, set.count());
+    Window { numbers, len }
+}
+
+/// Lists the numbers from one on and below another behind those that are listed, until there are as many as the width.
+fn list(numbers: &mut [u32; PLACES], listed: usize, width: usize, from: u32, to: u32) -> usize
+    requires few { listed ≤ width }
+    requires fits { width ≤ PLACES }
+    ensures few { result ≤ width }
+    ensures lists { (before : List ℕ) → Lists before width numbers.old listed → Lists (before ++ range_with_len from (to - from)) width numbers.new result }
+{
+    let mut len = listed;
+    for number in from..to {
         if len == width {
             break;
         }
-        if !set.has(number) {
-            numbers[len] = number;
-            len += 1;
-        }
+        numbers[len] = number;
+        len += 1;
     }
-    Window { numbers, len }
+    len
 }

@@ -1,6 +1,7 @@
 mod Blocks
 mod Meters
 mod Moves
+mod Judging
 mod Puts
 mod Openings
 mod Fresh

@@ -14,9 +14,14 @@ use Rattle.fw_store.specs.declared.header.Header.{Header}
 use Rattle.fw_store.specs.declared.header.Goal.{Goal}
 use Rattle.fw_store.specs.declared.header.StoredStatus.{StoredStatus}
 use Rattle.fw_store.specs.declared.header.StoredStatus.TheVariants.{NotInitiated, Initiated, VerificationSuccessful, VerificationFailed, ActivationSuccessful}
-use Rattle.fw_image.specs.Meter.{status_of, goal_of, joined, marks_of, goal_bytes}
+use Rattle.fw_verify.specs.Progress.{Progress}
+use Rattle.fw_image.specs.Status.{shown_status}
+use Rattle.fw_image.specs.declared.status.TransferStatus.{TransferStatus}
+use Rattle.fw_image.specs.declared.status.TransferStatus.TheVariants as shows
+use Rattle.fw_image.specs.Meter.{Meter, Phase, idle, receiving, verifying, sealed, spoilt, switched, status_of, goal_of, joined, marks_of, goal_bytes, reopened, reopened_phase}
+use Rattle.fw_image.specs.Step.{digested_phase}
 use Rattle.fw_image.specs.Shown.{Shown, shown_of}
-use Rattle.fw_image.specs.Stored.{phase_of, cells_of, blocks_below, meter_of, seen}
+use Rattle.fw_image.specs.Stored.{phase_of, phase_at, cells_of, blocks_below, meter_of, meter_at, seen, IsVerifying, IsDigested}
 use Rattle.fw_image.proofs.Blocks.{marks_again, joined_all, joined_unmarked}
 
 -- ---- the phase gives its goal and its status back
@@ -33,7 +38,7 @@ goal_again VerificationFailed (Some goal) e = refl
 goal_again ActivationSuccessful None e = refl
 goal_again ActivationSuccessful (Some goal) e = cc
 
-pub status_again : (status : StoredStatus) (goal : Option Goal) → is_some goal ≡ has_goal status → status_of (phase_of status goal) ≡ status
+pub status_again : (status : StoredStatus) (goal : Option Goal) → is_some goal ≡ has_goal status → status_of (phase_of status goal) ≡ shown_status status
 status_again NotInitiated goal e = refl
 status_again Initiated None e = absurd cc
 status_again Initiated (Some goal) e = refl
@@ -42,6 +47,73 @@ status_again VerificationSuccessful (Some goal) e = refl
 status_again VerificationFailed None e = absurd cc
 status_again VerificationFailed (Some goal) e = refl
 status_again ActivationSuccessful goal e = refl
+
+-- the status that a header keeps
+abbrev pub kept_status : TransferStatus → StoredStatus
+kept_status shows.NotInitiated = NotInitiated
+kept_status shows.Initiated = Initiated
+kept_status shows.VerificationInitiated = Initiated
+kept_status shows.VerificationSuccessful = VerificationSuccessful
+kept_status shows.VerificationFailed = VerificationFailed
+kept_status shows.ActivationSuccessful = ActivationSuccessful
+
+kept_again : (status : StoredStatus) → kept_status (shown_status status) ≡ status
+kept_again NotInitiated = refl
+kept_again Initiated = refl
+kept_again VerificationSuccessful = refl
+kept_again VerificationFailed = refl
+kept_again ActivationSuccessful = refl
+
+pub status_kept : (status : StoredStatus) (goal : Option Goal) (shown : TransferStatus) → is_some goal ≡ has_goal status → status_of (phase_of status goal) ≡ shown → status ≡ kept_status shown
+status_kept status goal shown e is = sym (kept_again status) ∙ ap kept_status (sym (status_again status goal e) ∙ is)
+
+-- ---- a goal that is verified
+
+-- the goal is as before
+same_goal : (phase : Phase) (taken : ℕ) → goal_of (digested_phase phase taken) ≡ goal_of phase
+same_goal idle taken = refl
+same_goal (receiving goal) taken = refl
+same_goal (verifying goal before) taken = refl
+same_goal (sealed goal) taken = refl
+same_goal (spoilt goal) taken = refl
+same_goal switched taken = refl
+
+pub goal_at : (digesting : Option Progress) (phase : Phase) → goal_of (phase_at digesting phase) ≡ goal_of phase
+goal_at None phase = refl
+goal_at (Some progress) phase = same_goal phase progress.taken
+
+pub phase_received : (h : Header) (goal : Goal) → h.status ≡ Initiated → h.goal ≡ Some goal → phase_of h.status h.goal ≡ receiving goal
+phase_received h goal receives there = rw (receives, there) refl
+
+pub phase_verified : {S : Type 0} (honest : S → Bool) (device : S → Device) (store : S) (h : Header) (progress : Progress) → (is : IsVerifying honest device store h progress)
+    → phase_at (Some progress) (phase_of h.status h.goal) ≡ verifying is.goal progress.taken
+phase_verified honest device store h progress is = ap (λ (p : Phase). digested_phase p progress.taken) (phase_received h is.goal is.receives is.there)
+
+-- in no other status anything is digested
+pub none_digested : {S : Type 0} (honest : S → Bool) (device : S → Device) (store : S) (h : Header) (digesting : Option Progress) → IsDigested honest device store h digesting
+    → (shown : TransferStatus) → status_of (phase_at digesting (phase_of h.status h.goal)) ≡ shown → (shows.VerificationInitiated ≡ shown → ⊥) → digesting ≡ None
+none_digested honest device store h None is shown status other = refl
+none_digested honest device store h (Some progress) is shown status other = absurd (other (sym (ap status_of (phase_verified honest device store h progress is)) ∙ status))
+
+-- no header says that a goal is verified
+reopened_kept : (status : StoredStatus) (goal : Option Goal) → reopened_phase (phase_of status goal) ≡ phase_of status goal
+reopened_kept NotInitiated goal = refl
+reopened_kept Initiated None = refl
+reopened_kept Initiated (Some goal) = refl
+reopened_kept VerificationSuccessful None = refl
+reopened_kept VerificationSuccessful (Some goal) = refl
+reopened_kept VerificationFailed None = refl
+reopened_kept VerificationFailed (Some goal) = refl
+reopened_kept ActivationSuccessful goal = refl
+
+-- once it is opened again, the meter is that of the header
+pub reopened_at : {S : Type 0} (honest : S → Bool) (device : S → Device) (store : S) (capacity : ℕ) (h : Header) (digesting : Option Progress) (d : Device) → IsDigested honest device store h digesting
+    → reopened (meter_at capacity h digesting d) ≡ meter_of capacity h d
+reopened_at honest device store capacity h None d is =
+    ap (λ (p : Phase). let m : Meter = record (meter_of capacity h d) { phase = p } in m) (reopened_kept h.status h.goal)
+reopened_at honest device store capacity h (Some progress) d is =
+    ap (λ (p : Phase). let m : Meter = record (meter_of capacity h d) { phase = reopened_phase p } in m) (phase_verified honest device store h progress is)
+    ∙ ap (λ (p : Phase). let m : Meter = record (meter_of capacity h d) { phase = p } in m) (sym (phase_received h is.goal is.receives is.there))
 
 -- ---- slots
 
@@ -113,6 +185,14 @@ shown_is capacity h d is sized =
       active_size = active i;
       marked = marked i;
     }
+
+-- and so it is while the goal is verified
+pub shown_at : (capacity : ℕ) (h : Header) (digesting : Option Progress) (d : Device) → IsHeader capacity h → ((slot : Slot) → length (slot_bytes d slot) ≡ capacity)
+    → shown_of (meter_at capacity h digesting d) ≡ record (shown_by capacity h) { phase = phase_at digesting (phase_of h.status h.goal) }
+shown_at capacity h digesting d is sized =
+    let was = shown_of (meter_at capacity h digesting d) in
+    ap (λ (goal : Option Goal). let shown : Shown = record was { marked = marks_of (meter_of capacity h d).cells (goal_count h.block_size goal) } in shown) (goal_at digesting (phase_of h.status h.goal))
+    ∙ ap (λ (s : Shown). let shown : Shown = record s { phase = phase_at digesting (phase_of h.status h.goal) } in shown) (shown_is capacity h d is sized)
 
 -- ---- the goal's bytes
 

@@ -1,34 +1,34 @@
 -- Writes of a header are the steps of a meter.
-use Rattle.std.proofs.Common.{◌≡◌, ◌≢◌, ℕ, ◌+◌, ◌<◌, Bool, true, false, IsTrue, List, length, take, Some, None, Option, cond, ◌↔◌, refl, sym, ap, subst, ◌∙◌, arith, ◌⊎◌, inl, inr}
+use Rattle.std.proofs.Common.{◌≡◌, ℕ, ◌<◌, Bool, true, false, IsTrue, List, length, take, Some, None, Option, refl, sym, ap, subst, ◌∙◌, arith, ◌⊎◌, inl, inr}
 use Rattle.fw_blocks.specs.Cuts.{block_count}
 use Rattle.fw_blocks.specs.Members.{has}
 use Rattle.fw_blocks.specs.Laws.{CutsJoin}
 use Rattle.sha2.specs.Sha256.{sha256}
-use Rattle.std.specs.Prelude.{IfSome, is_some, Result, Ok, Err, IsErrAnd}
+use Rattle.std.specs.Prelude.{IfSome, Result, Ok, Err, IsErrAnd}
 use Rattle.fw_image.specs.Moves.{outcome_of}
 use Rattle.fw_names.specs.Name.{Name, Campaign}
 use Rattle.fw_store.specs.Device.{Device, slot_bytes, with_head}
 use Rattle.fw_store.specs.Faults.{Keeps, count_after, Spends}
 use Rattle.fw_store.specs.Slot.{other}
 use Rattle.fw_store.specs.Layout.{header_bytes}
-use Rattle.fw_store.specs.Header.{IsHeader, IsGoal, FieldsFit, goal_count, has_goal, is_verified}
+use Rattle.fw_store.specs.Header.{IsHeader, IsGoal, FieldsFit, goal_count, is_verified}
 use Rattle.fw_store.specs.declared.slot.Slot.{Slot}
 use Rattle.fw_store.specs.declared.store.ImageStore.{Ghosts}
 use Rattle.fw_store.specs.declared.header.Header.{Header}
 use Rattle.fw_store.specs.declared.header.Goal.{Goal}
-use Rattle.fw_store.specs.declared.header.StoredStatus.{StoredStatus}
-use Rattle.fw_store.specs.declared.header.StoredStatus.TheVariants.{Initiated, VerificationSuccessful, VerificationFailed, ActivationSuccessful}
-use Rattle.fw_image.specs.Meter.{Meter, Phase, Cells, IsTrusted, status_of, goal_of, joined, goal_bytes, IsGenuine, idle, receiving, sealed, spoilt, switched}
+use Rattle.fw_store.specs.declared.header.StoredStatus.TheVariants as kept
+use Rattle.fw_image.specs.declared.status.TransferStatus.TheVariants.{Initiated, VerificationSuccessful}
+use Rattle.fw_image.specs.Meter.{Meter, Phase, IsTrusted, status_of, goal_of, goal_bytes, IsGenuine, idle, receiving, verifying, sealed, spoilt, switched}
 use Rattle.fw_image.specs.Shown.{shown_of}
-use Rattle.fw_image.specs.Step.{Operation, OperationOutcome, done, refused, Refuses, Serves, Does, Leaves, IsOffer, begun, sealed_phase, spoilt_phase, switched_to, Admits, refusal_in, is_operation_faultless, enable, initiate, block, verify, activate}
+use Rattle.fw_image.specs.Step.{Operation, OperationOutcome, refused, Refuses, Serves, Does, Leaves, IsOffer, begun, switched_to, Admits, refusal_in, is_operation_faultless, enable, initiate, block, verify, activate}
 use Rattle.fw_image.specs.declared.error.Refusal.{Refusal}
-use Rattle.fw_image.specs.declared.error.Refusal.TheVariants.{Disabled, Fault, Missing, Differs}
-use Rattle.fw_image.specs.State.{Makes}
-use Rattle.fw_image.specs.Calls.{goal_size, calls_for}
-use Rattle.fw_verify.specs.Pieces.{piece_count}
-use Rattle.fw_image.specs.Stored.{phase_of, meter_of, seen, state_of, IsHeld}
+use Rattle.fw_image.specs.declared.error.Refusal.TheVariants.{Disabled, Fault}
+use Rattle.fw_image.specs.State.{State, Makes}
+use Rattle.fw_image.specs.Calls.{calls_for}
+use Rattle.fw_verify.specs.Progress.{Progress, IsDigesting}
+use Rattle.fw_image.specs.Stored.{phase_of, meter_of, meter_at, seen, state_of, IsHeld, IsDigested, IsHolding}
 use Rattle.fw_image.proofs.Blocks.{blocks_none}
-use Rattle.fw_image.proofs.Meters.{SameSlots, headed, seen_headed, seen_size, seen_real, seen_same, whole_bytes, goal_again, status_again}
+use Rattle.fw_image.proofs.Meters.{SameSlots, headed, seen_headed, seen_size, seen_real, seen_same, whole_bytes, goal_again, status_kept}
 
 pub leaves : (honest : Bool) (this new : Meter) → new ≡ this → Leaves honest this new
 leaves honest this new e = record { shows = ap shown_of e; is = λ _. e }
@@ -60,62 +60,80 @@ served_only m (block i value) serves r line = method_only m (block i value) r se
 served_only m verify serves r line = method_only m verify r serves.0 serves.1 line
 served_only m activate serves r line = method_only m activate r serves.0 serves.1 line
 
+-- ---- operations
+
+-- what is seen of a store
+abbrev pub seen_of : {S : Type 0} → Ghosts S → S → Device
+seen_of t s = seen (t.honest s) (t.capacity s) (t.device s)
+
+-- the meter of a store and its header, and the state of them
+abbrev pub meter_in : {S : Type 0} → Ghosts S → S → Header → Option Progress → Meter
+meter_in t s h digesting = meter_at (t.capacity s) h digesting (seen_of t s)
+
+abbrev pub state_in : {S : Type 0} → Ghosts S → S → Header → Option Progress → State
+state_in t s h digesting = state_of t.honest t.sound t.capacity t.faults t.calls_left t.device s h digesting
+
 -- an operation that a line refuses
-pub makes_refused : {S : Type 0} (t : Ghosts S) (s : S) (h : Header) (operation : Operation) (r : Refusal) → IsTrue (is_operation_faultless (refused r))
-    → Refuses (meter_of (t.capacity s) h (seen (t.honest s) (t.capacity s) (t.device s))) operation r
-    → Makes (state_of t.honest t.sound t.capacity t.faults t.calls_left t.device s h) operation (refused r) (state_of t.honest t.sound t.capacity t.faults t.calls_left t.device s h)
-makes_refused t s h operation r faultless line = record {
+pub makes_refused : {S : Type 0} (t : Ghosts S) (s : S) (h : Header) (digesting : Option Progress) (operation : Operation) (r : Refusal) → IsTrue (is_operation_faultless (refused r))
+    → Refuses (meter_in t s h digesting) operation r → Makes (state_in t s h digesting) operation (refused r) (state_in t s h digesting)
+makes_refused t s h digesting operation r faultless line = record {
   step = inl (record { refusal = r; line = line; told = refl; same = record { shows = refl; is = λ _. refl } });
   untouched = λ _ _. refl;
   follows = record { honesty = refl; soundness = λ e. e; later = omega arith };
   counts = record { counted = ap (λ (ok : Bool). count_after ok (t.faults s)) (sym faultless); never = λ _. faultless };
-  spends = λ serves. absurd (served_only (meter_of (t.capacity s) h (seen (t.honest s) (t.capacity s) (t.device s))) operation serves r line);
+  spends = λ serves. absurd (served_only (meter_in t s h digesting) operation serves r line);
 }
 
 -- an operation that is served
-pub makes_served : {S : Type 0} (t : Ghosts S) (s s' : S) (h h' : Header) (operation : Operation) (outcome : OperationOutcome)
+pub makes_served : {S : Type 0} (t : Ghosts S) (s s' : S) (h h' : Header) (digesting digesting' : Option Progress) (operation : Operation) (outcome : OperationOutcome)
     → Keeps t.honest t.sound t.capacity t.faults s s' → t.faults s' ≡ count_after (is_operation_faultless outcome) (t.faults s) → (IsTrue (t.sound s) → IsTrue (is_operation_faultless outcome))
-    → Spends (calls_for (meter_of (t.capacity s) h (seen (t.honest s) (t.capacity s) (t.device s))) operation) (t.calls_left s) (t.calls_left s') (is_operation_faultless outcome)
-    → Serves (meter_of (t.capacity s) h (seen (t.honest s) (t.capacity s) (t.device s))) operation
-    → Does (t.honest s) (meter_of (t.capacity s) h (seen (t.honest s) (t.capacity s) (t.device s))) operation outcome (meter_of (t.capacity s) h' (seen (t.honest s) (t.capacity s) (t.device s')))
-    → Makes (state_of t.honest t.sound t.capacity t.faults t.calls_left t.device s h) operation outcome (state_of t.honest t.sound t.capacity t.faults t.calls_left t.device s' h')
-makes_served t s s' h h' operation outcome kept counted never spends serves does = record {
+    → Spends (calls_for (meter_in t s h digesting) operation) (t.calls_left s) (t.calls_left s') (is_operation_faultless outcome)
+    → Serves (meter_in t s h digesting) operation
+    → Does (t.honest s) (meter_in t s h digesting) operation outcome (meter_at (t.capacity s) h' digesting' (seen (t.honest s) (t.capacity s) (t.device s')))
+    → Makes (state_in t s h digesting) operation outcome (state_in t s' h' digesting')
+makes_served t s s' h h' digesting digesting' operation outcome kept counted never spends serves does = record {
   step = inr (record { serves = serves; does = rw (kept.honesty, kept.size) does });
-  untouched = λ r line. absurd (served_only (meter_of (t.capacity s) h (seen (t.honest s) (t.capacity s) (t.device s))) operation serves r line);
+  untouched = λ r line. absurd (served_only (meter_in t s h digesting) operation serves r line);
   follows = record { honesty = kept.honesty; soundness = kept.soundness; later = kept.later };
   counts = record { counted = counted; never = never };
   spends = λ _. spends;
 }
 
 -- one whose store call failed and left the device as it was
-pub makes_failed : {S : Type 0} (t : Ghosts S) (s s' : S) (h : Header) (operation : Operation)
+pub makes_failed : {S : Type 0} (t : Ghosts S) (s s' : S) (h : Header) (digesting : Option Progress) (operation : Operation)
     → Keeps t.honest t.sound t.capacity t.faults s s' → (IsTrue (t.honest s) → t.device s' ≡ t.device s) → t.faults s' ≡ count_after false (t.faults s) → (IsTrue (t.sound s) → IsTrue false)
-    → Spends (calls_for (meter_of (t.capacity s) h (seen (t.honest s) (t.capacity s) (t.device s))) operation) (t.calls_left s) (t.calls_left s') false
-    → Serves (meter_of (t.capacity s) h (seen (t.honest s) (t.capacity s) (t.device s))) operation
+    → Spends (calls_for (meter_in t s h digesting) operation) (t.calls_left s) (t.calls_left s') false
+    → Serves (meter_in t s h digesting) operation
     → ((m m' : Meter) → Leaves (t.honest s) m m' → Does (t.honest s) m operation (refused Fault) m')
-    → Makes (state_of t.honest t.sound t.capacity t.faults t.calls_left t.device s h) operation (refused Fault) (state_of t.honest t.sound t.capacity t.faults t.calls_left t.device s' h)
-makes_failed t s s' h operation kept same counted never spends serves does =
-    let d = seen (t.honest s) (t.capacity s) (t.device s) in
-    let e : seen (t.honest s) (t.capacity s) (t.device s') ≡ d = seen_same (t.honest s) (t.capacity s) (t.device s) (t.device s') same in
-    makes_served t s s' h h operation (refused Fault) kept counted never spends serves
-    (does (meter_of (t.capacity s) h d) _ (leaves (t.honest s) (meter_of (t.capacity s) h d) _ (ap (meter_of (t.capacity s) h) e)))
+    → Makes (state_in t s h digesting) operation (refused Fault) (state_in t s' h digesting)
+makes_failed t s s' h digesting operation kept same counted never spends serves does =
+    let e : seen (t.honest s) (t.capacity s) (t.device s') ≡ seen_of t s = seen_same (t.honest s) (t.capacity s) (t.device s) (t.device s') same in
+    makes_served t s s' h h digesting digesting operation (refused Fault) kept counted never spends serves
+    (does (meter_in t s h digesting) _ (leaves (t.honest s) (meter_in t s h digesting) _ (ap (meter_at (t.capacity s) h digesting) e)))
+
+-- what is seen before and after a write of the header
+pub rewrites : {S : Type 0} (t : Ghosts S) (s s' : S) (bytes : List ℕ) → ((slot : Slot) → IsTrue (t.honest s) → length (slot_bytes (t.device s) slot) ≡ t.capacity s)
+    → (IsTrue (t.honest s) → t.device s' ≡ with_head (t.device s) bytes) → Rewrites (t.honest s) (t.capacity s) (t.device s) (seen_of t s) (seen (t.honest s) (t.capacity s) (t.device s'))
+rewrites t s s' bytes sized written = record {
+  sized = seen_size (t.honest s) (t.capacity s) (t.device s) sized;
+  same = seen_headed (t.honest s) (t.capacity s) (t.device s) (t.device s') bytes written;
+  real = seen_real (t.honest s) (t.capacity s) (t.device s);
+}
 
 -- one that writes the header, once
-pub makes_written : {S : Type 0} (t : Ghosts S) (s s' : S) (h h' : Header) (operation : Operation) (outcome : OperationOutcome) → IsTrue (is_operation_faultless outcome)
+pub makes_written : {S : Type 0} (t : Ghosts S) (s s' : S) (h h' : Header) (digesting digesting' : Option Progress) (operation : Operation) (outcome : OperationOutcome) → IsTrue (is_operation_faultless outcome)
     → ((slot : Slot) → IsTrue (t.honest s) → length (slot_bytes (t.device s) slot) ≡ t.capacity s)
     → Keeps t.honest t.sound t.capacity t.faults s s' → t.faults s' ≡ t.faults s → (IsTrue (t.honest s) → t.device s' ≡ with_head (t.device s) (header_bytes h'))
-    → Spends (calls_for (meter_of (t.capacity s) h (seen (t.honest s) (t.capacity s) (t.device s))) operation) (t.calls_left s) (t.calls_left s') true
-    → Serves (meter_of (t.capacity s) h (seen (t.honest s) (t.capacity s) (t.device s))) operation
-    → ((d d' : Device) → Rewrites (t.honest s) (t.capacity s) (t.device s) d d' → Does (t.honest s) (meter_of (t.capacity s) h d) operation outcome (meter_of (t.capacity s) h' d'))
-    → Makes (state_of t.honest t.sound t.capacity t.faults t.calls_left t.device s h) operation outcome (state_of t.honest t.sound t.capacity t.faults t.calls_left t.device s' h')
-makes_written t s s' h h' operation outcome faultless sized kept uncounted written spends serves does =
-    let views : Rewrites (t.honest s) (t.capacity s) (t.device s) (seen (t.honest s) (t.capacity s) (t.device s)) (seen (t.honest s) (t.capacity s) (t.device s')) = record {
-      sized = seen_size (t.honest s) (t.capacity s) (t.device s) sized;
-      same = seen_headed (t.honest s) (t.capacity s) (t.device s) (t.device s') (header_bytes h') written;
-      real = seen_real (t.honest s) (t.capacity s) (t.device s);
-    } in
-    makes_served t s s' h h' operation outcome kept (uncounted ∙ ap (λ (ok : Bool). count_after ok (t.faults s)) (sym faultless)) (λ _. faultless)
-    (subst (λ (ok : Bool). Spends (calls_for (meter_of (t.capacity s) h (seen (t.honest s) (t.capacity s) (t.device s))) operation) (t.calls_left s) (t.calls_left s') ok) (sym faultless) spends) serves (does (seen (t.honest s) (t.capacity s) (t.device s)) (seen (t.honest s) (t.capacity s) (t.device s')) views)
+    → Spends (calls_for (meter_in t s h digesting) operation) (t.calls_left s) (t.calls_left s') true
+    → Serves (meter_in t s h digesting) operation
+    → ((d d' : Device) → Rewrites (t.honest s) (t.capacity s) (t.device s) d d' → Does (t.honest s) (meter_at (t.capacity s) h digesting d) operation outcome (meter_at (t.capacity s) h' digesting' d'))
+    → Makes (state_in t s h digesting) operation outcome (state_in t s' h' digesting')
+makes_written t s s' h h' digesting digesting' operation outcome faultless sized kept uncounted written spends serves does =
+    makes_served t s s' h h' digesting digesting' operation outcome kept (uncounted ∙ ap (λ (ok : Bool). count_after ok (t.faults s)) (sym faultless)) (λ _. faultless)
+    (subst (λ (ok : Bool). Spends (calls_for (meter_in t s h digesting) operation) (t.calls_left s) (t.calls_left s') ok) (sym faultless) spends) serves
+    (does (seen_of t s) (seen (t.honest s) (t.capacity s) (t.device s')) (rewrites t s s' (header_bytes h') sized written))
+
+-- ---- what is held
 
 -- the header that was written stands in the store
 pub held_written : {S : Type 0} (t : Ghosts S) (s s' : S) (h h' : Header)
@@ -134,10 +152,66 @@ held_written t s s' h h' sized kept written held valid trusted =
       trusted = λ b. rw kept.size (trusted (t.device s) (t.device s') (views (still b)) (still b) (held.trusted (still b)));
     }
 
+-- and what is digested stays so, as only whether transfer is enabled may be another
+pub digested_still : {S : Type 0} (t : Ghosts S) (s s' : S) (h : Header) (enabled : Bool) (digesting : Option Progress) → t.honest s' ≡ t.honest s → (IsTrue (t.honest s) → SameSlots (t.device s) (t.device s'))
+    → IsDigested t.honest t.device s h digesting → IsDigested t.honest t.device s' (record h { enabled = enabled }) digesting
+digested_still t s s' h enabled None honesty same is = tt
+digested_still t s s' h enabled (Some progress) honesty same is = record {
+  goal = is.goal;
+  receives = is.receives;
+  there = is.there;
+  marked = is.marked;
+  slot = is.slot;
+  size = is.size;
+  begun = is.begun;
+  more = is.more;
+  digests = λ b. let honest : IsTrue (t.honest s) = sym honesty ∙ b in subst (IsDigesting progress) (sym (same honest progress.slot)) (is.digests honest);
+}
+
+-- a store whose device is as it was
+pub held_still : {S : Type 0} (t : Ghosts S) (s s' : S) (h : Header) → Keeps t.honest t.sound t.capacity t.faults s s' → (IsTrue (t.honest s) → t.device s' ≡ t.device s)
+    → IsHeld t.honest t.capacity t.device s h → IsHeld t.honest t.capacity t.device s' h
+held_still t s s' h kept same is =
+    let still : IsTrue (t.honest s') → IsTrue (t.honest s) = λ b. sym kept.honesty ∙ b in
+    record {
+      valid = rw kept.size is.valid;
+      stored = λ b. is.stored (still b) ∙ sym (ap (λ (d : Device). d.head) (same (still b)));
+      trusted = λ b. rw (kept.size, same (still b)) (is.trusted (still b));
+    }
+
+pub holding_still : {S : Type 0} (t : Ghosts S) (s s' : S) (h : Header) (digesting : Option Progress) → Keeps t.honest t.sound t.capacity t.faults s s' → (IsTrue (t.honest s) → t.device s' ≡ t.device s)
+    → IsHolding t.honest t.capacity t.device s h digesting → IsHolding t.honest t.capacity t.device s' h digesting
+holding_still t s s' h digesting kept same is = record {
+  held = held_still t s s' h kept same is.held;
+  digested = digested_still t s s' h h.enabled digesting kept.honesty (λ b slot. ap (λ (d : Device). slot_bytes d slot) (same b)) is.digested;
+}
+
+-- ---- enable
+
+pub meter_at-enabled : (capacity : ℕ) (h : Header) (digesting : Option Progress) (d d' : Device) (enabled : Bool) → SameSlots d d'
+    → meter_at capacity (record h { enabled = enabled }) digesting d' ≡ record (meter_at capacity h digesting d) { enabled = enabled }
+meter_at-enabled capacity h digesting d d' enabled same = rw (same (other h.running_slot), same h.running_slot) refl
+
+pub trusted_enabled : (m : Meter) (enabled : Bool) → IsTrusted m → IsTrusted (record m { enabled = enabled })
+trusted_enabled m enabled is = record { running = is.running; verified = is.verified }
+
+pub valid_enabled : (capacity : ℕ) (h : Header) (enabled : Bool) → IsHeader capacity h → FieldsFit (record h { enabled = enabled }) → IsHeader capacity (record h { enabled = enabled })
+valid_enabled capacity h enabled is fits = record {
+  fields = fits;
+  block_size_begins = is.block_size_begins;
+  block_size_ends = is.block_size_ends;
+  running_size_begins = is.running_size_begins;
+  running_size_fits = is.running_size_fits;
+  goal_by_status = is.goal_by_status;
+  goal = is.goal;
+  unmarked = is.unmarked;
+  marked = is.marked;
+}
+
 -- ---- initiate
 
 abbrev pub header_begun : Header → Name → ℕ → List Bool → Header
-header_begun h name size marks = record h { status = Initiated; goal = Some (record { name = name; size = size }); marks = marks }
+header_begun h name size marks = record h { status = kept.Initiated; goal = Some (record { name = name; size = size }); marks = marks }
 
 pub meter_of-begun : (capacity : ℕ) (h : Header) (d d' : Device) (name : Name) (size : ℕ) (marks : List Bool) → ((i : ℕ) → has marks i ≡ false) → SameSlots d d'
     → meter_of capacity (header_begun h name size marks) d' ≡ begun (meter_of capacity h d) name size
@@ -174,6 +248,7 @@ valid_begun capacity h name size marks none is fits goal_is = record {
 phase_sealed : (p : Phase) (goal : Goal) → status_of p ≡ VerificationSuccessful → goal_of p ≡ Some goal → p ≡ sealed goal
 phase_sealed idle goal status has = absurd cc
 phase_sealed (receiving g) goal status has = absurd cc
+phase_sealed (verifying g taken) goal status has = absurd cc
 phase_sealed (sealed g) goal status has = cc
 phase_sealed (spoilt g) goal status has = absurd cc
 phase_sealed switched goal status has = absurd cc
@@ -181,6 +256,7 @@ phase_sealed switched goal status has = absurd cc
 phase_receiving : (p : Phase) (goal : Goal) → status_of p ≡ Initiated → goal_of p ≡ Some goal → p ≡ receiving goal
 phase_receiving idle goal status has = absurd cc
 phase_receiving (receiving g) goal status has = cc
+phase_receiving (verifying g taken) goal status has = absurd cc
 phase_receiving (sealed g) goal status has = absurd cc
 phase_receiving (spoilt g) goal status has = absurd cc
 phase_receiving switched goal status has = absurd cc
@@ -195,7 +271,7 @@ is_receiving capacity h goal is status has = phase_receiving (phase_of h.status 
 complete : (capacity : ℕ) (h : Header) (goal : Goal) → IsHeader capacity h → status_of (phase_of h.status h.goal) ≡ VerificationSuccessful → h.goal ≡ Some goal
     → (i : ℕ) → i < block_count h.block_size goal.size → has h.marks i ≡ true
 complete capacity h goal is status there i below =
-    let e : h.status ≡ VerificationSuccessful = sym (status_again h.status h.goal is.goal_by_status) ∙ status in
+    let e : h.status ≡ kept.VerificationSuccessful = status_kept h.status h.goal VerificationSuccessful is.goal_by_status status in
     let verified : IsTrue (is_verified h.status) = ap is_verified e in
     let count : goal_count h.block_size h.goal ≡ block_count h.block_size goal.size = ap (goal_count h.block_size) there in
     is.marked verified i (omega (arith, count))
@@ -206,7 +282,7 @@ verified_bytes cuts capacity h d goal is sized status there = whole_bytes cuts c
 
 abbrev pub header_switched : Header → Slot → Goal → List Bool → Header
 header_switched h slot goal marks =
-    record h { running_slot = slot; status = ActivationSuccessful; running_size = goal.size; running_name = goal.name; goal = None; marks = marks }
+    record h { running_slot = slot; status = kept.ActivationSuccessful; running_size = goal.size; running_name = goal.name; goal = None; marks = marks }
 
 switched_with : (m : Meter) (goal : Goal) (bytes : List ℕ) (p : Phase) (o : Option (List ℕ)) → p ≡ sealed goal → o ≡ Some bytes → switched_to m p o ≡ switched_to m (sealed goal) (Some bytes)
 switched_with m goal bytes p o e f i = switched_to m (e i) (f i)
@@ -248,122 +324,7 @@ valid_switched capacity h slot goal marks none there is fits =
       marked = λ t. absurd cc;
     }
 
--- ---- verify
-
-pub meter_of-judged : (capacity : ℕ) (h : Header) (d d' : Device) (status : StoredStatus) → SameSlots d d'
-    → meter_of capacity (record h { status = status }) d' ≡ record (meter_of capacity h d) { phase = phase_of status h.goal }
-meter_of-judged capacity h d d' status same = rw (same (other h.running_slot), same h.running_slot) refl
-
--- the phase of the goal with its new status
-judged_phase : (status : StoredStatus) (next : Phase → Phase) (p : Phase) (g : Option Goal) (goal : Goal) → g ≡ Some goal → p ≡ receiving goal
-    → phase_of status (Some goal) ≡ next (receiving goal) → phase_of status g ≡ next p
-judged_phase status next p g goal there phase e = ap (phase_of status) there ∙ e ∙ sym (ap next phase)
-
-pub meter_judged : (capacity : ℕ) (h : Header) (d d' : Device) (status : StoredStatus) (next : Phase → Phase) (goal : Goal) → SameSlots d d' → h.goal ≡ Some goal
-    → phase_of h.status h.goal ≡ receiving goal → phase_of status (Some goal) ≡ next (receiving goal)
-    → meter_of capacity (record h { status = status }) d' ≡ record (meter_of capacity h d) { phase = next (phase_of h.status h.goal) }
-meter_judged capacity h d d' status next goal same there phase e =
-    let m = meter_of capacity h d in
-    meter_of-judged capacity h d d' status same
-    ∙ ap (λ (p : Phase). let n : Meter = record m { phase = p } in n) (judged_phase status next (phase_of h.status h.goal) h.goal goal there phase e)
-
-pub goal_there : (capacity : ℕ) (h : Header) → IsHeader capacity h → status_of (phase_of h.status h.goal) ≡ Initiated → (goal : Goal) × (h.goal ≡ Some goal)
-goal_there capacity h is status = find h.goal refl
-  where
-    find : (g : Option Goal) → h.goal ≡ g → (goal : Goal) × (h.goal ≡ Some goal)
-    find (Some goal) e = (goal, e)
-    find None e =
-        let none : is_some h.goal ≡ false = ap is_some e in
-        let some : has_goal h.status ≡ true = ap has_goal (sym (status_again h.status h.goal is.goal_by_status) ∙ status) in
-        let both : false ≡ true = sym none ∙ is.goal_by_status ∙ some in
-        absurd cc
-
--- the goal's bytes against the digest of its name
-pub is_genuine : (m : Meter) (goal : Goal) (bytes : List ℕ) → m.phase ≡ receiving goal → goal_bytes m ≡ Some bytes → sha256 bytes ≡ goal.name.digest → IsGenuine (goal_of m.phase) (goal_bytes m)
-is_genuine m goal bytes phase whole digest = genuine_from goal bytes (goal_of m.phase) (goal_bytes m) (ap goal_of phase) whole digest
-
-pub not_genuine : (m : Meter) (goal : Goal) (bytes : List ℕ) → m.phase ≡ receiving goal → goal_bytes m ≡ Some bytes → sha256 bytes ≢ goal.name.digest → ¬ IsGenuine (goal_of m.phase) (goal_bytes m)
-not_genuine m goal bytes phase whole differs is = differs (genuine_with goal bytes (goal_of m.phase) (goal_bytes m) (ap goal_of phase) whole is)
-
-pub served_verify : (m : Meter) (goal : Goal) (bytes : List ℕ) → m.enabled ≡ true → m.phase ≡ receiving goal → goal_bytes m ≡ Some bytes → Serves m verify
-served_verify m goal bytes on phase whole =
-    let admits : Admits m (receiving goal) verify = (bytes, whole) in
-    (on, subst (λ (p : Phase). Admits m p verify) (sym phase) admits)
-
-pub calls_verify : (m : Meter) (goal : Goal) → m.phase ≡ receiving goal → calls_for m verify ≡ piece_count goal.size + 1
-calls_verify m goal phase = ap (λ (p : Phase). piece_count (goal_size (goal_of p)) + 1) phase
-
-pub refused_verify : (m : Meter) (goal : Goal) → m.enabled ≡ true → m.phase ≡ receiving goal → goal_bytes m ≡ None → Refuses m verify Missing
-refused_verify m goal on phase none =
-    let denies : ¬ Admits m (receiving goal) verify = λ a. let e : None ≡ Some a.0 = sym none ∙ a.1 in absurd cc in
-    inr (on, refl, subst (λ (p : Phase). ¬ Admits m p verify) (sym phase) denies)
-
-trusted_at : (cells : Cells) (b : ℕ) (goal : Goal) (bytes : List ℕ) (p : Phase) → p ≡ receiving goal → joined cells (goal_count b (goal_of p)) ≡ Some bytes → sha256 bytes ≡ goal.name.digest
-    → IsGenuine (goal_of (sealed_phase p)) (joined cells (goal_count b (goal_of (sealed_phase p))))
-trusted_at cells b goal bytes p phase whole digest =
-    let whole' : joined cells (goal_count b (Some goal)) ≡ Some bytes = rw phase at whole in
-    let is : IsGenuine (Some goal) (joined cells (goal_count b (Some goal))) = rw whole' digest in
-    rw phase is
-
-pub trusted_sealed : (m : Meter) (goal : Goal) (bytes : List ℕ) → m.phase ≡ receiving goal → goal_bytes m ≡ Some bytes → sha256 bytes ≡ goal.name.digest → IsTrusted m → IsTrusted (record m { phase = sealed_phase m.phase })
-trusted_sealed m goal bytes phase whole digest is =
-    record { running = is.running; verified = λ _. trusted_at m.cells m.block_size goal bytes m.phase phase whole digest }
-
-pub valid_judged : (capacity : ℕ) (h : Header) (status : StoredStatus) (goal : Goal) → h.goal ≡ Some goal → has_goal status ≡ true → ((i : ℕ) → i < block_count h.block_size goal.size → has h.marks i ≡ true)
-    → IsHeader capacity h → FieldsFit (record h { status = status }) → IsHeader capacity (record h { status = status })
-valid_judged capacity h status goal there keeps all is fits =
-    let count : goal_count h.block_size h.goal ≡ block_count h.block_size goal.size = ap (goal_count h.block_size) there in
-    record {
-      fields = fits;
-      block_size_begins = is.block_size_begins;
-      block_size_ends = is.block_size_ends;
-      running_size_begins = is.running_size_begins;
-      running_size_fits = is.running_size_fits;
-      goal_by_status = ap is_some there ∙ sym keeps;
-      goal = is.goal;
-      unmarked = is.unmarked;
-      marked = λ _ i below. all i (omega (arith, count));
-    }
-
-trusted_spoilt : (m : Meter) (goal : Goal) → m.phase ≡ receiving goal → IsTrusted m → IsTrusted (record m { phase = spoilt_phase m.phase })
-trusted_spoilt m goal phase is =
-    record { running = is.running; verified = λ e. let f : status_of (spoilt_phase m.phase) ≡ VerificationFailed = rw phase refl in absurd cc }
-
--- the status after a judgement
-abbrev pub judged : Bool → StoredStatus
-judged genuine = cond genuine VerificationSuccessful VerificationFailed
-
-pub judged_keeps : (genuine : Bool) (status : StoredStatus) → status ≡ judged genuine → has_goal status ≡ true
-judged_keeps true status e = ap has_goal e
-judged_keeps false status e = ap has_goal e
-
-pub trusted_judged : (genuine : Bool) (capacity : ℕ) (h : Header) (d d' : Device) (status : StoredStatus) (goal : Goal) (bytes : List ℕ) → status ≡ judged genuine → SameSlots d d' → h.goal ≡ Some goal
-    → phase_of h.status h.goal ≡ receiving goal → goal_bytes (meter_of capacity h d) ≡ Some bytes → (IsTrue genuine → sha256 bytes ≡ goal.name.digest)
-    → IsTrusted (meter_of capacity h d) → IsTrusted (meter_of capacity (record h { status = status }) d')
-trusted_judged true capacity h d d' status goal bytes e same there phase whole digest trusted =
-    rw (meter_judged capacity h d d' status sealed_phase goal same there phase (ap (λ (s : StoredStatus). phase_of s (Some goal)) e))
-    (trusted_sealed (meter_of capacity h d) goal bytes phase whole (digest refl) trusted)
-trusted_judged false capacity h d d' status goal bytes e same there phase whole digest trusted =
-    rw (meter_judged capacity h d d' status spoilt_phase goal same there phase (ap (λ (s : StoredStatus). phase_of s (Some goal)) e))
-    (trusted_spoilt (meter_of capacity h d) goal phase trusted)
-
--- what a verify does, by the judgement
-pub does_judged : (genuine : Bool) (honest : Bool) (capacity : ℕ) (h : Header) (d d' : Device) (status : StoredStatus) (goal : Goal) (bytes : List ℕ) → status ≡ judged genuine → SameSlots d d'
-    → h.goal ≡ Some goal → phase_of h.status h.goal ≡ receiving goal → goal_bytes (meter_of capacity h d) ≡ Some bytes
-    → (IsTrue honest → IsTrue genuine ↔ (sha256 bytes ≡ goal.name.digest))
-    → Does honest (meter_of capacity h d) verify (cond genuine done (refused Differs)) (meter_of capacity (record h { status = status }) d')
-does_judged true honest capacity h d d' status goal bytes e same there phase whole digest = (
-  leaves honest _ _ (meter_judged capacity h d d' status sealed_phase goal same there phase (ap (λ (s : StoredStatus). phase_of s (Some goal)) e)),
-  λ b. is_genuine (meter_of capacity h d) goal bytes phase whole ((digest b).0 refl),
-)
-does_judged false honest capacity h d d' status goal bytes e same there phase whole digest = (
-  leaves honest _ _ (meter_judged capacity h d d' status spoilt_phase goal same there phase (ap (λ (s : StoredStatus). phase_of s (Some goal)) e)),
-  λ b. not_genuine (meter_of capacity h d) goal bytes phase whole (λ same_digest. let bad = (digest b).1 same_digest in absurd cc),
-)
-
-pub judged_faultless : (genuine : Bool) → IsTrue (is_operation_faultless (cond genuine done (refused Differs)))
-judged_faultless true = refl
-judged_faultless false = refl
+-- ---- several calls
 
 -- a header write behind a call that left the device as it was
 pub written_after : {S : Type 0} (t : Ghosts S) (s s1 s2 : S) (bytes : List ℕ) → t.honest s1 ≡ t.honest s → (IsTrue (t.honest s) → t.device s1 ≡ t.device s)

@@ -1,9 +1,10 @@
 -- There is one step over an honest store that doesn't fail.
-use Rattle.std.proofs.Common.{◌≡◌, ◌≢◌, ℕ, Bool, true, false, List, ◌⊎◌, inl, inr, refl, sym, ap, ◌∙◌}
+use Rattle.std.proofs.Common.{◌≡◌, ◌≢◌, ℕ, ◌+◌, ◌<◌, ◌≤◌, Bool, true, false, List, ◌⊎◌, inl, inr, refl, sym, ap, ◌∙◌, arith}
 use Rattle.fw_names.specs.Name.{Name}
-use Rattle.fw_image.specs.Laws.{OneStep}
-use Rattle.fw_image.specs.Meter.{Meter, goal_bytes, goal_of, IsGenuine}
-use Rattle.fw_image.specs.Step.{Operation, enable, initiate, block, verify, activate, OperationOutcome, done, refused, Refuses, Serves, Admits, Does, refusal_in, begun, with_cell, sealed_phase, spoilt_phase, switched_to}
+use Rattle.fw_verify.specs.Slices.{slice_size}
+use Rattle.fw_image.specs.Laws.{OneStep, OneTurn}
+use Rattle.fw_image.specs.Meter.{Meter, Phase, idle, receiving, verifying, sealed, spoilt, switched, goal_bytes, goal_of, goal_size, IsGenuine}
+use Rattle.fw_image.specs.Step.{Operation, enable, initiate, block, verify, activate, OperationOutcome, done, refused, verification_initiated, Refuses, Serves, Admits, Does, Judges, TurnsIn, refusal_in, begun, with_cell, digested_phase, sealed_phase, spoilt_phase, switched_to}
 use Rattle.fw_image.specs.declared.error.Refusal.{Refusal}
 use Rattle.fw_image.specs.declared.error.Refusal.TheVariants.{Disabled, BadInitiate, BadBlock, Missing, Fault, Differs}
 
@@ -53,6 +54,7 @@ enabled old new b (refused BadBlock) n h = elim h [ ]
 enabled old new b (refused Missing) n h = elim h [ ]
 enabled old new b (refused Fault) n h = absurd (n refl)
 enabled old new b (refused Differs) n h = elim h [ ]
+enabled old new b verification_initiated n h = elim h [ ]
 
 initiated : (old new : Meter) (name : Name) (size : ℕ) (a : OperationOutcome) → a ≢ refused Fault → Does true old (initiate name size) a new → IsDone a new (begun old name size)
 initiated old new name size done n h = (refl, h.is refl)
@@ -62,6 +64,7 @@ initiated old new name size (refused BadBlock) n h = elim h [ ]
 initiated old new name size (refused Missing) n h = elim h [ ]
 initiated old new name size (refused Fault) n h = absurd (n refl)
 initiated old new name size (refused Differs) n h = elim h [ ]
+initiated old new name size verification_initiated n h = elim h [ ]
 
 blocked : (old new : Meter) (i : ℕ) (value : List ℕ) (a : OperationOutcome) → a ≢ refused Fault → Does true old (block i value) a new → IsDone a new (with_cell old i value)
 blocked old new i value done n h = (refl, h.is refl)
@@ -71,6 +74,7 @@ blocked old new i value (refused BadBlock) n h = elim h [ ]
 blocked old new i value (refused Missing) n h = elim h [ ]
 blocked old new i value (refused Fault) n h = absurd (n refl)
 blocked old new i value (refused Differs) n h = elim h [ ]
+blocked old new i value verification_initiated n h = elim h [ ]
 
 activated : (old new : Meter) (a : OperationOutcome) → a ≢ refused Fault → Does true old activate a new → IsDone a new (switched_to old old.phase (goal_bytes old))
 activated old new done n h = (refl, h.is refl)
@@ -80,21 +84,29 @@ activated old new (refused BadBlock) n h = elim h [ ]
 activated old new (refused Missing) n h = elim h [ ]
 activated old new (refused Fault) n h = absurd (n refl)
 activated old new (refused Differs) n h = elim h [ ]
+activated old new verification_initiated n h = elim h [ ]
 
--- a verify is done or refused by the digest
-abbrev Judged : Meter → OperationOutcome → Meter → Type 0
-Judged old a new =
+-- the goal is judged by the digest
+abbrev JudgedSo : OperationOutcome → Meter → Meter → Type 0
+JudgedSo a old new =
     (IsDone a new (record old { phase = sealed_phase old.phase }) × IsGenuine (goal_of old.phase) (goal_bytes old))
     ⊎ ((a ≡ refused Differs) × (new ≡ record old { phase = spoilt_phase old.phase }) × ¬ IsGenuine (goal_of old.phase) (goal_bytes old))
 
+-- so a verify does where a slice has it whole, and else it digests a slice
+abbrev Judged : Meter → OperationOutcome → Meter → Type 0
+Judged old a new =
+    ((goal_size (goal_of old.phase) ≤ slice_size) × JudgedSo a old new)
+    ⊎ ((slice_size < goal_size (goal_of old.phase)) × (a ≡ verification_initiated) × (new ≡ record old { phase = digested_phase old.phase slice_size }))
+
 judged : (old new : Meter) (a : OperationOutcome) → a ≢ refused Fault → Does true old verify a new → Judged old a new
-judged old new done n h = inl ((refl, h.0.is refl), h.1 refl)
+judged old new done n h = inl (h.0, inl ((refl, h.1.0.is refl), h.1.1 refl))
 judged old new (refused Disabled) n h = elim h [ ]
 judged old new (refused BadInitiate) n h = elim h [ ]
 judged old new (refused BadBlock) n h = elim h [ ]
 judged old new (refused Missing) n h = elim h [ ]
 judged old new (refused Fault) n h = absurd (n refl)
-judged old new (refused Differs) n h = inr (refl, h.0.is refl, h.1 refl)
+judged old new (refused Differs) n h = inl (h.0, inr (refl, h.1.0.is refl, h.1.1 refl))
+judged old new verification_initiated n h = inr (h.0, refl, h.1.is refl)
 
 abbrev Same : OperationOutcome → OperationOutcome → Meter → Meter → Type 0
 Same a b new other = (a ≡ b) × (new ≡ other)
@@ -102,11 +114,21 @@ Same a b new other = (a ≡ b) × (new ≡ other)
 both_done : (a b : OperationOutcome) (new other this : Meter) → IsDone a new this → IsDone b other this → Same a b new other
 both_done a b new other this h k = (h.0 ∙ sym k.0, h.1 ∙ sym k.1)
 
+judged_so_once : (old new other : Meter) (a b : OperationOutcome) → JudgedSo a old new → JudgedSo b old other → Same a b new other
+judged_so_once old new other a b (inl h) (inl k) = both_done a b new other (record old { phase = sealed_phase old.phase }) h.0 k.0
+judged_so_once old new other a b (inl h) (inr k) = absurd (k.2 h.1)
+judged_so_once old new other a b (inr h) (inl k) = absurd (h.2 k.1)
+judged_so_once old new other a b (inr h) (inr k) = (h.0 ∙ sym k.0, h.1 ∙ sym k.1)
+
+-- a goal is no larger than a slice and larger
+no_size : (size : ℕ) → size ≤ slice_size → slice_size < size → ⊥
+no_size size few many = omega arith
+
 judged_once : (old new other : Meter) (a b : OperationOutcome) → Judged old a new → Judged old b other → Same a b new other
-judged_once old new other a b (inl h) (inl k) = both_done a b new other (record old { phase = sealed_phase old.phase }) h.0 k.0
-judged_once old new other a b (inl h) (inr k) = absurd (k.2 h.1)
-judged_once old new other a b (inr h) (inl k) = absurd (h.2 k.1)
-judged_once old new other a b (inr h) (inr k) = (h.0 ∙ sym k.0, h.1 ∙ sym k.1)
+judged_once old new other a b (inl h) (inl k) = judged_so_once old new other a b h.1 k.1
+judged_once old new other a b (inl h) (inr k) = absurd (no_size (goal_size (goal_of old.phase)) h.0 k.0)
+judged_once old new other a b (inr h) (inl k) = absurd (no_size (goal_size (goal_of old.phase)) k.0 h.0)
+judged_once old new other a b (inr h) (inr k) = (h.1 ∙ sym k.1, h.2 ∙ sym k.2)
 
 done_once : (old new other : Meter) (operation : Operation) (a b : OperationOutcome) → a ≢ refused Fault → b ≢ refused Fault
     → Does true old operation a new → Does true old operation b other → Same a b new other
@@ -124,3 +146,32 @@ one_step old new other operation a b (inl h) (inl k) n m =
 one_step old new other operation a b (inl h) (inr k) n m = absurd (refused_is_not_served old operation h.refusal h.line k.serves)
 one_step old new other operation a b (inr h) (inl k) n m = absurd (refused_is_not_served old operation k.refusal k.line h.serves)
 one_step old new other operation a b (inr h) (inr k) n m = done_once old new other operation a b n m h.does k.does
+
+-- ---- the turn
+
+abbrev Judgement : Meter → Meter → Type 0
+Judgement old new = Judges true old true new ⊎ Judges true old false new
+
+one_judgement : (old new other : Meter) → Judgement old new → Judgement old other → new ≡ other
+one_judgement old new other (inl h) (inl k) = h.0.is refl ∙ sym (k.0.is refl)
+one_judgement old new other (inl h) (inr k) = absurd (k.1 refl (h.1 refl))
+one_judgement old new other (inr h) (inl k) = absurd (h.1 refl (k.1 refl))
+one_judgement old new other (inr h) (inr k) = h.0.is refl ∙ sym (k.0.is refl)
+
+-- some bytes are left, or none
+no_end : (taken size : ℕ) → taken + slice_size < size → size ≤ taken + slice_size → ⊥
+no_end taken size more last = omega arith
+
+turned_once : (p : Phase) (old new other : Meter) → TurnsIn p true old true new → TurnsIn p true old true other → new ≡ other
+turned_once idle old new other h k = h ∙ sym k
+turned_once (receiving goal) old new other h k = h ∙ sym k
+turned_once (verifying goal taken) old new other (inl h) (inl k) = h.1.is refl ∙ sym (k.1.is refl)
+turned_once (verifying goal taken) old new other (inl h) (inr k) = absurd (no_end taken goal.size h.0 k.0)
+turned_once (verifying goal taken) old new other (inr h) (inl k) = absurd (no_end taken goal.size k.0 h.0)
+turned_once (verifying goal taken) old new other (inr h) (inr k) = one_judgement old new other h.1 k.1
+turned_once (sealed goal) old new other h k = h ∙ sym k
+turned_once (spoilt goal) old new other h k = h ∙ sym k
+turned_once switched old new other h k = h ∙ sym k
+
+pub one_turn : OneTurn
+one_turn old new other h k = turned_once old.phase old new other h k

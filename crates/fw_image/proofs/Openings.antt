@@ -16,16 +16,20 @@ use Rattle.fw_store.specs.declared.slot.Slot.{Slot}
 use Rattle.fw_store.specs.declared.store.ImageStore.{Ghosts}
 use Rattle.fw_store.specs.declared.header.Header.{Header}
 use Rattle.fw_store.specs.declared.header.Goal.{Goal}
-use Rattle.fw_store.specs.declared.header.StoredStatus.TheVariants.{VerificationSuccessful}
-use Rattle.fw_image.specs.Meter.{Meter, IsTrusted, status_of, goal_of, goal_bytes}
+use Rattle.fw_store.specs.declared.header.StoredStatus.{StoredStatus}
+use Rattle.fw_store.specs.declared.header.StoredStatus.TheVariants as kept
+use Rattle.fw_verify.specs.Progress.{Progress}
+use Rattle.fw_image.specs.declared.status.TransferStatus.TheVariants.{VerificationSuccessful}
+use Rattle.fw_image.specs.Status.{shown_status}
+use Rattle.fw_image.specs.Meter.{Meter, verifying, IsTrusted, status_of, goal_of, goal_bytes}
 use Rattle.fw_image.specs.Calls.{opening_calls}
-use Rattle.fw_verify.specs.Pieces.{piece_count}
+use Rattle.fw_verify.specs.Slices.{slice_count}
 use Rattle.fw_image.specs.Shown.{all_marks}
-use Rattle.fw_image.specs.Stored.{phase_of, meter_of, seen, IsHeld, IsMeterOf, Refused}
-use Rattle.fw_image.specs.Moves.{IsVerifiedGenuine}
+use Rattle.fw_image.specs.Stored.{phase_of, phase_at, meter_of, seen, IsHeld, IsVerifying, IsDigested, IsMeterOf, Refused}
+use Rattle.fw_image.specs.Moves.{IsVerifiedGenuine, digested_of}
 use Rattle.fw_image.specs.declared.error.OpenError.{OpenError}
 use Rattle.fw_image.specs.declared.error.OpenError.TheVariants.{Fault, BadHeader, BadImage}
-use Rattle.fw_image.proofs.Meters.{goal_again, status_again, seen_real}
+use Rattle.fw_image.proofs.Meters.{goal_again, status_again, seen_real, phase_verified}
 use Rattle.fw_image.proofs.Moves.{verified_bytes, genuine_with, genuine_from}
 
 -- ---- the marks that a view has
@@ -62,15 +66,46 @@ pub one_meter : OneHeader → (capacity : ℕ) (d : Device) (a b : Meter) → Is
 one_meter law capacity d a b p q =
     p.means ∙ same_meter law capacity capacity p.header q.header d d p.valid q.valid p.spelled q.spelled refl refl ∙ sym q.means
 
+-- ---- two meters of the same store
+
+none_digests : (status : StoredStatus) (goal : Option Goal) → digested_of (phase_of status goal) ≡ 0
+none_digests kept.NotInitiated goal = refl
+none_digests kept.Initiated None = refl
+none_digests kept.Initiated (Some goal) = refl
+none_digests kept.VerificationSuccessful None = refl
+none_digests kept.VerificationSuccessful (Some goal) = refl
+none_digests kept.VerificationFailed None = refl
+none_digests kept.VerificationFailed (Some goal) = refl
+none_digests kept.ActivationSuccessful goal = refl
+
+-- a verification has digested a slice at least
+none_and_some : {S : Type 0} (honest : S → Bool) (device : S → Device) (b : S) (h h' : Header) (q : Progress) → IsVerifying honest device b h' q
+    → digested_of (phase_of h.status h.goal) ≡ digested_of (phase_at (Some q) (phase_of h'.status h'.goal)) → ⊥
+none_and_some honest device b h h' q is e =
+    let taken : 0 ≡ q.taken = sym (none_digests h.status h.goal) ∙ e ∙ ap digested_of (phase_verified honest device b h' q is) in
+    omega (arith, is.begun)
+
+pub same_phase : {S : Type 0} (honest : S → Bool) (device : S → Device) (a b : S) (h h' : Header) (digesting digesting' : Option Progress) → IsDigested honest device a h digesting → IsDigested honest device b h' digesting'
+    → h ≡ h' → digested_of (phase_at digesting (phase_of h.status h.goal)) ≡ digested_of (phase_at digesting' (phase_of h'.status h'.goal))
+    → phase_at digesting (phase_of h.status h.goal) ≡ phase_at digesting' (phase_of h'.status h'.goal)
+same_phase honest device a b h h' None None is is' same e = ap (λ (x : Header). phase_of x.status x.goal) same
+same_phase honest device a b h h' None (Some q) is is' same e = absurd (none_and_some honest device b h h' q is' e)
+same_phase honest device a b h h' (Some p) None is is' same e = absurd (none_and_some honest device a h' h p is (sym e))
+same_phase honest device a b h h' (Some p) (Some q) is is' same e =
+    let there : Some is.goal ≡ Some is'.goal = sym is.there ∙ ap (λ (x : Header). x.goal) same ∙ is'.there in
+    let goal : is.goal ≡ is'.goal = cc in
+    let taken : p.taken ≡ q.taken = sym (ap digested_of (phase_verified honest device a h p is)) ∙ e ∙ ap digested_of (phase_verified honest device b h' q is') in
+    phase_verified honest device a h p is ∙ (λ i. verifying (goal i) (taken i)) ∙ sym (phase_verified honest device b h' q is')
+
 -- ---- images
 
 -- the goal's bytes as the spare slot has them
-pub verified_iff : CutsJoin → (capacity : ℕ) (h : Header) (d : Device) (goal : Goal) → IsHeader capacity h → ((slot : Slot) → length (slot_bytes d slot) ≡ capacity) → h.status ≡ VerificationSuccessful → h.goal ≡ Some goal
+pub verified_iff : CutsJoin → (capacity : ℕ) (h : Header) (d : Device) (goal : Goal) → IsHeader capacity h → ((slot : Slot) → length (slot_bytes d slot) ≡ capacity) → h.status ≡ kept.VerificationSuccessful → h.goal ≡ Some goal
     → (sha256 (take goal.size (slot_bytes d (other h.running_slot))) ≡ goal.name.digest) ↔ IsVerifiedGenuine (meter_of capacity h d)
 verified_iff cuts capacity h d goal is sized status there =
     let m = meter_of capacity h d in
     let bytes = take goal.size (slot_bytes d (other h.running_slot)) in
-    let verified : status_of (phase_of h.status h.goal) ≡ VerificationSuccessful = status_again h.status h.goal is.goal_by_status ∙ status in
+    let verified : status_of (phase_of h.status h.goal) ≡ VerificationSuccessful = status_again h.status h.goal is.goal_by_status ∙ ap shown_status status in
     let whole = verified_bytes cuts capacity h d goal is sized verified there in
     let has_goal = goal_again h.status h.goal is.goal_by_status ∙ there in
     (λ same _. genuine_from goal bytes (goal_of m.phase) (goal_bytes m) has_goal whole same, λ genuine. genuine_with goal bytes (goal_of m.phase) (goal_bytes m) has_goal whole (genuine verified))
@@ -78,7 +113,7 @@ verified_iff cuts capacity h d goal is sized status there =
 pub refused_image : {S : Type 0} (t : Ghosts S) (s s' : S) (h : Header) → Keeps t.honest t.sound t.capacity t.faults s s' → (IsTrue (t.honest s) → t.device s' ≡ t.device s) → t.faults s' ≡ t.faults s → IsHeader (t.capacity s) h
     → (IsTrue (t.honest s) → header_bytes h ≡ (t.device s).head) → (IsTrue (t.honest s) → ¬ IsTrusted (meter_of (t.capacity s) h (t.device s)))
     → (calls : ℕ) → Spends calls (t.calls_left s) (t.calls_left s') true
-    → (IsTrue (t.honest s) → let m = meter_of (t.capacity s) h (t.device s) in (calls ≡ 1 + piece_count (length m.running.bytes)) ⊎ (calls ≡ opening_calls m))
+    → (IsTrue (t.honest s) → let m = meter_of (t.capacity s) h (t.device s) in (calls ≡ 1 + slice_count (length m.running.bytes)) ⊎ (calls ≡ opening_calls m))
     → Refused t.honest t.sound t.capacity t.faults t.calls_left t.device s BadImage s'
 refused_image t s s' h kept same uncounted valid spelled differs calls spends number = record {
   reason = λ b.

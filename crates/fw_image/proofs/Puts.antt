@@ -1,5 +1,5 @@
 -- Writes of a block are the steps of a meter.
-use Rattle.std.proofs.Common.{cond, ◌≡◌, ◌≢◌, ℕ, ◌+◌, ◌-◌, ◌*◌, ◌<◌, ◌≤◌, ◌||◌, ◌==◌, Bool, true, false, IsTrue, List, length, take, drop, slice_range, Some, Option, ◌⊎◌, inl, inr, refl, sym, ap, subst, ◌∙◌, arith}
+use Rattle.std.proofs.Common.{cond, ◌≡◌, ◌≢◌, ℕ, ◌+◌, ◌*◌, ◌<◌, ◌≤◌, ◌||◌, ◌==◌, Bool, true, false, IsTrue, List, length, take, drop, slice_range, Some, Option, ◌⊎◌, inl, inr, refl, sym, ap, subst, ◌∙◌, arith}
 use Rattle.std.specs.Prelude.{IfSome, is_some}
 use Rattle.std.specs.FinMap.{insert, get}
 use Rattle.std.proofs.lemmas.List.{length-take-le}
@@ -10,7 +10,8 @@ use Rattle.fw_store.specs.Device.{Device, slot_bytes, written, splice, Torn}
 use Rattle.fw_store.specs.StoreLaws.{SpliceStands}
 use Rattle.fw_store.specs.Slot.{other}
 use Rattle.fw_store.specs.Header.{IsHeader, IsGoal, FieldsFit, goal_count, is_verified}
-use Rattle.fw_store.specs.declared.header.StoredStatus.TheVariants.{Initiated}
+use Rattle.fw_store.specs.declared.header.StoredStatus.TheVariants as kept
+use Rattle.fw_image.specs.declared.status.TransferStatus.TheVariants.{Initiated}
 use Rattle.std.proofs.lemmas.Bool.Decides.{nat_tests}
 use Rattle.fw_store.specs.declared.slot.Slot.{Slot}
 use Rattle.fw_store.specs.declared.slot.Slot.TheVariants.{First, Second}
@@ -23,7 +24,7 @@ use Rattle.fw_image.specs.Step.{IsBlock, Admits, Serves, Leaves, Tears, block, w
 use Rattle.fw_image.specs.Stored.{phase_of, cells_of, blocks_below, meter_of, seen}
 use Rattle.fw_image.specs.Moves.{IsPlace}
 use Rattle.fw_image.proofs.Blocks.{blocks_put, blocks_kept, get_marked, is_some-get, mark_again}
-use Rattle.fw_image.proofs.Meters.{SameSlots, shown_is, seen_real, status_again}
+use Rattle.fw_image.proofs.Meters.{SameSlots, shown_is, seen_real, status_kept}
 use Rattle.fw_image.proofs.Moves.{leaves}
 
 -- ---- the cuts of an image into which a block was written
@@ -294,7 +295,7 @@ pub valid_marked : (capacity : ℕ) (h : Header) (number start : ℕ) (value : L
 valid_marked capacity h number start value marks valid status place marked fits =
     let count : goal_count h.block_size h.goal ≡ block_count h.block_size place.goal.size = ap (goal_count h.block_size) place.there in
     let below : number < goal_count h.block_size h.goal = omega (arith, count, place.is_block.below) in
-    let is : h.status ≡ Initiated = sym (status_again h.status h.goal valid.goal_by_status) ∙ status in
+    let is : h.status ≡ kept.Initiated = status_kept h.status h.goal Initiated valid.goal_by_status status in
     record {
       fields = fits;
       block_size_begins = valid.block_size_begins;

@@ -5,7 +5,7 @@ use Rattle.fw_store.specs.Fresh.{fresh_device}
 use Rattle.fw_store.specs.Setup.{IsSetup}
 use Rattle.fw_image.specs.Fresh.{fresh_meter}
 use Rattle.fw_image.specs.Meter.{Meter, IsTrusted}
-use Rattle.fw_image.specs.Step.{Operation, OperationOutcome, refused, Step}
+use Rattle.fw_image.specs.Step.{Operation, OperationOutcome, refused, Step, Turn}
 use Rattle.fw_image.specs.Stored.{IsMeterOf}
 use Rattle.fw_image.specs.declared.error.Refusal.TheVariants.{Fault}
 
@@ -23,3 +23,7 @@ FreshIsMeter = (block_size capacity : ℕ) (factory : List ℕ) → IsSetup bloc
 abbrev pub OneStep : Type 0
 OneStep = (old new other : Meter) (operation : Operation) (a b : OperationOutcome) → Step true old operation a new → Step true old operation b other
     → a ≢ refused Fault → b ≢ refused Fault → (a ≡ b) × (new ≡ other)
+
+-- and a meter determines what a turn makes of it
+abbrev pub OneTurn : Type 0
+OneTurn = (old new other : Meter) → Turn true old true new → Turn true old true other → new ≡ other

@@ -1,4 +1,5 @@
 -- Public vocabulary: the words of public clauses, for callers and readers.
+pub mod Status
 pub mod Meter
 pub mod Shown
 pub mod Step

@@ -7,19 +7,20 @@ use Rattle.sha2.specs.Sha256.{sha256}
 use Rattle.fw_names.specs.Name.{Name}
 use Rattle.fw_store.specs.Header.{goal_count}
 use Rattle.fw_store.specs.declared.header.Goal.{Goal}
-use Rattle.fw_store.specs.declared.header.StoredStatus.{StoredStatus}
-use Rattle.fw_store.specs.declared.header.StoredStatus.TheVariants.{NotInitiated, Initiated, VerificationSuccessful, VerificationFailed, ActivationSuccessful}
+use Rattle.fw_image.specs.declared.status.TransferStatus.{TransferStatus}
+use Rattle.fw_image.specs.declared.status.TransferStatus.TheVariants.{NotInitiated, Initiated, VerificationInitiated, VerificationSuccessful, VerificationFailed, ActivationSuccessful}
 
 -- an image: its name, and its bytes
 pub record Image : Type 0 where
   pub name : Name
   pub bytes : List ℕ
 
--- The phases of a transfer (IEC 62056-6-2, image_transfer_status), in three of them with the name and the size of the image that
--- is to be received, the goal.
+-- The phases of a transfer (IEC 62056-6-2, image_transfer_status), in four of them with the name and the size of the image that
+-- is to be received, the goal. While that is verified, so many of its bytes are digested.
 pub data Phase : Type 0 where
   idle : Phase
   receiving : Goal → Phase
+  verifying : Goal → ℕ → Phase
   sealed : Goal → Phase
   spoilt : Goal → Phase
   switched : Phase
@@ -42,9 +43,10 @@ pub record Meter : Type 0 where
   pub cells : Cells
   pub running : Image
 
-abbrev pub status_of : Phase → StoredStatus
+abbrev pub status_of : Phase → TransferStatus
 status_of idle = NotInitiated
 status_of (receiving goal) = Initiated
+status_of (verifying goal taken) = VerificationInitiated
 status_of (sealed goal) = VerificationSuccessful
 status_of (spoilt goal) = VerificationFailed
 status_of switched = ActivationSuccessful
@@ -52,9 +54,15 @@ status_of switched = ActivationSuccessful
 abbrev pub goal_of : Phase → Option Goal
 goal_of idle = None
 goal_of (receiving goal) = Some goal
+goal_of (verifying goal taken) = Some goal
 goal_of (sealed goal) = Some goal
 goal_of (spoilt goal) = Some goal
 goal_of switched = None
+
+-- how many bytes the goal has, 0 where there is none
+abbrev pub goal_size : Option Goal → ℕ
+goal_size None = 0
+goal_size (Some goal) = goal.size
 
 -- how many blocks the goal has, 0 where there is none
 abbrev pub count_of : Meter → ℕ
@@ -89,3 +97,13 @@ IsGenuine goal bytes = ⊥
 pub record IsTrusted (m : Meter) : Type 0 where
   pub running : sha256 m.running.bytes ≡ m.running.name.digest
   pub verified : status_of m.phase ≡ VerificationSuccessful → IsGenuine (goal_of m.phase) (goal_bytes m)
+
+-- ---- what outlives a restart
+
+-- A verification that goes on is kept nowhere: once it is opened again, the meter receives its goal, whose blocks are all there.
+abbrev pub reopened_phase : Phase → Phase
+reopened_phase (verifying goal taken) = receiving goal
+reopened_phase phase = phase
+
+abbrev pub reopened : Meter → Meter
+reopened m = record m { phase = reopened_phase m.phase }

@@ -1,17 +1,39 @@
 -- For private members alone: no public clause cites it.
-use Rattle.std.specs.Prelude.{◌≡◌, ℕ, ◌<◌, true, false, List, Result, Ok, Err, Some}
+use Rattle.std.specs.Prelude.{◌≡◌, ℕ, ◌<◌, ◌⊎◌, Bool, true, false, List, Result, Ok, Err, Some}
 use Rattle.fw_blocks.specs.Cuts.{block_start, block_count}
 use Rattle.fw_blocks.specs.Members.{has}
 use Rattle.fw_store.specs.declared.header.Header.{Header}
 use Rattle.fw_store.specs.declared.header.Goal.{Goal}
-use Rattle.fw_store.specs.declared.header.StoredStatus.TheVariants.{VerificationSuccessful}
-use Rattle.fw_image.specs.Meter.{Meter, status_of, goal_of, goal_bytes, IsGenuine}
-use Rattle.fw_image.specs.Step.{OperationOutcome, done, refused, IsBlock}
+use Rattle.fw_store.specs.declared.header.StoredStatus.{StoredStatus}
+use Rattle.fw_store.specs.declared.header.StoredStatus.TheVariants as stored_status
+use Rattle.fw_image.specs.Meter.{Meter, Phase, verifying, status_of, goal_of, goal_bytes, IsGenuine}
+use Rattle.fw_image.specs.Step.{OperationOutcome, done, refused, verification_initiated, IsBlock}
 use Rattle.fw_image.specs.declared.error.Refusal.{Refusal}
+use Rattle.fw_image.specs.declared.status.TransferStatus.TheVariants.{VerificationInitiated, VerificationSuccessful}
 
 abbrev pub outcome_of : {A : Type 0} → Result A Refusal → OperationOutcome
 outcome_of (Ok a) = done
 outcome_of (Err refusal) = refused refusal
+
+-- what a verify came to, by the phase that it left
+abbrev pub verify_outcome : {A : Type 0} → Result A Refusal → Phase → OperationOutcome
+verify_outcome (Ok a) (verifying goal taken) = verification_initiated
+verify_outcome (Ok a) phase = done
+verify_outcome (Err refusal) phase = refused refusal
+
+-- a verify that is not refused leaves a goal that is verified, or is being verified
+abbrev pub IsVerifiedPhase : Phase → Type 0
+IsVerifiedPhase phase = (status_of phase ≡ VerificationSuccessful) ⊎ (status_of phase ≡ VerificationInitiated)
+
+-- how many bytes are digested of a goal that is verified, else 0
+abbrev pub digested_of : Phase → ℕ
+digested_of (verifying goal taken) = taken
+digested_of phase = 0
+
+-- the status of a goal that was judged
+abbrev pub judged : Bool → StoredStatus
+judged true = stored_status.VerificationSuccessful
+judged false = stored_status.VerificationFailed
 
 -- a block of the goal begins there, and has just this length
 pub record IsPlace (h : Header) (number : ℕ) (value : List ℕ) (start : ℕ) : Type 0 where

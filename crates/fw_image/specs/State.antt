@@ -1,11 +1,12 @@
 -- Public vocabulary: a meter and the store that holds it, as callers see them.
-use Rattle.std.specs.Prelude.{◌≡◌, ◌≤◌, ℕ, Bool, IsTrue, Option, Result, Ok, Err}
+use Rattle.std.specs.Prelude.{◌≡◌, ◌≢◌, ◌≤◌, ℕ, Bool, IsTrue, Option, Result, Ok, Err}
 use Rattle.fw_store.specs.Device.{Device}
 use Rattle.fw_store.specs.Faults.{count_after, Spends}
-use Rattle.fw_image.specs.Meter.{Meter}
-use Rattle.fw_image.specs.Step.{Operation, OperationOutcome, done, refused, Refuses, Serves, Step, is_operation_faultless}
-use Rattle.fw_image.specs.Calls.{calls_for}
+use Rattle.fw_image.specs.Meter.{Meter, status_of, reopened}
+use Rattle.fw_image.specs.Step.{Operation, OperationOutcome, done, refused, Refuses, Serves, Step, Turn, is_operation_faultless}
+use Rattle.fw_image.specs.Calls.{calls_for, turn_calls}
 use Rattle.fw_image.specs.declared.error.Refusal.{Refusal}
+use Rattle.fw_image.specs.declared.status.TransferStatus.TheVariants.{VerificationInitiated}
 
 pub record State : Type 0 where
   -- what the header and the slots mean
@@ -41,6 +42,20 @@ pub record Makes (old : State) (operation : Operation) (outcome : OperationOutco
   pub follows : Follows old new
   pub counts : Counts old new (is_operation_faultless outcome)
   pub spends : Serves old.meter operation → Spends (calls_for old.meter operation) old.calls_left new.calls_left (is_operation_faultless outcome)
+
+-- From old, a state takes a turn and goes on to new. Where no verification goes on, nothing is done. A turn makes its calls of the store,
+-- one that fails being the last of them.
+pub record Turns (old new : State) : Type 0 where
+  pub faultless : Bool
+  pub turn : Turn old.honest old.meter faultless new.meter
+  pub untouched : status_of old.meter.phase ≢ VerificationInitiated → new ≡ old
+  pub follows : Follows old new
+  pub counts : Counts old new faultless
+  pub spends : Spends (turn_calls old.meter.phase) old.calls_left new.calls_left faultless
+
+-- the state as its store keeps it
+abbrev pub stored : State → State
+stored s = record s { meter = reopened s.meter }
 
 -- ---- what a call answers, and the state that it leaves
 

@@ -1,10 +1,11 @@
 -- Public vocabulary: the step of a meter on an operation of Image transfer (IEC 62056-6-2, the methods and their effects). Refusals
 -- are own; of several that apply the first in the order here is given.
-use Rattle.std.specs.Prelude.{◌≡◌, ℕ, ◌-◌, ◌<◌, ◌≤◌, Bool, true, false, IsTrue, List, length, Option, Some, ◌⊎◌}
+use Rattle.std.specs.Prelude.{◌≡◌, ℕ, ◌+◌, ◌-◌, ◌<◌, ◌≤◌, Bool, true, false, IsTrue, List, length, Option, Some, ◌⊎◌}
 use Rattle.std.specs.FinMap.{insert, empty, get}
 use Rattle.fw_names.specs.Name.{Name, IsOpened}
 use Rattle.fw_blocks.specs.Cuts.{IsWithinLimits, block_start, block_end, block_count}
-use Rattle.fw_image.specs.Meter.{Meter, Phase, receiving, sealed, spoilt, switched, goal_of, goal_bytes, IsGenuine}
+use Rattle.fw_verify.specs.Slices.{slice_size}
+use Rattle.fw_image.specs.Meter.{Meter, Phase, receiving, verifying, sealed, spoilt, switched, goal_of, goal_size, goal_bytes, IsGenuine, reopened}
 use Rattle.fw_image.specs.Shown.{shown_of}
 use Rattle.fw_image.specs.declared.error.Refusal.{Refusal}
 use Rattle.fw_image.specs.declared.error.Refusal.TheVariants.{Disabled, BadInitiate, BadBlock, Missing, Fault, Differs}
@@ -16,10 +17,11 @@ pub data Operation : Type 0 where
   verify : Operation
   activate : Operation
 
--- an operation is done, or refused
+-- an operation is done, or refused; or a verification is begun, which goes on in turns
 pub data OperationOutcome : Type 0 where
   done : OperationOutcome
   refused : Refusal → OperationOutcome
+  verification_initiated : OperationOutcome
 
 -- no call of the store failed
 abbrev pub is_operation_faultless : OperationOutcome → Bool
@@ -76,14 +78,21 @@ begun m name size = record m { phase = receiving (record { name = name; size = s
 abbrev pub with_cell : Meter → ℕ → List ℕ → Meter
 with_cell m i value = record m { cells = insert m.cells i value }
 
+-- so many bytes of the goal are digested
+abbrev pub digested_phase : Phase → ℕ → Phase
+digested_phase (receiving goal) taken = verifying goal taken
+digested_phase phase taken = phase
+
 -- the goal is verified
 abbrev pub sealed_phase : Phase → Phase
 sealed_phase (receiving goal) = sealed goal
+sealed_phase (verifying goal taken) = sealed goal
 sealed_phase phase = phase
 
 -- the goal's bytes are not its name's
 abbrev pub spoilt_phase : Phase → Phase
 spoilt_phase (receiving goal) = spoilt goal
+spoilt_phase (verifying goal taken) = spoilt goal
 spoilt_phase phase = phase
 
 -- the goal's image runs
@@ -102,18 +111,26 @@ Tears honest old i value new =
     Leaves honest old new
     ⊎ ((there any : List ℕ) × (get old.cells i ≡ Some there) × (length any ≡ length value) × Leaves honest (with_cell old i any) new)
 
+-- The goal's bytes, as the meter has them, are judged by the digest of the goal's name: they have it, or they have not.
+abbrev pub Judges : Bool → Meter → Bool → Meter → Type 0
+Judges honest old true new =
+    Leaves honest (record old { phase = sealed_phase old.phase }) new × (IsTrue honest → IsGenuine (goal_of old.phase) (goal_bytes old))
+Judges honest old false new =
+    Leaves honest (record old { phase = spoilt_phase old.phase }) new × (IsTrue honest → ¬ IsGenuine (goal_of old.phase) (goal_bytes old))
+
+-- A verify judges a goal that one slice has whole. Of a larger one it digests a slice.
 abbrev pub Does : Bool → Meter → Operation → OperationOutcome → Meter → Type 0
 Does honest old (enable b) done new = Leaves honest (record old { enabled = b }) new
 Does honest old (initiate name size) done new = Leaves honest (begun old name size) new
 Does honest old (block i value) done new = Leaves honest (with_cell old i value) new
-Does honest old verify done new =
-    Leaves honest (record old { phase = sealed_phase old.phase }) new × (IsTrue honest → IsGenuine (goal_of old.phase) (goal_bytes old))
+Does honest old verify done new = (goal_size (goal_of old.phase) ≤ slice_size) × Judges honest old true new
+Does honest old verify (refused Differs) new = (goal_size (goal_of old.phase) ≤ slice_size) × Judges honest old false new
+Does honest old verify verification_initiated new =
+    (slice_size < goal_size (goal_of old.phase)) × Leaves honest (record old { phase = digested_phase old.phase slice_size }) new
 Does honest old activate done new = Leaves honest (switched_to old old.phase (goal_bytes old)) new
-Does honest old verify (refused Differs) new =
-    Leaves honest (record old { phase = spoilt_phase old.phase }) new × (IsTrue honest → ¬ IsGenuine (goal_of old.phase) (goal_bytes old))
 Does honest old (block i value) (refused Fault) new = Tears honest old i value new
 Does honest old operation (refused Fault) new = Leaves honest old new
-Does honest old operation (refused r) new = ⊥
+Does honest old operation outcome new = ⊥
 
 -- ---- the step
 
@@ -132,3 +149,19 @@ pub record IsServed (honest : Bool) (old : Meter) (operation : Operation) (outco
 -- From old, a meter over a store that is honest or not comes to this on an operation, and goes on to new.
 abbrev pub Step : Bool → Meter → Operation → OperationOutcome → Meter → Type 0
 Step honest old operation outcome new = IsRefused honest old operation outcome new ⊎ IsServed honest old operation outcome new
+
+-- ---- the turn
+
+-- While a goal is verified, a turn digests a slice more of it, and with the last one judges it. One of whose calls of the store failed
+-- gives the verification up. In every other phase it changes nothing.
+abbrev pub TurnsIn : Phase → Bool → Meter → Bool → Meter → Type 0
+TurnsIn (verifying goal taken) honest old true new =
+    ((taken + slice_size < goal.size) × Leaves honest (record old { phase = verifying goal (taken + slice_size) }) new)
+    ⊎ ((goal.size ≤ taken + slice_size) × (Judges honest old true new ⊎ Judges honest old false new))
+TurnsIn (verifying goal taken) honest old false new = Leaves honest (reopened old) new
+TurnsIn phase honest old true new = new ≡ old
+TurnsIn phase honest old false new = ⊥
+
+-- From old, a meter over a store that is honest or not takes a turn, in which no call of the store failed or one did, and goes on to new.
+abbrev pub Turn : Bool → Meter → Bool → Meter → Type 0
+Turn honest old faultless new = TurnsIn old.phase honest old faultless new

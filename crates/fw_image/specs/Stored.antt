@@ -1,5 +1,5 @@
 -- Public vocabulary: the meter that a header and two slots are.
-use Rattle.std.specs.Prelude.{◌≡◌, ℕ, zero, suc, Bool, true, false, IsTrue, if◌then◌else◌, ◌+◌, ◌⊎◌, List, [], length, take, replicate, Option, Some, None}
+use Rattle.std.specs.Prelude.{◌≡◌, ℕ, zero, suc, Bool, true, false, IsTrue, if◌then◌else◌, ◌+◌, ◌<◌, ◌≤◌, ◌⊎◌, List, [], length, take, replicate, Option, Some, None}
 use Rattle.std.specs.FinMap.{insert, empty}
 use Rattle.fw_blocks.specs.Cuts.{cut, block_count}
 use Rattle.fw_blocks.specs.Members.{has}
@@ -13,9 +13,11 @@ use Rattle.fw_store.specs.declared.header.Goal.{Goal}
 use Rattle.fw_store.specs.declared.header.StoredStatus.{StoredStatus}
 use Rattle.fw_store.specs.declared.header.StoredStatus.TheVariants.{NotInitiated, Initiated, VerificationSuccessful, VerificationFailed, ActivationSuccessful}
 use Rattle.fw_image.specs.Meter.{Meter, Phase, idle, receiving, sealed, spoilt, switched, Cells, IsTrusted}
+use Rattle.fw_image.specs.Step.{digested_phase}
 use Rattle.fw_image.specs.State.{State}
 use Rattle.fw_image.specs.Calls.{opening_calls}
-use Rattle.fw_verify.specs.Pieces.{piece_count}
+use Rattle.fw_verify.specs.Slices.{slice_size, slice_count}
+use Rattle.fw_verify.specs.Progress.{Progress, IsDigesting}
 use Rattle.fw_image.specs.declared.error.OpenError.{OpenError}
 use Rattle.fw_image.specs.declared.error.OpenError.TheVariants.{Fault, BadHeader, BadImage}
 
@@ -56,11 +58,20 @@ abbrev pub seen : Bool → ℕ → Device → Device
 seen true capacity d = d
 seen false capacity d = record { head = []; first = replicate capacity 0; second = replicate capacity 0 }
 
--- the state of a store and the header that it was given
-abbrev pub state_of : {S : Type 0} → (S → Bool) → (S → Bool) → (S → ℕ) → (S → ℕ) → (S → Option ℕ) → (S → Device) → S → Header → State
-state_of honest sound capacity faults calls_left device store h =
+-- the phase of a header, where so much of its goal is digested
+abbrev pub phase_at : Option Progress → Phase → Phase
+phase_at None phase = phase
+phase_at (Some progress) phase = digested_phase phase progress.taken
+
+-- the meter of a header and a device, where so much of its goal is digested
+abbrev pub meter_at : ℕ → Header → Option Progress → Device → Meter
+meter_at capacity h digesting d = record (meter_of capacity h d) { phase = phase_at digesting (phase_of h.status h.goal) }
+
+-- the state of a store, the header that it was given, and how far the digest of its goal has come where that is verified
+abbrev pub state_of : {S : Type 0} → (S → Bool) → (S → Bool) → (S → ℕ) → (S → ℕ) → (S → Option ℕ) → (S → Device) → S → Header → Option Progress → State
+state_of honest sound capacity faults calls_left device store h digesting =
     let d = seen (honest store) (capacity store) (device store) in record {
-      meter = meter_of (capacity store) h d;
+      meter = meter_at (capacity store) h digesting d;
       device = d;
       honest = honest store;
       sound = sound store;
@@ -73,6 +84,28 @@ pub record IsHeld {S : Type 0} (honest : S → Bool) (capacity : S → ℕ) (dev
   pub valid : IsHeader (capacity store) h
   pub stored : IsTrue (honest store) → header_bytes h ≡ (device store).head
   pub trusted : IsTrue (honest store) → IsTrusted (meter_of (capacity store) h (device store))
+
+-- A goal is verified: it is received, with all its blocks, and of its bytes in the spare slot so many are digested, a slice at least and
+-- not all.
+pub record IsVerifying {S : Type 0} (honest : S → Bool) (device : S → Device) (store : S) (h : Header) (progress : Progress) : Type 0 where
+  pub goal : Goal
+  pub receives : h.status ≡ Initiated
+  pub there : h.goal ≡ Some goal
+  pub marked : (i : ℕ) → i < block_count h.block_size goal.size → has h.marks i ≡ true
+  pub slot : progress.slot ≡ other h.running_slot
+  pub size : progress.size ≡ goal.size
+  pub begun : slice_size ≤ progress.taken
+  pub more : progress.taken < progress.size
+  pub digests : IsTrue (honest store) → IsDigesting progress (slot_bytes (device store) progress.slot)
+
+abbrev pub IsDigested : {S : Type 0} → (S → Bool) → (S → Device) → S → Header → Option Progress → Type 0
+IsDigested honest device store h None = Unit {0}
+IsDigested honest device store h (Some progress) = IsVerifying honest device store h progress
+
+-- the header is held with a verification that goes on, or with none
+pub record IsHolding {S : Type 0} (honest : S → Bool) (capacity : S → ℕ) (device : S → Device) (store : S) (h : Header) (digesting : Option Progress) : Type 0 where
+  pub held : IsHeld honest capacity device store h
+  pub digested : IsDigested honest device store h digesting
 
 -- A device with slots of so many bytes is this meter: its header is spelled there, and is one that a store can have.
 pub record IsMeterOf (capacity : ℕ) (d : Device) (m : Meter) : Type 0 where
@@ -109,7 +142,7 @@ abbrev pub IsFoundIn : OpenError → ℕ → Device → ℕ → Type 0
 IsFoundIn Fault capacity d calls = Unit {0}
 IsFoundIn BadHeader capacity d calls = calls ≡ 1
 IsFoundIn BadImage capacity d calls =
-    (m : Meter) × IsMeterOf capacity d m × ((calls ≡ 1 + piece_count (length m.running.bytes)) ⊎ (calls ≡ opening_calls m))
+    (m : Meter) × IsMeterOf capacity d m × ((calls ≡ 1 + slice_count (length m.running.bytes)) ⊎ (calls ≡ opening_calls m))
 
 -- A store was not opened for this reason, and is handed back. A fault is told just where it failed, and it was not called again then.
 pub record Refused {S : Type 0} (honest sound : S → Bool) (capacity faults : S → ℕ) (calls_left : S → Option ℕ) (device : S → Device) (store : S) (error : OpenError) (back : S) : Type 0 where
@@ -122,7 +155,8 @@ pub record Refused {S : Type 0} (honest sound : S → Bool) (capacity faults : S
   pub spends : Spends calls (calls_left store) (calls_left back) (is_opening_faultless error)
   pub found : IsTrue (honest store) → IsFoundIn error (capacity store) (device store) calls
 
--- two stores have the same capacity, header and slots
-pub record IsSameStore (a b : State) : Type 0 where
+-- two stores have the same capacity, header and slots, and the transfers are in the same phase
+pub record IsSame (a b : State) : Type 0 where
   pub size : a.meter.capacity ≡ b.meter.capacity
   pub device : a.device ≡ b.device
+  pub phase : a.meter.phase ≡ b.meter.phase

@@ -1,6 +1,6 @@
 //! The header of a meter beside its store, and what the operations of Image transfer do to the two.
 
-ghost use Rattle.std.specs.Prelude.{◌≡◌, ◌≢◌, ◌≤◌, ◌↔◌, IsTrue, IfSome, IfNone, IfOk, IfErr, OnOk, OnErr, IsOkAnd, Some, None, is_ok, true, false, ◌+◌, length, take, if◌then◌else◌};
+ghost use Rattle.std.specs.Prelude.{◌≡◌, ◌≢◌, ◌≤◌, ◌↔◌, IsTrue, IfSome, IfNone, IfOk, IfErr, OnOk, OnErr, IsOkAnd, Some, None, is_ok, true, false, ℕ, List, ◌+◌, length, take};
 ghost use Rattle.sha2.specs.Sha256.{sha256};
 ghost use Rattle.fw_blocks.specs.Cuts.{IsWithinLimits, block_count, max_blocks};
 ghost use Rattle.fw_store.specs.Device.{with_head, slot_bytes};
@@ -8,24 +8,26 @@ ghost use Rattle.fw_store.specs.Faults.{Keeps, HasCause, Spends};
 ghost use Rattle.fw_store.specs.Header.{FieldsFit, IsHeader};
 ghost use Rattle.fw_store.specs.Layout.{header_bytes};
 ghost use Rattle.fw_store.specs.declared.header.Goal.{Goal};
-ghost use Rattle.fw_store.specs.declared.header.StoredStatus.TheVariants.{Initiated, VerificationSuccessful, VerificationFailed, ActivationSuccessful};
-ghost use Rattle.fw_verify.specs.Pieces.{piece_count};
+ghost use Rattle.fw_verify.specs.Progress.{IsDigesting};
+ghost use Rattle.fw_verify.specs.Slices.{slice_count};
 ghost use Rattle.fw_image.specs.Calls.{verified_size, opening_calls};
-ghost use Rattle.fw_image.specs.Meter.{Meter, status_of, count_of, marks_of, IsTrusted};
+ghost use Rattle.fw_image.specs.Meter.{Meter, status_of, count_of, marks_of, reopened, IsTrusted};
 ghost use Rattle.fw_image.specs.Shown.{shown_of, IsView};
 ghost use Rattle.fw_image.specs.Step.{enable, initiate, block, verify, activate, IsOffer, IsBlock};
-ghost use Rattle.fw_image.specs.State.{Makes, Follows};
-ghost use Rattle.fw_image.specs.Stored.{meter_of, phase_of, IsHeld, IsMeterOf, Holds, Refused, IsSameStore};
-ghost use Rattle.fw_image.specs.Moves.{outcome_of, IsPlace, IsWholeGoal, LacksBlock, IsVerifiedGenuine};
+ghost use Rattle.fw_image.specs.State.{Makes, Turns, Follows, stored};
+ghost use Rattle.fw_image.specs.Stored.{meter_of, phase_of, IsHeld, IsMeterOf, Holds, Refused, IsSame};
+ghost use Rattle.fw_image.specs.Moves.{outcome_of, verify_outcome, judged, digested_of, IsVerifiedPhase, IsPlace, IsWholeGoal, LacksBlock, IsVerifiedGenuine};
+ghost use Rattle.fw_image.specs.declared.status.TransferStatus.TheVariants.{Initiated, VerificationSuccessful, VerificationFailed, ActivationSuccessful};
 
 use crate::error::{OpenError, Refusal};
+use crate::status::TransferStatus;
 use crate::view::MeterView;
 use fw_blocks::{Geometry, Marks, laws};
 use fw_names::ImageName;
 use fw_store::{
     Goal, Header, ImageStore, MemoryStore, Slot, StoreFault, StoredStatus, laws as store_laws,
 };
-use fw_verify::digest;
+use fw_verify::{Digesting, digest};
 use std::marker::Model;
 
 /// A store, and the header that stands in it.
@@ -33,6 +35,8 @@ use std::marker::Model;
 pub(crate) struct Held<S: ImageStore> {
     store: S,
     header: Header,
+    /// How far the goal is digested, while it is verified.
+    digesting: Option<Digesting>,
 }
 
 impl<S: ImageStore> Model for Held<S> {
@@ -44,11 +48,11 @@ impl<S: ImageStore> Model for Held<S> {
 
     ghost coded = { Prim.hlevel (codes, cells_code) };
 
-    ghost use Rattle.fw_image.specs.Stored.{state_of, IsHeld};
+    ghost use Rattle.fw_image.specs.Stored.{state_of, IsHolding};
 
-    ghost view = { λ s. state_of S.honest S.sound S.capacity S.faults S.calls_left S.device s.store s.header };
+    ghost view = { λ s. state_of S.honest S.sound S.capacity S.faults S.calls_left S.device s.store s.header s.digesting };
 
-    ghost invariant = { λ s. IsHeld S.honest S.capacity S.device s.store s.header };
+    ghost invariant = { λ s. IsHolding S.honest S.capacity S.device s.store s.header s.digesting };
 }
 
 impl<S: ImageStore> Held<S> {
@@ -84,6 +88,7 @@ impl<S: ImageStore> Held<S> {
             ..self.header
         };
         replace(&mut self.store, &mut self.header, next)?;
+        self.digesting = None;
         Ok(())
     }
 
@@ -115,11 +120,11 @@ impl<S: ImageStore> Held<S> {
         Ok(())
     }
 
-    /// Judges the image by the digest of what is stored.
+    /// Judges the image by the digest of what is stored, if one slice has it whole, and begins to digest a larger one.
     pub(crate) fn verify(&mut self) -> Result<(), Refusal>
         requires { status_of self.old.meter.phase ≡ Initiated }
-        ensures makes { Makes self.old verify (outcome_of result) self.new }
-        ensures verified { OnOk result (status_of self.new.meter.phase ≡ VerificationSuccessful) }
+        ensures makes { Makes self.old verify (verify_outcome result self.new.meter.phase) self.new }
+        ensures verified { OnOk result (IsVerifiedPhase self.new.meter.phase) }
         ensures differs { result ≡ Err Refusal.Differs → status_of self.new.meter.phase ≡ VerificationFailed }
         ensures stays { IfErr result (λ r. r ≢ Refusal.Differs → self.new.meter.phase ≡ self.old.meter.phase) }
     {
@@ -132,17 +137,37 @@ impl<S: ImageStore> Held<S> {
         let Some(goal) = whole_goal(&self.header) else {
             return Err(Refusal::Missing);
         };
-        let spare = self.header.running_slot.other();
-        let genuine = is_genuine(&mut self.store, spare, goal.size, goal.name)?;
-        let next = Header {
-            status: judged(genuine),
-            ..self.header
-        };
-        replace(&mut self.store, &mut self.header, next)?;
-        if genuine {
+        let mut digesting = Digesting::begin(self.header.running_slot.other(), goal.size);
+        if !digesting.step(&mut self.store)? {
+            self.digesting = Some(digesting);
+            return Ok(());
+        }
+        if judge(&mut self.store, &mut self.header, goal.name, digesting)? {
             Ok(())
         } else {
             Err(Refusal::Differs)
+        }
+    }
+
+    /// Digests a slice more of the image that is verified, and judges it by the last one. Where a call of the store fails,
+    /// the verification is given up.
+    pub(crate) fn turn(&mut self)
+        ensures { Turns self.old self.new }
+    {
+        laws::cuts_join();
+        store_laws::calls_add();
+        store_laws::calls_end();
+        let Some(mut digesting) = self.digesting.take() else {
+            return;
+        };
+        match digesting.step(&mut self.store) {
+            Ok(true) => {
+                if let Some(goal) = self.header.goal {
+                    judge(&mut self.store, &mut self.header, goal.name, digesting).ok();
+                }
+            }
+            Ok(false) => self.digesting = Some(digesting),
+            Err(_) => {}
         }
     }
 
@@ -176,6 +201,7 @@ impl<S: ImageStore> Held<S> {
     /// Opens a store. A store that is refused is handed back, and its device is as it was.
     pub(crate) fn open(mut store: S) -> Result<Held<S>, (OpenError, S)>
         ensures opened { IfOk result (λ next. Holds S.honest S.capacity S.device store next) }
+        ensures begins { IfOk result (λ next. reopened next.meter ≡ next.meter) }
         ensures sound { IfOk result (λ next. IsTrue (S.sound store) → IsTrue next.sound) }
         ensures faultless { IfOk result (λ next. next.faults ≡ S.faults store) }
         ensures spends { IfOk result (λ next. Spends (opening_calls next.meter) (S.calls_left store) next.calls_left true) }
@@ -185,16 +211,33 @@ impl<S: ImageStore> Held<S> {
     {
         store_laws::one_header();
         match examine(&mut store) {
-            Ok(header) => Ok(Held { store, header }),
+            Ok(header) => Ok(Held {
+                store,
+                header,
+                digesting: None,
+            }),
             Err(error) => Err((error, store)),
         }
     }
 
     /// The status of the transfer.
-    pub(crate) fn status(&self) -> StoredStatus
+    pub(crate) fn status(&self) -> TransferStatus
         ensures { result ≡ status_of self.now.meter.phase }
     {
-        self.header.status
+        match self.digesting {
+            Some(_) => TransferStatus::VerificationInitiated,
+            None => self.header.status.into(),
+        }
+    }
+
+    /// How many bytes are digested of an image that is verified, else 0.
+    fn digested(&self) -> u32
+        ensures { result ≡ digested_of self.now.meter.phase }
+    {
+        let Some(digesting) = &self.digesting else {
+            return 0;
+        };
+        digesting.taken()
     }
 
     /// How many bytes a block has.
@@ -230,7 +273,7 @@ impl<S: ImageStore> Held<S> {
         let header = &self.header;
         MeterView {
             enabled: header.enabled,
-            status: header.status,
+            status: self.status(),
             active: header.running_name,
             active_size: header.running_size,
             goal: header.goal,
@@ -253,7 +296,7 @@ impl<S: ImageStore> Held<S> {
 
     /// The store.
     pub(crate) fn into_store(self) -> S
-        ensures held { Holds S.honest S.capacity S.device result self }
+        ensures held { Holds S.honest S.capacity S.device result (stored self) }
         ensures sound { S.sound result ≡ self.sound }
         ensures faults { S.faults result ≡ self.faults }
         ensures calls_left { S.calls_left result ≡ self.calls_left }
@@ -278,13 +321,13 @@ impl Held<MemoryStore> {
         self.store.unfuse();
     }
 
-    /// Whether the two stores have the same capacity, header and slots.
+    /// Whether the two stores have the same capacity, header and slots, and as many bytes are digested.
     pub(crate) fn same(&self, other: &Held<MemoryStore>) -> bool
-        ensures stores { IsTrue result ↔ IsSameStore self.now other.now }
+        ensures same { IsTrue result ↔ IsSame self.now other.now }
         ensures meters { IsTrue result → self.now.meter ≡ other.now.meter }
     {
         store_laws::one_header();
-        self.store.same(&other.store)
+        self.store.same(&other.store) && self.digested() == other.digested()
     }
 }
 
@@ -359,15 +402,44 @@ fn is_genuine<S: ImageStore>(
     ensures same { IsTrue (S.honest store.old) → S.device store.new ≡ S.device store.old }
     ensures kept { Keeps S.honest S.sound S.capacity S.faults store.old store.new }
     ensures cause { HasCause (S.sound store.old) (S.faults store.old) (S.faults store.new) result }
-    ensures spends { Spends (piece_count size) (S.calls_left store.old) (S.calls_left store.new) (is_ok result) }
+    ensures spends { Spends (slice_count size) (S.calls_left store.old) (S.calls_left store.new) (is_ok result) }
 {
     let found = digest(store, slot, size)?;
     Ok(found == name.digest)
 }
 
+/// Judges the goal by the digest of its bytes, and notes the result in the header.
+fn judge<S: ImageStore>(
+    store: &mut S,
+    header: &mut Header,
+    name: ImageName,
+    digesting: Digesting,
+) -> Result<bool, StoreFault>
+    requires { digesting.taken ≡ digesting.size }
+    ensures digest { (contents : List ℕ) → IsDigesting digesting contents
+        → IfOk result (λ same. IsTrue same ↔ (sha256 (take digesting.size contents) ≡ name.digest)) }
+    ensures done { IfOk result (λ same. header.new ≡ record header.old { status = judged same }) }
+    ensures failed { OnErr result (header.new ≡ header.old) }
+    ensures written { IsTrue (S.honest store.old)
+        → OnOk result (S.device store.new ≡ with_head (S.device store.old) (header_bytes header.new)) }
+    ensures same { IsTrue (S.honest store.old) → OnErr result (S.device store.new ≡ S.device store.old) }
+    ensures fits { OnOk result (FieldsFit header.new) }
+    ensures kept { Keeps S.honest S.sound S.capacity S.faults store.old store.new }
+    ensures cause { HasCause (S.sound store.old) (S.faults store.old) (S.faults store.new) result }
+    ensures spends { Spends 1 (S.calls_left store.old) (S.calls_left store.new) (is_ok result) }
+{
+    let genuine = digesting.finish() == name.digest;
+    let next = Header {
+        status: judged(genuine),
+        ..*header
+    };
+    replace(store, header, next)?;
+    Ok(genuine)
+}
+
 /// The status after the image was judged.
 fn judged(genuine: bool) -> StoredStatus
-    ensures { result ≡ (if genuine then VerificationSuccessful else VerificationFailed) }
+    ensures { result ≡ judged genuine }
 {
     if genuine {
         StoredStatus::VerificationSuccessful
@@ -383,7 +455,7 @@ fn examine<S: ImageStore>(store: &mut S) -> Result<Header, OpenError>
     ensures kept { Keeps S.honest S.sound S.capacity S.faults store.old store.new }
     ensures faultless { OnOk result (S.faults store.new ≡ S.faults store.old) }
     ensures spends { IfOk result (λ header.
-        Spends (1 + piece_count header.running_size + piece_count (verified_size (phase_of header.status header.goal)))
+        Spends (1 + slice_count header.running_size + slice_count (verified_size (phase_of header.status header.goal)))
         (S.calls_left store.old) (S.calls_left store.new) true) }
     ensures refused { IfErr result (λ e. Refused S.honest S.sound S.capacity S.faults S.calls_left S.device store.old e store.new) }
 {
@@ -410,7 +482,7 @@ fn is_goal_genuine<S: ImageStore>(store: &mut S, header: &Header) -> Result<bool
     ensures same { IsTrue (S.honest store.old) → S.device store.new ≡ S.device store.old }
     ensures kept { Keeps S.honest S.sound S.capacity S.faults store.old store.new }
     ensures cause { HasCause (S.sound store.old) (S.faults store.old) (S.faults store.new) result }
-    ensures spends { Spends (piece_count (verified_size (phase_of header.now.status header.now.goal)))
+    ensures spends { Spends (slice_count (verified_size (phase_of header.now.status header.now.goal)))
         (S.calls_left store.old) (S.calls_left store.new) (is_ok result) }
 {
     laws::cuts_join();

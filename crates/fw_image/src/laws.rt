@@ -1,6 +1,6 @@
 //! Laws of meters in stores, over the definitions alone. A caller cites a law by calling it: nothing is done.
 
-ghost use Rattle.fw_image.specs.Laws.{OneMeter, FreshIsMeter, OneStep};
+ghost use Rattle.fw_image.specs.Laws.{OneMeter, FreshIsMeter, OneStep, OneTurn};
 
 /// What a store holds is one meter at most.
 pub fn one_meter()
@@ -20,4 +20,9 @@ pub fn fresh_is_meter()
 /// afterwards.
 pub fn one_step()
     ensures { OneStep }
+{}
+
+/// And a meter determines what a turn makes of it.
+pub fn one_turn()
+    ensures { OneTurn }
 {}

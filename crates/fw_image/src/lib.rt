@@ -11,5 +11,6 @@ mod view;
 
 pub use error::{OpenError, Refusal};
 pub use phase::{Phase, open_store};
-pub use transfer::{Idle, NotVerified, Receiving, Spoilt, Switched, Transfer, Verified};
+pub use status::TransferStatus;
+pub use transfer::{Idle, NotVerified, Receiving, Spoilt, Switched, Transfer, Verified, Verifying};
 pub use view::MeterView;

@@ -3,28 +3,30 @@
 ghost use Rattle.std.specs.Prelude.{◌≡◌, ◌≤◌, ◌↔◌, true, false, IsTrue, IfOk, IfErr, IsOkAnd, OnOk, Some, None, is_ok, length, take};
 ghost use Rattle.fw_blocks.specs.Cuts.{max_blocks};
 ghost use Rattle.fw_store.specs.Faults.{HasCause, Spends};
-ghost use Rattle.fw_store.specs.declared.header.StoredStatus.TheVariants as status;
 ghost use Rattle.fw_image.specs.Calls.{opening_calls};
-ghost use Rattle.fw_image.specs.Meter.{Meter, status_of, count_of, marks_of, IsTrusted};
+ghost use Rattle.fw_image.specs.Meter.{Meter, status_of, count_of, marks_of, reopened, IsTrusted};
 ghost use Rattle.fw_image.specs.Phases.{state_in, IsInPhase, left_in, left_begun};
 ghost use Rattle.fw_image.specs.Shown.{shown_of, IsView};
-ghost use Rattle.fw_image.specs.State.{Makes, Follows, told};
+ghost use Rattle.fw_image.specs.State.{Makes, Turns, Follows, stored, told};
 ghost use Rattle.fw_image.specs.Step.{enable, initiate};
-ghost use Rattle.fw_image.specs.Stored.{IsMeterOf, Holds, Refused, IsSameStore};
+ghost use Rattle.fw_image.specs.Stored.{IsMeterOf, Holds, Refused, IsSame};
+ghost use Rattle.fw_image.specs.declared.status.TransferStatus.TheVariants as status;
 
 use crate::error::{OpenError, Refusal};
 use crate::held::Held;
-use crate::transfer::{Idle, Receiving, Spoilt, Switched, Transfer, Verified};
+use crate::status::TransferStatus;
+use crate::transfer::{Idle, Receiving, Spoilt, Switched, Transfer, Verified, Verifying};
 use crate::view::MeterView;
 use fw_blocks::Marks;
 use fw_names::ImageName;
-use fw_store::{ImageStore, MemoryStore, StoreFault, StoredStatus};
+use fw_store::{ImageStore, MemoryStore, StoreFault};
 
 /// A transfer in one of its statuses. What all of them can do can be asked of it as well.
 #[derive(Drop)]
 pub enum Phase<S: ImageStore> {
     Idle(Idle<S>),
     Receiving(Receiving<S>),
+    Verifying(Verifying<S>),
     Verified(Verified<S>),
     Spoilt(Spoilt<S>),
     Switched(Switched<S>),
@@ -39,6 +41,9 @@ pub enum Phase<S: ImageStore> {
 pub fn open_store<S: ImageStore>(store: S) -> Result<Phase<S>, (OpenError, S)>
     ensures opened { IfOk result (λ phase. Holds S.honest S.capacity S.device store (state_in phase)) }
     ensures phase { IfOk result IsInPhase }
+
+    // No verification goes on.
+    ensures begins { IfOk result (λ phase. reopened (state_in phase).meter ≡ (state_in phase).meter) }
     ensures sound { IfOk result (λ phase. IsTrue (S.sound store) → IsTrue (state_in phase).sound) }
     ensures faultless { IfOk result (λ phase. (state_in phase).faults ≡ S.faults store) }
     ensures spends { IfOk result (λ phase.
@@ -54,16 +59,17 @@ pub fn open_store<S: ImageStore>(store: S) -> Result<Phase<S>, (OpenError, S)>
 
 impl<S: ImageStore> Phase<S> {
     /// What is held, in its status.
-    fn of(held: Held<S>) -> Phase<S>
+    pub(crate) fn of(held: Held<S>) -> Phase<S>
         ensures state { state_in result ≡ held }
         ensures phase { IsInPhase result }
     {
         match held.status() {
-            StoredStatus::NotInitiated => Phase::Idle(Transfer::new(held)),
-            StoredStatus::Initiated => Phase::Receiving(Transfer::new(held)),
-            StoredStatus::VerificationSuccessful => Phase::Verified(Transfer::new(held)),
-            StoredStatus::VerificationFailed => Phase::Spoilt(Transfer::new(held)),
-            StoredStatus::ActivationSuccessful => Phase::Switched(Transfer::new(held)),
+            TransferStatus::NotInitiated => Phase::Idle(Transfer::new(held)),
+            TransferStatus::Initiated => Phase::Receiving(Transfer::new(held)),
+            TransferStatus::VerificationInitiated => Phase::Verifying(Transfer::new(held)),
+            TransferStatus::VerificationSuccessful => Phase::Verified(Transfer::new(held)),
+            TransferStatus::VerificationFailed => Phase::Spoilt(Transfer::new(held)),
+            TransferStatus::ActivationSuccessful => Phase::Switched(Transfer::new(held)),
         }
     }
 
@@ -74,6 +80,7 @@ impl<S: ImageStore> Phase<S> {
         match self {
             Phase::Idle(transfer) => transfer.held(),
             Phase::Receiving(transfer) => transfer.held(),
+            Phase::Verifying(transfer) => transfer.held(),
             Phase::Verified(transfer) => transfer.held(),
             Phase::Spoilt(transfer) => transfer.held(),
             Phase::Switched(transfer) => transfer.held(),
@@ -87,6 +94,7 @@ impl<S: ImageStore> Phase<S> {
         match self {
             Phase::Idle(transfer) => transfer.into_held(),
             Phase::Receiving(transfer) => transfer.into_held(),
+            Phase::Verifying(transfer) => transfer.into_held(),
             Phase::Verified(transfer) => transfer.into_held(),
             Phase::Spoilt(transfer) => transfer.into_held(),
             Phase::Switched(transfer) => transfer.into_held(),
@@ -127,6 +135,16 @@ impl<S: ImageStore> Phase<S> {
         }
     }
 
+    /// A turn of a verification that goes on, as `Verifying::turn` makes it. In every other status nothing is done.
+    pub fn turn(self) -> Phase<S>
+        ensures turns { Turns (state_in self) (state_in result) }
+        ensures phase { IsInPhase result }
+    {
+        let mut held = self.into_held();
+        held.turn();
+        Phase::of(held)
+    }
+
     /// How many bytes a block has, but for the last of an image, which may be shorter (IEC 62056-6-2, image_block_size).
     pub fn block_size(&self) -> u32
         ensures { result ≡ (state_in self.now).meter.block_size }
@@ -160,9 +178,10 @@ impl<S: ImageStore> Phase<S> {
         self.held().view()
     }
 
-    /// The store, from which `open_store` gives the transfer again.
+    /// The store, from which `open_store` gives the transfer again. A verification that goes on is not kept: the image is
+    /// then received, with all its blocks.
     pub fn into_store(self) -> S
-        ensures held { Holds S.honest S.capacity S.device result (state_in self) }
+        ensures held { Holds S.honest S.capacity S.device result (stored (state_in self)) }
         ensures sound { S.sound result ≡ (state_in self).sound }
         ensures faults { S.faults result ≡ (state_in self).faults }
         ensures calls_left { S.calls_left result ≡ (state_in self).calls_left }
@@ -188,6 +207,7 @@ impl<S: ImageStore> Phase<S> {
         match self {
             Phase::Idle(transfer) => transfer.read_running(out),
             Phase::Receiving(transfer) => transfer.read_running(out),
+            Phase::Verifying(transfer) => transfer.read_running(out),
             Phase::Verified(transfer) => transfer.read_running(out),
             Phase::Spoilt(transfer) => transfer.read_running(out),
             Phase::Switched(transfer) => transfer.read_running(out),
@@ -204,6 +224,7 @@ impl Phase<MemoryStore> {
         match self {
             Phase::Idle(transfer) => transfer.fuse(calls, torn),
             Phase::Receiving(transfer) => transfer.fuse(calls, torn),
+            Phase::Verifying(transfer) => transfer.fuse(calls, torn),
             Phase::Verified(transfer) => transfer.fuse(calls, torn),
             Phase::Spoilt(transfer) => transfer.fuse(calls, torn),
             Phase::Switched(transfer) => transfer.fuse(calls, torn),
@@ -218,15 +239,17 @@ impl Phase<MemoryStore> {
         match self {
             Phase::Idle(transfer) => transfer.unfuse(),
             Phase::Receiving(transfer) => transfer.unfuse(),
+            Phase::Verifying(transfer) => transfer.unfuse(),
             Phase::Verified(transfer) => transfer.unfuse(),
             Phase::Spoilt(transfer) => transfer.unfuse(),
             Phase::Switched(transfer) => transfer.unfuse(),
         }
     }
 
-    /// Whether the two stores have the same capacity, header and slots. Then the two meters are the same.
+    /// Whether the two stores have the same capacity, header and slots, and as many bytes are digested where the image is
+    /// being verified. Then the two meters are the same.
     pub fn same(&self, other: &Self) -> bool
-        ensures stores { IsTrue result ↔ IsSameStore (state_in self.now) (state_in other.now) }
+        ensures same { IsTrue result ↔ IsSame (state_in self.now) (state_in other.now) }
         ensures meters { IsTrue result → (state_in self.now).meter ≡ (state_in other.now).meter }
     {
         self.held().same(other.held())

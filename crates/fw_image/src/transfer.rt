@@ -2,19 +2,20 @@
 
 ghost use Rattle.std.specs.Prelude.{◌≡◌, ◌↔◌, true, false, IsTrue, IfOk, IfErr, OnOk, Some, None, is_ok, length};
 ghost use Rattle.fw_store.specs.Faults.{HasCause, Spends};
-ghost use Rattle.fw_store.specs.declared.header.StoredStatus.TheVariants as status;
 ghost use Rattle.fw_image.specs.Meter.{status_of, IsTrusted};
-ghost use Rattle.fw_image.specs.Phases.{told_verified, left_verified, IsNotVerified};
+ghost use Rattle.fw_image.specs.Phases.{state_in, IsInPhase, told_verified, left_verified, IsVerified, IsNotVerified};
 ghost use Rattle.fw_image.specs.Shown.{shown_of, IsView};
-ghost use Rattle.fw_image.specs.State.{Makes, Follows, told, left};
+ghost use Rattle.fw_image.specs.State.{Makes, Turns, Follows, stored, told, left};
 ghost use Rattle.fw_image.specs.Step.{enable, initiate, block, verify, activate};
-ghost use Rattle.fw_image.specs.Stored.{Holds, IsSameStore};
+ghost use Rattle.fw_image.specs.Stored.{Holds, IsSame};
+ghost use Rattle.fw_image.specs.declared.status.TransferStatus.TheVariants as status;
 
 use crate::error::Refusal;
 use crate::held::Held;
+use crate::phase::Phase;
 use crate::status::{
     ActivationSuccessful, Initiated, NotInitiated, Status, VerificationFailed,
-    VerificationSuccessful,
+    VerificationInitiated, VerificationSuccessful,
 };
 use crate::view::MeterView;
 use fw_names::ImageName;
@@ -48,6 +49,9 @@ pub type Idle<S> = Transfer<S, NotInitiated>;
 
 /// Blocks are being received.
 pub type Receiving<S> = Transfer<S, Initiated>;
+
+/// The image is there and is being verified, a slice at each turn.
+pub type Verifying<S> = Transfer<S, VerificationInitiated>;
 
 /// The image is there and has its name's digest.
 pub type Verified<S> = Transfer<S, VerificationSuccessful>;
@@ -146,9 +150,10 @@ impl<S: ImageStore, P: Status> Transfer<S, P> {
         self.held.read_running(out)
     }
 
-    /// The store, from which `open_store` gives the transfer again.
+    /// The store, from which `open_store` gives the transfer again. A verification that goes on is not kept: the image is
+    /// then received, with all its blocks.
     pub fn into_store(self) -> S
-        ensures held { Holds S.honest S.capacity S.device result self }
+        ensures held { Holds S.honest S.capacity S.device result (stored self) }
         ensures sound { S.sound result ≡ self.sound }
         ensures faults { S.faults result ≡ self.faults }
         ensures calls_left { S.calls_left result ≡ self.calls_left }
@@ -185,25 +190,40 @@ impl<S: ImageStore> Receiving<S> {
         }
     }
 
-    /// Reads the whole image from the spare slot, compares its digest with that of its name, and notes the result by one
-    /// write of the header.
+    /// Reads the first slice of the image, 4,096 bytes, from the spare slot. Where that is the whole image, its digest is
+    /// compared with that of its name, and the result noted by one write of the header. A larger image is verified from
+    /// then on, a slice at each turn.
     ///
     /// # Errors
     ///
     /// `Disabled`, `Missing` or `Fault`, with the transfer as it was, or `Differs`.
-    pub fn verify(self) -> Result<Verified<S>, NotVerified<S>>
+    pub fn verify(self) -> Result<Phase<S>, NotVerified<S>>
         ensures makes { Makes self verify (told_verified result) (left_verified result) }
-        ensures status { IfOk result (λ next. status_of next.meter.phase ≡ status.VerificationSuccessful) }
+        ensures status { IfOk result IsVerified }
         ensures back { IfErr result IsNotVerified }
     {
         let mut held = self.held;
         match held.verify() {
-            Ok(()) => Ok(Transfer::new(held)),
+            Ok(()) => Ok(Phase::of(held)),
             Err(refusal) => Err(match refusal {
                 Refusal::Differs => NotVerified::Differs(Transfer::new(held)),
                 other => NotVerified::Refused(other, Transfer::new(held)),
             }),
         }
+    }
+}
+
+impl<S: ImageStore> Verifying<S> {
+    /// Reads the next slice of the image. Behind the last one the digest is compared with that of the image's name, and the
+    /// result noted by one write of the header: the image is verified then, or spoilt. Where the store failed, the
+    /// verification is given up, and the image received as it is.
+    pub fn turn(self) -> Phase<S>
+        ensures turns { Turns self (state_in result) }
+        ensures phase { IsInPhase result }
+    {
+        let mut held = self.held;
+        held.turn();
+        Phase::of(held)
     }
 }
 
@@ -241,9 +261,10 @@ impl<P: Status> Transfer<MemoryStore, P> {
         self.held.unfuse();
     }
 
-    /// Whether the two stores have the same capacity, header and slots. Then the two meters are the same.
+    /// Whether the two stores have the same capacity, header and slots, and as many bytes are digested where the image is
+    /// being verified. Then the two meters are the same.
     pub fn same(&self, other: &Self) -> bool
-        ensures stores { IsTrue result ↔ IsSameStore self.now other.now }
+        ensures same { IsTrue result ↔ IsSame self.now other.now }
         ensures meters { IsTrue result → self.now.meter ≡ other.now.meter }
     {
         self.held.same(&other.held)

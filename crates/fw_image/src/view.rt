@@ -1,8 +1,9 @@
 //! What a meter shows.
 
+use crate::status::TransferStatus;
 use fw_blocks::MARKS_SIZE;
 use fw_names::ImageName;
-use fw_store::{Goal, StoredStatus};
+use fw_store::Goal;
 
 /// What a meter shows of its images.
 #[derive(Clone, Copy, Debug, PartialEq, Eq)]
@@ -10,7 +11,7 @@ pub struct MeterView {
     /// Whether image transfer is enabled (image_transfer_enabled).
     pub enabled: bool,
     /// How far the transfer is (image_transfer_status).
-    pub status: StoredStatus,
+    pub status: TransferStatus,
     /// The name of the image that runs.
     pub active: ImageName,
     /// The bytes of the image that runs.

@@ -1,8 +1,8 @@
 -- Operations that are refused, and those that a status lacks.
 use Rattle.std.proofs.Common.{◌≡◌, ◌≢◌, ℕ, Bool, true, false, IsTrue, List, if◌then◌else◌, ◌⊎◌, inl, inr, refl, sym, ap, ◌∙◌, arith}
-use Rattle.fw_store.specs.declared.header.StoredStatus.TheVariants as status
 use Rattle.fw_store.specs.Faults.{count_after}
-use Rattle.fw_image.specs.Meter.{Meter, Phase, idle, receiving, sealed, spoilt, switched, status_of}
+use Rattle.fw_image.specs.declared.status.TransferStatus.TheVariants as status
+use Rattle.fw_image.specs.Meter.{Meter, Phase, idle, receiving, verifying, sealed, spoilt, switched, status_of}
 use Rattle.fw_image.specs.State.{State}
 use Rattle.fw_image.specs.Phases.{state_in, IsInPhase}
 use Rattle.fw_image.specs.declared.phase.Phase.{Phase as Core}
@@ -47,6 +47,7 @@ pub lacks_block : (s : State) (i : ℕ) (value : List ℕ) (e : Bool) (p : Phase
 lacks_block s i value false p off phase other = refused_by s (block i value) Disabled 3 (inl (off, refl)) refl refl
 lacks_block s i value true idle on phase other = refused_by s (block i value) Missing 2 (inr (on, rw phase refl, rw phase (λ h. h))) refl refl
 lacks_block s i value true (receiving goal) on phase other = absurd (other refl)
+lacks_block s i value true (verifying goal taken) on phase other = refused_by s (block i value) Missing 2 (inr (on, rw phase refl, rw phase (λ h. h))) refl refl
 lacks_block s i value true (sealed goal) on phase other = refused_by s (block i value) Missing 2 (inr (on, rw phase refl, rw phase (λ h. h))) refl refl
 lacks_block s i value true (spoilt goal) on phase other = refused_by s (block i value) Missing 2 (inr (on, rw phase refl, rw phase (λ h. h))) refl refl
 lacks_block s i value true switched on phase other = refused_by s (block i value) Missing 2 (inr (on, rw phase refl, rw phase (λ h. h))) refl refl
@@ -56,6 +57,7 @@ pub lacks_verify : (s : State) (e : Bool) (p : Phase) → s.meter.enabled ≡ e 
 lacks_verify s false p off phase other = refused_by s verify Disabled 3 (inl (off, refl)) refl refl
 lacks_verify s true idle on phase other = refused_by s verify Missing 2 (inr (on, refl, rw phase (λ h. h))) refl refl
 lacks_verify s true (receiving goal) on phase other = absurd (other refl)
+lacks_verify s true (verifying goal taken) on phase other = refused_by s verify Missing 2 (inr (on, refl, rw phase (λ h. h))) refl refl
 lacks_verify s true (sealed goal) on phase other = refused_by s verify Missing 2 (inr (on, refl, rw phase (λ h. h))) refl refl
 lacks_verify s true (spoilt goal) on phase other = refused_by s verify Missing 2 (inr (on, refl, rw phase (λ h. h))) refl refl
 lacks_verify s true switched on phase other = refused_by s verify Missing 2 (inr (on, refl, rw phase (λ h. h))) refl refl
@@ -65,6 +67,7 @@ pub lacks_activate : (s : State) (e : Bool) (p : Phase) → s.meter.enabled ≡ 
 lacks_activate s false p off phase other = refused_by s activate Disabled 3 (inl (off, refl)) refl refl
 lacks_activate s true idle on phase other = refused_by s activate Missing 2 (inr (on, refl, rw phase (λ h. h))) refl refl
 lacks_activate s true (receiving goal) on phase other = refused_by s activate Missing 2 (inr (on, refl, rw phase (λ h. h))) refl refl
+lacks_activate s true (verifying goal taken) on phase other = refused_by s activate Missing 2 (inr (on, refl, rw phase (λ h. h))) refl refl
 lacks_activate s true (sealed goal) on phase other = absurd (other refl)
 lacks_activate s true (spoilt goal) on phase other = refused_by s activate Missing 2 (inr (on, refl, rw phase (λ h. h))) refl refl
 lacks_activate s true switched on phase other = refused_by s activate Missing 2 (inr (on, refl, rw phase (λ h. h))) refl refl
@@ -73,6 +76,7 @@ lacks_activate s true switched on phase other = refused_by s activate Missing 2 
 pub not_receiving : {S : Type 0} (p : Core S) → IsInPhase p → ((t : State) → p ≡ core.Receiving t → ⊥) → status_of (state_in p).meter.phase ≢ status.Initiated
 not_receiving (core.Idle t) is none e = cc
 not_receiving (core.Receiving t) is none e = none t refl
+not_receiving (core.Verifying t) is none e = cc
 not_receiving (core.Verified t) is none e = cc
 not_receiving (core.Spoilt t) is none e = cc
 not_receiving (core.Switched t) is none e = cc
@@ -80,6 +84,7 @@ not_receiving (core.Switched t) is none e = cc
 pub not_verified : {S : Type 0} (p : Core S) → IsInPhase p → ((t : State) → p ≡ core.Verified t → ⊥) → status_of (state_in p).meter.phase ≢ status.VerificationSuccessful
 not_verified (core.Idle t) is none e = cc
 not_verified (core.Receiving t) is none e = cc
+not_verified (core.Verifying t) is none e = cc
 not_verified (core.Verified t) is none e = none t refl
 not_verified (core.Spoilt t) is none e = cc
 not_verified (core.Switched t) is none e = cc

@@ -1,17 +1,17 @@
 -- What a fault leaves is what a stop may leave.
-use Rattle.std.proofs.Common.{◌≡◌, ◌≢◌, ℕ, zero, suc, Bool, true, IsTrue, List, Option, Some, None, ◌⊎◌, length, inl, inr, refl, ap, subst, ◌∙◌}
+use Rattle.std.proofs.Common.{◌≡◌, ◌≢◌, ℕ, zero, suc, Bool, true, false, IsTrue, List, Option, Some, None, ◌⊎◌, length, inl, inr, refl, ap, subst, ◌∙◌}
 use Rattle.std.proofs.lemmas.Bool.{cases_eq}
 use Rattle.std.specs.FinMap.{get}
 use Rattle.fw_server.specs.Meaning.{Meaning, read, enable, initiate, block, verify, activate, refused as denied, meaning_of}
 use Rattle.fw_store.specs.declared.header.Goal.{Goal}
-use Rattle.fw_image.specs.Meter.{Meter, Phase, idle, receiving, sealed, spoilt, switched}
+use Rattle.fw_image.specs.Meter.{Meter, Phase, idle, receiving, verifying, sealed, spoilt, switched, reopened}
 use Rattle.fw_image.specs.State.{Counts}
 use Rattle.fw_image.specs.Step as operations
-use Rattle.fw_image.specs.Step.{Operation, refused, done, Admits, IsBlock, Does, with_cell, Step}
+use Rattle.fw_image.specs.Step.{Operation, refused, done, verification_initiated, Admits, IsBlock, Does, with_cell, Step, Turn, TurnsIn}
 use Rattle.fw_image.specs.declared.error.Refusal.TheVariants.{Disabled, BadInitiate, BadBlock, Missing, Fault, Differs}
 use Rattle.fw_names.specs.Name.{Name}
 use Rattle.fw_meter.specs.Handling.{Handles}
-use Rattle.fw_meter.specs.Laws.{Stops, FaultIsStop}
+use Rattle.fw_meter.specs.Laws.{Stops, FaultIsStop, TurnFaultIsStop}
 use Rattle.fw_meter.specs.Step.{MeterResult, got, coded, tells_no_fault, Operates, MeterStep, operation_code, activation_of}
 
 -- ---- an operation that is told a fault
@@ -24,6 +24,7 @@ made_fault (refused BadBlock) e = absurd cc
 made_fault (refused Missing) e = absurd cc
 made_fault (refused Fault) e = refl
 made_fault (refused Differs) e = absurd cc
+made_fault verification_initiated e = absurd cc
 
 -- the cell of the block that was to be written is torn
 pub record TearsCell (old : Meter) (asked : Meaning) (new : Meter) : Type 0 where
@@ -44,6 +45,7 @@ admits_block : (m : Meter) (phase : Phase) (i : ℕ) (value : List ℕ) → Admi
     → (goal : Goal) × (phase ≡ receiving goal) × IsBlock m.block_size goal.size i value
 admits_block m idle i value h = elim h [ ]
 admits_block m (receiving goal) i value h = (goal, refl, h)
+admits_block m (verifying goal taken) i value h = elim h [ ]
 admits_block m (sealed goal) i value h = elim h [ ]
 admits_block m (spoilt goal) i value h = elim h [ ]
 admits_block m switched i value h = elim h [ ]
@@ -162,3 +164,18 @@ pub fault_is_stop : FaultIsStop
 fault_is_stop old new datagram reply activated honest h =
     stops (Counts old new) old.meter new.meter datagram reply activated
     (subst (λ (b : Bool). Handles b (Counts old new) old.meter datagram reply activated new.meter) honest h)
+
+-- ---- a turn
+
+turn_stops : (p : Phase) (faultless : Bool) (old new : Meter) → TurnsIn p true old faultless new → (new ≡ reopened old) ⊎ TurnsIn p true old true new
+turn_stops p true old new h = inr h
+turn_stops idle false old new h = elim h [ ]
+turn_stops (receiving goal) false old new h = elim h [ ]
+turn_stops (verifying goal taken) false old new h = inl (h.is refl)
+turn_stops (sealed goal) false old new h = elim h [ ]
+turn_stops (spoilt goal) false old new h = elim h [ ]
+turn_stops switched false old new h = elim h [ ]
+
+pub turn_fault_is_stop : TurnFaultIsStop
+turn_fault_is_stop old new faultless honest h =
+    turn_stops old.meter.phase faultless old.meter new.meter (subst (λ (b : Bool). Turn b old.meter faultless new.meter) honest h)

@@ -1,13 +1,13 @@
 -- Public vocabulary: the laws of a meter.
-use Rattle.std.specs.Prelude.{◌≡◌, ◌⊎◌, true, IsTrue, List, ℕ, length, Option, Some, None}
+use Rattle.std.specs.Prelude.{◌≡◌, ◌⊎◌, Bool, true, IsTrue, List, ℕ, length, Option, Some, None}
 use Rattle.std.specs.FinMap.{get}
 use Rattle.fw_apdu.specs.Request.{RequestContent}
 use Rattle.fw_names.specs.Name.{Name}
 use Rattle.fw_server.specs.Meaning.{meaning_of, block}
 use Rattle.fw_store.specs.declared.header.Goal.{Goal}
-use Rattle.fw_image.specs.Meter.{Meter, receiving}
+use Rattle.fw_image.specs.Meter.{Meter, receiving, reopened}
 use Rattle.fw_image.specs.State.{State, Counts}
-use Rattle.fw_image.specs.Step.{IsBlock, with_cell}
+use Rattle.fw_image.specs.Step.{IsBlock, with_cell, Turn}
 use Rattle.fw_meter.specs.Handling.{Brings, Handles}
 
 -- over an honest store that doesn't fail, a meter and a datagram determine the reply, the activation and the meter afterwards
@@ -53,3 +53,10 @@ abbrev pub FaultIsStop : Type 0
 FaultIsStop =
     (old new : State) (datagram : List ℕ) (reply : Option (List ℕ)) (activated : Option Name) → IsTrue old.honest
     → Handles old.honest (Counts old new) old.meter datagram reply activated new.meter → Stops old.meter datagram activated new.meter
+
+-- Whichever call of an honest store fails in a turn, the meter is left as it was, but that no verification goes on, or as it is without
+-- the failure.
+abbrev pub TurnFaultIsStop : Type 0
+TurnFaultIsStop =
+    (old new : State) (faultless : Bool) → IsTrue old.honest → Turn old.honest old.meter faultless new.meter
+    → (new.meter ≡ reopened old.meter) ⊎ Turn true old.meter true new.meter

@@ -3,7 +3,6 @@
 use Rattle.std.specs.Prelude.{◌≡◌, ℕ, zero, suc, Bool, true, false, Option, Some, None, if◌then◌else◌, ◌⊎◌}
 use Rattle.fw_names.specs.Name.{Name, SpellsName}
 use Rattle.fw_blocks.specs.Members.{first_missing}
-use Rattle.fw_store.specs.Layout.{status_number}
 use Rattle.fw_apdu.specs.Cosem.{success, hardware_fault, temporary_failure, read_write_denied, other_reason}
 use Rattle.fw_server.specs.Meaning as meaning
 use Rattle.fw_server.specs.Meaning.{Meaning, instance_bytes, code_number}
@@ -12,9 +11,10 @@ use Rattle.fw_server.specs.declared.object.Reading.TheVariants as attribute
 use Rattle.fw_server.specs.declared.outcome.ImageInfo.{ImageInfo}
 use Rattle.fw_server.specs.declared.outcome.Answer.{Answer}
 use Rattle.fw_server.specs.declared.outcome.Answer.TheVariants as answer
+use Rattle.fw_image.specs.Status.{status_number}
 use Rattle.fw_image.specs.Meter.{Meter, Phase, sealed, count_of, status_of, marks_of}
 use Rattle.fw_image.specs.Step as image
-use Rattle.fw_image.specs.Step.{Operation, done, refused, Step}
+use Rattle.fw_image.specs.Step.{Operation, done, refused, verification_initiated, Step}
 use Rattle.fw_image.specs.declared.error.Refusal.{Refusal}
 use Rattle.fw_image.specs.declared.error.Refusal.TheVariants.{Disabled, BadInitiate, BadBlock, Missing, Fault, Differs}
 
@@ -58,9 +58,11 @@ refusal_code Missing = temporary_failure
 refusal_code Fault = hardware_fault
 refusal_code Differs = other_reason
 
+-- an operation's code: a verification that goes on is told as one that is asked for too early
 abbrev pub operation_code : image.OperationOutcome → ℕ
 operation_code done = success
 operation_code (refused refusal) = refusal_code refusal
+operation_code verification_initiated = temporary_failure
 
 -- an operation is made, and its code told
 abbrev pub Operates : Bool → Meter → Operation → MeterResult → Meter → Type 0

@@ -8,9 +8,9 @@ ghost use Rattle.fw_image.specs.Shown.{shown_of, IsView};
 ghost use Rattle.fw_image.specs.Meter.{Meter};
 ghost use Rattle.fw_meter.specs.Step.{answer_of, verified_info};
 
-use fw_image::{MeterView, Phase};
+use fw_image::{MeterView, Phase, TransferStatus};
 use fw_server::{Answer, ImageInfo, Reading};
-use fw_store::{ImageStore, StoredStatus};
+use fw_store::ImageStore;
 use std::alloc::{AllocError, Global};
 
 /// The value of an attribute (IEC 62056-6-2). The store is not called.
@@ -46,7 +46,7 @@ fn to_activate(view: &MeterView) -> Option<ImageInfo>
     ensures { (meter : Meter) → IsView view.now (shown_of meter) → result ≡ verified_info meter.phase }
 {
     match (view.status, view.goal) {
-        (StoredStatus::VerificationSuccessful, Some(goal)) => Some(ImageInfo {
+        (TransferStatus::VerificationSuccessful, Some(goal)) => Some(ImageInfo {
             size: goal.size,
             name: goal.name,
         }),

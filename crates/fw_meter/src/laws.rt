@@ -1,6 +1,6 @@
 //! Laws of a meter, over the definitions alone. A caller cites a law by calling it: nothing is done.
 
-ghost use Rattle.fw_meter.specs.Laws.{OneAnswer, Faultless, FaultIsStop};
+ghost use Rattle.fw_meter.specs.Laws.{OneAnswer, Faultless, FaultIsStop, TurnFaultIsStop};
 
 /// Over an honest store that doesn't fail, a meter and a datagram determine the reply, the activation and the meter
 /// afterwards.
@@ -19,8 +19,14 @@ pub fn faultless()
 {}
 
 /// Over an honest store, a stop at any of its calls leaves the meter before the datagram, or before it but for the block
-/// that it writes, or after it. To be opened again from an honest store that doesn't fail changes no meter, as the clause
-/// `again` of `MeterCore::restart` says.
+/// that it writes, or after it. To be opened again from an honest store that doesn't fail changes a meter at most while an
+/// image is verified, which is then received, as the clause `again` of `MeterCore::restart` says.
 pub fn fault_is_stop()
     ensures { FaultIsStop }
+{}
+
+/// Over an honest store, a stop at any call of a turn leaves the meter before the turn, but that no verification goes on, or
+/// after it.
+pub fn turn_fault_is_stop()
+    ensures { TurnFaultIsStop }
 {}

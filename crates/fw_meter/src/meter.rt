@@ -8,9 +8,9 @@ ghost use Rattle.fw_meter.specs.Step.{got, answer_of};
 ghost use Rattle.fw_apdu.specs.Request.{is_confirmed};
 ghost use Rattle.fw_apdu.specs.View.{request_content, request_invoke};
 ghost use Rattle.fw_image.specs.Calls.{opening_calls};
-ghost use Rattle.fw_image.specs.Meter.{Meter, IsTrusted};
+ghost use Rattle.fw_image.specs.Meter.{Meter, reopened, IsTrusted};
 ghost use Rattle.fw_image.specs.Shown.{shown_of, IsView};
-ghost use Rattle.fw_image.specs.State.{Follows, Counts};
+ghost use Rattle.fw_image.specs.State.{Follows, Counts, Turns, stored};
 ghost use Rattle.fw_image.specs.Stored.{Holds, IsMeterOf, Refused, is_opening_faultless};
 ghost use Rattle.fw_image.specs.declared.error.OpenError.TheVariants as not_opened;
 ghost use Rattle.fw_meter.specs.Handling.{Handles, Responds, MayWantMemory, reply_to, reply_bytes};
@@ -68,6 +68,9 @@ impl<S: ImageStore + Drop> MeterCore<S> {
     /// it held.
     pub fn open_store(store: S) -> Result<MeterCore<S>, (OpenError, S)>
         ensures opened { IfOk result (λ meter. Holds S.honest S.capacity S.device store meter) }
+
+        // No verification goes on.
+        ensures begins { IfOk result (λ meter. reopened meter.meter ≡ meter.meter) }
         ensures sound { IfOk result (λ meter. IsTrue (S.sound store) → IsTrue meter.sound) }
         ensures faultless { IfOk result (λ meter. meter.faults ≡ S.faults store) }
         ensures spends { IfOk result (λ meter. Spends (opening_calls meter.meter) (S.calls_left store) meter.calls_left true) }
@@ -79,21 +82,23 @@ impl<S: ImageStore + Drop> MeterCore<S> {
         Ok(MeterCore { phase: Some(phase) })
     }
 
-    /// The meter as it is after a restart: its store is opened again.
+    /// The meter as it is after a restart: its store is opened again. Of a verification that goes on the goal is left, which
+    /// is received, with all its blocks.
     ///
     /// # Errors
     ///
     /// As for `open_store`. An honest store is refused only where it fails.
     pub fn restart(self) -> Result<MeterCore<S>, (OpenError, S)>
-        ensures same { IsTrue self.honest → IfOk result (λ meter. meter.meter ≡ self.meter) }
+        ensures same { IsTrue self.honest → IfOk result (λ meter. meter.meter ≡ reopened self.meter) }
+        ensures begins { IfOk result (λ meter. reopened meter.meter ≡ meter.meter) }
         ensures follows { IfOk result (λ meter. Follows self meter) }
-        ensures again { IsTrue self.honest → IsTrue self.sound → IsOkAnd result (λ meter. meter.meter ≡ self.meter) }
+        ensures again { IsTrue self.honest → IsTrue self.sound → IsOkAnd result (λ meter. meter.meter ≡ reopened self.meter) }
         ensures fault { IsTrue self.honest → IfErr result (λ e. e.0 ≡ not_opened.Fault) }
         ensures faultless { IfOk result (λ meter. meter.faults ≡ self.faults) }
         ensures spends { IfOk result (λ meter. Spends (opening_calls meter.meter) self.calls_left meter.calls_left true) }
         ensures counted { IfErr result (λ e. S.faults e.1 ≡ count_after (is_opening_faultless e.0) self.faults) }
         ensures never { IsTrue self.sound → IfErr result (λ e. IsTrue (is_opening_faultless e.0)) }
-        ensures back { IfErr result (λ e. Holds S.honest S.capacity S.device e.1 self) }
+        ensures back { IfErr result (λ e. Holds S.honest S.capacity S.device e.1 (stored self)) }
     {
         fw_image::laws::one_meter();
         match self.phase {
@@ -122,6 +127,19 @@ impl<S: ImageStore + Drop> MeterCore<S> {
             None => Ok(unchanged(None)),
             Some(heard) => self.respond(alloc, &heard),
         }
+    }
+
+    /// A turn of the meter, which it takes on its own, whether transfer is enabled or not. While an image is verified, a slice
+    /// more of it is read, 4,096 bytes, and behind the last one the digest is compared with that of the image's name, and the
+    /// result noted by one write of the header. Where the store failed, the verification is given up, and the image is
+    /// received as before. In every other status nothing is done.
+    pub fn turn(&mut self)
+        ensures { Turns self.old self.new }
+    {
+        let Some(phase) = self.phase.take() else {
+            unreachable!()
+        };
+        self.phase = Some(phase.turn());
     }
 
     /// What the meter shows of itself.

@@ -1,7 +1,6 @@
 //! The operations of Image transfer that requests ask for, in whatever status a transfer is.
 
 ghost use Rattle.std.specs.Prelude.{◌≡◌, ◌≢◌, if◌then◌else◌};
-ghost use Rattle.fw_store.specs.declared.header.StoredStatus.TheVariants as status;
 ghost use Rattle.fw_server.specs.Meaning as meaning;
 ghost use Rattle.fw_server.specs.View.{operation_meaning};
 ghost use Rattle.fw_image.specs.Meter.{status_of};
@@ -98,7 +97,8 @@ fn verify<S: ImageStore>(phase: Phase<S>) -> (Code, Phase<S>)
 {
     match phase {
         Phase::Receiving(transfer) => match transfer.verify() {
-            Ok(next) => (Code::Success, Phase::Verified(next)),
+            Ok(Phase::Verifying(next)) => (Code::TemporaryFailure, Phase::Verifying(next)),
+            Ok(next) => (Code::Success, next),
             Err(NotVerified::Refused(refusal, left)) => (Code::of(refusal), Phase::Receiving(left)),
             Err(NotVerified::Differs(left)) => (Code::OtherReason, Phase::Spoilt(left)),
         },

@@ -1,5 +1,6 @@
 -- What each event keeps.
 use Rattle.std.proofs.Common.{◌≡◌, ℕ, zero, suc, Bool, true, nat_eq, inl, inr, ◌⊎◌, List, [], ◌∷◌, ◌++◌, Option, Some, None, refl, sym, ◌∙◌, ap, subst, eqb-true, arith, All, slice_get}
+use Rattle.std.proofs.lemmas.List.{append-nil}
 use Rattle.std.proofs.lemmas.List.Elements.{All-append, All-weaker, All-head, All-tail, Contains-append_left}
 use Rattle.fw_axdr.specs.Laws as axdr
 use Rattle.fw_names.specs.Laws as names
@@ -7,7 +8,7 @@ use Rattle.fw_names.specs.Name.{Campaign, Name, IsOpened, SpellsName, name_bytes
 use Rattle.fw_apdu.specs.Laws as apdu
 use Rattle.fw_client.specs.Ask.{initiate, request_of}
 use Rattle.fw_server.specs.Meaning.{meaning_of}
-use Rattle.fw_image.specs.Meter.{Meter}
+use Rattle.fw_image.specs.Meter.{reopened, Meter}
 use Rattle.fw_world.specs.declared.datagram.Direction.TheVariants.{ToHead}
 use Rattle.fw_world.specs.World.{Datagram, Activation, Offers, World, put, same_campaign, with_offer, with_meter, with_done}
 use Rattle.fw_world.specs.Step.{IsOfOffer, MayAsk, Permits, replies, activated, Serves, Marks, StopsAt}
@@ -15,7 +16,7 @@ use Rattle.fw_world.specs.Headline.{IsOffered, HasActivated, FirstNames, IsOwn, 
 use Rattle.fw_world.specs.Laws.{IsSafeWorld}
 use Rattle.fw_world.proofs.Maps.{put_cases, put_keeps, same_campaign_is}
 use Rattle.fw_world.proofs.Spelled.{one_brought, is_initiate}
-use Rattle.fw_world.proofs.Meters.{IsSafeMeter, IsSafeAfter, OffersGrow, offered_grows, own_grows, offers_grow, activations_grow, offered_name}
+use Rattle.fw_world.proofs.Meters.{IsSafeMeter, IsSafeAfter, quiet, reopened_safe, OffersGrow, offered_grows, own_grows, offers_grow, activations_grow, offered_name}
 use Rattle.fw_world.proofs.Handled.{handles_safe, stops_safe, reply_asks, reply_is_own}
 
 pub at_number : {X : Type 0} (P : X → Type 0) (xs : List X) (number : ℕ) (x : X) → All P xs → slice_get xs number ≡ Some x → P x
@@ -170,16 +171,34 @@ module _ (IsFirst : FirstNames) where
       before : IsSafeMeter IsFirst old.offered old.activations d.meter s.before
       before = meter_of IsFirst old k d.meter s.before s.there
 
+  -- a meter goes on, and switches to nothing
+  pub meter_safe : (old : World) → IsSafeWorld IsFirst old → (number : ℕ) (after : Meter) → IsSafeMeter IsFirst old.offered old.activations number after → IsSafeWorld IsFirst (with_meter old number after)
+  meter_safe old k number after safe =
+      subst (IsSafeWorld IsFirst) (ap (λ (l : List Activation). (let w : World = record (with_meter old number after) { activations = l } in w)) (append-nil old.activations))
+      (moves_safe old k number None after (quiet IsFirst old.offered old.activations number after safe) old.sent k.initiates
+      (All-weaker (TellsOwn IsFirst old.activations) (TellsOwn IsFirst (old.activations ++ [])) (told_grows IsFirst old.activations []) old.sent k.names.told))
+
   pub stop_safe : names.OneName → (old : World) → IsSafeWorld IsFirst old → (d : Datagram) → InitiatesOffered old.offered d → (new : World) → StopsAt old d new → IsSafeWorld IsFirst new
   stop_safe one_name old k d asks new s =
-      subst (IsSafeWorld IsFirst) (sym s.new_is)
-      (moves_safe old k d.meter s.name s.after
-      (stops_safe one_name IsFirst old.offered k.sound.campaigns old.activations d asks s.before (meter_of IsFirst old k d.meter s.before s.there) s.name s.after s.stops)
+      subst (IsSafeWorld IsFirst) (sym (s.new_is ∙ noted s.name))
+      (moves_safe old k d.meter s.name (reopened s.after)
+      (reopens s.name (stops_safe one_name IsFirst old.offered k.sound.campaigns old.activations d asks s.before (meter_of IsFirst old k d.meter s.before s.there) s.name s.after s.stops))
       old.sent k.initiates
       (All-weaker (TellsOwn IsFirst old.activations) (TellsOwn IsFirst (old.activations ++ more)) (told_grows IsFirst old.activations more) old.sent k.names.told))
     where
       more : List Activation
-      more = activated d.meter s.name s.after
+      more = activated d.meter s.name (reopened s.after)
+
+      -- a restart leaves the image that runs
+      noted : (name : Option Name) → (let w : World = record (with_meter old d.meter (reopened s.after)) { activations = old.activations ++ activated d.meter name s.after } in w)
+          ≡ record (with_meter old d.meter (reopened s.after)) { activations = old.activations ++ activated d.meter name (reopened s.after) }
+      noted None = refl
+      noted (Some name) = refl
+
+      reopens : (name : Option Name) → IsSafeAfter IsFirst old.offered old.activations d.meter name s.after → IsSafeAfter IsFirst old.offered old.activations d.meter name (reopened s.after)
+      reopens None safe = record { meter = reopened_safe IsFirst old.offered (old.activations ++ []) d.meter s.after safe.meter; activation = safe.activation }
+      reopens (Some name) safe =
+          record { meter = reopened_safe IsFirst old.offered (old.activations ++ activated d.meter (Some name) s.after) d.meter s.after safe.meter; activation = safe.activation }
 
   -- ---- marks
 

@@ -14,7 +14,7 @@ use Rattle.fw_server.specs.Meaning.{Meaning, meaning_of}
 use Rattle.fw_server.specs.Answer.{response_of}
 use Rattle.fw_image.specs.Meter.{Meter}
 use Rattle.fw_image.specs.Step as image
-use Rattle.fw_image.specs.Step.{Operation, OperationOutcome, done, refused}
+use Rattle.fw_image.specs.Step.{Operation, OperationOutcome, done, refused, verification_initiated}
 use Rattle.fw_image.specs.declared.error.Refusal.TheVariants.{Disabled, BadInitiate, BadBlock, Missing, Fault, Differs}
 use Rattle.fw_meter.specs.Step.{MeterResult, coded, operation_code, Operates, MeterStep, activation_of}
 use Rattle.fw_meter.specs.Handling.{Brings, outcome_in, Handles}
@@ -35,6 +35,7 @@ activate_switches new (refused BadBlock) = refl
 activate_switches new (refused Missing) = refl
 activate_switches new (refused Fault) = refl
 activate_switches new (refused Differs) = refl
+activate_switches new verification_initiated = refl
 
 -- if there is a reply, it has these bytes
 each_reply : (P : Datagram → Type 0) (d : Datagram) (reply : Option (List ℕ)) (confirmed : Bool) (bytes : List ℕ) → reply ≡ (if confirmed then Some bytes else None)

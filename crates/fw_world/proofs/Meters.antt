@@ -1,5 +1,5 @@
 -- What an operation keeps of a meter of the world.
-use Rattle.std.proofs.Common.{◌≡◌, ℕ, ◌≤◌, ◌-◌, Bool, true, List, [], ◌++◌, length, Option, Some, None, inl, inr, refl, sym, ◌∙◌, ap, subst, All}
+use Rattle.std.proofs.Common.{◌≡◌, ℕ, ◌+◌, ◌≤◌, ◌-◌, Bool, true, false, List, [], ◌++◌, length, Option, Some, None, inl, inr, refl, sym, ◌∙◌, ap, subst, All}
 use Rattle.std.proofs.lemmas.List.Elements.{Contains-append_left, Contains-push, All-nil, All-cons}
 use Rattle.sha2.specs.Sha256.{sha256}
 use Rattle.sha2.proofs.Facts256.{length-sha256}
@@ -7,9 +7,10 @@ use Rattle.fw_names.specs.Name.{Campaign, Name, IsOpened, IsName}
 use Rattle.fw_blocks.specs.Cuts.{block_start, block_end}
 use Rattle.fw_store.specs.Header.{goal_count}
 use Rattle.fw_store.specs.declared.header.Goal.{Goal}
-use Rattle.fw_store.specs.declared.header.StoredStatus.TheVariants.{VerificationSuccessful}
-use Rattle.fw_image.specs.Meter.{Meter, Phase, idle, receiving, sealed, spoilt, switched, status_of, goal_of, joined, goal_bytes, IsGenuine}
-use Rattle.fw_image.specs.Step.{Operation, enable, initiate, block, verify, activate, OperationOutcome, done, refused, IsBlock, Admits, Serves, begun, with_cell, sealed_phase, spoilt_phase, switched_to, Does, Step}
+use Rattle.fw_verify.specs.Slices.{slice_size}
+use Rattle.fw_image.specs.declared.status.TransferStatus.TheVariants.{VerificationSuccessful}
+use Rattle.fw_image.specs.Meter.{Meter, Phase, idle, receiving, verifying, sealed, spoilt, switched, status_of, goal_of, joined, goal_bytes, IsGenuine, reopened, reopened_phase}
+use Rattle.fw_image.specs.Step.{Operation, enable, initiate, block, verify, activate, OperationOutcome, done, refused, verification_initiated, IsBlock, Admits, Serves, begun, with_cell, digested_phase, sealed_phase, spoilt_phase, switched_to, Judges, Does, Step, Turn, TurnsIn}
 use Rattle.fw_image.specs.declared.error.Refusal.{Refusal}
 use Rattle.fw_image.specs.declared.error.Refusal.TheVariants.{Fault, Differs}
 use Rattle.fw_world.specs.World.{Activation, Offers}
@@ -77,6 +78,7 @@ one_goal o a b e f = cc
 admits_block : (m : Meter) (phase : Phase) (number : ℕ) (value : List ℕ) → Admits m phase (block number value) → (goal : Goal) × (phase ≡ receiving goal) × IsBlock m.block_size goal.size number value
 admits_block m idle number value h = elim h [ ]
 admits_block m (receiving goal) number value h = (goal, refl, h)
+admits_block m (verifying goal taken) number value h = elim h [ ]
 admits_block m (sealed goal) number value h = elim h [ ]
 admits_block m (spoilt goal) number value h = elim h [ ]
 admits_block m switched number value h = elim h [ ]
@@ -85,6 +87,7 @@ admits_block m switched number value h = elim h [ ]
 admits_activate : (m : Meter) (phase : Phase) → Admits m phase activate → (goal : Goal) × (phase ≡ sealed goal)
 admits_activate m idle h = elim h [ ]
 admits_activate m (receiving goal) h = elim h [ ]
+admits_activate m (verifying goal taken) h = elim h [ ]
 admits_activate m (sealed goal) h = (goal, refl)
 admits_activate m (spoilt goal) h = elim h [ ]
 admits_activate m switched h = elim h [ ]
@@ -160,6 +163,7 @@ module _ (IsFirst : FirstNames) (offered : Offers) (activations : List Activatio
   sealed_goal : (p : Phase) → goal_of (sealed_phase p) ≡ goal_of p
   sealed_goal idle = refl
   sealed_goal (receiving goal) = refl
+  sealed_goal (verifying goal taken) = refl
   sealed_goal (sealed goal) = refl
   sealed_goal (spoilt goal) = refl
   sealed_goal switched = refl
@@ -167,6 +171,7 @@ module _ (IsFirst : FirstNames) (offered : Offers) (activations : List Activatio
   spoilt_goal : (p : Phase) → goal_of (spoilt_phase p) ≡ goal_of p
   spoilt_goal idle = refl
   spoilt_goal (receiving goal) = refl
+  spoilt_goal (verifying goal taken) = refl
   spoilt_goal (sealed goal) = refl
   spoilt_goal (spoilt goal) = refl
   spoilt_goal switched = refl
@@ -175,9 +180,69 @@ module _ (IsFirst : FirstNames) (offered : Offers) (activations : List Activatio
   spoilt_status : (p : Phase) → status_of (spoilt_phase p) ≡ VerificationSuccessful → status_of p ≡ VerificationSuccessful
   spoilt_status idle e = e
   spoilt_status (receiving goal) e = absurd cc
+  spoilt_status (verifying goal taken) e = absurd cc
   spoilt_status (sealed goal) e = e
   spoilt_status (spoilt goal) e = e
   spoilt_status switched e = e
+
+  digested_goal : (p : Phase) (taken : ℕ) → goal_of (digested_phase p taken) ≡ goal_of p
+  digested_goal idle taken = refl
+  digested_goal (receiving goal) taken = refl
+  digested_goal (verifying goal n) taken = refl
+  digested_goal (sealed goal) taken = refl
+  digested_goal (spoilt goal) taken = refl
+  digested_goal switched taken = refl
+
+  digested_status : (p : Phase) (taken : ℕ) → status_of (digested_phase p taken) ≡ VerificationSuccessful → status_of p ≡ VerificationSuccessful
+  digested_status idle taken e = e
+  digested_status (receiving goal) taken e = absurd cc
+  digested_status (verifying goal n) taken e = e
+  digested_status (sealed goal) taken e = e
+  digested_status (spoilt goal) taken e = e
+  digested_status switched taken e = e
+
+  reopened_goal : (p : Phase) → goal_of (reopened_phase p) ≡ goal_of p
+  reopened_goal idle = refl
+  reopened_goal (receiving goal) = refl
+  reopened_goal (verifying goal taken) = refl
+  reopened_goal (sealed goal) = refl
+  reopened_goal (spoilt goal) = refl
+  reopened_goal switched = refl
+
+  reopened_status : (p : Phase) → status_of (reopened_phase p) ≡ VerificationSuccessful → status_of p ≡ VerificationSuccessful
+  reopened_status idle e = e
+  reopened_status (receiving goal) e = e
+  reopened_status (verifying goal taken) e = absurd cc
+  reopened_status (sealed goal) e = e
+  reopened_status (spoilt goal) e = e
+  reopened_status switched e = e
+
+  -- a restart ends a verification that goes on
+  pub reopened_safe : (old : Meter) → IsSafeMeter IsFirst offered activations number old → IsSafeMeter IsFirst offered activations number (reopened old)
+  reopened_safe old k = phase_safe old (reopened_phase old.phase) (reopened_goal old.phase) (λ e. k.verified (reopened_status old.phase e)) k
+
+  -- the goal's bytes are judged
+  judges_safe : (old new : Meter) (genuine : Bool) → Judges true old genuine new → IsSafeMeter IsFirst offered activations number old → IsSafeMeter IsFirst offered activations number new
+  judges_safe old new true judges k =
+      subst (IsSafeMeter IsFirst offered activations number) (sym (judges.0.is refl)) (phase_safe old (sealed_phase old.phase) (sealed_goal old.phase) (λ e. judges.1 refl) k)
+  judges_safe old new false judges k =
+      subst (IsSafeMeter IsFirst offered activations number) (sym (judges.0.is refl))
+      (phase_safe old (spoilt_phase old.phase) (spoilt_goal old.phase) (λ e. k.verified (spoilt_status old.phase e)) k)
+
+  -- a turn digests a slice more, or judges
+  turns_safe : (old new : Meter) → IsSafeMeter IsFirst offered activations number old → (p : Phase) → old.phase ≡ p → TurnsIn p true old true new → IsSafeMeter IsFirst offered activations number new
+  turns_safe old new k (verifying goal taken) is (inl on) =
+      subst (IsSafeMeter IsFirst offered activations number) (sym (on.1.is refl)) (phase_safe old (verifying goal (taken + slice_size)) (sym (ap goal_of is)) (λ e. absurd cc) k)
+  turns_safe old new k (verifying goal taken) is (inr (last, inl genuine)) = judges_safe old new true genuine k
+  turns_safe old new k (verifying goal taken) is (inr (last, inr other)) = judges_safe old new false other k
+  turns_safe old new k idle is same = subst (IsSafeMeter IsFirst offered activations number) (sym same) k
+  turns_safe old new k (receiving goal) is same = subst (IsSafeMeter IsFirst offered activations number) (sym same) k
+  turns_safe old new k (sealed goal) is same = subst (IsSafeMeter IsFirst offered activations number) (sym same) k
+  turns_safe old new k (spoilt goal) is same = subst (IsSafeMeter IsFirst offered activations number) (sym same) k
+  turns_safe old new k switched is same = subst (IsSafeMeter IsFirst offered activations number) (sym same) k
+
+  pub turn_safe : (old new : Meter) → IsSafeMeter IsFirst offered activations number old → Turn true old true new → IsSafeMeter IsFirst offered activations number new
+  turn_safe old new k turn = turns_safe old new k old.phase refl turn
 
   -- the bytes of a genuine goal
   genuine_bytes : (goal : Goal) (o : Option (List ℕ)) → IsGenuine (Some goal) o → (bytes : List ℕ) × (o ≡ Some bytes) × (sha256 bytes ≡ goal.name.digest)
@@ -229,18 +294,19 @@ module _ (IsFirst : FirstNames) (offered : Offers) (activations : List Activatio
   does_safe campaigns old new k (block n value) done asks serves does =
       let admitted = admits_block old old.phase n value serves.1 in
       quiet new (subst (IsSafeMeter IsFirst offered activations number) (sym (does.is refl)) (cell_safe old admitted.0 n value value admitted.1 admitted.2 refl k))
-  does_safe campaigns old new k verify done asks serves does =
-      quiet new (subst (IsSafeMeter IsFirst offered activations number) (sym (does.0.is refl)) (phase_safe old (sealed_phase old.phase) (sealed_goal old.phase) (λ e. does.1 refl) k))
+  does_safe campaigns old new k verify done asks serves does = quiet new (judges_safe old new true does.1 k)
   does_safe campaigns old new k activate done asks serves does = activate_safe campaigns old new k serves.1 (does.is refl)
-  does_safe campaigns old new k verify (refused Differs) asks serves does =
-      quiet new (subst (IsSafeMeter IsFirst offered activations number) (sym (does.0.is refl))
-      (phase_safe old (spoilt_phase old.phase) (spoilt_goal old.phase) (λ e. k.verified (spoilt_status old.phase e)) k))
+  does_safe campaigns old new k verify (refused Differs) asks serves does = quiet new (judges_safe old new false does.1 k)
+  does_safe campaigns old new k verify verification_initiated asks serves does =
+      quiet new (subst (IsSafeMeter IsFirst offered activations number) (sym (does.1.is refl))
+      (phase_safe old (digested_phase old.phase slice_size) (digested_goal old.phase slice_size) (λ e. k.verified (digested_status old.phase slice_size e)) k))
   does_safe campaigns old new k (block n value) (refused Fault) asks serves (inl leaves) = quiet new (subst (IsSafeMeter IsFirst offered activations number) (sym (leaves.is refl)) k)
   does_safe campaigns old new k (block n value) (refused Fault) asks serves (inr torn) =
       let admitted = admits_block old old.phase n value serves.1 in
       quiet new (subst (IsSafeMeter IsFirst offered activations number) (sym (torn.4.is refl)) (cell_safe old admitted.0 n value torn.1 admitted.1 admitted.2 torn.3 k))
   does_safe campaigns old new k operation (refused Fault) asks serves does = quiet new (subst (IsSafeMeter IsFirst offered activations number) (sym (does.is refl)) k)
   does_safe campaigns old new k operation (refused r) asks serves does = elim does [ ]
+  does_safe campaigns old new k operation verification_initiated asks serves does = elim does [ ]
 
   pub step_safe : ((campaign : Campaign) (image : List ℕ) → offered campaign ≡ Some image → IsOpened campaign) → (old new : Meter) → IsSafeMeter IsFirst offered activations number old
       → (operation : Operation) (outcome : OperationOutcome) → IsOfOffers offered operation → Step true old operation outcome new → IsSafeAfter (switches operation outcome new) new

@@ -7,7 +7,7 @@ use Rattle.std.proofs.lemmas.List.Elements.{All-nil, All-cons, All-head, All-tai
 use Rattle.std.proofs.lemmas.Bool.{cases_Bool, cond-true, cond-false, false_from_ne_true, false≢true}
 use Rattle.std.proofs.lemmas.Bool.Decides.{Decides-eqb}
 use Rattle.fw_names.specs.Name.{Campaign, Name, name_of, SpellsName}
-use Rattle.fw_image.specs.Meter.{Meter}
+use Rattle.fw_image.specs.Meter.{Meter, reopened}
 use Rattle.fw_client.specs.Ask.{Ask, block_size, first_missing, blocks, status, info, active_name, enable, initiate, block, verify, activate}
 use Rattle.fw_client.specs.Claim.{Claim}
 use Rattle.fw_client.specs.State.{invoke_byte}
@@ -310,7 +310,7 @@ module _ (stay : ImagesStay) (offers : OpeningOffers) (follow : StatesFollowCall
     name = o.name;
     there = o.there;
     stops = o.stops;
-    new_is = ap world_of o.new_is ∙ ap (λ (w : World). (let x : World = record w { activations = old.activations ++ activated d.meter o.name o.after } in x)) (meter_goes old d.meter o.before o.after o.there);
+    new_is = ap world_of o.new_is ∙ ap (λ (w : World). (let x : World = record w { activations = old.activations ++ activated d.meter o.name o.after } in x)) (meter_goes old d.meter o.before (reopened o.after) o.there);
   }
 
   -- a mark of a live row: the state of its meter in its campaign, and every other as it was
@@ -437,6 +437,6 @@ module _ (stay : ImagesStay) (offers : OpeningOffers) (follow : StatesFollowCall
   state_steps old new (tick head meter) is o = ticked_as old new head meter is o
   state_steps old new (deliver number) is o = (o.0, o.1, delivered_as old new o.0 o.0.direction is o.2)
   state_steps old new (stop number calls torn) is o = (o.0, o.1, o.2, stopped_as old new o.0 o.3)
-  state_steps old new (restart_meter number) is o = (o.0, o.1, ap world_of o.2)
+  state_steps old new (restart_meter number) is o = (o.0, o.1, ap world_of o.2 ∙ meter_goes old number o.0 (reopened o.0) o.1)
   state_steps old new (restart_head number) is o = ap world_of o.2 ∙ rows_change old number o.0 (restarted o.0) o.1 refl
-  state_steps old new (turn number) is o = (o.0, o.1, ap world_of o.2)
+  state_steps old new (turn number) is o = (o.0, o.1, o.2, o.3, ap world_of o.4 ∙ meter_goes old number o.0 o.1 o.2)

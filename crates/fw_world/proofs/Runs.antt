@@ -8,15 +8,15 @@ use Rattle.fw_names.specs.Name.{Name, factory}
 use Rattle.fw_apdu.specs.Laws as apdu
 use Rattle.fw_store.specs.Setup.{IsSetup}
 use Rattle.fw_image.specs.Fresh.{fresh_meter}
-use Rattle.fw_image.specs.Meter.{Meter}
+use Rattle.fw_image.specs.Meter.{Meter, reopened}
 use Rattle.fw_world.specs.declared.datagram.Direction.{Direction}
 use Rattle.fw_world.specs.declared.datagram.Direction.TheVariants.{ToMeter, ToHead}
 use Rattle.fw_world.specs.World.{World}
 use Rattle.fw_world.specs.Step.{Event, open_campaign, cancel_campaign, tick, deliver, stop, restart_meter, restart_head, turn, Delivers, WorldStep, IsOpening, Run}
 use Rattle.fw_world.specs.Headline.{FirstNames, IsFactoryName, IsFirstName, InitiatesOffered, TellsOwn, IsSafe, ActivationsAreEqual}
 use Rattle.fw_world.specs.Laws.{AfterEachRun, IsSafeWorld, EveryStepIsSafe}
-use Rattle.fw_world.proofs.Meters.{IsSafeMeter}
-use Rattle.fw_world.proofs.Events.{at_number, world_of, open_safe, tick_safe, serves_safe, stop_safe, marks_safe}
+use Rattle.fw_world.proofs.Meters.{IsSafeMeter, reopened_safe, turn_safe}
+use Rattle.fw_world.proofs.Events.{at_number, world_of, meter_of, meter_safe, open_safe, tick_safe, serves_safe, stop_safe, marks_safe}
 
 module _ (one_name : names.OneName) (size : names.SpellingSize) (requests : apdu.OneRequest) (shorts : axdr.ShortSpells) (spellings : axdr.OneSpelling) where
   module _ (IsFirst : FirstNames) (first : (number : ℕ) (name : Name) → IsFirst number name → name.campaign ≡ factory) where
@@ -34,9 +34,11 @@ module _ (one_name : names.OneName) (size : names.SpellingSize) (requests : apdu
             marks_safe IsFirst one_name size first old k s.0 is (at_number (TellsOwn IsFirst old.activations) old.sent number s.0 k.names.told s.1) new marks
     step_safe old new (stop number calls torn) s k =
         stop_safe IsFirst one_name old k s.0 (at_number (InitiatesOffered old.offered) old.sent number s.0 k.initiates s.1) new s.3
-    step_safe old new (restart_meter number) s k = subst (IsSafeWorld IsFirst) (sym s.2) k
+    step_safe old new (restart_meter number) s k =
+        subst (IsSafeWorld IsFirst) (sym s.2) (meter_safe IsFirst old k number (reopened s.0) (reopened_safe IsFirst old.offered old.activations number s.0 (meter_of IsFirst old k number s.0 s.1)))
     step_safe old new (restart_head head) s k = subst (IsSafeWorld IsFirst) (sym s) k
-    step_safe old new (turn number) s k = subst (IsSafeWorld IsFirst) (sym s.2) k
+    step_safe old new (turn number) s k =
+        subst (IsSafeWorld IsFirst) (sym s.4) (meter_safe IsFirst old k number s.1 (turn_safe IsFirst old.offered old.activations number s.0 s.1 (meter_of IsFirst old k number s.0 s.2) s.3))
 
     run_safe : (old new : World) (events : List Event) → Run old events new → IsSafeWorld IsFirst old → IsSafeWorld IsFirst new
     run_safe old new [] r k = subst (IsSafeWorld IsFirst) (sym r) k

@@ -3,7 +3,8 @@ use Rattle.std.specs.Prelude.{◌≡◌, ◌↔◌, ℕ, nat_eq, true, false, Bo
 use Rattle.std.specs.Map.{lookup, set_value}
 use Rattle.std.specs.Option.{option_and_then}
 use Rattle.fw_names.specs.Name.{Campaign, Name, IsOpened}
-use Rattle.fw_image.specs.Meter.{Meter}
+use Rattle.fw_image.specs.Meter.{Meter, reopened}
+use Rattle.fw_image.specs.Step.{Turn}
 use Rattle.fw_book.specs.declared.row.RowState.{RowState}
 use Rattle.fw_book.specs.declared.row.RowState.TheVariants as states
 use Rattle.fw_book.specs.Contents.{image_in, state_in}
@@ -116,7 +117,7 @@ pub record StopsIn (old : State) (d : Datagram) (new : State) : Type 0 where
   pub name : Option Name
   pub there : meter_at old d.meter ≡ Some before
   pub stops : Stops before d.bytes name after
-  pub new_is : new ≡ record (set_meter old d.meter after) { activations = old.activations ++ activated d.meter name after }
+  pub new_is : new ≡ record (set_meter old d.meter (reopened after)) { activations = old.activations ++ activated d.meter name after }
 
 abbrev pub StateStep : State → Event → State → Type 0
 StateStep old (open_campaign campaign image meters) new = OpensAt old campaign image meters new
@@ -124,6 +125,7 @@ StateStep old (cancel_campaign campaign) new = CancelsAt old campaign new
 StateStep old (tick head meter) new = TicksAt old head meter new
 StateStep old (deliver number) new = (d : Datagram) × (slice_get old.sent number ≡ Some d) × DeliversAt d.direction old d new
 StateStep old (stop number calls torn) new = (d : Datagram) × (slice_get old.sent number ≡ Some d) × (d.direction ≡ ToMeter) × StopsIn old d new
-StateStep old (restart_meter number) new = (meter : Meter) × (meter_at old number ≡ Some meter) × (new ≡ old)
+StateStep old (restart_meter number) new = (meter : Meter) × (meter_at old number ≡ Some meter) × (new ≡ set_meter old number (reopened meter))
 StateStep old (restart_head number) new = (head : Head) × (head_at old number ≡ Some head) × (new ≡ set_head old number (restarted head))
-StateStep old (turn number) new = (meter : Meter) × (meter_at old number ≡ Some meter) × (new ≡ old)
+StateStep old (turn number) new =
+    (before : Meter) × (after : Meter) × (meter_at old number ≡ Some before) × Turn true before true after × (new ≡ set_meter old number after)

@@ -4,7 +4,8 @@ use Rattle.fw_axdr.specs.Value.{octet_string}
 use Rattle.fw_names.specs.Name.{Campaign, Name, IsOpened, SpellsName, name_of}
 use Rattle.fw_apdu.specs.Response.{value, get_response}
 use Rattle.fw_store.specs.Setup.{IsSetup}
-use Rattle.fw_image.specs.Meter.{Meter}
+use Rattle.fw_image.specs.Meter.{Meter, reopened}
+use Rattle.fw_image.specs.Step.{Turn}
 use Rattle.fw_image.specs.Fresh.{fresh_meter}
 use Rattle.fw_client.specs.Ask.{Ask, initiate, block, request_of, CarriesRequest}
 use Rattle.fw_client.specs.Hearing.{CarriesResponse}
@@ -97,14 +98,14 @@ Delivers ToHead old d new = (new ≡ old) ⊎ Marks old d new
 -- ---- stops
 
 -- A meter stops while it handles a datagram, and restarts: its reply is lost. What a stop leaves is the meter as it was, or as it was but
--- for a block that was being written, or as it is without the stop. An image that it switched to is noted.
+-- for a block that was being written, or as it is without the stop; and no verification goes on. An image that it switched to is noted.
 pub record StopsAt (old : World) (d : Datagram) (new : World) : Type 0 where
   pub before : Meter
   pub after : Meter
   pub name : Option Name
   pub there : old.meters d.meter ≡ Some before
   pub stops : Stops before d.bytes name after
-  pub new_is : new ≡ record (with_meter old d.meter after) { activations = old.activations ++ activated d.meter name after }
+  pub new_is : new ≡ record (with_meter old d.meter (reopened after)) { activations = old.activations ++ activated d.meter name after }
 
 -- ---- the step
 
@@ -116,9 +117,10 @@ WorldStep old (tick head meter) new =
     (sends : List Datagram) × All (Permits old.offered head meter) sends × (new ≡ record old { sent = old.sent ++ sends })
 WorldStep old (deliver number) new = (d : Datagram) × (slice_get old.sent number ≡ Some d) × Delivers d.direction old d new
 WorldStep old (stop number calls torn) new = (d : Datagram) × (slice_get old.sent number ≡ Some d) × (d.direction ≡ ToMeter) × StopsAt old d new
-WorldStep old (restart_meter number) new = (meter : Meter) × (old.meters number ≡ Some meter) × (new ≡ old)
+WorldStep old (restart_meter number) new = (meter : Meter) × (old.meters number ≡ Some meter) × (new ≡ with_meter old number (reopened meter))
 WorldStep old (restart_head head) new = new ≡ old
-WorldStep old (turn number) new = (meter : Meter) × (old.meters number ≡ Some meter) × (new ≡ old)
+WorldStep old (turn number) new =
+    (before : Meter) × (after : Meter) × (old.meters number ≡ Some before) × Turn true before true after × (new ≡ with_meter old number after)
 
 -- ---- runs
 

@@ -2,8 +2,8 @@
 
 ghost use Rattle.std.specs.Prelude.{◌≡◌, true, IsTrue, IfOk, OnOk, OnErr};
 ghost use Rattle.fw_image.specs.Fresh.{fresh_meter};
-ghost use Rattle.fw_image.specs.Meter.{IsTrusted};
-ghost use Rattle.fw_image.specs.Shown.{shown_of, IsView};
+ghost use Rattle.fw_image.specs.Meter.{Meter, reopened};
+ghost use Rattle.fw_image.specs.Step.{Turn};
 ghost use Rattle.fw_store.specs.Setup.{IsSetup};
 ghost use Rattle.fw_meter.specs.Handling.{Handles, reply_bytes};
 ghost use Rattle.fw_meter.specs.Laws.{Stops};
@@ -71,9 +71,19 @@ impl Seat {
         }
     }
 
+    /// Goes on with what it verifies.
+    pub(crate) fn turn(&mut self)
+        ensures { Turn true self.old true self.new }
+    {
+        match &mut self.core {
+            Some(core) => core.turn(),
+            None => unreachable!(),
+        }
+    }
+
     /// Starts again.
     pub(crate) fn restart(&mut self)
-        ensures { self.new ≡ self.old }
+        ensures { self.new ≡ reopened self.old }
     {
         let Some(core) = self.core.take() else {
             unreachable!()
@@ -93,10 +103,9 @@ impl Seat {
         calls: u64,
         torn: u8,
     ) -> Result<Option<ImageName>, OutOfMemory>
-        ensures stopped { IfOk result (λ name. Stops self.old datagram.now name self.new) }
+        ensures stopped { IfOk result (λ name. (after : Meter) × Stops self.old datagram.now name after × (self.new ≡ reopened after)) }
         ensures same { OnErr result (self.new ≡ self.old) }
     {
-        fw_meter::laws::fault_is_stop();
         let activated = self.cut(alloc, datagram, calls, torn)?;
         self.restart();
         Ok(activated)

@@ -22,6 +22,20 @@ pub(crate) const INITIATE_AAAA: &str =
 pub(crate) const INITIATE_CUT: &str =
     "c301c1001200002c0000ff0101020209290100000007000000014d66bb78778ecaedbc4ea578187ae5274f70ae6bc6b32c92cd3b30a0624adce90600000003";
 
+/// Of 4,096, 4,097 and 8,193 bytes 61, from campaign 1 of head end 7.
+pub(crate) const INITIATE_4096: &str =
+    "c301c1001200002c0000ff010102020929010000000700000001c93eee2d0db02f10acc7460d9576e122dcf8cd53c4bf8dfcae1b3e74ebcfff5a0600001000";
+
+pub(crate) const INITIATE_4097: &str =
+    "c301c1001200002c0000ff0101020209290100000007000000014e369b5618643c3abddd027b650bfa54810be3b418028a7c9d82299a59d008e80600001001";
+
+pub(crate) const INITIATE_8193: &str =
+    "c301c1001200002c0000ff0101020209290100000007000000019c10c48d1f1d6618db88fde2c25409181c9201ed34ec6815d62bcf57c10d177b0600002001";
+
+/// Of as many under the name of `abc`.
+pub(crate) const INITIATE_8193_AS_ABC: &str =
+    "c301c1001200002c0000ff010102020929010000000700000001ba7816bf8f01cfea414140de5dae2223b00361a396177a9cb410ff61f20015ad0600002001";
+
 /// image_block_transfer of a block's number and its bytes.
 pub(crate) const AB_AT_0: &str = "c301c1001200002c0000ff02010202060000000009026162";
 
@@ -76,10 +90,12 @@ pub(crate) const UNMATCHED: &str = "c701c10c00";
 
 pub(crate) const OTHER_REASON: &str = "c701c1fa00";
 
-/// image_transfer_status: 0, 1, 3, 4 or 6.
+/// image_transfer_status: 0, 1, 2, 3, 4 or 6.
 pub(crate) const NOT_INITIATED: &str = "c401c1001600";
 
 pub(crate) const INITIATED: &str = "c401c1001601";
+
+pub(crate) const VERIFYING: &str = "c401c1001602";
 
 pub(crate) const VERIFIED: &str = "c401c1001603";
 

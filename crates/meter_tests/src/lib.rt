@@ -21,6 +21,8 @@ mod results;
 #[cfg(test)]
 mod sessions;
 #[cfg(test)]
+mod slices;
+#[cfg(test)]
 mod stores;
 #[cfg(test)]
 mod support;

@@ -34,7 +34,7 @@ fn lines(alloc: Global, parts: &[&[Exchange]]) -> Result<(String, String), Alloc
     Ok((read, written))
 }
 
-fn push_line(alloc: Global, lines: &mut String, text: &str) -> Result<(), AllocError> {
+pub(crate) fn push_line(alloc: Global, lines: &mut String, text: &str) -> Result<(), AllocError> {
     let line = datagram(alloc, text)?;
     lines.push_str(&line)?;
     lines.push_str("\n")

@@ -1,5 +1,6 @@
 //! Sessions with a meter, in hexadecimal.
 
+use crate::apdus::DONE;
 use crate::support::expect;
 use fw_image::MeterView;
 use fw_meter::MeterCore;
@@ -27,12 +28,24 @@ pub(crate) enum Part {
     Unfuses,
     /// The meter is restarted.
     Restarts,
+    /// The meter takes a turn.
+    Turns,
+    /// Blocks of so many bytes 61 are sent, from block 0 on, and each is done.
+    Sends(&'static [u32]),
 }
 
 /// Sessions, each with a new meter that runs `abc`, with blocks of two bytes and room for 64.
 pub(crate) fn sessions(alloc: Global, sessions: &[&[Part]]) -> Result<(), Fail> {
     for parts in sessions {
         session_with(alloc, 2, 64, parts)?;
+    }
+    Ok(())
+}
+
+/// Sessions, each with a new meter that runs `x`, with blocks of 1,024 bytes and room for 8,193.
+pub(crate) fn large_sessions(alloc: Global, sessions: &[&[Part]]) -> Result<(), Fail> {
+    for parts in sessions {
+        played(alloc, 1_024, 8_193, b"x", parts)?;
     }
     Ok(())
 }
@@ -44,14 +57,14 @@ pub(crate) fn session_with(
     capacity: u32,
     parts: &[Part],
 ) -> Result<(), Fail> {
-    played(alloc, block_size, capacity, parts)?;
+    played(alloc, block_size, capacity, b"abc", parts)?;
     Ok(())
 }
 
 /// The store of a new meter that runs `abc`, with blocks of two bytes and room for 64, after a session. A restart hands it back
 /// where a call of it fails.
 pub(crate) fn store_after(alloc: Global, parts: &[Part]) -> Result<MemoryStore, Fail> {
-    let mut meter = played(alloc, 2, 64, parts)?.meter;
+    let mut meter = played(alloc, 2, 64, b"abc", parts)?.meter;
     meter.fuse(0, 0);
     match meter.restart() {
         Ok(_meter) => Err("a meter was opened from a store that fails".into()),
@@ -62,8 +75,14 @@ pub(crate) fn store_after(alloc: Global, parts: &[Part]) -> Result<MemoryStore, 
     }
 }
 
-fn played(alloc: Global, block_size: u32, capacity: u32, parts: &[Part]) -> Result<Wire, Fail> {
-    let store = MemoryStore::new(alloc, capacity, block_size, b"abc")?;
+fn played(
+    alloc: Global,
+    block_size: u32,
+    capacity: u32,
+    factory: &[u8],
+    parts: &[Part],
+) -> Result<Wire, Fail> {
+    let store = MemoryStore::new(alloc, capacity, block_size, factory)?;
     let mut wire = Wire {
         meter: opened(store)?,
         told: String::new(alloc),
@@ -115,6 +134,11 @@ impl Wire {
                 self.meter.unfuse();
                 Ok(())
             }
+            Part::Turns => {
+                self.meter.turn();
+                Ok(())
+            }
+            Part::Sends(sizes) => self.sends(alloc, sizes),
         }
     }
 
@@ -123,14 +147,21 @@ impl Wire {
             if in_vain {
                 self.says_in_vain(alloc, exchange)?;
             } else {
-                self.says(alloc, exchange)?;
+                self.says(alloc, exchange.0, exchange.1)?;
             }
         }
         Ok(())
     }
 
-    fn says(&mut self, alloc: Global, exchange: &Exchange) -> Result<(), Fail> {
-        let (request, want) = exchange;
+    fn sends(&mut self, alloc: Global, sizes: &[u32]) -> Result<(), Fail> {
+        for (number, size) in sizes.iter().enumerate() {
+            let block = block_text(alloc, number, *size)?;
+            self.says(alloc, &block, DONE)?;
+        }
+        Ok(())
+    }
+
+    fn says(&mut self, alloc: Global, request: &str, want: &str) -> Result<(), Fail> {
         let reply = self.reply_to(alloc, request)?;
         let want = datagram(alloc, want)?;
         expect(alloc, request, reply.as_str(), want.as_str())
@@ -138,7 +169,7 @@ impl Wire {
 
     fn says_in_vain(&mut self, alloc: Global, exchange: &Exchange) -> Result<(), Fail> {
         let before = self.sight(alloc)?;
-        self.says(alloc, exchange)?;
+        self.says(alloc, exchange.0, exchange.1)?;
         expect(
             alloc,
             exchange.0,
@@ -213,6 +244,15 @@ fn marks_text(alloc: Global, view: &MeterView) -> Result<String, AllocError> {
         }
     }
     Ok(marks)
+}
+
+/// image_block_transfer of so many bytes 61, whose length is spelled in two bytes.
+pub(crate) fn block_text(alloc: Global, number: usize, size: u32) -> Result<String, AllocError> {
+    let mut text = format!(in alloc; "c301c1001200002c0000ff0201020206{number:08x}0982{size:04x}")?;
+    for _ in 0..size {
+        text.push_str("61")?;
+    }
+    Ok(text)
 }
 
 /// The datagram that carries an APDU from wPort 1 to wPort 1. All else is kept.

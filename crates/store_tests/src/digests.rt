@@ -2,7 +2,7 @@
 
 use crate::support::{Case, each};
 use fw_store::{ImageStore, MemoryStore, Slot};
-use fw_verify::digest;
+use fw_verify::{Digesting, digest};
 use sha2::{Digest, Sha256};
 use std::alloc::Global;
 use std::test::Fail;
@@ -117,9 +117,59 @@ const FAILING: &[(Failing, &str)] = &[
     (Failing(4_097, 2), "true"),
 ];
 
+/// So many bytes in steps, of which the third is tried before over a store that fails, and the last has nothing to take: how many
+/// are taken and whether that is all, and whether the digest is that of the bytes as one message.
+struct Steps(u32);
+
+impl Case for Steps {
+    fn told(&self, alloc: Global) -> Result<String, Fail> {
+        let mut store = MemoryStore::new(alloc, 8_200, 2, b"xyz")?;
+        let bytes = counted(alloc, 8_200)?;
+        if bytes.len() > store.capacity() as usize || self.0 > store.capacity() {
+            return Err("the bytes don't fit".into());
+        }
+        store.write(Slot::Second, 0, &bytes)?;
+        let mut digesting = Digesting::begin(Slot::Second, self.0);
+        let first = digesting.step(&mut store)?;
+        let one = digesting.taken();
+        let second = digesting.step(&mut store)?;
+        let two = digesting.taken();
+        store.fuse(0, 0);
+        let fails = digesting.step(&mut store).is_err();
+        store.unfuse();
+        let third = digesting.step(&mut store)?;
+        let three = digesting.taken();
+        store.fuse(0, 0);
+        if !digesting.step(&mut store)? {
+            return Err("some bytes are left".into());
+        }
+        let same = digesting.finish() == Sha256::digest(counted(alloc, self.0)?.as_slice());
+        Ok(format!(in alloc;
+            "{one} {first}, {two} {second}, fails {fails}, {three} {third}, {same}"
+        )?)
+    }
+}
+
+const STEPS: &[(Steps, &str)] = &[
+    (Steps(0), "0 true, 0 true, fails false, 0 true, true"),
+    (
+        Steps(4_096),
+        "4096 true, 4096 true, fails false, 4096 true, true",
+    ),
+    (
+        Steps(4_097),
+        "4096 false, 4097 true, fails false, 4097 true, true",
+    ),
+    (
+        Steps(8_193),
+        "4096 false, 8192 false, fails true, 8193 true, true",
+    ),
+];
+
 #[test]
 fn digests(rt: HostRuntime) -> Result<(), Fail> {
     each(rt.alloc(), PUBLISHED)?;
     each(rt.alloc(), WHOLE)?;
-    each(rt.alloc(), FAILING)
+    each(rt.alloc(), FAILING)?;
+    each(rt.alloc(), STEPS)
 }

@@ -31,6 +31,8 @@ mod replying;
 #[cfg(test)]
 mod session;
 #[cfg(test)]
+mod slices;
+#[cfg(test)]
 mod support;
 #[cfg(test)]
 mod test_device;

@@ -179,7 +179,7 @@ fn block(meter: Meter, number: u32, value: &[u8]) -> Result<Called, Fail> {
 
 fn verify(meter: Meter) -> Result<Called, Fail> {
     Ok(match receiving(meter)?.verify() {
-        Ok(next) => (None, Phase::Verified(next)),
+        Ok(next) => (None, next),
         Err(NotVerified::Refused(refusal, back)) => (Some(refusal), Phase::Receiving(back)),
         Err(NotVerified::Differs(spoilt)) => (Some(Refusal::Differs), Phase::Spoilt(spoilt)),
     })

@@ -1,57 +1,60 @@
-use Rattle.std.proofs.Common.{rules, arith, ◌≡◌, ℕ, List, ◌+◌, ◌-◌, ◌%◌, ◌<◌, ◌≤◌, ◌++◌, take, slice_range, true, false, IsTrue, ◌∙◌, sym, subst, take-add, refl}
+use Rattle.std.proofs.Common.{rules, arith, ◌≡◌, ℕ, ◌+◌, ◌%◌, ◌<◌, ◌≤◌, min, true, false, IsTrue, if◌then◌else◌, nat_lt, ◌∙◌, sym, subst, refl}
 use Rattle.std.specs.Prelude.{Result, Ok, Err, IsErr, is_ok}
-use Rattle.fw_store.specs.Device.{slot_bytes}
+use Rattle.std.proofs.lemmas.Bool.Decides.{nat_tests}
 use Rattle.fw_store.specs.Faults.{Spends}
-use Rattle.sha2.specs.Hashers.{Holds256}
-use Rattle.fw_verify.specs.Pieces.{piece_count}
+use Rattle.fw_verify.specs.Slices.{slice_count}
 use Rattle.fw_verify.proofs.digest.Goals as goal
-
--- a front and the range behind it are a longer front
-take_range : (xs : List ℕ) (a n : ℕ) → take a xs ++ slice_range xs a (a + n) ≡ take (a + n) xs
-take_range xs a n = let e : a + n - a ≡ n = omega arith in rw (e, take-add a n xs) refl
 
 not_ok : {T E : Type 0} (r : Result T E) → IsErr r → is_ok r ≡ false
 not_ok (Ok x) h = absurd cc
 not_ok (Err e) h = refl
 
--- a piece more behind whole ones
-piece_more : (at count : ℕ) → at % 4096 ≡ 0 → 0 < count → count ≤ 4096 → piece_count (at + count) ≡ piece_count at + 1
-piece_more at count whole some short = omega arith
+-- a slice more behind whole ones
+slice_more : (taken size new : ℕ) → taken ≤ size → (taken < size → taken % 4096 ≡ 0) → new ≡ min (taken + 4096) size → slice_count taken + (if nat_lt taken size then 1 else 0) ≡ slice_count new
+slice_more taken size new within whole e = grind (arith, nat_tests)
 
--- no pieces are fewer than those of less bytes
-pieces_rise : (a b : ℕ) → a ≤ b → piece_count a ≤ piece_count b
-pieces_rise a b less = omega arith
+-- no slices are fewer than those of less bytes
+slices_rise : (taken size : ℕ) → taken ≤ size → (taken < size → taken % 4096 ≡ 0) → slice_count taken + (if nat_lt taken size then 1 else 0) ≤ slice_count size
+slices_rise taken size within whole = grind (arith, nat_tests)
 
-pub loop-at-preserved : goal.loop-at-preserved
-loop-at-preserved g c =
+pub loop-preserved : goal.loop-preserved
+loop-preserved g c =
     let s = g.S.ImageStore in
-    let kept = c.loop-at.invariant.kept in
-    let honest : IsTrue (s.honest c.args.store.now) → IsTrue (s.honest c.loop-at.store) = λ h. rw kept.honesty h in
-    let told = c.in_ok-take_piece.ensures in
-    let stored = slot_bytes (s.device c.args.store.now) c.args.slot in
+    let was = c.loop.invariant in
+    let told = c.in_ok-step.ensures in
+    let honest : IsTrue (s.honest c.args.store.now) → IsTrue (s.honest c.loop.store) = λ h. rw was.kept.honesty h in
+    let taken : c.step.new.self.taken ≡ min (c.loop.digesting.taken + 4096) c.args.size = rw (← was.size) told.taken in
     record {
-      within = omega (arith, c.min-count.ensures);
+      slot = told.slot ∙ was.slot;
+      size = told.size ∙ was.size;
+      within = omega (arith, taken);
+      whole = λ below. let whole : c.loop.digesting.taken % 4096 ≡ 0 = was.whole (omega (arith, taken)) in omega (arith, taken);
       kept = search rules;
-      faultless = told.cause.counted ∙ c.loop-at.invariant.faultless;
-      whole = λ below. let whole : c.loop-at.at % 4096 ≡ 0 = c.loop-at.invariant.whole (omega arith) in omega (arith, c.min-count.ensures);
+      faultless = told.cause.counted ∙ was.faultless;
       spends =
-          let more = piece_more c.loop-at.at c.min-count.result (c.loop-at.invariant.whole (omega arith)) (omega (arith, c.min-count.ensures)) (omega (arith, c.min-count.ensures)) in
-          subst (λ (n : ℕ). Spends n (s.calls_left c.args.store.now) (s.calls_left c.take_piece.new.store) true) (sym more)
-          (c.calls_add.ensures (piece_count c.loop-at.at) 1 (s.calls_left c.args.store.now) (s.calls_left c.loop-at.store) (s.calls_left c.take_piece.new.store) true c.loop-at.invariant.spends told.spends);
-      same = λ h. told.same (honest h) ∙ c.loop-at.invariant.same h;
-      fed = λ h.
-          let part : take c.loop-at.at stored ++ slice_range (slot_bytes (s.device c.loop-at.store) c.args.slot) c.loop-at.at (c.loop-at.at + c.min-count.result) ≡ take (c.loop-at.at + c.min-count.result) stored =
-          rw (c.loop-at.invariant.same h) (take_range stored c.loop-at.at c.min-count.result) in
-          subst (λ m. Holds256 c.take_piece.new.hasher m) part (told.fed (honest h) (take c.loop-at.at stored) (c.loop-at.invariant.fed h));
+          let more = slice_more c.loop.digesting.taken c.args.size c.step.new.self.taken was.within was.whole taken in
+          subst (λ (n : ℕ). Spends n (s.calls_left c.args.store.now) (s.calls_left c.step.new.store) true) more
+          (c.calls_add.ensures (slice_count c.loop.digesting.taken) _ (s.calls_left c.args.store.now) (s.calls_left c.loop.store) (s.calls_left c.step.new.store) true was.spends (rw (← was.size) told.spends));
+      same = λ h. told.same (honest h) ∙ was.same h;
+      fed = λ h. (rw (was.same h, was.slot) at (told.fed (honest h))) (was.fed h);
     }
 
-pub returns-in_err-take_piece-clause-spends : goal.returns-in_err-take_piece-clause-spends
-returns-in_err-take_piece-clause-spends g c =
+pub returns-in_err-step-clause-spends : goal.returns-in_err-step-clause-spends
+returns-in_err-step-clause-spends g c =
     let s = g.S.ImageStore in
+    let was = c.loop.invariant in
     let old = s.calls_left c.args.store.now in
-    let new = s.calls_left c.take_piece.new.store in
-    let at = c.loop-at.at in
-    let ended : Spends (piece_count at + 1) old new false = c.calls_add.ensures (piece_count at) 1 old (s.calls_left c.loop-at.store) new false c.loop-at.invariant.spends c.in_err-take_piece.ensures.spends in
-    let more = piece_more at c.min-count.result (c.loop-at.invariant.whole (omega arith)) (omega (arith, c.min-count.ensures)) (omega (arith, c.min-count.ensures)) in
-    let rises = pieces_rise (at + c.min-count.result) c.args.size (omega (arith, c.min-count.ensures)) in
-    rw (not_ok c.from_residual.result c.from_residual.ensures.0) (c.calls_end.ensures (piece_count at + 1) (piece_count c.args.size) old new (rw (← more) rises) ended)
+    let new = s.calls_left c.step.new.store in
+    let ended = c.calls_add.ensures (slice_count c.loop.digesting.taken) _ old (s.calls_left c.loop.store) new false was.spends (rw (← was.size) c.in_err-step.ensures.spends) in
+    rw (not_ok c.from_residual.result c.from_residual.ensures.0)
+    (c.calls_end.ensures _ (slice_count c.args.size) old new (slices_rise c.loop.digesting.taken c.args.size was.within was.whole) ended)
+
+pub returns-clause-spends : goal.returns-clause-spends
+returns-clause-spends g c =
+    let s = g.S.ImageStore in
+    let was = c.loop.invariant in
+    let told = c.in_ok-step.ensures in
+    let taken : c.step.new.self.taken ≡ min (c.loop.digesting.taken + 4096) c.args.size = rw (← was.size) told.taken in
+    let all : c.step.new.self.taken ≡ c.args.size = told.all.0 c.if-not-branch.false ∙ told.size ∙ was.size in
+    subst (λ (n : ℕ). Spends n (s.calls_left c.args.store.now) (s.calls_left c.step.new.store) true) (slice_more c.loop.digesting.taken c.args.size c.args.size was.within was.whole (sym all ∙ taken))
+    (c.calls_add.ensures (slice_count c.loop.digesting.taken) _ (s.calls_left c.args.store.now) (s.calls_left c.loop.store) (s.calls_left c.step.new.store) true was.spends (rw (← was.size) told.spends))

@@ -1,26 +1,31 @@
-use Rattle.std.proofs.Common.{◌<◌, sym, ◌∙◌, arith}
-use Rattle.fw_blocks.proofs.WindowSearch.{found_none, found_member, found_absent, found_full, found_all}
+use Rattle.std.proofs.Common.{◌≡◌, ◌+◌, ◌-◌, ◌∷◌, [], ◌++◌, get_or, drop, subst, arith}
+use Rattle.std.specs.List.{range_with_len}
+use Rattle.fw_blocks.specs.Inside.{Lists}
+use Rattle.std.proofs.lemmas.List.{drop_more, drop_all}
+use Rattle.fw_blocks.specs.declared.runs.Run.{Run}
+use Rattle.fw_blocks.proofs.WindowSearch.{AtRun, absent_below, at_first, at_next, at_full, at_last}
 use Rattle.fw_blocks.proofs.window.lowest_absent.Goals as goal
-use Rattle.fw_blocks.proofs.window.lowest_absent.Goals.{then-not-has, else-not-has, else-loop-number-test, then-loop-number-test+then-len-width}
 
-pub loop-number-init : goal.loop-number-init
-loop-number-init c = rw c.first_missing-number.ensures.value (found_none c.args.set.now c.args.width)
+pub loop-run-init : goal.loop-run-init
+loop-run-init c = at_first c.args.set.now c.args.width c.runs-run-items.result.now c.runs-run-items.ensures
 
-pub loop-number-preserved : goal.loop-number-preserved
-loop-number-preserved c =
-    let found = c.loop-number.invariant in
-    elim c.if-not-has.branch [
-      | then-not-has w ↦
-          let room : c.loop-number.len < c.args.width = omega (arith, found.few, c.if-len-width.false) in
-          rw (w.numbers-is, w.len-is) (found_absent found (sym c.has.ensures ∙ w.if-not-has.true) room c.requires)
-      | else-not-has w ↦ rw (w.numbers-is, w.len-is) (found_member found (sym c.has.ensures ∙ w.if-not-has.false))
-    ]
+pub returns-then-len-width : goal.returns-then-len-width
+returns-then-len-width c = at_full c.args.set.now c.args.width _ _ _ _ c.loop-run.invariant c.if-len-width.true
+
+pub loop-run-preserved : goal.loop-run-preserved
+loop-run-preserved c =
+    let items = c.runs-run-items.result.now in
+    let none : Run = record { start = 0; end = 0 } in
+    let split : drop c.loop-run.run-index items ≡ get_or items c.loop-run.run-index none ∷ drop (c.loop-run.run-index + 1) items = drop_more items c.loop-run.run-index none c.loop-run-test.true in
+    at_next c.args.set.now c.args.width _ _ _ _ _ _ _
+    (subst (λ rest. AtRun c.args.set.now c.args.width rest c.loop-run.from c.loop-run.numbers c.loop-run.len) split c.loop-run.invariant)
+    c.list-len.ensures.few (c.list-len.ensures.lists _ c.loop-run.invariant.lists)
 
 pub returns : goal.returns
 returns c =
-    let found = c.loop-number.invariant in
-    let within = c.first_missing-number.ensures.least.within in
-    elim c.loop-number-test.branch [
-      | else-loop-number-test w ↦ found_all found (omega arith)
-      | then-loop-number-test+then-len-width w ↦ found_full found (omega arith) w.if-len-width.true
-    ]
+    let items = c.runs-run-items.result.now in
+    let none : drop c.loop-run.run-index items ≡ [] = drop_all c.loop-run.run-index items (omega arith) in
+    let at = subst (λ rest. AtRun c.args.set.now c.args.width rest c.loop-run.from c.loop-run.numbers c.loop-run.len) none c.loop-run.invariant in
+    at_last c.args.set.now c.args.width c.loop-run.from _ _ _ _ at
+    (subst (λ count. Lists (absent_below c.args.set.now c.loop-run.from ++ range_with_len c.loop-run.from (count - c.loop-run.from)) c.args.width c.list-len-2.new.numbers c.list-len-2.result) c.count.ensures
+    (c.list-len-2.ensures.lists _ c.loop-run.invariant.lists))

@@ -1,6 +1,6 @@
 use Rattle.std.proofs.Common.{◌≡◌, ℕ, ◌+◌, IsTrue, Bool, true, false, inl, inr, sym, ap, subst, ◌∙◌}
 use Rattle.fw_store.specs.Header.{IsHeader}
-use Rattle.fw_verify.specs.Pieces.{piece_count}
+use Rattle.fw_verify.specs.Slices.{slice_count}
 use Rattle.fw_image.specs.Calls.{verified_size}
 use Rattle.fw_image.specs.Stored.{phase_of}
 use Rattle.fw_image.proofs.Moves.{keeps_twice, counted_after}
@@ -22,8 +22,8 @@ returns-then-not-branch-clause-refused g c =
     refused_image s store c.is_genuine.new.store header (keeps_twice s store c.header.new.self c.is_genuine.new.store read.kept told.kept) (λ honest. told.same (still honest) ∙ read.same honest) (told.cause.counted ∙ read.cause.counted) valid
     (λ honest. c.in-Some.ensures.some.1 ∙ read.done honest)
     (λ honest trusted. clash c.in_ok-is_genuine.field-0 c.if-not-branch.true ((told.digest (still honest)).1 (rw (read.same honest) trusted.running)))
-    (1 + piece_count header.running_size) (c.calls_add.ensures 1 (piece_count header.running_size) _ _ _ true read.spends told.spends)
-    (λ honest. inl (ap (λ (n : ℕ). 1 + piece_count n) (sym (length-running (s.capacity store) header (s.device store) valid (λ slot. g.met.S.ImageStore.sized store slot honest)))))
+    (1 + slice_count header.running_size) (c.calls_add.ensures 1 (slice_count header.running_size) _ _ _ true read.spends told.spends)
+    (λ honest. inl (ap (λ (n : ℕ). 1 + slice_count n) (sym (length-running (s.capacity store) header (s.device store) valid (λ slot. g.met.S.ImageStore.sized store slot honest)))))
 
 pub returns-then-not-branch-2-clause-refused : goal.returns-then-not-branch-2-clause-refused
 returns-then-not-branch-2-clause-refused g c =
@@ -33,7 +33,7 @@ returns-then-not-branch-2-clause-refused g c =
     let read = c.in_ok-bytes.ensures in
     let first = c.in_ok-is_genuine.ensures in
     let told = c.in_ok-is_goal_genuine.ensures in
-    let judged = piece_count (verified_size (phase_of header.status header.goal)) in
+    let judged = slice_count (verified_size (phase_of header.status header.goal)) in
     let kept = keeps_twice s store c.header.new.self c.is_genuine.new.store read.kept first.kept in
     let still : IsTrue (s.honest store) → IsTrue (s.honest c.header.new.self) = λ honest. read.kept.honesty ∙ honest in
     let still' : IsTrue (s.honest store) → IsTrue (s.honest c.is_genuine.new.store) = λ honest. kept.honesty ∙ honest in
@@ -42,9 +42,9 @@ returns-then-not-branch-2-clause-refused g c =
     refused_image s store c.is_goal_genuine.new.store header (keeps_twice s store c.is_genuine.new.store c.is_goal_genuine.new.store kept told.kept) (λ honest. told.same (still' honest) ∙ same honest) (told.cause.counted ∙ first.cause.counted ∙ read.cause.counted) valid
     (λ honest. c.in-Some.ensures.some.1 ∙ read.done honest)
     (λ honest trusted. clash c.in_ok-is_goal_genuine.field-0 c.if-not-branch-2.true ((told.genuine (still' honest)).1 (rw (same honest) trusted.verified)))
-    (1 + piece_count header.running_size + judged)
-    (c.calls_add.ensures (1 + piece_count header.running_size) judged _ _ _ true (c.calls_add.ensures 1 (piece_count header.running_size) _ _ _ true read.spends first.spends) told.spends)
-    (λ honest. inr (ap (λ (n : ℕ). 1 + piece_count n + judged) (sym (length-running (s.capacity store) header (s.device store) valid (λ slot. g.met.S.ImageStore.sized store slot honest)))))
+    (1 + slice_count header.running_size + judged)
+    (c.calls_add.ensures (1 + slice_count header.running_size) judged _ _ _ true (c.calls_add.ensures 1 (slice_count header.running_size) _ _ _ true read.spends first.spends) told.spends)
+    (λ honest. inr (ap (λ (n : ℕ). 1 + slice_count n + judged) (sym (length-running (s.capacity store) header (s.device store) valid (λ slot. g.met.S.ImageStore.sized store slot honest)))))
 
 pub returns-in_err-bytes-clause-refused : goal.returns-in_err-bytes-clause-refused
 returns-in_err-bytes-clause-refused g c =
@@ -62,7 +62,7 @@ returns-in_err-is_genuine-clause-refused g c =
     refused_fault s store c.is_genuine.new.store c.from_residual-in_err-is_genuine.result c.from_residual-in_err-is_genuine.ensures.1
     (keeps_twice s store c.header.new.self c.is_genuine.new.store read.kept told.kept) (λ honest. told.same (still honest) ∙ read.same honest)
     (counted_after false _ _ _ read.cause.counted told.cause.counted) (λ sound. told.cause.never (read.kept.soundness sound))
-    (1 + piece_count header.running_size) (c.calls_add.ensures 1 (piece_count header.running_size) _ _ _ false read.spends told.spends)
+    (1 + slice_count header.running_size) (c.calls_add.ensures 1 (slice_count header.running_size) _ _ _ false read.spends told.spends)
 
 pub returns-in_err-is_goal_genuine-clause-refused : goal.returns-in_err-is_goal_genuine-clause-refused
 returns-in_err-is_goal_genuine-clause-refused g c =
@@ -72,18 +72,18 @@ returns-in_err-is_goal_genuine-clause-refused g c =
     let read = c.in_ok-bytes.ensures in
     let first = c.in_ok-is_genuine.ensures in
     let told = c.in_err-is_goal_genuine.ensures in
-    let judged = piece_count (verified_size (phase_of header.status header.goal)) in
+    let judged = slice_count (verified_size (phase_of header.status header.goal)) in
     let kept = keeps_twice s store c.header.new.self c.is_genuine.new.store read.kept first.kept in
     let still : IsTrue (s.honest store) → IsTrue (s.honest c.header.new.self) = λ honest. read.kept.honesty ∙ honest in
     let still' : IsTrue (s.honest store) → IsTrue (s.honest c.is_genuine.new.store) = λ honest. kept.honesty ∙ honest in
     refused_fault s store c.is_goal_genuine.new.store c.from_residual-in_err-is_goal_genuine.result c.from_residual-in_err-is_goal_genuine.ensures.1
     (keeps_twice s store c.is_genuine.new.store c.is_goal_genuine.new.store kept told.kept) (λ honest. told.same (still' honest) ∙ first.same (still honest) ∙ read.same honest)
     (counted_after false _ _ _ (first.cause.counted ∙ read.cause.counted) told.cause.counted) (λ sound. told.cause.never (kept.soundness sound))
-    (1 + piece_count header.running_size + judged)
-    (c.calls_add.ensures (1 + piece_count header.running_size) judged _ _ _ false (c.calls_add.ensures 1 (piece_count header.running_size) _ _ _ true read.spends first.spends) told.spends)
+    (1 + slice_count header.running_size + judged)
+    (c.calls_add.ensures (1 + slice_count header.running_size) judged _ _ _ false (c.calls_add.ensures 1 (slice_count header.running_size) _ _ _ true read.spends first.spends) told.spends)
 
 pub returns-clause-spends : goal.returns-clause-spends
 returns-clause-spends g c =
     let header = c.in-Some.header in
-    c.calls_add.ensures (1 + piece_count header.running_size) (piece_count (verified_size (phase_of header.status header.goal))) _ _ _ true
-    (c.calls_add.ensures 1 (piece_count header.running_size) _ _ _ true c.in_ok-bytes.ensures.spends c.in_ok-is_genuine.ensures.spends) c.in_ok-is_goal_genuine.ensures.spends
+    c.calls_add.ensures (1 + slice_count header.running_size) (slice_count (verified_size (phase_of header.status header.goal))) _ _ _ true
+    (c.calls_add.ensures 1 (slice_count header.running_size) _ _ _ true c.in_ok-bytes.ensures.spends c.in_ok-is_genuine.ensures.spends) c.in_ok-is_goal_genuine.ensures.spends

@@ -1,14 +1,14 @@
-use Rattle.std.proofs.Common.{◌≡◌, IsTrue, true, false, cond, length, refl, sym, ◌∙◌}
+use Rattle.std.proofs.Common.{◌≡◌, None, IsTrue, true, false, cond, length, refl, sym, ◌∙◌}
 use Rattle.fw_blocks.specs.Members.{has}
 use Rattle.fw_store.specs.Device.{slot_bytes, Torn}
 use Rattle.fw_store.specs.declared.slot.Slot.{Slot}
-use Rattle.fw_store.specs.declared.header.StoredStatus.TheVariants.{Initiated}
+use Rattle.fw_image.specs.declared.status.TransferStatus.TheVariants.{Initiated}
 use Rattle.fw_image.specs.Meter.{status_of}
 use Rattle.fw_image.specs.Step.{block, done, refused}
-use Rattle.fw_image.specs.Stored.{meter_of, phase_of, seen}
+use Rattle.fw_image.specs.Stored.{meter_of, phase_of, phase_at, seen}
 use Rattle.fw_image.specs.declared.error.Refusal.TheVariants.{Fault}
 use Rattle.fw_image.proofs.Blocks.{mark_more, mark_again}
-use Rattle.fw_image.proofs.Meters.{seen_size, headed}
+use Rattle.fw_image.proofs.Meters.{seen_size, headed, none_digested}
 use Rattle.fw_image.proofs.Moves.{makes_served, keeps_twice, fault_told, is_receiving, counted_after}
 use Rattle.fw_image.proofs.Puts.{leaves_put, tears_put, calls_put, one_or_two, served_block, marks_in, valid_marked, wrote, wrote_then}
 use Rattle.fw_image.proofs.held.Held.block.Goals as goal
@@ -18,16 +18,18 @@ returns-in_err-write-clause-makes g c =
     let s = g.S.ImageStore in
     let store = c.self.inside.store in
     let h = c.self.inside.header in
-    let valid = c.self.invariant.valid in
-    let status : status_of (phase_of h.status h.goal) ≡ Initiated = rw (← c.self.view_is) at c.requires in
+    let valid = c.self.invariant.held.valid in
+    let at : status_of (phase_at c.self.inside.digesting (phase_of h.status h.goal)) ≡ Initiated = rw (← c.self.view_is) at c.requires in
+    let none_digests = none_digested s.honest s.device store h c.self.inside.digesting c.self.invariant.digested Initiated at (λ e. cc) in
+    let status : status_of (phase_of h.status h.goal) ≡ Initiated = rw none_digests at at in
     let place = c.in-Some.ensures.found in
     let phase = is_receiving _ h place.goal valid status place.there in
     let m = meter_of (s.capacity store) h (seen (s.honest store) (s.capacity store) (s.device store)) in
     let calls = calls_put (s.capacity store) h (seen (s.honest store) (s.capacity store) (s.device store)) c.args.number c.in-Some.start c.args.value.now place in
     let sized = seen_size (s.honest store) (s.capacity store) (s.device store) (g.met.S.ImageStore.sized store) in
     let told = c.in_err-write.ensures in
-    rw (← c.self.view_is, fault_told c.from_residual.result c.from_residual.ensures.1)
-    (makes_served s store c.write.new.self h h (block c.args.number c.args.value.now) (refused Fault) told.kept told.cause.counted told.cause.never
+    rw (← c.self.view_is, none_digests, fault_told c.from_residual.result c.from_residual.ensures.1)
+    (makes_served s store c.write.new.self h h None None (block c.args.number c.args.value.now) (refused Fault) told.kept told.cause.counted told.cause.never
     (rw calls (c.calls_end.ensures 1 (cond (has h.marks c.args.number) 1 2) _ _ (one_or_two (has h.marks c.args.number)) told.spends))
     (served_block m place.goal c.args.number c.args.value.now c.if-not-self.false phase place.is_block)
     (tears_put c.other_blocks_stay.ensures c.begins_within.ensures c.splice_stands.ensures (s.honest store) (s.capacity store) h (s.device store) (s.device c.write.new.self) c.other-spare.result c.args.number c.in-Some.start c.args.value.now
@@ -38,8 +40,10 @@ returns-then-has-clause-makes g c =
     let s = g.S.ImageStore in
     let store = c.self.inside.store in
     let h = c.self.inside.header in
-    let valid = c.self.invariant.valid in
-    let status : status_of (phase_of h.status h.goal) ≡ Initiated = rw (← c.self.view_is) at c.requires in
+    let valid = c.self.invariant.held.valid in
+    let at : status_of (phase_at c.self.inside.digesting (phase_of h.status h.goal)) ≡ Initiated = rw (← c.self.view_is) at c.requires in
+    let none_digests = none_digested s.honest s.device store h c.self.inside.digesting c.self.invariant.digested Initiated at (λ e. cc) in
+    let status : status_of (phase_of h.status h.goal) ≡ Initiated = rw none_digests at at in
     let place = c.in-Some.ensures.found in
     let phase = is_receiving _ h place.goal valid status place.there in
     let m = meter_of (s.capacity store) h (seen (s.honest store) (s.capacity store) (s.device store)) in
@@ -50,8 +54,8 @@ returns-then-has-clause-makes g c =
     λ slot honest. g.met.S.ImageStore.sized c.write.new.self slot (told.kept.honesty ∙ honest) ∙ told.kept.size in
     let sized' = seen_size (s.honest store) (s.capacity store) (s.device c.write.new.self) after in
     let marked = sym c.has.ensures ∙ c.if-has.true in
-    rw (← c.self.view_is)
-    (makes_served s store c.write.new.self h h (block c.args.number c.args.value.now) done told.kept told.cause.counted (λ _. refl)
+    rw (← c.self.view_is, none_digests)
+    (makes_served s store c.write.new.self h h None None (block c.args.number c.args.value.now) done told.kept told.cause.counted (λ _. refl)
     (rw (calls, marked) told.spends)
     (served_block m place.goal c.args.number c.args.value.now c.if-not-self.false phase place.is_block)
     (leaves_put c.other_blocks_stay.ensures c.begins_within.ensures c.splice_stands.ensures (s.honest store) (s.capacity store) h (s.device store) (s.device c.write.new.self) c.args.number c.in-Some.start c.args.value.now h.marks
@@ -62,8 +66,10 @@ returns-in_err-replace-clause-makes g c =
     let s = g.S.ImageStore in
     let store = c.self.inside.store in
     let h = c.self.inside.header in
-    let valid = c.self.invariant.valid in
-    let status : status_of (phase_of h.status h.goal) ≡ Initiated = rw (← c.self.view_is) at c.requires in
+    let valid = c.self.invariant.held.valid in
+    let at : status_of (phase_at c.self.inside.digesting (phase_of h.status h.goal)) ≡ Initiated = rw (← c.self.view_is) at c.requires in
+    let none_digests = none_digested s.honest s.device store h c.self.inside.digesting c.self.invariant.digested Initiated at (λ e. cc) in
+    let status : status_of (phase_of h.status h.goal) ≡ Initiated = rw none_digests at at in
     let place = c.in-Some.ensures.found in
     let phase = is_receiving _ h place.goal valid status place.there in
     let m = meter_of (s.capacity store) h (seen (s.honest store) (s.capacity store) (s.device store)) in
@@ -75,8 +81,8 @@ returns-in_err-replace-clause-makes g c =
     let still : IsTrue (s.honest store) → IsTrue (s.honest c.write.new.self) = λ honest. first.kept.honesty ∙ honest in
     let torn : IsTrue (s.honest store) → Torn (s.device store) c.other-spare.result c.in-Some.start (length c.args.value.now) (s.device c.replace.new.store) =
     λ honest. record { left = c.args.value.now; size = refl; stands = told.same (still honest) ∙ first.done honest } in
-    rw (← c.self.view_is, fault_told c.from_residual-in_err-replace.result c.from_residual-in_err-replace.ensures.1, told.failed)
-    (makes_served s store c.replace.new.store h h (block c.args.number c.args.value.now) (refused Fault) (keeps_twice s store c.write.new.self c.replace.new.store first.kept told.kept)
+    rw (← c.self.view_is, none_digests, fault_told c.from_residual-in_err-replace.result c.from_residual-in_err-replace.ensures.1, told.failed)
+    (makes_served s store c.replace.new.store h h None None (block c.args.number c.args.value.now) (refused Fault) (keeps_twice s store c.write.new.self c.replace.new.store first.kept told.kept)
     (counted_after false _ _ _ first.cause.counted told.cause.counted) (λ sound. told.cause.never (first.kept.soundness sound))
     (rw (calls, unmarked) (c.calls_add.ensures 1 1 _ _ _ false first.spends told.spends))
     (served_block m place.goal c.args.number c.args.value.now c.if-not-self.false phase place.is_block)
@@ -88,8 +94,10 @@ returns-clause-makes g c =
     let s = g.S.ImageStore in
     let store = c.self.inside.store in
     let h = c.self.inside.header in
-    let valid = c.self.invariant.valid in
-    let status : status_of (phase_of h.status h.goal) ≡ Initiated = rw (← c.self.view_is) at c.requires in
+    let valid = c.self.invariant.held.valid in
+    let at : status_of (phase_at c.self.inside.digesting (phase_of h.status h.goal)) ≡ Initiated = rw (← c.self.view_is) at c.requires in
+    let none_digests = none_digested s.honest s.device store h c.self.inside.digesting c.self.invariant.digested Initiated at (λ e. cc) in
+    let status : status_of (phase_of h.status h.goal) ≡ Initiated = rw none_digests at at in
     let place = c.in-Some.ensures.found in
     let phase = is_receiving _ h place.goal valid status place.there in
     let m = meter_of (s.capacity store) h (seen (s.honest store) (s.capacity store) (s.device store)) in
@@ -105,8 +113,8 @@ returns-clause-makes g c =
     let sized' = seen_size (s.honest store) (s.capacity store) (s.device c.replace.new.store) after in
     let marked = mark_more h.marks c.mark.new.self c.args.number (marks_in _ h c.args.number c.in-Some.start c.args.value.now valid place) c.mark.ensures in
     let valid' = valid_marked _ h c.args.number c.in-Some.start c.args.value.now c.mark.new.self valid status place marked told.fits in
-    rw (← c.self.view_is, told.done)
-    (makes_served s store c.replace.new.store h (record h { marks = c.mark.new.self }) (block c.args.number c.args.value.now) done kept (told.cause.counted ∙ first.cause.counted) (λ _. refl)
+    rw (← c.self.view_is, told.done, none_digests)
+    (makes_served s store c.replace.new.store h (record h { marks = c.mark.new.self }) None None (block c.args.number c.args.value.now) done kept (told.cause.counted ∙ first.cause.counted) (λ _. refl)
     (rw (calls, unmarked) (c.calls_add.ensures 1 1 _ _ _ true first.spends told.spends))
     (served_block m place.goal c.args.number c.args.value.now c.if-not-self.false phase place.is_block)
     (leaves_put c.other_blocks_stay.ensures c.begins_within.ensures c.splice_stands.ensures (s.honest store) (s.capacity store) h (s.device store) (s.device c.replace.new.store) c.args.number c.in-Some.start c.args.value.now c.mark.new.self

@@ -1,107 +1,184 @@
-use Rattle.std.proofs.Common.{◌≡◌, IsTrue, true, false, cond, ◌+◌, ◌∙◌, refl, arith}
-use Rattle.fw_store.specs.declared.header.StoredStatus.TheVariants.{Initiated}
-use Rattle.fw_verify.specs.Pieces.{piece_count}
-use Rattle.fw_image.specs.Meter.{status_of}
-use Rattle.fw_image.specs.Step.{verify, done, refused}
-use Rattle.fw_image.specs.Moves.{outcome_of}
-use Rattle.fw_image.specs.Stored.{meter_of, phase_of, seen}
+use Rattle.std.proofs.Common.{◌≡◌, ◌+◌, ◌<◌, ◌≤◌, ◌↔◌, min, IsTrue, true, false, None, Some, take, cond, inl, refl, sym, ◌∙◌, arith}
+use Rattle.sha2.specs.Sha256.{sha256}
+use Rattle.fw_store.specs.Device.{slot_bytes, with_head}
+use Rattle.fw_store.specs.Layout.{header_bytes}
+use Rattle.fw_store.specs.Slot.{other}
+use Rattle.fw_store.specs.declared.header.Header.{Header}
+use Rattle.fw_image.specs.declared.status.TransferStatus.TheVariants.{Initiated}
 use Rattle.fw_image.specs.declared.error.Refusal.TheVariants.{Missing, Differs}
-use Rattle.fw_image.proofs.Meters.{seen_size, whole_bytes, missing_bytes}
-use Rattle.fw_image.proofs.Moves.{makes_refused, makes_failed, makes_written, held_written, keeps_twice, fault_told, is_receiving, goal_there, served_verify, calls_verify, refused_verify, valid_judged, judged_keeps, trusted_judged, does_judged, judged_faultless, written_after, counted_after}
+use Rattle.fw_image.specs.Meter.{status_of}
+use Rattle.fw_image.specs.Step.{verify, done, refused, verification_initiated}
+use Rattle.fw_image.specs.Calls.{calls_for}
+use Rattle.fw_image.specs.Moves.{judged}
+use Rattle.fw_image.specs.Stored.{phase_of, phase_at, seen}
+use Rattle.fw_image.proofs.Meters.{seen_size, seen_same, whole_bytes, missing_bytes, none_digested}
+use Rattle.fw_image.proofs.Moves.{meter_in, seen_of, makes_refused, makes_served, makes_failed, makes_written, held_written, keeps_twice, is_receiving, written_after, counted_after}
+use Rattle.fw_image.proofs.Judging.{goal_there, some_bytes, served_verify, refused_verify, calls_whole, calls_part, calls_some, reads_some, does_whole, does_part, judges, valid_judged, judged_keeps, trusted_judged, judged_faultless, verify_fault, verify_part, verify_whole, answered}
 use Rattle.fw_image.proofs.held.Held.verify.Goals as goal
-use Rattle.fw_image.proofs.held.Held.verify.Goals.{then-genuine, else-genuine}
+use Rattle.fw_image.proofs.held.Held.verify.Goals.{then-branch, else-branch}
 
 pub returns-in_default-clause-makes : goal.returns-in_default-clause-makes
 returns-in_default-clause-makes g c =
     let s = g.S.ImageStore in
     let store = c.self.inside.store in
     let h = c.self.inside.header in
-    let valid = c.self.invariant.valid in
-    let d = seen (s.honest store) (s.capacity store) (s.device store) in
-    let status : status_of (phase_of h.status h.goal) ≡ Initiated = rw (← c.self.view_is) at c.requires in
+    let digesting = c.self.inside.digesting in
+    let valid = c.self.invariant.held.valid in
+    let at : status_of (phase_at digesting (phase_of h.status h.goal)) ≡ Initiated = rw (← c.self.view_is) at c.requires in
+    let none_digests = none_digested s.honest s.device store h digesting c.self.invariant.digested Initiated at (λ e. cc) in
+    let status : status_of (phase_of h.status h.goal) ≡ Initiated = rw none_digests at at in
     let there = goal_there _ h valid status in
     let lacks = c.in_default.ensures.none there.0 there.1 in
-    let missing = missing_bytes (s.capacity store) h d there.0 lacks.number valid there.1 lacks.below lacks.unmarked in
-    rw (← c.self.view_is) (makes_refused s store h verify Missing refl (refused_verify (meter_of (s.capacity store) h d) there.0 c.if-not-self.false (is_receiving _ h there.0 valid status there.1) missing))
+    let missing = missing_bytes (s.capacity store) h (seen_of s store) there.0 lacks.number valid there.1 lacks.below lacks.unmarked in
+    rw (← c.self.view_is, none_digests) (makes_refused s store h None verify Missing refl (refused_verify (meter_in s store h None) there.0 c.if-not-self.false (is_receiving _ h there.0 valid status there.1) missing))
 
-pub returns-in_err-genuine-clause-makes : goal.returns-in_err-genuine-clause-makes
-returns-in_err-genuine-clause-makes g c =
+pub returns-in_err-step-clause-makes : goal.returns-in_err-step-clause-makes
+returns-in_err-step-clause-makes g c =
     let s = g.S.ImageStore in
     let store = c.self.inside.store in
     let h = c.self.inside.header in
-    let valid = c.self.invariant.valid in
-    let d = seen (s.honest store) (s.capacity store) (s.device store) in
-    let status : status_of (phase_of h.status h.goal) ≡ Initiated = rw (← c.self.view_is) at c.requires in
+    let digesting = c.self.inside.digesting in
+    let valid = c.self.invariant.held.valid in
+    let at : status_of (phase_at digesting (phase_of h.status h.goal)) ≡ Initiated = rw (← c.self.view_is) at c.requires in
+    let none_digests = none_digested s.honest s.device store h digesting c.self.invariant.digested Initiated at (λ e. cc) in
+    let status : status_of (phase_of h.status h.goal) ≡ Initiated = rw none_digests at at in
+    let wanted = c.in-Some.goal in
     let found = c.in-Some.ensures.found in
-    let phase = is_receiving _ h c.in-Some.goal valid status found.there in
+    let phase = is_receiving _ h wanted valid status found.there in
     let sized = seen_size (s.honest store) (s.capacity store) (s.device store) (g.met.S.ImageStore.sized store) in
-    let whole = whole_bytes c.cuts_join.ensures (s.capacity store) h d c.in-Some.goal valid sized found.there found.marked in
-    let told = c.in_err-genuine.ensures in
-    rw (← c.self.view_is, fault_told c.from_residual.result c.from_residual.ensures.1) (makes_failed s store c.is_genuine.new.store h verify told.kept told.same told.cause.counted told.cause.never
-    (rw (calls_verify (meter_of (s.capacity store) h d) c.in-Some.goal phase) (c.calls_end.ensures (piece_count c.in-Some.goal.size) (piece_count c.in-Some.goal.size + 1) _ _ (omega arith) told.spends))
-    (served_verify (meter_of (s.capacity store) h d) c.in-Some.goal _ c.if-not-self.false phase whole) (λ m m' l. l))
+    let serves = served_verify (meter_in s store h None) wanted _ c.if-not-self.false phase (whole_bytes c.cuts_join.ensures (s.capacity store) h (seen_of s store) wanted valid sized found.there found.marked) in
+    let some : c.begin-digesting.result.taken < c.begin-digesting.result.size = omega (arith, some_bytes (s.capacity store) h wanted valid found.there, c.begin-digesting.ensures.taken, c.begin-digesting.ensures.size) in
+    let one = reads_some c.begin-digesting.result some in
+    let told = c.in_err-step.ensures in
+    rw (← c.self.view_is, verify_fault c.from_residual.result _ c.from_residual.ensures.1, none_digests)
+    (makes_failed s store c.step.new.store h None verify told.kept told.same told.cause.counted told.cause.never
+    (c.calls_end.ensures 1 (calls_for (meter_in s store h None) verify) _ _ (calls_some (meter_in s store h None)) (rw one at told.spends)) serves (λ m m' l. l))
 
-pub returns-in_err-replace-clause-makes : goal.returns-in_err-replace-clause-makes
-returns-in_err-replace-clause-makes g c =
+pub returns-then-not-branch-clause-makes : goal.returns-then-not-branch-clause-makes
+returns-then-not-branch-clause-makes g c =
     let s = g.S.ImageStore in
     let store = c.self.inside.store in
     let h = c.self.inside.header in
-    let valid = c.self.invariant.valid in
-    let d = seen (s.honest store) (s.capacity store) (s.device store) in
-    let status : status_of (phase_of h.status h.goal) ≡ Initiated = rw (← c.self.view_is) at c.requires in
+    let digesting = c.self.inside.digesting in
+    let valid = c.self.invariant.held.valid in
+    let at : status_of (phase_at digesting (phase_of h.status h.goal)) ≡ Initiated = rw (← c.self.view_is) at c.requires in
+    let none_digests = none_digested s.honest s.device store h digesting c.self.invariant.digested Initiated at (λ e. cc) in
+    let status : status_of (phase_of h.status h.goal) ≡ Initiated = rw none_digests at at in
+    let wanted = c.in-Some.goal in
     let found = c.in-Some.ensures.found in
-    let phase = is_receiving _ h c.in-Some.goal valid status found.there in
+    let phase = is_receiving _ h wanted valid status found.there in
     let sized = seen_size (s.honest store) (s.capacity store) (s.device store) (g.met.S.ImageStore.sized store) in
-    let whole = whole_bytes c.cuts_join.ensures (s.capacity store) h d c.in-Some.goal valid sized found.there found.marked in
-    let read = c.in_ok-genuine.ensures in
-    let told = c.in_err-replace.ensures in
-    let still : IsTrue (s.honest store) → IsTrue (s.honest c.is_genuine.new.store) = λ honest. read.kept.honesty ∙ honest in
-    rw (← c.self.view_is, fault_told c.from_residual-in_err-replace.result c.from_residual-in_err-replace.ensures.1, told.failed)
-    (makes_failed s store c.replace.new.store h verify (keeps_twice s store c.is_genuine.new.store c.replace.new.store read.kept told.kept) (λ honest. told.same (still honest) ∙ read.same honest)
+    let serves = served_verify (meter_in s store h None) wanted _ c.if-not-self.false phase (whole_bytes c.cuts_join.ensures (s.capacity store) h (seen_of s store) wanted valid sized found.there found.marked) in
+    let some : c.begin-digesting.result.taken < c.begin-digesting.result.size = omega (arith, some_bytes (s.capacity store) h wanted valid found.there, c.begin-digesting.ensures.taken, c.begin-digesting.ensures.size) in
+    let one = reads_some c.begin-digesting.result some in
+    let told = c.in_ok-step.ensures in
+    let taken : c.step.new.self.taken ≡ min (c.begin-digesting.result.taken + 4096) c.begin-digesting.result.size = told.taken in
+    let left : c.step.new.self.taken ≡ c.step.new.self.size → ⊥ = λ all. let bad : false ≡ true = sym c.if-not-branch.true ∙ told.all.1 all in cc in
+    let many : 4096 < wanted.size = omega (arith, taken, left, told.size, c.begin-digesting.ensures.taken, c.begin-digesting.ensures.size) in
+    let slice : c.step.new.self.taken ≡ 4096 = omega (arith, taken, c.begin-digesting.ensures.taken, c.begin-digesting.ensures.size) in
+    rw (← c.self.view_is, verify_part (phase_of h.status h.goal) wanted c.step.new.self.taken phase, none_digests)
+    (makes_served s store c.step.new.store h h None (Some c.step.new.self) verify verification_initiated told.kept told.cause.counted (λ _. refl)
+    (rw (calls_part (meter_in s store h None) wanted phase many) (rw one at told.spends)) serves
+    (does_part (s.honest store) (s.capacity store) h c.step.new.self (seen_of s store) (seen (s.honest store) (s.capacity store) (s.device c.step.new.store)) wanted phase many slice (seen_same (s.honest store) (s.capacity store) (s.device store) (s.device c.step.new.store) told.same)))
+
+pub returns-in_err-judge-clause-makes : goal.returns-in_err-judge-clause-makes
+returns-in_err-judge-clause-makes g c =
+    let s = g.S.ImageStore in
+    let store = c.self.inside.store in
+    let h = c.self.inside.header in
+    let digesting = c.self.inside.digesting in
+    let valid = c.self.invariant.held.valid in
+    let at : status_of (phase_at digesting (phase_of h.status h.goal)) ≡ Initiated = rw (← c.self.view_is) at c.requires in
+    let none_digests = none_digested s.honest s.device store h digesting c.self.invariant.digested Initiated at (λ e. cc) in
+    let status : status_of (phase_of h.status h.goal) ≡ Initiated = rw none_digests at at in
+    let wanted = c.in-Some.goal in
+    let found = c.in-Some.ensures.found in
+    let phase = is_receiving _ h wanted valid status found.there in
+    let sized = seen_size (s.honest store) (s.capacity store) (s.device store) (g.met.S.ImageStore.sized store) in
+    let serves = served_verify (meter_in s store h None) wanted _ c.if-not-self.false phase (whole_bytes c.cuts_join.ensures (s.capacity store) h (seen_of s store) wanted valid sized found.there found.marked) in
+    let some : c.begin-digesting.result.taken < c.begin-digesting.result.size = omega (arith, some_bytes (s.capacity store) h wanted valid found.there, c.begin-digesting.ensures.taken, c.begin-digesting.ensures.size) in
+    let one = reads_some c.begin-digesting.result some in
+    let read = c.in_ok-step.ensures in
+    let taken : c.step.new.self.taken ≡ min (c.begin-digesting.result.taken + 4096) c.begin-digesting.result.size = read.taken in
+    let few : wanted.size ≤ 4096 = omega (arith, taken, read.all.0 c.if-not-branch.false, read.size, c.begin-digesting.ensures.taken, c.begin-digesting.ensures.size) in
+    let still : IsTrue (s.honest store) → IsTrue (s.honest c.step.new.store) = λ honest. read.kept.honesty ∙ honest in
+    let told = c.in_err-judge.ensures in
+    rw (← c.self.view_is, verify_fault c.from_residual-in_err-judge.result _ c.from_residual-in_err-judge.ensures.1, told.failed, none_digests)
+    (makes_failed s store c.judge.new.store h None verify (keeps_twice s store c.step.new.store c.judge.new.store read.kept told.kept) (λ honest. told.same (still honest) ∙ read.same honest)
     (counted_after false _ _ _ read.cause.counted told.cause.counted) (λ sound. told.cause.never (read.kept.soundness sound))
-    (rw (calls_verify (meter_of (s.capacity store) h d) c.in-Some.goal phase) (c.calls_add.ensures (piece_count c.in-Some.goal.size) 1 _ _ _ false read.spends told.spends))
-    (served_verify (meter_of (s.capacity store) h d) c.in-Some.goal _ c.if-not-self.false phase whole) (λ m m' l. l))
+    (rw (calls_whole (meter_in s store h None) wanted phase few) (c.calls_add.ensures 1 1 _ _ _ false (rw one at read.spends) told.spends)) serves (λ m m' l. l))
 
 pub invariant_of-self-2 : goal.invariant_of-self-2
 invariant_of-self-2 g c =
     let s = g.S.ImageStore in
     let store = c.self.inside.store in
     let h = c.self.inside.header in
-    let valid = c.self.invariant.valid in
-    let status : status_of (phase_of h.status h.goal) ≡ Initiated = rw (← c.self.view_is) at c.requires in
+    let digesting = c.self.inside.digesting in
+    let valid = c.self.invariant.held.valid in
+    let at : status_of (phase_at digesting (phase_of h.status h.goal)) ≡ Initiated = rw (← c.self.view_is) at c.requires in
+    let none_digests = none_digested s.honest s.device store h digesting c.self.invariant.digested Initiated at (λ e. cc) in
+    let status : status_of (phase_of h.status h.goal) ≡ Initiated = rw none_digests at at in
+    let wanted = c.in-Some.goal in
     let found = c.in-Some.ensures.found in
-    let phase = is_receiving _ h c.in-Some.goal valid status found.there in
-    let told = c.in_ok-replace.ensures in
-    let read = c.in_ok-genuine.ensures in
-    let keeps = judged_keeps c.in_ok-genuine.genuine c.judged.result c.judged.ensures in
-    rw told.done (held_written s store c.replace.new.store h _ (g.met.S.ImageStore.sized store) (keeps_twice s store c.is_genuine.new.store c.replace.new.store read.kept told.kept)
-    (written_after s store c.is_genuine.new.store c.replace.new.store _ read.kept.honesty read.same told.written) c.self.invariant (valid_judged _ h c.judged.result c.in-Some.goal found.there keeps found.marked valid told.fits)
-    (λ d d' views honest trusted.
-    trusted_judged c.in_ok-genuine.genuine _ h d d' c.judged.result c.in-Some.goal _ c.judged.ensures views.same found.there phase (whole_bytes c.cuts_join.ensures _ h d c.in-Some.goal valid views.sized found.there found.marked)
-    (λ genuine. rw (views.real honest, ← c.other-spare.ensures) ((read.digest honest).0 genuine)) trusted))
+    let phase = is_receiving _ h wanted valid status found.there in
+    let sized = seen_size (s.honest store) (s.capacity store) (s.device store) (g.met.S.ImageStore.sized store) in
+    let serves = served_verify (meter_in s store h None) wanted _ c.if-not-self.false phase (whole_bytes c.cuts_join.ensures (s.capacity store) h (seen_of s store) wanted valid sized found.there found.marked) in
+    let some : c.begin-digesting.result.taken < c.begin-digesting.result.size = omega (arith, some_bytes (s.capacity store) h wanted valid found.there, c.begin-digesting.ensures.taken, c.begin-digesting.ensures.size) in
+    let one = reads_some c.begin-digesting.result some in
+    let read = c.in_ok-step.ensures in
+    let taken : c.step.new.self.taken ≡ min (c.begin-digesting.result.taken + 4096) c.begin-digesting.result.size = read.taken in
+    let few : wanted.size ≤ 4096 = omega (arith, taken, read.all.0 c.if-not-branch.false, read.size, c.begin-digesting.ensures.taken, c.begin-digesting.ensures.size) in
+    let still : IsTrue (s.honest store) → IsTrue (s.honest c.step.new.store) = λ honest. read.kept.honesty ∙ honest in
+    let told = c.in_ok-judge.ensures in
+    let genuine = c.in_ok-judge.field-0 in
+    let next : Header = record h { status = judged genuine } in
+    let written : IsTrue (s.honest c.step.new.store) → s.device c.judge.new.store ≡ with_head (s.device c.step.new.store) (header_bytes next) = rw told.done at told.written in
+    let digest : IsTrue (s.honest store) → IsTrue genuine ↔ (sha256 (take wanted.size (slot_bytes (s.device store) (other h.running_slot))) ≡ wanted.name.digest) =
+    λ honest. rw (read.size, c.begin-digesting.ensures.size, c.begin-digesting.ensures.slot, c.other.ensures) at (told.digest (slot_bytes (s.device store) c.begin-digesting.result.slot) (read.fed honest (c.begin-digesting.ensures.begun (slot_bytes (s.device store) c.begin-digesting.result.slot)))) in
+    rw (told.done, none_digests) (record {
+      held =
+          held_written s store c.judge.new.store h next (g.met.S.ImageStore.sized store) (keeps_twice s store c.step.new.store c.judge.new.store read.kept told.kept)
+          (written_after s store c.step.new.store c.judge.new.store _ read.kept.honesty read.same written) c.self.invariant.held (valid_judged _ h (judged genuine) wanted found.there (judged_keeps genuine (judged genuine) refl) found.marked valid (rw told.done at told.fits))
+          (λ d d' views honest trusted.
+          trusted_judged genuine _ h d d' (judged genuine) wanted _ refl views.same found.there phase (whole_bytes c.cuts_join.ensures _ h d wanted valid views.sized found.there found.marked)
+          (λ same. rw (views.real honest) ((digest honest).0 same)) trusted);
+      digested = tt;
+    })
 
 pub returns-clause-makes : goal.returns-clause-makes
 returns-clause-makes g c =
     let s = g.S.ImageStore in
     let store = c.self.inside.store in
     let h = c.self.inside.header in
-    let valid = c.self.invariant.valid in
-    let d = seen (s.honest store) (s.capacity store) (s.device store) in
-    let status : status_of (phase_of h.status h.goal) ≡ Initiated = rw (← c.self.view_is) at c.requires in
+    let digesting = c.self.inside.digesting in
+    let valid = c.self.invariant.held.valid in
+    let at : status_of (phase_at digesting (phase_of h.status h.goal)) ≡ Initiated = rw (← c.self.view_is) at c.requires in
+    let none_digests = none_digested s.honest s.device store h digesting c.self.invariant.digested Initiated at (λ e. cc) in
+    let status : status_of (phase_of h.status h.goal) ≡ Initiated = rw none_digests at at in
+    let wanted = c.in-Some.goal in
     let found = c.in-Some.ensures.found in
-    let phase = is_receiving _ h c.in-Some.goal valid status found.there in
+    let phase = is_receiving _ h wanted valid status found.there in
     let sized = seen_size (s.honest store) (s.capacity store) (s.device store) (g.met.S.ImageStore.sized store) in
-    let whole = whole_bytes c.cuts_join.ensures (s.capacity store) h d c.in-Some.goal valid sized found.there found.marked in
-    let told = c.in_ok-replace.ensures in
-    let read = c.in_ok-genuine.ensures in
-    let genuine = c.in_ok-genuine.genuine in
-    let out : outcome_of c.if-genuine.result ≡ cond genuine done (refused Differs) =
-    elim c.if-genuine.branch [ then-genuine w ↦ rw (w.result-is, w.if-genuine.true) refl | else-genuine w ↦ rw (w.result-is, w.if-genuine.false) refl ] in
-    rw (← c.self.view_is, out, told.done)
-    (makes_written s store c.replace.new.store h (record h { status = c.judged.result }) verify (cond genuine done (refused Differs)) (judged_faultless genuine) (g.met.S.ImageStore.sized store)
-    (keeps_twice s store c.is_genuine.new.store c.replace.new.store read.kept told.kept) (told.cause.counted ∙ read.cause.counted) (written_after s store c.is_genuine.new.store c.replace.new.store _ read.kept.honesty read.same told.written)
-    (rw (calls_verify (meter_of (s.capacity store) h d) c.in-Some.goal phase) (c.calls_add.ensures (piece_count c.in-Some.goal.size) 1 _ _ _ true read.spends told.spends))
-    (served_verify (meter_of (s.capacity store) h d) c.in-Some.goal _ c.if-not-self.false phase whole)
+    let serves = served_verify (meter_in s store h None) wanted _ c.if-not-self.false phase (whole_bytes c.cuts_join.ensures (s.capacity store) h (seen_of s store) wanted valid sized found.there found.marked) in
+    let some : c.begin-digesting.result.taken < c.begin-digesting.result.size = omega (arith, some_bytes (s.capacity store) h wanted valid found.there, c.begin-digesting.ensures.taken, c.begin-digesting.ensures.size) in
+    let one = reads_some c.begin-digesting.result some in
+    let read = c.in_ok-step.ensures in
+    let taken : c.step.new.self.taken ≡ min (c.begin-digesting.result.taken + 4096) c.begin-digesting.result.size = read.taken in
+    let few : wanted.size ≤ 4096 = omega (arith, taken, read.all.0 c.if-not-branch.false, read.size, c.begin-digesting.ensures.taken, c.begin-digesting.ensures.size) in
+    let still : IsTrue (s.honest store) → IsTrue (s.honest c.step.new.store) = λ honest. read.kept.honesty ∙ honest in
+    let told = c.in_ok-judge.ensures in
+    let genuine = c.in_ok-judge.field-0 in
+    let next : Header = record h { status = judged genuine } in
+    let written : IsTrue (s.honest c.step.new.store) → s.device c.judge.new.store ≡ with_head (s.device c.step.new.store) (header_bytes next) = rw told.done at told.written in
+    let digest : IsTrue (s.honest store) → IsTrue genuine ↔ (sha256 (take wanted.size (slot_bytes (s.device store) (other h.running_slot))) ≡ wanted.name.digest) =
+    λ honest. rw (read.size, c.begin-digesting.ensures.size, c.begin-digesting.ensures.slot, c.other.ensures) at (told.digest (slot_bytes (s.device store) c.begin-digesting.result.slot) (read.fed honest (c.begin-digesting.ensures.begun (slot_bytes (s.device store) c.begin-digesting.result.slot)))) in
+    let answer : c.if-branch.result ≡ answered genuine =
+    elim c.if-branch.branch [ then-branch w ↦ rw (w.result-is, w.if-branch.true) refl | else-branch w ↦ rw (w.result-is, w.if-branch.false) refl ] in
+    rw (← c.self.view_is, told.done, none_digests, verify_whole genuine c.if-branch.result h.goal wanted answer found.there)
+    (makes_written s store c.judge.new.store h next None None verify (cond genuine done (refused Differs)) (judged_faultless genuine) (g.met.S.ImageStore.sized store)
+    (keeps_twice s store c.step.new.store c.judge.new.store read.kept told.kept) (told.cause.counted ∙ read.cause.counted) (written_after s store c.step.new.store c.judge.new.store _ read.kept.honesty read.same written)
+    (rw (calls_whole (meter_in s store h None) wanted phase few) (c.calls_add.ensures 1 1 _ _ _ true (rw one at read.spends) told.spends)) serves
     (λ d d' views.
-    does_judged genuine _ _ h d d' c.judged.result c.in-Some.goal _ c.judged.ensures views.same found.there phase (whole_bytes c.cuts_join.ensures _ h d c.in-Some.goal valid views.sized found.there found.marked)
-    (λ honest. rw (views.real honest, ← c.other-spare.ensures) (read.digest honest))))
+    does_whole genuine _ _ _ wanted phase few
+    (judges genuine _ _ h None d d' (judged genuine) wanted _ refl views.same found.there (inl phase) (whole_bytes c.cuts_join.ensures _ h d wanted valid views.sized found.there found.marked)
+    (λ honest. rw (views.real honest) (digest honest)))))

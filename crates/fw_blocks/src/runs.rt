@@ -1,0 +1,10 @@
+//! Runs of block numbers.
+
+/// Block numbers that follow one another: those from the start on and below the end.
+#[derive(Clone, Copy, Debug, PartialEq, Eq)]
+pub struct Run {
+    /// The first of the numbers.
+    pub start: u32,
+    /// The number behind the last of them.
+    pub end: u32,
+}
