@@ -3,6 +3,7 @@
 ghost use Rattle.std.specs.Prelude.{◌≡◌, ◌↔◌, true, false, IsTrue, IfOk, IfErr, OnOk, Some, None, is_ok, length};
 ghost use Rattle.fw_store.specs.Faults.{HasCause, Spends};
 ghost use Rattle.fw_image.specs.Meter.{status_of, IsTrusted};
+ghost use Rattle.fw_image.specs.Moves.{outcome_of};
 ghost use Rattle.fw_image.specs.Phases.{state_in, IsInPhase, told_verified, left_verified, IsVerified, IsNotVerified};
 ghost use Rattle.fw_image.specs.Shown.{shown_of, IsView};
 ghost use Rattle.fw_image.specs.State.{Makes, Turns, Follows, stored, told, left};
@@ -188,6 +189,18 @@ impl<S: ImageStore> Receiving<S> {
             Ok(()) => Ok(Transfer::new(held)),
             Err(refusal) => Err((refusal, Transfer::new(held))),
         }
+    }
+
+    /// `block` where the transfer stands, which then doesn't move: a block leaves its status.
+    ///
+    /// # Errors
+    ///
+    /// As for `block`.
+    pub fn put_block(&mut self, number: u32, value: &[u8]) -> Result<(), Refusal>
+        ensures makes { Makes self.old (block number value.now) (outcome_of result) self.new }
+        ensures status { status_of self.new.meter.phase ≡ status.Initiated }
+    {
+        self.held.block(number, value)
     }
 
     /// Reads the first slice of the image, 4,096 bytes, from the spare slot. Where that is the whole image, its digest is
