@@ -14,4 +14,4 @@ returns-clause-step g c =
     let was : state_in c.in-Some.phase ≡ c.args.self.now = ap state_there c.in-Some.ensures.value ∙ c.self.view_is in
     responds c.args.self.now (state_in c.make-code.result.1) (operation_meaning c.args.operation) heard.source (request_invoke heard.request) (request_content heard.request) (code_number c.make-code.result.0) _ _
     c.requires (subst (λ (s : State). Steps s (operation_meaning c.args.operation) (code_number c.make-code.result.0) (state_in c.make-code.result.1)) was c.make-code.ensures.steps)
-    (ap reply_bytes c.with.ensures ∙ c.in_ok-replies.ensures.each c.make-code.result.0) c.activated-activated.ensures
+    (c.with.ensures ∙ c.in_ok-replies.ensures.each c.make-code.result.0) c.activated-activated.ensures
