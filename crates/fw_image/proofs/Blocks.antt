@@ -58,6 +58,17 @@ marked_here k n mark c h marked = grind (arith, nat_tests)
 pub get_marked : (b : ℕ) (marks : List Bool) (bytes : List ℕ) (n k : ℕ) → k < n → has marks k ≡ true → get (blocks_below b marks bytes n) k ≡ Some (cut b bytes k)
 get_marked b marks bytes n k below marked = get-blocks b marks bytes n k ∙ marked_here k n (has marks k) (cut b bytes k) below marked
 
+there_here : (k n : ℕ) (mark : Bool) (c cell : List ℕ) → cond (nat_lt k n && mark) (Some c) None ≡ Some cell → c ≡ cell
+there_here k n mark c cell e = go (nat_lt k n && mark) e
+  where
+    go : (t : Bool) → cond t (Some c) None ≡ Some cell → c ≡ cell
+    go true e = cc
+    go false e = cc
+
+-- what is there is a cut
+pub block_there : (b : ℕ) (marks : List Bool) (bytes : List ℕ) (n k : ℕ) (cell : List ℕ) → get (blocks_below b marks bytes n) k ≡ Some cell → cut b bytes k ≡ cell
+block_there b marks bytes n k cell e = there_here k n (has marks k) (cut b bytes k) cell (sym (get-blocks b marks bytes n k) ∙ e)
+
 unmarked_here : (k n : ℕ) (mark : Bool) (c : List ℕ) → mark ≡ false → cond (nat_lt k n && mark) (Some c) None ≡ None
 unmarked_here k n mark c e = grind (arith, nat_tests)
 

@@ -1,5 +1,6 @@
 mod Blocks
 mod Meters
+mod Fits
 mod Moves
 mod Judging
 mod Puts

@@ -1,10 +1,12 @@
 -- Public vocabulary: the laws of meters in stores. They speak of definitions alone.
-use Rattle.std.specs.Prelude.{◌≡◌, ◌≢◌, ℕ, true, List}
+use Rattle.std.specs.Prelude.{◌≡◌, ◌≢◌, ℕ, ◌≤◌, true, List, length, Some}
+use Rattle.fw_blocks.specs.Cuts.{block_count}
 use Rattle.fw_store.specs.Device.{Device}
 use Rattle.fw_store.specs.Fresh.{fresh_device}
 use Rattle.fw_store.specs.Setup.{IsSetup}
 use Rattle.fw_image.specs.Fresh.{fresh_meter}
-use Rattle.fw_image.specs.Meter.{Meter, IsTrusted}
+use Rattle.fw_image.specs.Meter.{Meter, Cells, joined, IsTrusted}
+use Rattle.fw_image.specs.Fits.{CellsFit}
 use Rattle.fw_image.specs.Step.{Operation, OperationOutcome, refused, Step, Turn}
 use Rattle.fw_image.specs.Stored.{IsMeterOf}
 use Rattle.fw_image.specs.declared.error.Refusal.TheVariants.{Fault}
@@ -27,3 +29,8 @@ OneStep = (old new other : Meter) (operation : Operation) (a b : OperationOutcom
 -- and a meter determines what a turn makes of it
 abbrev pub OneTurn : Type 0
 OneTurn = (old new other : Meter) → Turn true old true new → Turn true old true other → new ≡ other
+
+-- the blocks of an image of so many bytes, each of its length, have so many bytes together
+abbrev pub JoinedSize : Type 0
+JoinedSize = (block_size size : ℕ) (cells : Cells) (bytes : List ℕ) → 1 ≤ block_size → CellsFit block_size size cells
+    → joined cells (block_count block_size size) ≡ Some bytes → length bytes ≡ size

@@ -3,6 +3,7 @@ pub mod Status
 pub mod Meter
 pub mod Shown
 pub mod Step
+pub mod Fits
 pub mod Calls
 pub mod State
 pub mod Stored

@@ -13,6 +13,7 @@ ghost use Rattle.fw_verify.specs.Slices.{slice_count};
 ghost use Rattle.fw_image.specs.Calls.{verified_size, opening_calls};
 ghost use Rattle.fw_image.specs.Meter.{Meter, status_of, count_of, marks_of, reopened, IsTrusted};
 ghost use Rattle.fw_image.specs.Shown.{shown_of, IsView};
+ghost use Rattle.fw_image.specs.Fits.{IsFit};
 ghost use Rattle.fw_image.specs.Step.{enable, initiate, block, verify, activate, IsOffer, IsBlock};
 ghost use Rattle.fw_image.specs.State.{Makes, Turns, Follows, stored};
 ghost use Rattle.fw_image.specs.Stored.{meter_of, phase_of, IsHeld, IsMeterOf, Holds, Refused, IsSame};
@@ -268,8 +269,10 @@ impl<S: ImageStore> Held<S> {
     /// What the meter shows.
     pub(crate) fn view(&self) -> MeterView
         ensures view { IsView result (shown_of self.now.meter) }
+        ensures fits { IsFit self.now.meter }
         ensures trusted { IsTrue self.now.honest → IsTrusted self.now.meter }
     {
+        laws::cut_size();
         let header = &self.header;
         MeterView {
             enabled: header.enabled,

@@ -1,6 +1,6 @@
 //! Laws of meters in stores, over the definitions alone. A caller cites a law by calling it: nothing is done.
 
-ghost use Rattle.fw_image.specs.Laws.{OneMeter, FreshIsMeter, OneStep, OneTurn};
+ghost use Rattle.fw_image.specs.Laws.{OneMeter, FreshIsMeter, OneStep, OneTurn, JoinedSize};
 
 /// What a store holds is one meter at most.
 pub fn one_meter()
@@ -25,4 +25,9 @@ pub fn one_step()
 /// And a meter determines what a turn makes of it.
 pub fn one_turn()
     ensures { OneTurn }
+{}
+
+/// The blocks of an image, each of its length, have its size together.
+pub fn joined_size()
+    ensures { JoinedSize }
 {}

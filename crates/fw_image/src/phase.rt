@@ -7,6 +7,7 @@ ghost use Rattle.fw_image.specs.Calls.{opening_calls};
 ghost use Rattle.fw_image.specs.Meter.{Meter, status_of, count_of, marks_of, reopened, IsTrusted};
 ghost use Rattle.fw_image.specs.Phases.{state_in, IsInPhase, left_in, left_begun};
 ghost use Rattle.fw_image.specs.Shown.{shown_of, IsView};
+ghost use Rattle.fw_image.specs.Fits.{IsFit};
 ghost use Rattle.fw_image.specs.State.{Makes, Turns, Follows, stored, told};
 ghost use Rattle.fw_image.specs.Step.{enable, initiate};
 ghost use Rattle.fw_image.specs.Stored.{IsMeterOf, Holds, Refused, IsSame};
@@ -171,6 +172,9 @@ impl<S: ImageStore> Phase<S> {
     /// What the meter shows.
     pub fn view(&self) -> MeterView
         ensures view { IsView result (shown_of (state_in self.now).meter) }
+
+        // It is within the limits of its store.
+        ensures fits { IsFit (state_in self.now).meter }
 
         // Over an honest store the images have the digests of their names.
         ensures trusted { IsTrue (state_in self.now).honest → IsTrusted (state_in self.now).meter }

@@ -5,6 +5,7 @@ ghost use Rattle.fw_store.specs.Faults.{HasCause, Spends};
 ghost use Rattle.fw_image.specs.Meter.{status_of, IsTrusted};
 ghost use Rattle.fw_image.specs.Phases.{state_in, IsInPhase, told_verified, left_verified, IsVerified, IsNotVerified};
 ghost use Rattle.fw_image.specs.Shown.{shown_of, IsView};
+ghost use Rattle.fw_image.specs.Fits.{IsFit};
 ghost use Rattle.fw_image.specs.State.{Makes, Turns, Follows, stored, told, left};
 ghost use Rattle.fw_image.specs.Step.{enable, initiate, block, verify, activate};
 ghost use Rattle.fw_image.specs.Stored.{Holds, IsSame};
@@ -126,6 +127,9 @@ impl<S: ImageStore, P: Status> Transfer<S, P> {
     pub fn view(&self) -> MeterView
         ensures view { IsView result (shown_of self.now.meter) }
         ensures status { status_of self.now.meter.phase ≡ P.status }
+
+        // It is within the limits of its store.
+        ensures fits { IsFit self.now.meter }
 
         // Over an honest store the images have the digests of their names.
         ensures trusted { IsTrue self.now.honest → IsTrusted self.now.meter }

@@ -10,6 +10,7 @@ ghost use Rattle.fw_apdu.specs.View.{request_content, request_invoke};
 ghost use Rattle.fw_image.specs.Calls.{opening_calls};
 ghost use Rattle.fw_image.specs.Meter.{Meter, reopened, IsTrusted};
 ghost use Rattle.fw_image.specs.Shown.{shown_of, IsView};
+ghost use Rattle.fw_image.specs.Fits.{IsFit};
 ghost use Rattle.fw_image.specs.State.{Follows, Counts, Turns, stored};
 ghost use Rattle.fw_image.specs.Stored.{Holds, IsMeterOf, Refused, is_opening_faultless};
 ghost use Rattle.fw_image.specs.declared.error.OpenError.TheVariants as not_opened;
@@ -145,6 +146,9 @@ impl<S: ImageStore + Drop> MeterCore<S> {
     /// What the meter shows of itself.
     pub fn view(&self) -> MeterView
         ensures view { IsView result (shown_of self.now.meter) }
+
+        // It is within the limits of its store.
+        ensures fits { IsFit self.now.meter }
 
         // Over an honest store the images have the digests of their names.
         ensures trusted { IsTrue self.now.honest → IsTrusted self.now.meter }

@@ -23,6 +23,6 @@ pub use error::{FileStoreError, SetupError, StoreFault};
 pub use file::{FileDevice, FileStore};
 pub use header::{Goal, HEADER_SIZE, Header, StoredStatus};
 pub use memory::MemoryStore;
-pub use setup::MAX_CAPACITY;
+pub use setup::{MAX_CAPACITY, is_setup};
 pub use slot::Slot;
 pub use store::ImageStore;

@@ -13,8 +13,9 @@ use fw_names::factory_name;
 /// The largest image, in bytes: 4,096 of the largest blocks.
 pub const MAX_CAPACITY: u32 = 4_194_304;
 
-/// Whether a store can be made with these.
-pub(crate) fn is_setup(capacity: u32, block_size: u32, factory: &[u8]) -> bool
+/// Whether a store can be made with slots of so many bytes, blocks of so many, and this factory image, as
+/// `MemoryStore::new` says.
+pub fn is_setup(capacity: u32, block_size: u32, factory: &[u8]) -> bool
     ensures { IsTrue result ↔ IsSetup block_size capacity factory.now }
 {
     let block_fits = (1..=MAX_BLOCK_SIZE).contains(&block_size);

@@ -8,6 +8,7 @@ use Rattle.fw_names.specs.Name.{Campaign, Name, IsOpened, SpellsName, name_bytes
 use Rattle.fw_apdu.specs.Laws as apdu
 use Rattle.fw_client.specs.Ask.{initiate, request_of}
 use Rattle.fw_server.specs.Meaning.{meaning_of}
+use Rattle.fw_image.specs.Laws.{JoinedSize}
 use Rattle.fw_image.specs.Meter.{reopened, Meter}
 use Rattle.fw_world.specs.declared.datagram.Direction.TheVariants.{ToHead}
 use Rattle.fw_world.specs.World.{Datagram, Activation, Offers, World, put, same_campaign, with_offer, with_meter, with_done}
@@ -36,7 +37,7 @@ meter_of IsFirst w k number meter e =
       own = k.names.running number meter e;
       running = trusted.running;
       goals = λ goal f. k.goals.goals number meter goal e f;
-      cells = λ goal f n cell g. sound.cells goal n cell f g;
+      cells = sound.cells;
       verified = trusted.verified;
     }
 
@@ -53,7 +54,7 @@ pub world_of : (IsFirst : FirstNames) (w : World) → AreSafe IsFirst w → IsSa
 world_of IsFirst w k = record {
   sound = record {
     campaigns = k.campaigns;
-    meters = λ number meter e. let m = k.meters number meter e in record { block_size = m.block_size; named = m.named; cells = λ goal n cell f g. m.cells goal f n cell g };
+    meters = λ number meter e. let m = k.meters number meter e in record { block_size = m.block_size; named = m.named; cells = m.cells };
   };
   initiates = k.initiates;
   names = record { running = λ number meter e. (k.meters number meter e).own; told = k.told };
@@ -154,16 +155,16 @@ module _ (IsFirst : FirstNames) where
       more : List Activation
       more = activated number name after
 
-  pub serves_safe : names.OneName → axdr.ShortSpells → axdr.OneSpelling → (old : World) → IsSafeWorld IsFirst old → (d : Datagram) → InitiatesOffered old.offered d → (new : World) → Serves old d new → IsSafeWorld IsFirst new
-  serves_safe one_name shorts spellings old k d asks new s =
+  pub serves_safe : JoinedSize → names.OneName → axdr.ShortSpells → axdr.OneSpelling → (old : World) → IsSafeWorld IsFirst old → (d : Datagram) → InitiatesOffered old.offered d → (new : World) → Serves old d new → IsSafeWorld IsFirst new
+  serves_safe sizes one_name shorts spellings old k d asks new s =
       subst (IsSafeWorld IsFirst) (sym s.new_is)
-      (moves_safe old k d.meter s.name s.after (handles_safe one_name IsFirst old.offered k.sound.campaigns old.activations d asks s.before before s.reply s.name s.after s.handles)
+      (moves_safe old k d.meter s.name s.after (handles_safe sizes one_name IsFirst old.offered k.sound.campaigns old.activations d asks s.before before s.reply s.name s.after s.handles)
       (old.sent ++ replies d s.reply)
       (All-append (InitiatesOffered old.offered) old.sent (replies d s.reply) k.initiates
-      (reply_asks one_name IsFirst old.offered k.sound.campaigns old.activations d asks s.before before s.reply s.name s.after s.handles))
+      (reply_asks sizes one_name IsFirst old.offered k.sound.campaigns old.activations d asks s.before before s.reply s.name s.after s.handles))
       (All-append (TellsOwn IsFirst (old.activations ++ more)) old.sent (replies d s.reply)
       (All-weaker (TellsOwn IsFirst old.activations) (TellsOwn IsFirst (old.activations ++ more)) (told_grows IsFirst old.activations more) old.sent k.names.told)
-      (reply_is_own one_name IsFirst old.offered k.sound.campaigns old.activations d asks s.before before shorts spellings more s.reply s.name s.after s.handles)))
+      (reply_is_own sizes one_name IsFirst old.offered k.sound.campaigns old.activations d asks s.before before shorts spellings more s.reply s.name s.after s.handles)))
     where
       more : List Activation
       more = activated d.meter s.name s.after
@@ -178,11 +179,11 @@ module _ (IsFirst : FirstNames) where
       (moves_safe old k number None after (quiet IsFirst old.offered old.activations number after safe) old.sent k.initiates
       (All-weaker (TellsOwn IsFirst old.activations) (TellsOwn IsFirst (old.activations ++ [])) (told_grows IsFirst old.activations []) old.sent k.names.told))
 
-  pub stop_safe : names.OneName → (old : World) → IsSafeWorld IsFirst old → (d : Datagram) → InitiatesOffered old.offered d → (new : World) → StopsAt old d new → IsSafeWorld IsFirst new
-  stop_safe one_name old k d asks new s =
+  pub stop_safe : JoinedSize → names.OneName → (old : World) → IsSafeWorld IsFirst old → (d : Datagram) → InitiatesOffered old.offered d → (new : World) → StopsAt old d new → IsSafeWorld IsFirst new
+  stop_safe sizes one_name old k d asks new s =
       subst (IsSafeWorld IsFirst) (sym (s.new_is ∙ noted s.name))
       (moves_safe old k d.meter s.name (reopened s.after)
-      (reopens s.name (stops_safe one_name IsFirst old.offered k.sound.campaigns old.activations d asks s.before (meter_of IsFirst old k d.meter s.before s.there) s.name s.after s.stops))
+      (reopens s.name (stops_safe sizes one_name IsFirst old.offered k.sound.campaigns old.activations d asks s.before (meter_of IsFirst old k d.meter s.before s.there) s.name s.after s.stops))
       old.sent k.initiates
       (All-weaker (TellsOwn IsFirst old.activations) (TellsOwn IsFirst (old.activations ++ more)) (told_grows IsFirst old.activations more) old.sent k.names.told))
     where

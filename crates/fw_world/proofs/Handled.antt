@@ -12,6 +12,7 @@ use Rattle.fw_client.specs.Hearing.{CarriesResponse}
 use Rattle.fw_server.specs.Meaning as meaning
 use Rattle.fw_server.specs.Meaning.{Meaning, meaning_of}
 use Rattle.fw_server.specs.Answer.{response_of}
+use Rattle.fw_image.specs.Laws.{JoinedSize}
 use Rattle.fw_image.specs.Meter.{Meter}
 use Rattle.fw_image.specs.Step as image
 use Rattle.fw_image.specs.Step.{Operation, OperationOutcome, done, refused, verification_initiated}
@@ -27,7 +28,7 @@ use Rattle.fw_world.proofs.Spelled.{one_apdu, asks_nothing, reply_tells}
 use Rattle.fw_world.proofs.Meters.{IsSafeMeter, own_grows, switches, IsOfOffers, IsSafeAfter, quiet, cell_safe, step_safe}
 
 -- an accepted activate, and nothing else, switches
-activate_switches : (new : Meter) (made : OperationOutcome) → activation_of meaning.activate (coded (operation_code made)) new ≡ switches image.activate made new
+pub activate_switches : (new : Meter) (made : OperationOutcome) → activation_of meaning.activate (coded (operation_code made)) new ≡ switches image.activate made new
 activate_switches new done = refl
 activate_switches new (refused Disabled) = refl
 activate_switches new (refused BadInitiate) = refl
@@ -46,7 +47,7 @@ each_reply P d reply false bytes e p = subst (λ (r : Option (List ℕ)). All P 
 no_reply : (P : Datagram → Type 0) (d : Datagram) (reply : Option (List ℕ)) → reply ≡ None → All P (replies d reply)
 no_reply P d reply e = subst (λ (r : Option (List ℕ)). All P (replies d r)) (sym e) (All-nil P)
 
-module _ (one_name : names.OneName) (IsFirst : FirstNames) (offered : Offers) (campaigns : (campaign : Campaign) (image : List ℕ) → offered campaign ≡ Some image → IsOpened campaign)
+module _ (sizes : JoinedSize) (one_name : names.OneName) (IsFirst : FirstNames) (offered : Offers) (campaigns : (campaign : Campaign) (image : List ℕ) → offered campaign ≡ Some image → IsOpened campaign)
     (activations : List Activation) (d : Datagram) (asks : InitiatesOffered offered d) (old : Meter) (k : IsSafeMeter IsFirst offered activations d.meter old) where
   abbrev After : Option Name → Meter → Type 0
   After name new = IsSafeAfter IsFirst offered activations d.meter name new
@@ -58,7 +59,7 @@ module _ (one_name : names.OneName) (IsFirst : FirstNames) (offered : Offers) (c
       → IsOfOffers offered operation → Operates true old operation result new → After (activation_of asked result new) new
   operates_safe asked operation result new same of_offers (made, step, told) =
       subst (λ (n : Option Name). After n new) (sym (ap (λ (r : MeterResult). activation_of asked r new) told ∙ same made))
-      (step_safe IsFirst offered activations d.meter campaigns old new k operation made of_offers step)
+      (step_safe IsFirst offered activations d.meter sizes campaigns old new k operation made of_offers step)
 
   -- what a request initiates is offered
   abbrev AsksOffered : Meaning → Type 0

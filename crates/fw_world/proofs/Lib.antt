@@ -3,7 +3,9 @@ mod Cells
 mod Spelled
 mod Meters
 mod Handled
+mod Room
 mod Events
-mod Runs
+mod Kept
 pub mod Refinement
+mod Making
 mod NewStores

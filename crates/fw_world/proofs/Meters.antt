@@ -9,6 +9,8 @@ use Rattle.fw_store.specs.Header.{goal_count}
 use Rattle.fw_store.specs.declared.header.Goal.{Goal}
 use Rattle.fw_verify.specs.Slices.{slice_size}
 use Rattle.fw_image.specs.declared.status.TransferStatus.TheVariants.{VerificationSuccessful}
+use Rattle.fw_image.specs.Fits.{CellsFit}
+use Rattle.fw_image.specs.Laws.{JoinedSize}
 use Rattle.fw_image.specs.Meter.{Meter, Phase, idle, receiving, verifying, sealed, spoilt, switched, status_of, goal_of, joined, goal_bytes, IsGenuine, reopened, reopened_phase}
 use Rattle.fw_image.specs.Step.{Operation, enable, initiate, block, verify, activate, OperationOutcome, done, refused, verification_initiated, IsBlock, Admits, Serves, begun, with_cell, digested_phase, sealed_phase, spoilt_phase, switched_to, Judges, Does, Step, Turn, TurnsIn}
 use Rattle.fw_image.specs.declared.error.Refusal.{Refusal}
@@ -16,7 +18,7 @@ use Rattle.fw_image.specs.declared.error.Refusal.TheVariants.{Fault, Differs}
 use Rattle.fw_world.specs.World.{Activation, Offers}
 use Rattle.fw_world.specs.Step.{activated}
 use Rattle.fw_world.specs.Headline.{IsOffered, FirstNames, IsOwn, IsSafe}
-use Rattle.fw_world.proofs.Cells.{get_cases, no_cell, CellsFit, length-all}
+use Rattle.fw_world.proofs.Cells.{get_cases, no_cell}
 
 -- what holds of the meter of a number
 pub record IsSafeMeter (IsFirst : FirstNames) (offered : Offers) (activations : List Activation) (number : ℕ) (meter : Meter) : Type 0 where
@@ -84,13 +86,18 @@ admits_block m (spoilt goal) number value h = elim h [ ]
 admits_block m switched number value h = elim h [ ]
 
 -- one that admits an activate is verified
-admits_activate : (m : Meter) (phase : Phase) → Admits m phase activate → (goal : Goal) × (phase ≡ sealed goal)
+pub admits_activate : (m : Meter) (phase : Phase) → Admits m phase activate → (goal : Goal) × (phase ≡ sealed goal)
 admits_activate m idle h = elim h [ ]
 admits_activate m (receiving goal) h = elim h [ ]
 admits_activate m (verifying goal taken) h = elim h [ ]
 admits_activate m (sealed goal) h = (goal, refl)
 admits_activate m (spoilt goal) h = elim h [ ]
 admits_activate m switched h = elim h [ ]
+
+-- the bytes of a genuine goal
+pub genuine_bytes : (goal : Goal) (o : Option (List ℕ)) → IsGenuine (Some goal) o → (bytes : List ℕ) × (o ≡ Some bytes) × (sha256 bytes ≡ goal.name.digest)
+genuine_bytes goal None h = elim h [ ]
+genuine_bytes goal (Some bytes) h = (bytes, refl, h)
 
 -- ---- what each operation does
 
@@ -244,11 +251,6 @@ module _ (IsFirst : FirstNames) (offered : Offers) (activations : List Activatio
   pub turn_safe : (old new : Meter) → IsSafeMeter IsFirst offered activations number old → Turn true old true new → IsSafeMeter IsFirst offered activations number new
   turn_safe old new k turn = turns_safe old new k old.phase refl turn
 
-  -- the bytes of a genuine goal
-  genuine_bytes : (goal : Goal) (o : Option (List ℕ)) → IsGenuine (Some goal) o → (bytes : List ℕ) × (o ≡ Some bytes) × (sha256 bytes ≡ goal.name.digest)
-  genuine_bytes goal None h = elim h [ ]
-  genuine_bytes goal (Some bytes) h = (bytes, refl, h)
-
   -- the goal of a verified meter becomes the image that runs
   switched_safe : (old : Meter) (goal : Goal) (bytes : List ℕ) → IsName goal.name → IsOffered offered goal.name goal.size → length bytes ≡ goal.size → sha256 bytes ≡ goal.name.digest
       → IsSafeMeter IsFirst offered activations number old → IsSafeAfter (Some goal.name) (switched_to old (sealed goal) (Some bytes))
@@ -267,9 +269,9 @@ module _ (IsFirst : FirstNames) (offered : Offers) (activations : List Activatio
         (All-nil (IsSafe offered));
   }
 
-  activate_safe : ((campaign : Campaign) (image : List ℕ) → offered campaign ≡ Some image → IsOpened campaign) → (old new : Meter) → IsSafeMeter IsFirst offered activations number old
+  activate_safe : JoinedSize → ((campaign : Campaign) (image : List ℕ) → offered campaign ≡ Some image → IsOpened campaign) → (old new : Meter) → IsSafeMeter IsFirst offered activations number old
       → Admits old old.phase activate → new ≡ switched_to old old.phase (goal_bytes old) → IsSafeAfter (Some new.running.name) new
-  activate_safe campaigns old new k admits is =
+  activate_safe sizes campaigns old new k admits is =
       let is_sealed = admits_activate old old.phase admits in
       let goal : Goal = is_sealed.0 in
       let phase : old.phase ≡ sealed goal = is_sealed.1 in
@@ -280,41 +282,41 @@ module _ (IsFirst : FirstNames) (offered : Offers) (activations : List Activatio
       let whole : joined old.cells (goal_count old.block_size (Some goal)) ≡ Some bytes.0 =
       ap (λ (o : Option Goal). joined old.cells (goal_count old.block_size o)) (sym goal_is) ∙ bytes.1 in
       let offer : IsOffered offered goal.name goal.size = k.goals goal goal_is in
-      let size : length bytes.0 ≡ goal.size = length-all old.block_size goal.size old.cells bytes.0 k.block_size (k.cells goal goal_is) whole in
+      let size : length bytes.0 ≡ goal.size = sizes old.block_size goal.size old.cells bytes.0 k.block_size (k.cells goal goal_is) whole in
       let same : new ≡ switched_to old (sealed goal) (Some bytes.0) = is ∙ (λ i. switched_to old (phase i) (bytes.1 i)) in
       subst (λ (m : Meter). IsSafeAfter (Some m.running.name) m) (sym same)
       (switched_safe old goal bytes.0 (offered_name offered campaigns goal.name goal.size offer) offer size bytes.2 k)
 
   -- an operation that no line refuses
-  does_safe : ((campaign : Campaign) (image : List ℕ) → offered campaign ≡ Some image → IsOpened campaign) → (old new : Meter) → IsSafeMeter IsFirst offered activations number old
+  does_safe : JoinedSize → ((campaign : Campaign) (image : List ℕ) → offered campaign ≡ Some image → IsOpened campaign) → (old new : Meter) → IsSafeMeter IsFirst offered activations number old
       → (operation : Operation) (outcome : OperationOutcome) → IsOfOffers offered operation → Serves old operation → Does true old operation outcome new
       → IsSafeAfter (switches operation outcome new) new
-  does_safe campaigns old new k (enable b) done asks serves does = quiet new (subst (IsSafeMeter IsFirst offered activations number) (sym (does.is refl)) (enable_safe old b k))
-  does_safe campaigns old new k (initiate name size) done asks serves does = quiet new (subst (IsSafeMeter IsFirst offered activations number) (sym (does.is refl)) (begun_safe old name size asks k))
-  does_safe campaigns old new k (block n value) done asks serves does =
+  does_safe sizes campaigns old new k (enable b) done asks serves does = quiet new (subst (IsSafeMeter IsFirst offered activations number) (sym (does.is refl)) (enable_safe old b k))
+  does_safe sizes campaigns old new k (initiate name size) done asks serves does = quiet new (subst (IsSafeMeter IsFirst offered activations number) (sym (does.is refl)) (begun_safe old name size asks k))
+  does_safe sizes campaigns old new k (block n value) done asks serves does =
       let admitted = admits_block old old.phase n value serves.1 in
       quiet new (subst (IsSafeMeter IsFirst offered activations number) (sym (does.is refl)) (cell_safe old admitted.0 n value value admitted.1 admitted.2 refl k))
-  does_safe campaigns old new k verify done asks serves does = quiet new (judges_safe old new true does.1 k)
-  does_safe campaigns old new k activate done asks serves does = activate_safe campaigns old new k serves.1 (does.is refl)
-  does_safe campaigns old new k verify (refused Differs) asks serves does = quiet new (judges_safe old new false does.1 k)
-  does_safe campaigns old new k verify verification_initiated asks serves does =
+  does_safe sizes campaigns old new k verify done asks serves does = quiet new (judges_safe old new true does.1 k)
+  does_safe sizes campaigns old new k activate done asks serves does = activate_safe sizes campaigns old new k serves.1 (does.is refl)
+  does_safe sizes campaigns old new k verify (refused Differs) asks serves does = quiet new (judges_safe old new false does.1 k)
+  does_safe sizes campaigns old new k verify verification_initiated asks serves does =
       quiet new (subst (IsSafeMeter IsFirst offered activations number) (sym (does.1.is refl))
       (phase_safe old (digested_phase old.phase slice_size) (digested_goal old.phase slice_size) (λ e. k.verified (digested_status old.phase slice_size e)) k))
-  does_safe campaigns old new k (block n value) (refused Fault) asks serves (inl leaves) = quiet new (subst (IsSafeMeter IsFirst offered activations number) (sym (leaves.is refl)) k)
-  does_safe campaigns old new k (block n value) (refused Fault) asks serves (inr torn) =
+  does_safe sizes campaigns old new k (block n value) (refused Fault) asks serves (inl leaves) = quiet new (subst (IsSafeMeter IsFirst offered activations number) (sym (leaves.is refl)) k)
+  does_safe sizes campaigns old new k (block n value) (refused Fault) asks serves (inr torn) =
       let admitted = admits_block old old.phase n value serves.1 in
       quiet new (subst (IsSafeMeter IsFirst offered activations number) (sym (torn.4.is refl)) (cell_safe old admitted.0 n value torn.1 admitted.1 admitted.2 torn.3 k))
-  does_safe campaigns old new k operation (refused Fault) asks serves does = quiet new (subst (IsSafeMeter IsFirst offered activations number) (sym (does.is refl)) k)
-  does_safe campaigns old new k operation (refused r) asks serves does = elim does [ ]
-  does_safe campaigns old new k operation verification_initiated asks serves does = elim does [ ]
+  does_safe sizes campaigns old new k operation (refused Fault) asks serves does = quiet new (subst (IsSafeMeter IsFirst offered activations number) (sym (does.is refl)) k)
+  does_safe sizes campaigns old new k operation (refused r) asks serves does = elim does [ ]
+  does_safe sizes campaigns old new k operation verification_initiated asks serves does = elim does [ ]
 
-  pub step_safe : ((campaign : Campaign) (image : List ℕ) → offered campaign ≡ Some image → IsOpened campaign) → (old new : Meter) → IsSafeMeter IsFirst offered activations number old
+  pub step_safe : JoinedSize → ((campaign : Campaign) (image : List ℕ) → offered campaign ≡ Some image → IsOpened campaign) → (old new : Meter) → IsSafeMeter IsFirst offered activations number old
       → (operation : Operation) (outcome : OperationOutcome) → IsOfOffers offered operation → Step true old operation outcome new → IsSafeAfter (switches operation outcome new) new
-  step_safe campaigns old new k operation outcome asks (inl h) =
+  step_safe sizes campaigns old new k operation outcome asks (inl h) =
       subst (λ (o : OperationOutcome). IsSafeAfter (switches operation o new) new) (sym h.told)
       (refused_safe operation h.refusal (subst (IsSafeMeter IsFirst offered activations number) (sym (h.same.is refl)) k))
     where
       refused_safe : (operation : Operation) (r : Refusal) → IsSafeMeter IsFirst offered activations number new → IsSafeAfter (switches operation (refused r) new) new
       refused_safe activate r safe = quiet new safe
       refused_safe operation r safe = quiet new safe
-  step_safe campaigns old new k operation outcome asks (inr h) = does_safe campaigns old new k operation outcome asks h.serves h.does
+  step_safe sizes campaigns old new k operation outcome asks (inr h) = does_safe sizes campaigns old new k operation outcome asks h.serves h.does

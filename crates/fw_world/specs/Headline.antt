@@ -1,14 +1,13 @@
 -- Public vocabulary: what holds of every world that events lead to.
-use Rattle.std.specs.Prelude.{◌≡◌, ◌⊎◌, ℕ, ◌≤◌, ◌-◌, true, List, length, Some, Contains, All}
-use Rattle.std.specs.FinMap.{get}
+use Rattle.std.specs.Prelude.{◌≡◌, ◌⊎◌, ℕ, ◌≤◌, true, List, length, Some, Contains, All}
 use Rattle.sha2.specs.Sha256.{sha256}
 use Rattle.fw_axdr.specs.Value.{octet_string}
 use Rattle.fw_names.specs.Name.{Campaign, Name, IsOpened, IsName, SpellsName, name_of, factory}
-use Rattle.fw_blocks.specs.Cuts.{block_start, block_end}
 use Rattle.fw_store.specs.declared.header.Goal.{Goal}
 use Rattle.fw_apdu.specs.Request.{RequestContent}
 use Rattle.fw_apdu.specs.Response.{value, get_response}
 use Rattle.fw_image.specs.Meter.{Meter, goal_of, IsTrusted}
+use Rattle.fw_image.specs.Fits.{CellsFit}
 use Rattle.fw_server.specs.Meaning.{meaning_of, initiate}
 use Rattle.fw_client.specs.Hearing.{CarriesResponse}
 use Rattle.fw_meter.specs.Handling.{Brings}
@@ -48,8 +47,7 @@ IsOwn IsFirst activations meter name = IsFirst meter name ⊎ HasActivated activ
 pub record IsSoundMeter (meter : Meter) : Type 0 where
   pub block_size : 1 ≤ meter.block_size
   pub named : IsName meter.running.name
-  pub cells : (goal : Goal) (number : ℕ) (cell : List ℕ) → goal_of meter.phase ≡ Some goal → get meter.cells number ≡ Some cell
-      → length cell ≡ block_end meter.block_size goal.size number - block_start meter.block_size number
+  pub cells : (goal : Goal) → goal_of meter.phase ≡ Some goal → CellsFit meter.block_size goal.size meter.cells
 
 pub record IsSound (w : World) : Type 0 where
   pub campaigns : (campaign : Campaign) (image : List ℕ) → w.offered campaign ≡ Some image → IsOpened campaign

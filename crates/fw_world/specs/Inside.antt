@@ -1,8 +1,14 @@
 -- For the models of the world's types and private clauses alone.
-use Rattle.std.specs.Prelude.{IsTrue, Option, Some, None}
-use Rattle.fw_image.specs.Meter.{Meter}
+use Rattle.std.specs.Prelude.{◌≡◌, ℕ, IsTrue, ◌⊎◌, List, [], ◌∷◌, length, Option, Some, None, slice_get}
+use Rattle.std.specs.Option.{option_map}
+use Rattle.fw_names.specs.Name.{Name}
+use Rattle.fw_store.specs.declared.header.Goal.{Goal}
+use Rattle.fw_image.specs.Meter.{Image, Meter, sealed}
 use Rattle.fw_image.specs.State.{State}
 use Rattle.fw_meter.specs.Inside.{no_state}
+use Rattle.fw_world.specs.declared.datagram.Direction.{Direction}
+use Rattle.fw_world.specs.declared.datagram.Direction.TheVariants.{ToHead}
+use Rattle.fw_world.specs.World.{Datagram, Activation}
 
 -- the meter is there, over a store that gives what was written and doesn't fail
 pub record IsSound (state : State) : Type 0 where
@@ -16,3 +22,25 @@ IsSeated (Some state) = IsSound state
 abbrev pub meter_in : Option State → Meter
 meter_in None = no_state.meter
 meter_in (Some state) = state.meter
+
+-- the name of an image that a meter switched to
+abbrev pub switched_name : Option Image → Option Name
+switched_name switched = option_map (λ (image : Image). image.name) switched
+
+-- there is room for the image that an activate would switch to
+abbrev pub HasRoom : Meter → List ℕ → Type 0
+HasRoom m room = (goal : Goal) → m.phase ≡ sealed goal → length room ≡ goal.size
+
+-- a datagram of this number was sent, in this direction
+abbrev pub IsSentTo : List Datagram → ℕ → Direction → Type 0
+IsSentTo sent number direction = (d : Datagram) × (slice_get sent number ≡ Some d) × (d.direction ≡ direction)
+
+-- what is sent back on a link
+abbrev pub replied : ℕ → ℕ → Option (List ℕ) → List Datagram
+replied head meter None = []
+replied head meter (Some bytes) = record { head = head; meter = meter; direction = ToHead; bytes = bytes } ∷ []
+
+-- an image that a meter switched to, as it is noted
+abbrev pub noted : ℕ → Option Image → List Activation
+noted meter None = []
+noted meter (Some image) = record { meter = meter; name = image.name; bytes = image.bytes } ∷ []

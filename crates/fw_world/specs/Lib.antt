@@ -2,8 +2,11 @@
 pub mod World
 pub mod Step
 pub mod State
+pub mod Setup
+pub mod Refusals
 pub mod View
 pub mod Headline
+pub mod Runs
 pub mod Laws
 -- For private clauses and models alone: no public clause cites it.
 pub mod Inside

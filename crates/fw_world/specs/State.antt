@@ -1,5 +1,5 @@
 -- Public vocabulary: the world as it is kept, with the head ends and their rows, and what each event makes of it.
-use Rattle.std.specs.Prelude.{◌≡◌, ◌↔◌, ℕ, nat_eq, true, false, Bool, IsTrue, List, ◌++◌, map, Option, Some, None, slice_get, All}
+use Rattle.std.specs.Prelude.{◌≡◌, ◌↔◌, ◌≤◌, ℕ, nat_eq, true, false, Bool, IsTrue, List, ◌++◌, map, Option, Some, None, slice_get, All}
 use Rattle.std.specs.Map.{lookup, set_value}
 use Rattle.std.specs.Option.{option_and_then}
 use Rattle.fw_names.specs.Name.{Campaign, Name, IsOpened}
@@ -17,7 +17,7 @@ use Rattle.fw_meter.specs.Laws.{Stops}
 use Rattle.fw_world.specs.declared.datagram.Direction.{Direction}
 use Rattle.fw_world.specs.declared.datagram.Direction.TheVariants.{ToMeter, ToHead}
 use Rattle.fw_world.specs.World.{Datagram, Activation, World}
-use Rattle.fw_world.specs.Step.{Event, open_campaign, cancel_campaign, tick, deliver, stop, restart_meter, restart_head, turn, replies, activated}
+use Rattle.fw_world.specs.Step.{Event, open_campaign, cancel_campaign, tick, deliver, stop, restart_meter, restart_head, turn, replies, activated, RunBy}
 
 pub record State : Type 0 where
   -- each head end behind its number, and each meter behind its own, in the order of the setup
@@ -39,9 +39,10 @@ set_head s number head = record s { heads = set_value (nat_eq number) s.heads he
 abbrev pub set_meter : State → ℕ → Meter → State
 set_meter s number meter = record s { meters = set_value (nat_eq number) s.meters meter }
 
--- each head end stands behind its own number
+-- each head end stands behind its own number, which begins at 1
 pub record IsState (s : State) : Type 0 where
   pub own : (number : ℕ) (head : Head) → head_at s number ≡ Some head → head.book.head ≡ number
+  pub begins : (number : ℕ) (head : Head) → head_at s number ≡ Some head → 1 ≤ number
 
 -- ---- the world that it is
 
@@ -129,3 +130,6 @@ StateStep old (restart_meter number) new = (meter : Meter) × (meter_at old numb
 StateStep old (restart_head number) new = (head : Head) × (head_at old number ≡ Some head) × (new ≡ set_head old number (restarted head))
 StateStep old (turn number) new =
     (before : Meter) × (after : Meter) × (meter_at old number ≡ Some before) × Turn true before true after × (new ≡ set_meter old number after)
+
+abbrev pub StateRun : State → List Event → State → Type 0
+StateRun = RunBy StateStep

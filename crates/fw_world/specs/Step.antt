@@ -133,6 +133,10 @@ pub record IsOpening (w : World) : Type 0 where
   pub activations : w.activations ≡ []
   pub done : (campaign : Campaign) (meter : ℕ) → w.done campaign meter ≡ false
 
+-- a list of events, each of which makes such a step
+abbrev pub RunBy : {W : Type 0} → (W → Event → W → Type 0) → W → List Event → W → Type 0
+RunBy step old [] new = new ≡ old
+RunBy {W} step old (event ∷ events) new = (next : W) × step old event next × RunBy step next events new
+
 abbrev pub Run : World → List Event → World → Type 0
-Run old [] new = new ≡ old
-Run old (event ∷ events) new = (next : World) × WorldStep old event next × Run next events new
+Run = RunBy WorldStep

@@ -1,5 +1,12 @@
-//! Why a world was not made.
+//! Why a world was not made, and why an event was refused.
 
+ghost use Rattle.std.specs.Prelude.{◌≡◌};
+ghost use Rattle.fw_world.specs.Refusals.{of_book};
+ghost use Rattle.fw_world.specs.declared.error.SetupError.TheVariants as unmade;
+ghost use Rattle.fw_world.specs.declared.error.StepError.TheVariants.{OutOfMemory};
+
+use fw_book::BookError;
+use std::alloc::AllocError;
 use thiserror::Error;
 
 /// Why a world was not made.
@@ -11,4 +18,64 @@ pub enum SetupError {
     /// Memory was refused.
     #[error("OutOfMemory")]
     OutOfMemory,
+}
+
+impl From<AllocError> for SetupError {
+    ghost from_gives = { λ _ e. e ≡ unmade.OutOfMemory };
+
+    fn from(_error: AllocError) -> SetupError {
+        SetupError::OutOfMemory
+    }
+}
+
+/// Why an event was refused. Of several refusals that apply, the one that stands first here is given.
+#[derive(Clone, Copy, Debug, Drop, PartialEq, Eq, Error)]
+pub enum StepError {
+    /// No datagram of this number was sent.
+    #[error("NoSuchDatagram")]
+    NoSuchDatagram,
+    /// There is no such head end or no such meter, or a datagram to a head end should stop a meter.
+    #[error("NoSuchActor")]
+    NoSuchActor,
+    /// The head end's book refused it.
+    #[error("{0}")]
+    Book(BookError),
+    /// Memory was refused.
+    #[error("OutOfMemory")]
+    OutOfMemory,
+}
+
+impl From<AllocError> for StepError {
+    ghost from_gives = { λ _ e. e ≡ OutOfMemory };
+
+    fn from(_error: AllocError) -> StepError {
+        StepError::OutOfMemory
+    }
+}
+
+impl From<fw_meter::OutOfMemory> for StepError {
+    ghost from_gives = { λ _ e. e ≡ OutOfMemory };
+
+    fn from(_error: fw_meter::OutOfMemory) -> StepError {
+        StepError::OutOfMemory
+    }
+}
+
+impl From<fw_head::OutOfMemory> for StepError {
+    ghost from_gives = { λ _ e. e ≡ OutOfMemory };
+
+    fn from(_error: fw_head::OutOfMemory) -> StepError {
+        StepError::OutOfMemory
+    }
+}
+
+impl From<BookError> for StepError {
+    ghost from_gives = { λ refusal e. e ≡ of_book refusal };
+
+    fn from(refusal: BookError) -> StepError {
+        match refusal {
+            BookError::OutOfMemory => StepError::OutOfMemory,
+            other => StepError::Book(other),
+        }
+    }
 }

@@ -12,6 +12,7 @@ pub fn every_step_is_safe()
     fw_names::laws::one_name();
     fw_names::laws::spelling_size();
     fw_apdu::laws::one_request();
+    fw_image::laws::joined_size();
 }
 
 /// What is kept makes the steps of the world that it is.
@@ -38,4 +39,5 @@ pub fn every_run_is_safe()
     fw_names::laws::one_name();
     fw_names::laws::spelling_size();
     fw_apdu::laws::one_request();
+    fw_image::laws::joined_size();
 }

@@ -4,9 +4,19 @@
 mod activation;
 mod datagram;
 mod error;
+mod event;
 pub mod laws;
+mod lists;
+mod opening;
+mod runs;
 mod seat;
+mod setup;
+mod world;
 
 pub use activation::Activation;
 pub use datagram::{Actor, Datagram, Direction};
-pub use error::SetupError;
+pub use error::{SetupError, StepError};
+pub use event::Event;
+pub use runs::{RunError, run};
+pub use setup::{HeadSetup, MAX_HEADS, MAX_METERS, MeterSetup, Setup};
+pub use world::World;

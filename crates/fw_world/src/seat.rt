@@ -1,19 +1,47 @@
 //! The meters of a world, which stop and start again.
 
-ghost use Rattle.std.specs.Prelude.{◌≡◌, true, IsTrue, IfOk, OnOk, OnErr};
+ghost use Rattle.std.specs.Prelude.{◌≡◌, true, IsTrue, IsErrOf, IfSome, IfOk, OnOk, OnErr, length, is_some};
+ghost use Rattle.std.specs.Option.{option_map};
+ghost use Rattle.fw_image.specs.Fits.{IsFit};
 ghost use Rattle.fw_image.specs.Fresh.{fresh_meter};
-ghost use Rattle.fw_image.specs.Meter.{Meter, reopened};
+ghost use Rattle.fw_image.specs.Meter.{Image, Meter, reopened};
 ghost use Rattle.fw_image.specs.Step.{Turn};
 ghost use Rattle.fw_store.specs.Setup.{IsSetup};
 ghost use Rattle.fw_meter.specs.Handling.{Handles, reply_bytes};
 ghost use Rattle.fw_meter.specs.Laws.{Stops};
+ghost use Rattle.fw_world.specs.Inside.{IsSound, HasRoom, switched_name};
 
 use crate::error::SetupError;
-use fw_meter::{Handled, MeterCore, OutOfMemory};
+use fw_image::TransferStatus;
+use fw_meter::{MeterCore, OutOfMemory};
 use fw_names::ImageName;
 use fw_store::MemoryStore;
 use std::alloc::Global;
 use std::marker::Model;
+
+/// An image that a meter switched to.
+#[derive(Drop)]
+pub(crate) struct Switched {
+    pub(crate) name: ImageName,
+    pub(crate) bytes: Vec<u8>,
+}
+
+impl Model for Switched {
+    ghost use Rattle.fw_image.specs.Meter.{Image};
+
+    ghost Value = { Image };
+
+    ghost view = { λ s. record { name = s.name; bytes = s.bytes.items } };
+}
+
+/// What a meter did with a datagram.
+#[derive(Drop)]
+pub(crate) struct Served {
+    /// The datagram to send back to where the other came from.
+    pub(crate) reply: Option<Vec<u8>>,
+    /// The image that runs from now on, where the datagram switched to it.
+    pub(crate) switched: Option<Switched>,
+}
 
 /// A meter over a store in memory, which fails only while the meter is being stopped.
 #[derive(Drop)]
@@ -46,6 +74,7 @@ impl Seat {
     ) -> Result<Seat, SetupError>
         ensures fresh { IfOk result (λ meter. meter ≡ fresh_meter block_size capacity factory.now) }
         ensures setup { OnOk result (IsSetup block_size capacity factory.now) }
+        ensures bad_setup { IsErrOf result SetupError.BadSetup → ¬ IsSetup block_size capacity factory.now }
     {
         fw_image::laws::fresh_is_meter();
         let store = match MemoryStore::new(alloc, capacity, block_size, factory) {
@@ -59,14 +88,34 @@ impl Seat {
         }
     }
 
-    /// Handles a datagram whole.
-    pub(crate) fn handle(&mut self, alloc: Global, datagram: &[u8]) -> Result<Handled, OutOfMemory>
-        ensures handled { IfOk result (λ h. Handles true IsTrue self.old datagram.now (reply_bytes h.reply) h.activated self.new) }
+    /// The meter.
+    pub(crate) fn core(&self) -> &MeterCore<MemoryStore>
+        ensures meter { result.now.meter ≡ self.now }
+        ensures sound { IsSound result.now }
+    {
+        match &self.core {
+            Some(core) => core,
+            None => unreachable!(),
+        }
+    }
+
+    /// Handles a datagram whole. All memory is taken before the meter is changed.
+    pub(crate) fn handle(&mut self, alloc: Global, datagram: &[u8]) -> Result<Served, OutOfMemory>
+        ensures handled { IfOk result (λ s. Handles true IsTrue self.old datagram.now (reply_bytes s.reply) (switched_name s.switched) self.new) }
+        ensures switched { IfOk result (λ s. IfSome s.switched (λ image. image ≡ self.new.running)) }
         ensures same { OnErr result (self.new ≡ self.old) }
     {
         fw_meter::laws::faultless();
+        fw_image::laws::joined_size();
         match &mut self.core {
-            Some(core) => core.handle(alloc, datagram),
+            Some(core) => {
+                let room = room_for(alloc, core)?;
+                let handled = core.handle(alloc, datagram)?;
+                Ok(Served {
+                    reply: handled.reply,
+                    switched: running(core, handled.activated, room),
+                })
+            }
             None => unreachable!(),
         }
     }
@@ -94,21 +143,23 @@ impl Seat {
         }
     }
 
-    /// Stops while it handles a datagram, once its store was called so often, and starts again. The answer is the name of the
-    /// image that it switched to before it stopped.
+    /// Stops while it handles a datagram, once its store was called so often, and starts again. The answer is the image that it
+    /// switched to before it stopped. All memory is taken before the meter is changed.
     pub(crate) fn stop(
         &mut self,
         alloc: Global,
         datagram: &[u8],
         calls: u64,
         torn: u8,
-    ) -> Result<Option<ImageName>, OutOfMemory>
-        ensures stopped { IfOk result (λ name. (after : Meter) × Stops self.old datagram.now name after × (self.new ≡ reopened after)) }
+    ) -> Result<Option<Switched>, OutOfMemory>
+        ensures stopped { IfOk result (λ switched. (after : Meter) × Stops self.old datagram.now (switched_name switched) after
+            × (self.new ≡ reopened after)) }
+        ensures switched { IfOk result (λ switched. IfSome switched (λ image. image ≡ self.new.running)) }
         ensures same { OnErr result (self.new ≡ self.old) }
     {
-        let activated = self.cut(alloc, datagram, calls, torn)?;
+        let switched = self.cut(alloc, datagram, calls, torn)?;
         self.restart();
-        Ok(activated)
+        Ok(switched)
     }
 
     /// Handles a datagram as far as so many calls of the store go.
@@ -118,19 +169,55 @@ impl Seat {
         datagram: &[u8],
         calls: u64,
         torn: u8,
-    ) -> Result<Option<ImageName>, OutOfMemory>
-        ensures stopped { IfOk result (λ name. Stops self.old datagram.now name self.new) }
+    ) -> Result<Option<Switched>, OutOfMemory>
+        ensures stopped { IfOk result (λ switched. Stops self.old datagram.now (switched_name switched) self.new) }
+        ensures switched { IfOk result (λ switched. IfSome switched (λ image. image ≡ self.new.running)) }
         ensures same { OnErr result (self.new ≡ self.old) }
     {
         fw_meter::laws::fault_is_stop();
+        fw_image::laws::joined_size();
         match &mut self.core {
             Some(core) => {
+                let room = room_for(alloc, core)?;
                 core.fuse(calls, torn);
                 let handled = core.handle(alloc, datagram);
                 core.unfuse();
-                Ok(handled?.activated)
+                Ok(running(core, handled?.activated, room))
             }
             None => unreachable!(),
         }
+    }
+}
+
+/// Room for the image that a meter may switch to: as many bytes as it has where it was verified, and else none.
+fn room_for(alloc: Global, core: &MeterCore<MemoryStore>) -> Result<Vec<u8>, OutOfMemory>
+    ensures room { IfOk result (λ room. HasRoom core.now.meter room.items) }
+    ensures fits { IsFit core.now.meter }
+{
+    let view = core.view();
+    let size = match (view.status, view.goal) {
+        (TransferStatus::VerificationSuccessful, Some(goal)) => goal.size,
+        _ => 0,
+    };
+    Ok(vec![in alloc; 0; size as usize]?)
+}
+
+/// The image that a meter switched to, if it did, in room of its size.
+fn running(
+    core: &mut MeterCore<MemoryStore>,
+    activated: Option<ImageName>,
+    mut room: Vec<u8>,
+) -> Option<Switched>
+    requires sound { IsSound core.old }
+    requires room { IfSome activated (λ name. length room.items ≡ length core.old.meter.running.bytes) }
+    ensures name { switched_name result ≡ activated }
+    ensures bytes { IfSome result (λ image. image.bytes ≡ core.old.meter.running.bytes) }
+    ensures meter { core.new.meter ≡ core.old.meter }
+    ensures sound { IsSound core.new }
+{
+    let name = activated?;
+    match core.read_running(&mut room) {
+        Ok(()) => Some(Switched { name, bytes: room }),
+        Err(_) => unreachable!(),
     }
 }

@@ -3,6 +3,7 @@ use Rattle.fw_axdr.specs.Bits.{packed}
 use Rattle.fw_image.specs.Stored.{seen, phase_of}
 use Rattle.fw_image.specs.Meter.{status_of}
 use Rattle.fw_image.specs.State.{State}
+use Rattle.fw_image.proofs.Fits.{fit_at}
 use Rattle.fw_image.proofs.Meters.{seen_size, shown_at, goal_at, goal_again}
 use Rattle.fw_image.proofs.Openings.{marks_shown}
 use Rattle.fw_image.proofs.held.Held.view.Goals as goal
@@ -22,3 +23,10 @@ returns-clause-view g c =
       goal = sym (goal_at c.self.inside.digesting (phase_of h.status h.goal) ∙ goal_again h.status h.goal valid.goal_by_status);
       marked = c.to_bytes.ensures.value ∙ ap packed (sym (marks_shown (s.capacity store) h valid));
     })
+
+pub returns-clause-fits : goal.returns-clause-fits
+returns-clause-fits g c =
+    let s = g.S.ImageStore in
+    let store = c.self.inside.store in
+    let sized = seen_size (s.honest store) (s.capacity store) (s.device store) (g.met.S.ImageStore.sized store) in
+    rw (← c.self.view_is) (fit_at c.cut_size.ensures (s.capacity store) c.self.inside.header c.self.inside.digesting (seen (s.honest store) (s.capacity store) (s.device store)) c.self.invariant.held.valid sized)

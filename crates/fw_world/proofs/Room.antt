@@ -1,0 +1,54 @@
+-- There is room for an image that a meter switches to.
+use Rattle.std.proofs.Common.{◌≡◌, ℕ, Bool, true, List, length, Option, Some, None, inl, inr, refl, sym, ◌∙◌, ap, subst}
+use Rattle.fw_names.specs.Name.{Name}
+use Rattle.fw_store.specs.Header.{goal_count}
+use Rattle.fw_store.specs.declared.header.Goal.{Goal}
+use Rattle.fw_server.specs.Meaning as meaning
+use Rattle.fw_server.specs.Meaning.{Meaning, meaning_of}
+use Rattle.fw_image.specs.Fits.{IsFit}
+use Rattle.fw_image.specs.Laws.{JoinedSize}
+use Rattle.fw_image.specs.Meter.{Meter, sealed, status_of, goal_of, joined, goal_bytes, IsGenuine, IsTrusted}
+use Rattle.fw_image.specs.Step as image
+use Rattle.fw_image.specs.Step.{OperationOutcome, done, refused, verification_initiated, Admits, switched_to, Step}
+use Rattle.fw_meter.specs.Step.{MeterResult, MeterStep, activation_of}
+use Rattle.fw_meter.specs.Handling.{Handles}
+use Rattle.fw_world.specs.Inside.{HasRoom}
+use Rattle.fw_world.proofs.Meters.{admits_activate, genuine_bytes, switches}
+use Rattle.fw_world.proofs.Handled.{activate_switches}
+
+module _ (sizes : JoinedSize) (old new : Meter) (fits : IsFit old) (trusted : IsTrusted old) (room : List ℕ) (has : HasRoom old room) where
+  switched_room : Admits old old.phase image.activate → new ≡ switched_to old old.phase (goal_bytes old) → length room ≡ length new.running.bytes
+  switched_room admits is =
+      let is_sealed = admits_activate old old.phase admits in
+      let goal : Goal = is_sealed.0 in
+      let phase : old.phase ≡ sealed goal = is_sealed.1 in
+      let goal_is : goal_of old.phase ≡ Some goal = ap goal_of phase in
+      let genuine : IsGenuine (Some goal) (goal_bytes old) =
+      subst (λ (o : Option Goal). IsGenuine o (goal_bytes old)) goal_is (trusted.verified (ap status_of phase)) in
+      let bytes = genuine_bytes goal (goal_bytes old) genuine in
+      let whole : joined old.cells (goal_count old.block_size (Some goal)) ≡ Some bytes.0 =
+      ap (λ (o : Option Goal). joined old.cells (goal_count old.block_size o)) (sym goal_is) ∙ bytes.1 in
+      let size : length bytes.0 ≡ goal.size = sizes old.block_size goal.size old.cells bytes.0 fits.block_begins (fits.cells goal goal_is) whole in
+      let same : new ≡ switched_to old (sealed goal) (Some bytes.0) = is ∙ (λ i. switched_to old (phase i) (bytes.1 i)) in
+      has goal phase ∙ sym size ∙ sym (ap (λ (m : Meter). length m.running.bytes) same)
+
+  outcome_room : (made : OperationOutcome) (name : Name) → Step true old image.activate made new → switches image.activate made new ≡ Some name → length room ≡ length new.running.bytes
+  outcome_room done name (inl h) e = let told = h.told in absurd cc
+  outcome_room done name (inr h) e = switched_room h.serves.1 (h.does.is refl)
+  outcome_room (refused r) name step e = absurd cc
+  outcome_room verification_initiated name step e = absurd cc
+
+  step_room : (asked : Meaning) (result : MeterResult) (name : Name) → MeterStep true old asked result new → activation_of asked result new ≡ Some name → length room ≡ length new.running.bytes
+  step_room (meaning.read reading) result name h e = absurd cc
+  step_room (meaning.refused refusal) result name h e = absurd cc
+  step_room (meaning.enable b) result name h e = absurd cc
+  step_room (meaning.initiate identifier size) result name h e = absurd cc
+  step_room (meaning.block number bytes) result name h e = absurd cc
+  step_room meaning.verify result name h e = absurd cc
+  step_room meaning.activate result name (made, step, told) e =
+      outcome_room made name step (sym (activate_switches new made) ∙ ap (λ (r : MeterResult). activation_of meaning.activate r new) (sym told) ∙ e)
+
+  pub handled_room : (Faults : Bool → Type 0) (datagram : List ℕ) (reply : Option (List ℕ)) (activated : Option Name) → Handles true Faults old datagram reply activated new
+      → (name : Name) → activated ≡ Some name → length room ≡ length new.running.bytes
+  handled_room Faults datagram reply activated (inl h) name e = step_room (meaning_of h.content) h.responds.result name h.responds.steps (sym h.responds.activates ∙ e)
+  handled_room Faults datagram reply activated (inr h) name e = let none = h.none_activated in absurd cc

@@ -1,0 +1,33 @@
+//! What happens in a world.
+
+use fw_names::{CampaignId, HeadId, MeterId};
+
+/// An event. Datagrams are named by their places in the list of all that were sent, from 0 on.
+#[derive(Debug, Drop)]
+pub enum Event {
+    /// A head end opens a campaign of its own: it offers the image to the meters.
+    OpenCampaign {
+        campaign: CampaignId,
+        image: Vec<u8>,
+        meters: Vec<MeterId>,
+    },
+    /// A head end cancels a campaign of its own.
+    CancelCampaign(CampaignId),
+    /// A head end sends to a meter what it has for it now.
+    Tick(HeadId, MeterId),
+    /// A datagram comes to its addressee.
+    Deliver(usize),
+    /// A datagram comes to its meter, which stops behind so many calls of its store and starts again. Its reply is lost. Where it
+    /// stops in writing a block, the second half of the block is left with this byte.
+    Stop {
+        datagram: usize,
+        calls: u64,
+        torn: u8,
+    },
+    /// A meter starts again.
+    RestartMeter(MeterId),
+    /// A head end starts again.
+    RestartHead(HeadId),
+    /// A meter goes on with what it verifies.
+    Turn(MeterId),
+}

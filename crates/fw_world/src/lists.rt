@@ -1,0 +1,86 @@
+//! What is appended to the lists of a world, for which there is room, and what is looked up in its maps.
+
+ghost use Rattle.std.specs.Prelude.{◌≡◌, ◌+◌, ◌≤◌, ◌<◌, ◌++◌, ◌∷◌, [], is_none, not, nat_eq, length};
+ghost use Rattle.std.specs.List.{list_any};
+ghost use Rattle.std.specs.Map.{lookup};
+ghost use Rattle.std.specs.Vec.{vec_len, vec_capacity};
+ghost use Rattle.fw_head.specs.Row.{bytes_of};
+ghost use Rattle.fw_meter.specs.Handling.{reply_bytes};
+ghost use Rattle.fw_world.specs.Inside.{noted, replied};
+ghost use Rattle.fw_world.specs.State.{sent_to};
+
+use crate::activation::Activation;
+use crate::datagram::{Datagram, Direction};
+use crate::seat::{Seat, Switched};
+use fw_names::{HeadId, MeterId};
+use indexmap::IndexMap;
+
+/// Whether each of these meters is there.
+pub(crate) fn all_there(seats: &IndexMap<u32, Seat>, meters: &[MeterId]) -> bool
+    ensures { result ≡ not (list_any (λ meter. is_none (lookup (nat_eq meter) seats.now.entries)) meters.now) }
+{
+    !meters
+        .iter()
+        .any(|meter| !seats.contains_key(&meter.number()))
+}
+
+/// Appends one, for which there is room.
+fn append<T>(list: &mut Vec<T>, item: T)
+    requires { vec_len list.old < vec_capacity list.old }
+    ensures items { list.new.items ≡ list.old.items ++ item ∷ [] }
+    ensures len { vec_len list.new ≡ vec_len list.old + 1 }
+    ensures capacity { vec_capacity list.old ≤ vec_capacity list.new }
+{
+    match list.push(item) {
+        Ok(()) => {}
+        Err(_) => unreachable!(),
+    }
+}
+
+/// Notes what a head end sends to a meter.
+pub(crate) fn send(sent: &mut Vec<Datagram>, head: HeadId, meter: MeterId, sends: Vec<Vec<u8>>)
+    requires { vec_len sent.old + length sends.items ≤ vec_capacity sent.old }
+    ensures { sent.new.items ≡ sent.old.items ++ sent_to head meter (bytes_of sends.items) }
+{
+    for bytes in sends {
+        append(
+            sent,
+            Datagram {
+                head,
+                meter,
+                direction: Direction::ToMeter,
+                bytes,
+            },
+        );
+    }
+}
+
+/// Notes what a meter replies to a head end, if it does.
+pub(crate) fn reply(sent: &mut Vec<Datagram>, head: HeadId, meter: MeterId, reply: Option<Vec<u8>>)
+    requires { vec_len sent.old < vec_capacity sent.old }
+    ensures { sent.new.items ≡ sent.old.items ++ replied head meter (reply_bytes reply) }
+{
+    let Some(bytes) = reply else {
+        return;
+    };
+    append(
+        sent,
+        Datagram {
+            head,
+            meter,
+            direction: Direction::ToHead,
+            bytes,
+        },
+    );
+}
+
+/// Notes the image that a meter switched to, if it did.
+pub(crate) fn note(activations: &mut Vec<Activation>, meter: MeterId, switched: Option<Switched>)
+    requires { vec_len activations.old < vec_capacity activations.old }
+    ensures { activations.new.items ≡ activations.old.items ++ noted meter switched }
+{
+    let Some(Switched { name, bytes }) = switched else {
+        return;
+    };
+    append(activations, Activation { meter, name, bytes });
+}

@@ -1,0 +1,60 @@
+//! A run of a world over a list of events.
+
+ghost use Rattle.std.specs.Prelude.{◌≡◌, IfErr, IfOk, map, take};
+ghost use Rattle.fw_world.specs.Headline.{IsFirstName, InitiatesAreOffered, NamesAreOwn, GoalsAreOffered, ActivationsAreSafe, ActivationsAreEqual};
+ghost use Rattle.fw_world.specs.Runs.{EndsIn, IsStopped, IsUnmade, events_of};
+ghost use Rattle.fw_world.specs.Setup.{opening_state};
+ghost use Rattle.fw_world.specs.State.{StateRun, world_of};
+ghost use Rattle.fw_world.specs.Step.{Run};
+
+use crate::error::{SetupError, StepError};
+use crate::event::Event;
+use crate::laws;
+use crate::setup::Setup;
+use crate::world::World;
+use std::alloc::Global;
+
+/// Why a run did not reach the end of its events.
+#[derive(Drop)]
+pub enum RunError {
+    /// No world was made.
+    Setup(SetupError),
+    /// The event at this place, counted from 0, was refused for this cause. The world is that of the events before it.
+    Event {
+        at: usize,
+        world: World,
+        cause: StepError,
+    },
+}
+
+/// Makes a world, and all events in it, in their order, up to the first one that is refused.
+///
+/// The clauses `initiates`, `names`, `goals`, `activations` and `equal` are what the product is for. They hold of the world at the
+/// end, and of that before the first event that is refused: whatever a meter switched to is the image that the campaign in its
+/// name offers, and a meter that is done switched to the image of that campaign.
+///
+/// # Errors
+///
+/// `Setup` where no world was made, and `Event` where an event was refused.
+pub fn run(alloc: Global, setup: &Setup, events: &[Event]) -> Result<World, RunError>
+    ensures runs { IfOk result (λ w. StateRun (opening_state setup.now) (events_of events.now) w) }
+    ensures world { IfOk result (λ w. Run (world_of (opening_state setup.now)) (events_of events.now) (world_of w)) }
+    ensures stopped { IfErr result (IsStopped setup.now events.now) }
+    ensures initiates { EndsIn result (λ w. InitiatesAreOffered (world_of w)) }
+    ensures names { EndsIn result (λ w. NamesAreOwn (IsFirstName (world_of (opening_state setup.now))) (world_of w)) }
+    ensures goals { EndsIn result (λ w. GoalsAreOffered (world_of w)) }
+    ensures activations { EndsIn result (λ w. ActivationsAreSafe (world_of w)) }
+    ensures equal { EndsIn result (λ w. ActivationsAreEqual (world_of w)) }
+{
+    laws::every_run_is_safe();
+    let mut world = match World::new(alloc, setup) {
+        Ok(world) => world,
+        Err(error) => return Err(RunError::Setup(error)),
+    };
+    for at in 0..events.len() {
+        if let Err(cause) = world.step(alloc, &events[at]) {
+            return Err(RunError::Event { at, world, cause });
+        }
+    }
+    Ok(world)
+}

@@ -1,0 +1,96 @@
+//! What a world is made with.
+
+ghost use Rattle.std.specs.Prelude.{◌≡◌, ◌↔◌, IsTrue, SomeIff};
+ghost use Rattle.fw_blocks.specs.Width.{IsWidth};
+ghost use Rattle.fw_world.specs.Setup.{IsSetup, number_of_head, number_of_meter, repeats};
+
+use fw_blocks::Width;
+use fw_names::{HeadId, MeterId};
+use fw_store::is_setup;
+
+/// The most head ends of a world.
+pub const MAX_HEADS: usize = 16;
+
+/// The most meters of a world.
+pub const MAX_METERS: usize = 256;
+
+/// A head end of a world.
+#[derive(Clone, Copy, Debug, Drop)]
+pub struct HeadSetup {
+    /// Its number.
+    pub head: HeadId,
+    /// How many blocks it sends at a time, 1 to 15.
+    pub width: u32,
+}
+
+/// A meter of a world.
+#[derive(Debug, Drop)]
+pub struct MeterSetup {
+    /// Its number.
+    pub meter: MeterId,
+    /// The bytes of a block, 1 to 1,024.
+    pub block_size: u32,
+    /// The bytes of a slot of its store, 1 to 4,194,304.
+    pub capacity: u32,
+    /// The image that it is made with, of 1 to `capacity` bytes.
+    pub factory: Vec<u8>,
+}
+
+/// What a world is made with: 1 to 16 head ends and 1 to 256 meters, in their order. The numbers of the head ends are distinct,
+/// and so are those of the meters.
+#[derive(Debug, Drop)]
+pub struct Setup {
+    pub heads: Vec<HeadSetup>,
+    pub meters: Vec<MeterSetup>,
+}
+
+impl Setup {
+    /// Whether a world can be made so.
+    pub(crate) fn is_valid(&self) -> bool
+        ensures { IsTrue result ↔ IsSetup self.now }
+    {
+        let heads = self.heads.as_slice();
+        let meters = self.meters.as_slice();
+        (1..=MAX_HEADS).contains(&heads.len())
+            && (1..=MAX_METERS).contains(&meters.len())
+            && heads.iter().all(|head| width_of(head.width).is_some())
+            && !heads_repeat(heads)
+            && !meters_repeat(meters)
+            && meters.iter().all(|meter| is_setup(meter.capacity, meter.block_size, &meter.factory))
+    }
+}
+
+/// The width of this number, and `None` for 0 and above 15.
+pub(crate) fn width_of(number: u32) -> Option<Width>
+    ensures { SomeIff result (IsWidth number) number }
+{
+    Width::new(u8::try_from(number).ok()?)
+}
+
+/// Whether two head ends have one number.
+fn heads_repeat(heads: &[HeadSetup]) -> bool
+    ensures { result ≡ repeats number_of_head heads.now }
+{
+    let mut rest = heads;
+    while let Some((first, others)) = rest.split_first() {
+        if others.iter().any(|other| other.head == first.head) {
+            return true;
+        }
+        rest = others;
+    }
+    false
+}
+
+/// Whether two meters have one number.
+fn meters_repeat(meters: &[MeterSetup]) -> bool
+    ensures { result ≡ repeats number_of_meter meters.now }
+{
+    let mut rest = meters;
+    while let Some((first, others)) = rest.split_first() {
+        if others.iter().any(|other| other.meter == first.meter) {
+            return true;
+        }
+        rest = others;
+    }
+    false
+}
