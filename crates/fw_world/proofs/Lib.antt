@@ -8,4 +8,9 @@ mod Events
 mod Kept
 pub mod Refinement
 mod Making
+mod Openings
+mod Following
+mod Places
+mod Refusing
+mod Delivered
 mod NewStores

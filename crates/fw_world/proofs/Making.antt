@@ -1,7 +1,7 @@
 -- Head ends and meters that are made one after another, each behind a number of its own.
 use Rattle.std.proofs.Common.{◌≡◌, ℕ, Bool, true, false, ◌||◌, ◌==◌, cond, nat_eq, List, [], ◌∷◌, ◌++◌, map, Option, Some, None, refl, sym, ap, subst, ◌∙◌, append_assoc, eqb-true}
 use Rattle.std.proofs.lemmas.List.{append-nil}
-use Rattle.std.proofs.lemmas.Bool.Decides.{nat_tests}
+use Rattle.std.proofs.lemmas.Bool.Decides.{Decides-eqb}
 use Rattle.std.specs.List.{list_any}
 use Rattle.std.specs.Map.{lookup}
 use Rattle.fw_world.specs.Setup.{repeats}
@@ -10,16 +10,21 @@ or_false : (a b : Bool) → (a || b) ≡ false → (a ≡ false) × (b ≡ false
 or_false true b e = absurd cc
 or_false false b e = (refl, e)
 
+or_true : (a b : Bool) → b ≡ true → (a || b) ≡ true
+or_true true b e = refl
+or_true false b e = e
+
 same_number : (n : ℕ) → (n == n) ≡ true
-same_number n = grind nat_tests
+same_number n = (Decides-eqb n n).1 refl
+
+-- one that isn't there is behind the first
+behind : {V : Type 0} (b : Bool) (first : V) (rest more : Option V) → cond b (Some first) rest ≡ None → (rest ≡ None → more ≡ None) → cond b (Some first) more ≡ None
+behind true first rest more none f = absurd cc
+behind false first rest more none f = f none
 
 lookup_last : {V : Type 0} (n m : ℕ) (v : V) (made : List (ℕ × V)) → nat_eq n m ≡ false → lookup (nat_eq n) made ≡ None → lookup (nat_eq n) (made ++ (m, v) ∷ []) ≡ None
 lookup_last n m v [] other none = ap (λ (b : Bool). cond b (Some v) None) other
-lookup_last n m v (entry ∷ entries) other none = go (nat_eq n entry.0) refl none
-  where
-    go : (b : Bool) → nat_eq n entry.0 ≡ b → cond b (Some entry.1) (lookup (nat_eq n) entries) ≡ None → cond (nat_eq n entry.0) (Some entry.1) (lookup (nat_eq n) (entries ++ (m, v) ∷ [])) ≡ None
-    go true is e = absurd cc
-    go false is e = ap (λ (b : Bool). cond b (Some entry.1) (lookup (nat_eq n) (entries ++ (m, v) ∷ []))) is ∙ lookup_last n m v entries other e
+lookup_last n m v (entry ∷ entries) other none = behind (nat_eq n entry.0) entry.1 (lookup (nat_eq n) entries) (lookup (nat_eq n) (entries ++ (m, v) ∷ [])) none (lookup_last n m v entries other)
 
 module _ {A V : Type 0} (number : A → ℕ) (value : A → V) where
   -- what is made and what is left are the whole; no number stands twice in what is left, and none of these is made
@@ -40,8 +45,8 @@ module _ {A V : Type 0} (number : A → ℕ) (value : A → V) where
   makes : (all : List A) (x : A) (others : List A) (made : List (ℕ × V)) → IsMaking all (x ∷ others) made → IsMaking all others (made ++ (number x, value x) ∷ [])
   makes all x others made is = record {
     whole = append_assoc made ((number x, value x) ∷ []) (map (λ y. (number y, value y)) others) ∙ is.whole;
-    once = (or_false _ _ is.once).1;
-    unmade = λ n there. lookup_last n (number x) (value x) made (other n there) (is.unmade n (behind n there));
+    once = (or_false (list_any (λ y. number y == number x) others) (repeats number others) is.once).1;
+    unmade = λ n there. lookup_last n (number x) (value x) made (other n there) (is.unmade n (later n there));
   }
     where
       other : (n : ℕ) → list_any (λ y. number y == n) others ≡ true → nat_eq n (number x) ≡ false
@@ -51,16 +56,12 @@ module _ {A V : Type 0} (number : A → ℕ) (value : A → V) where
           go true e =
               let same : n ≡ number x = eqb-true n (number x) e in
               let again : list_any (λ y. number y == number x) others ≡ true = subst (λ (m : ℕ). list_any (λ y. number y == m) others ≡ true) same there in
-              let none = (or_false _ _ is.once).0 in
+              let none : list_any (λ y. number y == number x) others ≡ false = (or_false (list_any (λ y. number y == number x) others) (repeats number others) is.once).0 in
               absurd cc
           go false e = refl
 
-      behind : (n : ℕ) → list_any (λ y. number y == n) others ≡ true → list_any (λ y. number y == n) (x ∷ others) ≡ true
-      behind n there = or_true (number x == n) _ there
-        where
-          or_true : (a b : Bool) → b ≡ true → (a || b) ≡ true
-          or_true true b e = refl
-          or_true false b e = e
+      later : (n : ℕ) → list_any (λ y. number y == n) others ≡ true → list_any (λ y. number y == n) (x ∷ others) ≡ true
+      later n there = or_true (number x == n) (list_any (λ y. number y == n) others) there
 
   pub goes_on : (all : List A) (x : A) (rest others : List A) (made new : List (ℕ × V)) → rest ≡ x ∷ others → new ≡ made ++ (number x, value x) ∷ [] → IsMaking all rest made → IsMaking all others new
   goes_on all x rest others made new next added is =

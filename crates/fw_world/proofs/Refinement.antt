@@ -74,7 +74,7 @@ pub record HeadAt (old : State) (number : ℕ) (before after : Head) (q : ℕ) :
   pub then : head_at (set_head old number after) q ≡ Some after
   pub was : head_at old q ≡ Some before
 
-head_cases : (old : State) (number : ℕ) (before after : Head) → head_at old number ≡ Some before → (q : ℕ)
+pub head_cases : (old : State) (number : ℕ) (before after : Head) → head_at old number ≡ Some before → (q : ℕ)
     → HeadAt old number before after q ⊎ ((q ≢ number) × (head_at (set_head old number after) q ≡ head_at old q))
 head_cases old number before after there q =
     let found = found_set number q before after old.heads there in

@@ -1,5 +1,6 @@
 -- There is room for an image that a meter switches to.
-use Rattle.std.proofs.Common.{◌≡◌, ℕ, Bool, true, List, length, Option, Some, None, inl, inr, refl, sym, ◌∙◌, ap, subst}
+use Rattle.std.proofs.Common.{◌≡◌, ℕ, zero, suc, Bool, true, List, length, Option, Some, None, inl, inr, refl, sym, ◌∙◌, ap, subst}
+use Rattle.std.specs.Prelude.{IfSome}
 use Rattle.fw_names.specs.Name.{Name}
 use Rattle.fw_store.specs.Header.{goal_count}
 use Rattle.fw_store.specs.declared.header.Goal.{Goal}
@@ -7,12 +8,12 @@ use Rattle.fw_server.specs.Meaning as meaning
 use Rattle.fw_server.specs.Meaning.{Meaning, meaning_of}
 use Rattle.fw_image.specs.Fits.{IsFit}
 use Rattle.fw_image.specs.Laws.{JoinedSize}
-use Rattle.fw_image.specs.Meter.{Meter, sealed, status_of, goal_of, joined, goal_bytes, IsGenuine, IsTrusted}
+use Rattle.fw_image.specs.Meter.{Image, Meter, sealed, status_of, goal_of, joined, goal_bytes, IsGenuine, IsTrusted}
 use Rattle.fw_image.specs.Step as image
 use Rattle.fw_image.specs.Step.{OperationOutcome, done, refused, verification_initiated, Admits, switched_to, Step}
-use Rattle.fw_meter.specs.Step.{MeterResult, MeterStep, activation_of}
+use Rattle.fw_meter.specs.Step.{MeterResult, got, coded, MeterStep, activation_of}
 use Rattle.fw_meter.specs.Handling.{Handles}
-use Rattle.fw_world.specs.Inside.{HasRoom}
+use Rattle.fw_world.specs.Inside.{HasRoom, IsRunning, switched_name}
 use Rattle.fw_world.proofs.Meters.{admits_activate, genuine_bytes, switches}
 use Rattle.fw_world.proofs.Handled.{activate_switches}
 
@@ -52,3 +53,32 @@ module _ (sizes : JoinedSize) (old new : Meter) (fits : IsFit old) (trusted : Is
       → (name : Name) → activated ≡ Some name → length room ≡ length new.running.bytes
   handled_room Faults datagram reply activated (inl h) name e = step_room (meaning_of h.content) h.responds.result name h.responds.steps (sym h.responds.activates ∙ e)
   handled_room Faults datagram reply activated (inr h) name e = let none = h.none_activated in absurd cc
+
+pub each_some : {A : Type 0} (o : Option A) (P : A → Type 0) → ((x : A) → o ≡ Some x → P x) → IfSome o P
+each_some None P f = tt
+each_some (Some x) P f = f x refl
+
+-- ---- the name is that of the image that runs
+
+step_name : (new : Meter) (asked : Meaning) (result : MeterResult) (name : Name) → activation_of asked result new ≡ Some name → name ≡ new.running.name
+step_name new meaning.activate (coded zero) name e = cc
+step_name new meaning.activate (coded (suc n)) name e = absurd cc
+step_name new meaning.activate (got answer) name e = absurd cc
+step_name new (meaning.read reading) result name e = absurd cc
+step_name new (meaning.refused refusal) result name e = absurd cc
+step_name new (meaning.enable b) result name e = absurd cc
+step_name new (meaning.initiate identifier size) result name e = absurd cc
+step_name new (meaning.block number bytes) result name e = absurd cc
+step_name new meaning.verify result name e = absurd cc
+
+handled_name : (honest : Bool) (Faults : Bool → Type 0) (old new : Meter) (datagram : List ℕ) (reply : Option (List ℕ)) (activated : Option Name) → Handles honest Faults old datagram reply activated new
+    → (name : Name) → activated ≡ Some name → name ≡ new.running.name
+handled_name honest Faults old new datagram reply activated (inl h) name e = step_name new (meaning_of h.content) h.responds.result name (sym h.responds.activates ∙ e)
+handled_name honest Faults old new datagram reply activated (inr h) name e = let none = h.none_activated in absurd cc
+
+pub switched_runs : (honest : Bool) (Faults : Bool → Type 0) (old new : Meter) (datagram : List ℕ) (reply : Option (List ℕ)) (activated : Option Name) → Handles honest Faults old datagram reply activated new
+    → (switched : Option Image) → switched_name switched ≡ activated → IfSome switched (λ image. image.bytes ≡ new.running.bytes) → IsRunning switched new
+switched_runs honest Faults old new datagram reply activated h None named bytes = tt
+switched_runs honest Faults old new datagram reply activated h (Some image) named bytes =
+    let name : image.name ≡ new.running.name = handled_name honest Faults old new datagram reply activated h image.name (sym named) in
+    λ i. record { name = name i; bytes = bytes i }

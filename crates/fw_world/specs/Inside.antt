@@ -27,6 +27,11 @@ meter_in (Some state) = state.meter
 abbrev pub switched_name : Option Image → Option Name
 switched_name switched = option_map (λ (image : Image). image.name) switched
 
+-- which is the one that runs
+abbrev pub IsRunning : Option Image → Meter → Type 0
+IsRunning None m = Unit {0}
+IsRunning (Some image) m = image ≡ m.running
+
 -- there is room for the image that an activate would switch to
 abbrev pub HasRoom : Meter → List ℕ → Type 0
 HasRoom m room = (goal : Goal) → m.phase ≡ sealed goal → length room ≡ goal.size

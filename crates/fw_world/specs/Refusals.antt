@@ -1,6 +1,6 @@
 -- Public vocabulary: what an event is refused for, and which events may want memory.
-use Rattle.std.specs.Prelude.{◌≡◌, ℕ, ◌⊎◌, is_none, List, Option, Some, None, slice_get, if◌then◌else◌}
-use Rattle.std.specs.List.{list_any}
+use Rattle.std.specs.Prelude.{◌≡◌, ℕ, ◌⊎◌, is_some, List, Option, Some, None, slice_get, if◌then◌else◌}
+use Rattle.std.specs.List.{list_all}
 use Rattle.fw_book.specs.declared.error.BookError.{BookError}
 use Rattle.fw_book.specs.declared.error.BookError.TheVariants as book
 use Rattle.fw_book.specs.Changes.{opening_refusal, cancel_refusal}
@@ -48,7 +48,7 @@ no_stop s ToHead d = Some NoSuchActor
 -- the first refusal that applies; an opening is refused for its head end, then for its meters, and then by the book
 abbrev pub refusal_of : State → Event → Option StepError
 refusal_of s (open_campaign campaign image meters) = with_head (head_at s campaign.head) (λ head.
-    if list_any (λ meter. is_none (meter_at s meter)) meters then Some NoSuchActor else by_book (opening_refusal head.book campaign image meters))
+    if list_all (λ meter. is_some (meter_at s meter)) meters then by_book (opening_refusal head.book campaign image meters) else Some NoSuchActor)
 refusal_of s (cancel_campaign campaign) = with_head (head_at s campaign.head) (λ head. by_book (cancel_refusal head.book campaign))
 refusal_of s (tick head meter) = with_head (head_at s head) (λ head. with_meter (meter_at s meter))
 refusal_of s (deliver number) = with_datagram (slice_get s.sent number) (λ d. no_addressee s d.direction d)

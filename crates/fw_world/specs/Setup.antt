@@ -50,11 +50,18 @@ pub record IsSetup (setup : Setup) : Type 0 where
 
 -- ---- the world that it then is
 
+abbrev pub head_of : HeadSetup → Head
+head_of head = new_head head.head head.width
+
+abbrev pub meter_of : MeterSetup → Meter
+meter_of meter = fresh_meter meter.block_size meter.capacity meter.factory.items
+
+-- each behind its number
 abbrev pub head_entry : HeadSetup → ℕ × Head
-head_entry head = (head.head, new_head head.head head.width)
+head_entry head = (number_of_head head, head_of head)
 
 abbrev pub meter_entry : MeterSetup → ℕ × Meter
-meter_entry meter = (meter.meter, fresh_meter meter.block_size meter.capacity meter.factory.items)
+meter_entry meter = (number_of_meter meter, meter_of meter)
 
 -- nothing was opened, sent or switched to
 abbrev pub opening_state : Setup → State

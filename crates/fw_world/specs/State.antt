@@ -1,5 +1,5 @@
 -- Public vocabulary: the world as it is kept, with the head ends and their rows, and what each event makes of it.
-use Rattle.std.specs.Prelude.{◌≡◌, ◌↔◌, ◌≤◌, ℕ, nat_eq, true, false, Bool, IsTrue, List, ◌++◌, map, Option, Some, None, slice_get, All}
+use Rattle.std.specs.Prelude.{◌≡◌, ◌↔◌, ℕ, nat_eq, true, false, Bool, IsTrue, List, ◌++◌, map, Option, Some, None, slice_get, All}
 use Rattle.std.specs.Map.{lookup, set_value}
 use Rattle.std.specs.Option.{option_and_then}
 use Rattle.fw_names.specs.Name.{Campaign, Name, IsOpened}
@@ -39,10 +39,9 @@ set_head s number head = record s { heads = set_value (nat_eq number) s.heads he
 abbrev pub set_meter : State → ℕ → Meter → State
 set_meter s number meter = record s { meters = set_value (nat_eq number) s.meters meter }
 
--- each head end stands behind its own number, which begins at 1
+-- each head end stands behind its own number
 pub record IsState (s : State) : Type 0 where
   pub own : (number : ℕ) (head : Head) → head_at s number ≡ Some head → head.book.head ≡ number
-  pub begins : (number : ℕ) (head : Head) → head_at s number ≡ Some head → 1 ≤ number
 
 -- ---- the world that it is
 

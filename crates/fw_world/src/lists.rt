@@ -1,8 +1,9 @@
 //! What is appended to the lists of a world, for which there is room, and what is looked up in its maps.
 
-ghost use Rattle.std.specs.Prelude.{◌≡◌, ◌+◌, ◌≤◌, ◌<◌, ◌++◌, ◌∷◌, [], is_none, not, nat_eq, length};
-ghost use Rattle.std.specs.List.{list_any};
+ghost use Rattle.std.specs.Prelude.{◌≡◌, ◌+◌, ◌≤◌, ◌<◌, ◌++◌, ◌∷◌, [], is_some, nat_eq, length, slice_get};
+ghost use Rattle.std.specs.List.{list_all};
 ghost use Rattle.std.specs.Map.{lookup};
+ghost use Rattle.std.specs.Option.{option_copied};
 ghost use Rattle.std.specs.Vec.{vec_len, vec_capacity};
 ghost use Rattle.fw_head.specs.Row.{bytes_of};
 ghost use Rattle.fw_meter.specs.Handling.{reply_bytes};
@@ -17,11 +18,18 @@ use indexmap::IndexMap;
 
 /// Whether each of these meters is there.
 pub(crate) fn all_there(seats: &IndexMap<u32, Seat>, meters: &[MeterId]) -> bool
-    ensures { result ≡ not (list_any (λ meter. is_none (lookup (nat_eq meter) seats.now.entries)) meters.now) }
+    ensures { result ≡ list_all (λ meter. is_some (lookup (nat_eq meter) seats.now.entries)) meters.now }
 {
-    !meters
+    meters
         .iter()
-        .any(|meter| !seats.contains_key(&meter.number()))
+        .all(|meter| seats.contains_key(&meter.number()))
+}
+
+/// The datagram of this number, if one was sent.
+pub(crate) fn sent_at(sent: &[Datagram], number: usize) -> Option<&Datagram>
+    ensures { option_copied result ≡ slice_get sent.now number }
+{
+    sent.get(number)
 }
 
 /// Appends one, for which there is room.

@@ -1,15 +1,14 @@
 //! The meters of a world, which stop and start again.
 
-ghost use Rattle.std.specs.Prelude.{◌≡◌, true, IsTrue, IsErrOf, IfSome, IfOk, OnOk, OnErr, length, is_some};
-ghost use Rattle.std.specs.Option.{option_map};
+ghost use Rattle.std.specs.Prelude.{◌≡◌, true, IsTrue, IsErrOf, IfSome, IfOk, OnOk, OnErr, length};
 ghost use Rattle.fw_image.specs.Fits.{IsFit};
 ghost use Rattle.fw_image.specs.Fresh.{fresh_meter};
-ghost use Rattle.fw_image.specs.Meter.{Image, Meter, reopened};
+ghost use Rattle.fw_image.specs.Meter.{Meter, reopened, IsTrusted};
 ghost use Rattle.fw_image.specs.Step.{Turn};
 ghost use Rattle.fw_store.specs.Setup.{IsSetup};
 ghost use Rattle.fw_meter.specs.Handling.{Handles, reply_bytes};
 ghost use Rattle.fw_meter.specs.Laws.{Stops};
-ghost use Rattle.fw_world.specs.Inside.{IsSound, HasRoom, switched_name};
+ghost use Rattle.fw_world.specs.Inside.{IsSound, HasRoom, IsRunning, switched_name};
 
 use crate::error::SetupError;
 use fw_image::TransferStatus;
@@ -102,7 +101,7 @@ impl Seat {
     /// Handles a datagram whole. All memory is taken before the meter is changed.
     pub(crate) fn handle(&mut self, alloc: Global, datagram: &[u8]) -> Result<Served, OutOfMemory>
         ensures handled { IfOk result (λ s. Handles true IsTrue self.old datagram.now (reply_bytes s.reply) (switched_name s.switched) self.new) }
-        ensures switched { IfOk result (λ s. IfSome s.switched (λ image. image ≡ self.new.running)) }
+        ensures switched { IfOk result (λ s. IsRunning s.switched self.new) }
         ensures same { OnErr result (self.new ≡ self.old) }
     {
         fw_meter::laws::faultless();
@@ -154,7 +153,7 @@ impl Seat {
     ) -> Result<Option<Switched>, OutOfMemory>
         ensures stopped { IfOk result (λ switched. (after : Meter) × Stops self.old datagram.now (switched_name switched) after
             × (self.new ≡ reopened after)) }
-        ensures switched { IfOk result (λ switched. IfSome switched (λ image. image ≡ self.new.running)) }
+        ensures switched { IfOk result (λ switched. IsRunning switched self.new) }
         ensures same { OnErr result (self.new ≡ self.old) }
     {
         let switched = self.cut(alloc, datagram, calls, torn)?;
@@ -171,7 +170,7 @@ impl Seat {
         torn: u8,
     ) -> Result<Option<Switched>, OutOfMemory>
         ensures stopped { IfOk result (λ switched. Stops self.old datagram.now (switched_name switched) self.new) }
-        ensures switched { IfOk result (λ switched. IfSome switched (λ image. image ≡ self.new.running)) }
+        ensures switched { IfOk result (λ switched. IsRunning switched self.new) }
         ensures same { OnErr result (self.new ≡ self.old) }
     {
         fw_meter::laws::fault_is_stop();
@@ -193,6 +192,7 @@ impl Seat {
 fn room_for(alloc: Global, core: &MeterCore<MemoryStore>) -> Result<Vec<u8>, OutOfMemory>
     ensures room { IfOk result (λ room. HasRoom core.now.meter room.items) }
     ensures fits { IsFit core.now.meter }
+    ensures trusted { IsTrue core.now.honest → IsTrusted core.now.meter }
 {
     let view = core.view();
     let size = match (view.status, view.goal) {

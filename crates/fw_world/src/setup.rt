@@ -1,6 +1,7 @@
 //! What a world is made with.
 
-ghost use Rattle.std.specs.Prelude.{◌≡◌, ◌↔◌, IsTrue, SomeIff};
+ghost use Rattle.std.specs.Prelude.{◌≡◌, ◌↔◌, ◌==◌, IsTrue, SomeIff};
+ghost use Rattle.std.specs.List.{list_any};
 ghost use Rattle.fw_blocks.specs.Width.{IsWidth};
 ghost use Rattle.fw_world.specs.Setup.{IsSetup, number_of_head, number_of_meter, repeats};
 
@@ -73,7 +74,7 @@ fn heads_repeat(heads: &[HeadSetup]) -> bool
 {
     let mut rest = heads;
     while let Some((first, others)) = rest.split_first() {
-        if others.iter().any(|other| other.head == first.head) {
+        if has_head(others, first.head) {
             return true;
         }
         rest = others;
@@ -87,10 +88,24 @@ fn meters_repeat(meters: &[MeterSetup]) -> bool
 {
     let mut rest = meters;
     while let Some((first, others)) = rest.split_first() {
-        if others.iter().any(|other| other.meter == first.meter) {
+        if has_meter(others, first.meter) {
             return true;
         }
         rest = others;
     }
     false
+}
+
+/// Whether a head end has this number.
+fn has_head(heads: &[HeadSetup], number: HeadId) -> bool
+    ensures { result ≡ list_any (λ head. number_of_head head == number) heads.now }
+{
+    heads.iter().any(|head| head.head == number)
+}
+
+/// Whether a meter has this number.
+fn has_meter(meters: &[MeterSetup], number: MeterId) -> bool
+    ensures { result ≡ list_any (λ meter. number_of_meter meter == number) meters.now }
+{
+    meters.iter().any(|meter| meter.meter == number)
 }

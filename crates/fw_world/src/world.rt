@@ -1,14 +1,15 @@
 //! Head ends and meters, all datagrams that were ever sent, and all images that meters ever switched to.
 
-ghost use Rattle.std.specs.Prelude.{◌≡◌, IsErrOf, IfOk, IfErr, OnOk, OnErr, IfSome, Some, None, nat_eq};
+ghost use Rattle.std.specs.Prelude.{◌≡◌, ◌≤◌, IsErrOf, IfOk, IfErr, OnOk, OnErr, IfSome, Some, None};
 ghost use Rattle.std.specs.Option.{option_map};
+ghost use Rattle.fw_names.specs.Name.{IsOpened};
 
 use crate::activation::Activation;
 use crate::datagram::{Datagram, Direction};
 use crate::error::{SetupError, StepError};
 use crate::event::Event;
 use crate::laws;
-use crate::lists::{all_there, note, reply, send};
+use crate::lists::{all_there, note, reply, send, sent_at};
 use crate::opening::{heads_of, meters_of};
 use crate::seat::Seat;
 use crate::setup::Setup;
@@ -97,12 +98,12 @@ impl World {
     {
         laws::state_steps_as_world();
         laws::every_step_is_safe();
+        let _sent = self.sent();
         self.make(alloc, event)
     }
 
     /// An event, as the head end or the meter makes it.
     fn make(&mut self, alloc: Global, event: &Event) -> Result<(), StepError>
-        ensures was { IsState self.old }
         ensures stepped { OnOk result (StateStep self.old (event_of event.now) self.new) }
         ensures admitted { OnOk result (refusal_of self.old (event_of event.now) ≡ None) }
         ensures refused { IfErr result (IsRefused self.old (event_of event.now)) }
@@ -141,13 +142,13 @@ impl World {
         ensures refused { IfErr result (IsRefused self.old (open_campaign campaign image.now meters.now)) }
         ensures same { OnErr result (self.new ≡ self.old) }
     {
-        let number = campaign.head().ok_or(StepError::NoSuchActor)?;
-        let Some(head) = self.heads.get_mut(&number.number()) else {
+        let Some(head) = self.heads.get_mut(&head_number(campaign)) else {
             return Err(StepError::NoSuchActor);
         };
         if !all_there(&self.meters, meters) {
             return Err(StepError::NoSuchActor);
         }
+        let _view = head.view();
         head.open_campaign(alloc, campaign.serial(), image, meters)?;
         Ok(())
     }
@@ -159,10 +160,10 @@ impl World {
         ensures refused { IfErr result (IsRefused self.old (cancel_campaign campaign)) }
         ensures same { OnErr result (self.new ≡ self.old) }
     {
-        let number = campaign.head().ok_or(StepError::NoSuchActor)?;
-        let Some(head) = self.heads.get_mut(&number.number()) else {
+        let Some(head) = self.heads.get_mut(&head_number(campaign)) else {
             return Err(StepError::NoSuchActor);
         };
+        let _view = head.view();
         head.cancel(campaign.serial())?;
         Ok(())
     }
@@ -193,7 +194,7 @@ impl World {
         ensures refused { IfErr result (IsRefused self.old (deliver number)) }
         ensures same { OnErr result (self.new ≡ self.old) }
     {
-        let Some(datagram) = self.sent.get(number) else {
+        let Some(datagram) = sent_at(&self.sent, number) else {
             return Err(StepError::NoSuchDatagram);
         };
         match datagram.direction {
@@ -210,13 +211,19 @@ impl World {
         ensures refused { IfErr result (IsRefused self.old (deliver number)) }
         ensures same { OnErr result (self.new ≡ self.old) }
     {
-        let (head, meter) = (self.sent[number].head, self.sent[number].meter);
+        let Some(datagram) = sent_at(&self.sent, number) else {
+            unreachable!()
+        };
+        let (head, meter) = (datagram.head, datagram.meter);
         let Some(seat) = self.meters.get_mut(&meter.number()) else {
             return Err(StepError::NoSuchActor);
         };
         self.sent.reserve(1)?;
         self.activations.reserve(1)?;
-        let served = seat.handle(alloc, &self.sent[number].bytes)?;
+        let Some(datagram) = sent_at(&self.sent, number) else {
+            unreachable!()
+        };
+        let served = seat.handle(alloc, &datagram.bytes)?;
         reply(&mut self.sent, head, meter, served.reply);
         note(&mut self.activations, meter, served.switched);
         Ok(())
@@ -230,7 +237,9 @@ impl World {
         ensures refused { IfErr result (IsRefused self.old (deliver number)) }
         ensures same { OnErr result (self.new ≡ self.old) }
     {
-        let datagram = &self.sent[number];
+        let Some(datagram) = sent_at(&self.sent, number) else {
+            unreachable!()
+        };
         let Some(head) = self.heads.get_mut(&datagram.head.number()) else {
             return Err(StepError::NoSuchActor);
         };
@@ -246,7 +255,7 @@ impl World {
         ensures refused { IfErr result (IsRefused self.old (stop number calls torn)) }
         ensures same { OnErr result (self.new ≡ self.old) }
     {
-        let Some(datagram) = self.sent.get(number) else {
+        let Some(datagram) = sent_at(&self.sent, number) else {
             return Err(StepError::NoSuchDatagram);
         };
         let Direction::ToMeter = datagram.direction else {
@@ -323,7 +332,10 @@ impl World {
 
     /// All datagrams that were ever sent, in order.
     pub fn sent(&self) -> &[Datagram]
-        ensures { result.now ≡ self.now.sent }
+        ensures sent { result.now ≡ self.now.sent }
+
+        // Each head end stands behind its own number.
+        ensures state { IsState self.now }
     {
         self.sent.as_slice()
     }
@@ -333,5 +345,16 @@ impl World {
         ensures { result.now ≡ self.now.activations }
     {
         self.activations.as_slice()
+    }
+}
+
+/// The number of the head end that opens a campaign, and 0 for the factory's, which none opens.
+fn head_number(campaign: CampaignId) -> u32
+    ensures value { result ≡ campaign.head }
+    ensures opened { 1 ≤ result → IsOpened campaign }
+{
+    match campaign.head() {
+        Some(head) => head.number(),
+        None => 0,
     }
 }

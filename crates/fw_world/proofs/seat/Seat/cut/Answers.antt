@@ -1,9 +1,31 @@
-use Rattle.std.proofs.Common.{◌≡◌, IsTrue, sym, ap, subst, ◌∙◌}
+use Rattle.std.proofs.Common.{◌≡◌, Bool, Option, true, IsTrue, length, sym, ap, subst, ◌∙◌}
+use Rattle.std.specs.Prelude.{IfSome}
+use Rattle.fw_names.specs.Name.{Name}
 use Rattle.fw_image.specs.Meter.{Meter}
-use Rattle.fw_image.specs.State.{State}
+use Rattle.fw_image.specs.State.{State, Counts}
+use Rattle.fw_meter.specs.Handling.{Handles, reply_bytes}
 use Rattle.fw_meter.specs.Laws.{Stops}
-use Rattle.fw_world.specs.Inside.{IsSound, IsSeated, meter_in}
+use Rattle.fw_world.specs.Inside.{IsSound, IsSeated, IsRunning, meter_in, switched_name}
+use Rattle.fw_world.proofs.Room.{each_some, handled_room, switched_runs}
 use Rattle.fw_world.proofs.seat.Seat.cut.Goals as goal
+
+pub running-requires-clause-room : goal.running-requires-clause-room
+running-requires-clause-room c =
+    let core = c.in-Some.core in
+    let fused = c.fuse.new.self in
+    let handled = c.handle-handled.new.self in
+    let told = c.in_ok-handled-in-Some in
+    let room = c.in_ok-room-in-Some in
+    let there : IsSound core = subst IsSeated c.in-Some.is c.self.invariant in
+    let honest = subst (λ (s : State). IsTrue s.honest) (sym c.fuse.ensures) there.honest in
+    let was : fused.meter ≡ core.meter = ap (λ (s : State). s.meter) c.fuse.ensures in
+    let left : handled.meter ≡ c.unfuse.new.self.meter = sym (ap (λ (s : State). s.meter) c.unfuse.ensures) in
+    let P : Bool → Type 0 = λ h. Handles h (Counts fused handled) fused.meter c.args.datagram.now (reply_bytes told.field-0.reply) told.field-0.activated handled.meter in
+    let Q : Meter → Type 0 = λ m. Handles true (Counts fused handled) m c.args.datagram.now (reply_bytes told.field-0.reply) told.field-0.activated handled.meter in
+    each_some told.field-0.activated _
+    (λ name e. handled_room c.joined_size.ensures core.meter handled.meter room.ensures.fits (room.ensures.trusted there.honest) room.room.items room.ensures.room (Counts fused handled) c.args.datagram.now _ _
+    (subst Q was (subst P honest told.ensures.step)) name e
+    ∙ ap (λ (m : Meter). length m.running.bytes) left)
 
 -- a fuse and its removal leave the meter, so that what the fault left of it is what the stop leaves
 pub returns-clause-stopped : goal.returns-clause-stopped
@@ -13,9 +35,21 @@ returns-clause-stopped c =
     let activated = c.in_ok-handled-in-Some.field-0.activated in
     let there : IsSound c.in-Some.core = subst IsSeated c.in-Some.is c.self.invariant in
     let was : fused.meter ≡ c.args.self.now = ap (λ (s : State). s.meter) c.fuse.ensures ∙ sym (ap meter_in c.in-Some.is) ∙ c.self.view_is in
-    let left : handled.meter ≡ c.unfuse.new.self.meter = sym (ap (λ (s : State). s.meter) c.unfuse.ensures) in
+    let left : handled.meter ≡ c.running.new.core.meter = sym (ap (λ (s : State). s.meter) c.unfuse.ensures) ∙ sym c.running.ensures.meter in
     let honest = subst (λ (s : State). IsTrue s.honest) (sym c.fuse.ensures) there.honest in
     let stops = c.fault_is_stop.ensures fused handled c.args.datagram.now _ activated honest c.in_ok-handled-in-Some.ensures.step in
     let P : Meter → Type 0 = λ m. Stops m c.args.datagram.now activated handled.meter in
     let Q : Meter → Type 0 = λ m. Stops c.args.self.now c.args.datagram.now activated m in
-    subst Q left (subst P was stops)
+    let R : Option Name → Type 0 = λ name. Stops c.args.self.now c.args.datagram.now name c.running.new.core.meter in
+    subst R (sym c.running.ensures.name) (subst Q left (subst P was stops))
+
+pub returns-clause-switched : goal.returns-clause-switched
+returns-clause-switched c =
+    let fused = c.fuse.new.self in
+    let handled = c.handle-handled.new.self in
+    let told = c.in_ok-handled-in-Some in
+    let left : c.unfuse.new.self.meter ≡ handled.meter = ap (λ (s : State). s.meter) c.unfuse.ensures in
+    let P : Meter → Type 0 = λ m. IsRunning c.running.result m in
+    subst P (sym (c.running.ensures.meter ∙ left))
+    (switched_runs fused.honest (Counts fused handled) fused.meter handled.meter c.args.datagram.now (reply_bytes told.field-0.reply) told.field-0.activated told.ensures.step c.running.result c.running.ensures.name
+    (subst (λ (m : Meter). IfSome c.running.result (λ image. image.bytes ≡ m.running.bytes)) left c.running.ensures.bytes))

@@ -1,0 +1,97 @@
+use Rattle.std.proofs.Common.{◌≡◌, ℕ, nat_eq, true, IsTrue, List, ◌++◌, Some, refl, sym, ap, subst, ◌∙◌, slice_get}
+use Rattle.std.specs.Map.{lookup}
+use Rattle.std.specs.Option.{option_copied, option_copied_mut}
+use Rattle.fw_meter.specs.Handling.{Handles, reply_bytes}
+use Rattle.fw_world.specs.declared.datagram.Direction.TheVariants.{ToMeter}
+use Rattle.fw_world.specs.World.{Datagram, Activation}
+use Rattle.fw_world.specs.Step.{deliver}
+use Rattle.fw_world.specs.Inside.{switched_name}
+use Rattle.fw_world.proofs.Places.{told_err, meter_found, meter_serves, meter_same, replied_is, noted_is}
+use Rattle.fw_world.proofs.Delivered.{sent_here, one_datagram, way_of, delivers_to_meter}
+use Rattle.fw_world.proofs.Refusing.{wants_memory, delivered_to_meter}
+use Rattle.fw_world.proofs.world.World.serve.Goals as goal
+
+pub returns-in_err-reserve-clause-same : goal.returns-in_err-reserve-clause-same
+returns-in_err-reserve-clause-same c =
+    let key = c.number.result in
+    let found : lookup (nat_eq key) c.self.inside.meters.entries ≡ Some c.in-Some-get_mut.seat.now = sym c.get_mut.ensures.value ∙ ap option_copied_mut c.in-Some-get_mut.is in
+    told_err c.from_residual.result _ (meter_same _ _ c.self.view_is key _ _ _ _ _ found (c.get_mut.follows.holds c.in-Some-get_mut.seat.now).0 refl c.reserve.ensures.items refl)
+
+pub returns-in_err-reserve-2-clause-refused : goal.returns-in_err-reserve-2-clause-refused
+returns-in_err-reserve-2-clause-refused c =
+    let key = c.number.result in
+    let d = c.in-Some.datagram.now in
+    let seat = c.in-Some-get_mut.seat.now in
+    let found : lookup (nat_eq key) c.self.inside.meters.entries ≡ Some seat = sym c.get_mut.ensures.value ∙ ap option_copied_mut c.in-Some-get_mut.is in
+    let at : slice_get c.self.inside.sent.items c.args.number ≡ Some d = ap (λ (xs : List Datagram). slice_get xs c.args.number) (sym c.deref.ensures.value) ∙ sym c.sent_at.ensures ∙ ap option_copied c.in-Some.is in
+    let here : slice_get c.args.self.now.sent c.args.number ≡ Some d = sent_here _ _ c.self.view_is c.deref.result.now c.args.number d c.deref.ensures.value (sym c.sent_at.ensures ∙ ap option_copied c.in-Some.is) in
+    let same : key ≡ d.meter = c.number.ensures ∙ ap (λ (x : Datagram). x.meter) c.datagram.view_is in
+    wants_memory c.from_residual-in_err-reserve-2.result c.args.self.now (deliver c.args.number) c.from_residual-in_err-reserve-2.ensures.1
+    (delivered_to_meter _ _ c.self.view_is c.args.number d at seat (way_of c.args.self.now.sent c.args.number ToMeter d c.requires here) (meter_found _ _ c.self.view_is key d.meter same seat found)) tt
+
+pub returns-in_err-reserve-2-clause-same : goal.returns-in_err-reserve-2-clause-same
+returns-in_err-reserve-2-clause-same c =
+    let key = c.number.result in
+    let found : lookup (nat_eq key) c.self.inside.meters.entries ≡ Some c.in-Some-get_mut.seat.now = sym c.get_mut.ensures.value ∙ ap option_copied_mut c.in-Some-get_mut.is in
+    told_err c.from_residual-in_err-reserve-2.result _
+    (meter_same _ _ c.self.view_is key _ _ _ _ _ found (c.get_mut.follows.holds c.in-Some-get_mut.seat.now).0 refl c.reserve.ensures.items c.reserve-2.ensures.items)
+
+pub returns-in_err-served-clause-refused : goal.returns-in_err-served-clause-refused
+returns-in_err-served-clause-refused c =
+    let key = c.number.result in
+    let d = c.in-Some.datagram.now in
+    let seat = c.in-Some-get_mut.seat.now in
+    let found : lookup (nat_eq key) c.self.inside.meters.entries ≡ Some seat = sym c.get_mut.ensures.value ∙ ap option_copied_mut c.in-Some-get_mut.is in
+    let at : slice_get c.self.inside.sent.items c.args.number ≡ Some d = ap (λ (xs : List Datagram). slice_get xs c.args.number) (sym c.deref.ensures.value) ∙ sym c.sent_at.ensures ∙ ap option_copied c.in-Some.is in
+    let here : slice_get c.args.self.now.sent c.args.number ≡ Some d = sent_here _ _ c.self.view_is c.deref.result.now c.args.number d c.deref.ensures.value (sym c.sent_at.ensures ∙ ap option_copied c.in-Some.is) in
+    let same : key ≡ d.meter = c.number.ensures ∙ ap (λ (x : Datagram). x.meter) c.datagram.view_is in
+    wants_memory c.from_residual-in_err-served.result c.args.self.now (deliver c.args.number) c.from_residual-in_err-served.ensures.1
+    (delivered_to_meter _ _ c.self.view_is c.args.number d at seat (way_of c.args.self.now.sent c.args.number ToMeter d c.requires here) (meter_found _ _ c.self.view_is key d.meter same seat found)) tt
+
+pub returns-in_err-served-clause-same : goal.returns-in_err-served-clause-same
+returns-in_err-served-clause-same c =
+    let key = c.number.result in
+    let found : lookup (nat_eq key) c.self.inside.meters.entries ≡ Some c.in-Some-get_mut.seat.now = sym c.get_mut.ensures.value ∙ ap option_copied_mut c.in-Some-get_mut.is in
+    told_err c.from_residual-in_err-served.result _
+    (meter_same _ _ c.self.view_is key _ _ _ _ _ found (c.get_mut.follows.holds c.handle.new.self).0 c.in_err-served.ensures.same c.reserve.ensures.items c.reserve-2.ensures.items)
+
+pub returns-clause-stepped : goal.returns-clause-stepped
+returns-clause-stepped c =
+    let key = c.number.result in
+    let d = c.in-Some.datagram.now in
+    let seat = c.in-Some-get_mut.seat.now in
+    let served = c.in_ok-served.served in
+    let found : lookup (nat_eq key) c.self.inside.meters.entries ≡ Some seat = sym c.get_mut.ensures.value ∙ ap option_copied_mut c.in-Some-get_mut.is in
+    let here : slice_get c.args.self.now.sent c.args.number ≡ Some d = sent_here _ _ c.self.view_is c.deref.result.now c.args.number d c.deref.ensures.value (sym c.sent_at.ensures ∙ ap option_copied c.in-Some.is) in
+    let again : slice_get c.args.self.now.sent c.args.number ≡ Some c.in-Some-sent_at.datagram.now =
+    sent_here _ _ c.self.view_is c.deref-2.result.now c.args.number c.in-Some-sent_at.datagram.now (c.deref-2.ensures.value ∙ c.reserve.ensures.items) (sym c.sent_at-2.ensures ∙ ap option_copied c.in-Some-sent_at.is) in
+    let one : c.in-Some-sent_at.datagram.now ≡ d = one_datagram _ _ (sym again ∙ here) in
+    let meters : c.datagram.inside.meter ≡ d.meter = ap (λ (x : Datagram). x.meter) c.datagram.view_is in
+    let heads : c.datagram.inside.head ≡ d.head = ap (λ (x : Datagram). x.head) c.datagram.view_is in
+    let carried : c.deref-3.result.now ≡ d.bytes = c.deref-3.ensures.value ∙ ap (λ (x : Datagram). x.bytes) (c.datagram-2.view_is ∙ one) in
+    let Q : List ℕ → Type 0 = λ bytes. Handles true IsTrue seat bytes (reply_bytes served.reply) (switched_name served.switched) c.handle.new.self in (
+      d,
+      here,
+      delivers_to_meter _ _ d (way_of c.args.self.now.sent c.args.number ToMeter d c.requires here) (record {
+        before = seat;
+        after = c.handle.new.self;
+        reply = reply_bytes served.reply;
+        name = switched_name served.switched;
+        there = meter_found _ _ c.self.view_is key d.meter (c.number.ensures ∙ meters) seat found;
+        handles = subst Q carried c.in_ok-served.ensures.handled;
+        new_is = meter_serves _ _ c.self.view_is key d.meter (c.number.ensures ∙ meters) _ _ _ _ _ _ _ (c.get_mut.follows.holds c.handle.new.self).0 refl
+            (c.reply.ensures ∙ (λ i. c.reserve.ensures.items i ++ replied_is d _ _ (reply_bytes served.reply) heads meters i))
+            (c.note.ensures ∙ (λ i. c.reserve-2.ensures.items i ++ noted_is _ d.meter served.switched c.handle.new.self meters c.in_ok-served.ensures.switched i));
+      }),
+    )
+
+pub returns-clause-admitted : goal.returns-clause-admitted
+returns-clause-admitted c =
+    let key = c.number.result in
+    let d = c.in-Some.datagram.now in
+    let seat = c.in-Some-get_mut.seat.now in
+    let found : lookup (nat_eq key) c.self.inside.meters.entries ≡ Some seat = sym c.get_mut.ensures.value ∙ ap option_copied_mut c.in-Some-get_mut.is in
+    let at : slice_get c.self.inside.sent.items c.args.number ≡ Some d = ap (λ (xs : List Datagram). slice_get xs c.args.number) (sym c.deref.ensures.value) ∙ sym c.sent_at.ensures ∙ ap option_copied c.in-Some.is in
+    let here : slice_get c.args.self.now.sent c.args.number ≡ Some d = sent_here _ _ c.self.view_is c.deref.result.now c.args.number d c.deref.ensures.value (sym c.sent_at.ensures ∙ ap option_copied c.in-Some.is) in
+    let same : key ≡ d.meter = c.number.ensures ∙ ap (λ (x : Datagram). x.meter) c.datagram.view_is in
+    delivered_to_meter _ _ c.self.view_is c.args.number d at seat (way_of c.args.self.now.sent c.args.number ToMeter d c.requires here) (meter_found _ _ c.self.view_is key d.meter same seat found)
