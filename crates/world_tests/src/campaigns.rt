@@ -103,6 +103,40 @@ const CAMPAIGNS: &[(Script, &str)] = &[
     ),
 ];
 
+/// An activate is refused where an initiate came behind the verify, and where one came behind another activate.
+const REFUSED_ACTIVATES: &[(Script, &str)] = &[
+    (
+        Script(
+            SMALL,
+            &[
+                UP_TO_BLOCKS,
+                UP_TO_VERIFY,
+                UP_TO_ACTIVATE,
+                &[Line::Deliver(&[4, 16])],
+            ],
+        ),
+        "row 7 1 1 live; meter 1 status 1 active 0 0 size 1; activations 0; sent 19",
+    ),
+    (
+        Script(
+            SMALL,
+            &[
+                UP_TO_BLOCKS,
+                UP_TO_VERIFY,
+                UP_TO_ACTIVATE,
+                UP_TO_DONE,
+                &[Line::Deliver(&[4, 16])],
+            ],
+        ),
+        "row 7 1 1 done; meter 1 status 1 active 7 1 size 3; activations 1; sent 22",
+    ),
+];
+
+#[test]
+fn an_activate_that_is_refused(rt: HostRuntime) -> Result<(), Fail> {
+    each(rt.alloc(), REFUSED_ACTIVATES)
+}
+
 #[test]
 fn one_campaign(rt: HostRuntime) -> Result<(), Fail> {
     each(rt.alloc(), CAMPAIGNS)

@@ -6,7 +6,7 @@ use crate::support::each;
 use std::test::Fail;
 
 /// An unknown head end comes before an unknown meter, and both before what the book refuses.
-const OPENINGS: &[(Script, &str)] = &[
+const REFUSED_OPENINGS: &[(Script, &str)] = &[
     (
         Script(
             SMALL,
@@ -63,6 +63,11 @@ const OPENINGS: &[(Script, &str)] = &[
         Script(SMALL, &[&[Line::Open(8, 1, b"", &[])]]),
         "meter 1 status 0 active 0 0 size 1; activations 0; sent 0; refused 0 NoSuchActor",
     ),
+    // the campaign of images which meters are made with is no head end's
+    (
+        Script(SMALL, &[&[Line::Open(0, 0, b"abc", &[1])]]),
+        "meter 1 status 0 active 0 0 size 1; activations 0; sent 0; refused 0 NoSuchActor",
+    ),
     // an unknown meter, alone and as the last of several, and with what the book refuses too
     (
         Script(SMALL, &[&[Line::Open(7, 1, b"abc", &[9])]]),
@@ -86,10 +91,14 @@ const OPENINGS: &[(Script, &str)] = &[
 
 #[test]
 fn openings(rt: HostRuntime) -> Result<(), Fail> {
-    each(rt.alloc(), OPENINGS)
+    each(rt.alloc(), REFUSED_OPENINGS)
 }
 
-const CANCELLINGS: &[(Script, &str)] = &[
+const REFUSED_CANCELLINGS: &[(Script, &str)] = &[
+    (
+        Script(SMALL, &[&[Line::Cancel(0, 0)]]),
+        "meter 1 status 0 active 0 0 size 1; activations 0; sent 0; refused 0 NoSuchActor",
+    ),
     (
         Script(SMALL, &[&[Line::Cancel(7, 1)]]),
         "meter 1 status 0 active 0 0 size 1; activations 0; sent 0; refused 0 NoSuchCampaign",
@@ -126,7 +135,7 @@ const CANCELLINGS: &[(Script, &str)] = &[
 
 #[test]
 fn cancellings(rt: HostRuntime) -> Result<(), Fail> {
-    each(rt.alloc(), CANCELLINGS)
+    each(rt.alloc(), REFUSED_CANCELLINGS)
 }
 
 /// A datagram is looked for before its addressee.

@@ -2,7 +2,7 @@
 
 use crate::report::{push, report};
 use crate::support::Case;
-use fw_names::{CampaignId, HeadId, MeterId};
+use fw_names::{CampaignId, HeadId, MeterId, factory_name};
 use fw_world::{Event, HeadSetup, MeterSetup, RunError, Setup, run};
 use std::alloc::Global;
 use std::test::Fail;
@@ -155,7 +155,11 @@ pub(crate) fn meter(number: u32) -> Result<MeterId, Fail> {
     Ok(MeterId::new(number).ok_or("every number is a meter's")?)
 }
 
+/// The campaign of these numbers; of 0 and 0, that of images which meters are made with.
 fn campaign(number: u32, serial: u32) -> Result<CampaignId, Fail> {
+    if (number, serial) == (0, 0) {
+        return Ok(factory_name(b"x").campaign);
+    }
     Ok(CampaignId::new(head(number)?, serial).ok_or("a serial number begins at 1")?)
 }
 

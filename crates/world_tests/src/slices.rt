@@ -117,7 +117,7 @@ fn campaigns_with_turns(rt: HostRuntime) -> Result<(), Fail> {
 }
 
 /// The status behind verify, behind one turn, behind two, behind a third, and behind a restart between them.
-const STATUSES: &[(Script, &str)] = &[
+const SHOWN: &[(Script, &str)] = &[
     (
         Script(LARGE, &[NINE, &[Line::Deliver(&[26])]]),
         "row 7 1 1 live; meter 1 status 2 active 0 0 size 1; activations 0; sent 28",
@@ -189,7 +189,7 @@ const STATUSES: &[(Script, &str)] = &[
 
 #[test]
 fn statuses(rt: HostRuntime) -> Result<(), Fail> {
-    each(rt.alloc(), STATUSES)
+    each(rt.alloc(), SHOWN)
 }
 
 /// Turns in statuses 0 and 1, and of a meter that is done.
