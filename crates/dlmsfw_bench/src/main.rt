@@ -8,11 +8,14 @@
 //! - `verify SIZE ROUNDS DATAGRAM ..`: a meter handles the datagrams so many times, which move an image of so many bytes `a`.
 //!   The last two are its verify and its activate. `timed` does the same, and each round has a line before: the processor time
 //!   of verify and its turns, and that of the digest of the same bytes alone, in nanoseconds.
+//! - `events METERS SIZE`: the events are made of a campaign that brings an image of so many bytes `a` to so many meters. `world`
+//!   makes a world by them too. `paced` does the same, with a line before: the processor time of that, in nanoseconds.
 #![tactic(auto)]
 
 mod codec;
 mod meter;
 mod verify;
+mod world;
 
 use anyhow::{Context, Result, bail};
 use std::alloc::Global;
@@ -42,6 +45,9 @@ fn measure(rt: &HostRuntime, line: &str) -> Result<u64> {
         "copy" => Ok(meter::copy(rt.alloc(), first, second)?),
         "verify" => verify::measure(rt, first, second, &bytes, false),
         "timed" => verify::measure(rt, first, second, &bytes, true),
+        "events" => world::count(rt.alloc(), first, second),
+        "world" => world::measure(rt, first, second, false),
+        "paced" => world::measure(rt, first, second, true),
         _ => bail!("no load has this name"),
     }
 }
