@@ -20,11 +20,22 @@ impl Way for Asked {
 
 fn request_text(alloc: Global, request: &Request, bytes: &[u8]) -> Result<String, Fail> {
     let written = write_request(alloc, request)?;
-    if written.as_slice() == bytes {
-        return Ok(format!(in alloc; "{request:?}")?);
+    let shown = format!(in alloc; "{request:?}")?;
+    written_text(alloc, shown, &written, bytes)
+}
+
+/// What is shown of bytes, and how that is written, if that is otherwise.
+fn written_text(
+    alloc: Global,
+    shown: String,
+    written: &[u8],
+    bytes: &[u8],
+) -> Result<String, Fail> {
+    if written == bytes {
+        return Ok(shown);
     }
-    let written = hex::encode(alloc, written.as_slice())?;
-    Ok(format!(in alloc; "{request:?}, written {written}")?)
+    let written = hex::encode(alloc, written)?;
+    Ok(format!(in alloc; "{shown}, written {written}")?)
 }
 
 /// The same of a response.
@@ -38,11 +49,8 @@ impl Way for Answered {
 
 fn response_text(alloc: Global, response: &Response, bytes: &[u8]) -> Result<String, Fail> {
     let written = write_response(alloc, response)?;
-    if written.as_slice() == bytes {
-        return Ok(format!(in alloc; "{response:?}")?);
-    }
-    let written = hex::encode(alloc, written.as_slice())?;
-    Ok(format!(in alloc; "{response:?}, written {written}")?)
+    let shown = format!(in alloc; "{response:?}")?;
+    written_text(alloc, shown, &written, bytes)
 }
 
 /// Requests, and what they ask. Confirmed and of high priority, with the invoke-id 1, are a GET of the active firmware identifier

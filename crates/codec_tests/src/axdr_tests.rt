@@ -1,7 +1,7 @@
 //! Each type of Data, read and written. The tags are those of IEC 62056-6-2, Common data types, the contents A-XDR's.
 
 use crate::support::{Case, Way, deepened, each, each_by, joined};
-use fw_axdr::{AxdrError, Data, read, write_to};
+use fw_axdr::{AxdrError, Data, read, unwritable, write_to};
 use std::alloc::Global;
 use std::test::Fail;
 
@@ -242,7 +242,8 @@ fn each_form_of_a_length(rt: HostRuntime) -> Result<(), Fail> {
     each(rt.alloc(), LENGTHS)
 }
 
-/// The structure of the number 7 and the value of the bytes: what is answered to its writing, and then the bytes behind ee.
+/// The structure of the number 7 and the value of the bytes: why it can't be written, what is answered to its writing, and then the
+/// bytes behind ee.
 struct Second;
 
 impl Way for Second {
@@ -253,19 +254,25 @@ impl Way for Second {
 
 fn second_text(alloc: Global, value: &Data) -> Result<String, Fail> {
     let mut out = [0xee].to_vec(alloc)?;
-    let answer = write_to(value, &mut out);
+    let answers = (unwritable(value), write_to(value, &mut out));
     let written = hex::encode(alloc, out.as_slice())?;
-    Ok(format!(in alloc; "{answer:?}, {written}")?)
+    Ok(format!(in alloc; "{answers:?}, {written}")?)
 }
 
 /// Values of seven levels and of eight.
 const SECONDS: &[(&str, &str)] = &[
     (
         "02010101020101010201010100",
-        "Ok(()), ee0202110702010101020101010201010100",
+        "(None, Ok(())), ee0202110702010101020101010201010100",
     ),
-    ("010101010101010101010101010100", "Err(TooDeep), ee"),
-    ("020102010201020102010201020100", "Err(TooDeep), ee"),
+    (
+        "010101010101010101010101010100",
+        "(Some(TooDeep), Err(TooDeep)), ee",
+    ),
+    (
+        "020102010201020102010201020100",
+        "(Some(TooDeep), Err(TooDeep)), ee",
+    ),
 ];
 
 #[test]

@@ -2,7 +2,9 @@
 
 use crate::support::{Case, each};
 use fw_axdr::Bits;
-use fw_blocks::{BlockSet, Geometry, MARKS_SIZE, MAX_BLOCK_SIZE, MAX_BLOCKS, Marks, Width, Window};
+use fw_blocks::{
+    BlockSet, Geometry, MARKS_SIZE, MAX_BLOCK_SIZE, MAX_BLOCKS, Marks, Pages, Width, Window,
+};
 use std::alloc::{AllocError, Global};
 use std::test::Fail;
 
@@ -133,7 +135,8 @@ const SHOWN: &[(Shown, &str)] = &[
     (Shown(&[], 0, 1), "none"),
 ];
 
-/// The bits of a set below so many with every other number, from 0 on: how many, of how many bytes, and whether each is aa.
+/// The bits of a set below so many with every other number, from 0 on: how many, of how many bytes, and whether each is aa; the
+/// first number that is missing, a window of three, and how many runs there are.
 struct EveryOther(u32);
 
 impl Case for EveryOther {
@@ -146,13 +149,111 @@ impl Case for EveryOther {
         }
         let bits = set.to_bits(alloc)?;
         let all = bits.as_bytes().iter().all(|byte| *byte == 0xaa);
+        let Some(width) = Width::new(3) else {
+            return Err("no width".into());
+        };
+        let next = Window::next(&set, width);
         Ok(format!(in alloc;
-            "{} bits, {} bytes, {all}",
+            "{} bits, {} bytes, {all}, {} {:?}, {} runs",
             bits.len(),
-            bits.as_bytes().len()
+            bits.as_bytes().len(),
+            set.first_missing(),
+            next.as_slice(),
+            set.runs().len()
         )?)
     }
 }
+
+/// The runs of the set below a count with these numbers.
+struct Runs(u32, &'static [u32]);
+
+impl Case for Runs {
+    fn told(&self, alloc: Global) -> Result<String, Fail> {
+        let set = set_of(alloc, self.0, self.1)?;
+        let mut text = String::new(alloc);
+        for run in set.runs() {
+            let shown = format!(in alloc; "({}, {})", run.start, run.end)?;
+            text.push_str(shown.as_str())?;
+        }
+        Ok(text)
+    }
+}
+
+const RUNS: &[(Runs, &str)] = &[
+    (Runs(6, &[]), ""),
+    (Runs(6, &[0, 2, 1]), "(0, 3)"),
+    (Runs(6, &[0, 2]), "(0, 1)(2, 3)"),
+    (Runs(6, &[5, 3, 4, 0]), "(0, 1)(3, 6)"),
+];
+
+/// Pages of so many numbers, of which these are marked in this order.
+struct Paged(u32, &'static [u32]);
+
+impl Case for Paged {
+    fn told(&self, alloc: Global) -> Result<String, Fail> {
+        let Some(mut pages) = Pages::new(self.0) else {
+            return Ok(String::from_str(alloc, "none")?);
+        };
+        for number in self.1 {
+            if *number < pages.count() {
+                pages.mark(*number);
+            }
+        }
+        let (count, first) = (pages.count(), pages.first_missing());
+        let mut there = String::new(alloc);
+        for number in ASKED {
+            there.push_str(if pages.has(*number) { "x" } else { "." })?;
+        }
+        pages.clear();
+        let cleared = (pages.count(), pages.first_missing(), pages.has(0));
+        Ok(format!(in alloc; "{count} {first} {there} {cleared:?}")?)
+    }
+}
+
+const PAGED: &[(Paged, &str)] = &[
+    (Paged(6, &[]), "6 0 ............. (6, 0, false)"),
+    (Paged(6, &[0, 2]), "6 1 x.x.......... (6, 0, false)"),
+    (Paged(6, &[0, 2, 1]), "6 3 xxx.......... (6, 0, false)"),
+    (
+        Paged(6, &[5, 4, 3, 2, 1, 0, 0]),
+        "6 6 xxxx......... (6, 0, false)",
+    ),
+    (Paged(0, &[]), "0 0 ............. (0, 0, false)"),
+    (
+        Paged(4096, &[4095, 0]),
+        "4096 1 x.........x.. (4096, 0, false)",
+    ),
+    (Paged(4097, &[]), "none"),
+];
+
+/// Pages of so many numbers, of which all are marked, from the highest down: the first that is missing before the last of them
+/// is marked, and behind it.
+struct AllPaged(u32);
+
+impl Case for AllPaged {
+    fn told(&self, alloc: Global) -> Result<String, Fail> {
+        let Some(mut pages) = Pages::new(self.0) else {
+            return Ok(String::from_str(alloc, "none")?);
+        };
+        for number in (1..self.0).rev() {
+            if number < pages.count() {
+                pages.mark(number);
+            }
+        }
+        let before = pages.first_missing();
+        if 0 < pages.count() {
+            pages.mark(0);
+        }
+        Ok(format!(in alloc; "{before}, {}", pages.first_missing())?)
+    }
+}
+
+const ALL_PAGED: &[(AllPaged, &str)] = &[
+    (AllPaged(63), "0, 63"),
+    (AllPaged(64), "0, 64"),
+    (AllPaged(65), "0, 65"),
+    (AllPaged(4096), "0, 4096"),
+];
 
 /// The marks with these numbers, marked in this order.
 fn marks_of(numbers: &[u32]) -> Marks {
@@ -295,8 +396,14 @@ fn blocks_and_sets(rt: HostRuntime) -> Result<(), Fail> {
     each(rt.alloc(), SHOWN)?;
     each(
         rt.alloc(),
-        &[(EveryOther(4096), "4096 bits, 512 bytes, true")],
-    )
+        &[(
+            EveryOther(4096),
+            "4096 bits, 512 bytes, true, 1 [1, 3, 5], 2048 runs",
+        )],
+    )?;
+    each(rt.alloc(), RUNS)?;
+    each(rt.alloc(), PAGED)?;
+    each(rt.alloc(), ALL_PAGED)
 }
 
 #[test]

@@ -1,7 +1,7 @@
 //! Names of images: 01, the head end's number, the campaign's serial number, and the SHA-256 (FIPS 180-4) of the image.
 
 use crate::support::{Case, Way, each, each_by};
-use fw_names::{CampaignId, HeadId, ImageName, MeterId, factory_name, name_of};
+use fw_names::{CampaignId, HeadId, ImageName, MeterId, digest_of, factory_name, name_of};
 use std::alloc::Global;
 use std::test::Fail;
 
@@ -67,10 +67,11 @@ const FRONTS: &[(&str, &str)] = &[
     ),
 ];
 
-/// The spelling of a name of `abc`: as a factory image, or under a head end's campaign.
+/// The spelling of a name of `abc`: as a factory image, or under a head end's campaign; and its digest alone.
 enum Named {
     Factory,
     Offered(u32, u32),
+    Digest,
 }
 
 impl Case for Named {
@@ -78,6 +79,7 @@ impl Case for Named {
         let name = match *self {
             Named::Factory => Some(factory_name(b"abc")),
             Named::Offered(head, serial) => offered(head, serial),
+            Named::Digest => return Ok(hex::encode(alloc, digest_of(b"abc"))?),
         };
         Ok(match name {
             Some(name) => hex::encode(alloc, name.to_bytes())?,
@@ -103,6 +105,10 @@ const NAMES: &[(Named, &str)] = &[
     ),
     (Named::Offered(0, 1), "none"),
     (Named::Offered(1, 0), "none"),
+    (
+        Named::Digest,
+        "ba7816bf8f01cfea414140de5dae2223b00361a396177a9cb410ff61f20015ad",
+    ),
 ];
 
 /// Numbers as they are taken and told again: of a head end and of a meter, and what a campaign tells of itself.

@@ -1,6 +1,6 @@
 //! The command line of `dlmsfw`, and its help.
 
-use clap::{Arg, ArgAction, Command, Error};
+use clap::{Arg, Command, Error};
 use fw_cli::AnswerOptions;
 use std::alloc::{AllocError, Global};
 
@@ -81,6 +81,5 @@ fn option<'a>(alloc: Global, name: &'a str, value_name: &'a str, default: &'a st
     Arg::new(alloc, name)
         .long(name)
         .value_name(value_name)
-        .action(ArgAction::Set)
         .default_value(default)
 }

@@ -4,5 +4,5 @@ pub mod RunLemmas
 pub mod PutLemmas
 pub mod WindowSearch
 pub mod WindowLemmas
-pub mod Packing
-pub mod MarkLemmas
+pub mod BitLemmas
+pub mod PageLemmas

@@ -1,9 +1,9 @@
--- For the models of `BlockSet`, `Marks` and `Window` alone: what is true of their fields.
-use Rattle.std.specs.Prelude.{◌≡◌, ℕ, ◌+◌, ◌-◌, ◌/◌, ◌<◌, ◌≤◌, ◌^◌, ◌++◌, Bool, ◌||◌, ◌==◌, List, length, map, replicate, take}
+-- For the models of `BlockSet`, `Pages` and `Window` alone: what is true of their fields.
+use Rattle.std.specs.Prelude.{◌≡◌, ℕ, zero, suc, ◌+◌, ◌-◌, ◌*◌, ◌/◌, ◌%◌, ◌<◌, ◌≤◌, ◌^◌, ◌++◌, Bool, ◌||◌, ◌==◌, List, length, map, replicate, slice_index, take, if◌then◌else◌}
+use Rattle.std.specs.Int.{bit_at}
 use Rattle.std.specs.List.{range_with_len}
-use Rattle.fw_axdr.specs.Bits.{bits, packed}
 use Rattle.fw_blocks.specs.Cuts.{max_blocks}
-use Rattle.fw_blocks.specs.Members.{first_missing}
+use Rattle.fw_blocks.specs.Members.{has}
 use Rattle.fw_blocks.specs.Runs.{is_in_any, AreParted}
 use Rattle.fw_blocks.specs.Width.{max_width}
 use Rattle.fw_blocks.specs.declared.runs.Run.{Run}
@@ -23,12 +23,45 @@ pub record Puts (number : ℕ) (old new : List Run) : Type 0 where
   pub numbers : (i : ℕ) → is_in_any new i ≡ ((i == number) || is_in_any old i)
   pub apart : (count : ℕ) → number < count → AreParted count old → AreParted count new
 
--- marks: a bit for each block that there can be, the bytes are those that hold the bits, and the number beside them is the least
--- absent one
-pub record HoldsMarks (bytes : List ℕ) (first : ℕ) : Type 0 where
-  pub count : length (bits bytes) ≡ max_blocks
-  pub packs : packed (bits bytes) ≡ bytes
-  pub least : first_missing (bits bytes) ≡ first
+-- how many marks a page has
+abbrev pub page_size : ℕ
+page_size = 64
+
+-- whether a number is marked in the words of pages: the first mark of a page is the top bit of its word
+abbrev pub is_marked : List ℕ → ℕ → Bool
+is_marked words i = bit_at (slice_index words (i / page_size)) (63 - i % page_size) == 1
+
+-- the marks below a count
+abbrev pub marks_of : ℕ → List ℕ → List Bool
+marks_of count words = map (is_marked words) (range_with_len 0 count)
+
+-- the number whose first so many bits are these, the first one on top
+unfoldable pub word_of : (ℕ → Bool) → ℕ → ℕ
+word_of bit zero = 0
+word_of bit (suc n) = 2 * word_of bit n + (if bit n then 1 else 0)
+
+-- how many of the first so many are set
+unfoldable pub ones_of : (ℕ → Bool) → ℕ → ℕ
+ones_of bit zero = 0
+ones_of bit (suc n) = ones_of bit n + (if bit n then 1 else 0)
+
+-- the marks of one page
+abbrev pub page_of : List Bool → ℕ → ℕ → Bool
+page_of marks page i = has marks (page_size * page + i)
+
+-- the words of the pages that have these marks, and how many are set in each
+unfoldable pub words_of : List Bool → List ℕ
+words_of marks = map (λ page. word_of (page_of marks page) page_size) (range_with_len 0 64)
+
+unfoldable pub counts_of : List Bool → List ℕ
+counts_of marks = map (λ page. ones_of (page_of marks page) page_size) (range_with_len 0 64)
+
+-- pages: no more marks than an image has blocks, and the words and the numbers beside them are those of the marks
+pub record HoldsPages (words counts : List ℕ) (count : ℕ) : Type 0 where
+  pub few : count ≤ max_blocks
+  pub size : length (marks_of count words) ≡ count
+  pub words_again : words_of (marks_of count words) ≡ words
+  pub counts_again : counts_of (marks_of count words) ≡ counts
 
 -- a window: the numbers come first, and the places behind them are 0
 pub record HoldsFew (numbers : List ℕ) (len : ℕ) : Type 0 where

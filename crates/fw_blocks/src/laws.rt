@@ -2,6 +2,8 @@
 
 ghost use Rattle.fw_blocks.specs.Laws.{NonemptyBelowCount, BeginsWithin, CutsJoin, NextJoins, WholeButTheLast, CutSize, CutOfFront, OtherBlocksStay, OneFirstMissing, CompleteWithoutMissing, OneSetForBytes};
 
+use fw_axdr::laws;
+
 /// A cut has a byte exactly where its number is below the count.
 pub fn nonempty_below_count()
     ensures { NonemptyBelowCount }
@@ -55,4 +57,6 @@ pub fn complete_without_missing()
 /// Two sets with the same count are the same where the same bytes hold their bits.
 pub fn one_set_for_bytes()
     ensures { OneSetForBytes }
-{}
+{
+    laws::bits_packed();
+}

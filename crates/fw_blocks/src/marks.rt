@@ -1,48 +1,34 @@
-//! Sets of block numbers as a store keeps them: so many bytes, and no memory beside them.
+//! The marks that a store keeps: pages of all the numbers that an image can have.
 
-ghost use Rattle.std.specs.Prelude.{◌≡◌, Bool, List, ◌<◌, ◌≤◌, ◌/◌, true, false, length, take, replicate, slice_set, IfOk};
+ghost use Rattle.std.specs.Prelude.{◌≡◌, Bool, List, ◌<◌, ◌≤◌, true, false, length, take, replicate, slice_set, IfOk};
 ghost use Rattle.fw_axdr.specs.Bits.{bits, packed};
 ghost use Rattle.fw_blocks.specs.Cuts.{max_blocks};
 ghost use Rattle.fw_blocks.specs.Members.{has, first_missing, IsFirstMissing};
 
 use crate::geometry::MAX_BLOCKS;
-use fw_axdr::Bits;
+use crate::pages::{MARKS_SIZE, Pages};
+use fw_axdr::{Bits, laws};
 use std::alloc::{AllocError, Global};
 use std::marker::Model;
 
-/// The bytes of a set of marks: eight marks each.
-pub const MARKS_SIZE: usize = 512;
-
-/// The blocks that are there, of the most that an image has: a set of numbers below 4,096 (own form of what
-/// IEC 62056-6-2 calls image_transferred_blocks_status). It has room for all of them in itself, and takes no
-/// memory.
-///
-/// To mark a number, to look one up and to find the least that is missing take the same time at every number: the
-/// least one is kept, and over all marks it moves on at most once past each number.
+/// The blocks that are there, of the most that an image has: pages of 4,096 marks.
 #[derive(Clone, Copy, Debug, PartialEq, Eq)]
 pub struct Marks {
-    /// Eight marks a byte, the first one its top bit.
-    bytes: [u8; MARKS_SIZE],
-    /// The least number that is not marked, or 4,096.
-    first: u32,
+    pages: Pages,
 }
 
-// Contracts see the list of the 4,096 bits, as they see a `BlockSet`.
+// Contracts see the list of the 4,096 bits, as they see those of the pages.
 impl Model for Marks {
-    ghost use Rattle.std.specs.Prelude.{Bool, List};
-    ghost use Rattle.fw_axdr.specs.Bits.{bits, packed};
-    ghost use Rattle.fw_blocks.specs.Members.{first_missing};
-    ghost use Rattle.fw_blocks.specs.Inside.{HoldsMarks};
+    ghost use Rattle.std.specs.Prelude.{◌≡◌, Bool, List, length};
+    ghost use Rattle.fw_blocks.specs.Cuts.{max_blocks};
 
     ghost Value = { List Bool };
 
-    ghost view = { λ m. bits m.bytes };
+    ghost view = { λ m. m.pages };
 
-    ghost invariant = { λ m. HoldsMarks m.bytes m.first };
+    ghost invariant = { λ m. length m.pages ≡ max_blocks };
 
-    ghost inverse = { λ marks. record { bytes = packed marks; first = first_missing marks } };
-
-    ghost inverse_ok = { λ m h i. record { bytes = h.packs i; first = h.least i } };
+    ghost inverse = { λ marks. record { pages = marks } };
 }
 
 impl Marks {
@@ -51,8 +37,7 @@ impl Marks {
         ensures { result ≡ replicate max_blocks false }
     {
         Marks {
-            bytes: [0; MARKS_SIZE],
-            first: 0,
+            pages: Pages::unmarked(MAX_BLOCKS),
         }
     }
 
@@ -61,15 +46,14 @@ impl Marks {
         requires { number < max_blocks }
         ensures { self.new ≡ slice_set self.old number true }
     {
-        self.bytes[number as usize / 8] = with_bit(&self.bytes, number);
-        self.first = first_missing_from(&self.bytes, self.first);
+        self.pages.mark(number);
     }
 
     /// Whether a number is marked; none at or above 4,096 is.
     pub fn has(&self, number: u32) -> bool
         ensures { result ≡ has self.now number }
     {
-        has_bit(&self.bytes, number)
+        self.pages.has(number)
     }
 
     /// The least number that is not marked, or 4,096 where all are.
@@ -78,7 +62,7 @@ impl Marks {
         ensures least { IsFirstMissing self.now result }
         ensures size { length self.now ≡ max_blocks }
     {
-        self.first
+        self.pages.first_missing()
     }
 
     /// The least number below a count that is not marked, or the count where all below it are.
@@ -86,7 +70,7 @@ impl Marks {
         requires { count ≤ max_blocks }
         ensures { result ≡ first_missing (take count self.now) }
     {
-        self.first.min(count)
+        self.pages.first_missing().min(count)
     }
 
     /// The marks of the numbers below a count as a bit-string, as a meter shows them (IEC 62056-6-2,
@@ -95,8 +79,10 @@ impl Marks {
         requires { count ≤ max_blocks }
         ensures { IfOk result (λ bits. bits ≡ take count self.now) }
     {
+        laws::bits_packed();
         let size = count.div_ceil(8) as usize;
-        let bytes = self.bytes[..size].to_vec(alloc)?;
+        let all = self.pages.to_bytes();
+        let bytes = all[..size].to_vec(alloc)?;
         Ok(Bits::from_vec(bytes, count as usize))
     }
 
@@ -105,7 +91,7 @@ impl Marks {
         ensures value { result ≡ packed self.now }
         ensures size { length self.now ≡ max_blocks }
     {
-        self.bytes
+        self.pages.to_bytes()
     }
 
     /// The marks that have these bytes. All bytes are some marks'.
@@ -117,36 +103,10 @@ impl Marks {
         // Bytes that hold marks are read as those marks.
         ensures only { (marks : List Bool) → length marks ≡ max_blocks → packed marks ≡ bytes.now → result ≡ marks }
     {
+        laws::bytes_packed();
+        laws::bits_packed();
         Marks {
-            bytes: *bytes,
-            first: first_missing_from(bytes, 0),
+            pages: Pages::from_bytes(bytes),
         }
     }
-}
-
-/// Whether a bit is there and set.
-fn has_bit(bytes: &[u8; MARKS_SIZE], number: u32) -> bool
-    ensures { result ≡ has (bits bytes.now) number }
-{
-    number < MAX_BLOCKS && (bytes[number as usize / 8] >> (7 - number % 8)) % 2 == 1
-}
-
-/// The byte that a bit stands in, with the bit set.
-fn with_bit(bytes: &[u8; MARKS_SIZE], number: u32) -> u8
-    requires { number < MAX_BLOCKS }
-    ensures { bits (slice_set bytes.now (number / 8) result) ≡ slice_set (bits bytes.now) number true }
-{
-    bytes[number as usize / 8] | 1 << (7 - number % 8)
-}
-
-/// The least number whose bit isn't set, or 4,096, looked for from a number on that isn't above it.
-fn first_missing_from(bytes: &[u8; MARKS_SIZE], from: u32) -> u32
-    requires { from ≤ first_missing (bits bytes.now) }
-    ensures { result ≡ first_missing (bits bytes.now) }
-{
-    let mut first = from;
-    while has_bit(bytes, first) {
-        first += 1;
-    }
-    first
 }

@@ -53,7 +53,7 @@ struct Transcript {
 /// - `Input` or `TooMuchInput`, whichever the reading meets first.
 /// - `BadLine`: this line is no hexadecimal, or of an odd number of digits. Those before it were answered.
 /// - `Output`: the writer failed. What it holds then is open.
-/// - `OutOfMemory`: nothing was written.
+/// - `OutOfMemory`: nothing was written, and no more than 64 MiB were read.
 pub fn run_answer<R: Read, W: Write>(
     alloc: Global,
     reader: &mut R,
@@ -80,6 +80,8 @@ pub fn run_answer<R: Read, W: Write>(
         → Gives (R.remaining reader.old) (R.remaining reader.new) (λ count. max_input < count) }
     ensures output { result ≡ Err Fault.Output
         → (input : List ℕ) × ReadsAll (R.remaining reader.old) (R.remaining reader.new) input }
+    ensures out_of_memory { result ≡ Err Fault.OutOfMemory
+        → Gives (R.remaining reader.old) (R.remaining reader.new) (λ count. count ≤ max_input) }
 
     ensures silent { IfErr result (λ f. ComesBeforeOutput f → Keeps (W.contents writer.old) (W.contents writer.new)) }
 {
@@ -169,6 +171,8 @@ fn serve<R: Read, W: Write>(
         → Gives (R.remaining reader.old) (R.remaining reader.new) (λ count. max_input < count) }
     ensures output { result ≡ Err Fault.Output
         → (input : List ℕ) × ReadsAll (R.remaining reader.old) (R.remaining reader.new) input }
+    ensures out_of_memory { result ≡ Err Fault.OutOfMemory
+        → Gives (R.remaining reader.old) (R.remaining reader.new) (λ count. count ≤ max_input) }
     ensures silent { IfErr result (λ f. ComesBeforeOutput f → Keeps (W.contents writer.old) (W.contents writer.new)) }
 {
     let mut reads = Reads::none();

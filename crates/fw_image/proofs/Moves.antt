@@ -5,7 +5,6 @@ use Rattle.fw_blocks.specs.Members.{has}
 use Rattle.fw_blocks.specs.Laws.{CutsJoin}
 use Rattle.sha2.specs.Sha256.{sha256}
 use Rattle.std.specs.Prelude.{IfSome, Result, Ok, Err, IsErrAnd}
-use Rattle.fw_image.specs.Moves.{outcome_of}
 use Rattle.fw_names.specs.Name.{Name, Campaign}
 use Rattle.fw_store.specs.Device.{Device, slot_bytes, with_head}
 use Rattle.fw_store.specs.Faults.{Keeps, count_after, Spends}
@@ -23,7 +22,7 @@ use Rattle.fw_image.specs.Shown.{shown_of}
 use Rattle.fw_image.specs.Step.{Operation, OperationOutcome, refused, Refuses, Serves, Does, Leaves, IsOffer, begun, switched_to, Admits, refusal_in, is_operation_faultless, enable, initiate, block, verify, activate}
 use Rattle.fw_image.specs.declared.error.Refusal.{Refusal}
 use Rattle.fw_image.specs.declared.error.Refusal.TheVariants.{Disabled, Fault}
-use Rattle.fw_image.specs.State.{State, Makes}
+use Rattle.fw_image.specs.State.{State, Makes, outcome_of}
 use Rattle.fw_image.specs.Calls.{calls_for}
 use Rattle.fw_verify.specs.Progress.{Progress, IsDigesting}
 use Rattle.fw_image.specs.Stored.{phase_of, meter_of, meter_at, seen, state_of, IsHeld, IsDigested, IsHolding}

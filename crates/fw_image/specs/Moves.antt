@@ -11,10 +11,6 @@ use Rattle.fw_image.specs.Step.{OperationOutcome, done, refused, verification_in
 use Rattle.fw_image.specs.declared.error.Refusal.{Refusal}
 use Rattle.fw_image.specs.declared.status.TransferStatus.TheVariants.{VerificationInitiated, VerificationSuccessful}
 
-abbrev pub outcome_of : {A : Type 0} → Result A Refusal → OperationOutcome
-outcome_of (Ok a) = done
-outcome_of (Err refusal) = refused refusal
-
 -- what a verify came to, by the phase that it left
 abbrev pub verify_outcome : {A : Type 0} → Result A Refusal → Phase → OperationOutcome
 verify_outcome (Ok a) (verifying goal taken) = verification_initiated

@@ -59,6 +59,12 @@ stored s = record s { meter = reopened s.meter }
 
 -- ---- what a call answers, and the state that it leaves
 
+-- where the transfer stays where it stands
+abbrev pub outcome_of : {A : Type 0} → Result A Refusal → OperationOutcome
+outcome_of (Ok a) = done
+outcome_of (Err refusal) = refused refusal
+
+-- and where it moves
 abbrev pub told : {A B : Type 0} → Result A (Refusal × B) → OperationOutcome
 told (Ok next) = done
 told (Err e) = refused e.0

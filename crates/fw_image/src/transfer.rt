@@ -6,7 +6,7 @@ ghost use Rattle.fw_image.specs.Meter.{status_of, IsTrusted};
 ghost use Rattle.fw_image.specs.Phases.{state_in, IsInPhase, told_verified, left_verified, IsVerified, IsNotVerified};
 ghost use Rattle.fw_image.specs.Shown.{shown_of, IsView};
 ghost use Rattle.fw_image.specs.Fits.{IsFit};
-ghost use Rattle.fw_image.specs.State.{Makes, Turns, Follows, stored, told, left};
+ghost use Rattle.fw_image.specs.State.{Makes, Turns, Follows, stored, outcome_of, told, left};
 ghost use Rattle.fw_image.specs.Step.{enable, initiate, block, verify, activate};
 ghost use Rattle.fw_image.specs.Stored.{Holds, IsSame};
 ghost use Rattle.fw_image.specs.declared.status.TransferStatus.TheVariants as status;
@@ -192,6 +192,18 @@ impl<S: ImageStore> Receiving<S> {
             Ok(()) => Ok(Transfer::new(held)),
             Err(refusal) => Err((refusal, Transfer::new(held))),
         }
+    }
+
+    /// Stores a block as `block` does, where the transfer stands: it doesn't move then.
+    ///
+    /// # Errors
+    ///
+    /// As for `block`.
+    pub fn put_block(&mut self, number: u32, value: &[u8]) -> Result<(), Refusal>
+        ensures makes { Makes self.old (block number value.now) (outcome_of result) self.new }
+        ensures status { status_of self.new.meter.phase ≡ status.Initiated }
+    {
+        self.held.block(number, value)
     }
 
     /// Reads the first slice of the image, 4,096 bytes, from the spare slot. Where that is the whole image, its digest is

@@ -3,3 +3,4 @@ mod Responding
 mod OneAnswer
 mod Stops
 mod Faultless
+pub mod Coding

@@ -1,12 +1,12 @@
 -- For private clauses alone: what the types of the code stand for.
-use Rattle.std.specs.Prelude.{◌≡◌, ℕ, false, List, [], Option, Some, None, if◌then◌else◌}
-use Rattle.std.specs.Global.{Vec}
+use Rattle.std.specs.Prelude.{◌≡◌, ℕ, false, List, [], Option, Some, None, slice_set, if◌then◌else◌}
+use Rattle.std.specs.Option.{option_map}
 use Rattle.std.specs.FinMap.{empty}
 use Rattle.fw_names.specs.Name.{factory}
 use Rattle.fw_image.specs.Meter.{idle}
 use Rattle.fw_wrapper.specs.Wrapper.{wrapped}
 use Rattle.fw_apdu.specs.Cosem.{success, hardware_fault, temporary_failure, read_write_denied, other_reason}
-use Rattle.fw_apdu.specs.Request.{is_confirmed}
+use Rattle.fw_apdu.specs.Request.{RequestContent, get_request, set_request, action_request, is_confirmed}
 use Rattle.fw_apdu.specs.Response.{response_bytes}
 use Rattle.fw_apdu.specs.View.{request_content, request_invoke}
 use Rattle.fw_server.specs.Answer.{response_of}
@@ -43,15 +43,18 @@ told_by source invoke outcome = if is_confirmed invoke then Some (wrapped 1 sour
 abbrev pub coded_reply : Heard → ℕ → Option (List ℕ)
 coded_reply heard c = reply_to heard.source (request_invoke heard.request) (request_content heard.request) (coded c)
 
-abbrev pub reply_in : Replies → Code → Option (Vec ℕ)
-reply_in r code.Success = r.success
-reply_in r code.HardwareFault = r.hardware_fault
-reply_in r code.TemporaryFailure = r.temporary_failure
-reply_in r code.ReadWriteDenied = r.read_write_denied
-reply_in r code.OtherReason = r.other_reason
+-- where the code stands in that reply: behind the header of the wrapper and three bytes, and in an answer to GET behind 01 as well
+abbrev pub code_place : RequestContent → ℕ
+code_place (get_request d) = 12
+code_place (set_request d v) = 11
+code_place (action_request d parameter) = 11
+
+-- the reply with a code in its place
+abbrev pub reply_in : Replies → ℕ → Option (List ℕ)
+reply_in r c = option_map (λ bytes. slice_set bytes r.place c) (reply_bytes r.reply)
 
 abbrev pub AnswersEach : Heard → Replies → Type 0
-AnswersEach heard replies = (c : Code) → reply_bytes (reply_in replies c) ≡ coded_reply heard (code_number c)
+AnswersEach heard replies = (c : Code) → reply_in replies (code_number c) ≡ coded_reply heard (code_number c)
 
 -- an operation is made, and has this code
 abbrev pub IsMade : State → image.Operation → ℕ → State → Type 0

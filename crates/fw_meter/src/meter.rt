@@ -2,9 +2,11 @@
 
 ghost use Rattle.std.specs.Prelude.{◌≡◌, ◌≢◌, ◌≤◌, IsTrue, IfOk, IfErr, IsOkAnd, OnOk, OnErr, Some, None, is_ok, true, false, length};
 ghost use Rattle.fw_store.specs.Faults.{HasCause, Spends, count_after};
+ghost use Rattle.fw_server.specs.Meaning as meaning;
 ghost use Rattle.fw_server.specs.Meaning.{meaning_of};
 ghost use Rattle.fw_server.specs.View.{operation_meaning};
-ghost use Rattle.fw_meter.specs.Step.{got, answer_of};
+ghost use Rattle.fw_meter.specs.Inside.{code_number, Steps};
+ghost use Rattle.fw_meter.specs.Step.{got, answer_of, activation_of, coded};
 ghost use Rattle.fw_apdu.specs.Request.{is_confirmed};
 ghost use Rattle.fw_apdu.specs.View.{request_content, request_invoke};
 ghost use Rattle.fw_image.specs.Calls.{opening_calls};
@@ -17,8 +19,9 @@ ghost use Rattle.fw_image.specs.declared.error.OpenError.TheVariants as not_open
 ghost use Rattle.fw_meter.specs.Handling.{Handles, Responds, MayWantMemory, reply_to, reply_bytes};
 
 use crate::attributes::read;
+use crate::code::Code;
 use crate::error::OutOfMemory;
-use crate::operation::{activated, make};
+use crate::operation::{activated, block, make};
 use crate::replies::Replies;
 use crate::serving::{Heard, hear};
 use fw_image::{MeterView, OpenError, Phase};
@@ -213,7 +216,7 @@ impl<S: ImageStore + Drop> MeterCore<S> {
         }
     }
 
-    /// Makes the operation that a request asks for. All replies that it can have are made before.
+    /// Makes the operation that a request asks for. Its reply is made before, but for the code.
     fn operate(
         &mut self,
         alloc: Global,
@@ -228,16 +231,49 @@ impl<S: ImageStore + Drop> MeterCore<S> {
         ensures memory { OnErr result (IsTrue (is_confirmed (request_invoke heard.now.request))) }
     {
         let replies = Replies::prepare(alloc, heard)?;
+        let (code, activated) = self.serve(operation);
+        Ok(Handled {
+            reply: replies.with(code),
+            activated,
+        })
+    }
+
+    /// Makes an operation, and answers its code and the name of the image that it switched to, if it did. A block leaves the
+    /// phase where it is.
+    fn serve(&mut self, operation: Operation<'_>) -> (Code, Option<ImageName>)
+        ensures steps { Steps self.old (operation_meaning operation.entry) (code_number result.0) self.new }
+        ensures activated { result.1
+            ≡ activation_of (operation_meaning operation.entry) (coded (code_number result.0)) self.new.meter }
+    {
+        match operation {
+            Operation::Block { number, value } => (self.receive(number, value), None),
+            other => self.change(other),
+        }
+    }
+
+    /// Receives a block. The phase stays where it is.
+    fn receive(&mut self, number: u32, value: &[u8]) -> Code
+        ensures { Steps self.old (meaning.block number value.now) (code_number result) self.new }
+    {
+        match &mut self.phase {
+            Some(phase) => block(phase, number, value),
+            None => unreachable!(),
+        }
+    }
+
+    /// Makes an operation that may lead to another phase, and so moves it.
+    fn change(&mut self, operation: Operation<'_>) -> (Code, Option<ImageName>)
+        ensures steps { Steps self.old (operation_meaning operation.entry) (code_number result.0) self.new }
+        ensures activated { result.1
+            ≡ activation_of (operation_meaning operation.entry) (coded (code_number result.0)) self.new.meter }
+    {
         let Some(phase) = self.phase.take() else {
             unreachable!()
         };
         let (code, next) = make(phase, operation);
         let activated = activated(operation, code, &next);
         self.phase = Some(next);
-        Ok(Handled {
-            reply: replies.with(code),
-            activated,
-        })
+        (code, activated)
     }
 }
 

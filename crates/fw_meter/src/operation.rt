@@ -25,7 +25,10 @@ pub(crate) fn make<S: ImageStore>(phase: Phase<S>, operation: Operation<'_>) -> 
     match operation {
         Operation::Enable(enabled) => enable(phase, enabled),
         Operation::Initiate { identifier, size } => offer(phase, identifier, size),
-        Operation::Block { number, value } => block(phase, number, value),
+        Operation::Block { number, value } => {
+            let mut phase = phase;
+            (block(&mut phase, number, value), phase)
+        }
         Operation::Verify => verify(phase),
         Operation::Activate => activate(phase),
     }
@@ -74,18 +77,18 @@ fn initiate<S: ImageStore>(phase: Phase<S>, name: ImageName, size: u32) -> (Code
     }
 }
 
-/// image_block_transfer.
-fn block<S: ImageStore>(phase: Phase<S>, number: u32, value: &[u8]) -> (Code, Phase<S>)
-    requires { IsInPhase phase }
-    ensures made { IsMade (state_in phase) (image.block number value.now) (code_number result.0) (state_in result.1) }
-    ensures phase { IsInPhase result.1 }
+/// image_block_transfer. It leaves the status, and so the phase where it stands.
+pub(crate) fn block<S: ImageStore>(phase: &mut Phase<S>, number: u32, value: &[u8]) -> Code
+    requires { IsInPhase phase.old }
+    ensures made { IsMade (state_in phase.old) (image.block number value.now) (code_number result) (state_in phase.new) }
+    ensures phase { IsInPhase phase.new }
 {
     match phase {
-        Phase::Receiving(transfer) => match transfer.block(number, value) {
-            Ok(next) => (Code::Success, Phase::Receiving(next)),
-            Err((refusal, left)) => (Code::of(refusal), Phase::Receiving(left)),
+        Phase::Receiving(transfer) => match transfer.put_block(number, value) {
+            Ok(()) => Code::Success,
+            Err(refusal) => Code::of(refusal),
         },
-        other => (lacking(&other), other),
+        other => lacking(other),
     }
 }
 

@@ -1,24 +1,25 @@
 //! The replies that an operation can have.
 
-ghost use Rattle.std.specs.Prelude.{◌≡◌, IfOk, OnErr, IsTrue};
+ghost use Rattle.std.specs.Prelude.{◌≡◌, IfOk, OnErr, IsTrue, slice_set};
 ghost use Rattle.fw_apdu.specs.Request.{is_confirmed};
-ghost use Rattle.fw_apdu.specs.View.{request_invoke};
+ghost use Rattle.fw_apdu.specs.View.{request_content, request_invoke};
 ghost use Rattle.fw_meter.specs.Handling.{reply_bytes};
-ghost use Rattle.fw_meter.specs.Inside.{code_number, coded_reply, AnswersEach, reply_in};
+ghost use Rattle.fw_meter.specs.Inside.{code_number, code_place, AnswersEach, reply_in};
 
 use crate::code::Code;
 use crate::error::OutOfMemory;
 use crate::serving::Heard;
+use fw_apdu::Request;
 use std::alloc::Global;
 
-/// A reply for each code, made before the store is called, so that no memory is wanted afterwards.
+/// The reply that an operation has, but for its code, which is put in when it is known: made before the store is called,
+/// so that no memory is wanted afterwards.
 #[derive(Drop)]
 pub(crate) struct Replies {
-    success: Option<Vec<u8>>,
-    hardware_fault: Option<Vec<u8>>,
-    temporary_failure: Option<Vec<u8>>,
-    read_write_denied: Option<Vec<u8>>,
-    other_reason: Option<Vec<u8>>,
+    /// The reply with the code 0.
+    reply: Option<Vec<u8>>,
+    /// Where the code stands in it.
+    place: usize,
 }
 
 impl Replies {
@@ -27,24 +28,39 @@ impl Replies {
         ensures memory { OnErr result (IsTrue (is_confirmed (request_invoke heard.now.request))) }
     {
         Ok(Replies {
-            success: heard.code(alloc, Code::Success.number())?,
-            hardware_fault: heard.code(alloc, Code::HardwareFault.number())?,
-            temporary_failure: heard.code(alloc, Code::TemporaryFailure.number())?,
-            read_write_denied: heard.code(alloc, Code::ReadWriteDenied.number())?,
-            other_reason: heard.code(alloc, Code::OtherReason.number())?,
+            reply: heard.code(alloc, Code::Success.number())?,
+            place: place_of(&heard.request),
         })
     }
 
     /// The reply with this code.
     pub(crate) fn with(self, code: Code) -> Option<Vec<u8>>
-        ensures { result ≡ reply_in self code }
+        ensures { reply_bytes result ≡ reply_in self (code_number code) }
     {
-        match code {
-            Code::Success => self.success,
-            Code::HardwareFault => self.hardware_fault,
-            Code::TemporaryFailure => self.temporary_failure,
-            Code::ReadWriteDenied => self.read_write_denied,
-            Code::OtherReason => self.other_reason,
+        let Replies { reply, place } = self;
+        match reply {
+            Some(reply) => Some(with_code(reply, place, code.number())),
+            None => None,
         }
+    }
+}
+
+/// A datagram with a code in its place.
+fn with_code(mut reply: Vec<u8>, place: usize, code: u8) -> Vec<u8>
+    ensures { result.items ≡ slice_set reply.items place code }
+{
+    if place < reply.len() {
+        reply[place] = code;
+    }
+    reply
+}
+
+/// Where the code stands in the datagram that replies to a request by a code.
+fn place_of(request: &Request) -> usize
+    ensures { result ≡ code_place (request_content request.now) }
+{
+    match request {
+        Request::Get { .. } => 12,
+        Request::Set { .. } | Request::Action { .. } => 11,
     }
 }

@@ -6,7 +6,8 @@ use Rattle.std.proofs.lemmas.Nat.{from_be_bytes-to_be_bytes_4}
 use Rattle.std.proofs.lemmas.List.{length-append, take_all, drop-drop}
 use Rattle.std.proofs.Math.Nat.{suc-ne-zero}
 use Rattle.std.proofs.Math.Seq.{take-append_seam, drop-append_seam}
-use Rattle.fw_axdr.specs.Bits.{bytes_for, packed_into, packed}
+use Rattle.fw_axdr.specs.Bits.{packed}
+use Rattle.fw_axdr.specs.Laws.{BitsPacked}
 use Rattle.fw_names.specs.Name.{Name, IsName, name_bytes}
 use Rattle.fw_names.specs.Laws.{OneName}
 use Rattle.fw_blocks.specs.Laws.{OneSetForBytes}
@@ -45,16 +46,12 @@ goal_size : (goal : Option Goal) → IfSome goal GoalFieldsFit → length (goal_
 goal_size None fits = refl
 goal_size (Some goal) fits = let size = fits.name.digest_size in omega arith
 
-length-packed_into : (n : ℕ) (bs : List Bool) → length (packed_into n bs) ≡ n
-length-packed_into zero bs = refl
-length-packed_into (suc n) bs = ap suc (length-packed_into n (drop 8 bs))
+marks_size : BitsPacked → (marks : List Bool) → length marks ≡ max_blocks → length (packed marks) ≡ 512
+marks_size law marks count = omega (arith, (law marks).0)
 
-marks_size : (marks : List Bool) → length marks ≡ max_blocks → length (packed marks) ≡ 512
-marks_size marks count = omega (arith, length-packed_into (bytes_for (length marks)) marks)
-
-pub parts : (h : Header) → FieldsFit h → Parts (header_bytes h) h
+pub parts : BitsPacked → (h : Header) → FieldsFit h → Parts (header_bytes h) h
 unfolding header_bytes
-parts h fits =
+parts law h fits =
     let name : List ℕ = name_bytes h.running_name in
     let goal : List ℕ = goal_bytes h.goal in
     let marks : List ℕ = packed h.marks in
@@ -72,15 +69,15 @@ parts h fits =
       running_size = refl;
       running_name = ap (take 41) joined ∙ front_of name (goal ++ marks) 41 (name_size h.running_name fits.running_name);
       goal = ap (take 45) behind_name ∙ front_of goal marks 45 (goal_size h.goal fits.goal);
-      marks = ap (take 512) behind_goal ∙ take_all 512 marks (omega (arith, marks_size h.marks fits.marks));
+      marks = ap (take 512) behind_goal ∙ take_all 512 marks (omega (arith, marks_size law h.marks fits.marks));
     }
 
-pub header_size : (h : Header) → FieldsFit h → length (header_bytes h) ≡ 614
+pub header_size : BitsPacked → (h : Header) → FieldsFit h → length (header_bytes h) ≡ 614
 unfolding header_bytes
-header_size h fits =
+header_size law h fits =
     let name = fits.running_name.digest_size in
     let goal = goal_size h.goal fits.goal in
-    let marks = marks_size h.marks fits.marks in
+    let marks = marks_size law h.marks fits.marks in
     omega (arith, length-append (h.running_name.digest ++ goal_bytes h.goal) (packed h.marks), length-append h.running_name.digest (goal_bytes h.goal))
 
 -- ---- each byte or part gives its field back

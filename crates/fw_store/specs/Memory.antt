@@ -9,7 +9,7 @@ use Rattle.fw_store.specs.declared.memory.MemoryStore.{MemoryStore}
 
 -- its header and slots
 abbrev pub device_of : MemoryStore → Device
-device_of m = record { head = m.head; first = m.first.items; second = m.second.items }
+device_of m = record { head = m.head.value; first = m.first.items; second = m.second.items }
 
 -- the size of each slot
 abbrev pub capacity_of : MemoryStore → ℕ

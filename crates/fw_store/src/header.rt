@@ -281,6 +281,7 @@ fn read(bytes: &[u8; HEADER_SIZE]) -> Option<Header>
     ensures { (header : Header) → FieldsFit header →
         header_bytes header ≡ bytes.now → result ≡ Some header }
 {
+    fw_axdr::laws::bits_packed();
     let mut marks = [0; MARKS_SIZE];
     marks.copy_from_slice(&bytes[102..]);
     let goal = if bytes[7] == 1 {

@@ -7,6 +7,7 @@ ghost use Rattle.fw_store.specs.StoreLaws.{SpliceStands, WrittenIsRead, OthersAr
 pub fn one_header()
     ensures { OneHeader }
 {
+    fw_axdr::laws::bits_packed();
     fw_names::laws::one_name();
     fw_blocks::laws::one_set_for_bytes();
 }
@@ -14,7 +15,9 @@ pub fn one_header()
 /// Every header has 614 bytes.
 pub fn header_size()
     ensures { HeaderSize }
-{}
+{
+    fw_axdr::laws::bits_packed();
+}
 
 /// A new store can have its header, where block size and running size are within their limits.
 pub fn fresh_is_header()

@@ -11,13 +11,14 @@ use crate::header::HEADER_SIZE;
 use crate::setup::{fresh_bytes, is_setup};
 use crate::slot::Slot;
 use crate::store::ImageStore;
-use std::alloc::Global;
+use std::alloc::{AllocError, Global};
 
 /// A store in memory. It fails only where a fuse makes it fail, and takes no memory but when it is made.
 #[derive(Drop)]
 pub struct MemoryStore {
     capacity: u32,
-    head: [u8; HEADER_SIZE],
+    /// Behind a pointer, so that the store moves in few words.
+    head: Box<[u8; HEADER_SIZE]>,
     first: Vec<u8>,
     second: Vec<u8>,
     fault_count: u64,
@@ -56,7 +57,7 @@ impl MemoryStore {
         if !is_setup(capacity, block_size, factory) {
             return Err(SetupError::BadSetup);
         }
-        let head = fresh_bytes(block_size, factory);
+        let head = Box::new(alloc, fresh_bytes(block_size, factory)).map_err(AllocError::from)?;
         let mut first = factory.to_vec(alloc)?;
         first.resize(capacity as usize, 0)?;
         let second = vec![in alloc; 0; capacity as usize]?;
@@ -93,7 +94,7 @@ impl MemoryStore {
         ensures { IsTrue result ↔ IsSame self.now other.now }
     {
         self.capacity == other.capacity
-            && self.head == other.head
+            && *self.head == *other.head
             && self.first == other.first
             && self.second == other.second
     }
@@ -136,7 +137,7 @@ impl ImageStore for MemoryStore {
         ensures fused { IsFused self.old self.new (is_ok result) }
     {
         burn(&mut self.fuse, &mut self.fault_count)?;
-        Ok(self.head)
+        Ok(*self.head)
     }
 
     fn write_header(&mut self, bytes: &[u8; HEADER_SIZE]) -> Result<(), StoreFault>
@@ -148,7 +149,7 @@ impl ImageStore for MemoryStore {
         ensures fused { IsFused self.old self.new (is_ok result) }
     {
         burn(&mut self.fuse, &mut self.fault_count)?;
-        self.head = *bytes;
+        self.head.copy_from_slice(bytes);
         Ok(())
     }
 

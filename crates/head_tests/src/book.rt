@@ -1,6 +1,6 @@
 //! Calls of a book of head end 7 one after another, by numbers.
 
-use crate::support::Case;
+use crate::support::{Case, Kept};
 use fw_book::{Book, BookError};
 use fw_client::{ActiveClaim, Ask, Client, Heard};
 use fw_names::{CampaignId, HeadId, MeterId};
@@ -46,9 +46,9 @@ pub(crate) fn meters(alloc: Global, numbers: &[u32]) -> Result<Vec<MeterId>, Fai
 }
 
 /// A book of head end 7 with no campaign.
-pub(crate) fn fresh(alloc: Global) -> Result<Book, Fail> {
+pub(crate) fn fresh(alloc: Global) -> Result<Kept<Book>, Fail> {
     let head = HeadId::new(7).ok_or("a head end's number begins at 1")?;
-    Ok(Book::new(alloc, head))
+    Ok(Kept(Book::new(alloc, head)))
 }
 
 /// The claim that a client of a meter hears of the answer above.
@@ -83,10 +83,10 @@ fn refusal(alloc: Global, book: &mut Book, call: &Call) -> Result<Option<BookErr
 }
 
 /// The book after calls, of which none is refused.
-pub(crate) fn after(alloc: Global, calls: &[Call]) -> Result<Book, Fail> {
+pub(crate) fn after(alloc: Global, calls: &[Call]) -> Result<Kept<Book>, Fail> {
     let mut book = fresh(alloc)?;
     for call in calls {
-        if refusal(alloc, &mut book, call)?.is_some() {
+        if refusal(alloc, &mut book.0, call)?.is_some() {
             return Err("a call was refused".into());
         }
     }
@@ -104,7 +104,8 @@ pub(crate) struct Last(pub(crate) &'static [Call]);
 impl Case for Last {
     fn told(&self, alloc: Global) -> Result<String, Fail> {
         let (last, before) = self.0.split_last().ok_or("no call")?;
-        last_text(alloc, &mut after(alloc, before)?, last)
+        let mut book = after(alloc, before)?;
+        last_text(alloc, &mut book.0, last)
     }
 }
 
@@ -125,6 +126,7 @@ pub(crate) struct Written(pub(crate) &'static [Call]);
 
 impl Case for Written {
     fn told(&self, alloc: Global) -> Result<String, Fail> {
-        bytes_of(alloc, &after(alloc, self.0)?)
+        let book = after(alloc, self.0)?;
+        bytes_of(alloc, &book.0)
     }
 }

@@ -1,7 +1,7 @@
 //! The bytes of a book, as written and as read.
 
 use crate::book::{Call, Written, bytes_of, campaign, fresh, meter};
-use crate::support::{Case, each};
+use crate::support::{Case, Kept, each};
 use fw_book::{Book, BookError};
 use fw_names::MeterId;
 use std::alloc::{AllocError, Global};
@@ -237,19 +237,30 @@ struct ReadBack(u32, u32);
 impl Case for ReadBack {
     fn told(&self, alloc: Global) -> Result<String, Fail> {
         let image = counted(alloc, self.0)?;
-        let mut book = fresh(alloc)?;
-        let meters = first_meters(alloc, self.1)?;
-        let _name = book.open_campaign(alloc, campaign(7, 1)?, &image, &meters)?;
-        read_back_text(alloc, &book.write(alloc)?, &image)
+        let written = written(alloc, &image, self.1)?;
+        read_back_text(alloc, &written, &image)
     }
 }
 
+/// The bytes of the book after it opened that campaign.
+fn written(alloc: Global, image: &[u8], count: u32) -> Result<Vec<u8>, Fail> {
+    let meters = first_meters(alloc, count)?;
+    let mut book = fresh(alloc)?;
+    let _name = book
+        .0
+        .open_campaign(alloc, campaign(7, 1)?, image, &meters)?;
+    Ok(book.0.write(alloc)?)
+}
+
 fn read_back_text(alloc: Global, written: &[u8], image: &[u8]) -> Result<String, Fail> {
-    let campaign = campaign(7, 1)?;
-    let again = Book::read(alloc, written)?;
+    let again = Kept(Book::read(alloc, written)?);
+    again_text(alloc, &again.0, written, image)
+}
+
+fn again_text(alloc: Global, again: &Book, written: &[u8], image: &[u8]) -> Result<String, Fail> {
     let same = again.write(alloc)?.as_slice() == written;
     let offered = again
-        .offer(campaign)
+        .offer(campaign(7, 1)?)
         .is_some_and(|offer| offer.image() == image);
     Ok(format!(in alloc; "{} bytes, {same}, {offered}", written.len())?)
 }
@@ -276,6 +287,8 @@ const READ_BACK: &[(ReadBack, &str)] = &[
     (ReadBack(65_535, 1), "65558 bytes, true, true"),
     (ReadBack(65_536, 1), "65559 bytes, true, true"),
     (ReadBack(131_072, 256), "132370 bytes, true, true"),
+    // the largest of all
+    (ReadBack(4_194_304, 256), "4195602 bytes, true, true"),
 ];
 
 #[test]

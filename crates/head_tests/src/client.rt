@@ -60,6 +60,8 @@ pub(crate) enum Step {
     Hear(&'static str),
     /// It drops what is outstanding.
     Forget,
+    /// Whose client it is: the meter's number.
+    Meter,
 }
 
 impl Takes<Step> for Client {
@@ -75,6 +77,7 @@ impl Takes<Step> for Client {
                 self.forget();
                 Ok(String::new(alloc))
             }
+            Step::Meter => Ok(format!(in alloc; "{}", self.meter().number())?),
         }
     }
 }
@@ -137,6 +140,15 @@ fn client_of(meter: u32) -> Result<Client, Fail> {
 /// A new client of meter 1 takes these steps.
 pub(crate) fn steps(alloc: Global, rows: &[(Step, &str)]) -> Result<(), Fail> {
     session(alloc, &mut client_of(1)?, rows)
+}
+
+/// A new client of meter 1 takes the steps of all parts.
+pub(crate) fn parts(alloc: Global, parts: &[&[(Step, &str)]]) -> Result<(), Fail> {
+    let mut client = client_of(1)?;
+    for part in parts {
+        session(alloc, &mut client, part)?;
+    }
+    Ok(())
 }
 
 /// A new client of a meter asks, and hears a datagram: what is heard.

@@ -175,7 +175,8 @@ const CALLS: &[Call] = &[
 impl Case for State {
     fn told(&self, alloc: Global) -> Result<String, Fail> {
         let (campaign, meter) = (campaign(7, self.0)?, meter(self.1)?);
-        let state = after(alloc, CALLS)?.state(campaign, meter);
+        let book = after(alloc, CALLS)?;
+        let state = book.0.state(campaign, meter);
         Ok(format!(in alloc; "{state:?}")?)
     }
 }

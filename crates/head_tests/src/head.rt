@@ -1,7 +1,7 @@
 //! What a head end is made to do, step by step. It is head end 7, and works on meter 1. APDUs stand in hexadecimal, and each is
 //! carried from and to wPort 1.
 
-use crate::support::{Takes, session};
+use crate::support::{Kept, Takes, session};
 use fw_blocks::Width;
 use fw_head::{HeadCore, News, Phase};
 use fw_names::{CampaignId, HeadId, MeterId};
@@ -49,9 +49,9 @@ pub(crate) fn head_session(
 ) -> Result<(), Fail> {
     let number = HeadId::new(7).ok_or("a head end's number begins at 1")?;
     let width = Width::new(width).ok_or("a width")?;
-    let mut head = HeadCore::new(alloc, number, width);
+    let mut head = Kept(HeadCore::new(alloc, number, width));
     for part in parts {
-        session(alloc, &mut head, part)?;
+        session(alloc, &mut head.0, part)?;
     }
     Ok(())
 }

@@ -2,7 +2,8 @@
 
 use crate::book::{Call, Last, campaign, fresh, meters};
 use crate::support::{Case, each};
-use std::alloc::Global;
+use fw_book::{Book, BookError};
+use std::alloc::{AllocError, Global};
 use std::test::Fail;
 
 /// Each refusal by itself, and before all that come after it.
@@ -102,14 +103,26 @@ struct Sized(usize, u32, u32);
 impl Case for Sized {
     fn told(&self, alloc: Global) -> Result<String, Fail> {
         let image = vec![in alloc; 0u8; self.0]?;
-        let mut numbers = Vec::new(alloc);
-        for number in 0..self.1 {
-            numbers.push(number.checked_rem(self.2).unwrap_or(number))?;
-        }
-        let meters = meters(alloc, &numbers)?;
-        let opened = fresh(alloc)?.open_campaign(alloc, campaign(7, 1)?, &image, &meters);
-        Ok(format!(in alloc; "{:?}", opened.err())?)
+        let numbers = numbers(alloc, self.1, self.2)?;
+        let refusal = refusal(alloc, &image, &numbers)?;
+        Ok(format!(in alloc; "{refusal:?}")?)
     }
+}
+
+/// So many numbers, which go round after so many.
+fn numbers(alloc: Global, count: u32, round: u32) -> Result<Vec<u32>, AllocError> {
+    let mut numbers = Vec::new(alloc);
+    for number in 0..count {
+        numbers.push(number.checked_rem(round).unwrap_or(number))?;
+    }
+    Ok(numbers)
+}
+
+fn refusal(alloc: Global, image: &[u8], numbers: &[u32]) -> Result<Option<BookError>, Fail> {
+    let meters = meters(alloc, numbers)?;
+    let mut book = fresh(alloc)?;
+    let opened = book.0.open_campaign(alloc, campaign(7, 1)?, image, &meters);
+    Ok(opened.err())
 }
 
 const LIMITS: &[(Sized, &str)] = &[
@@ -133,17 +146,21 @@ struct Name(u32, u32);
 impl Case for Name {
     fn told(&self, alloc: Global) -> Result<String, Fail> {
         let mut book = fresh(alloc)?;
-        let meters = meters(alloc, &[1])?;
-        let answered = book.open_campaign(alloc, campaign(7, 1)?, b"abc", &meters)?;
-        let answered = hex::encode(alloc, answered.to_bytes())?;
-        Ok(match book.name(campaign(self.0, self.1)?) {
-            Some(name) => {
-                let name = hex::encode(alloc, name.to_bytes())?;
-                format!(in alloc; "{answered}, {name}")?
-            }
-            None => format!(in alloc; "{answered}, none")?,
-        })
+        names_text(alloc, &mut book.0, self)
     }
+}
+
+fn names_text(alloc: Global, book: &mut Book, name: &Name) -> Result<String, Fail> {
+    let meters = meters(alloc, &[1])?;
+    let answered = book.open_campaign(alloc, campaign(7, 1)?, b"abc", &meters)?;
+    let answered = hex::encode(alloc, answered.to_bytes())?;
+    Ok(match book.name(campaign(name.0, name.1)?) {
+        Some(name) => {
+            let name = hex::encode(alloc, name.to_bytes())?;
+            format!(in alloc; "{answered}, {name}")?
+        }
+        None => format!(in alloc; "{answered}, none")?,
+    })
 }
 
 const NAMES: &[(Name, &str)] = &[

@@ -1,6 +1,6 @@
 //! Which asks are outstanding, and which datagrams are strangers'.
 
-use crate::client::{Step, Wish, steps};
+use crate::client::{Step, Wish, parts, steps};
 use crate::support::{Case, each};
 use fw_client::{AskError, OutOfMemory};
 use std::alloc::Global;
@@ -39,6 +39,7 @@ const ANSWERED_BY_A_CODE: &[(Step, &str)] = &[
 
 /// Before any ask, under an id that isn't outstanding, and once the asks are dropped.
 const NOT_ASKED: &[(Step, &str)] = &[
+    (Step::Meter, "1"),
     (Step::Hear(NAME), "Stranger"),
     ASKED_NAME,
     (Step::Hear("0001000100010006c401c1001603"), "Stranger"),
@@ -158,8 +159,8 @@ fn strangers(rt: HostRuntime) -> Result<(), Fail> {
     steps(rt.alloc(), STRANGERS)
 }
 
-/// Sixteen asks have the invoke bytes c0 to cf, and the seventeenth none, until they are dropped.
-const SIXTEEN: &[(Step, &str)] = &[
+/// Three asks have the invoke bytes c0 to c2.
+const THREE: &[(Step, &str)] = &[
     (
         Step::Ask(Wish::Verify),
         "000100010001000fc301c0001200002c0000ff03010f00",
@@ -172,6 +173,10 @@ const SIXTEEN: &[(Step, &str)] = &[
         Step::Ask(Wish::Verify),
         "000100010001000fc301c2001200002c0000ff03010f00",
     ),
+];
+
+/// Thirteen more have c3 to cf.
+const THIRTEEN: &[(Step, &str)] = &[
     (
         Step::Ask(Wish::Verify),
         "000100010001000fc301c3001200002c0000ff03010f00",
@@ -224,6 +229,10 @@ const SIXTEEN: &[(Step, &str)] = &[
         Step::Ask(Wish::Verify),
         "000100010001000fc301cf001200002c0000ff03010f00",
     ),
+];
+
+/// A seventeenth ask has none, until the sixteen are dropped.
+const SEVENTEENTH: &[(Step, &str)] = &[
     (Step::Ask(Wish::Status), "AllBusy"),
     (Step::Ask(Wish::Status), "AllBusy"),
     (Step::Forget, ""),
@@ -233,7 +242,7 @@ const SIXTEEN: &[(Step, &str)] = &[
     ),
 ];
 
-/// Answers come in any order, each to the ask of its id. An ask can't pass one that is outstanding, also where others aren't.
+/// Answers come in any order, each to the ask of its id.
 const OUT_OF_ORDER: &[(Step, &str)] = &[
     ASKED_NAME,
     (
@@ -252,58 +261,10 @@ const OUT_OF_ORDER: &[(Step, &str)] = &[
         Step::Hear("0001000100010009c401c1000600000400"),
         "Number(1024)",
     ),
-    (
-        Step::Ask(Wish::Verify),
-        "000100010001000fc301c3001200002c0000ff03010f00",
-    ),
-    (
-        Step::Ask(Wish::Verify),
-        "000100010001000fc301c4001200002c0000ff03010f00",
-    ),
-    (
-        Step::Ask(Wish::Verify),
-        "000100010001000fc301c5001200002c0000ff03010f00",
-    ),
-    (
-        Step::Ask(Wish::Verify),
-        "000100010001000fc301c6001200002c0000ff03010f00",
-    ),
-    (
-        Step::Ask(Wish::Verify),
-        "000100010001000fc301c7001200002c0000ff03010f00",
-    ),
-    (
-        Step::Ask(Wish::Verify),
-        "000100010001000fc301c8001200002c0000ff03010f00",
-    ),
-    (
-        Step::Ask(Wish::Verify),
-        "000100010001000fc301c9001200002c0000ff03010f00",
-    ),
-    (
-        Step::Ask(Wish::Verify),
-        "000100010001000fc301ca001200002c0000ff03010f00",
-    ),
-    (
-        Step::Ask(Wish::Verify),
-        "000100010001000fc301cb001200002c0000ff03010f00",
-    ),
-    (
-        Step::Ask(Wish::Verify),
-        "000100010001000fc301cc001200002c0000ff03010f00",
-    ),
-    (
-        Step::Ask(Wish::Verify),
-        "000100010001000fc301cd001200002c0000ff03010f00",
-    ),
-    (
-        Step::Ask(Wish::Verify),
-        "000100010001000fc301ce001200002c0000ff03010f00",
-    ),
-    (
-        Step::Ask(Wish::Verify),
-        "000100010001000fc301cf001200002c0000ff03010f00",
-    ),
+];
+
+/// An ask can't pass one that is outstanding, also where others aren't.
+const ONE_LEFT: &[(Step, &str)] = &[
     (Step::Ask(Wish::Verify), "AllBusy"),
     (
         Step::Hear(NAME),
@@ -322,8 +283,8 @@ const OUT_OF_ORDER: &[(Step, &str)] = &[
 
 #[test]
 fn sixteen_asks(rt: HostRuntime) -> Result<(), Fail> {
-    steps(rt.alloc(), SIXTEEN)?;
-    steps(rt.alloc(), OUT_OF_ORDER)
+    parts(rt.alloc(), &[THREE, THIRTEEN, SEVENTEENTH])?;
+    parts(rt.alloc(), &[OUT_OF_ORDER, THIRTEEN, ONE_LEFT])
 }
 
 impl Case for AskError {

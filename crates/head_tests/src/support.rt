@@ -3,6 +3,15 @@
 use std::alloc::Global;
 use std::test::Fail;
 
+/// A value whose drop is written out: each place that drops it calls that, and isn't proved to drop what the value has.
+pub(crate) struct Kept<T: Drop>(pub(crate) T);
+
+impl<T: Drop> Drop for Kept<T> {
+    fn drop(self) {
+        let Kept(_) = self;
+    }
+}
+
 /// Something that is tried, and told of in a line.
 pub(crate) trait Case {
     fn told(&self, alloc: Global) -> Result<String, Fail>;
@@ -27,10 +36,20 @@ pub(crate) fn session<S, T: Takes<S>>(
     subject: &mut T,
     rows: &[(S, &str)],
 ) -> Result<(), Fail> {
-    for (at, (step, want)) in rows.iter().enumerate() {
-        expect(alloc, at, subject.take(alloc, step)?.as_str(), want)?;
+    for (at, row) in rows.iter().enumerate() {
+        taken(alloc, subject, at, row)?;
     }
     Ok(())
+}
+
+fn taken<S, T: Takes<S>>(
+    alloc: Global,
+    subject: &mut T,
+    at: usize,
+    row: &(S, &str),
+) -> Result<(), Fail> {
+    let told = subject.take(alloc, &row.0)?;
+    expect(alloc, at, told.as_str(), row.1)
 }
 
 fn expect(alloc: Global, at: usize, found: &str, want: &str) -> Result<(), Fail> {

@@ -29,15 +29,10 @@ impl Case for Shown {
     fn told(&self, alloc: Global) -> Result<String, Fail> {
         let mut book = after(alloc, CALLS)?;
         match *self {
-            Shown::Rows => rows_text(alloc, &book),
-            Shown::Offer(head, serial) => offer_text(alloc, &book, head, serial),
-            Shown::Meter(number) => meter_text(alloc, &book, number),
-            Shown::Live => {
-                let before = has_live(&book)?;
-                book.cancel(campaign(7, 5)?)?;
-                let afterwards = has_live(&book)?;
-                Ok(format!(in alloc; "{before} {afterwards}")?)
-            }
+            Shown::Rows => rows_text(alloc, &book.0),
+            Shown::Offer(head, serial) => offer_text(alloc, &book.0, head, serial),
+            Shown::Meter(number) => meter_text(alloc, &book.0, number),
+            Shown::Live => live_text(alloc, &mut book.0),
         }
     }
 }
@@ -68,6 +63,13 @@ fn meter_text(alloc: Global, book: &Book, number: u32) -> Result<String, Fail> {
     let (state, live) = (offer.state(meter), offer.is_live(meter));
     let busy = book.is_busy(meter);
     Ok(format!(in alloc; "{state:?} {live} {busy}")?)
+}
+
+fn live_text(alloc: Global, book: &mut Book) -> Result<String, Fail> {
+    let before = has_live(book)?;
+    book.cancel(campaign(7, 5)?)?;
+    let afterwards = has_live(book)?;
+    Ok(format!(in alloc; "{before} {afterwards}")?)
 }
 
 fn has_live(book: &Book) -> Result<bool, Fail> {

@@ -7,20 +7,6 @@ use crate::wire::{Exchange, datagram};
 use std::alloc::{AllocError, Global};
 use std::test::Fail;
 
-/// Sessions, each in parts, and each with a new meter.
-const SESSIONS: &[&[&[Exchange]]] = &[
-    &[NOTHING_SENT],
-    &[TEN_BLOCKS],
-    &[SIZES_THAT_DO_NOT_FIT],
-    &[MIXED_BLOCKS, BOTH_BLOCKS_AGAIN],
-    &[LATE_BLOCK, ACTIVATED_TWICE],
-    &[LATE_BLOCK, ANOTHER_IMAGE],
-    &[BLOCKS_THAT_DO_NOT_FIT],
-    &[REFUSED_BY_A_NEW_METER],
-    &[TWO_BLOCKS],
-    &[WHOLE_TRANSFER],
-];
-
 /// The lines of a session: those that are read, and those that are written.
 fn lines(alloc: Global, parts: &[&[Exchange]]) -> Result<(String, String), AllocError> {
     let mut read = String::new(alloc);
@@ -40,12 +26,23 @@ pub(crate) fn push_line(alloc: Global, lines: &mut String, text: &str) -> Result
     lines.push_str("\n")
 }
 
+/// A session in parts, with a new meter.
+fn session(alloc: Global, parts: &[&[Exchange]]) -> Result<(), Fail> {
+    let (read, want) = lines(alloc, parts)?;
+    let found = answered(alloc, &read, &DEFAULTS)?;
+    expect(alloc, read.as_str(), found.as_str(), want.as_str())
+}
+
 #[test]
 fn each_session(rt: HostRuntime) -> Result<(), Fail> {
-    for session in SESSIONS {
-        let (read, want) = lines(rt.alloc(), session)?;
-        let found = answered(rt.alloc(), &read, &DEFAULTS)?;
-        expect(rt.alloc(), read.as_str(), found.as_str(), want.as_str())?;
-    }
-    Ok(())
+    session(rt.alloc(), &[NOTHING_SENT])?;
+    session(rt.alloc(), &[TEN_BLOCKS])?;
+    session(rt.alloc(), &[SIZES_THAT_DO_NOT_FIT])?;
+    session(rt.alloc(), &[MIXED_BLOCKS, BOTH_BLOCKS_AGAIN])?;
+    session(rt.alloc(), &[LATE_BLOCK, ACTIVATED_TWICE])?;
+    session(rt.alloc(), &[LATE_BLOCK, ANOTHER_IMAGE])?;
+    session(rt.alloc(), &[BLOCKS_THAT_DO_NOT_FIT])?;
+    session(rt.alloc(), &[REFUSED_BY_A_NEW_METER])?;
+    session(rt.alloc(), &[TWO_BLOCKS])?;
+    session(rt.alloc(), &[WHOLE_TRANSFER])
 }

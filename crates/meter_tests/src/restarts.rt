@@ -2,7 +2,7 @@
 
 use crate::apdus::*;
 use crate::sessions::*;
-use crate::wire::{Exchange, Part, sessions};
+use crate::wire::{Exchange, Part, session};
 use std::test::Fail;
 
 /// What is read of a meter in status 1 with one of two blocks, before and after a restart.
@@ -36,74 +36,77 @@ const RUNS: &[Exchange] = &[
 /// An activate that asks for no response.
 const UNHEARD: &[Exchange] = &[("c30181001200002c0000ff04010f00", "-")];
 
-const SESSIONS: &[&[Part]] = &[
-    // nothing was sent
-    &[
-        Part::Says(NOTHING_SENT),
-        Part::Restarts,
-        Part::Says(NOTHING_SENT),
-    ],
-    // between the blocks: the other one is all that is missing
-    &[
-        Part::Says(&[(ENABLE, SET_DONE), (INITIATE_ABC, DONE), (AB_AT_0, DONE)]),
-        Part::Says(ONE_BLOCK),
-        Part::Restarts,
-        Part::Says(ONE_BLOCK),
-        Part::Says(&[(C_AT_1, DONE), (VERIFY, DONE), (ACTIVATE, DONE)]),
-        Part::Shows(
-            "runs 616263 of 7 1 ba7816bf, enabled true, ActivationSuccessful, no goal, marks, switched to 7 1 ba7816bf",
-        ),
-    ],
-    // between verify and activate, and after it; the restart between them switches to nothing
-    &[
-        Part::Says(TWO_BLOCKS),
-        Part::Says(WAITS),
-        Part::Restarts,
-        Part::Says(WAITS),
-        Part::Shows(
-            "runs 616263 of 0 0 ba7816bf, enabled true, VerificationSuccessful, goal 3 of 7 1 ba7816bf, marks 0 1",
-        ),
-        Part::Says(&[(ACTIVATE, DONE)]),
-        Part::Says(RUNS),
-        Part::Restarts,
-        Part::Says(RUNS),
-        Part::Shows(
-            "runs 616263 of 7 1 ba7816bf, enabled true, ActivationSuccessful, no goal, marks, switched to 7 1 ba7816bf",
-        ),
-    ],
-    // an image whose digest differs is no better for it
-    &[
-        Part::Says(MIXED_BLOCKS),
-        Part::Says(DIFFERS),
-        Part::Restarts,
-        Part::Says(DIFFERS),
-        Part::Says(&[
-            (ACTIVATE, TEMPORARY_FAILURE),
-            (VERIFY, TEMPORARY_FAILURE),
-            (INITIATE_AAAA, DONE),
-        ]),
-    ],
-    // disabled while an image waits for its activate
-    &[
-        Part::Says(TWO_BLOCKS),
-        Part::Says(&[(DISABLE, SET_DONE)]),
-        Part::Restarts,
-        Part::SaysInVain(&[(AB_AT_0, DENIED), (ACTIVATE, DENIED)]),
-        Part::Says(&[(ENABLE, SET_DONE), (ACTIVATE, DONE)]),
-        Part::Says(RUNS),
-    ],
-    // a second image over the first
-    &[
-        Part::Says(WHOLE_TRANSFER),
-        Part::Restarts,
-        Part::Says(ANOTHER_IMAGE),
-        Part::Restarts,
-        Part::Says(&[(ACTIVATE, DONE)]),
-        Part::Restarts,
-        Part::Shows(
-            "runs 61616161 of 1 1 61be55a8, enabled true, ActivationSuccessful, no goal, marks, switched to 7 1 ba7816bf, switched to 1 1 61be55a8",
-        ),
-    ],
+/// Nothing was sent.
+const NOTHING: &[Part] = &[
+    Part::Says(NOTHING_SENT),
+    Part::Restarts,
+    Part::Says(NOTHING_SENT),
+];
+
+/// Between the blocks: the other one is all that is missing.
+const BETWEEN_BLOCKS: &[Part] = &[
+    Part::Says(&[(ENABLE, SET_DONE), (INITIATE_ABC, DONE), (AB_AT_0, DONE)]),
+    Part::Says(ONE_BLOCK),
+    Part::Restarts,
+    Part::Says(ONE_BLOCK),
+    Part::Says(&[(C_AT_1, DONE), (VERIFY, DONE), (ACTIVATE, DONE)]),
+    Part::Shows(
+        "runs 616263 of 7 1 ba7816bf, enabled true, ActivationSuccessful, no goal, marks, switched to 7 1 ba7816bf",
+    ),
+];
+
+/// Between verify and activate, and after it; the restart between them switches to nothing.
+const ROUND_ACTIVATE: &[Part] = &[
+    Part::Says(TWO_BLOCKS),
+    Part::Says(WAITS),
+    Part::Restarts,
+    Part::Says(WAITS),
+    Part::Shows(
+        "runs 616263 of 0 0 ba7816bf, enabled true, VerificationSuccessful, goal 3 of 7 1 ba7816bf, marks 0 1",
+    ),
+    Part::Says(&[(ACTIVATE, DONE)]),
+    Part::Says(RUNS),
+    Part::Restarts,
+    Part::Says(RUNS),
+    Part::Shows(
+        "runs 616263 of 7 1 ba7816bf, enabled true, ActivationSuccessful, no goal, marks, switched to 7 1 ba7816bf",
+    ),
+];
+
+/// An image whose digest differs is no better for it.
+const DIFFERENT: &[Part] = &[
+    Part::Says(MIXED_BLOCKS),
+    Part::Says(DIFFERS),
+    Part::Restarts,
+    Part::Says(DIFFERS),
+    Part::Says(&[
+        (ACTIVATE, TEMPORARY_FAILURE),
+        (VERIFY, TEMPORARY_FAILURE),
+        (INITIATE_AAAA, DONE),
+    ]),
+];
+
+/// Disabled while an image waits for its activate.
+const DISABLED: &[Part] = &[
+    Part::Says(TWO_BLOCKS),
+    Part::Says(&[(DISABLE, SET_DONE)]),
+    Part::Restarts,
+    Part::SaysInVain(&[(AB_AT_0, DENIED), (ACTIVATE, DENIED)]),
+    Part::Says(&[(ENABLE, SET_DONE), (ACTIVATE, DONE)]),
+    Part::Says(RUNS),
+];
+
+/// A second image over the first.
+const SECOND_IMAGE: &[Part] = &[
+    Part::Says(WHOLE_TRANSFER),
+    Part::Restarts,
+    Part::Says(ANOTHER_IMAGE),
+    Part::Restarts,
+    Part::Says(&[(ACTIVATE, DONE)]),
+    Part::Restarts,
+    Part::Shows(
+        "runs 61616161 of 1 1 61be55a8, enabled true, ActivationSuccessful, no goal, marks, switched to 7 1 ba7816bf, switched to 1 1 61be55a8",
+    ),
 ];
 
 /// Before the one call of the store that an activate makes, and after it. No reply is looked for.
@@ -127,6 +130,11 @@ const STOPS: &[Part] = &[
 
 #[test]
 fn each_session(rt: HostRuntime) -> Result<(), Fail> {
-    sessions(rt.alloc(), SESSIONS)?;
-    sessions(rt.alloc(), &[STOPS])
+    session(rt.alloc(), NOTHING)?;
+    session(rt.alloc(), BETWEEN_BLOCKS)?;
+    session(rt.alloc(), ROUND_ACTIVATE)?;
+    session(rt.alloc(), DIFFERENT)?;
+    session(rt.alloc(), DISABLED)?;
+    session(rt.alloc(), SECOND_IMAGE)?;
+    session(rt.alloc(), STOPS)
 }

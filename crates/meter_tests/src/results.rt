@@ -2,7 +2,7 @@
 //! and nothing changes.
 
 use crate::apdus::*;
-use crate::wire::{Exchange, Part, sessions};
+use crate::wire::{Exchange, Part, session};
 use std::test::Fail;
 
 const INITIATE_OF_NOTHING: &str =
@@ -245,5 +245,6 @@ const BY_THE_METER: &[Part] = &[
 
 #[test]
 fn each_refusal(rt: HostRuntime) -> Result<(), Fail> {
-    sessions(rt.alloc(), &[BY_THE_REQUEST, BY_THE_METER])
+    session(rt.alloc(), BY_THE_REQUEST)?;
+    session(rt.alloc(), BY_THE_METER)
 }

@@ -2,7 +2,7 @@
 
 use crate::apdus::*;
 use crate::sessions::{LATE_BLOCK, NOTHING_SENT};
-use crate::support::{Case, each};
+use crate::support::{Case, Kept, each};
 use crate::wire::{Part, opened, store_after};
 use fw_image::OpenError;
 use fw_meter::MeterCore;
@@ -18,8 +18,8 @@ struct New(u32, u32);
 
 impl Case for New {
     fn told(&self, alloc: Global) -> Result<String, Fail> {
-        let meter = opened(MemoryStore::new(alloc, self.1, self.0, b"abc")?)?;
-        Ok(format!(in alloc; "{:?}", meter.view().status)?)
+        let meter = Kept(opened(MemoryStore::new(alloc, self.1, self.0, b"abc")?)?);
+        Ok(format!(in alloc; "{:?}", meter.0.view().status)?)
     }
 }
 

@@ -3,6 +3,15 @@
 use std::alloc::Global;
 use std::test::Fail;
 
+/// A value whose drop is written out: each place that drops it calls that, and isn't proved to drop what the value has.
+pub(crate) struct Kept<T: Drop>(pub(crate) T);
+
+impl<T: Drop> Drop for Kept<T> {
+    fn drop(self) {
+        let Kept(_) = self;
+    }
+}
+
 /// Something that is tried, and told of in a line.
 pub(crate) trait Case {
     fn told(&self, alloc: Global) -> Result<String, Fail>;

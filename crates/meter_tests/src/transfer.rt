@@ -1,7 +1,7 @@
 //! Sessions with a meter, and what is then seen of it.
 
 use crate::sessions::*;
-use crate::wire::{Part, sessions};
+use crate::wire::{Part, session};
 use std::test::Fail;
 
 /// What is seen of a new meter.
@@ -9,63 +9,69 @@ pub(crate) const NEW: Part = Part::Shows(
     "runs 616263 of 0 0 ba7816bf, enabled false, NotInitiated, no goal, marks",
 );
 
-/// What is received, and what a meter refuses before it verifies.
-const RECEIVED: &[&[Part]] = &[
-    &[NEW, Part::SaysInVain(NOTHING_SENT)],
-    &[
-        Part::Says(TEN_BLOCKS),
-        Part::Shows(
-            "runs 616263 of 0 0 ba7816bf, enabled true, Initiated, goal 20 of 7 1 ba7816bf, marks 0 1 9",
-        ),
-    ],
-    &[
-        Part::Says(SIZES_THAT_DO_NOT_FIT),
-        Part::Shows("runs 616263 of 0 0 ba7816bf, enabled true, NotInitiated, no goal, marks"),
-    ],
-    &[
-        Part::Says(BLOCKS_THAT_DO_NOT_FIT),
-        Part::Shows(
-            "runs 616263 of 0 0 ba7816bf, enabled true, Initiated, goal 3 of 7 1 ba7816bf, marks",
-        ),
-    ],
-    &[Part::SaysInVain(REFUSED_BY_A_NEW_METER), NEW],
+/// A new meter is asked for all that there is to read.
+const ASKED: &[Part] = &[NEW, Part::SaysInVain(NOTHING_SENT)];
+
+/// Three of ten blocks are received.
+const BLOCKS: &[Part] = &[
+    Part::Says(TEN_BLOCKS),
+    Part::Shows(
+        "runs 616263 of 0 0 ba7816bf, enabled true, Initiated, goal 20 of 7 1 ba7816bf, marks 0 1 9",
+    ),
 ];
 
-/// A late block, and another image, after an image is verified.
-const LATE: &[&[Part]] = &[
-    &[
-        Part::Says(LATE_BLOCK),
-        Part::Shows(
-            "runs 616263 of 0 0 ba7816bf, enabled true, VerificationSuccessful, goal 4 of 2 1 81cc5b17, marks 0 1",
-        ),
-        Part::Says(ACTIVATED_TWICE),
-        Part::Shows(
-            "runs 62626262 of 2 1 81cc5b17, enabled true, ActivationSuccessful, no goal, marks, switched to 2 1 81cc5b17",
-        ),
-    ],
-    &[
-        Part::Says(LATE_BLOCK),
-        Part::Says(ANOTHER_IMAGE),
-        Part::Shows(
-            "runs 616263 of 0 0 ba7816bf, enabled true, VerificationSuccessful, goal 4 of 1 1 61be55a8, marks 0 1",
-        ),
-    ],
+/// Sizes that don't fit are refused.
+const SIZES: &[Part] = &[
+    Part::Says(SIZES_THAT_DO_NOT_FIT),
+    Part::Shows("runs 616263 of 0 0 ba7816bf, enabled true, NotInitiated, no goal, marks"),
 ];
 
-/// Whole transfers.
-const WHOLE: &[&[Part]] = &[
-    &[
-        Part::Says(TWO_BLOCKS),
-        Part::Shows(
-            "runs 616263 of 0 0 ba7816bf, enabled true, VerificationSuccessful, goal 3 of 7 1 ba7816bf, marks 0 1",
-        ),
-    ],
-    &[
-        Part::Says(WHOLE_TRANSFER),
-        Part::Shows(
-            "runs 616263 of 7 1 ba7816bf, enabled true, ActivationSuccessful, no goal, marks, switched to 7 1 ba7816bf",
-        ),
-    ],
+/// Blocks that don't fit are refused.
+const OTHER_BLOCKS: &[Part] = &[
+    Part::Says(BLOCKS_THAT_DO_NOT_FIT),
+    Part::Shows(
+        "runs 616263 of 0 0 ba7816bf, enabled true, Initiated, goal 3 of 7 1 ba7816bf, marks",
+    ),
+];
+
+/// A new meter refuses what it can't do.
+const REFUSED: &[Part] = &[Part::SaysInVain(REFUSED_BY_A_NEW_METER), NEW];
+
+/// A late block after an image is verified.
+const LATE: &[Part] = &[
+    Part::Says(LATE_BLOCK),
+    Part::Shows(
+        "runs 616263 of 0 0 ba7816bf, enabled true, VerificationSuccessful, goal 4 of 2 1 81cc5b17, marks 0 1",
+    ),
+    Part::Says(ACTIVATED_TWICE),
+    Part::Shows(
+        "runs 62626262 of 2 1 81cc5b17, enabled true, ActivationSuccessful, no goal, marks, switched to 2 1 81cc5b17",
+    ),
+];
+
+/// Another image after one is verified.
+const ANOTHER: &[Part] = &[
+    Part::Says(LATE_BLOCK),
+    Part::Says(ANOTHER_IMAGE),
+    Part::Shows(
+        "runs 616263 of 0 0 ba7816bf, enabled true, VerificationSuccessful, goal 4 of 1 1 61be55a8, marks 0 1",
+    ),
+];
+
+/// A transfer up to where the image can be switched to.
+const WAITS: &[Part] = &[
+    Part::Says(TWO_BLOCKS),
+    Part::Shows(
+        "runs 616263 of 0 0 ba7816bf, enabled true, VerificationSuccessful, goal 3 of 7 1 ba7816bf, marks 0 1",
+    ),
+];
+
+/// A whole transfer.
+const WHOLE: &[Part] = &[
+    Part::Says(WHOLE_TRANSFER),
+    Part::Shows(
+        "runs 616263 of 7 1 ba7816bf, enabled true, ActivationSuccessful, no goal, marks, switched to 7 1 ba7816bf",
+    ),
 ];
 
 /// An image whose bytes aren't those that its name stands for never runs. The same name can be offered again.
@@ -82,8 +88,14 @@ const MIXED: &[Part] = &[
 
 #[test]
 fn each_session(rt: HostRuntime) -> Result<(), Fail> {
-    sessions(rt.alloc(), RECEIVED)?;
-    sessions(rt.alloc(), LATE)?;
-    sessions(rt.alloc(), WHOLE)?;
-    sessions(rt.alloc(), &[MIXED])
+    session(rt.alloc(), ASKED)?;
+    session(rt.alloc(), BLOCKS)?;
+    session(rt.alloc(), SIZES)?;
+    session(rt.alloc(), OTHER_BLOCKS)?;
+    session(rt.alloc(), REFUSED)?;
+    session(rt.alloc(), LATE)?;
+    session(rt.alloc(), ANOTHER)?;
+    session(rt.alloc(), WAITS)?;
+    session(rt.alloc(), WHOLE)?;
+    session(rt.alloc(), MIXED)
 }

@@ -5,7 +5,7 @@ use crate::support::expect;
 use fw_image::MeterView;
 use fw_meter::MeterCore;
 use fw_names::ImageName;
-use fw_store::MemoryStore;
+use fw_store::{Goal, MemoryStore};
 use std::alloc::{AllocError, Global};
 use std::test::Fail;
 
@@ -37,9 +37,14 @@ pub(crate) enum Part {
 /// Sessions, each with a new meter that runs `abc`, with blocks of two bytes and room for 64.
 pub(crate) fn sessions(alloc: Global, sessions: &[&[Part]]) -> Result<(), Fail> {
     for parts in sessions {
-        session_with(alloc, 2, 64, parts)?;
+        session(alloc, parts)?;
     }
     Ok(())
+}
+
+/// One of them.
+pub(crate) fn session(alloc: Global, parts: &[Part]) -> Result<(), Fail> {
+    session_with(alloc, 2, 64, parts)
 }
 
 /// Sessions, each with a new meter that runs `x`, with blocks of 1,024 bytes and room for 8,193.
@@ -64,7 +69,7 @@ pub(crate) fn session_with(
 /// The store of a new meter that runs `abc`, with blocks of two bytes and room for 64, after a session. A restart hands it back
 /// where a call of it fails.
 pub(crate) fn store_after(alloc: Global, parts: &[Part]) -> Result<MemoryStore, Fail> {
-    let mut meter = played(alloc, 2, 64, b"abc", parts)?.meter;
+    let mut meter = played(alloc, 2, 64, b"abc", parts)?.into_meter();
     meter.fuse(0, 0);
     match meter.restart() {
         Ok(_meter) => Err("a meter was opened from a store that fails".into()),
@@ -104,14 +109,25 @@ pub(crate) fn opened(store: MemoryStore) -> Result<MeterCore<MemoryStore>, Fail>
     }
 }
 
-/// A meter, and the names that it told of when it switched to their images.
-#[derive(Drop)]
+/// A meter, and the names that it told of when it switched to their images. Its drop is written out, so that each place that drops it
+/// calls that, and isn't proved to drop what it has.
 struct Wire {
     meter: MeterCore<MemoryStore>,
     told: String,
 }
 
+impl Drop for Wire {
+    fn drop(self) {
+        let Wire { meter: _, told: _ } = self;
+    }
+}
+
 impl Wire {
+    fn into_meter(self) -> MeterCore<MemoryStore> {
+        let Wire { meter, told: _ } = self;
+        meter
+    }
+
     fn restarted(self) -> Result<Wire, Fail> {
         let Wire { meter, told } = self;
         match meter.restart() {
@@ -182,47 +198,61 @@ impl Wire {
     fn reply_to(&mut self, alloc: Global, request: &str) -> Result<String, Fail> {
         let datagram = hex::decode(alloc, datagram(alloc, request)?.as_str())?;
         let handled = self.meter.handle(alloc, &datagram)?;
-        if let Some(name) = handled.activated {
-            self.told.push_str(", switched to ")?;
-            self.told.push_str(name_text(alloc, name)?.as_str())?;
-        }
+        self.tell(alloc, handled.activated)?;
         Ok(match handled.reply {
             Some(reply) => hex::encode(alloc, reply.as_slice())?,
             None => String::from_str(alloc, "-")?,
         })
     }
 
+    /// Tells of the name of the image that the meter switched to, if it did.
+    fn tell(&mut self, alloc: Global, activated: Option<ImageName>) -> Result<(), AllocError> {
+        if let Some(name) = activated {
+            self.told.push_str(", switched to ")?;
+            self.told.push_str(name_text(alloc, name)?.as_str())?;
+        }
+        Ok(())
+    }
+
     /// What can be seen: the image that runs and its name, whether transfer is enabled, the status, the goal's size and name, the
     /// blocks that are marked, and the names that the meter has told of.
     fn sight(&mut self, alloc: Global) -> Result<String, Fail> {
-        let view = self.meter.view();
-        let mut image = vec![in alloc; 0; view.active_size as usize]?;
-        self.meter.read_running(&mut image)?;
-        let image = hex::encode(alloc, image.as_slice())?;
-        let name = name_text(alloc, view.active)?;
-        let transfer = transfer_text(alloc, &view)?;
+        let image = self.running(alloc)?;
+        let transfer = transfer_text(alloc, &self.meter.view())?;
         let told = self.told.as_str();
-        Ok(format!(in alloc; "runs {image} of {name}, {transfer}{told}")?)
+        Ok(format!(in alloc; "runs {image} of {transfer}{told}")?)
+    }
+
+    /// The image that runs.
+    fn running(&mut self, alloc: Global) -> Result<String, Fail> {
+        let mut image = vec![in alloc; 0; self.meter.view().active_size as usize]?;
+        self.meter.read_running(&mut image)?;
+        Ok(hex::encode(alloc, image.as_slice())?)
     }
 }
 
-/// What can be seen of a transfer.
+/// The name of the image that runs, and what can be seen of a transfer.
 fn transfer_text(alloc: Global, view: &MeterView) -> Result<String, AllocError> {
-    let goal = match view.goal {
-        None => String::from_str(alloc, "no goal")?,
-        Some(goal) => {
-            let name = name_text(alloc, goal.name)?;
-            let size = goal.size;
-            format!(in alloc; "goal {size} of {name}")?
-        }
-    };
+    let name = name_text(alloc, view.active)?;
+    let goal = goal_text(alloc, view.goal)?;
     let marks = marks_text(alloc, view)?;
     let MeterView {
         enabled,
         status,
         ..
     } = view;
-    format!(in alloc; "enabled {enabled}, {status:?}, {goal}, marks{marks}")
+    format!(in alloc; "{name}, enabled {enabled}, {status:?}, {goal}, marks{marks}")
+}
+
+/// The size and the name of the image that is received.
+fn goal_text(alloc: Global, goal: Option<Goal>) -> Result<String, AllocError> {
+    match goal {
+        None => String::from_str(alloc, "no goal"),
+        Some(goal) => {
+            let name = name_text(alloc, goal.name)?;
+            format!(in alloc; "goal {} of {name}", goal.size)
+        }
+    }
 }
 
 /// The numbers of the head end and the campaign, and the first four bytes of the digest.

@@ -34,13 +34,29 @@ enum Told {
 
 impl Case for Told {
     fn told(&self, alloc: Global) -> Result<String, Fail> {
-        let apdu = answer(alloc, &Invoke(0xc1), &outcome(alloc, self)?)?;
-        Ok(hex::encode(alloc, apdu.as_slice())?)
+        let outcome = outcome(alloc, self)?;
+        answer_text(alloc, 0xc1, &outcome)
     }
 }
 
+/// The answer of a request with this invoke byte, in hexadecimal.
+fn answer_text(alloc: Global, invoke: u8, outcome: &Outcome) -> Result<String, Fail> {
+    let apdu = answer(alloc, &Invoke(invoke), outcome)?;
+    Ok(hex::encode(alloc, apdu.as_slice())?)
+}
+
 fn outcome(alloc: Global, told: &Told) -> Result<Outcome, Fail> {
-    let answer = match *told {
+    Ok(match *told {
+        Told::GetCode(code) => Outcome::GetCode(code),
+        Told::SetCode(code) => Outcome::SetCode(code),
+        Told::ActionCode(code) => Outcome::ActionCode(code),
+        _ => Outcome::Got(got(alloc, told)?),
+    })
+}
+
+/// What is got, where no code is told.
+fn got(alloc: Global, told: &Told) -> Result<Answer, Fail> {
+    Ok(match *told {
         Told::LogicalName(name) => Answer::LogicalName(LogicalName(name)),
         Told::BlockSize(size) => Answer::BlockSize(size),
         Told::FirstNotTransferred(number) => Answer::FirstNotTransferred(number),
@@ -48,17 +64,14 @@ fn outcome(alloc: Global, told: &Told) -> Result<Outcome, Fail> {
         Told::Status(status) => Answer::TransferStatus(status),
         Told::Blocks(bytes, len) => Answer::TransferredBlocks(bits(alloc, bytes, len)?),
         Told::NothingToActivate => Answer::ToActivate(None),
-        Told::AbcToActivate => {
-            let name = abc_name().ok_or("a name")?;
-            Answer::ToActivate(Some(ImageInfo { size: 3, name }))
-        }
+        Told::AbcToActivate => Answer::ToActivate(abc_name().map(|name| ImageInfo {
+            size: 3,
+            name,
+        })),
         Told::AbcName => Answer::ActiveName(factory_name(b"abc")),
         Told::AbcDigest => Answer::ActiveDigest(factory_name(b"abc").digest),
-        Told::GetCode(code) => return Ok(Outcome::GetCode(code)),
-        Told::SetCode(code) => return Ok(Outcome::SetCode(code)),
-        Told::ActionCode(code) => return Ok(Outcome::ActionCode(code)),
-    };
-    Ok(Outcome::Got(answer))
+        _ => return Err("a code is told".into()),
+    })
 }
 
 /// So many bits, of these bytes.
@@ -129,16 +142,24 @@ struct Most(usize);
 
 impl Case for Most {
     fn told(&self, alloc: Global) -> Result<String, Fail> {
-        let mut bytes = vec![in alloc; 0; self.0.div_ceil(8)]?;
-        if let Some(first) = bytes.first_mut() {
-            *first = 0x80;
-        }
-        let blocks = bits(alloc, &bytes, self.0)?;
-        let outcome = Outcome::Got(Answer::TransferredBlocks(blocks));
+        let outcome = Outcome::Got(Answer::TransferredBlocks(first_of(alloc, self.0)?));
         let apdu = answer(alloc, &Invoke(0xc1), &outcome)?;
-        let front = hex::encode(alloc, apdu.as_slice().get(..10).unwrap_or(&[]))?;
-        Ok(format!(in alloc; "{} {front}", apdu.len())?)
+        front_text(alloc, apdu.as_slice())
     }
+}
+
+/// So many bits, of which the first is set.
+fn first_of(alloc: Global, len: usize) -> Result<Bits, Fail> {
+    let mut bytes = vec![in alloc; 0; len.div_ceil(8)]?;
+    if let Some(first) = bytes.first_mut() {
+        *first = 0x80;
+    }
+    bits(alloc, &bytes, len)
+}
+
+fn front_text(alloc: Global, apdu: &[u8]) -> Result<String, Fail> {
+    let front = hex::encode(alloc, apdu.get(..10).unwrap_or(&[]))?;
+    Ok(format!(in alloc; "{} {front}", apdu.len())?)
 }
 
 /// An invoke byte, which is repeated whole: the answer to a SET that is done.
@@ -146,8 +167,7 @@ struct Repeated(u8);
 
 impl Case for Repeated {
     fn told(&self, alloc: Global) -> Result<String, Fail> {
-        let apdu = answer(alloc, &Invoke(self.0), &Outcome::SetCode(0))?;
-        Ok(hex::encode(alloc, apdu.as_slice())?)
+        answer_text(alloc, self.0, &Outcome::SetCode(0))
     }
 }
 

@@ -1,6 +1,7 @@
 //! Calls of a store, one after another. Expected bytes are worked out by hand from the format, and the SHA-256 of `abc` is the
 //! published one.
 
+use crate::headers::padded;
 use crate::support::Takes;
 use crate::test_device::TestDevice;
 use fw_store::{DeviceStore, FileStore, HEADER_SIZE, ImageStore, MemoryStore, Slot, StoreFault};
@@ -30,17 +31,18 @@ pub(crate) fn called<S: ImageStore>(
     match *call {
         Call::Header => header_text(alloc, store.header()),
         Call::WriteHeader(begin) => {
-            let mut bytes = [0; HEADER_SIZE];
-            for (byte, is) in bytes.iter_mut().zip(begin) {
-                *byte = *is;
-            }
+            let bytes = padded(begin).ok_or("it is too long")?;
             Ok(done_text(alloc, store.write_header(&bytes))?)
         }
         Call::Read(slot, at, count) => read_text(alloc, store, slot, at, count),
         Call::Write(slot, at, bytes) => write_text(alloc, store, slot, at, bytes),
-        Call::Capacity => Ok(format!(in alloc; "{}", store.capacity())?),
-        Call::Faults => Ok(format!(in alloc; "{}", store.faults())?),
+        Call::Capacity => Ok(number_text(alloc, u64::from(store.capacity()))?),
+        Call::Faults => Ok(number_text(alloc, store.faults())?),
     }
+}
+
+fn number_text(alloc: Global, number: u64) -> Result<String, AllocError> {
+    format!(in alloc; "{number}")
 }
 
 fn header_text(

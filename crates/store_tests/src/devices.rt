@@ -5,7 +5,7 @@ use crate::memory::Setup;
 use crate::support::{Case, each, session};
 use crate::test_device::TestDevice;
 use fw_store::{ByteDevice, DeviceStore, FileStoreError, ImageStore, Slot};
-use std::alloc::Global;
+use std::alloc::{AllocError, Global};
 use std::test::Fail;
 
 /// A new store of 8 bytes a slot.
@@ -68,19 +68,22 @@ struct Opened(&'static [u8], usize);
 
 impl Case for Opened {
     fn told(&self, alloc: Global) -> Result<String, Fail> {
-        let mut bytes = vec![in alloc; 0; self.1]?;
-        for (byte, is) in bytes.iter_mut().zip(self.0) {
-            *byte = *is;
-        }
-        let device = TestDevice {
-            bytes,
-            calls_left: None,
-        };
-        Ok(match DeviceStore::reopen_on(device) {
+        Ok(match DeviceStore::reopen_on(device(alloc, self)?) {
             Ok(store) => format!(in alloc; "{}", store.capacity())?,
             Err(refusal) => refusal.to_string(alloc)?,
         })
     }
+}
+
+fn device(alloc: Global, opened: &Opened) -> Result<TestDevice, AllocError> {
+    let mut bytes = vec![in alloc; 0; opened.1]?;
+    for (byte, is) in bytes.iter_mut().zip(opened.0) {
+        *byte = *is;
+    }
+    Ok(TestDevice {
+        bytes,
+        calls_left: None,
+    })
 }
 
 /// The capacity in the first four bytes, and the length of all.

@@ -123,31 +123,40 @@ struct Steps(u32);
 
 impl Case for Steps {
     fn told(&self, alloc: Global) -> Result<String, Fail> {
-        let mut store = MemoryStore::new(alloc, 8_200, 2, b"xyz")?;
+        let whole = Sha256::digest(counted(alloc, self.0)?.as_slice());
         let bytes = counted(alloc, 8_200)?;
-        if bytes.len() > store.capacity() as usize || self.0 > store.capacity() {
-            return Err("the bytes don't fit".into());
-        }
-        store.write(Slot::Second, 0, &bytes)?;
-        let mut digesting = Digesting::begin(Slot::Second, self.0);
-        let first = digesting.step(&mut store)?;
-        let one = digesting.taken();
-        let second = digesting.step(&mut store)?;
-        let two = digesting.taken();
-        store.fuse(0, 0);
-        let fails = digesting.step(&mut store).is_err();
-        store.unfuse();
-        let third = digesting.step(&mut store)?;
-        let three = digesting.taken();
-        store.fuse(0, 0);
-        if !digesting.step(&mut store)? {
-            return Err("some bytes are left".into());
-        }
-        let same = digesting.finish() == Sha256::digest(counted(alloc, self.0)?.as_slice());
-        Ok(format!(in alloc;
-            "{one} {first}, {two} {second}, fails {fails}, {three} {third}, {same}"
-        )?)
+        let mut store = MemoryStore::new(alloc, 8_200, 2, b"xyz")?;
+        steps_text(alloc, &mut store, &bytes, self.0, &whole)
     }
+}
+
+fn steps_text(
+    alloc: Global,
+    store: &mut MemoryStore,
+    bytes: &[u8],
+    size: u32,
+    whole: &[u8; 32],
+) -> Result<String, Fail> {
+    if bytes.len() > store.capacity() as usize || size > store.capacity() {
+        return Err("the bytes don't fit".into());
+    }
+    store.write(Slot::Second, 0, bytes)?;
+    let mut digesting = Digesting::begin(Slot::Second, size);
+    let first = digesting.step(store)?;
+    let one = digesting.taken();
+    let second = digesting.step(store)?;
+    let two = digesting.taken();
+    store.fuse(0, 0);
+    let fails = digesting.step(store).is_err();
+    store.unfuse();
+    let third = digesting.step(store)?;
+    let three = digesting.taken();
+    store.fuse(0, 0);
+    if !digesting.step(store)? {
+        return Err("some bytes are left".into());
+    }
+    let same = digesting.finish() == *whole;
+    Ok(format!(in alloc; "{one} {first}, {two} {second}, fails {fails}, {three} {third}, {same}")?)
 }
 
 const STEPS: &[(Steps, &str)] = &[

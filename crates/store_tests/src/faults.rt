@@ -96,17 +96,11 @@ const OTHER_HEADERS_THAT_ARE_NOT_WRITTEN: &[Row] = &[
 
 #[test]
 fn each_call_that_fails(rt: HostRuntime) -> Result<(), Fail> {
-    let sessions: &[&[&[Row]]] = &[
-        &[A_VERIFY_THAT_FAILS],
-        &[A_SPOILT_VERIFY_THAT_FAILS],
-        &[A_BLOCK_THAT_FAILS],
-        // stopped round the switch
-        &[TO_VERIFIED, STOP_BEFORE],
-        &[TO_VERIFIED, STOP_AFTER],
-        &[OTHER_HEADERS_THAT_ARE_NOT_WRITTEN],
-    ];
-    for parts in sessions {
-        session(rt.alloc(), false, parts)?;
-    }
-    Ok(())
+    session(rt.alloc(), false, &[A_VERIFY_THAT_FAILS])?;
+    session(rt.alloc(), false, &[A_SPOILT_VERIFY_THAT_FAILS])?;
+    session(rt.alloc(), false, &[A_BLOCK_THAT_FAILS])?;
+    // stopped round the switch
+    session(rt.alloc(), false, &[TO_VERIFIED, STOP_BEFORE])?;
+    session(rt.alloc(), false, &[TO_VERIFIED, STOP_AFTER])?;
+    session(rt.alloc(), false, &[OTHER_HEADERS_THAT_ARE_NOT_WRITTEN])
 }

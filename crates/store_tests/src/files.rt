@@ -1,13 +1,183 @@
 //! Stores in files.
 
 use crate::calls::{Call, FRESH, FRESH_BYTES, KEPT, WRITES, stored_text};
-use crate::support::{expect, session};
+use crate::support::{Takes, session};
 use fw_store::{FileStore, FileStoreError, Slot};
-use std::path::{Path, PathBuf};
+use std::alloc::Global;
+use std::path::PathBuf;
 use std::test::Fail;
 use std::{env, fs};
 
-/// A path of a test's own, where there is no file.
+/// A step at a path of a test's own.
+enum Step {
+    /// A store with so many bytes a slot, blocks of so many bytes and the factory image `abc` is made: what is answered.
+    Create(u32, u32),
+    /// The store is opened: what is answered.
+    Reopen,
+    /// The same, which leaves the file as it was.
+    Look,
+    /// Calls of the store that was made or opened last. It is held until another one is, or until it is dropped.
+    Calls(&'static [(Call, &'static str)]),
+    Drop,
+    /// The bytes of the file, as those of a store, and as they are.
+    Stored,
+    Bytes,
+    /// A file of these bytes is written.
+    Write(&'static [u8]),
+    /// The file is made so long.
+    SetLen(u64),
+    /// Whether there is a file.
+    Exists,
+    Remove,
+    /// A folder is made in place of the file, and removed.
+    CreateDir,
+    RemoveDir,
+    /// The path goes on in a folder that isn't there.
+    Absent,
+}
+
+/// A path, and the store there that is held, if there is one. Its drop is written out, so that each place that drops it calls that, and
+/// isn't proved to drop what it has.
+struct Place<'a> {
+    rt: &'a HostRuntime,
+    path: PathBuf,
+    store: Option<FileStore>,
+}
+
+impl Drop for Place<'_> {
+    fn drop(self) {
+        let Place {
+            rt: _,
+            path: _,
+            store: _,
+        } = self;
+    }
+}
+
+impl Takes<Step> for Place<'_> {
+    fn take(&mut self, alloc: Global, step: &Step) -> Result<String, Fail> {
+        match step {
+            Step::Stored => self.stored(alloc),
+            Step::Bytes => self.bytes(alloc),
+            step => Ok(String::from_str(alloc, self.answer(alloc, step)?)?),
+        }
+    }
+}
+
+impl Place<'_> {
+    /// What is answered to a step, and nothing where nothing is.
+    fn answer(&mut self, alloc: Global, step: &Step) -> Result<&'static str, Fail> {
+        match step {
+            Step::Create(capacity, block_size) => Ok(self.create(*capacity, *block_size)),
+            Step::Reopen => Ok(self.reopen()),
+            Step::Look => self.look(),
+            Step::Exists => self.exists(),
+            step => {
+                self.change(alloc, step)?;
+                Ok("")
+            }
+        }
+    }
+
+    fn create(&mut self, capacity: u32, block_size: u32) -> &'static str {
+        let path = self.path.as_path();
+        let made = FileStore::create(self.rt, path, capacity, block_size, b"abc");
+        self.hold(made)
+    }
+
+    fn reopen(&mut self) -> &'static str {
+        let opened = FileStore::reopen(self.rt, self.path.as_path());
+        self.hold(opened)
+    }
+
+    fn hold(&mut self, answer: Result<FileStore, FileStoreError>) -> &'static str {
+        match answer {
+            Ok(store) => {
+                self.store = Some(store);
+                "a store"
+            }
+            Err(FileStoreError::StoreFault) => "StoreFault",
+            Err(FileStoreError::BadSetup) => "BadSetup",
+            Err(FileStoreError::BadFile) => "BadFile",
+            Err(FileStoreError::OutOfMemory) => "OutOfMemory",
+        }
+    }
+
+    fn look(&mut self) -> Result<&'static str, Fail> {
+        let before = fs::read(self.rt, self.path.as_path())?;
+        let told = self.reopen();
+        if fs::read(self.rt, self.path.as_path())? == before {
+            Ok(told)
+        } else {
+            Err("the file was changed".into())
+        }
+    }
+
+    fn exists(&self) -> Result<&'static str, Fail> {
+        if fs::exists(self.rt, self.path.as_path())? {
+            Ok("a file")
+        } else {
+            Ok("no file")
+        }
+    }
+
+    fn stored(&self, alloc: Global) -> Result<String, Fail> {
+        let bytes = fs::read(self.rt, self.path.as_path())?;
+        stored_text(alloc, bytes.as_slice())
+    }
+
+    fn bytes(&self, alloc: Global) -> Result<String, Fail> {
+        let bytes = fs::read(self.rt, self.path.as_path())?;
+        Ok(hex::encode(alloc, bytes.as_slice())?)
+    }
+
+    fn change(&mut self, alloc: Global, step: &Step) -> Result<(), Fail> {
+        match step {
+            Step::Calls(rows) => return self.calls(alloc, rows),
+            Step::Drop => self.store = None,
+            Step::Absent => self.path.push("store")?,
+            step => return self.change_file(step),
+        }
+        Ok(())
+    }
+
+    fn calls(&mut self, alloc: Global, rows: &[(Call, &str)]) -> Result<(), Fail> {
+        match &mut self.store {
+            Some(store) => session(alloc, store, rows),
+            None => Err("no store is held".into()),
+        }
+    }
+
+    fn change_file(&self, step: &Step) -> Result<(), Fail> {
+        let path = self.path.as_path();
+        match step {
+            Step::Write(bytes) => fs::write(self.rt, path, *bytes)?,
+            Step::SetLen(len) => return self.set_len(*len),
+            Step::Remove => fs::remove_file(self.rt, path)?,
+            Step::CreateDir => fs::create_dir(self.rt, path)?,
+            Step::RemoveDir => fs::remove_dir(self.rt, path)?,
+            _ => return Err("no change of a file".into()),
+        }
+        Ok(())
+    }
+
+    fn set_len(&self, len: u64) -> Result<(), Fail> {
+        let path = self.path.as_path();
+        let file = fs::OpenOptions::new().write(true).open(self.rt, path)?;
+        Ok(file.set_len(len)?)
+    }
+}
+
+/// Takes the steps at a path in the folder of temporary files, where there is no file at first.
+fn steps(rt: &HostRuntime, name: &str, rows: &[(Step, &str)]) -> Result<(), Fail> {
+    let mut place = Place {
+        rt,
+        path: path_of(rt, name)?,
+        store: None,
+    };
+    session(rt.alloc(), &mut place, rows)
+}
+
 fn path_of(rt: &HostRuntime, name: &str) -> Result<PathBuf, Fail> {
     let mut path = env::temp_dir(rt)?;
     path.push(name)?;
@@ -17,229 +187,166 @@ fn path_of(rt: &HostRuntime, name: &str) -> Result<PathBuf, Fail> {
     Ok(path)
 }
 
-/// The bytes of a store in a file.
-fn file_text(rt: &HostRuntime, path: Path<'_>) -> Result<String, Fail> {
-    stored_text(rt.alloc(), fs::read(rt, path)?.as_slice())
-}
-
-/// Calls of a new store in a file, and the bytes of the file then.
-type Row = (&'static [(Call, &'static str)], &'static str);
-
-const FILES: &[Row] = &[
-    (FRESH, FRESH_BYTES),
+/// The bytes of the file of a new store, and after calls.
+const STORED: &[(Step, &str)] = &[
+    (Step::Create(8, 2), "a store"),
+    (Step::Calls(FRESH), ""),
+    (Step::Drop, ""),
+    (Step::Stored, FRESH_BYTES),
+    (Step::Remove, ""),
+    (Step::Create(8, 2), "a store"),
+    (Step::Calls(&[(Call::WriteHeader(&[7, 7]), "done")]), ""),
+    (Step::Drop, ""),
     (
-        &[(Call::WriteHeader(&[7, 7]), "done")],
+        Step::Stored,
         "634 bytes: 00000008 0707 61626300000000000000000000000000",
     ),
+    (Step::Remove, ""),
+    (Step::Create(8, 2), "a store"),
     (
-        &[(Call::Write(Slot::First, 3, b"defgh"), "done")],
+        Step::Calls(&[(Call::Write(Slot::First, 3, b"defgh"), "done")]),
+        "",
+    ),
+    (Step::Drop, ""),
+    (
+        Step::Stored,
         "634 bytes: 00000008 46574831000000000000000200000003010000000000000000ba7816bf8f01cfea414140de5dae2223b00361a396177a9cb410ff61f20015ad 61626364656667680000000000000000",
     ),
+    (Step::Remove, ""),
+    (Step::Create(8, 2), "a store"),
     (
-        &[
+        Step::Calls(&[
             (Call::WriteHeader(&[7, 7]), "done"),
             (Call::Write(Slot::First, 3, b"defgh"), "done"),
             (Call::Write(Slot::Second, 0, b"ij"), "done"),
-        ],
+        ]),
+        "",
+    ),
+    (Step::Drop, ""),
+    (
+        Step::Stored,
         "634 bytes: 00000008 0707 6162636465666768696a000000000000",
     ),
+    (Step::Remove, ""),
+];
+
+/// What is written is there when the store is reopened.
+const REOPENED: &[(Step, &str)] = &[
+    (Step::Create(8, 2), "a store"),
+    (Step::Calls(WRITES), ""),
+    (Step::Calls(KEPT), ""),
+    (Step::Drop, ""),
+    (Step::Reopen, "a store"),
+    (Step::Calls(KEPT), ""),
+    (Step::Remove, ""),
 ];
 
 #[test]
 fn the_bytes_of_the_file(rt: HostRuntime) -> Result<(), Fail> {
-    let path = path_of(&rt, "fw_store_bytes")?;
-    let path = path.as_path();
-    for (rows, want) in FILES {
-        let mut store = FileStore::create(&rt, path, 8, 2, b"abc")?;
-        session(rt.alloc(), &mut store, rows)?;
-        drop(store);
-        expect(rt.alloc(), 0, file_text(&rt, path)?.as_str(), want)?;
-        fs::remove_file(&rt, path)?;
-    }
-    Ok(())
-}
-
-#[test]
-fn is_there_when_reopened(rt: HostRuntime) -> Result<(), Fail> {
-    let path = path_of(&rt, "fw_store_reopened")?;
-    let path = path.as_path();
-    let mut store = FileStore::create(&rt, path, 8, 2, b"abc")?;
-    session(rt.alloc(), &mut store, WRITES)?;
-    session(rt.alloc(), &mut store, KEPT)?;
-    drop(store);
-    session(rt.alloc(), &mut FileStore::reopen(&rt, path)?, KEPT)?;
-    fs::remove_file(&rt, path)?;
-    Ok(())
-}
-
-/// What is answered to an opening.
-fn outcome(opened: Result<FileStore, FileStoreError>) -> &'static str {
-    match opened {
-        Ok(_store) => "a store",
-        Err(FileStoreError::StoreFault) => "StoreFault",
-        Err(FileStoreError::BadSetup) => "BadSetup",
-        Err(FileStoreError::BadFile) => "BadFile",
-        Err(FileStoreError::OutOfMemory) => "OutOfMemory",
-    }
+    steps(&rt, "fw_store_bytes", STORED)?;
+    steps(&rt, "fw_store_reopened", REOPENED)
 }
 
 /// A file that is there is never overwritten.
-#[test]
-fn a_file_that_is_there_is_left(rt: HostRuntime) -> Result<(), Fail> {
-    let path = path_of(&rt, "fw_store_there")?;
-    let path = path.as_path();
-    fs::write(&rt, path, b"other bytes".as_slice())?;
-    let found = outcome(FileStore::create(&rt, path, 8, 2, b"abc"));
-    expect(rt.alloc(), 0, found, "StoreFault")?;
-    expect(
-        rt.alloc(),
-        1,
-        hex::encode(rt.alloc(), fs::read(&rt, path)?.as_slice())?.as_str(),
-        "6f74686572206279746573",
-    )?;
-    fs::remove_file(&rt, path)?;
-    Ok(())
-}
+const THERE: &[(Step, &str)] = &[
+    (Step::Write(b"other bytes"), ""),
+    (Step::Create(8, 2), "StoreFault"),
+    (Step::Bytes, "6f74686572206279746573"),
+    (Step::Remove, ""),
+];
+
+/// Options that are bad make no file, and leave one that is there.
+const BAD_SETUP: &[(Step, &str)] = &[
+    (Step::Create(2, 2), "BadSetup"),
+    (Step::Exists, "no file"),
+    (Step::Write(b"abc"), ""),
+    (Step::Create(8, 0), "BadSetup"),
+    (Step::Bytes, "616263"),
+    (Step::Remove, ""),
+];
 
 /// A store that was made holds its file until it is dropped, and so does one that was reopened, also behind a header write.
+const HELD: &[(Step, &str)] = &[
+    (Step::Create(8, 2), "a store"),
+    (Step::Reopen, "StoreFault"),
+    (Step::Drop, ""),
+    (Step::Reopen, "a store"),
+    (Step::Reopen, "StoreFault"),
+    (
+        Step::Calls(&[
+            (Call::WriteHeader(&[7, 7]), "done"),
+            (Call::Header, "0707"),
+            (Call::Faults, "0"),
+        ]),
+        "",
+    ),
+    (Step::Reopen, "StoreFault"),
+    (Step::Drop, ""),
+    (Step::Reopen, "a store"),
+    (Step::Remove, ""),
+];
+
 #[test]
-fn an_open_store_has_its_file_alone(rt: HostRuntime) -> Result<(), Fail> {
-    let path = path_of(&rt, "fw_store_held")?;
-    let path = path.as_path();
-    let made = FileStore::create(&rt, path, 8, 2, b"abc")?;
-    expect(
-        rt.alloc(),
-        0,
-        outcome(FileStore::reopen(&rt, path)),
-        "StoreFault",
-    )?;
-    drop(made);
-    let mut first = FileStore::reopen(&rt, path)?;
-    expect(
-        rt.alloc(),
-        1,
-        outcome(FileStore::reopen(&rt, path)),
-        "StoreFault",
-    )?;
-    session(rt.alloc(), &mut first, HELD)?;
-    drop(first);
-    expect(
-        rt.alloc(),
-        2,
-        outcome(FileStore::reopen(&rt, path)),
-        "a store",
-    )?;
-    fs::remove_file(&rt, path)?;
-    Ok(())
+fn a_file_that_is_there_is_left(rt: HostRuntime) -> Result<(), Fail> {
+    steps(&rt, "fw_store_there", THERE)?;
+    steps(&rt, "fw_store_setup", BAD_SETUP)?;
+    steps(&rt, "fw_store_held", HELD)
 }
 
-const HELD: &[(Call, &str)] = &[
-    (Call::WriteHeader(&[7, 7]), "done"),
-    (Call::Header, "0707"),
-    (Call::Faults, "0"),
+/// Files that begin as that of a new store and have another length, and others: no bytes a slot, and 4,194,305, which are one too many.
+const NO_STORES: &[(Step, &str)] = &[
+    (Step::Create(8, 2), "a store"),
+    (Step::Drop, ""),
+    (Step::SetLen(634), ""),
+    (Step::Look, "a store"),
+    (Step::Drop, ""),
+    (Step::SetLen(635), ""),
+    (Step::Look, "BadFile"),
+    (Step::SetLen(633), ""),
+    (Step::Look, "BadFile"),
+    (Step::SetLen(3), ""),
+    (Step::Look, "BadFile"),
+    (Step::SetLen(0), ""),
+    (Step::Look, "BadFile"),
+    (Step::Write(&[0, 0, 0, 0]), ""),
+    (Step::SetLen(618), ""),
+    (Step::Look, "BadFile"),
+    (Step::Write(&[0, 0x40, 0, 1]), ""),
+    (Step::SetLen(8_389_228), ""),
+    (Step::Look, "BadFile"),
+    (Step::Remove, ""),
 ];
 
-/// The lengths of files that begin as that of a new store, and what is answered to their opening.
-const LENGTHS: &[(u64, &str)] = &[
-    (634, "a store"),
-    (635, "BadFile"),
-    (633, "BadFile"),
-    (3, "BadFile"),
-    (0, "BadFile"),
+/// There is no file, a folder is in its place, and there is no folder to make it in.
+const NONE: &[(Step, &str)] = &[
+    (Step::Reopen, "StoreFault"),
+    (Step::CreateDir, ""),
+    (Step::Create(8, 2), "StoreFault"),
+    (Step::Reopen, "StoreFault"),
+    (Step::RemoveDir, ""),
+    (Step::Absent, ""),
+    (Step::Create(8, 2), "StoreFault"),
+    (Step::Reopen, "StoreFault"),
 ];
 
-/// The first bytes of other files, their lengths, and what is answered: no bytes a slot, and 4,194,305, which are one too many.
-const OTHERS: &[(&[u8], u64, &str)] = &[
-    (&[0, 0, 0, 0], 618, "BadFile"),
-    (&[0, 0x40, 0, 1], 8_389_228, "BadFile"),
+/// A file that is cut under an open store can't be read any more, and that is counted.
+const CUT: &[(Step, &str)] = &[
+    (Step::Create(8, 2), "a store"),
+    (Step::SetLen(617), ""),
+    (
+        Step::Calls(&[
+            (Call::Header, "StoreFault"),
+            (Call::Read(Slot::Second, 0, 1), "StoreFault"),
+            (Call::Faults, "2"),
+        ]),
+        "",
+    ),
+    (Step::Remove, ""),
 ];
-
-/// The answer to the opening of a file that begins so and is so long, which stays as it is.
-fn opened(rt: &HostRuntime, path: Path<'_>, begin: &[u8], len: u64) -> Result<&'static str, Fail> {
-    fs::write(rt, path, begin)?;
-    fs::OpenOptions::new()
-        .write(true)
-        .open(rt, path)?
-        .set_len(len)?;
-    let before = fs::read(rt, path)?;
-    let found = outcome(FileStore::reopen(rt, path));
-    if fs::read(rt, path)? != before {
-        return Err("the file was changed".into());
-    }
-    fs::remove_file(rt, path)?;
-    Ok(found)
-}
 
 #[test]
 fn refuses_what_is_no_store(rt: HostRuntime) -> Result<(), Fail> {
-    let path = path_of(&rt, "fw_store_refused")?;
-    let path = path.as_path();
-    drop(FileStore::create(&rt, path, 8, 2, b"abc")?);
-    let whole = fs::read(&rt, path)?;
-    for (len, want) in LENGTHS {
-        expect(rt.alloc(), 0, opened(&rt, path, &whole, *len)?, want)?;
-    }
-    for (begin, len, want) in OTHERS {
-        expect(rt.alloc(), 1, opened(&rt, path, begin, *len)?, want)?;
-    }
-    Ok(())
-}
-
-/// What is answered where a store is opened and made at a path.
-fn both(rt: &HostRuntime, path: Path<'_>, want: &str) -> Result<(), Fail> {
-    let made = outcome(FileStore::create(rt, path, 8, 2, b"abc"));
-    expect(rt.alloc(), 0, made, want)?;
-    expect(rt.alloc(), 1, outcome(FileStore::reopen(rt, path)), want)
-}
-
-#[test]
-fn a_file_that_cannot_be_made_or_opened(rt: HostRuntime) -> Result<(), Fail> {
-    let path = path_of(&rt, "fw_store_absent")?;
-    let found = outcome(FileStore::reopen(&rt, path.as_path()));
-    expect(rt.alloc(), 2, found, "StoreFault")?;
-    // a folder in its place
-    fs::create_dir(&rt, path.as_path())?;
-    both(&rt, path.as_path(), "StoreFault")?;
-    fs::remove_dir(&rt, path.as_path())?;
-    // no folder to make it in
-    both(&rt, path.join(rt.alloc(), "store")?.as_path(), "StoreFault")
-}
-
-/// Options that are bad make no file, and leave one that is there.
-#[test]
-fn a_bad_setup_leaves_the_file(rt: HostRuntime) -> Result<(), Fail> {
-    let path = path_of(&rt, "fw_store_setup")?;
-    let path = path.as_path();
-    let found = outcome(FileStore::create(&rt, path, 2, 2, b"abc"));
-    expect(rt.alloc(), 0, found, "BadSetup")?;
-    if fs::exists(&rt, path)? {
-        return Err("a file was made".into());
-    }
-    fs::write(&rt, path, b"abc".as_slice())?;
-    let found = outcome(FileStore::create(&rt, path, 8, 0, b"abc"));
-    expect(rt.alloc(), 1, found, "BadSetup")?;
-    expect(rt.alloc(), 2, file_text(&rt, path)?.as_str(), "3 bytes")?;
-    fs::remove_file(&rt, path)?;
-    Ok(())
-}
-
-/// A file that is cut under an open store can't be read any more, and that is counted.
-const CUT: &[(Call, &str)] = &[
-    (Call::Header, "StoreFault"),
-    (Call::Read(Slot::Second, 0, 1), "StoreFault"),
-    (Call::Faults, "2"),
-];
-
-#[test]
-fn a_file_that_is_cut(rt: HostRuntime) -> Result<(), Fail> {
-    let path = path_of(&rt, "fw_store_cut")?;
-    let path = path.as_path();
-    let mut store = FileStore::create(&rt, path, 8, 2, b"abc")?;
-    fs::OpenOptions::new()
-        .write(true)
-        .open(&rt, path)?
-        .set_len(617)?;
-    session(rt.alloc(), &mut store, CUT)?;
-    fs::remove_file(&rt, path)?;
-    Ok(())
+    steps(&rt, "fw_store_refused", NO_STORES)?;
+    steps(&rt, "fw_store_absent", NONE)?;
+    steps(&rt, "fw_store_cut", CUT)
 }

@@ -9,7 +9,7 @@ use std::alloc::Global;
 use std::test::Fail;
 
 /// A header's bytes.
-type Bytes = [u8; HEADER_SIZE];
+pub(crate) type Bytes = [u8; HEADER_SIZE];
 
 /// The bytes with others from an offset on.
 fn with_patch(bytes: &Bytes, at: usize, patch: &[u8]) -> Option<Bytes> {
@@ -25,7 +25,7 @@ fn with_patch(bytes: &Bytes, at: usize, patch: &[u8]) -> Option<Bytes> {
 }
 
 /// The bytes that begin with these, and zeros behind them.
-fn padded(begin: &[u8]) -> Option<Bytes> {
+pub(crate) fn padded(begin: &[u8]) -> Option<Bytes> {
     with_patch(&[0; HEADER_SIZE], 0, begin)
 }
 
@@ -200,17 +200,26 @@ enum Written {
 
 impl Case for Written {
     fn told(&self, alloc: Global) -> Result<String, Fail> {
-        let (header, digits) = match self {
-            Written::New(digits) => (Header::fresh(2, 3, factory_name(b"abc")), digits),
-            Written::Receiving(digits) => (receiving().ok_or("a header")?, digits),
-            Written::Switched(digits) => (switched().ok_or("a header")?, digits),
-        };
-        let begin = hex::decode(alloc, digits)?;
-        let bytes = padded(&begin).ok_or("it is too long")?;
-        let written = header.to_bytes() == bytes;
-        let read = Header::from_bytes(64, &bytes) == Some(header);
-        Ok(format!(in alloc; "{written} {read}")?)
+        match self {
+            Written::New(digits) => {
+                written_text(
+                    alloc,
+                    Some(Header::fresh(2, 3, factory_name(b"abc"))),
+                    digits,
+                )
+            }
+            Written::Receiving(digits) => written_text(alloc, receiving(), digits),
+            Written::Switched(digits) => written_text(alloc, switched(), digits),
+        }
     }
+}
+
+fn written_text(alloc: Global, header: Option<Header>, digits: &str) -> Result<String, Fail> {
+    let begin = hex::decode(alloc, digits)?;
+    let bytes = padded(&begin).ok_or("it is too long")?;
+    let written = header.as_ref().map(|header| header.to_bytes()) == Some(bytes);
+    let read = header.is_some() && Header::from_bytes(64, &bytes) == header;
+    Ok(format!(in alloc; "{written} {read}")?)
 }
 
 /// The name under which campaign 1 of head end 7 offers `abc`.

@@ -1,7 +1,7 @@
 //! What requests ask, before any meter is looked at.
 
 use crate::support::{Case, each};
-use fw_apdu::read_request;
+use fw_apdu::{Request, read_request};
 use fw_server::{Object, Refusal, plan};
 use std::alloc::Global;
 use std::test::Fail;
@@ -11,10 +11,14 @@ struct Asked(&'static str);
 
 impl Case for Asked {
     fn told(&self, alloc: Global) -> Result<String, Fail> {
-        let request = read_request(alloc, &hex::decode(alloc, self.0)?)?;
-        let planned = plan(&request);
-        Ok(format!(in alloc; "{planned:?}")?)
+        let bytes = hex::decode(alloc, self.0)?;
+        planned_text(alloc, &read_request(alloc, &bytes)?)
     }
+}
+
+fn planned_text(alloc: Global, request: &Request) -> Result<String, Fail> {
+    let planned = plan(request);
+    Ok(format!(in alloc; "{planned:?}")?)
 }
 
 /// GET of each attribute of each object, with its class: 18 for Image transfer, 0-0:44.0.0.255, and 1 for the active firmware

@@ -1,8 +1,7 @@
 //! Calls that are refused before any call of the store, and leave all as it was.
 
 use crate::session::{
-    BLOCK_0, BOTH_BLOCKS, Call, ENABLED, Meter, NO_BLOCK, Row, SWITCHED, VERIFIED, make,
-    meter_with, session,
+    BLOCK_0, BOTH_BLOCKS, Call, ENABLED, NO_BLOCK, Row, SWITCHED, Trial, VERIFIED, session,
 };
 use crate::support::{Case, each};
 use fw_image::Refusal;
@@ -14,13 +13,21 @@ struct Vain(&'static [Call], Call);
 
 impl Case for Vain {
     fn told(&self, alloc: Global) -> Result<String, Fail> {
-        let before = after(alloc, self.0)?;
-        let (refusal, meter) = make(alloc, after(alloc, self.0)?, &self.1)?;
-        if is_same(&meter, &before) {
-            refusal_text(alloc, refusal)
-        } else {
-            Err("it has changed".into())
-        }
+        let mut before = Trial::none();
+        after(alloc, &mut before, self.0)?;
+        vain_text(alloc, &before, self)
+    }
+}
+
+/// Why the call is refused, if the meter that makes it is still like the other.
+fn vain_text(alloc: Global, before: &Trial, vain: &Vain) -> Result<String, Fail> {
+    let mut trial = Trial::none();
+    after(alloc, &mut trial, vain.0)?;
+    let refusal = trial.make(alloc, &vain.1)?;
+    if trial.is_same(before) {
+        refusal_text(alloc, refusal)
+    } else {
+        Err("it has changed".into())
     }
 }
 
@@ -76,17 +83,10 @@ const DISABLED_THEN: &[Call] = &[
     Call::Enable(false),
 ];
 
-/// A new meter with room for 10,000 bytes after these calls.
-fn after(alloc: Global, calls: &[Call]) -> Result<Meter, Fail> {
-    let mut meter = meter_with(alloc, 10_000)?;
-    for done in calls {
-        meter = make(alloc, meter, done)?.1;
-    }
-    Ok(meter)
-}
-
-fn is_same(meter: &Meter, other: &Meter) -> bool {
-    meter.same(other) && meter.view() == other.view()
+/// Tries a new meter with room for 10,000 bytes, up to after these calls.
+fn after(alloc: Global, trial: &mut Trial, calls: &[Call]) -> Result<(), Fail> {
+    trial.open(alloc, 10_000)?;
+    trial.make_all(alloc, calls)
 }
 
 /// Calls of one meter and of another: whether both are the same then.
@@ -94,9 +94,17 @@ struct Same(&'static [Call], &'static [Call]);
 
 impl Case for Same {
     fn told(&self, alloc: Global) -> Result<String, Fail> {
-        let same = is_same(&after(alloc, self.0)?, &after(alloc, self.1)?);
-        Ok(format!(in alloc; "{same}")?)
+        let mut one = Trial::none();
+        after(alloc, &mut one, self.0)?;
+        same_text(alloc, &one, self.1)
     }
+}
+
+fn same_text(alloc: Global, one: &Trial, calls: &[Call]) -> Result<String, Fail> {
+    let mut other = Trial::none();
+    after(alloc, &mut other, calls)?;
+    let same = one.is_same(&other);
+    Ok(format!(in alloc; "{same}")?)
 }
 
 /// A change of the store is no refusal in vain.
@@ -112,8 +120,9 @@ struct Done(&'static [Call], Call);
 
 impl Case for Done {
     fn told(&self, alloc: Global) -> Result<String, Fail> {
-        let (refusal, _meter) = make(alloc, after(alloc, self.0)?, &self.1)?;
-        refusal_text(alloc, refusal)
+        let mut trial = Trial::none();
+        after(alloc, &mut trial, self.0)?;
+        refusal_text(alloc, trial.make(alloc, &self.1)?)
     }
 }
 

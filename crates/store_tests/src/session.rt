@@ -3,7 +3,7 @@
 use crate::calls::trimmed_text;
 use crate::fresh::new_meter;
 use crate::support::expect;
-use fw_image::{MeterView, NotVerified, Phase, Receiving, Refusal, open_store};
+use fw_image::{MeterView, NotVerified, Phase, Receiving, Refusal, TransferStatus, open_store};
 use fw_names::{CampaignId, HeadId, ImageName, factory_name, name_of};
 use fw_store::{ImageStore, MemoryStore, Slot};
 use std::alloc::{AllocError, Global};
@@ -21,6 +21,9 @@ pub(crate) enum Call {
     /// The same under a factory's name.
     InitiateFactory(u32),
     Block(u32, &'static [u8]),
+    /// An image of so many bytes `a` under its own name, from the same campaign, and a block of so many of them.
+    InitiateOwn(u32),
+    BlockOf(u32, usize),
     Verify,
     Activate,
     /// So many more calls of the store succeed, and a write that then fails leaves this byte.
@@ -72,127 +75,314 @@ pub(crate) const SPOILT: &str =
 pub(crate) const SWITCHED: &str =
     "true, ActivationSuccessful, no goal, marks, runs 4 of 2 1 81cc5b17";
 
-/// A new meter that runs `abc`, with blocks of two bytes and room for so many.
-pub(crate) fn meter_with(alloc: Global, capacity: u32) -> Result<Meter, Fail> {
-    Ok(new_meter(alloc, capacity, 2, b"abc").ok_or("it isn't opened")?)
-}
-
 /// A session with a new meter that has room for 64 bytes. Its store is taken and opened again after each call, or isn't.
 pub(crate) fn session(alloc: Global, reopens: bool, parts: &[&[Row]]) -> Result<(), Fail> {
-    let mut meter = meter_with(alloc, 64)?;
-    for part in parts {
-        for (at, row) in part.iter().enumerate() {
-            meter = step(alloc, meter, at, row)?;
-            if reopens {
-                meter = reopened(alloc, meter, at, row.2)?;
+    let mut trial = Trial::none();
+    trial.open(alloc, 64)?;
+    trial.play(alloc, reopens, parts)
+}
+
+/// A meter that is tried. Each call takes it, and puts the one in its place that it leads to. Its drop is written out, so that each
+/// place that drops it calls that, and isn't proved to drop each kind of meter.
+pub(crate) struct Trial {
+    meter: Option<Meter>,
+}
+
+impl Drop for Trial {
+    fn drop(self) {
+        let Trial { meter: _ } = self;
+    }
+}
+
+impl Trial {
+    /// There is no meter yet.
+    pub(crate) fn none() -> Trial {
+        Trial { meter: None }
+    }
+
+    /// Tries this meter.
+    pub(crate) fn of(meter: Meter) -> Trial {
+        Trial { meter: Some(meter) }
+    }
+
+    /// Begins with a new meter that runs `abc`, with blocks of two bytes and room for so many.
+    pub(crate) fn open(&mut self, alloc: Global, capacity: u32) -> Result<(), Fail> {
+        self.open_with(alloc, capacity, 2)
+    }
+
+    /// The same with blocks of so many bytes.
+    pub(crate) fn open_with(
+        &mut self,
+        alloc: Global,
+        capacity: u32,
+        block_size: u32,
+    ) -> Result<(), Fail> {
+        self.meter = new_meter(alloc, capacity, block_size, b"abc");
+        match self.meter {
+            Some(_) => Ok(()),
+            None => Err("it isn't opened".into()),
+        }
+    }
+
+    /// Makes calls, of which none is an error.
+    pub(crate) fn make_all(&mut self, alloc: Global, calls: &[Call]) -> Result<(), Fail> {
+        for call in calls {
+            let _refusal = self.make(alloc, call)?;
+        }
+        Ok(())
+    }
+
+    /// Whether the two meters are the same, and look the same.
+    pub(crate) fn is_same(&self, other: &Trial) -> bool {
+        match (&self.meter, &other.meter) {
+            (Some(one), Some(other)) => one.same(other) && one.view() == other.view(),
+            _ => false,
+        }
+    }
+
+    /// Whether the two meters are the same.
+    pub(crate) fn is_like(&self, other: &Trial) -> bool {
+        match (&self.meter, &other.meter) {
+            (Some(one), Some(other)) => one.same(other),
+            _ => false,
+        }
+    }
+
+    /// The status that is shown.
+    pub(crate) fn status(&self) -> Result<TransferStatus, Fail> {
+        match &self.meter {
+            Some(meter) => Ok(meter.view().status),
+            None => Err("there is no meter".into()),
+        }
+    }
+
+    /// The meter takes a turn.
+    pub(crate) fn turn(&mut self) -> Result<(), Fail> {
+        let Some(meter) = self.meter.take() else {
+            return Err("there is no meter".into());
+        };
+        self.meter = Some(meter.turn());
+        Ok(())
+    }
+
+    /// So does a transfer that verifies: the status that it showed before.
+    pub(crate) fn turn_verifying(&mut self) -> Result<TransferStatus, Fail> {
+        let Some(Phase::Verifying(transfer)) = self.meter.take() else {
+            return Err("it doesn't verify".into());
+        };
+        let before = transfer.view().status;
+        self.meter = Some(transfer.turn());
+        Ok(before)
+    }
+
+    fn play(&mut self, alloc: Global, reopens: bool, parts: &[&[Row]]) -> Result<(), Fail> {
+        for part in parts {
+            for (at, row) in part.iter().enumerate() {
+                self.step(alloc, at, row)?;
+                if reopens {
+                    self.reopen()?;
+                    self.shows(alloc, at, row.2)?;
+                }
+            }
+        }
+        Ok(())
+    }
+
+    fn step(&mut self, alloc: Global, at: usize, row: &Row) -> Result<(), Fail> {
+        let refusal = self.make(alloc, &row.0)?;
+        if refusal != row.1 {
+            return Err(other_refusal(alloc, at, refusal)?);
+        }
+        self.shows(alloc, at, row.2)
+    }
+
+    /// This can be seen of the meter.
+    fn shows(&self, alloc: Global, at: usize, want: &str) -> Result<(), Fail> {
+        let seen = self.sight(alloc)?;
+        expect(alloc, at, seen.as_str(), want)
+    }
+
+    /// What can be seen of it.
+    pub(crate) fn sight(&self, alloc: Global) -> Result<String, Fail> {
+        match &self.meter {
+            Some(meter) => Ok(sight(alloc, &meter.view())?),
+            None => Err("there is no meter".into()),
+        }
+    }
+
+    /// Makes a call: what it is refused with. A meter that doesn't have it in its status, or another look than is wanted, is an error.
+    pub(crate) fn make(&mut self, alloc: Global, call: &Call) -> Result<Option<Refusal>, Fail> {
+        match call {
+            Call::Enable(enabled) => self.enable(*enabled),
+            Call::Initiate(size) => self.initiate(bbbb()?, *size),
+            Call::InitiateFactory(size) => self.initiate(factory_name(b"bbbb"), *size),
+            Call::Block(number, value) => self.block(*number, value),
+            Call::InitiateOwn(size) => self.initiate(own_name(alloc, *size)?, *size),
+            Call::BlockOf(number, count) => self.block_of(alloc, *number, *count),
+            Call::Verify => self.verify(),
+            Call::Activate => self.activate(),
+            look => {
+                self.looked(alloc, look)?;
+                Ok(None)
             }
         }
     }
-    Ok(())
-}
 
-fn reopened(alloc: Global, meter: Meter, at: usize, sight_before: &str) -> Result<Meter, Fail> {
-    let next = opened(meter.into_store())?;
-    expect(
-        alloc,
-        at,
-        sight(alloc, &next.view())?.as_str(),
-        sight_before,
-    )?;
-    Ok(next)
-}
-
-fn step(alloc: Global, meter: Meter, at: usize, row: &Row) -> Result<Meter, Fail> {
-    let (refusal, next) = make(alloc, meter, &row.0)?;
-    if refusal != row.1 {
-        let told = format!(in alloc; "row {at}: {refusal:?} before {}", row.2)?;
-        return Err(Fail::from(told));
+    /// The meter that a call leads to, and what it is refused with.
+    fn leads(&mut self, meter: Meter, refusal: Option<Refusal>) -> Result<Option<Refusal>, Fail> {
+        self.meter = Some(meter);
+        Ok(refusal)
     }
-    expect(alloc, at, sight(alloc, &next.view())?.as_str(), row.2)?;
-    Ok(next)
-}
 
-/// What a call is refused with, and the meter then.
-type Called = (Option<Refusal>, Meter);
-
-/// Makes a call. A meter that doesn't have it in its status, or another look than is wanted, is an error.
-pub(crate) fn make(alloc: Global, meter: Meter, call: &Call) -> Result<Called, Fail> {
-    match call {
-        Call::Enable(enabled) => Ok(match meter.set_enabled(*enabled) {
-            Ok(next) => (None, next),
-            Err((refusal, back)) => (Some(refusal), back),
-        }),
-        Call::Initiate(size) => Ok(initiate(meter, bbbb()?, *size)),
-        Call::InitiateFactory(size) => Ok(initiate(meter, factory_name(b"bbbb"), *size)),
-        Call::Block(number, value) => block(meter, *number, value),
-        Call::Verify => verify(meter),
-        Call::Activate => activate(meter),
-        Call::Reopen => Ok((None, opened(meter.into_store())?)),
-        Call::Holds(slot, bytes) => holds(alloc, meter, *slot, bytes),
-        Call::Headed(digits) => headed(alloc, meter, digits),
-        look => looked(alloc, meter, look),
-    }
-}
-
-/// A look at a meter that keeps its store.
-fn looked(alloc: Global, meter: Meter, look: &Call) -> Result<Called, Fail> {
-    let mut meter = meter;
-    match look {
-        Call::Fuse(calls, torn) => meter.fuse(*calls, *torn),
-        Call::Unfuse => meter.unfuse(),
-        Call::Runs(bytes) => runs(alloc, &mut meter, bytes)?,
-        Call::Blocks(size, count, first, bits) => {
-            blocks(alloc, &meter, (*size, *count, *first), bits)?;
+    fn enable(&mut self, enabled: bool) -> Result<Option<Refusal>, Fail> {
+        let Some(meter) = self.meter.take() else {
+            return Err("there is no meter".into());
+        };
+        match meter.set_enabled(enabled) {
+            Ok(next) => self.leads(next, None),
+            Err((refusal, back)) => self.leads(back, Some(refusal)),
         }
-        _ => return Err("no look".into()),
     }
-    Ok((None, meter))
-}
 
-/// The name of `bbbb` in campaign 1 of head end 2.
-pub(crate) fn bbbb() -> Result<ImageName, Fail> {
-    let head = HeadId::new(2).ok_or("no head end")?;
-    let campaign = CampaignId::new(head, 1).ok_or("no campaign")?;
-    Ok(name_of(campaign, b"bbbb"))
-}
+    fn initiate(&mut self, name: ImageName, size: u32) -> Result<Option<Refusal>, Fail> {
+        let Some(meter) = self.meter.take() else {
+            return Err("there is no meter".into());
+        };
+        match meter.initiate(name, size) {
+            Ok(next) => self.leads(Phase::Receiving(next), None),
+            Err((refusal, back)) => self.leads(back, Some(refusal)),
+        }
+    }
 
-fn initiate(meter: Meter, name: ImageName, size: u32) -> Called {
-    match meter.initiate(name, size) {
-        Ok(next) => (None, Phase::Receiving(next)),
-        Err((refusal, back)) => (Some(refusal), back),
+    /// Takes a meter that receives.
+    fn receiving(&mut self) -> Result<Receiving<MemoryStore>, Fail> {
+        match self.meter.take() {
+            Some(Phase::Receiving(transfer)) => Ok(transfer),
+            _ => Err("it doesn't receive".into()),
+        }
+    }
+
+    fn block(&mut self, number: u32, value: &[u8]) -> Result<Option<Refusal>, Fail> {
+        let transfer = self.receiving()?;
+        match transfer.block(number, value) {
+            Ok(next) => self.leads(Phase::Receiving(next), None),
+            Err((refusal, back)) => self.leads(Phase::Receiving(back), Some(refusal)),
+        }
+    }
+
+    fn block_of(
+        &mut self,
+        alloc: Global,
+        number: u32,
+        count: usize,
+    ) -> Result<Option<Refusal>, Fail> {
+        let value = vec![in alloc; b'a'; count]?;
+        self.block(number, &value)
+    }
+
+    fn verify(&mut self) -> Result<Option<Refusal>, Fail> {
+        let transfer = self.receiving()?;
+        match transfer.verify() {
+            Ok(next) => self.leads(next, None),
+            Err(NotVerified::Refused(refusal, back)) => {
+                self.leads(Phase::Receiving(back), Some(refusal))
+            }
+            Err(NotVerified::Differs(spoilt)) => {
+                self.leads(Phase::Spoilt(spoilt), Some(Refusal::Differs))
+            }
+        }
+    }
+
+    fn activate(&mut self) -> Result<Option<Refusal>, Fail> {
+        let Some(Phase::Verified(transfer)) = self.meter.take() else {
+            return Err("it isn't verified".into());
+        };
+        match transfer.activate() {
+            Ok(next) => self.leads(Phase::Switched(next), None),
+            Err((refusal, back)) => self.leads(Phase::Verified(back), Some(refusal)),
+        }
+    }
+
+    /// A look at the meter, or at its store.
+    fn looked(&mut self, alloc: Global, look: &Call) -> Result<(), Fail> {
+        match look {
+            Call::Reopen => self.reopen(),
+            Call::Holds(slot, bytes) => self.holds(alloc, *slot, bytes),
+            Call::Headed(digits) => self.headed(alloc, digits),
+            look => match &mut self.meter {
+                Some(meter) => looked(alloc, meter, look),
+                None => Err("there is no meter".into()),
+            },
+        }
+    }
+
+    /// Opens the store of the meter again.
+    pub(crate) fn reopen(&mut self) -> Result<(), Fail> {
+        match self.meter.take() {
+            Some(meter) => self.open_store(meter.into_store()),
+            None => Err("there is no meter".into()),
+        }
+    }
+
+    fn open_store(&mut self, store: MemoryStore) -> Result<(), Fail> {
+        match open_store(store) {
+            Ok(meter) => {
+                self.meter = Some(meter);
+                Ok(())
+            }
+            Err((error, _store)) => Err(error.into()),
+        }
+    }
+
+    fn holds(&mut self, alloc: Global, slot: Slot, wanted: &[u8]) -> Result<(), Fail> {
+        let Some(meter) = self.meter.take() else {
+            return Err("there is no meter".into());
+        };
+        let mut store = meter.into_store();
+        has_bytes(alloc, &mut store, slot, wanted)?;
+        self.open_store(store)
+    }
+
+    fn headed(&mut self, alloc: Global, digits: &str) -> Result<(), Fail> {
+        let Some(meter) = self.meter.take() else {
+            return Err("there is no meter".into());
+        };
+        let mut store = meter.into_store();
+        has_header(alloc, &mut store, digits)?;
+        self.open_store(store)
     }
 }
 
-fn receiving(meter: Meter) -> Result<Receiving<MemoryStore>, Fail> {
-    match meter {
-        Phase::Receiving(transfer) => Ok(transfer),
-        _ => Err("it doesn't receive".into()),
+fn other_refusal(alloc: Global, at: usize, refusal: Option<Refusal>) -> Result<Fail, AllocError> {
+    let told = format!(in alloc; "row {at}: {refusal:?}")?;
+    Ok(Fail::from(told))
+}
+
+fn has_bytes(
+    alloc: Global,
+    store: &mut MemoryStore,
+    slot: Slot,
+    wanted: &[u8],
+) -> Result<(), Fail> {
+    if wanted.len() > store.capacity() as usize {
+        return Err("the slot has fewer bytes".into());
+    }
+    let mut bytes = vec![in alloc; 0; wanted.len()]?;
+    store.read(slot, 0, &mut bytes)?;
+    if bytes.as_slice() == wanted {
+        Ok(())
+    } else {
+        Err("the slot has other bytes".into())
     }
 }
 
-fn block(meter: Meter, number: u32, value: &[u8]) -> Result<Called, Fail> {
-    Ok(match receiving(meter)?.block(number, value) {
-        Ok(next) => (None, Phase::Receiving(next)),
-        Err((refusal, back)) => (Some(refusal), Phase::Receiving(back)),
-    })
-}
-
-fn verify(meter: Meter) -> Result<Called, Fail> {
-    Ok(match receiving(meter)?.verify() {
-        Ok(next) => (None, next),
-        Err(NotVerified::Refused(refusal, back)) => (Some(refusal), Phase::Receiving(back)),
-        Err(NotVerified::Differs(spoilt)) => (Some(Refusal::Differs), Phase::Spoilt(spoilt)),
-    })
-}
-
-fn activate(meter: Meter) -> Result<Called, Fail> {
-    let Phase::Verified(transfer) = meter else {
-        return Err("it isn't verified".into());
-    };
-    Ok(match transfer.activate() {
-        Ok(next) => (None, Phase::Switched(next)),
-        Err((refusal, back)) => (Some(refusal), Phase::Verified(back)),
-    })
+fn has_header(alloc: Global, store: &mut MemoryStore, digits: &str) -> Result<(), Fail> {
+    let header = trimmed_text(alloc, store.header()?.as_slice())?;
+    if header.as_str() == digits {
+        Ok(())
+    } else {
+        Err("the header has other bytes".into())
+    }
 }
 
 /// Opens a store.
@@ -201,6 +391,36 @@ pub(crate) fn opened(store: MemoryStore) -> Result<Meter, Fail> {
         Ok(meter) => Ok(meter),
         Err((error, _store)) => Err(error.into()),
     }
+}
+
+/// A look at a meter that keeps its store.
+fn looked(alloc: Global, meter: &mut Meter, look: &Call) -> Result<(), Fail> {
+    match look {
+        Call::Fuse(calls, torn) => meter.fuse(*calls, *torn),
+        Call::Unfuse => meter.unfuse(),
+        Call::Runs(bytes) => return runs(alloc, meter, bytes),
+        Call::Blocks(size, count, first, bits) => {
+            return blocks(alloc, meter, (*size, *count, *first), bits);
+        }
+        _ => return Err("no look".into()),
+    }
+    Ok(())
+}
+
+/// The name of `bbbb` in campaign 1 of head end 2.
+pub(crate) fn bbbb() -> Result<ImageName, Fail> {
+    Ok(name_of(campaign()?, b"bbbb"))
+}
+
+/// That of so many bytes `a`.
+fn own_name(alloc: Global, size: u32) -> Result<ImageName, Fail> {
+    let image = vec![in alloc; b'a'; size as usize]?;
+    Ok(name_of(campaign()?, &image))
+}
+
+fn campaign() -> Result<CampaignId, Fail> {
+    let head = HeadId::new(2).ok_or("no head end")?;
+    Ok(CampaignId::new(head, 1).ok_or("no campaign")?)
 }
 
 fn runs(alloc: Global, meter: &mut Meter, wanted: &[u8]) -> Result<(), Fail> {
@@ -226,30 +446,6 @@ fn blocks(
         Ok(())
     } else {
         Err("it has other blocks".into())
-    }
-}
-
-fn holds(alloc: Global, meter: Meter, slot: Slot, wanted: &[u8]) -> Result<Called, Fail> {
-    let mut store = meter.into_store();
-    if wanted.len() > store.capacity() as usize {
-        return Err("the slot has fewer bytes".into());
-    }
-    let mut bytes = vec![in alloc; 0; wanted.len()]?;
-    store.read(slot, 0, &mut bytes)?;
-    if bytes.as_slice() == wanted {
-        Ok((None, opened(store)?))
-    } else {
-        Err("the slot has other bytes".into())
-    }
-}
-
-fn headed(alloc: Global, meter: Meter, digits: &str) -> Result<Called, Fail> {
-    let mut store = meter.into_store();
-    let header = trimmed_text(alloc, store.header()?.as_slice())?;
-    if header.as_str() == digits {
-        Ok((None, opened(store)?))
-    } else {
-        Err("the header has other bytes".into())
     }
 }
 

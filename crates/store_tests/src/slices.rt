@@ -1,95 +1,82 @@
 //! A verification in slices, by the types of its statuses.
 
-use crate::fresh::new_meter;
-use crate::session::opened;
+use crate::session::{Call, Trial};
 use crate::support::{Case, each};
-use fw_image::{Phase, Receiving, TransferStatus, Verifying};
-use fw_names::{CampaignId, HeadId, name_of};
-use fw_store::{MemoryStore, StoredStatus};
+use fw_image::TransferStatus;
+use fw_store::StoredStatus;
 use std::alloc::Global;
 use std::test::Fail;
 
-/// Numbers of blocks, and how many bytes `a` they have: of 4,097 and of 8,193.
-const TWO_SLICES: &[(u32, usize)] = &[(0, 1_024), (1, 1_024), (2, 1_024), (3, 1_024), (4, 1)];
-
-const THREE_SLICES: &[(u32, usize)] = &[
-    (0, 1_024),
-    (1, 1_024),
-    (2, 1_024),
-    (3, 1_024),
-    (4, 1_024),
-    (5, 1_024),
-    (6, 1_024),
-    (7, 1_024),
-    (8, 1),
+/// All blocks of an image of 4,097 bytes are sent, and of one of 8,193.
+const TWO_SLICES: &[Call] = &[
+    Call::Enable(true),
+    Call::InitiateOwn(4_097),
+    Call::BlockOf(0, 1_024),
+    Call::BlockOf(1, 1_024),
+    Call::BlockOf(2, 1_024),
+    Call::BlockOf(3, 1_024),
+    Call::BlockOf(4, 1),
 ];
 
-/// A meter that has all blocks of an image of so many bytes `a`.
-fn received(
-    alloc: Global,
-    size: u32,
-    blocks: &[(u32, usize)],
-) -> Result<Receiving<MemoryStore>, Fail> {
-    let head = HeadId::new(2).ok_or("no head end")?;
-    let campaign = CampaignId::new(head, 1).ok_or("no campaign")?;
-    let image = vec![in alloc; b'a'; size as usize]?;
-    let meter = new_meter(alloc, 8_193, 1_024, b"abc").ok_or("it isn't opened")?;
-    let meter = match meter.set_enabled(true) {
-        Ok(next) => next,
-        Err((refusal, _back)) => return Err(refusal.into()),
-    };
-    let mut transfer = match meter.initiate(name_of(campaign, &image), size) {
-        Ok(next) => next,
-        Err((refusal, _back)) => return Err(refusal.into()),
-    };
-    for (number, count) in blocks {
-        let block = vec![in alloc; b'a'; *count]?;
-        transfer = match transfer.block(*number, &block) {
-            Ok(next) => next,
-            Err((refusal, _back)) => return Err(refusal.into()),
-        };
-    }
-    Ok(transfer)
+const THREE_SLICES: &[Call] = &[
+    Call::Enable(true),
+    Call::InitiateOwn(8_193),
+    Call::BlockOf(0, 1_024),
+    Call::BlockOf(1, 1_024),
+    Call::BlockOf(2, 1_024),
+    Call::BlockOf(3, 1_024),
+    Call::BlockOf(4, 1_024),
+    Call::BlockOf(5, 1_024),
+    Call::BlockOf(6, 1_024),
+    Call::BlockOf(7, 1_024),
+    Call::BlockOf(8, 1),
+];
+
+/// Tries a new meter with room for 8,193 bytes, up to after these calls.
+fn received(alloc: Global, trial: &mut Trial, calls: &[Call]) -> Result<(), Fail> {
+    trial.open_with(alloc, 8_193, 1_024)?;
+    trial.make_all(alloc, calls)
 }
 
-/// And has begun to verify it.
-fn verifying(
-    alloc: Global,
-    size: u32,
-    blocks: &[(u32, usize)],
-) -> Result<Verifying<MemoryStore>, Fail> {
-    match received(alloc, size, blocks)?.verify() {
-        Ok(Phase::Verifying(transfer)) => Ok(transfer),
-        _ => Err("it doesn't verify".into()),
-    }
+/// And has it verify then.
+fn verifying(alloc: Global, trial: &mut Trial, calls: &[Call]) -> Result<(), Fail> {
+    received(alloc, trial, calls)?;
+    trial.make_all(alloc, &[Call::Verify])
 }
 
 /// The statuses of a verification: before a turn and after it, of the transfer and of its phase, of that after one turn more, and of
 /// what its store is opened as.
-struct Turned(u32, &'static [(u32, usize)]);
+struct Turned(&'static [Call]);
 
 impl Case for Turned {
     fn told(&self, alloc: Global) -> Result<String, Fail> {
-        let transfer = verifying(alloc, self.0, self.1)?;
-        let before = transfer.view().status;
-        let turned = transfer.turn();
-        let after = turned.view().status;
-        let phase = Phase::Verifying(verifying(alloc, self.0, self.1)?).turn();
-        let same = phase.same(&turned);
-        let then = phase.turn();
-        let more = then.view().status;
-        let kept = opened(turned.into_store())?.view().status;
-        Ok(format!(in alloc; "{before:?}, {after:?}, {same}, {more:?}, opened {kept:?}")?)
+        let mut trial = Trial::none();
+        verifying(alloc, &mut trial, self.0)?;
+        turned_text(alloc, &mut trial, self.0)
     }
+}
+
+fn turned_text(alloc: Global, trial: &mut Trial, calls: &[Call]) -> Result<String, Fail> {
+    let mut phase = Trial::none();
+    verifying(alloc, &mut phase, calls)?;
+    let before = trial.turn_verifying()?;
+    let after = trial.status()?;
+    phase.turn()?;
+    let same = phase.is_like(trial);
+    phase.turn()?;
+    let more = phase.status()?;
+    trial.reopen()?;
+    let kept = trial.status()?;
+    Ok(format!(in alloc; "{before:?}, {after:?}, {same}, {more:?}, opened {kept:?}")?)
 }
 
 const TURNED: &[(Turned, &str)] = &[
     (
-        Turned(4_097, TWO_SLICES),
+        Turned(TWO_SLICES),
         "VerificationInitiated, VerificationSuccessful, true, VerificationSuccessful, opened VerificationSuccessful",
     ),
     (
-        Turned(8_193, THREE_SLICES),
+        Turned(THREE_SLICES),
         "VerificationInitiated, VerificationInitiated, true, VerificationSuccessful, opened Initiated",
     ),
 ];
@@ -99,13 +86,21 @@ struct Compared;
 
 impl Case for Compared {
     fn told(&self, alloc: Global) -> Result<String, Fail> {
-        let one = Phase::Verifying(verifying(alloc, 8_193, THREE_SLICES)?);
-        let other = Phase::Verifying(verifying(alloc, 8_193, THREE_SLICES)?);
-        let both = one.same(&other);
-        let further = one.same(&other.turn());
-        let receiving = one.same(&Phase::Receiving(received(alloc, 8_193, THREE_SLICES)?));
-        Ok(format!(in alloc; "{both} {further} {receiving}")?)
+        let mut one = Trial::none();
+        verifying(alloc, &mut one, THREE_SLICES)?;
+        compared_text(alloc, &one)
     }
+}
+
+fn compared_text(alloc: Global, one: &Trial) -> Result<String, Fail> {
+    let mut other = Trial::none();
+    verifying(alloc, &mut other, THREE_SLICES)?;
+    let both = one.is_like(&other);
+    other.turn()?;
+    let further = one.is_like(&other);
+    received(alloc, &mut other, THREE_SLICES)?;
+    let receiving = one.is_like(&other);
+    Ok(format!(in alloc; "{both} {further} {receiving}")?)
 }
 
 /// The number of a status, and of what a header keeps.

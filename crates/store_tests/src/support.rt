@@ -27,10 +27,20 @@ pub(crate) fn session<S, T: Takes<S>>(
     subject: &mut T,
     rows: &[(S, &str)],
 ) -> Result<(), Fail> {
-    for (at, (step, want)) in rows.iter().enumerate() {
-        expect(alloc, at, subject.take(alloc, step)?.as_str(), want)?;
+    for (at, row) in rows.iter().enumerate() {
+        taken(alloc, subject, at, row)?;
     }
     Ok(())
+}
+
+fn taken<S, T: Takes<S>>(
+    alloc: Global,
+    subject: &mut T,
+    at: usize,
+    row: &(S, &str),
+) -> Result<(), Fail> {
+    let told = subject.take(alloc, &row.0)?;
+    expect(alloc, at, told.as_str(), row.1)
 }
 
 /// At this row one text is found, and that is the other.

@@ -1,6 +1,7 @@
 //! Calls of a transfer whose type tells its status.
 
-use crate::session::{BLOCK_0, ENABLED, NO_BLOCK, bbbb, meter_with, opened, sight};
+use crate::fresh::new_meter;
+use crate::session::{BLOCK_0, ENABLED, NO_BLOCK, Trial, bbbb, opened, sight};
 use crate::support::{Case, each};
 use fw_image::{Idle, MeterView, Phase, Receiving, Refusal};
 use fw_store::MemoryStore;
@@ -12,8 +13,8 @@ const NEW: &str = "false, NotInitiated, no goal, marks, runs 3 of 0 0 ba7816bf";
 
 /// The transfer of a new meter.
 fn idle(alloc: Global) -> Result<Idle<MemoryStore>, Fail> {
-    match meter_with(alloc, 64)? {
-        Phase::Idle(transfer) => Ok(transfer),
+    match new_meter(alloc, 64, 2, b"abc") {
+        Some(Phase::Idle(transfer)) => Ok(transfer),
         _ => Err("it isn't new".into()),
     }
 }
@@ -85,28 +86,43 @@ enum Transfer {
 
 impl Case for Transfer {
     fn told(&self, alloc: Global) -> Result<String, Fail> {
-        let view = match self {
-            Transfer::New => idle(alloc)?.view(),
-            Transfer::Enabled => enabled(alloc)?.view(),
-            Transfer::NotDisabled => return refused_text(alloc, not_disabled(alloc)?),
-            Transfer::NotInitiated(size) => {
-                return refused_text(alloc, in_vain(idle(alloc)?, *size)?);
-            }
-            Transfer::NotEvenThen(size) => {
-                return refused_text(alloc, in_vain(enabled(alloc)?, *size)?);
-            }
-            Transfer::Begun => begun(alloc)?.view(),
-            Transfer::WithBlock => with_block(alloc)?.view(),
-            Transfer::BegunAgain => begun_again(alloc)?.view(),
-            Transfer::Opened => opened(with_block(alloc)?.into_store())?.view(),
-        };
-        Ok(sight(alloc, &view)?)
+        match refused(alloc, self)? {
+            Some((refusal, view)) => refused_text(alloc, refusal, &view),
+            None => seen_text(alloc, self),
+        }
     }
 }
 
-fn refused_text(alloc: Global, refused: (Refusal, MeterView)) -> Result<String, Fail> {
-    let (refusal, view) = refused;
-    let seen = sight(alloc, &view)?;
+/// The refusal of a transfer's last call and what is seen, of one whose last call is refused.
+fn refused(alloc: Global, transfer: &Transfer) -> Result<Option<(Refusal, MeterView)>, Fail> {
+    Ok(Some(match transfer {
+        Transfer::NotDisabled => not_disabled(alloc)?,
+        Transfer::NotInitiated(size) => in_vain(idle(alloc)?, *size)?,
+        Transfer::NotEvenThen(size) => in_vain(enabled(alloc)?, *size)?,
+        _ => return Ok(None),
+    }))
+}
+
+fn seen_text(alloc: Global, transfer: &Transfer) -> Result<String, Fail> {
+    let trial = Trial::of(reached(alloc, transfer)?);
+    trial.sight(alloc)
+}
+
+/// The meter of a transfer whose last call is done.
+fn reached(alloc: Global, transfer: &Transfer) -> Result<Phase<MemoryStore>, Fail> {
+    match transfer {
+        Transfer::New => Ok(Phase::Idle(idle(alloc)?)),
+        Transfer::Enabled => Ok(Phase::Idle(enabled(alloc)?)),
+        Transfer::Begun => Ok(Phase::Receiving(begun(alloc)?)),
+        Transfer::WithBlock => Ok(Phase::Receiving(with_block(alloc)?)),
+        Transfer::BegunAgain => Ok(Phase::Receiving(begun_again(alloc)?)),
+        Transfer::Opened => opened(with_block(alloc)?.into_store()),
+        _ => Err("its last call is refused".into()),
+    }
+}
+
+fn refused_text(alloc: Global, refusal: Refusal, view: &MeterView) -> Result<String, Fail> {
+    let seen = sight(alloc, view)?;
     Ok(format!(in alloc; "{refusal:?}: {seen}")?)
 }
 
@@ -136,11 +152,21 @@ struct Compared;
 
 impl Case for Compared {
     fn told(&self, alloc: Global) -> Result<String, Fail> {
-        let one = begun(alloc)?;
-        let before = one.same(&begun(alloc)?);
-        let after = one.same(&with_block(alloc)?);
-        Ok(format!(in alloc; "{before} {after}")?)
+        compared_text(alloc, &begun(alloc)?)
     }
+}
+
+fn compared_text(alloc: Global, one: &Receiving<MemoryStore>) -> Result<String, Fail> {
+    let before = is_like(one, begun(alloc))?;
+    let after = is_like(one, with_block(alloc))?;
+    Ok(format!(in alloc; "{before} {after}")?)
+}
+
+fn is_like(
+    one: &Receiving<MemoryStore>,
+    other: Result<Receiving<MemoryStore>, Fail>,
+) -> Result<bool, Fail> {
+    Ok(one.same(&other?))
 }
 
 #[test]

@@ -1,5 +1,5 @@
 use Rattle.std.proofs.Common.{◌≡◌, ◌+◌, suc, refl, arith}
-use Rattle.fw_blocks.proofs.Packing.{packed_into-more}
+use Rattle.fw_blocks.proofs.BitLemmas.{packed_into-more}
 use Rattle.fw_blocks.proofs.block_set.packed_bytes.Goals as goal
 
 pub loop-i-preserved : goal.loop-i-preserved

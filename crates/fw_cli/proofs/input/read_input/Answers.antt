@@ -10,3 +10,12 @@ returns-then-count-len-clause-too_much g c = λ same.
       Consumes-trans _ _ _ c.loop-chunk.input.items chunk c.loop-chunk.invariant.given read.1,
       simp (length-append, length-take) (omega (arith, read.0)),
     )
+
+pub returns-in_err-extend_from_slice-clause-memory : goal.returns-in_err-extend_from_slice-clause-memory
+returns-in_err-extend_from_slice-clause-memory g c = λ wanted.
+    let read = rw c.in-Some.is at c.in_ok-count.ensures.bytes in
+    let chunk = take c.in-Some.count c.read.new.chunk in (
+      c.loop-chunk.input.items ++ chunk,
+      Consumes-trans _ _ _ c.loop-chunk.input.items chunk c.loop-chunk.invariant.given read.1,
+      simp (length-append, length-take) (omega (arith, read.0)),
+    )

@@ -9,7 +9,7 @@ returns-in-Err-clause-made g c = rw c.in-Receiving.is (refused c.in-Err.refusal,
 
 pub returns-in_default : goal.returns-in_default
 returns-in_default g c =
-    let s = state_in c.args.phase in record {
-      made = rw c.lacking.ensures (lacks_block s c.args.number c.args.value.now s.meter.enabled s.meter.phase refl refl (not_receiving c.args.phase c.requires c.in_default.not-Receiving));
+    let s = state_in c.args.phase.now in record {
+      made = rw c.lacking.ensures (lacks_block s c.args.number c.args.value.now s.meter.enabled s.meter.phase refl refl (not_receiving c.args.phase.now c.requires c.in_default.not-Receiving));
       phase = c.requires;
     }

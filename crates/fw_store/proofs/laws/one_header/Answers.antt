@@ -6,4 +6,4 @@ use Rattle.fw_store.proofs.laws.one_header.Goals as goal
 pub returns : goal.returns
 returns c = λ a b fits fits' e.
     same_header c.one_name.ensures c.one_set_for_bytes.ensures (header_bytes a) a b fits fits'
-    (parts a fits) (subst (λ (bytes : List ℕ). Parts bytes b) (sym e) (parts b fits'))
+    (parts c.bits_packed.ensures a fits) (subst (λ (bytes : List ℕ). Parts bytes b) (sym e) (parts c.bits_packed.ensures b fits'))

@@ -1,0 +1,218 @@
+//! Sets of block numbers as pages of marks: so many words, and no memory beside them.
+
+ghost use Rattle.std.specs.Prelude.{◌≡◌, ℕ, ◌+◌, ◌*◌, ◌/◌, ◌<◌, ◌≤◌, ◌||◌, ◌==◌, ◌++◌, true, false, length, take, replicate, slice_index, slice_set, slice_range, SomeIff};
+ghost use Rattle.std.specs.Int.{w64, to_be_bytes};
+ghost use Rattle.fw_axdr.specs.Bits.{bits, packed};
+ghost use Rattle.fw_blocks.specs.Cuts.{max_blocks};
+ghost use Rattle.fw_blocks.specs.Inside.{is_marked, page_size};
+ghost use Rattle.fw_blocks.specs.Members.{has, first_missing, IsFirstMissing};
+
+use crate::geometry::MAX_BLOCKS;
+use fw_axdr::laws;
+use std::marker::Model;
+
+/// The pages of a set.
+const PAGES: usize = 64;
+
+/// The marks of a page.
+const PAGE_SIZE: u8 = 64;
+
+/// The bytes of all pages: eight marks each.
+pub const MARKS_SIZE: usize = 512;
+
+/// The blocks that are there, of at most so many as an image has: a set of numbers below a count (own form of what
+/// IEC 62056-6-2 calls image_transferred_blocks_status). It has room for all of them in itself, and takes no
+/// memory.
+///
+/// A page has 64 marks and knows how many of them are set. So to mark a number and to look one up take the same time
+/// at every number, and a page whose marks are all set is passed at once where the least one missing is looked for.
+#[derive(Clone, Copy, Debug, PartialEq, Eq)]
+pub struct Pages {
+    /// The marks of each page, the first one the top bit.
+    words: [u64; PAGES],
+    /// How many marks of each page are set.
+    counts: [u8; PAGES],
+    /// The number of blocks.
+    count: u32,
+}
+
+// Contracts see the list of the bits below the count, as they see a `BlockSet`.
+impl Model for Pages {
+    ghost use Rattle.std.specs.Prelude.{Bool, List, length};
+    ghost use Rattle.fw_blocks.specs.Inside.{marks_of, words_of, counts_of, HoldsPages};
+
+    ghost Value = { List Bool };
+
+    ghost view = { λ p. marks_of p.count p.words };
+
+    ghost invariant = { λ p. HoldsPages p.words p.counts p.count };
+
+    ghost inverse = { λ marks. record { words = words_of marks; counts = counts_of marks; count = length marks } };
+
+    ghost inverse_ok = { λ p h i. record { words = h.words_again i; counts = h.counts_again i; count = h.size i } };
+}
+
+impl Pages {
+    /// No number is marked, of so many. `None` above 4,096.
+    pub fn new(count: u32) -> Option<Pages>
+        ensures { SomeIff result (count ≤ max_blocks) (replicate count false) }
+    {
+        if MAX_BLOCKS < count {
+            return None;
+        }
+        Some(Pages::unmarked(count))
+    }
+
+    /// No number is marked, of so many.
+    pub(crate) fn unmarked(count: u32) -> Pages
+        requires { count ≤ max_blocks }
+        ensures { result ≡ replicate count false }
+    {
+        Pages {
+            words: [0; PAGES],
+            counts: [0; PAGES],
+            count,
+        }
+    }
+
+    /// The number of blocks: each number that can be marked is below it.
+    pub fn count(&self) -> u32
+        ensures value { result ≡ length self.now }
+        ensures few { result ≤ max_blocks }
+    {
+        self.count
+    }
+
+    /// Marks a number, if it isn't marked.
+    pub fn mark(&mut self, number: u32)
+        requires { number < length self.old }
+        ensures { self.new ≡ slice_set self.old number true }
+    {
+        if !has_bit(&self.words, number) {
+            let page = number as usize / 64;
+            self.words[page] = with_bit(&self.words, number);
+            self.counts[page] += 1;
+        }
+    }
+
+    /// Whether a number is marked; none at or above the count is.
+    pub fn has(&self, number: u32) -> bool
+        ensures { result ≡ has self.now number }
+    {
+        has_bit(&self.words, number)
+    }
+
+    /// The least number below the count that is not marked, or the count where all are.
+    pub fn first_missing(&self) -> u32
+        ensures value { result ≡ first_missing self.now }
+        ensures least { IsFirstMissing self.now result }
+    {
+        first_unmarked(&self.words, 64 * full_pages(&self.counts))
+    }
+
+    /// No number is marked any more.
+    pub fn clear(&mut self)
+        ensures { self.new ≡ replicate (length self.old) false }
+    {
+        *self = Pages::unmarked(self.count);
+    }
+
+    /// The marks of all pages as bytes: number i at bit i, the first bit the top bit of the first byte.
+    pub(crate) fn to_bytes(&self) -> [u8; MARKS_SIZE]
+        requires { length self.now ≡ max_blocks }
+        ensures { result ≡ packed self.now }
+    {
+        laws::bytes_packed();
+        let mut bytes = [0; MARKS_SIZE];
+        for page in 0..PAGES {
+            put_word(&mut bytes, page, self.words[page]);
+        }
+        bytes
+    }
+
+    /// The pages of all marks that have these bytes.
+    pub(crate) fn from_bytes(bytes: &[u8; MARKS_SIZE]) -> Pages
+        ensures { result ≡ bits bytes.now }
+    {
+        let mut words = [0; PAGES];
+        let mut counts = [0; PAGES];
+        for page in 0..PAGES {
+            let word = word_at(bytes, page);
+            words[page] = word;
+            counts[page] = word.count_ones() as u8;
+        }
+        Pages {
+            words,
+            counts,
+            count: MAX_BLOCKS,
+        }
+    }
+}
+
+/// Whether a number is marked, of as many as the pages have.
+fn has_bit(words: &[u64; PAGES], number: u32) -> bool
+    ensures { result ≡ is_marked words.now number }
+{
+    number < MAX_BLOCKS && (words[number as usize / 64] >> (63 - number % 64)) % 2 == 1
+}
+
+/// The word that a number's mark stands in, with the mark set.
+fn with_bit(words: &[u64; PAGES], number: u32) -> u64
+    requires { number < MAX_BLOCKS }
+    ensures { (i : ℕ) → is_marked (slice_set words.now (number / 64) result) i ≡ ((i == number) || is_marked words.now i) }
+{
+    words[number as usize / 64] | 1 << (63 - number % 64)
+}
+
+/// How many pages have all marks set before one hasn't.
+fn full_pages(counts: &[u8; PAGES]) -> u32
+    ensures few { result ≤ PAGES }
+    ensures full { (page : ℕ) → page < result → page_size ≤ slice_index counts.now page }
+{
+    for (page, count) in counts.iter().enumerate() {
+        if *count < PAGE_SIZE {
+            return page as u32;
+        }
+    }
+    PAGES as u32
+}
+
+/// The least number that isn't marked, looked for from one on in front of which all are.
+fn first_unmarked(words: &[u64; PAGES], from: u32) -> u32
+    requires { (i : ℕ) → i < from → is_marked words.now i ≡ true }
+    ensures before { (i : ℕ) → i < result → is_marked words.now i ≡ true }
+    ensures here { is_marked words.now result ≡ false }
+{
+    let mut first = from;
+    while has_bit(words, first) {
+        first += 1;
+    }
+    first
+}
+
+/// Writes a page's word as bytes.
+fn put_word(bytes: &mut [u8; MARKS_SIZE], page: usize, word: u64)
+    requires { page < PAGES }
+    ensures { take (8 * (page + 1)) bytes.new ≡ take (8 * page) bytes.old ++ to_be_bytes w64 word }
+{
+    let at = 8 * page;
+    bytes[at..at + 8].copy_from_slice(&word.to_be_bytes());
+}
+
+/// The word that a page's bytes are read as.
+fn word_at(bytes: &[u8; MARKS_SIZE], page: usize) -> u64
+    requires { page < PAGES }
+    ensures { to_be_bytes w64 result ≡ slice_range bytes.now (8 * page) (8 * page + 8) }
+{
+    let at = 8 * page;
+    u64::from_be_bytes([
+        bytes[at],
+        bytes[at + 1],
+        bytes[at + 2],
+        bytes[at + 3],
+        bytes[at + 4],
+        bytes[at + 5],
+        bytes[at + 6],
+        bytes[at + 7],
+    ])
+}
