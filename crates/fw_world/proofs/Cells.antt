@@ -1,10 +1,9 @@
 -- The cells of a meter: what they have after one is written, and how long they are together.
-use Rattle.std.proofs.Common.{◌≡◌, ℕ, zero, suc, ◌+◌, ◌-◌, ◌*◌, ◌<◌, ◌≤◌, min, cond, List, [], ◌++◌, length, Option, Some, None, ◌⊎◌, inl, inr, refl, sym, ◌∙◌, ap, arith, length-append, Ordering, Less, Equal, Greater, is_eq}
+use Rattle.std.proofs.Common.{◌≡◌, ℕ, cond, List, Some, None, ◌⊎◌, inl, inr, refl, sym, ◌∙◌, Ordering, Less, Equal, Greater, is_eq}
 use Rattle.std.specs.Ordering.{nat_cmp}
 use Rattle.std.proofs.lemmas.Cmp.{nat_cmp_total}
-use Rattle.std.proofs.lemmas.Grind.{div_ceil_times}
 use Rattle.std.specs.FinMap.{get, insert, empty, get-insert, get-empty, nat_cmp-IsAntisymmetric}
-use Rattle.fw_image.specs.Meter.{Cells, both, joined}
+use Rattle.fw_image.specs.Meter.{Cells}
 
 -- what is there is what was written, or was there before
 pub get_cases : (cells : Cells) (number : ℕ) (value : List ℕ) (other : ℕ) (cell : List ℕ) → get (insert cells number value) other ≡ Some cell

@@ -1,5 +1,5 @@
 -- A run that goes on by an event.
-use Rattle.std.proofs.Common.{◌≡◌, ℕ, zero, suc, ◌+◌, ◌<◌, length, slice_index_or, arith, List, [], ◌∷◌, ◌++◌, map, take, slice_get, Option, Some, None, refl, sym, ap, subst, ◌∙◌}
+use Rattle.std.proofs.Common.{◌≡◌, ℕ, zero, suc, ◌+◌, ◌<◌, length, slice_index_or, arith, List, [], ◌∷◌, ◌++◌, take, slice_get, Some, refl, sym, ap, subst, ◌∙◌}
 use Rattle.fw_world.specs.declared.event.Event.{Event as Given}
 use Rattle.fw_world.specs.Step.{Event, RunBy}
 use Rattle.fw_world.specs.View.{event_of}

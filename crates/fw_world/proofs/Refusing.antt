@@ -5,7 +5,6 @@ use Rattle.std.specs.List.{list_all}
 use Rattle.std.specs.Map.{lookup}
 use Rattle.fw_names.specs.Name.{Campaign}
 use Rattle.fw_book.specs.declared.error.BookError.{BookError}
-use Rattle.fw_book.specs.declared.error.BookError.TheVariants as book
 use Rattle.fw_book.specs.Changes.{opening_refusal, IsRefusal}
 use Rattle.fw_head.specs.Head.{Head, campaign_at}
 use Rattle.fw_image.specs.Meter.{Meter}

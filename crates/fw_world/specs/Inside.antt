@@ -1,5 +1,5 @@
 -- For the models of the world's types and private clauses alone.
-use Rattle.std.specs.Prelude.{◌≡◌, ℕ, IsTrue, ◌⊎◌, List, [], ◌∷◌, length, Option, Some, None, slice_get}
+use Rattle.std.specs.Prelude.{◌≡◌, ℕ, IsTrue, List, [], ◌∷◌, length, Option, Some, None, slice_get}
 use Rattle.std.specs.Option.{option_map}
 use Rattle.fw_names.specs.Name.{Name}
 use Rattle.fw_store.specs.declared.header.Goal.{Goal}

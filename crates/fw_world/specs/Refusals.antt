@@ -1,5 +1,5 @@
 -- Public vocabulary: what an event is refused for, and which events may want memory.
-use Rattle.std.specs.Prelude.{◌≡◌, ℕ, ◌⊎◌, is_some, List, Option, Some, None, slice_get, if◌then◌else◌}
+use Rattle.std.specs.Prelude.{◌≡◌, ◌⊎◌, is_some, Option, Some, None, slice_get, if◌then◌else◌}
 use Rattle.std.specs.List.{list_all}
 use Rattle.fw_book.specs.declared.error.BookError.{BookError}
 use Rattle.fw_book.specs.declared.error.BookError.TheVariants as book

@@ -1,5 +1,5 @@
 -- Public vocabulary: what a run answers.
-use Rattle.std.specs.Prelude.{◌≡◌, ℕ, List, map, take, Some, slice_get, Result, Ok, Err}
+use Rattle.std.specs.Prelude.{◌≡◌, List, map, take, Some, slice_get, Result, Ok, Err}
 use Rattle.fw_world.specs.declared.error.SetupError.{SetupError}
 use Rattle.fw_world.specs.declared.error.SetupError.TheVariants as unmade
 use Rattle.fw_world.specs.declared.event.Event.{Event as Given}

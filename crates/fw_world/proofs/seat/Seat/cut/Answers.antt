@@ -5,7 +5,7 @@ use Rattle.fw_image.specs.Meter.{Meter}
 use Rattle.fw_image.specs.State.{State, Counts}
 use Rattle.fw_meter.specs.Handling.{Handles, reply_bytes}
 use Rattle.fw_meter.specs.Laws.{Stops}
-use Rattle.fw_world.specs.Inside.{IsSound, IsSeated, IsRunning, meter_in, switched_name}
+use Rattle.fw_world.specs.Inside.{IsSound, IsSeated, IsRunning, meter_in}
 use Rattle.fw_world.proofs.Room.{each_some, handled_room, switched_runs}
 use Rattle.fw_world.proofs.seat.Seat.cut.Goals as goal
 

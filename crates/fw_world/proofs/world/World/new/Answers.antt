@@ -1,5 +1,3 @@
-use Rattle.std.proofs.Common.{ap, ◌∙◌, map}
-use Rattle.fw_world.specs.Setup.{head_entry}
 use Rattle.fw_world.proofs.Openings.{new_own}
 use Rattle.fw_world.proofs.world.World.new.Goals as goal
 

@@ -3,7 +3,7 @@ use Rattle.std.specs.Map.{lookup}
 use Rattle.std.specs.Option.{option_copied, option_copied_mut}
 use Rattle.fw_meter.specs.Handling.{Handles, reply_bytes}
 use Rattle.fw_world.specs.declared.datagram.Direction.TheVariants.{ToMeter}
-use Rattle.fw_world.specs.World.{Datagram, Activation}
+use Rattle.fw_world.specs.World.{Datagram}
 use Rattle.fw_world.specs.Step.{deliver}
 use Rattle.fw_world.specs.Inside.{switched_name}
 use Rattle.fw_world.proofs.Places.{told_err, meter_found, meter_serves, meter_same, replied_is, noted_is}
