@@ -1,0 +1,5 @@
+//! Tests of schedules.
+#![tactic(auto)]
+
+#[cfg(test)]
+mod rounds;
