@@ -1,5 +1,0 @@
-//! Tests of schedules.
-#![tactic(auto)]
-
-#[cfg(test)]
-mod rounds;
