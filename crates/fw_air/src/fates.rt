@@ -1,5 +1,10 @@
 //! What becomes of datagrams.
 
+ghost use Rattle.std.specs.Prelude.{◌≡◌, ◌%◌, Some, SomeIff, length, slice_get};
+ghost use Rattle.fw_air.specs.Fates.{IsFates};
+
+use std::marker::Model;
+
 /// The most fates of a list.
 pub const MAX_FATES: usize = 4096;
 
@@ -22,9 +27,23 @@ pub struct Fates<'a> {
     list: &'a [Fate],
 }
 
+impl<'a> Model for Fates<'a> {
+    ghost use Rattle.std.specs.Prelude.{List};
+    ghost use Rattle.fw_air.specs.Fates.{IsFates};
+    ghost use Rattle.fw_air.specs.declared.fates.Fate.{Fate};
+
+    ghost Value = { List Fate };
+
+    ghost view = { λ f. f.list.now };
+
+    ghost invariant = { λ f. IsFates f.list.now };
+}
+
 impl<'a> Fates<'a> {
     /// The fates of this list, and `None` for an empty one and for one of more than 4,096.
-    pub fn new(list: &'a [Fate]) -> Option<Fates<'a>> {
+    pub fn new(list: &'a [Fate]) -> Option<Fates<'a>>
+        ensures { SomeIff result (IsFates list.now) list.now }
+    {
         if (1..=MAX_FATES).contains(&list.len()) {
             Some(Fates { list })
         } else {
@@ -33,7 +52,9 @@ impl<'a> Fates<'a> {
     }
 
     /// The fate of the datagram of this number, from 0 on.
-    pub fn of(&self, number: u64) -> Fate {
+    pub fn of(&self, number: u64) -> Fate
+        ensures { slice_get self.now (number % length self.now) ≡ Some result }
+    {
         self.list[(number % self.list.len() as u64) as usize]
     }
 }
