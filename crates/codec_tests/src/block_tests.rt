@@ -3,7 +3,7 @@
 use crate::support::{Case, each};
 use fw_axdr::Bits;
 use fw_blocks::{
-    BlockSet, Geometry, MARKS_SIZE, MAX_BLOCK_SIZE, MAX_BLOCKS, Marks, Pages, Width, Window,
+    BlockSet, Geometry, MARKS_SIZE, MAX_BLOCK_SIZE, MAX_BLOCKS, Pages, Width, Window,
 };
 use std::alloc::{AllocError, Global};
 use std::test::Fail;
@@ -256,8 +256,8 @@ const ALL_PAGED: &[(AllPaged, &str)] = &[
 ];
 
 /// The marks with these numbers, marked in this order.
-fn marks_of(numbers: &[u32]) -> Marks {
-    let mut marks = Marks::none();
+fn marks_of(numbers: &[u32]) -> Pages {
+    let mut marks = Pages::none();
     for number in numbers {
         if *number < MAX_BLOCKS {
             marks.mark(*number);
@@ -270,7 +270,7 @@ fn marks_of(numbers: &[u32]) -> Marks {
 const ASKED: &[u32] = &[0, 1, 2, 3, 7, 8, 9, 15, 16, 4094, 4095, 4096, 4_294_967_295];
 
 /// The first number that is missing, those of the numbers above that are there, and the bytes.
-fn marks_text(alloc: Global, marks: &Marks) -> Result<String, AllocError> {
+fn marks_text(alloc: Global, marks: &Pages) -> Result<String, AllocError> {
     let mut there = String::new(alloc);
     for number in ASKED {
         there.push_str(if marks.has(*number) { "x" } else { "." })?;
@@ -285,7 +285,7 @@ struct Marked(&'static [u32]);
 impl Case for Marked {
     fn told(&self, alloc: Global) -> Result<String, Fail> {
         let marks = marks_of(self.0);
-        if Marks::from_bytes(&marks.to_bytes()) != marks {
+        if Pages::from_bytes(&marks.to_bytes()) != marks {
             return Err("they are read otherwise".into());
         }
         Ok(marks_text(alloc, &marks)?)
@@ -315,7 +315,7 @@ struct AllMarked(u32);
 
 impl Case for AllMarked {
     fn told(&self, alloc: Global) -> Result<String, Fail> {
-        let mut marks = Marks::from_bytes(&[0xff; MARKS_SIZE]);
+        let mut marks = Pages::from_bytes(&[0xff; MARKS_SIZE]);
         let told = (marks.first_missing(), marks.has(4095), marks.has(4096));
         if self.0 < MAX_BLOCKS {
             marks.mark(self.0);
@@ -331,10 +331,9 @@ struct Below(&'static [u32], u32);
 impl Case for Below {
     fn told(&self, alloc: Global) -> Result<String, Fail> {
         let marks = marks_of(self.0);
-        let count = self.1.min(MAX_BLOCKS);
-        let bits = marks.to_bits(alloc, count)?;
+        let bits = marks.to_bits(alloc, self.1)?;
         let shown = nonzero(alloc, bits.as_bytes())?;
-        let (first, len) = (marks.first_missing_below(count), bits.as_bytes().len());
+        let (first, len) = (marks.first_missing_below(self.1), bits.as_bytes().len());
         Ok(format!(in alloc; "{first}, {} bits, {len} bytes,{shown}", bits.len())?)
     }
 }
@@ -357,6 +356,43 @@ const BELOW: &[(Below, &str)] = &[
         "1, 4096 bits, 512 bytes, 0:80 511:01",
     ),
     (Below(&[0, 4095], 4095), "1, 4095 bits, 512 bytes, 0:80"),
+];
+
+/// Pages of so many numbers, with these marked, below a count: the first that is missing, and the bits that are shown; then the
+/// bytes, and how many numbers the pages count that are read from them.
+struct PagedBelow(u32, &'static [u32], u32);
+
+impl Case for PagedBelow {
+    fn told(&self, alloc: Global) -> Result<String, Fail> {
+        let Some(mut pages) = Pages::new(self.0) else {
+            return Ok(String::from_str(alloc, "none")?);
+        };
+        for number in self.1 {
+            if *number < pages.count() {
+                pages.mark(*number);
+            }
+        }
+        let bits = pages.to_bits(alloc, self.2)?;
+        let shown = nonzero(alloc, bits.as_bytes())?;
+        let all = nonzero(alloc, pages.to_bytes().as_slice())?;
+        let again = Pages::from_bytes(&pages.to_bytes()).count();
+        let (first, len) = (pages.first_missing_below(self.2), bits.len());
+        Ok(format!(in alloc; "{first}, {len} bits,{shown};{all} {again}")?)
+    }
+}
+
+const PAGED_BELOW: &[(PagedBelow, &str)] = &[
+    (PagedBelow(6, &[0, 2], 4), "1, 4 bits, 0:a0; 0:a0 4096"),
+    // no number at or above the pages' own count is shown
+    (
+        PagedBelow(6, &[0, 1, 2, 3, 4, 5], 10),
+        "6, 6 bits, 0:fc; 0:fc 4096",
+    ),
+    (
+        PagedBelow(100, &[64, 99], 4_294_967_295),
+        "0, 100 bits, 8:80 12:10; 8:80 12:10 4096",
+    ),
+    (PagedBelow(0, &[], 8), "0, 0 bits,; 4096"),
 ];
 
 /// The set below a count with these numbers: the lowest that aren't there, as many as a window of this width has.
@@ -411,5 +447,6 @@ fn marks_and_windows(rt: HostRuntime) -> Result<(), Fail> {
     each(rt.alloc(), MARKED)?;
     each(rt.alloc(), &[(AllMarked(17), "(4096, true, false) true")])?;
     each(rt.alloc(), BELOW)?;
+    each(rt.alloc(), PAGED_BELOW)?;
     each(rt.alloc(), WINDOWS)
 }

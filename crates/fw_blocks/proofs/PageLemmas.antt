@@ -1,5 +1,5 @@
 -- Pages of marks: the words of the marks, the marks of the words, and how many of them are set.
-use Rattle.std.proofs.Common.{◌≡◌, ◌≢◌, ℕ, zero, suc, ◌+◌, ◌-◌, ◌*◌, ◌/◌, ◌%◌, ◌^◌, ◌<◌, ◌≤◌, Bool, true, false, ◌||◌, cond, eqb, w64, bit_or, List, [], ◌∷◌, ◌++◌, length, get_or, set, take, drop, replicate, slice_range, refl, sym, ap, subst, ◌∙◌, inl, inr, arith}
+use Rattle.std.proofs.Common.{◌≡◌, ◌≢◌, ℕ, zero, suc, ◌+◌, ◌-◌, ◌*◌, ◌/◌, ◌%◌, ◌^◌, ◌<◌, ◌≤◌, Bool, true, false, ◌||◌, cond, eqb, w64, bit_or, List, [], ◌∷◌, ◌++◌, length, get_or, set, take, drop, replicate, slice_range, append-nil, refl, sym, ap, subst, ◌∙◌, inl, inr, arith}
 use Rattle.std.proofs.Math.Nat.{pow-suc}
 use Rattle.std.proofs.Math.Seq.{take-add}
 use Rattle.std.proofs.lemmas.Bool.{cases_lt, cases_eq, eq-eqb, ne_eqb}
@@ -15,7 +15,7 @@ use Rattle.fw_axdr.specs.Bits.{byte_bits, bits, packed}
 use Rattle.fw_axdr.specs.Laws.{BytesPacked}
 use Rattle.fw_blocks.specs.Cuts.{max_blocks}
 use Rattle.fw_blocks.specs.Inside.{is_marked, marks_of, word_of, ones_of, page_of, words_of, counts_of, HoldsPages}
-use Rattle.fw_blocks.specs.Members.{has, IsFirstMissing}
+use Rattle.fw_blocks.specs.Members.{has, IsFirstMissing, all_marks}
 use Rattle.fw_blocks.proofs.BitLemmas.{length-bits, get_or-bits}
 use lib.Count.{ones_step, ones-le}
 
@@ -604,10 +604,40 @@ small_bytes (w ∷ ws) k d h =
           omega (arith, at, rest)
     ]
 
-pub written_all : (count : ℕ) (bytes words : List ℕ) → count ≡ max_blocks → length words ≡ 64 → length bytes ≡ 512 → BytesPacked
-    → take (8 * 64) bytes ≡ flat_map (to_be_bytes w64) (take 64 words) → bytes ≡ packed (marks_of count words)
-written_all count bytes words whole size long comes_back written =
-    let all : take 64 words ≡ words = take_all 64 words (omega arith) in
+pub length-all_marks : (marks : List Bool) → length marks ≤ max_blocks → length (all_marks marks) ≡ max_blocks
+length-all_marks marks few =
+    let rest = replicate (max_blocks - length marks) false in
+    omega (arith, length-append marks rest, length-replicate (max_blocks - length marks) false)
+
+-- with no others, the marks are those of all pages
+all_of_pages : (count : ℕ) (words : List ℕ) → count ≤ max_blocks → ((i : ℕ) → count ≤ i → is_marked words i ≡ false) → all_marks (marks_of count words) ≡ marks_of max_blocks words
+all_of_pages count words few past =
+    let marks = marks_of count words in
+    let rest = replicate (max_blocks - length marks) false in
+    let size = length-marks_of count words in
+    let many = length-marks_of max_blocks words in
+    let all = length-all_marks marks (omega (arith, size)) in
+    ext_get_or false (all_marks marks) (marks_of max_blocks words) (omega (arith, many, all)) (λ i h.
+    let below : i < max_blocks = omega (arith, all, h) in
+    elim (cases_lt i count) [
+      | inl here ↦
+          get_or_append_left marks rest false i (omega (arith, size)) ∙ get_or-map-range_with_len (is_marked words) 0 count i i false (omega arith) (omega arith)
+          ∙ sym (get_or-map-range_with_len (is_marked words) 0 max_blocks i i false (omega arith) (omega arith))
+      | inr later ↦
+          get_or-append_right marks rest count i false size later ∙ get_or-replicate (max_blocks - length marks) (i - count) false false (omega (arith, size))
+          ∙ sym (past i later) ∙ sym (get_or-map-range_with_len (is_marked words) 0 max_blocks i i false (omega arith) (omega arith))
+    ])
+
+pub all_again : (marks : List Bool) → length marks ≡ max_blocks → all_marks marks ≡ marks
+all_again marks size =
+    let none : max_blocks - length marks ≡ 0 = omega arith in
+    ap (λ (n : ℕ). marks ++ replicate n false) none ∙ append-nil marks
+
+pub written_all : (count : ℕ) (bytes words counts : List ℕ) → count ≤ max_blocks → AreWords count words counts → length bytes ≡ 512 → BytesPacked
+    → take (8 * 64) bytes ≡ flat_map (to_be_bytes w64) (take 64 words) → bytes ≡ packed (all_marks (marks_of count words))
+written_all count bytes words counts few are long comes_back written =
+    let all : take 64 words ≡ words = take_all 64 words (omega (arith, are.words_size)) in
     let every : take (8 * 64) bytes ≡ bytes = take_all (8 * 64) bytes (omega arith) in
-    let are : bytes ≡ flat_map (to_be_bytes w64) words = sym every ∙ written ∙ ap (flat_map (to_be_bytes w64)) all in
-    are ∙ sym (comes_back (flat_map (to_be_bytes w64) words) (small_bytes words)) ∙ ap packed (sym (marks_bits words size) ∙ ap (λ (n : ℕ). marks_of n words) (sym whole))
+    let spelled : bytes ≡ flat_map (to_be_bytes w64) words = sym every ∙ written ∙ ap (flat_map (to_be_bytes w64)) all in
+    spelled ∙ sym (comes_back (flat_map (to_be_bytes w64) words) (small_bytes words))
+    ∙ ap packed (sym (marks_bits words are.words_size) ∙ sym (all_of_pages count words few are.past))

@@ -4,5 +4,5 @@ pub mod Members
 pub mod Runs
 pub mod Width
 pub mod Laws
--- For the models of `BlockSet`, `Marks` and `Window` alone: no public clause cites it.
+-- For the models of `BlockSet`, `Pages` and `Window` alone: no public clause cites it.
 pub mod Inside

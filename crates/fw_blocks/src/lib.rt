@@ -10,14 +10,12 @@
 mod block_set;
 mod geometry;
 pub mod laws;
-mod marks;
 mod pages;
 mod runs;
 mod window;
 
 pub use block_set::BlockSet;
 pub use geometry::{Geometry, MAX_BLOCK_SIZE, MAX_BLOCKS};
-pub use marks::Marks;
 pub use pages::{MARKS_SIZE, Pages};
 pub use runs::Run;
 pub use window::{MAX_WIDTH, Width, Window};

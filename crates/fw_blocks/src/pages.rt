@@ -1,14 +1,15 @@
 //! Sets of block numbers as pages of marks: so many words, and no memory beside them.
 
-ghost use Rattle.std.specs.Prelude.{◌≡◌, ℕ, ◌+◌, ◌*◌, ◌/◌, ◌<◌, ◌≤◌, ◌||◌, ◌==◌, ◌++◌, true, false, length, take, replicate, slice_index, slice_set, slice_range, SomeIff};
+ghost use Rattle.std.specs.Prelude.{◌≡◌, ℕ, ◌+◌, ◌*◌, ◌/◌, ◌<◌, ◌≤◌, ◌||◌, ◌==◌, ◌++◌, Bool, List, true, false, length, take, replicate, slice_index, slice_set, slice_range, SomeIff, IfOk};
 ghost use Rattle.std.specs.Int.{w64, to_be_bytes};
 ghost use Rattle.fw_axdr.specs.Bits.{bits, packed};
 ghost use Rattle.fw_blocks.specs.Cuts.{max_blocks};
 ghost use Rattle.fw_blocks.specs.Inside.{is_marked, page_size};
-ghost use Rattle.fw_blocks.specs.Members.{has, first_missing, IsFirstMissing};
+ghost use Rattle.fw_blocks.specs.Members.{has, first_missing, IsFirstMissing, all_marks};
 
 use crate::geometry::MAX_BLOCKS;
-use fw_axdr::laws;
+use fw_axdr::{Bits, laws};
+use std::alloc::{AllocError, Global};
 use std::marker::Model;
 
 /// The pages of a set.
@@ -63,8 +64,15 @@ impl Pages {
         Some(Pages::unmarked(count))
     }
 
+    /// No number is marked, of as many as an image can have.
+    pub fn none() -> Pages
+        ensures { result ≡ replicate max_blocks false }
+    {
+        Pages::unmarked(MAX_BLOCKS)
+    }
+
     /// No number is marked, of so many.
-    pub(crate) fn unmarked(count: u32) -> Pages
+    fn unmarked(count: u32) -> Pages
         requires { count ≤ max_blocks }
         ensures { result ≡ replicate count false }
     {
@@ -117,10 +125,34 @@ impl Pages {
         *self = Pages::unmarked(self.count);
     }
 
-    /// The marks of all pages as bytes: number i at bit i, the first bit the top bit of the first byte.
-    pub(crate) fn to_bytes(&self) -> [u8; MARKS_SIZE]
-        requires { length self.now ≡ max_blocks }
-        ensures { result ≡ packed self.now }
+    /// The least number below a count that is not marked, or the count where all below it are.
+    pub fn first_missing_below(&self, count: u32) -> u32
+        ensures { result ≡ first_missing (take count self.now) }
+    {
+        self.first_missing().min(count)
+    }
+
+    /// The marks of the numbers below a count as a bit-string, as a meter shows them (IEC 62056-6-2,
+    /// image_transferred_blocks_status). Its one error is want of memory.
+    pub fn to_bits(&self, alloc: Global, count: u32) -> Result<Bits, AllocError>
+        ensures { IfOk result (λ bits. bits ≡ take count self.now) }
+    {
+        laws::bits_packed();
+        let count = count.min(self.count());
+        let size = count.div_ceil(8) as usize;
+        let all = self.to_bytes();
+        let bytes = all[..size].to_vec(alloc)?;
+        Ok(Bits::from_vec(bytes, count as usize))
+    }
+
+    /// The marks as bytes, of all numbers that an image can have: number i at bit i, the first bit the top bit of the
+    /// first byte.
+    pub fn to_bytes(&self) -> [u8; MARKS_SIZE]
+        ensures value { result ≡ packed (all_marks self.now) }
+        ensures size { length (all_marks self.now) ≡ max_blocks }
+
+        // Pages of all these numbers have no others.
+        ensures whole { length self.now ≡ max_blocks → all_marks self.now ≡ self.now }
     {
         laws::bytes_packed();
         let mut bytes = [0; MARKS_SIZE];
@@ -130,10 +162,17 @@ impl Pages {
         bytes
     }
 
-    /// The pages of all marks that have these bytes.
-    pub(crate) fn from_bytes(bytes: &[u8; MARKS_SIZE]) -> Pages
-        ensures { result ≡ bits bytes.now }
+    /// The pages that have these bytes, of all numbers that an image can have. All bytes are some pages'.
+    pub fn from_bytes(bytes: &[u8; MARKS_SIZE]) -> Pages
+        ensures value { result ≡ bits bytes.now }
+        ensures packs { packed result ≡ bytes.now }
+        ensures size { length result ≡ max_blocks }
+
+        // Bytes that hold marks are read as those marks.
+        ensures only { (marks : List Bool) → length marks ≡ max_blocks → packed marks ≡ bytes.now → result ≡ marks }
     {
+        laws::bytes_packed();
+        laws::bits_packed();
         let mut words = [0; PAGES];
         let mut counts = [0; PAGES];
         for page in 0..PAGES {

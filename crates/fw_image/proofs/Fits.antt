@@ -1,12 +1,11 @@
 -- A meter is within the limits of its store.
-use Rattle.std.proofs.Common.{◌≡◌, ℕ, zero, suc, ◌+◌, ◌-◌, ◌*◌, ◌≤◌, ◌<◌, min, Bool, List, [], ◌++◌, length, take, cond, ◌&&◌, nat_lt, Some, None, Option, refl, sym, ap, subst, ◌∙◌, arith, length-append, inl, inr}
+use Rattle.std.proofs.Common.{◌≡◌, ℕ, zero, suc, ◌+◌, ◌-◌, ◌*◌, ◌≤◌, ◌<◌, min, Bool, List, [], ◌++◌, length, take, Some, None, Option, refl, sym, ap, subst, ◌∙◌, arith, length-append, inl, inr}
 use Rattle.std.specs.Prelude.{IfSome}
-use Rattle.std.specs.Ordering.{nat_cmp}
 use Rattle.std.specs.FinMap.{get}
 use Rattle.std.proofs.lemmas.Grind.{div_ceil_times}
 use Rattle.std.proofs.lemmas.List.{length-take-le}
 use Rattle.fw_names.specs.Name.{Campaign, factory, IsOpened, IsCampaign}
-use Rattle.fw_blocks.specs.Cuts.{cut, block_start, block_end, block_count}
+use Rattle.fw_blocks.specs.Cuts.{block_start, block_end, block_count}
 use Rattle.fw_blocks.specs.Laws.{CutSize}
 use Rattle.fw_store.specs.Device.{Device, slot_bytes}
 use Rattle.fw_store.specs.Slot.{other}

@@ -3,7 +3,7 @@ use Rattle.std.proofs.Common.{◌≡◌, ℕ, ◌+◌, ◌-◌, ◌<◌, ◌≤�
 use Rattle.std.proofs.lemmas.List.{length-take-le, length-drop, length-replicate, take-append-drop, ext_get_or, get_or-drop, get_or-replicate}
 use Rattle.sha2.specs.Sha256.{sha256}
 use Rattle.fw_blocks.specs.Cuts.{max_blocks}
-use Rattle.fw_blocks.specs.Members.{has}
+use Rattle.fw_blocks.specs.Members.{has, all_marks}
 use Rattle.fw_blocks.specs.Laws.{CutsJoin}
 use Rattle.std.specs.Prelude.{IfSome, IfErr, IsErrAnd, Result, Ok, Err}
 use Rattle.fw_store.specs.Device.{Device, slot_bytes}
@@ -24,7 +24,6 @@ use Rattle.fw_image.specs.Status.{shown_status}
 use Rattle.fw_image.specs.Meter.{Meter, verifying, IsTrusted, status_of, goal_of, goal_bytes}
 use Rattle.fw_image.specs.Calls.{opening_calls}
 use Rattle.fw_verify.specs.Slices.{slice_count}
-use Rattle.fw_image.specs.Shown.{all_marks}
 use Rattle.fw_image.specs.Stored.{phase_of, phase_at, meter_of, seen, IsHeld, IsVerifying, IsDigested, IsMeterOf, Refused}
 use Rattle.fw_image.specs.Moves.{IsVerifiedGenuine, digested_of}
 use Rattle.fw_image.specs.declared.error.OpenError.{OpenError}

@@ -1,9 +1,9 @@
 -- Public vocabulary: what a meter shows and judges requests by, without the bytes of images. It is known also of a meter whose
 -- store may give other bytes than were written.
-use Rattle.std.specs.Prelude.{◌≡◌, ℕ, ◌-◌, ◌++◌, Bool, false, List, length, replicate}
+use Rattle.std.specs.Prelude.{◌≡◌, ℕ, Bool, List, length}
 use Rattle.fw_axdr.specs.Bits.{packed}
 use Rattle.fw_names.specs.Name.{Name}
-use Rattle.fw_blocks.specs.Cuts.{max_blocks}
+use Rattle.fw_blocks.specs.Members.{all_marks}
 use Rattle.fw_image.specs.Meter.{Meter, Phase, goal_of, status_of, count_of, marks_of}
 use Rattle.fw_image.specs.declared.view.MeterView.{MeterView}
 
@@ -26,10 +26,6 @@ shown_of m = record {
   active_size = length m.running.bytes;
   marked = marks_of m.cells (count_of m);
 }
-
--- marks, and no others up to the most that there can be
-abbrev pub all_marks : List Bool → List Bool
-all_marks marked = marked ++ replicate (max_blocks - length marked) false
 
 -- the view has what a meter shows
 pub record IsView (view : MeterView) (shown : Shown) : Type 0 where

@@ -23,7 +23,7 @@ ghost use Rattle.fw_image.specs.declared.status.TransferStatus.TheVariants.{Init
 use crate::error::{OpenError, Refusal};
 use crate::status::TransferStatus;
 use crate::view::MeterView;
-use fw_blocks::{Geometry, Marks, laws};
+use fw_blocks::{Geometry, Pages, laws};
 use fw_names::ImageName;
 use fw_store::{
     Goal, Header, ImageStore, MemoryStore, Slot, StoreFault, StoredStatus, laws as store_laws,
@@ -85,7 +85,7 @@ impl<S: ImageStore> Held<S> {
         let next = Header {
             status: StoredStatus::Initiated,
             goal: Some(Goal { name, size }),
-            marks: Marks::none(),
+            marks: Pages::none(),
             ..self.header
         };
         replace(&mut self.store, &mut self.header, next)?;
@@ -192,7 +192,7 @@ impl<S: ImageStore> Held<S> {
             running_size: goal.size,
             running_name: goal.name,
             goal: None,
-            marks: Marks::none(),
+            marks: Pages::none(),
             ..self.header
         };
         replace(&mut self.store, &mut self.header, next)?;
@@ -260,7 +260,7 @@ impl<S: ImageStore> Held<S> {
     }
 
     /// The blocks that are there.
-    pub(crate) fn marks(&self) -> &Marks
+    pub(crate) fn marks(&self) -> &Pages
         ensures { take (count_of self.now.meter) result.now ≡ marks_of self.now.meter.cells (count_of self.now.meter) }
     {
         &self.header.marks
@@ -340,6 +340,7 @@ fn replace<S: ImageStore>(
     header: &mut Header,
     next: Header,
 ) -> Result<(), StoreFault>
+    requires { length next.marks ≡ max_blocks }
     ensures done { OnOk result (header.new ≡ next) }
     ensures failed { OnErr result (header.new ≡ header.old) }
     ensures written { IsTrue (S.honest store.old)
@@ -418,7 +419,8 @@ fn judge<S: ImageStore>(
     name: ImageName,
     digesting: Digesting,
 ) -> Result<bool, StoreFault>
-    requires { digesting.taken ≡ digesting.size }
+    requires taken { digesting.taken ≡ digesting.size }
+    requires marks { length header.old.marks ≡ max_blocks }
     ensures digest { (contents : List ℕ) → IsDigesting digesting contents
         → IfOk result (λ same. IsTrue same ↔ (sha256 (take digesting.size contents) ≡ name.digest)) }
     ensures done { IfOk result (λ same. header.new ≡ record header.old { status = judged same }) }

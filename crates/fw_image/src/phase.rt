@@ -18,7 +18,7 @@ use crate::held::Held;
 use crate::status::TransferStatus;
 use crate::transfer::{Idle, Receiving, Spoilt, Switched, Transfer, Verified, Verifying};
 use crate::view::MeterView;
-use fw_blocks::Marks;
+use fw_blocks::Pages;
 use fw_names::ImageName;
 use fw_store::{ImageStore, MemoryStore, StoreFault};
 
@@ -162,7 +162,7 @@ impl<S: ImageStore> Phase<S> {
     }
 
     /// Which of these blocks are there (IEC 62056-6-2, image_transferred_blocks_status).
-    pub fn marks(&self) -> &Marks
+    pub fn marks(&self) -> &Pages
         ensures { take (count_of (state_in self.now).meter) result.now
             ≡ marks_of (state_in self.now).meter.cells (count_of (state_in self.now).meter) }
     {

@@ -1,7 +1,7 @@
 -- Public vocabulary: which headers a store can have (own rules), and the header of a new store.
 use Rattle.std.specs.Prelude.{◌≡◌, ◌≢◌, ℕ, ◌<◌, ◌≤◌, ◌^◌, length, Bool, true, false, Option, Some, None, is_some, IsTrue, IfSome, replicate}
 use Rattle.fw_blocks.specs.Cuts.{IsWithinLimits, block_count, max_block_size, max_blocks}
-use Rattle.fw_blocks.specs.Members.{has}
+use Rattle.fw_blocks.specs.Members.{has, all_marks}
 use Rattle.fw_names.specs.Name.{Name, IsName, factory}
 use Rattle.fw_store.specs.declared.slot.Slot.TheVariants.{First}
 use Rattle.fw_store.specs.declared.header.StoredStatus.{StoredStatus}
@@ -21,6 +21,10 @@ pub record FieldsFit (h : Header) : Type 0 where
   pub running_name : IsName h.running_name
   pub goal : IfSome h.goal GoalFieldsFit
   pub marks : length h.marks ≡ max_blocks
+
+-- a header with a mark for each of these 4,096 numbers: those that its marks don't count aren't marked
+abbrev pub with_all_marks : Header → Header
+with_all_marks h = record h { marks = all_marks h.marks }
 
 -- ---- what a store can have
 

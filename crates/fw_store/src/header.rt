@@ -2,6 +2,7 @@
 
 ghost use Rattle.std.specs.Prelude.{◌≡◌, ◌≢◌, ◌+◌, ◌≤◌, ◌++◌, ◌↔◌, ℕ, Some, false, length, take, IsTrue, IfSome, IfNone};
 ghost use Rattle.std.specs.Int.{w32, from_be_bytes};
+ghost use Rattle.fw_blocks.specs.Cuts.{max_blocks};
 ghost use Rattle.fw_blocks.specs.Members.{has};
 ghost use Rattle.fw_names.specs.Name.{IsOpened};
 ghost use Rattle.fw_store.specs.declared.header.Goal.{Goal};
@@ -9,10 +10,10 @@ ghost use Rattle.fw_store.specs.declared.header.Header.{Header};
 ghost use Rattle.fw_store.specs.declared.header.StoredStatus.{StoredStatus};
 ghost use Rattle.fw_store.specs.declared.slot.Slot.{Slot};
 ghost use Rattle.fw_store.specs.Layout.{status_number, slot_number, goal_bytes, header_bytes};
-ghost use Rattle.fw_store.specs.Header.{GoalFieldsFit, FieldsFit, IsGoal, IsHeader, fresh_header, goal_count, has_goal, is_verified};
+ghost use Rattle.fw_store.specs.Header.{GoalFieldsFit, FieldsFit, IsGoal, IsHeader, fresh_header, with_all_marks, goal_count, has_goal, is_verified};
 
 use crate::slot::Slot;
-use fw_blocks::{Geometry, MARKS_SIZE, MAX_BLOCK_SIZE, MAX_BLOCKS, Marks};
+use fw_blocks::{Geometry, MARKS_SIZE, MAX_BLOCK_SIZE, MAX_BLOCKS, Pages};
 use fw_names::{ImageName, NAME_SIZE};
 
 /// The number of bytes of every header.
@@ -79,8 +80,9 @@ pub struct Header {
     pub running_name: ImageName,
     /// The image that is to be received, or was received and is not yet activated.
     pub goal: Option<Goal>,
-    /// Which blocks of the goal are there (image_transferred_blocks_status).
-    pub marks: Marks,
+    /// Which blocks of the goal are there (image_transferred_blocks_status): in every header of a store a mark for each
+    /// of 4,096 numbers.
+    pub marks: Pages,
 }
 
 impl StoredStatus {
@@ -144,15 +146,19 @@ impl Header {
             running_size,
             running_name,
             goal: None,
-            marks: Marks::none(),
+            marks: Pages::none(),
         }
     }
 
-    /// The header's bytes, whether a store can have it or not.
+    /// The header's bytes, whether a store can have it or not. They have a mark for each number that a block can have:
+    /// those that the header's marks don't count aren't marked.
     #[tactic(auto, unfolding(crate::specs::Layout::header_bytes))]
     pub fn to_bytes(&self) -> [u8; HEADER_SIZE]
-        ensures value { result ≡ header_bytes self.now }
-        ensures fields { FieldsFit self.now }
+        ensures value { result ≡ header_bytes (with_all_marks self.now) }
+        ensures fields { FieldsFit (with_all_marks self.now) }
+
+        // Marks that count all these numbers are just those.
+        ensures whole { length self.now.marks ≡ max_blocks → with_all_marks self.now ≡ self.now }
     {
         let mut bytes = [0; HEADER_SIZE];
         let at = put(&mut bytes, 0, &FORM);
@@ -234,7 +240,7 @@ fn goal_count(goal: Option<Goal>, block_size: u32) -> u32
 }
 
 /// Whether no number from this one on is marked.
-fn is_unmarked_from(marks: &Marks, first: u32) -> bool
+fn is_unmarked_from(marks: &Pages, first: u32) -> bool
     requires { length marks.now ≡ MAX_BLOCKS }
     ensures { IsTrue result ↔ ((i : ℕ) → first ≤ i → has marks.now i ≡ false) }
 {
@@ -278,8 +284,9 @@ fn put(bytes: &mut [u8; HEADER_SIZE], at: usize, part: &[u8]) -> usize
 /// What the bytes are read as. A header's bytes are read as that header; others may be read as some header too, which
 /// has other bytes.
 fn read(bytes: &[u8; HEADER_SIZE]) -> Option<Header>
-    ensures { (header : Header) → FieldsFit header →
+    ensures only { (header : Header) → FieldsFit header →
         header_bytes header ≡ bytes.now → result ≡ Some header }
+    ensures marks { IfSome result (λ header. length header.marks ≡ max_blocks) }
 {
     fw_axdr::laws::bits_packed();
     let mut marks = [0; MARKS_SIZE];
@@ -297,7 +304,7 @@ fn read(bytes: &[u8; HEADER_SIZE]) -> Option<Header>
         running_size: number_at(&bytes[12..16]),
         running_name: ImageName::from_bytes(&bytes[16..57])?,
         goal,
-        marks: Marks::from_bytes(&marks),
+        marks: Pages::from_bytes(&marks),
     })
 }
 

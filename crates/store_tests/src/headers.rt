@@ -2,7 +2,7 @@
 //! each condition once, met and not met.
 
 use crate::support::{Case, each};
-use fw_blocks::Marks;
+use fw_blocks::Pages;
 use fw_names::{CampaignId, HeadId, ImageName, factory_name, name_of};
 use fw_store::{Goal, HEADER_SIZE, Header, Slot, StoredStatus};
 use std::alloc::Global;
@@ -194,6 +194,8 @@ enum Written {
     New(&'static str),
     /// Of one that receives.
     Receiving(&'static str),
+    /// Of one whose marks count no more than its blocks. What is read of its bytes counts all.
+    Fewer(&'static str),
     /// After activation the slots have changed roles, and the goal is dropped.
     Switched(&'static str),
 }
@@ -209,6 +211,7 @@ impl Case for Written {
                 )
             }
             Written::Receiving(digits) => written_text(alloc, receiving(), digits),
+            Written::Fewer(digits) => written_text(alloc, counting_fewer(), digits),
             Written::Switched(digits) => written_text(alloc, switched(), digits),
         }
     }
@@ -229,7 +232,7 @@ fn abc_name() -> Option<ImageName> {
 
 fn receiving() -> Option<Header> {
     let name = abc_name()?;
-    let mut marks = Marks::none();
+    let mut marks = Pages::none();
     marks.mark(1);
     Some(Header {
         enabled: true,
@@ -243,6 +246,15 @@ fn receiving() -> Option<Header> {
     })
 }
 
+fn counting_fewer() -> Option<Header> {
+    let mut marks = Pages::new(2)?;
+    marks.mark(1);
+    Some(Header {
+        marks,
+        ..receiving()?
+    })
+}
+
 fn switched() -> Option<Header> {
     let before = receiving()?;
     let goal = before.goal?;
@@ -252,7 +264,7 @@ fn switched() -> Option<Header> {
         running_size: goal.size,
         running_name: goal.name,
         goal: None,
-        marks: Marks::none(),
+        marks: Pages::none(),
         ..before
     })
 }
@@ -260,6 +272,7 @@ fn switched() -> Option<Header> {
 const WRITTEN: &[(Written, &str)] = &[
     (Written::New(NEW), "true true"),
     (Written::Receiving(RECEIVING), "true true"),
+    (Written::Fewer(RECEIVING), "true false"),
     (
         Written::Switched(
             "46574831010106000000000200000003010000000700000001ba7816bf8f01cfea414140de5dae2223b00361a396177a9cb410ff61f20015ad",

@@ -2,7 +2,7 @@
 
 use crate::session::bbbb;
 use crate::support::{Case, each};
-use fw_blocks::Marks;
+use fw_blocks::Pages;
 use fw_image::{OpenError, open_store};
 use fw_names::factory_name;
 use fw_store::{Goal, HEADER_SIZE, Header, ImageStore, MemoryStore, Slot, StoredStatus};
@@ -41,7 +41,7 @@ fn bytes_of(head: &Head) -> Result<[u8; HEADER_SIZE], Fail> {
 }
 
 fn spelled(status: StoredStatus, image: &[u8]) -> Result<[u8; HEADER_SIZE], Fail> {
-    let mut marks = Marks::none();
+    let mut marks = Pages::none();
     marks.mark(0);
     marks.mark(1);
     let header = Header {

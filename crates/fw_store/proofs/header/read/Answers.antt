@@ -7,26 +7,26 @@ use Rattle.fw_store.proofs.Parts.{Parts, parts, flag_again, number_again, goal_r
 use Rattle.fw_store.proofs.header.read.Goals as goal
 use Rattle.fw_store.proofs.header.read.Goals.{then-bytes-eq1+in_ok-read_goal, else-bytes-eq1}
 
-pub returns-in_err-read_goal : goal.returns-in_err-read_goal
-returns-in_err-read_goal c = λ h fits e.
+pub returns-in_err-read_goal-clause-only : goal.returns-in_err-read_goal-clause-only
+returns-in_err-read_goal-clause-only c = λ h fits e.
     let p : Parts c.args.bytes.now h = subst (λ (bytes : List ℕ). Parts bytes h) e (parts c.bits_packed.ensures h fits) in
     let none = goal_read h.goal _ _ _ fits.goal p.has_goal c.if-bytes-eq1.true p.goal c.in_err-read_goal.ensures in
     absurd (suc-ne-zero 0 (sym c.if-bytes-eq1.true ∙ p.has_goal ∙ ap (λ goal. flag (is_some goal)) (sym none)))
 
-pub returns-in_err-from_number : goal.returns-in_err-from_number
-returns-in_err-from_number c = λ h fits e.
+pub returns-in_err-from_number-clause-only : goal.returns-in_err-from_number-clause-only
+returns-in_err-from_number-clause-only c = λ h fits e.
     let p : Parts c.args.bytes.now h = subst (λ (bytes : List ℕ). Parts bytes h) e (parts c.bits_packed.ensures h fits) in
     let status = c.in_err-from_number.ensures h.status (sym p.status) in
     cc
 
-pub returns-in_err-from_bytes : goal.returns-in_err-from_bytes
-returns-in_err-from_bytes c = λ h fits e.
+pub returns-in_err-from_bytes-clause-only : goal.returns-in_err-from_bytes-clause-only
+returns-in_err-from_bytes-clause-only c = λ h fits e.
     let p : Parts c.args.bytes.now h = subst (λ (bytes : List ℕ). Parts bytes h) e (parts c.bits_packed.ensures h fits) in
     let name = c.in_err-from_bytes.ensures.only h.running_name (record { is_name = fits.running_name; spelled = p.running_name }) in
     cc
 
-pub returns : goal.returns
-returns c = λ h fits e.
+pub returns-clause-only : goal.returns-clause-only
+returns-clause-only c = λ h fits e.
     let p : Parts c.args.bytes.now h = subst (λ (bytes : List ℕ). Parts bytes h) e (parts c.bits_packed.ensures h fits) in
     let enabled = ap (λ (n : ℕ). eqb n 1) p.enabled ∙ flag_again h.enabled in
     let slot = c.slot_at.ensures h.running_slot (sym p.running_slot) in

@@ -1,5 +1,4 @@
-use Rattle.std.proofs.Common.{◌≡◌, ℕ, ◌+◌, ◌-◌, ◌≤◌, ◌↔◌, Bool, true, IsTrue, Option, Some, refl, ap, ◌∙◌, arith}
-use Rattle.fw_store.specs.Faults.{Spends}
+use Rattle.std.proofs.Common.{◌≡◌, ℕ, ◌+◌, ◌-◌, ◌≤◌, ◌↔◌, IsTrue, Some, refl, ap, ◌∙◌, arith}
 use Rattle.fw_store.specs.StoreLaws.{CallsAdd}
 use Rattle.fw_store.proofs.laws.calls_add.Goals as goal
 

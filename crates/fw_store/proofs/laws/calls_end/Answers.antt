@@ -1,5 +1,4 @@
-use Rattle.std.proofs.Common.{◌≡◌, ℕ, ◌-◌, ◌≤◌, ◌↔◌, Bool, false, IsTrue, Option, Some, ap, ◌∙◌, arith}
-use Rattle.fw_store.specs.Faults.{Spends}
+use Rattle.std.proofs.Common.{◌≡◌, ℕ, ◌-◌, ◌≤◌, Some, ap, ◌∙◌, arith}
 use Rattle.fw_store.specs.StoreLaws.{CallsEnd}
 use Rattle.fw_store.proofs.laws.calls_end.Goals as goal
 

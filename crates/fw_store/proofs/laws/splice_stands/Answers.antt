@@ -1,6 +1,5 @@
-use Rattle.std.proofs.Common.{ℕ, ◌+◌, ◌≤◌, List, length, refl, arith}
-use Rattle.fw_store.specs.Device.{splice}
-use Rattle.fw_store.specs.StoreLaws.{StandsIn, SpliceStands}
+use Rattle.std.proofs.Common.{◌+◌, ◌≤◌, length, refl, arith}
+use Rattle.fw_store.specs.StoreLaws.{SpliceStands}
 use Rattle.fw_store.proofs.SliceLemmas.{length-splice, take-splice, drop-splice, slice_there, take_of_splice}
 use Rattle.fw_store.proofs.laws.splice_stands.Goals as goal
 

@@ -21,7 +21,7 @@ returns-clause-view g c =
       active = refl;
       active_size = refl;
       goal = sym (goal_at c.self.inside.digesting (phase_of h.status h.goal) ∙ goal_again h.status h.goal valid.goal_by_status);
-      marked = c.to_bytes.ensures.value ∙ ap packed (sym (marks_shown (s.capacity store) h valid));
+      marked = c.to_bytes.ensures.value ∙ ap packed (c.to_bytes.ensures.whole valid.fields.marks ∙ sym (marks_shown (s.capacity store) h valid));
     })
 
 pub returns-clause-fits : goal.returns-clause-fits
