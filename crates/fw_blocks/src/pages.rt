@@ -151,7 +151,7 @@ impl Pages {
         ensures value { result ≡ packed (all_marks self.now) }
         ensures size { length (all_marks self.now) ≡ max_blocks }
 
-        // Pages of all these numbers have no others.
+        // Where the pages count all these numbers, they are their own marks.
         ensures whole { length self.now ≡ max_blocks → all_marks self.now ≡ self.now }
     {
         laws::bytes_packed();

@@ -80,8 +80,8 @@ pub struct Header {
     pub running_name: ImageName,
     /// The image that is to be received, or was received and is not yet activated.
     pub goal: Option<Goal>,
-    /// Which blocks of the goal are there (image_transferred_blocks_status): in every header of a store a mark for each
-    /// of 4,096 numbers.
+    /// Which blocks of the goal are there (image_transferred_blocks_status). Those of a store's header count 4,096
+    /// numbers.
     pub marks: Pages,
 }
 
@@ -157,7 +157,7 @@ impl Header {
         ensures value { result ≡ header_bytes (with_all_marks self.now) }
         ensures fields { FieldsFit (with_all_marks self.now) }
 
-        // Marks that count all these numbers are just those.
+        // Where the header's marks count all these numbers, it is the header itself.
         ensures whole { length self.now.marks ≡ max_blocks → with_all_marks self.now ≡ self.now }
     {
         let mut bytes = [0; HEADER_SIZE];
