@@ -2,9 +2,7 @@
 
 use crate::support::{Case, each};
 use fw_axdr::Bits;
-use fw_blocks::{
-    BlockSet, Geometry, MARKS_SIZE, MAX_BLOCK_SIZE, MAX_BLOCKS, Pages, Width, Window,
-};
+use fw_blocks::{BlockSet, Geometry, MARKS_SIZE, MAX_BLOCK_SIZE, MAX_BLOCKS, Pages, Width, Window};
 use std::alloc::{AllocError, Global};
 use std::test::Fail;
 
