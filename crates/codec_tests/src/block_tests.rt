@@ -257,7 +257,7 @@ const ALL_PAGED: &[(AllPaged, &str)] = &[
 fn marks_of(numbers: &[u32]) -> Pages {
     let mut marks = Pages::none();
     for number in numbers {
-        if *number < MAX_BLOCKS {
+        if *number < marks.count() {
             marks.mark(*number);
         }
     }
@@ -315,7 +315,7 @@ impl Case for AllMarked {
     fn told(&self, alloc: Global) -> Result<String, Fail> {
         let mut marks = Pages::from_bytes(&[0xff; MARKS_SIZE]);
         let told = (marks.first_missing(), marks.has(4095), marks.has(4096));
-        if self.0 < MAX_BLOCKS {
+        if self.0 < marks.count() {
             marks.mark(self.0);
         }
         let all = marks.to_bytes() == [0xff; MARKS_SIZE];
