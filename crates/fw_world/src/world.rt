@@ -87,7 +87,8 @@ impl World {
     /// # Errors
     ///
     /// `NoSuchDatagram`, `NoSuchActor` or `Book`, the first that applies. Otherwise `OutOfMemory` alone, and only of an opening, a
-    /// tick, a delivery or a stop. The world is then as it was.
+    /// tick, a delivery or a stop; of a delivery to a head end only where the sender's live row may want memory for it. The world
+    /// is then as it was.
     pub fn step(&mut self, alloc: Global, event: &Event) -> Result<(), StepError>
         ensures stepped { OnOk result (StateStep self.old (event_of event.now) self.new) }
         ensures world { OnOk result (WorldStep (world_of self.old) (event_of event.now) (world_of self.new)) }
