@@ -99,6 +99,7 @@ impl World {
     {
         laws::state_steps_as_world();
         laws::every_step_is_safe();
+        // For its clauses alone: each head end stands behind its own number.
         let _sent = self.sent();
         self.make(alloc, event)
     }
@@ -149,6 +150,7 @@ impl World {
         if !all_there(&self.meters, meters) {
             return Err(StepError::NoSuchActor);
         }
+        // For its clauses alone: the number of a head end begins at 1, and so the campaign is one.
         let _view = head.view();
         head.open_campaign(alloc, campaign.serial(), image, meters)?;
         Ok(())
@@ -164,6 +166,7 @@ impl World {
         let Some(head) = self.heads.get_mut(&head_number(campaign)) else {
             return Err(StepError::NoSuchActor);
         };
+        // For its clauses alone: the number of a head end begins at 1, and so the campaign is one.
         let _view = head.view();
         head.cancel(campaign.serial())?;
         Ok(())
@@ -244,6 +247,7 @@ impl World {
         let Some(head) = self.heads.get_mut(&datagram.head.number()) else {
             return Err(StepError::NoSuchActor);
         };
+        // For its clauses alone: the live rows are those of the book.
         let _view = head.view();
         head.hear(alloc, datagram.meter, &datagram.bytes)?;
         Ok(())
