@@ -266,6 +266,19 @@ impl<S: ImageStore> Held<S> {
         &self.header.marks
     }
 
+    /// How many bytes a verified goal has, else 0.
+    pub(crate) fn verified_size(&self) -> u32
+        ensures size { result ≡ verified_size self.now.meter.phase }
+        ensures fits { IsFit self.now.meter }
+        ensures trusted { IsTrue self.now.honest → IsTrusted self.now.meter }
+    {
+        laws::cut_size();
+        match (self.status(), self.header.goal) {
+            (TransferStatus::VerificationSuccessful, Some(goal)) => goal.size,
+            _ => 0,
+        }
+    }
+
     /// What the meter shows.
     pub(crate) fn view(&self) -> MeterView
         ensures view { IsView result (shown_of self.now.meter) }

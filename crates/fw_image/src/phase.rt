@@ -3,7 +3,7 @@
 ghost use Rattle.std.specs.Prelude.{◌≡◌, ◌≤◌, ◌↔◌, true, false, IsTrue, IfOk, IfErr, IsOkAnd, OnOk, Some, None, is_ok, length, take};
 ghost use Rattle.fw_blocks.specs.Cuts.{max_blocks};
 ghost use Rattle.fw_store.specs.Faults.{HasCause, Spends};
-ghost use Rattle.fw_image.specs.Calls.{opening_calls};
+ghost use Rattle.fw_image.specs.Calls.{verified_size, opening_calls};
 ghost use Rattle.fw_image.specs.Meter.{Meter, status_of, count_of, marks_of, reopened, IsTrusted};
 ghost use Rattle.fw_image.specs.Phases.{state_in, IsInPhase, left_in, left_begun};
 ghost use Rattle.fw_image.specs.Shown.{shown_of, IsView};
@@ -167,6 +167,19 @@ impl<S: ImageStore> Phase<S> {
             ≡ marks_of (state_in self.now).meter.cells (count_of (state_in self.now).meter) }
     {
         self.held().marks()
+    }
+
+    /// How many bytes the image has that was verified and is not yet activated, and 0 where there is none.
+    pub fn verified_size(&self) -> u32
+        ensures size { result ≡ verified_size (state_in self.now).meter.phase }
+
+        // It is within the limits of its store.
+        ensures fits { IsFit (state_in self.now).meter }
+
+        // Over an honest store the images have the digests of their names.
+        ensures trusted { IsTrue (state_in self.now).honest → IsTrusted (state_in self.now).meter }
+    {
+        self.held().verified_size()
     }
 
     /// What the meter shows.

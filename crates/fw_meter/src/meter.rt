@@ -9,7 +9,7 @@ ghost use Rattle.fw_meter.specs.Inside.{code_number, Steps};
 ghost use Rattle.fw_meter.specs.Step.{got, answer_of, activation_of, coded};
 ghost use Rattle.fw_apdu.specs.Request.{is_confirmed};
 ghost use Rattle.fw_apdu.specs.View.{request_content, request_invoke};
-ghost use Rattle.fw_image.specs.Calls.{opening_calls};
+ghost use Rattle.fw_image.specs.Calls.{verified_size, opening_calls};
 ghost use Rattle.fw_image.specs.Meter.{Meter, reopened, IsTrusted};
 ghost use Rattle.fw_image.specs.Shown.{shown_of, IsView};
 ghost use Rattle.fw_image.specs.Fits.{IsFit};
@@ -144,6 +144,22 @@ impl<S: ImageStore + Drop> MeterCore<S> {
             unreachable!()
         };
         self.phase = Some(phase.turn());
+    }
+
+    /// How many bytes the image has that was verified and is not yet activated, and 0 where there is none.
+    pub fn verified_size(&self) -> u32
+        ensures size { result ≡ verified_size self.now.meter.phase }
+
+        // It is within the limits of its store.
+        ensures fits { IsFit self.now.meter }
+
+        // Over an honest store the images have the digests of their names.
+        ensures trusted { IsTrue self.now.honest → IsTrusted self.now.meter }
+    {
+        match &self.phase {
+            Some(phase) => phase.verified_size(),
+            None => unreachable!(),
+        }
     }
 
     /// What the meter shows of itself.

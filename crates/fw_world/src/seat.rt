@@ -11,7 +11,6 @@ ghost use Rattle.fw_meter.specs.Laws.{Stops};
 ghost use Rattle.fw_world.specs.Inside.{IsSound, HasRoom, IsRunning, switched_name};
 
 use crate::error::SetupError;
-use fw_image::TransferStatus;
 use fw_meter::{MeterCore, OutOfMemory};
 use fw_names::ImageName;
 use fw_store::MemoryStore;
@@ -194,12 +193,7 @@ fn room_for(alloc: Global, core: &MeterCore<MemoryStore>) -> Result<Vec<u8>, Out
     ensures fits { IsFit core.now.meter }
     ensures trusted { IsTrue core.now.honest → IsTrusted core.now.meter }
 {
-    let view = core.view();
-    let size = match (view.status, view.goal) {
-        (TransferStatus::VerificationSuccessful, Some(goal)) => goal.size,
-        _ => 0,
-    };
-    Ok(vec![in alloc; 0; size as usize]?)
+    Ok(vec![in alloc; 0; core.verified_size() as usize]?)
 }
 
 /// The image that a meter switched to, if it did, in room of its size.

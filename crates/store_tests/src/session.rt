@@ -35,6 +35,8 @@ pub(crate) enum Call {
     Runs(&'static [u8]),
     /// So long are its blocks, so many has the goal, this one is the first that isn't there, and the bits of all.
     Blocks(u32, u32, u32, &'static [u8]),
+    /// So many bytes has the image that was verified.
+    Verified(u32),
     /// A slot begins with these bytes.
     Holds(Slot, &'static [u8]),
     /// The header begins with these digits, and has zeros behind them.
@@ -402,6 +404,7 @@ fn looked(alloc: Global, meter: &mut Meter, look: &Call) -> Result<(), Fail> {
         Call::Blocks(size, count, first, bits) => {
             return blocks(alloc, meter, (*size, *count, *first), bits);
         }
+        Call::Verified(size) => return verified(meter, *size),
         _ => return Err("no look".into()),
     }
     Ok(())
@@ -446,6 +449,14 @@ fn blocks(
         Ok(())
     } else {
         Err("it has other blocks".into())
+    }
+}
+
+fn verified(meter: &Meter, wanted: u32) -> Result<(), Fail> {
+    if meter.verified_size() == wanted {
+        Ok(())
+    } else {
+        Err("another size was verified".into())
     }
 }
 

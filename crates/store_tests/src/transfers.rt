@@ -86,7 +86,7 @@ const THREE: &str = "true, Initiated, goal 3 of 2 1 81cc5b17, marks, runs 3 of 0
 const THREE_BLOCK_1: &str =
     "true, Initiated, goal 3 of 2 1 81cc5b17, marks 1, runs 3 of 0 0 ba7816bf";
 
-/// The blocks that a meter shows in each status: of none at first, of three, and of two again.
+/// The blocks that a meter shows in each status, of none at first, of three, and of two again; and how many bytes were verified.
 const BLOCKS: &[Row] = &[
     (Call::Enable(true), None, ENABLED),
     (Call::Blocks(2, 0, 0, b""), None, ENABLED),
@@ -97,6 +97,7 @@ const BLOCKS: &[Row] = &[
     (Call::Blocks(2, 3, 1, b"\xa0"), None, FIVE_BLOCKS_0_2),
     (Call::Block(1, b"bb"), None, FIVE_BLOCKS),
     (Call::Blocks(2, 3, 3, b"\xe0"), None, FIVE_BLOCKS),
+    (Call::Verified(0), None, FIVE_BLOCKS),
     (Call::Verify, Some(Refusal::Differs), FIVE_SPOILT),
     (Call::Blocks(2, 3, 3, b"\xe0"), None, FIVE_SPOILT),
     (Call::Initiate(4), None, NO_BLOCK),
@@ -106,8 +107,10 @@ const BLOCKS: &[Row] = &[
     (Call::Block(0, b"bb"), None, BOTH_BLOCKS),
     (Call::Verify, None, VERIFIED),
     (Call::Blocks(2, 2, 2, b"\xc0"), None, VERIFIED),
+    (Call::Verified(4), None, VERIFIED),
     (Call::Activate, None, SWITCHED),
     (Call::Blocks(2, 0, 0, b""), None, SWITCHED),
+    (Call::Verified(0), None, SWITCHED),
 ];
 
 const FIVE: &str = "true, Initiated, goal 5 of 2 1 81cc5b17, marks, runs 3 of 0 0 ba7816bf";

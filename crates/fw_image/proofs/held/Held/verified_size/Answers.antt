@@ -1,0 +1,35 @@
+use Rattle.std.proofs.Common.{rules, ◌≡◌, ◌≢◌, refl, sym, ◌∙◌}
+use Rattle.fw_image.specs.Calls.{verified_size}
+use Rattle.fw_image.specs.Meter.{Phase, idle, receiving, verifying, sealed, spoilt, switched, status_of}
+use Rattle.fw_image.specs.Stored.{seen}
+use Rattle.fw_image.specs.declared.status.TransferStatus.TheVariants.{VerificationSuccessful}
+use Rattle.fw_image.proofs.Fits.{fit_at}
+use Rattle.fw_image.proofs.Meters.{seen_size}
+use Rattle.fw_image.proofs.held.Held.verified_size.Goals as goal
+
+-- no other status has a verified goal
+none_verified : (phase : Phase) → status_of phase ≢ VerificationSuccessful → verified_size phase ≡ 0
+none_verified idle other = refl
+none_verified (receiving goal) other = refl
+none_verified (verifying goal taken) other = refl
+none_verified (sealed goal) other = absurd (other refl)
+none_verified (spoilt goal) other = refl
+none_verified switched other = refl
+
+pub returns-in-VerificationSuccessful-Some-clause-fits : goal.returns-in-VerificationSuccessful-Some-clause-fits
+returns-in-VerificationSuccessful-Some-clause-fits g c =
+    let s = g.S.ImageStore in
+    let store = c.self.inside.store in
+    let sized = seen_size (s.honest store) (s.capacity store) (s.device store) (g.met.S.ImageStore.sized store) in
+    rw (← c.self.view_is) (fit_at c.cut_size.ensures (s.capacity store) c.self.inside.header c.self.inside.digesting (seen (s.honest store) (s.capacity store) (s.device store)) c.self.invariant.held.valid sized)
+
+pub returns-in_default-2 : goal.returns-in_default-2
+returns-in_default-2 g c =
+    let s = g.S.ImageStore in
+    let store = c.self.inside.store in
+    let sized = seen_size (s.honest store) (s.capacity store) (s.device store) (g.met.S.ImageStore.sized store) in
+    record {
+      size = sym (none_verified c.args.self.now.meter.phase (λ e. c.in_default.not-VerificationSuccessful-0 (c.status.ensures ∙ e)));
+      fits = rw (← c.self.view_is) (fit_at c.cut_size.ensures (s.capacity store) c.self.inside.header c.self.inside.digesting (seen (s.honest store) (s.capacity store) (s.device store)) c.self.invariant.held.valid sized);
+      trusted = search rules;
+    }
