@@ -3,7 +3,7 @@
 use fw_names::{CampaignId, HeadId, MeterId};
 
 /// An event. Datagrams are named by their places in the list of all that were sent, from 0 on.
-#[derive(Debug, Drop)]
+#[derive(Clone, Debug, Drop)]
 pub enum Event {
     /// A head end opens a campaign of its own: it offers the image to the meters.
     OpenCampaign {
