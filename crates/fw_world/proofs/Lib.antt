@@ -10,6 +10,7 @@ pub mod Refinement
 mod Making
 mod Openings
 mod Following
+mod Staying
 mod Places
 mod Refusing
 mod Delivered

@@ -15,6 +15,7 @@ use Rattle.fw_world.specs.State.{State, IsState, head_at, meter_at, set_head, se
 use Rattle.fw_world.specs.Step.{replies, activated}
 use Rattle.fw_world.specs.Inside.{replied, noted, switched_name, IsRunning}
 use Rattle.fw_world.proofs.Refinement.{head_cases}
+use Rattle.fw_world.proofs.Staying.{head_addressed}
 
 pub on_ok : {X E : Type 0} (r : Result X E) (P Q : X → Type 0) → ((x : X) → P x → Q x) → IfOk r P → IfOk r Q
 on_ok (Ok x) P Q f h = f x h
@@ -99,6 +100,7 @@ moved_own s is key new found written there set keeps = subst (λ (hs : List (ℕ
     | inl at ↦ ap (λ (h : Head). h.book.head) (some_head head written (sym e ∙ at.then)) ∙ keeps ∙ is.own key found there ∙ sym at.is
     | inr other ↦ is.own number head (sym other.1 ∙ e)
   ];
+  addressed = head_addressed s is key (set_value (nat_eq key) s.heads written) written refl;
 })
 
 went_keeps : (old : Head) (meter : ℕ) (row : Row) (heard : RowNews) → (went_on old meter row heard).book.head ≡ old.book.head

@@ -1,7 +1,7 @@
 -- Public vocabulary: the laws of the world. They speak of definitions alone.
-use Rattle.std.specs.Prelude.{List}
+use Rattle.std.specs.Prelude.{◌≡◌, ℕ, List, is_some}
 use Rattle.fw_world.specs.World.{World}
-use Rattle.fw_world.specs.State.{State, IsState, StateStep, world_of}
+use Rattle.fw_world.specs.State.{State, head_at, meter_at, IsState, StateStep, world_of}
 use Rattle.fw_world.specs.Step.{Event, IsOpening, WorldStep, Run}
 use Rattle.fw_world.specs.Headline.{FirstNames, IsFactoryName, IsSound, InitiatesAreOffered, NamesAreOwn, GoalsAreOffered, ActivationsAreSafe}
 
@@ -24,3 +24,9 @@ EveryStepIsSafe = (old new : World) (event : Event) → WorldStep old event new 
 -- what is kept makes the steps of the world that it is
 abbrev pub StateStepsAsWorld : Type 0
 StateStepsAsWorld = (old new : State) (event : Event) → IsState old → StateStep old event new → WorldStep (world_of old) event (world_of new)
+
+-- no step changes which head ends and which meters are there
+abbrev pub ActorsStay : Type 0
+ActorsStay =
+    (old new : State) (event : Event) → StateStep old event new → (number : ℕ)
+    → (is_some (head_at new number) ≡ is_some (head_at old number)) × (is_some (meter_at new number) ≡ is_some (meter_at old number))

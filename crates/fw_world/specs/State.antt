@@ -1,5 +1,5 @@
 -- Public vocabulary: the world as it is kept, with the head ends and their rows, and what each event makes of it.
-use Rattle.std.specs.Prelude.{◌≡◌, ◌↔◌, ℕ, nat_eq, true, false, Bool, IsTrue, List, ◌++◌, map, Option, Some, None, slice_get, All}
+use Rattle.std.specs.Prelude.{◌≡◌, ◌↔◌, ℕ, nat_eq, true, false, Bool, IsTrue, List, ◌++◌, map, is_some, Option, Some, None, slice_get, All}
 use Rattle.std.specs.Map.{lookup, set_value}
 use Rattle.std.specs.Option.{option_and_then}
 use Rattle.fw_names.specs.Name.{Campaign, Name, IsOpened}
@@ -39,9 +39,14 @@ set_head s number head = record s { heads = set_value (nat_eq number) s.heads he
 abbrev pub set_meter : State → ℕ → Meter → State
 set_meter s number meter = record s { meters = set_value (nat_eq number) s.meters meter }
 
--- each head end stands behind its own number
+-- the head end and the meter of a datagram are there
+abbrev pub IsAddressed : State → Datagram → Type 0
+IsAddressed s d = IsTrue (is_some (head_at s d.head)) × IsTrue (is_some (meter_at s d.meter))
+
+-- each head end stands behind its own number, and each datagram was sent between a head end and a meter that are there
 pub record IsState (s : State) : Type 0 where
   pub own : (number : ℕ) (head : Head) → head_at s number ≡ Some head → head.book.head ≡ number
+  pub addressed : All (IsAddressed s) s.sent
 
 -- ---- the world that it is
 
@@ -82,6 +87,7 @@ sent_to head meter datagrams = map (λ bytes. record { head = head; meter = mete
 pub record TicksAt (old : State) (number meter : ℕ) (new : State) : Type 0 where
   pub head : Head
   pub there : head_at old number ≡ Some head
+  pub meter_there : IsTrue (is_some (meter_at old meter))
   pub permitted : All (IsOfferedIn head.book) (sends_to head meter)
   pub new_is : new ≡ record (set_head old number (ticked_head head meter)) { sent = old.sent ++ sent_to number meter (sends_to head meter) }
 

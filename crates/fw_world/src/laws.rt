@@ -1,6 +1,6 @@
 //! Laws of the world, over the definitions alone. A caller cites a law by calling it: nothing is done.
 
-ghost use Rattle.fw_world.specs.Laws.{AfterEachRun, EveryStepIsSafe, StateStepsAsWorld};
+ghost use Rattle.fw_world.specs.Laws.{AfterEachRun, EveryStepIsSafe, StateStepsAsWorld, ActorsStay};
 ghost use Rattle.fw_world.specs.Headline.{IsFirstName, InitiatesAreOffered, NamesAreOwn, GoalsAreOffered, ActivationsAreSafe, ActivationsAreEqual};
 
 /// Each step keeps what holds of a world that events led to.
@@ -25,6 +25,11 @@ pub fn state_steps_as_world()
     fw_book::laws::admitted_opens();
     fw_head::laws::row_keeps_goal();
 }
+
+/// No step changes which head ends and which meters are there.
+pub fn actors_stay()
+    ensures { ActorsStay }
+{}
 
 /// Over every run, what a meter switches to is what the campaign in its name offers, and a meter that is done switched to it.
 pub fn every_run_is_safe()

@@ -334,7 +334,7 @@ impl World {
     pub fn sent(&self) -> &[Datagram]
         ensures sent { result.now ≡ self.now.sent }
 
-        // Each head end stands behind its own number.
+        // Each head end stands behind its own number, and each datagram was sent between a head end and a meter that are there.
         ensures state { IsState self.now }
     {
         self.sent.as_slice()

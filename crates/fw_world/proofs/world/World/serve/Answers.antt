@@ -4,7 +4,10 @@ use Rattle.std.specs.Option.{option_copied, option_copied_mut}
 use Rattle.fw_meter.specs.Handling.{Handles, reply_bytes}
 use Rattle.fw_world.specs.declared.datagram.Direction.TheVariants.{ToMeter}
 use Rattle.fw_world.specs.World.{Datagram}
-use Rattle.fw_world.specs.Step.{deliver}
+use Rattle.fw_world.specs.Step.{deliver, replies}
+use Rattle.fw_world.specs.State.{State, IsAddressed}
+use Rattle.fw_world.proofs.Events.{at_number}
+use Rattle.fw_world.proofs.Staying.{sent_own, meter_own, noted_own, replies_there}
 use Rattle.fw_world.specs.Inside.{switched_name}
 use Rattle.fw_world.proofs.Places.{told_err, meter_found, meter_serves, meter_same, replied_is, noted_is}
 use Rattle.fw_world.proofs.Delivered.{sent_here, one_datagram, way_of, delivers_to_meter}
@@ -95,3 +98,21 @@ returns-clause-admitted c =
     let here : slice_get c.args.self.now.sent c.args.number ≡ Some d = sent_here _ _ c.self.view_is c.deref.result.now c.args.number d c.deref.ensures.value (sym c.sent_at.ensures ∙ ap option_copied c.in-Some.is) in
     let same : key ≡ d.meter = c.number.ensures ∙ ap (λ (x : Datagram). x.meter) c.datagram.view_is in
     delivered_to_meter _ _ c.self.view_is c.args.number d at seat (way_of c.args.self.now.sent c.args.number ToMeter d c.requires here) (meter_found _ _ c.self.view_is key d.meter same seat found)
+
+-- the reply goes back on the link of a datagram that was sent
+pub invariant_of-self-2 : goal.invariant_of-self-2
+invariant_of-self-2 c =
+    let key = c.number.result in
+    let d = c.in-Some.datagram.now in
+    let reply = reply_bytes c.in_ok-served.served.reply in
+    let s : State =
+    record { heads = c.self.inside.heads.entries; meters = c.self.inside.meters.entries; sent = c.self.inside.sent.items; activations = c.self.inside.activations.items } in
+    let at : slice_get c.self.inside.sent.items c.args.number ≡ Some d = ap (λ (xs : List Datagram). slice_get xs c.args.number) (sym c.deref.ensures.value) ∙ sym c.sent_at.ensures ∙ ap option_copied c.in-Some.is in
+    let meters : c.datagram.inside.meter ≡ d.meter = ap (λ (x : Datagram). x.meter) c.datagram.view_is in
+    let heads : c.datagram.inside.head ≡ d.head = ap (λ (x : Datagram). x.head) c.datagram.view_is in
+    noted_own _
+    (meter_own _
+    (sent_own s c.self.invariant _ (replies d reply) (c.reply.ensures ∙ (λ i. c.reserve.ensures.items i ++ replied_is d _ _ reply heads meters i))
+    (replies_there s d reply (at_number (IsAddressed s) s.sent c.args.number d c.self.invariant.addressed at)))
+    key _ c.handle.new.self (c.get_mut.follows.holds c.handle.new.self).0)
+    _
