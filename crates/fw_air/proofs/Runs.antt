@@ -1,10 +1,11 @@
 -- Runs that nothing refuses: what they keep, and how they follow one another.
-use Rattle.std.proofs.Common.{◌≡◌, ℕ, ◌<◌, ◌≤◌, List, [], ◌∷◌, ◌++◌, length, map, Option, Some, None, IsTrue, is_some, refl, sym, ap, subst, ◌∙◌, append_assoc, arith, All}
-use Rattle.std.proofs.lemmas.List.{append-nil, map-append}
-use Rattle.fw_world.specs.State.{State, StateStep, head_at, meter_at}
-use Rattle.fw_world.specs.Step.{Event, RunBy, deliver}
+use Rattle.std.proofs.Common.{◌≡◌, ℕ, ◌+◌, ◌<◌, ◌≤◌, length, slice_index_or, drop, arith, List, [], ◌∷◌, ◌++◌, map, Result, Ok, Err, refl, sym, ap, subst, ◌∙◌, append_assoc}
+use Rattle.std.proofs.lemmas.List.{append-nil, drop_all, drop_more, get_or-map, length-map, map-append}
+use Rattle.std.specs.Prelude.{OnOk, OnErr}
+use Rattle.fw_world.specs.State.{State}
+use Rattle.fw_world.specs.Step.{Event, deliver, tick}
 use Rattle.fw_air.specs.Inside.{Recorded, Follows, GoesOn}
-use Rattle.fw_air.specs.Rounds.{Admits, AdmittedRun, OneByOne}
+use Rattle.fw_air.specs.Rounds.{AdmittedRun, Link, IsLinkRound, OneByOne, last_turn}
 
 pub run_append : (old mid new : State) (xs ys : List Event) → AdmittedRun old xs mid → AdmittedRun mid ys new → AdmittedRun old (xs ++ ys) new
 run_append old mid new [] ys r s = subst (λ (w : State). AdmittedRun w ys new) r s
@@ -43,3 +44,43 @@ pub leads_there : {A : Type 0} (Does : A → State → List Event → State → 
     → Leads Does all old left now so_far → OneByOne Does all old so_far now
 leads_there Does all left old now so_far is leads =
     subst (λ (l : List Event). OneByOne Does all old l now) (append-nil so_far) (leads [] now (subst (λ l. OneByOne Does l now [] now) (sym is) (refl, refl)))
+
+-- ---- a round of a link
+
+pub one_round : (link : Link) (a b c d e : Recorded) (late first second : List ℕ) → Follows a (map deliver late ++ tick link.head link.meter ∷ []) b
+    → Follows b (map deliver first) c → Follows c (map deliver second) d → Follows d (last_turn d.world link.meter) e
+    → (events : List Event) × Follows a events e × IsLinkRound link a.world events e.world
+one_round link a b c d e late first second begins one other ends =
+    let begun : List Event = map deliver late ++ tick link.head link.meter ∷ [] in
+    let comes : List Event = map deliver late ++ tick link.head link.meter ∷ map deliver (first ++ second) in
+    let joined : (begun ++ map deliver first) ++ map deliver second ≡ comes =
+    append_assoc begun (map deliver first) (map deliver second)
+    ∙ ap (λ (l : List Event). begun ++ l) (sym (map-append deliver first second))
+    ∙ append_assoc (map deliver late) (tick link.head link.meter ∷ []) (map deliver (first ++ second)) in
+    let all : Follows a comes d =
+    subst (λ (l : List Event). Follows a l d) joined (follows_on a c d (begun ++ map deliver first) (map deliver second) (follows_on a b c begun (map deliver first) begins one) other) in
+    (comes ++ last_turn d.world link.meter, follows_on a d e comes (last_turn d.world link.meter) all ends,
+      record { late = late; waiting = first ++ second; middle = d.world; comes = all.run; turns = ends.run; events_are = refl })
+
+-- ---- the end of a call
+
+pub on_ok : {X E : Type 0} (r : Result X E) (P Q : Type 0) → (P → Q) → OnOk r P → OnOk r Q
+on_ok (Ok x) P Q f h = f h
+on_ok (Err e) P Q f h = h
+
+-- an event happened, or the world is as it was
+pub at_last : {X E : Type 0} (r : Result X E) (a b c : Recorded) (xs ys : List Event) → Follows a xs b → OnOk r (Follows b ys c) → OnErr r (c ≡ b) → GoesOn a c
+at_last (Ok x) a b c xs ys f ok err = (xs ++ ys, follows_on a b c xs ys f ok)
+at_last (Err e) a b c xs ys f ok err = (xs, subst (Follows a xs) (sym err) f)
+
+-- ---- what a loop has left
+
+-- the element of a place, and those behind it
+pub left_at : {X Y : Type 0} (f : X → Y) (xs : List X) (all : List Y) (i : ℕ) (x : X) → map f xs ≡ all → i < length xs → x ≡ slice_index_or xs i x → drop i all ≡ f x ∷ drop (i + 1) all
+left_at f xs all i x e inside is =
+    let long : i < length all = let same = ap (λ l. length l) e in omega (arith, same, inside, length-map xs f) in
+    let here : slice_index_or all i (f x) ≡ f x = ap (λ l. slice_index_or l i (f x)) (sym e) ∙ get_or-map f xs i x (f x) inside ∙ ap f (sym is) in
+    drop_more all i (f x) long ∙ ap (λ y. y ∷ drop (i + 1) all) here
+
+pub none_left : {X Y : Type 0} (f : X → Y) (xs : List X) (all : List Y) (i : ℕ) → map f xs ≡ all → length xs ≤ i → drop i all ≡ []
+none_left f xs all i e past = let same = ap (λ l. length l) e in drop_all i all (omega (arith, same, past, length-map xs f))

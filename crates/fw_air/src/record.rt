@@ -1,11 +1,12 @@
 //! A world, and all events that made it.
 
-ghost use Rattle.std.specs.Prelude.{◌≡◌, ◌⊎◌, ◌<◌, ◌∷◌, [], List, All, Some, None, IsTrue, false, IfErr, OnOk, OnErr, length, map, take, replicate};
+ghost use Rattle.std.specs.Prelude.{◌≡◌, ◌⊎◌, ℕ, ◌<◌, ◌≤◌, ◌++◌, ◌∷◌, [], List, All, Some, None, is_some, IsTrue, false, IfErr, OnOk, OnErr, length, map, take, replicate};
 ghost use Rattle.fw_world.specs.declared.error.StepError.TheVariants.{OutOfMemory};
 ghost use Rattle.fw_world.specs.declared.runs.RunError.TheVariants as stopped;
 ghost use Rattle.fw_world.specs.Refusals.{refusal_of};
 ghost use Rattle.fw_world.specs.Runs.{events_of};
-ghost use Rattle.fw_world.specs.Step.{Event as Given, deliver, turn};
+ghost use Rattle.fw_world.specs.State.{meter_at};
+ghost use Rattle.fw_world.specs.Step.{Event as Given, deliver, tick, turn};
 ghost use Rattle.fw_world.specs.View.{event_of};
 ghost use Rattle.fw_air.specs.Inside.{AreSent, Follows, GoesOn, IsThere, link_of};
 ghost use Rattle.fw_air.specs.Rounds.{IsLinkRound, IsRound, OneByOne, last_turn};
@@ -15,9 +16,10 @@ use crate::fates::Fates;
 use crate::links::Waiting;
 use fw_image::TransferStatus;
 use fw_names::MeterId;
-use fw_world::{Event, RunError, StepError, World};
+use fw_world::{Event, RunError, StepError, World, laws};
 use std::alloc::Global;
 use std::marker::Model;
+use std::mem;
 
 /// A world that events led to, and these events.
 #[derive(Drop)]
@@ -173,13 +175,14 @@ impl Record {
         ensures memory { IfErr result (λ e. e ≡ OutOfMemory) }
         ensures goes_on { GoesOn self.old self.new }
     {
+        laws::actors_stay();
         for link in links.iter_mut() {
             self.link_round(alloc, link, fates)?;
         }
         Ok(())
     }
 
-    /// A round of a link. What a meter replies goes behind all that waits. It goes to the head end, which replies nothing.
+    /// A round of a link. What a meter replies goes behind all that waits, and to the head end, which replies nothing.
     fn link_round(
         &mut self,
         alloc: Global,
@@ -194,18 +197,60 @@ impl Record {
         ensures memory { IfErr result (λ e. e ≡ OutOfMemory) }
         ensures goes_on { GoesOn self.old self.new }
     {
-        let late = std::mem::replace(&mut link.late, Vec::new(alloc));
+        laws::actors_stay();
         let first = self.world.sent().len();
-        self.deliver_all(alloc, &late)?;
-        self.admit(alloc, Event::Tick(link.head, link.meter))?;
+        self.begin_round(alloc, link)?;
         let second = self.world.sent().len();
-        let coming = link.pass(alloc, fates, first, second)?;
-        self.deliver_all(alloc, &coming)?;
+        self.pass(alloc, link, fates, first, second)?;
         let end = self.world.sent().len();
-        let coming = link.pass(alloc, fates, second, end)?;
-        self.deliver_all(alloc, &coming)?;
-        if self.verifies(link.meter) {
-            self.admit(alloc, Event::Turn(link.meter))?;
+        self.pass(alloc, link, fates, second, end)?;
+        self.end_round(alloc, link.meter)
+    }
+
+    /// What is late comes, and the head end ticks the meter.
+    fn begin_round(&mut self, alloc: Global, link: &mut Waiting) -> Result<(), StepError>
+        requires { IsThere self.old.world link.old }
+        ensures all { OnOk result (Follows self.old (map deliver link.old.late.items ++ tick link.old.head link.old.meter ∷ []) self.new) }
+        ensures late { link.new.late.items ≡ [] }
+        ensures link { link_of link.new ≡ link_of link.old }
+        ensures memory { IfErr result (λ e. e ≡ OutOfMemory) }
+        ensures goes_on { GoesOn self.old self.new }
+    {
+        laws::actors_stay();
+        let late = mem::replace(&mut link.late, Vec::new(alloc));
+        self.deliver_all(alloc, &late)?;
+        self.admit(alloc, Event::Tick(link.head, link.meter))
+    }
+
+    /// The datagrams from one number up to another come as their fates are, or wait.
+    fn pass(
+        &mut self,
+        alloc: Global,
+        link: &mut Waiting,
+        fates: &Fates<'_>,
+        from: usize,
+        end: usize,
+    ) -> Result<(), StepError>
+        requires { end ≤ length self.old.world.sent }
+        ensures all { OnOk result ((waiting : List ℕ) × Follows self.old (map deliver waiting) self.new) }
+        ensures late { All (λ number. number < end) link.old.late.items → OnOk result (All (λ number. number < end) link.new.late.items) }
+        ensures link { OnOk result (link_of link.new ≡ link_of link.old) }
+        ensures memory { IfErr result (λ e. e ≡ OutOfMemory) }
+        ensures goes_on { GoesOn self.old self.new }
+    {
+        let coming = link.pass(alloc, fates, from, end)?;
+        self.deliver_all(alloc, &coming)
+    }
+
+    /// A turn of the meter, if it verifies.
+    fn end_round(&mut self, alloc: Global, meter: MeterId) -> Result<(), StepError>
+        requires { IsTrue (is_some (meter_at self.old.world meter)) }
+        ensures all { OnOk result (Follows self.old (last_turn self.old.world meter) self.new) }
+        ensures memory { IfErr result (λ e. e ≡ OutOfMemory) }
+        ensures same { OnErr result (self.new ≡ self.old) }
+    {
+        if self.verifies(meter) {
+            self.admit(alloc, Event::Turn(meter))?;
         }
         Ok(())
     }
