@@ -6,7 +6,7 @@ use Rattle.std.specs.Map.{lookup}
 use Rattle.fw_names.specs.Name.{Campaign}
 use Rattle.fw_book.specs.declared.error.BookError.{BookError}
 use Rattle.fw_book.specs.Changes.{opening_refusal, IsRefusal}
-use Rattle.fw_head.specs.Head.{Head, campaign_at}
+use Rattle.fw_head.specs.Head.{Head, campaign_at, RowsMayWant}
 use Rattle.fw_image.specs.Meter.{Meter}
 use Rattle.fw_world.specs.declared.datagram.Direction.{Direction}
 use Rattle.fw_world.specs.declared.datagram.Direction.TheVariants.{ToMeter, ToHead}
@@ -15,7 +15,7 @@ use Rattle.fw_world.specs.declared.error.StepError.TheVariants.{NoSuchActor, Out
 use Rattle.fw_world.specs.World.{Datagram}
 use Rattle.fw_world.specs.Step.{Event, open_campaign, deliver, stop}
 use Rattle.fw_world.specs.State.{State, head_at, meter_at}
-use Rattle.fw_world.specs.Refusals.{of_book, by_book, with_head, with_meter, with_datagram, no_addressee, no_stop, refusal_of, MayWantMemory, IsRefused}
+use Rattle.fw_world.specs.Refusals.{of_book, by_book, with_head, with_meter, with_datagram, no_addressee, no_stop, refusal_of, AddresseeMayWant, MayWantMemory, IsRefused}
 use Rattle.fw_world.proofs.Places.{head_found}
 
 -- what is told is this error
@@ -24,7 +24,7 @@ refused_by (Ok x) error Q h q = tt
 refused_by (Err e) error Q h q = subst Q (sym h) q
 
 -- memory is refused, and nothing else
-pub wants_memory : {X : Type 0} (r : Result X StepError) (s : State) (event : Event) → IsErrAnd r (λ e. e ≡ OutOfMemory) → refusal_of s event ≡ None → MayWantMemory event → IfErr r (IsRefused s event)
+pub wants_memory : {X : Type 0} (r : Result X StepError) (s : State) (event : Event) → IsErrAnd r (λ e. e ≡ OutOfMemory) → refusal_of s event ≡ None → MayWantMemory s event → IfErr r (IsRefused s event)
 wants_memory r s event h none may = refused_by r OutOfMemory (IsRefused s event) h (inr (none, refl, may))
 
 -- ---- an opening
@@ -74,6 +74,15 @@ module _ (s old : State) (is : s ≡ old) (number : ℕ) (d : Datagram) (at : sl
   delivered_to_head head way found =
       ap (λ (o : Option Datagram). with_datagram o (λ d. no_addressee old d.direction d)) there ∙ ap (λ (w : Direction). no_addressee old w d) way
       ∙ ap (λ (o : Option Head). with_head o (λ head. None)) found
+
+  pub meter_may_want : d.direction ≡ ToMeter → MayWantMemory old (deliver number)
+  meter_may_want way = (d, there, subst (λ (w : Direction). AddresseeMayWant old w d) (sym way) tt)
+
+  pub head_may_want : (head : Head) → d.direction ≡ ToHead → head_at old d.head ≡ Some head → (from : ℕ) (bytes : List ℕ) → from ≡ d.meter → bytes ≡ d.bytes → RowsMayWant head.rows from bytes
+      → MayWantMemory old (deliver number)
+  head_may_want head way found from bytes by carried may =
+      let wants = subst (λ (m : ℕ). RowsMayWant head.rows m d.bytes) by (subst (RowsMayWant head.rows from) carried may) in
+      (d, there, subst (λ (w : Direction). AddresseeMayWant old w d) (sym way) (head, found, wants))
 
   pub stopped_meter : (calls torn : ℕ) (meter : Meter) → d.direction ≡ ToMeter → meter_at old d.meter ≡ Some meter → refusal_of old (stop number calls torn) ≡ None
   stopped_meter calls torn meter way found =

@@ -4,7 +4,7 @@ use Rattle.std.specs.List.{list_all}
 use Rattle.fw_book.specs.declared.error.BookError.{BookError}
 use Rattle.fw_book.specs.declared.error.BookError.TheVariants as book
 use Rattle.fw_book.specs.Changes.{opening_refusal, cancel_refusal}
-use Rattle.fw_head.specs.Head.{Head}
+use Rattle.fw_head.specs.Head.{Head, RowsMayWant}
 use Rattle.fw_image.specs.Meter.{Meter}
 use Rattle.fw_world.specs.declared.datagram.Direction.{Direction}
 use Rattle.fw_world.specs.declared.datagram.Direction.TheVariants.{ToMeter, ToHead}
@@ -57,14 +57,19 @@ refusal_of s (restart_meter number) = with_meter (meter_at s number)
 refusal_of s (restart_head number) = with_head (head_at s number) (λ head. None)
 refusal_of s (turn number) = with_meter (meter_at s number)
 
--- an opening, a tick, a delivery and a stop may want memory
-abbrev pub MayWantMemory : Event → Type 0
-MayWantMemory (open_campaign campaign image meters) = Unit {0}
-MayWantMemory (tick head meter) = Unit {0}
-MayWantMemory (deliver number) = Unit {0}
-MayWantMemory (stop number calls torn) = Unit {0}
-MayWantMemory event = ⊥
+-- a meter may always want memory for a datagram, and a head end where the sender's live row may
+abbrev pub AddresseeMayWant : State → Direction → Datagram → Type 0
+AddresseeMayWant s ToMeter d = Unit {0}
+AddresseeMayWant s ToHead d = (head : Head) × (head_at s d.head ≡ Some head) × RowsMayWant head.rows d.meter d.bytes
+
+-- an opening, a tick and a stop may want memory, and a delivery where its addressee may
+abbrev pub MayWantMemory : State → Event → Type 0
+MayWantMemory s (open_campaign campaign image meters) = Unit {0}
+MayWantMemory s (tick head meter) = Unit {0}
+MayWantMemory s (deliver number) = (d : Datagram) × (slice_get s.sent number ≡ Some d) × AddresseeMayWant s d.direction d
+MayWantMemory s (stop number calls torn) = Unit {0}
+MayWantMemory s event = ⊥
 
 -- memory is refused where nothing else is a reason
 abbrev pub IsRefused : State → Event → StepError → Type 0
-IsRefused s event error = (refusal_of s event ≡ Some error) ⊎ ((refusal_of s event ≡ None) × (error ≡ OutOfMemory) × MayWantMemory event)
+IsRefused s event error = (refusal_of s event ≡ Some error) ⊎ ((refusal_of s event ≡ None) × (error ≡ OutOfMemory) × MayWantMemory s event)

@@ -13,6 +13,8 @@ use crate::laws;
 use crate::setup::Setup;
 use crate::world::World;
 use std::alloc::Global;
+use std::error::Error;
+use std::fmt;
 
 /// Why a run did not reach the end of its events.
 #[derive(Drop)]
@@ -26,6 +28,30 @@ pub enum RunError {
         cause: StepError,
     },
 }
+
+impl fmt::Display for RunError {
+    fn fmt<W: fmt::Write>(&self, f: &mut fmt::Formatter<W>) -> fmt::Result {
+        match self {
+            RunError::Setup(error) => write!(f, "{error}"),
+            RunError::Event { cause, .. } => write!(f, "{cause}"),
+        }
+    }
+}
+
+impl fmt::Debug for RunError {
+    fn fmt<W: fmt::Write>(&self, f: &mut fmt::Formatter<W>) -> fmt::Result {
+        match self {
+            RunError::Setup(error) => f.debug_tuple("Setup").field(error).finish(),
+            RunError::Event { at, cause, .. } => f
+                .debug_struct("Event")
+                .field("at", at)
+                .field("cause", cause)
+                .finish_non_exhaustive(),
+        }
+    }
+}
+
+impl Error for RunError {}
 
 /// Makes a world, and all events in it, in their order, up to the first one that is refused.
 ///

@@ -87,7 +87,8 @@ impl World {
     /// # Errors
     ///
     /// `NoSuchDatagram`, `NoSuchActor` or `Book`, the first that applies. Otherwise `OutOfMemory` alone, and only of an opening, a
-    /// tick, a delivery or a stop. The world is then as it was.
+    /// tick, a delivery or a stop; of a delivery to a head end only where the sender's live row may want memory for it. The world
+    /// is then as it was.
     pub fn step(&mut self, alloc: Global, event: &Event) -> Result<(), StepError>
         ensures stepped { OnOk result (StateStep self.old (event_of event.now) self.new) }
         ensures world { OnOk result (WorldStep (world_of self.old) (event_of event.now) (world_of self.new)) }
@@ -98,6 +99,7 @@ impl World {
     {
         laws::state_steps_as_world();
         laws::every_step_is_safe();
+        // For its clauses alone: each head end stands behind its own number.
         let _sent = self.sent();
         self.make(alloc, event)
     }
@@ -148,6 +150,7 @@ impl World {
         if !all_there(&self.meters, meters) {
             return Err(StepError::NoSuchActor);
         }
+        // For its clauses alone: the number of a head end begins at 1, and so the campaign is one.
         let _view = head.view();
         head.open_campaign(alloc, campaign.serial(), image, meters)?;
         Ok(())
@@ -163,6 +166,7 @@ impl World {
         let Some(head) = self.heads.get_mut(&head_number(campaign)) else {
             return Err(StepError::NoSuchActor);
         };
+        // For its clauses alone: the number of a head end begins at 1, and so the campaign is one.
         let _view = head.view();
         head.cancel(campaign.serial())?;
         Ok(())
@@ -243,6 +247,7 @@ impl World {
         let Some(head) = self.heads.get_mut(&datagram.head.number()) else {
             return Err(StepError::NoSuchActor);
         };
+        // For its clauses alone: the live rows are those of the book.
         let _view = head.view();
         head.hear(alloc, datagram.meter, &datagram.bytes)?;
         Ok(())

@@ -49,15 +49,23 @@ impl Case for Script {
         let events = events_of(alloc, self.1)?;
         match run(alloc, &setup, &events) {
             Ok(world) => report(alloc, &setup, &world),
-            Err(RunError::Setup(error)) => Ok(error.to_string(alloc)?),
-            Err(RunError::Event { at, world, cause }) => {
-                let mut text = report(alloc, &setup, &world)?;
-                push(
-                    &mut text,
-                    format!(in alloc; "refused {at} {cause}")?.as_str(),
-                )?;
-                Ok(text)
-            }
+            Err(error) => stopped(alloc, &setup, &error),
+        }
+    }
+}
+
+/// What a run that was stopped leaves, and why it was.
+fn stopped(alloc: Global, setup: &Setup, error: &RunError) -> Result<String, Fail> {
+    let name = error.to_string(alloc)?;
+    match error {
+        RunError::Setup(_) => Ok(name),
+        RunError::Event { at, world, .. } => {
+            let mut text = report(alloc, setup, world)?;
+            push(
+                &mut text,
+                format!(in alloc; "refused {at} {name}")?.as_str(),
+            )?;
+            Ok(text)
         }
     }
 }

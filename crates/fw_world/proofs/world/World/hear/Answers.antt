@@ -6,9 +6,10 @@ use Rattle.fw_head.specs.declared.news.News.TheVariants.{Done}
 use Rattle.fw_head.specs.Head.{HeadHears, IsDoneBy}
 use Rattle.fw_world.specs.declared.datagram.Direction.TheVariants.{ToHead}
 use Rattle.fw_world.specs.World.{Datagram}
+use Rattle.fw_world.specs.Step.{deliver}
 use Rattle.fw_world.proofs.Places.{told_err, head_found, head_set, head_same, moved_own, hears_keeps}
 use Rattle.fw_world.proofs.Delivered.{sent_here, way_of, delivers_to_head}
-use Rattle.fw_world.proofs.Refusing.{delivered_to_head}
+use Rattle.fw_world.proofs.Refusing.{wants_memory, delivered_to_head, head_may_want}
 use Rattle.fw_world.proofs.world.World.hear.Goals as goal
 
 pub returns-in_err-hear-clause-same : goal.returns-in_err-hear-clause-same
@@ -16,6 +17,23 @@ returns-in_err-hear-clause-same c =
     let key = c.number.result in
     let found : lookup (nat_eq key) c.self.inside.heads.entries ≡ Some c.in-Some-get_mut.head.now = sym c.get_mut.ensures.value ∙ ap option_copied_mut c.in-Some-get_mut.is in
     told_err c.from_residual.result _ (head_same _ _ c.self.view_is key _ _ _ _ found (c.get_mut.follows.holds c.hear.new.self).0 c.in_err-hear.ensures.same refl)
+
+pub returns-in_err-hear-clause-refused : goal.returns-in_err-hear-clause-refused
+returns-in_err-hear-clause-refused c =
+    let key = c.number.result in
+    let d = c.in-Some.datagram.now in
+    let head = c.in-Some-get_mut.head.now in
+    let found : lookup (nat_eq key) c.self.inside.heads.entries ≡ Some head = sym c.get_mut.ensures.value ∙ ap option_copied_mut c.in-Some-get_mut.is in
+    let at : slice_get c.self.inside.sent.items c.args.number ≡ Some d = ap (λ (xs : List Datagram). slice_get xs c.args.number) (sym c.deref.ensures.value) ∙ sym c.sent_at.ensures ∙ ap option_copied c.in-Some.is in
+    let here : slice_get c.args.self.now.sent c.args.number ≡ Some d = sent_here _ _ c.self.view_is c.deref.result.now c.args.number d c.deref.ensures.value (sym c.sent_at.ensures ∙ ap option_copied c.in-Some.is) in
+    let same : key ≡ d.head = c.number.ensures.value ∙ ap (λ (x : Datagram). x.head) c.datagram.view_is in
+    let by : c.datagram.inside.meter ≡ d.meter = ap (λ (x : Datagram). x.meter) c.datagram.view_is in
+    let carried : c.deref-2.result.now ≡ d.bytes = c.deref-2.ensures.value ∙ ap (λ (x : Datagram). x.bytes) c.datagram.view_is in
+    let way = way_of c.args.self.now.sent c.args.number ToHead d c.requires here in
+    let there = head_found _ _ c.self.view_is key d.head same head found in
+    wants_memory c.from_residual.result c.args.self.now (deliver c.args.number) c.from_residual.ensures.1
+    (delivered_to_head _ _ c.self.view_is c.args.number d at head way there)
+    (head_may_want _ _ c.self.view_is c.args.number d at head way there c.datagram.inside.meter c.deref-2.result.now by carried c.in_err-hear.ensures.memory)
 
 pub invariant_of-self-2 : goal.invariant_of-self-2
 invariant_of-self-2 c =

@@ -11,7 +11,7 @@ use Rattle.fw_world.proofs.Staying.{sent_own, meter_own, noted_own, replies_ther
 use Rattle.fw_world.specs.Inside.{switched_name}
 use Rattle.fw_world.proofs.Places.{told_err, meter_found, meter_serves, meter_same, replied_is, noted_is}
 use Rattle.fw_world.proofs.Delivered.{sent_here, one_datagram, way_of, delivers_to_meter}
-use Rattle.fw_world.proofs.Refusing.{wants_memory, delivered_to_meter}
+use Rattle.fw_world.proofs.Refusing.{wants_memory, delivered_to_meter, meter_may_want}
 use Rattle.fw_world.proofs.world.World.serve.Goals as goal
 
 pub returns-in_err-reserve-clause-same : goal.returns-in_err-reserve-clause-same
@@ -19,6 +19,19 @@ returns-in_err-reserve-clause-same c =
     let key = c.number.result in
     let found : lookup (nat_eq key) c.self.inside.meters.entries ≡ Some c.in-Some-get_mut.seat.now = sym c.get_mut.ensures.value ∙ ap option_copied_mut c.in-Some-get_mut.is in
     told_err c.from_residual.result _ (meter_same _ _ c.self.view_is key _ _ _ _ _ found (c.get_mut.follows.holds c.in-Some-get_mut.seat.now).0 refl c.reserve.ensures.items refl)
+
+pub returns-in_err-reserve-clause-refused : goal.returns-in_err-reserve-clause-refused
+returns-in_err-reserve-clause-refused c =
+    let key = c.number.result in
+    let d = c.in-Some.datagram.now in
+    let seat = c.in-Some-get_mut.seat.now in
+    let found : lookup (nat_eq key) c.self.inside.meters.entries ≡ Some seat = sym c.get_mut.ensures.value ∙ ap option_copied_mut c.in-Some-get_mut.is in
+    let at : slice_get c.self.inside.sent.items c.args.number ≡ Some d = ap (λ (xs : List Datagram). slice_get xs c.args.number) (sym c.deref.ensures.value) ∙ sym c.sent_at.ensures ∙ ap option_copied c.in-Some.is in
+    let here : slice_get c.args.self.now.sent c.args.number ≡ Some d = sent_here _ _ c.self.view_is c.deref.result.now c.args.number d c.deref.ensures.value (sym c.sent_at.ensures ∙ ap option_copied c.in-Some.is) in
+    let same : key ≡ d.meter = c.number.ensures ∙ ap (λ (x : Datagram). x.meter) c.datagram.view_is in
+    wants_memory c.from_residual.result c.args.self.now (deliver c.args.number) c.from_residual.ensures.1
+    (delivered_to_meter _ _ c.self.view_is c.args.number d at seat (way_of c.args.self.now.sent c.args.number ToMeter d c.requires here) (meter_found _ _ c.self.view_is key d.meter same seat found))
+    (meter_may_want _ _ c.self.view_is c.args.number d at (way_of c.args.self.now.sent c.args.number ToMeter d c.requires here))
 
 pub returns-in_err-reserve-2-clause-refused : goal.returns-in_err-reserve-2-clause-refused
 returns-in_err-reserve-2-clause-refused c =
@@ -30,7 +43,8 @@ returns-in_err-reserve-2-clause-refused c =
     let here : slice_get c.args.self.now.sent c.args.number ≡ Some d = sent_here _ _ c.self.view_is c.deref.result.now c.args.number d c.deref.ensures.value (sym c.sent_at.ensures ∙ ap option_copied c.in-Some.is) in
     let same : key ≡ d.meter = c.number.ensures ∙ ap (λ (x : Datagram). x.meter) c.datagram.view_is in
     wants_memory c.from_residual-in_err-reserve-2.result c.args.self.now (deliver c.args.number) c.from_residual-in_err-reserve-2.ensures.1
-    (delivered_to_meter _ _ c.self.view_is c.args.number d at seat (way_of c.args.self.now.sent c.args.number ToMeter d c.requires here) (meter_found _ _ c.self.view_is key d.meter same seat found)) tt
+    (delivered_to_meter _ _ c.self.view_is c.args.number d at seat (way_of c.args.self.now.sent c.args.number ToMeter d c.requires here) (meter_found _ _ c.self.view_is key d.meter same seat found))
+    (meter_may_want _ _ c.self.view_is c.args.number d at (way_of c.args.self.now.sent c.args.number ToMeter d c.requires here))
 
 pub returns-in_err-reserve-2-clause-same : goal.returns-in_err-reserve-2-clause-same
 returns-in_err-reserve-2-clause-same c =
@@ -49,7 +63,8 @@ returns-in_err-served-clause-refused c =
     let here : slice_get c.args.self.now.sent c.args.number ≡ Some d = sent_here _ _ c.self.view_is c.deref.result.now c.args.number d c.deref.ensures.value (sym c.sent_at.ensures ∙ ap option_copied c.in-Some.is) in
     let same : key ≡ d.meter = c.number.ensures ∙ ap (λ (x : Datagram). x.meter) c.datagram.view_is in
     wants_memory c.from_residual-in_err-served.result c.args.self.now (deliver c.args.number) c.from_residual-in_err-served.ensures.1
-    (delivered_to_meter _ _ c.self.view_is c.args.number d at seat (way_of c.args.self.now.sent c.args.number ToMeter d c.requires here) (meter_found _ _ c.self.view_is key d.meter same seat found)) tt
+    (delivered_to_meter _ _ c.self.view_is c.args.number d at seat (way_of c.args.self.now.sent c.args.number ToMeter d c.requires here) (meter_found _ _ c.self.view_is key d.meter same seat found))
+    (meter_may_want _ _ c.self.view_is c.args.number d at (way_of c.args.self.now.sent c.args.number ToMeter d c.requires here))
 
 pub returns-in_err-served-clause-same : goal.returns-in_err-served-clause-same
 returns-in_err-served-clause-same c =
