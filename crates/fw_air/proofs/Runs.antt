@@ -1,11 +1,19 @@
 -- Runs that nothing refuses: what they keep, and how they follow one another.
-use Rattle.std.proofs.Common.{◌≡◌, ℕ, ◌+◌, ◌<◌, ◌≤◌, length, slice_index_or, drop, arith, List, [], ◌∷◌, ◌++◌, map, Result, Ok, Err, refl, sym, ap, subst, ◌∙◌, append_assoc}
-use Rattle.std.proofs.lemmas.List.{append-nil, drop_all, drop_more, get_or-map, length-map, map-append}
-use Rattle.std.specs.Prelude.{OnOk, OnErr}
+use Rattle.std.proofs.Common.{◌≡◌, ℕ, ◌+◌, ◌<◌, ◌≤◌, length, slice_get, slice_index_or, drop, take, arith, List, [], ◌∷◌, ◌++◌, map, Option, Some, ◌⊎◌, Result, Ok, Err, refl, sym, ap, subst, ◌∙◌, append_assoc}
+use Rattle.std.proofs.lemmas.List.{append-nil, drop_all, drop_more, get_or-map, length-map, length-take, map-append, take_more}
+use Rattle.std.proofs.lemmas.Option.{slice_get-get_or}
+use Rattle.std.specs.Prelude.{OnOk, OnErr, IfErr, IsErrAnd}
+use Rattle.fw_world.specs.declared.error.StepError.{StepError}
+use Rattle.fw_world.specs.declared.error.StepError.TheVariants.{OutOfMemory}
+use Rattle.fw_world.specs.declared.event.Event.{Event as Given}
+use Rattle.fw_world.specs.Refusals.{refusal_of}
+use Rattle.fw_world.specs.Runs.{events_of}
 use Rattle.fw_world.specs.State.{State}
 use Rattle.fw_world.specs.Step.{Event, deliver, tick}
+use Rattle.fw_world.specs.View.{event_of}
 use Rattle.fw_air.specs.Inside.{Recorded, Follows, GoesOn}
 use Rattle.fw_air.specs.Rounds.{AdmittedRun, Link, IsLinkRound, OneByOne, last_turn}
+use Rattle.fw_air.specs.Schedules.{IsCutAt}
 
 pub run_append : (old mid new : State) (xs ys : List Event) → AdmittedRun old xs mid → AdmittedRun mid ys new → AdmittedRun old (xs ++ ys) new
 run_append old mid new [] ys r s = subst (λ (w : State). AdmittedRun w ys new) r s
@@ -84,3 +92,40 @@ left_at f xs all i x e inside is =
 
 pub none_left : {X Y : Type 0} (f : X → Y) (xs : List X) (all : List Y) (i : ℕ) → map f xs ≡ all → length xs ≤ i → drop i all ≡ []
 none_left f xs all i e past = let same = ap (λ l. length l) e in drop_all i all (omega (arith, same, past, length-map xs f))
+
+-- ---- the given events
+
+pub next_event : (events : List Given) (i : ℕ) (event copy : Given) → i < length events → event ≡ slice_index_or events i event → event_of copy ≡ event_of event
+    → take (i + 1) (events_of events) ≡ take i (events_of events) ++ event_of copy ∷ []
+next_event events i event copy inside is same =
+    let long : i < length (events_of events) = omega (arith, inside, length-map events event_of) in
+    let here : slice_index_or (events_of events) i (event_of event) ≡ event_of copy = get_or-map event_of events i event (event_of event) inside ∙ ap event_of (sym is) ∙ sym same in
+    take_more (events_of events) i (event_of event) long ∙ ap (λ x. take i (events_of events) ++ x ∷ []) here
+
+pub so_long : (events : List Given) (i : ℕ) → i < length events → length (take i (events_of events)) ≡ i
+so_long events i inside = let cut = length-take i (events_of events) in omega (arith, cut, inside, length-map events event_of)
+
+pub cut_at : (events : List Given) (i : ℕ) (event : Given) (world : State) (cause : StepError) → i < length events → event ≡ slice_index_or events i event
+    → (refusal_of world (event_of event) ≡ Some cause) ⊎ (cause ≡ OutOfMemory) → IsCutAt (events_of events) (length (take i (events_of events))) world cause
+cut_at events i event world cause inside is refused = record {
+  event = event_of event;
+  there =
+      let long : i < length (events_of events) = omega (arith, inside, length-map events event_of) in
+      ap (slice_get (events_of events)) (so_long events i inside)
+      ∙ slice_get-get_or (events_of events) i (event_of event) long
+      ∙ ap Some (get_or-map event_of events i event (event_of event) inside ∙ ap event_of (sym is));
+  refused = refused;
+}
+
+pub same_take : (events : List Given) (i : ℕ) → i < length events → take i (events_of events) ≡ take (length (take i (events_of events))) (events_of events)
+same_take events i inside = ap (λ n. take n (events_of events)) (sym (so_long events i inside))
+
+-- ---- what is told of an error
+
+pub refused_by : {X : Type 0} (r : Result X StepError) (error : StepError) (Q : StepError → Type 0) → IsErrAnd r (λ e. e ≡ error) → Q error → IfErr r Q
+refused_by (Ok x) error Q h q = tt
+refused_by (Err e) error Q h q = subst Q (sym h) q
+
+pub on_err : {X : Type 0} (r : Result X StepError) (P Q : StepError → Type 0) → ((e : StepError) → P e → Q e) → IfErr r P → IfErr r Q
+on_err (Ok x) P Q f h = h
+on_err (Err e) P Q f h = f e h
