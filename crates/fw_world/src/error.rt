@@ -6,7 +6,7 @@ ghost use Rattle.fw_world.specs.declared.error.SetupError.TheVariants as unmade;
 ghost use Rattle.fw_world.specs.declared.error.StepError.TheVariants.{OutOfMemory};
 
 use fw_book::BookError;
-use std::alloc::AllocError;
+use std::alloc::{AllocError, AllocFailed};
 use thiserror::Error;
 
 /// Why a world was not made.
@@ -49,6 +49,14 @@ impl From<AllocError> for StepError {
     ghost from_gives = { λ _ e. e ≡ OutOfMemory };
 
     fn from(_error: AllocError) -> StepError {
+        StepError::OutOfMemory
+    }
+}
+
+impl<T: Drop> From<AllocFailed<T>> for StepError {
+    ghost from_gives = { λ _ e. e ≡ OutOfMemory };
+
+    fn from(_error: AllocFailed<T>) -> StepError {
         StepError::OutOfMemory
     }
 }

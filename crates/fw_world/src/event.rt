@@ -1,6 +1,10 @@
 //! What happens in a world.
 
+ghost use Rattle.std.specs.Prelude.{◌≡◌};
+ghost use Rattle.fw_world.specs.View.{event_of};
+
 use fw_names::{CampaignId, HeadId, MeterId};
+use std::alloc::AllocError;
 
 /// An event. Datagrams are named by their places in the list of all that were sent, from 0 on.
 #[derive(Debug, Drop)]
@@ -30,4 +34,37 @@ pub enum Event {
     RestartHead(HeadId),
     /// A meter goes on with what it verifies.
     Turn(MeterId),
+}
+
+impl Clone for Event {
+    ghost is_clone = { λ event copy. event_of copy ≡ event_of event };
+
+    fn clone(&self) -> Result<Event, AllocError> {
+        Ok(match self {
+            Event::OpenCampaign {
+                campaign,
+                image,
+                meters,
+            } => Event::OpenCampaign {
+                campaign: *campaign,
+                image: Vec::from_slice(*image.allocator(), image)?,
+                meters: Vec::from_slice(*meters.allocator(), meters)?,
+            },
+            Event::CancelCampaign(campaign) => Event::CancelCampaign(*campaign),
+            Event::Tick(head, meter) => Event::Tick(*head, *meter),
+            Event::Deliver(datagram) => Event::Deliver(*datagram),
+            Event::Stop {
+                datagram,
+                calls,
+                torn,
+            } => Event::Stop {
+                datagram: *datagram,
+                calls: *calls,
+                torn: *torn,
+            },
+            Event::RestartMeter(meter) => Event::RestartMeter(*meter),
+            Event::RestartHead(head) => Event::RestartHead(*head),
+            Event::Turn(meter) => Event::Turn(*meter),
+        })
+    }
 }

@@ -1,0 +1,42 @@
+use Rattle.std.proofs.Common.{◌≡◌, ◌+◌, ◌<◌, ◌∷◌, [], length, map, set, drop, slice_index_or, IsTrue, is_some, subst, sym, ap, ◌∙◌, arith, All}
+use Rattle.std.proofs.lemmas.List.Elements.{All-set}
+use Rattle.std.proofs.Math.Seq.{map-set_same}
+use Rattle.fw_world.specs.State.{head_at, meter_at}
+use Rattle.fw_air.specs.Inside.{IsThere, link_of}
+use Rattle.fw_air.specs.Rounds.{Link, IsLinkRound}
+use Rattle.fw_air.proofs.Present.{all_still_there, still_there, same_link_there}
+use Rattle.fw_air.proofs.Runs.{follows_on, goes_on, leads_on, leads_there, left_at, none_left}
+use Rattle.fw_air.proofs.record.Record.round.Goals as goal
+
+pub returns-in_err-link_round-clause-goes_on : goal.returns-in_err-link_round-clause-goes_on
+returns-in_err-link_round-clause-goes_on c = goes_on c.args.self.now c.loop-link.self c.link_round.new.self c.loop-link.invariant.2.0 c.loop-link.invariant.2.1 c.link_round.ensures.goes_on
+
+pub loop-link-preserved : goal.loop-link-preserved
+loop-link-preserved c =
+    let stay = c.actors_stay.ensures in
+    let old = c.args.self.now in
+    let now = c.loop-link.self in
+    let new = c.link_round.new.self in
+    let links = c.loop-link.links in
+    let i = c.loop-link.link-index in
+    let link = c.link-item.result in
+    let inv = c.loop-link.invariant in
+    let made = c.in_ok-link_round.ensures.all in
+    let inside : i < length links = omega (arith, c.loop-link-test.true) in
+    let before : IsThere now.world link = subst (IsThere now.world) (sym c.link-item.is) (inv.0 i link inside) in
+    let same : link_of c.link_round.new.link ≡ link_of link = c.in_ok-link_round.ensures.link ∙ ap link_of (sym c.link-item.is) in
+    let round = subst (λ (l : Link). IsLinkRound l now.world made.0 new.world) (ap link_of (sym c.link-item.is)) made.2 in
+    let after = still_there stay now.world new.world made.0 link made.1.run before in
+    let there : IsThere new.world c.link_round.new.link = same_link_there new.world link c.link_round.new.link same after c.in_ok-link_round.ensures.late in
+    let left = left_at link_of links (map link_of c.args.links.now) i link inv.1 inside c.link-item.is in (
+      All-set (IsThere new.world) links i c.link_round.new.link there (all_still_there stay now.world new.world made.0 links made.1.run inv.0),
+      map-set_same link_of links i c.link_round.new.link link c.in_ok-link_round.ensures.link ∙ inv.1,
+      (_, follows_on old now new inv.2.0 made.0 inv.2.1 made.1,
+        leads_on IsLinkRound _ _ _ (link_of link) old.world now.world new.world inv.2.0 made.0 left inv.2.2 round),
+    )
+
+pub returns-clause-all : goal.returns-clause-all
+returns-clause-all c =
+    let inv = c.loop-link.invariant in
+    let none = none_left link_of c.loop-link.links (map link_of c.args.links.now) c.loop-link.link-index inv.1 (omega (arith, c.loop-link-test.false)) in
+    (inv.2.0, inv.2.1, leads_there IsLinkRound _ _ c.args.self.now.world c.loop-link.self.world inv.2.0 none inv.2.2)

@@ -1,0 +1,5 @@
+-- Public vocabulary: the words of public clauses, for callers and readers.
+pub mod Fates
+pub mod Rounds
+pub mod Schedules
+pub mod Inside

@@ -1,0 +1,11 @@
+//! The air between head ends and meters: what becomes of each datagram on its link, and the events that come of it, round after
+//! round.
+#![tactic(auto)]
+
+mod fates;
+mod links;
+mod record;
+mod scheduling;
+
+pub use fates::{Fate, Fates, MAX_FATES};
+pub use scheduling::schedule;

@@ -1,0 +1,268 @@
+//! A world, and all events that made it.
+
+ghost use Rattle.std.specs.Prelude.{◌≡◌, ◌⊎◌, ℕ, ◌<◌, ◌≤◌, ◌++◌, ◌∷◌, [], List, All, Some, None, is_some, IsTrue, false, IfErr, OnOk, OnErr, length, map, take, replicate};
+ghost use Rattle.fw_world.specs.declared.error.StepError.TheVariants.{OutOfMemory};
+ghost use Rattle.fw_world.specs.declared.runs.RunError.TheVariants as stopped;
+ghost use Rattle.fw_world.specs.Refusals.{refusal_of};
+ghost use Rattle.fw_world.specs.Runs.{events_of};
+ghost use Rattle.fw_world.specs.State.{meter_at};
+ghost use Rattle.fw_world.specs.Step.{Event as Given, deliver, tick, turn};
+ghost use Rattle.fw_world.specs.View.{event_of};
+ghost use Rattle.fw_air.specs.Inside.{AreSent, Follows, GoesOn, IsThere, link_of};
+ghost use Rattle.fw_air.specs.Rounds.{IsLinkRound, IsRound, OneByOne, last_turn};
+ghost use Rattle.fw_air.specs.Schedules.{IsCutAt};
+
+use crate::fates::Fates;
+use crate::links::Waiting;
+use fw_image::TransferStatus;
+use fw_names::MeterId;
+use fw_world::{Event, RunError, StepError, World, laws};
+use std::alloc::Global;
+use std::marker::Model;
+use std::mem;
+
+/// A world that events led to, and these events.
+#[derive(Drop)]
+pub(crate) struct Record {
+    world: World,
+    events: Vec<Event>,
+}
+
+impl Model for Record {
+    ghost use Rattle.std.specs.Coded.{codes};
+    ghost use Rattle.std.specs.FinMap.{code};
+    ghost use Rattle.fw_image.specs.Meter.{cells_code};
+    ghost use Rattle.fw_world.specs.Runs.{events_of};
+    ghost use Rattle.fw_air.specs.Inside.{Recorded};
+
+    ghost Value = { Recorded };
+
+    ghost coded = { Prim.hlevel (codes, code, cells_code) };
+
+    ghost view = { λ r. record { world = r.world; events = events_of r.events.items } };
+}
+
+impl Record {
+    /// No event.
+    pub(crate) fn new(alloc: Global, world: World) -> Record
+        ensures { result ≡ record { world = world; events = [] } }
+    {
+        Record {
+            world,
+            events: Vec::new(alloc),
+        }
+    }
+
+    /// The world.
+    pub(crate) fn world(&self) -> &World
+        ensures { result.now ≡ self.now.world }
+    {
+        &self.world
+    }
+
+    /// The events.
+    pub(crate) fn into_events(self) -> Vec<Event>
+        ensures { events_of result.items ≡ self.events }
+    {
+        self.events
+    }
+
+    /// What is told where the next event was refused.
+    pub(crate) fn refused(self, cause: StepError) -> RunError
+        ensures { result ≡ stopped.Event (length self.events) self.world cause }
+    {
+        RunError::Event {
+            at: self.events.len(),
+            world: self.world,
+            cause,
+        }
+    }
+
+    /// An event.
+    fn make(&mut self, alloc: Global, event: Event) -> Result<(), StepError>
+        ensures made { OnOk result (Follows self.old (event_of event ∷ []) self.new) }
+        ensures refused { IfErr result (λ e. (refusal_of self.old.world (event_of event) ≡ Some e) ⊎ (e ≡ OutOfMemory)) }
+        ensures same { OnErr result (self.new ≡ self.old) }
+    {
+        self.events.reserve(1)?;
+        self.world.step(alloc, &event)?;
+        match self.events.push(event) {
+            Ok(()) => Ok(()),
+            Err(_) => unreachable!(),
+        }
+    }
+
+    /// An event that is refused for nothing but memory.
+    fn admit(&mut self, alloc: Global, event: Event) -> Result<(), StepError>
+        requires { refusal_of self.old.world (event_of event) ≡ None }
+        ensures made { OnOk result (Follows self.old (event_of event ∷ []) self.new) }
+        ensures memory { IfErr result (λ e. e ≡ OutOfMemory) }
+        ensures same { OnErr result (self.new ≡ self.old) }
+    {
+        self.make(alloc, event)
+    }
+
+    /// The given events.
+    pub(crate) fn make_all(&mut self, alloc: Global, events: &[Event]) -> Result<(), StepError>
+        ensures all { OnOk result (Follows self.old (events_of events.now) self.new) }
+        ensures cut { IfErr result (λ cause. (made : List Given) × Follows self.old made self.new
+            × (made ≡ take (length made) (events_of events.now)) × IsCutAt (events_of events.now) (length made) self.new.world cause) }
+    {
+        for event in events {
+            let event = event.clone()?;
+            self.make(alloc, event)?;
+        }
+        Ok(())
+    }
+
+    /// These datagrams come.
+    fn deliver_all(&mut self, alloc: Global, datagrams: &[usize]) -> Result<(), StepError>
+        requires { AreSent self.old.world datagrams.now }
+        ensures all { OnOk result (Follows self.old (map deliver datagrams.now) self.new) }
+        ensures memory { IfErr result (λ e. e ≡ OutOfMemory) }
+        ensures goes_on { GoesOn self.old self.new }
+    {
+        for datagram in datagrams {
+            self.deliver(alloc, *datagram)?;
+        }
+        Ok(())
+    }
+
+    /// A datagram comes.
+    fn deliver(&mut self, alloc: Global, datagram: usize) -> Result<(), StepError>
+        requires { datagram < length self.old.world.sent }
+        ensures made { OnOk result (Follows self.old (deliver datagram ∷ []) self.new) }
+        ensures memory { IfErr result (λ e. e ≡ OutOfMemory) }
+        ensures same { OnErr result (self.new ≡ self.old) }
+    {
+        // Called for its clause: both ends of each link on which something was sent are in the world.
+        let _sent = self.world.sent();
+        self.admit(alloc, Event::Deliver(datagram))
+    }
+
+    /// So many rounds of all links.
+    pub(crate) fn rounds(
+        &mut self,
+        alloc: Global,
+        links: &mut [Waiting],
+        rounds: u32,
+        fates: &Fates<'_>,
+    ) -> Result<(), StepError>
+        requires { All (IsThere self.old.world) links.old }
+        ensures all { OnOk result ((events : List Given) × Follows self.old events self.new
+            × OneByOne IsRound (replicate rounds (map link_of links.old)) self.old.world events self.new.world) }
+        ensures memory { IfErr result (λ e. e ≡ OutOfMemory) }
+        ensures goes_on { GoesOn self.old self.new }
+    {
+        for round in 0..rounds {
+            self.round(alloc, links, fates)?;
+        }
+        Ok(())
+    }
+
+    /// A round of all links.
+    fn round(
+        &mut self,
+        alloc: Global,
+        links: &mut [Waiting],
+        fates: &Fates<'_>,
+    ) -> Result<(), StepError>
+        requires { All (IsThere self.old.world) links.old }
+        ensures all { OnOk result ((events : List Given) × Follows self.old events self.new
+            × IsRound (map link_of links.old) self.old.world events self.new.world) }
+        ensures there { OnOk result (All (IsThere self.new.world) links.new) }
+        ensures links { OnOk result (map link_of links.new ≡ map link_of links.old) }
+        ensures memory { IfErr result (λ e. e ≡ OutOfMemory) }
+        ensures goes_on { GoesOn self.old self.new }
+    {
+        laws::actors_stay();
+        for link in links.iter_mut() {
+            self.link_round(alloc, link, fates)?;
+        }
+        Ok(())
+    }
+
+    /// A round of a link. What a meter replies goes behind all that waits, and to the head end, which replies nothing.
+    fn link_round(
+        &mut self,
+        alloc: Global,
+        link: &mut Waiting,
+        fates: &Fates<'_>,
+    ) -> Result<(), StepError>
+        requires { IsThere self.old.world link.old }
+        ensures all { OnOk result ((events : List Given) × Follows self.old events self.new
+            × IsLinkRound (link_of link.old) self.old.world events self.new.world) }
+        ensures late { OnOk result (AreSent self.new.world link.new.late.items) }
+        ensures link { OnOk result (link_of link.new ≡ link_of link.old) }
+        ensures memory { IfErr result (λ e. e ≡ OutOfMemory) }
+        ensures goes_on { GoesOn self.old self.new }
+    {
+        laws::actors_stay();
+        let first = self.world.sent().len();
+        self.begin_round(alloc, link)?;
+        let second = self.world.sent().len();
+        self.pass(alloc, link, fates, first, second)?;
+        let end = self.world.sent().len();
+        self.pass(alloc, link, fates, second, end)?;
+        self.end_round(alloc, link.meter)
+    }
+
+    /// What is late comes, and the head end ticks the meter.
+    fn begin_round(&mut self, alloc: Global, link: &mut Waiting) -> Result<(), StepError>
+        requires { IsThere self.old.world link.old }
+        ensures all { OnOk result (Follows self.old (map deliver link.old.late.items ++ tick link.old.head link.old.meter ∷ []) self.new) }
+        ensures late { link.new.late.items ≡ [] }
+        ensures link { link_of link.new ≡ link_of link.old }
+        ensures memory { IfErr result (λ e. e ≡ OutOfMemory) }
+        ensures goes_on { GoesOn self.old self.new }
+    {
+        laws::actors_stay();
+        let late = mem::replace(&mut link.late, Vec::new(alloc));
+        self.deliver_all(alloc, &late)?;
+        self.admit(alloc, Event::Tick(link.head, link.meter))
+    }
+
+    /// The datagrams from one number up to another come as their fates are, or wait.
+    fn pass(
+        &mut self,
+        alloc: Global,
+        link: &mut Waiting,
+        fates: &Fates<'_>,
+        from: usize,
+        end: usize,
+    ) -> Result<(), StepError>
+        requires { end ≤ length self.old.world.sent }
+        ensures all { OnOk result ((waiting : List ℕ) × Follows self.old (map deliver waiting) self.new) }
+        ensures late { All (λ number. number < end) link.old.late.items → OnOk result (All (λ number. number < end) link.new.late.items) }
+        ensures link { OnOk result (link_of link.new ≡ link_of link.old) }
+        ensures memory { IfErr result (λ e. e ≡ OutOfMemory) }
+        ensures goes_on { GoesOn self.old self.new }
+    {
+        let coming = link.pass(alloc, fates, from, end)?;
+        self.deliver_all(alloc, &coming)
+    }
+
+    /// A turn of the meter, if it verifies.
+    fn end_round(&mut self, alloc: Global, meter: MeterId) -> Result<(), StepError>
+        requires { IsTrue (is_some (meter_at self.old.world meter)) }
+        ensures all { OnOk result (Follows self.old (last_turn self.old.world meter) self.new) }
+        ensures memory { IfErr result (λ e. e ≡ OutOfMemory) }
+        ensures same { OnErr result (self.new ≡ self.old) }
+    {
+        if self.verifies(meter) {
+            self.admit(alloc, Event::Turn(meter))?;
+        }
+        Ok(())
+    }
+
+    /// Whether a meter goes on with a verification.
+    fn verifies(&self, meter: MeterId) -> bool
+        ensures turn { IsTrue result → last_turn self.now.world meter ≡ turn meter ∷ [] }
+        ensures none { result ≡ false → last_turn self.now.world meter ≡ [] }
+    {
+        match self.world.meter(meter) {
+            Some(core) => core.view().status == TransferStatus::VerificationInitiated,
+            None => false,
+        }
+    }
+}
