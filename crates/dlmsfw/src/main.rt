@@ -9,10 +9,11 @@ ghost use Rattle.dlmsfw.specs.Status.{EndsParse, EndsWith};
 mod options;
 
 use clap::error::ErrorKind;
-use fw_cli::{Fault, run_answer, run_name};
+use fw_cli::{Fault, run_answer, run_answer_stored, run_name};
 use options::Invocation;
+use std::fs::File;
 use std::process::ExitCode;
-use std::rt::Env;
+use std::rt::{Env, Files};
 use std::{env, io};
 
 /// The status of work that is done.
@@ -43,7 +44,7 @@ fn main(rt: HostRuntime) -> ExitCode {
 }
 
 /// Runs the command that the command line asks for.
-fn run<R: AllocGlobal + Env + Input + Print>(rt: &R) -> Result<(), Ending> {
+fn run<R: AllocGlobal + Env + Files<File = File> + Input + Print>(rt: &R) -> Result<(), Ending> {
     let words = words(rt)?;
     let invocation = options::parse(rt.alloc(), &words).map_err(Ending::CommandLine)?;
     let alloc = rt.alloc();
@@ -51,6 +52,9 @@ fn run<R: AllocGlobal + Env + Input + Print>(rt: &R) -> Result<(), Ending> {
     let writer = &mut io::writer(rt);
     let ended = match invocation {
         Invocation::Answer(options) => run_answer(alloc, reader, writer, &options),
+        Invocation::StoredAnswer(options) => {
+            run_answer_stored(rt, alloc, reader, writer, &options)
+        }
         Invocation::Name(options) => run_name(alloc, reader, writer, &options),
     };
     ended.map_err(Ending::Fault)

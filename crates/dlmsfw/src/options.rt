@@ -5,12 +5,13 @@ mod name;
 
 use clap::error::ErrorKind;
 use clap::{Arg, ArgMatches, Command, Error};
-use fw_cli::{AnswerOptions, NameOptions};
+use fw_cli::{AnswerOptions, NameOptions, StoredOptions};
 use std::alloc::{AllocError, Global};
 
 /// A command with its options.
 pub(crate) enum Invocation<'a> {
     Answer(AnswerOptions<'a>),
+    StoredAnswer(StoredOptions<'a>),
     Name(NameOptions),
 }
 
@@ -37,8 +38,8 @@ pub(crate) fn parse<'a>(alloc: Global, words: &'a [String]) -> Result<Invocation
 /// The command that the parser found, with its options.
 fn found<'a>(matches: &ArgMatches<'a>) -> Option<Invocation<'a>> {
     match matches.subcommand()? {
-        ("answer", given) => Some(Invocation::Answer(answer::options(given)?)),
-        ("name", given) => Some(Invocation::Name(name::options(given)?)),
+        ("answer", given) => answer::invoked(given),
+        ("name", given) => name::invoked(given),
         _ => None,
     }
 }

@@ -304,6 +304,11 @@ impl Case for Fault {
 const FAULTS: &[(Fault, &str)] = &[
     (Fault::BadLine(3), "BadLine 3"),
     (Fault::BadSetup, "BadSetup"),
+    (Fault::StoreFault, "StoreFault"),
+    (Fault::Device, "Fault"),
+    (Fault::BadFile, "BadFile"),
+    (Fault::BadHeader, "BadHeader"),
+    (Fault::BadImage, "BadImage"),
     (Fault::Input, "Input"),
     (Fault::TooMuchInput, "TooMuchInput"),
     (Fault::EmptyImage, "EmptyImage"),

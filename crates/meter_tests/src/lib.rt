@@ -25,6 +25,8 @@ mod sessions;
 #[cfg(test)]
 mod slices;
 #[cfg(test)]
+mod stored;
+#[cfg(test)]
 mod stores;
 #[cfg(test)]
 mod support;

@@ -1,6 +1,6 @@
 //! The command `name`, and its help.
 
-use super::{STATUSES, option};
+use super::{Invocation, STATUSES, option};
 use clap::{ArgMatches, Command};
 use fw_cli::NameOptions;
 use fw_names::{CampaignId, HeadId};
@@ -58,9 +58,9 @@ pub(super) fn command<'a>(alloc: Global) -> Result<Command<'a>, AllocError> {
         )
 }
 
-/// The options that were given. The parser lets no number pass that is none of a head end or a campaign.
-pub(super) fn options(given: &ArgMatches<'_>) -> Option<NameOptions> {
+/// The command with the options that were given. The parser lets no number pass that is none of a head end or a campaign.
+pub(super) fn invoked<'a>(given: &ArgMatches<'a>) -> Option<Invocation<'a>> {
     let head = HeadId::new(given.get_one("head")?)?;
     let campaign = CampaignId::new(head, given.get_one("serial")?)?;
-    Some(NameOptions { campaign })
+    Some(Invocation::Name(NameOptions { campaign }))
 }
