@@ -44,7 +44,7 @@ pub record Same (one two left rest : List (List ℕ)) (text other : List ℕ) : 
   pub told : text ≡ other
 
 one_run : meter_laws.OneAnswer → (one two left rest : List (List ℕ)) (old new next : Meter) (text other : List ℕ) (m n : ℕ) (bad_line another : Option ℕ)
-    → AnswersLines old one text new → AnswersLines old two other next → EndsAt m left bad_line → EndsAt n rest another → one ++ left ≡ two ++ rest → Same one two left rest text other
+    → AnswersLines AnswersLine old one text new → AnswersLines AnswersLine old two other next → EndsAt m left bad_line → EndsAt n rest another → one ++ left ≡ two ++ rest → Same one two left rest text other
 one_run determined [] [] left rest old new next text other m n bad_line another a b e f whole = record { answered = refl; same_left = whole; told = a.0 ∙ sym b.0 }
 one_run determined [] (k ∷ two) left rest old new next text other m n bad_line another a (first, back, middle, turn, more, told) e f whole =
     absurd (answered_is_not_bad old middle k first (two ++ rest) left m bad_line turn whole e)
@@ -54,7 +54,7 @@ one_run determined (l ∷ one) (k ∷ two) left rest old new next text other m n
     let head : l ≡ k = cc in
     let behind : one ++ left ≡ two ++ rest = cc in
     let one_line = one_turn determined old middle center l k first front turn move head in
-    let rest_same = one_run determined one two left rest center new next back tail m n bad_line another (subst (λ (m : Meter). AnswersLines m one back new) one_line.1 more) others e f behind in
+    let rest_same = one_run determined one two left rest center new next back tail m n bad_line another (subst (λ (m : Meter). AnswersLines AnswersLine m one back new) one_line.1 more) others e f behind in
     record {
       answered = cc (head, rest_same.answered);
       same_left = rest_same.same_left;
@@ -70,6 +70,6 @@ pub one_answer : meter_laws.OneAnswer → OneAnswer
 one_answer determined options meter second input text other bad_line another a s b t =
     let one = one_meter options meter second a b in
     let run = one_run determined s.answered t.answered s.left t.left second s.after t.after text other (length s.answered + 1) (length t.answered + 1) bad_line another
-    (subst (λ (m : Meter). AnswersLines m s.answered text s.after) one s.answers) t.answers s.ends t.ends (sym s.lines ∙ t.lines) in
+    (subst (λ (m : Meter). AnswersLines AnswersLine m s.answered text s.after) one s.answers) t.answers s.ends t.ends (sym s.lines ∙ t.lines) in
     let ends = subst (λ (ls : List (List ℕ)). EndsAt (length t.answered + 1) ls bad_line) run.same_left (subst (λ (ls : List (List ℕ)). EndsAt (length ls + 1) s.left bad_line) run.answered s.ends) in
     (run.told, one_end (length t.answered + 1) t.left bad_line another ends t.ends)

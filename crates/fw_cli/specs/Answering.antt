@@ -1,33 +1,30 @@
 -- Public vocabulary: what the command `answer` does to its reader and its writer, where the bytes that these hold are known: what the reader
 -- has left before and after, and what the writer holds at first and at last.
-use Rattle.std.specs.Prelude.{ℕ, List, Option}
+use Rattle.std.specs.Prelude.{◌≡◌, ℕ, List, Option}
 use Rattle.std.specs.Io.KnownBytes.{Appends}
-use Rattle.fw_image.specs.Meter.{Meter}
+use Rattle.fw_image.specs.Meter.{Meter, reopened}
+use Rattle.fw_image.specs.State.{State}
 use Rattle.fw_cli.specs.declared.answer.AnswerOptions.{AnswerOptions}
-use Rattle.fw_cli.specs.declared.fault.Fault.{Fault}
-use Rattle.fw_cli.specs.declared.fault.Fault.TheVariants.{BadSetup, Input, TooMuchInput, BadLine, Output, OutOfMemory}
 use Rattle.fw_cli.specs.Options.{Describes}
-use Rattle.fw_cli.specs.Session.{Session}
+use Rattle.fw_cli.specs.Session.{AnswersLine, AnswersLineOver, Session}
 use Rattle.fw_cli.specs.Reading.{ReadsAll}
 
 -- All input was read, and the meter's answer to it was written. The bad line, if there is one, ended that.
-pub record WritesSession (meter : Meter) (bad_line : Option ℕ) (before after first last : Option (List ℕ)) : Type 0 where
+pub record WritesSession {M : Type 0} (Answers : M → List ℕ → List ℕ → M → Type 0) (meter : M) (bad_line : Option ℕ) (before after first last : Option (List ℕ)) : Type 0 where
   pub input : List ℕ
   pub text : List ℕ
   pub read : ReadsAll before after input
-  pub session : Session meter input text bad_line
+  pub session : Session Answers meter input text bad_line
   pub written : Appends first last text
 
 -- the same by the meter that the options describe
 abbrev pub Answers : AnswerOptions → Option ℕ → Option (List ℕ) → Option (List ℕ) → Option (List ℕ) → Option (List ℕ) → Type 0
 Answers options bad_line before after first last =
-    (meter : Meter) × Describes options meter × WritesSession meter bad_line before after first last
+    (meter : Meter) × Describes options meter × WritesSession AnswersLine meter bad_line before after first last
 
--- the faults that come before anything is written
-abbrev pub ComesBeforeOutput : Fault → Type 0
-ComesBeforeOutput BadSetup = Unit {0}
-ComesBeforeOutput Input = Unit {0}
-ComesBeforeOutput TooMuchInput = Unit {0}
-ComesBeforeOutput OutOfMemory = Unit {0}
-ComesBeforeOutput (BadLine number) = ⊥
-ComesBeforeOutput Output = ⊥
+-- the same by a meter that was opened from a store: no verification goes on in it at first, and no call of the store failed
+pub record AnswersOpened (bad_line : Option ℕ) (before after first last : Option (List ℕ)) : Type 0 where
+  pub meter : State
+  pub begins : reopened meter.meter ≡ meter.meter
+  pub faultless : meter.faults ≡ 0
+  pub writes : WritesSession AnswersLineOver meter bad_line before after first last

@@ -4,7 +4,7 @@ use Rattle.fw_image.specs.Meter.{Meter}
 use Rattle.fw_cli.specs.declared.answer.AnswerOptions.{AnswerOptions}
 use Rattle.fw_cli.specs.Lines.{lines_of}
 use Rattle.fw_cli.specs.Options.{Describes}
-use Rattle.fw_cli.specs.Session.{Session}
+use Rattle.fw_cli.specs.Session.{AnswersLine, Session}
 
 -- a line holds no line feed
 abbrev pub IsLine : List ℕ → Type 0
@@ -24,6 +24,6 @@ LinesAreCut = (lines : List (List ℕ)) → All IsLine lines
 -- The options and the input determine the text that answers it, and the bad line.
 abbrev pub OneAnswer : Type 0
 OneAnswer = (options : AnswerOptions) (meter second : Meter) (input text other : List ℕ) (bad_line another : Option ℕ)
-    → Describes options meter → Session meter input text bad_line
-    → Describes options second → Session second input other another
+    → Describes options meter → Session AnswersLine meter input text bad_line
+    → Describes options second → Session AnswersLine second input other another
     → (text ≡ other) × (bad_line ≡ another)

@@ -3,6 +3,7 @@ use Rattle.std.specs.Prelude.{◌≡◌, ℕ, true, IsTrue, ◌+◌, List, [], �
 use Rattle.hex.specs.Hex.{decode_of, encode_lower}
 use Rattle.fw_names.specs.Name.{Name}
 use Rattle.fw_image.specs.Meter.{Meter}
+use Rattle.fw_image.specs.State.{State, Follows, Counts}
 use Rattle.fw_meter.specs.Handling.{Handles}
 use Rattle.fw_cli.specs.Lines.{lines_of}
 
@@ -21,12 +22,22 @@ pub record AnswersLine (old : Meter) (line text : List ℕ) (new : Meter) : Type
   pub step : Handles true IsTrue old datagram reply activated new
   pub told : text ≡ line_for reply
 
--- From old, the meter may answer the lines, one after another, by this text and go on to new.
-abbrev pub AnswersLines : Meter → List (List ℕ) → List ℕ → Meter → Type 0
-AnswersLines old [] text new = (text ≡ []) × (new ≡ old)
-AnswersLines old (line ∷ lines) text new =
-    (first : List ℕ) × (rest : List ℕ) × (next : Meter)
-    × AnswersLine old line first next × AnswersLines next lines rest new × (text ≡ first ++ rest)
+-- The same over any store: a code 1 tells that it failed, and what it holds is known as far as it is honest.
+pub record AnswersLineOver (old : State) (line text : List ℕ) (new : State) : Type 0 where
+  pub datagram : List ℕ
+  pub reply : Option (List ℕ)
+  pub activated : Option Name
+  pub spelled : decode_of line ≡ Ok datagram
+  pub step : Handles old.honest (Counts old new) old.meter datagram reply activated new.meter
+  pub follows : Follows old new
+  pub told : text ≡ line_for reply
+
+-- From old, the lines may be answered, one after another, by this text, which leads to new. Answers says it of one line.
+abbrev pub AnswersLines : {M : Type 0} → (M → List ℕ → List ℕ → M → Type 0) → M → List (List ℕ) → List ℕ → M → Type 0
+AnswersLines Answers old [] text new = (text ≡ []) × (new ≡ old)
+AnswersLines Answers old (line ∷ lines) text new =
+    (first : List ℕ) × (rest : List ℕ) × (next : _)
+    × Answers old line first next × AnswersLines Answers next lines rest new × (text ≡ first ++ rest)
 
 -- No line is left, or the first that is left, which has this number, spells nothing and is the bad line.
 abbrev pub EndsAt : ℕ → List (List ℕ) → Option ℕ → Type 0
@@ -34,12 +45,12 @@ EndsAt number [] bad_line = bad_line ≡ None
 EndsAt number (line ∷ lines) bad_line = IsErr (decode_of line) × (bad_line ≡ Some number)
 
 -- The meter may answer the input by this text: all its lines, or those before the bad line. Lines count from 1.
-pub record Session (meter : Meter) (input text : List ℕ) (bad_line : Option ℕ) : Type 0 where
+pub record Session {M : Type 0} (Answers : M → List ℕ → List ℕ → M → Type 0) (meter : M) (input text : List ℕ) (bad_line : Option ℕ) : Type 0 where
   pub answered : List (List ℕ)
   pub left : List (List ℕ)
-  pub after : Meter
+  pub after : M
   pub lines : lines_of input ≡ answered ++ left
-  pub answers : AnswersLines meter answered text after
+  pub answers : AnswersLines Answers meter answered text after
   pub ends : EndsAt (length answered + 1) left bad_line
 
 -- the input has a line, and the first one spells a datagram

@@ -1,26 +1,21 @@
 //! The command `answer`: a new meter answers datagrams, one a line.
 
-ghost use Rattle.std.specs.Prelude.{◌≡◌, ◌≢◌, ◌<◌, ◌≤◌, ◌⊎◌, ◌++◌, ◌↔◌, ℕ, List, None, Some, length, IfOk, IfErr, IsTrue, false, IsOk, IsErr, MatchOption, OnOk, OnErr};
+ghost use Rattle.std.specs.Prelude.{◌≡◌, ◌<◌, ◌≤◌, ◌⊎◌, ◌↔◌, ℕ, List, None, Some, length, IfOk, IfErr, IsTrue, false, OnOk};
 ghost use Rattle.std.specs.Io.KnownBytes.{Keeps};
-ghost use Rattle.std.specs.List.{list_all};
-ghost use Rattle.std.specs.Char.{is_ascii_hexdigit};
 ghost use Rattle.hex.specs.Hex.{decode_of};
 ghost use Rattle.fw_store.specs.Setup.{IsSetup};
-ghost use Rattle.fw_meter.specs.Handling.{reply_bytes};
 ghost use Rattle.fw_cli.specs.Options.{Describes, DescribesOne, DescribesNone};
-ghost use Rattle.fw_cli.specs.Session.{Session, BeginsWell, line_for};
 ghost use Rattle.fw_cli.specs.Reading.{Gives, ReadsAll, max_input};
-ghost use Rattle.fw_cli.specs.Answering.{Answers, ComesBeforeOutput, WritesSession};
+ghost use Rattle.fw_cli.specs.Faults.{ComesBeforeOutput, IsOfAnswer};
+ghost use Rattle.fw_cli.specs.Answering.{Answers};
 
 use crate::fault::Fault;
-use crate::input::read_input;
-use crate::lines::first_line;
-use crate::reads::Reads;
+use crate::hexadecimal::{bytes_of, is_hexadecimal};
+use crate::serving::serve;
 use fw_blocks::MAX_BLOCK_SIZE;
 use fw_meter::MeterCore;
 use fw_store::{MAX_CAPACITY, MemoryStore, SetupError};
-use hex::FromHexError;
-use std::alloc::{AllocError, Global};
+use std::alloc::Global;
 use std::io::{Read, Write};
 
 /// The options of the command: the limits of the meter, and the image that it runs.
@@ -34,11 +29,12 @@ pub struct AnswerOptions<'a> {
     pub factory: &'a str,
 }
 
-/// What the meter answers to its input, and the number of the line that ended that, if one did.
+/// What a store is made with.
 #[derive(Drop)]
-struct Transcript {
-    text: Vec<u8>,
-    bad_line: Option<u64>,
+pub(crate) struct MeterSetup {
+    pub(crate) block_size: u32,
+    pub(crate) capacity: u32,
+    pub(crate) factory: Vec<u8>,
 }
 
 /// A new meter answers each line that the reader has. A line is a datagram of IEC 62056-4-7 in hexadecimal of either
@@ -84,7 +80,9 @@ pub fn run_answer<R: Read, W: Write>(
         → Gives (R.remaining reader.old) (R.remaining reader.new) (λ count. count ≤ max_input) }
 
     ensures silent { IfErr result (λ f. ComesBeforeOutput f → Keeps (W.contents writer.old) (W.contents writer.new)) }
+    ensures only { IfErr result IsOfAnswer }
 {
+    fw_meter::laws::faultless();
     let meter = set_up(alloc, options)?;
     serve(alloc, meter, reader, writer)
 }
@@ -112,10 +110,8 @@ fn new_meter(alloc: Global, options: &AnswerOptions<'_>) -> Result<MeterCore<Mem
     ensures bad_setup { result ≡ Err Fault.BadSetup → DescribesNone options.now }
     ensures only { IfErr result (λ f. (f ≡ Fault.BadSetup) ⊎ (f ≡ Fault.OutOfMemory)) }
 {
-    let factory = bytes_of(alloc, options.factory.as_bytes())?.ok_or(Fault::BadSetup)?;
-    let block_size = u32::try_from(options.block_size).map_err(|_| Fault::BadSetup)?;
-    let capacity = u32::try_from(options.capacity).map_err(|_| Fault::BadSetup)?;
-    let store = match MemoryStore::new(alloc, capacity, block_size, &factory) {
+    let setup = setup_of(alloc, options)?;
+    let store = match MemoryStore::new(alloc, setup.capacity, setup.block_size, &setup.factory) {
         Ok(store) => store,
         Err(SetupError::BadSetup) => return Err(Fault::BadSetup),
         Err(SetupError::OutOfMemory) => return Err(Fault::OutOfMemory),
@@ -128,8 +124,26 @@ fn new_meter(alloc: Global, options: &AnswerOptions<'_>) -> Result<MeterCore<Mem
     }
 }
 
+/// What a store is made with, as the options say it, as far as memory reaches.
+pub(crate) fn setup_of(alloc: Global, options: &AnswerOptions<'_>) -> Result<MeterSetup, Fault>
+    ensures factory { IfOk result (λ setup. decode_of options.now.factory.now ≡ Ok setup.factory.items) }
+    ensures numbers { IfOk result (λ setup.
+        (setup.block_size ≡ options.now.block_size) × (setup.capacity ≡ options.now.capacity)) }
+    ensures bad_setup { result ≡ Err Fault.BadSetup → DescribesNone options.now }
+    ensures only { IfErr result (λ f. (f ≡ Fault.BadSetup) ⊎ (f ≡ Fault.OutOfMemory)) }
+{
+    let factory = bytes_of(alloc, options.factory.as_bytes())?.ok_or(Fault::BadSetup)?;
+    let block_size = u32::try_from(options.block_size).map_err(|_| Fault::BadSetup)?;
+    let capacity = u32::try_from(options.capacity).map_err(|_| Fault::BadSetup)?;
+    Ok(MeterSetup {
+        block_size,
+        capacity,
+        factory,
+    })
+}
+
 /// Whether the options describe a meter. No memory is taken.
-fn describes_one(options: &AnswerOptions<'_>) -> bool
+pub(crate) fn describes_one(options: &AnswerOptions<'_>) -> bool
     ensures one { IsTrue result → DescribesOne options.now }
     ensures none { result ≡ false → DescribesNone options.now }
 {
@@ -148,117 +162,4 @@ fn is_setup(block_size: u64, capacity: u64, size: usize) -> bool
     let block_fits = (1..=u64::from(MAX_BLOCK_SIZE)).contains(&block_size);
     let room_fits = (1..=u64::from(MAX_CAPACITY)).contains(&capacity);
     block_fits && room_fits && size > 0 && size as u64 <= capacity
-}
-
-/// The meter answers what the reader has.
-fn serve<R: Read, W: Write>(
-    alloc: Global,
-    meter: MeterCore<MemoryStore>,
-    reader: &mut R,
-    writer: &mut W,
-) -> Result<(), Fault>
-    requires honest { IsTrue meter.honest }
-    requires sound { IsTrue meter.sound }
-    ensures ok { OnOk result (WritesSession meter.meter None (R.remaining reader.old) (R.remaining reader.new)
-        (W.contents writer.old) (W.contents writer.new)) }
-    ensures bad_line { (number : ℕ) → result ≡ Err (Fault.BadLine number)
-        → WritesSession meter.meter (Some number) (R.remaining reader.old) (R.remaining reader.new)
-        (W.contents writer.old) (W.contents writer.new) }
-    ensures not_setup { result ≢ Err Fault.BadSetup }
-    ensures input { result ≡ Err Fault.Input
-        → Gives (R.remaining reader.old) (R.remaining reader.new) (λ count. count ≤ max_input) }
-    ensures too_much_input { result ≡ Err Fault.TooMuchInput
-        → Gives (R.remaining reader.old) (R.remaining reader.new) (λ count. max_input < count) }
-    ensures output { result ≡ Err Fault.Output
-        → (input : List ℕ) × ReadsAll (R.remaining reader.old) (R.remaining reader.new) input }
-    ensures out_of_memory { result ≡ Err Fault.OutOfMemory
-        → Gives (R.remaining reader.old) (R.remaining reader.new) (λ count. count ≤ max_input) }
-    ensures silent { IfErr result (λ f. ComesBeforeOutput f → Keeps (W.contents writer.old) (W.contents writer.new)) }
-{
-    let mut reads = Reads::none();
-    let input = read_input(alloc, reader, &mut reads)?;
-    let transcript = answer_lines(alloc, meter, &input)?;
-    writer
-        .write_all(&transcript.text)
-        .map_err(|_| Fault::Output)?;
-    writer.flush().map_err(|_| Fault::Output)?;
-    match transcript.bad_line {
-        None => Ok(()),
-        Some(number) => Err(Fault::BadLine(number)),
-    }
-}
-
-/// What the meter answers to the lines of the input, up to the first that is no datagram in hexadecimal.
-fn answer_lines(
-    alloc: Global,
-    mut meter: MeterCore<MemoryStore>,
-    input: &[u8],
-) -> Result<Transcript, Fault>
-    requires size { length input.now ≤ max_input }
-    requires honest { IsTrue meter.honest }
-    requires sound { IsTrue meter.sound }
-    ensures ok { IfOk result (λ t. Session meter.meter input.now t.text.items t.bad_line) }
-    ensures err { IfErr result (λ f. f ≡ Fault.OutOfMemory) }
-    // Nothing is answered where the first line is a bad one.
-    ensures memory { OnErr result (BeginsWell input.now) }
-{
-    fw_meter::laws::faultless();
-    let mut text = Vec::new(alloc);
-    let mut rest = input;
-    let mut number = 1u64;
-    while let Some((line, after)) = first_line(rest) {
-        let Some(datagram) = bytes_of(alloc, line)? else {
-            return Ok(Transcript {
-                text,
-                bad_line: Some(number),
-            });
-        };
-        let handled = meter.handle(alloc, &datagram)?;
-        append_line(alloc, &mut text, &handled.reply)?;
-        rest = after;
-        number += 1;
-    }
-    Ok(Transcript {
-        text,
-        bad_line: None,
-    })
-}
-
-/// Appends the line that tells a reply.
-fn append_line(alloc: Global, text: &mut Vec<u8>, reply: &Option<Vec<u8>>) -> Result<(), AllocError>
-    ensures { OnOk result (text.new.items ≡ text.old.items ++ line_for (reply_bytes reply.now)) }
-{
-    match reply {
-        None => text.extend_from_slice(b"-\n"),
-        Some(reply) => {
-            let digits = hex::encode(alloc, reply.as_slice())?;
-            text.extend_from_slice(digits.as_bytes())?;
-            text.extend_from_slice(b"\n")
-        }
-    }
-}
-
-/// The bytes that hexadecimal digits spell, if the text is such digits. Where memory is refused, the digits are judged without it.
-fn bytes_of(alloc: Global, text: &[u8]) -> Result<Option<Vec<u8>>, AllocError>
-    ensures bytes { IfOk result (λ r. MatchOption r (IsErr (decode_of text.now)) (λ bytes. decode_of text.now ≡ Ok bytes.items)) }
-    ensures memory { OnErr result (IsOk (decode_of text.now)) }
-{
-    match hex::decode(alloc, text) {
-        Ok(bytes) => Ok(Some(bytes)),
-        Err(FromHexError::OutOfMemory) if is_hexadecimal(text) => Err(AllocError),
-        Err(_) => Ok(None),
-    }
-}
-
-/// Whether a text is pairs of hexadecimal digits.
-fn is_hexadecimal(text: &[u8]) -> bool
-    ensures { IsTrue result ↔ IsOk (decode_of text.now) }
-{
-    text.len() % 2 == 0 && are_digits(text)
-}
-
-fn are_digits(text: &[u8]) -> bool
-    ensures { result ≡ list_all is_ascii_hexdigit text.now }
-{
-    text.iter().all(|byte| byte.is_ascii_hexdigit())
 }

@@ -2,7 +2,10 @@
 
 ghost use Rattle.std.specs.Prelude.{◌≡◌};
 ghost use Rattle.fw_cli.specs.declared.fault.Fault.TheVariants.{OutOfMemory};
+ghost use Rattle.fw_cli.specs.Faults.{fault_of_file, fault_of_opening};
 
+use fw_image::OpenError;
+use fw_store::FileStoreError;
 use std::alloc::{AllocError, AllocFailed};
 use thiserror::Error;
 
@@ -12,6 +15,21 @@ pub enum Fault {
     /// The options describe no meter.
     #[error("BadSetup")]
     BadSetup,
+    /// The file of a store can't be made or opened.
+    #[error("StoreFault")]
+    StoreFault,
+    /// The device of a store failed while the store was opened.
+    #[error("Fault")]
+    Device,
+    /// The file of a store has the length of none, or begins with a capacity that none has.
+    #[error("BadFile")]
+    BadFile,
+    /// The header of a store is none that it can have.
+    #[error("BadHeader")]
+    BadHeader,
+    /// An image in a store, which runs or is verified, hasn't the digest of its name.
+    #[error("BadImage")]
+    BadImage,
     /// The reader failed, or came to no end within 2^32 reads.
     #[error("Input")]
     Input,
@@ -21,6 +39,12 @@ pub enum Fault {
     /// The line of this number, counted from 1, is not in the form that the command reads.
     #[error("BadLine {0}")]
     BadLine(u64),
+    /// The reader had no byte, and an image has at least one.
+    #[error("EmptyImage")]
+    EmptyImage,
+    /// The reader had more bytes than an image can have, 4,194,304.
+    #[error("ImageTooLong")]
+    ImageTooLong,
     /// The writer failed.
     #[error("Output")]
     Output,
@@ -50,5 +74,30 @@ impl From<fw_meter::OutOfMemory> for Fault {
 
     fn from(_error: fw_meter::OutOfMemory) -> Fault {
         Fault::OutOfMemory
+    }
+}
+
+impl From<FileStoreError> for Fault {
+    ghost from_gives = { λ error fault. fault ≡ fault_of_file error };
+
+    fn from(error: FileStoreError) -> Fault {
+        match error {
+            FileStoreError::StoreFault => Fault::StoreFault,
+            FileStoreError::BadSetup => Fault::BadSetup,
+            FileStoreError::OutOfMemory => Fault::OutOfMemory,
+            FileStoreError::BadFile => Fault::BadFile,
+        }
+    }
+}
+
+impl From<OpenError> for Fault {
+    ghost from_gives = { λ error fault. fault ≡ fault_of_opening error };
+
+    fn from(error: OpenError) -> Fault {
+        match error {
+            OpenError::Fault => Fault::Device,
+            OpenError::BadHeader => Fault::BadHeader,
+            OpenError::BadImage => Fault::BadImage,
+        }
     }
 }

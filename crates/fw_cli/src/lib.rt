@@ -3,10 +3,16 @@
 
 mod answer;
 mod fault;
+mod hexadecimal;
 mod input;
 pub mod laws;
 mod lines;
+mod name;
 mod reads;
+mod serving;
+mod stored;
 
 pub use answer::{AnswerOptions, run_answer};
 pub use fault::Fault;
+pub use name::{NameOptions, run_name};
+pub use stored::{StoredOptions, run_answer_stored};

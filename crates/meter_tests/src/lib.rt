@@ -15,6 +15,8 @@ mod limits;
 #[cfg(test)]
 mod lines;
 #[cfg(test)]
+mod naming;
+#[cfg(test)]
 mod restarts;
 #[cfg(test)]
 mod results;
@@ -22,6 +24,8 @@ mod results;
 mod sessions;
 #[cfg(test)]
 mod slices;
+#[cfg(test)]
+mod stored;
 #[cfg(test)]
 mod stores;
 #[cfg(test)]

@@ -8,7 +8,7 @@ use std::alloc::{AllocError, Global};
 use std::test::Fail;
 
 /// The lines of a session: those that are read, and those that are written.
-fn lines(alloc: Global, parts: &[&[Exchange]]) -> Result<(String, String), AllocError> {
+pub(crate) fn lines(alloc: Global, parts: &[&[Exchange]]) -> Result<(String, String), AllocError> {
     let mut read = String::new(alloc);
     let mut written = String::new(alloc);
     for part in parts {

@@ -1,7 +1,8 @@
-use Rattle.std.proofs.Common.{◌≡◌, ◌∙◌, ap, Result, Ok, Err, inl, inr}
-use Rattle.std.specs.Prelude.{OnOk}
+use Rattle.std.proofs.Common.{◌≡◌, ◌∙◌, ap, Err, inl, inr}
 use Rattle.std.proofs.lemmas.Result.{err_from_is_err_and}
 use Rattle.fw_cli.specs.declared.fault.Fault.TheVariants.{BadSetup, OutOfMemory}
+use Rattle.fw_cli.proofs.Honest.{writes}
+use Rattle.fw_cli.proofs.Turns.{on_ok}
 use Rattle.fw_cli.proofs.answer.run_answer.Goals as goal
 
 pub returns-in_err-meter-clause-bad_setup : goal.returns-in_err-meter-clause-bad_setup
@@ -30,13 +31,15 @@ returns-clause-setup_refused g c = λ none. absurd (none c.in_ok-meter.meter.met
 pub returns-clause-memory : goal.returns-clause-memory
 returns-clause-memory g c = λ _. (c.in_ok-meter.meter.meter, c.in_ok-meter.ensures.ok)
 
--- what holds on success, said otherwise
-on_ok : {A B : Type 0} (r : Result A B) (P Q : Type 0) → (P → Q) → OnOk r P → OnOk r Q
-on_ok (Ok x) P Q told h = told h
-on_ok (Err x) P Q told h = h
-
 pub returns-clause-ok : goal.returns-clause-ok
-returns-clause-ok g c = on_ok c.serve.result _ _ (λ serves. (c.in_ok-meter.meter.meter, c.in_ok-meter.ensures.ok, serves)) c.serve.ensures.ok
+returns-clause-ok g c =
+    on_ok c.serve.result _ _
+    (λ serves. (c.in_ok-meter.meter.meter, c.in_ok-meter.ensures.ok, writes c.faultless.ensures c.in_ok-meter.meter _ _ _ _ _ c.in_ok-meter.ensures.honest c.in_ok-meter.ensures.sound serves))
+    c.serve.ensures.ok
 
 pub returns-clause-bad_line : goal.returns-clause-bad_line
-returns-clause-bad_line g c = λ number bad. (c.in_ok-meter.meter.meter, c.in_ok-meter.ensures.ok, c.serve.ensures.bad_line number bad)
+returns-clause-bad_line g c = λ number bad. (
+  c.in_ok-meter.meter.meter,
+  c.in_ok-meter.ensures.ok,
+  writes c.faultless.ensures c.in_ok-meter.meter _ _ _ _ _ c.in_ok-meter.ensures.honest c.in_ok-meter.ensures.sound (c.serve.ensures.bad_line number bad),
+)

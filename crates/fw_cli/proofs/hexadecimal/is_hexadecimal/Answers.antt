@@ -1,6 +1,6 @@
 use Rattle.std.proofs.Common.{◌≡◌, ◌%◌, length, sym, ◌∙◌, arith}
 use Rattle.fw_cli.proofs.Digits.{digits_decode, decoded_digits}
-use Rattle.fw_cli.proofs.answer.is_hexadecimal.Goals as goal
+use Rattle.fw_cli.proofs.hexadecimal.is_hexadecimal.Goals as goal
 
 pub returns-then-text-eq0 : goal.returns-then-text-eq0
 returns-then-text-eq0 c =

@@ -1,0 +1,65 @@
+-- Public vocabulary: which faults a command has, and which come before it reads or writes anything.
+use Rattle.fw_store.specs.declared.error.FileStoreError.{FileStoreError}
+use Rattle.fw_store.specs.declared.error.FileStoreError.TheVariants as file
+use Rattle.fw_image.specs.declared.error.OpenError.{OpenError}
+use Rattle.fw_image.specs.declared.error.OpenError.TheVariants as opening
+use Rattle.fw_cli.specs.declared.fault.Fault.{Fault}
+use Rattle.fw_cli.specs.declared.fault.Fault.TheVariants.{BadSetup, StoreFault, Device, BadFile, BadHeader, BadImage, Input, TooMuchInput, BadLine, EmptyImage, ImageTooLong, Output, OutOfMemory}
+
+-- the faults that come before anything is read
+abbrev pub ComesBeforeInput : Fault → Type 0
+ComesBeforeInput BadSetup = Unit {0}
+ComesBeforeInput StoreFault = Unit {0}
+ComesBeforeInput Device = Unit {0}
+ComesBeforeInput BadFile = Unit {0}
+ComesBeforeInput BadHeader = Unit {0}
+ComesBeforeInput BadImage = Unit {0}
+ComesBeforeInput fault = ⊥
+
+-- the faults that come before anything is written
+abbrev pub ComesBeforeOutput : Fault → Type 0
+ComesBeforeOutput (BadLine number) = ⊥
+ComesBeforeOutput Output = ⊥
+ComesBeforeOutput fault = Unit {0}
+
+-- the faults of `answer`
+abbrev pub IsOfAnswer : Fault → Type 0
+IsOfAnswer BadSetup = Unit {0}
+IsOfAnswer Input = Unit {0}
+IsOfAnswer TooMuchInput = Unit {0}
+IsOfAnswer (BadLine number) = Unit {0}
+IsOfAnswer Output = Unit {0}
+IsOfAnswer OutOfMemory = Unit {0}
+IsOfAnswer fault = ⊥
+
+-- the faults of `answer --store`
+abbrev pub IsOfStoredAnswer : Fault → Type 0
+IsOfStoredAnswer StoreFault = Unit {0}
+IsOfStoredAnswer Device = Unit {0}
+IsOfStoredAnswer BadFile = Unit {0}
+IsOfStoredAnswer BadHeader = Unit {0}
+IsOfStoredAnswer BadImage = Unit {0}
+IsOfStoredAnswer fault = IsOfAnswer fault
+
+-- the faults of `name`
+abbrev pub IsOfName : Fault → Type 0
+IsOfName Input = Unit {0}
+IsOfName TooMuchInput = Unit {0}
+IsOfName EmptyImage = Unit {0}
+IsOfName ImageTooLong = Unit {0}
+IsOfName Output = Unit {0}
+IsOfName OutOfMemory = Unit {0}
+IsOfName fault = ⊥
+
+-- the fault that tells why a file was not made or opened
+abbrev pub fault_of_file : FileStoreError → Fault
+fault_of_file file.StoreFault = StoreFault
+fault_of_file file.BadSetup = BadSetup
+fault_of_file file.OutOfMemory = OutOfMemory
+fault_of_file file.BadFile = BadFile
+
+-- the fault that tells why a store was not opened
+abbrev pub fault_of_opening : OpenError → Fault
+fault_of_opening opening.Fault = Device
+fault_of_opening opening.BadHeader = BadHeader
+fault_of_opening opening.BadImage = BadImage

@@ -1,0 +1,110 @@
+//! A meter answers datagrams, one a line, over any store.
+
+ghost use Rattle.std.specs.Prelude.{◌≡◌, ◌<◌, ◌≤◌, ◌++◌, ℕ, List, None, Some, length, IfOk, IfErr, OnOk, OnErr};
+ghost use Rattle.std.specs.Io.KnownBytes.{Keeps};
+ghost use Rattle.fw_meter.specs.Handling.{reply_bytes};
+ghost use Rattle.fw_cli.specs.Session.{AnswersLineOver, BeginsWell, Session, line_for};
+ghost use Rattle.fw_cli.specs.Reading.{Gives, ReadsAll, max_input};
+ghost use Rattle.fw_cli.specs.Faults.{ComesBeforeInput, ComesBeforeOutput, IsOfAnswer};
+ghost use Rattle.fw_cli.specs.Answering.{WritesSession};
+
+use crate::fault::Fault;
+use crate::hexadecimal::bytes_of;
+use crate::input::read_input;
+use crate::lines::first_line;
+use crate::reads::Reads;
+use fw_meter::MeterCore;
+use fw_store::ImageStore;
+use std::alloc::{AllocError, Global};
+use std::io::{Read, Write};
+
+/// What the meter answers to its input, and the number of the line that ended that, if one did.
+#[derive(Drop)]
+struct Transcript {
+    text: Vec<u8>,
+    bad_line: Option<u64>,
+}
+
+/// The meter answers what the reader has.
+pub(crate) fn serve<S: ImageStore + Drop, R: Read, W: Write>(
+    alloc: Global,
+    meter: MeterCore<S>,
+    reader: &mut R,
+    writer: &mut W,
+) -> Result<(), Fault>
+    ensures ok { OnOk result (WritesSession AnswersLineOver meter None (R.remaining reader.old) (R.remaining reader.new)
+        (W.contents writer.old) (W.contents writer.new)) }
+    ensures bad_line { (number : ℕ) → result ≡ Err (Fault.BadLine number)
+        → WritesSession AnswersLineOver meter (Some number) (R.remaining reader.old) (R.remaining reader.new)
+        (W.contents writer.old) (W.contents writer.new) }
+    ensures later { IfErr result (λ f. ComesBeforeInput f → ⊥) }
+    ensures input { result ≡ Err Fault.Input
+        → Gives (R.remaining reader.old) (R.remaining reader.new) (λ count. count ≤ max_input) }
+    ensures too_much_input { result ≡ Err Fault.TooMuchInput
+        → Gives (R.remaining reader.old) (R.remaining reader.new) (λ count. max_input < count) }
+    ensures output { result ≡ Err Fault.Output
+        → (input : List ℕ) × ReadsAll (R.remaining reader.old) (R.remaining reader.new) input }
+    ensures out_of_memory { result ≡ Err Fault.OutOfMemory
+        → Gives (R.remaining reader.old) (R.remaining reader.new) (λ count. count ≤ max_input) }
+    ensures silent { IfErr result (λ f. ComesBeforeOutput f → Keeps (W.contents writer.old) (W.contents writer.new)) }
+    ensures only { IfErr result IsOfAnswer }
+{
+    let mut reads = Reads::none();
+    let input = read_input(alloc, reader, &mut reads)?;
+    let transcript = answer_lines(alloc, meter, &input)?;
+    writer
+        .write_all(&transcript.text)
+        .map_err(|_| Fault::Output)?;
+    writer.flush().map_err(|_| Fault::Output)?;
+    match transcript.bad_line {
+        None => Ok(()),
+        Some(number) => Err(Fault::BadLine(number)),
+    }
+}
+
+/// What the meter answers to the lines of the input, up to the first that is no datagram in hexadecimal.
+fn answer_lines<S: ImageStore + Drop>(
+    alloc: Global,
+    mut meter: MeterCore<S>,
+    input: &[u8],
+) -> Result<Transcript, Fault>
+    requires size { length input.now ≤ max_input }
+    ensures ok { IfOk result (λ t. Session AnswersLineOver meter input.now t.text.items t.bad_line) }
+    ensures err { IfErr result (λ f. f ≡ Fault.OutOfMemory) }
+    // Nothing is answered where the first line is a bad one.
+    ensures memory { OnErr result (BeginsWell input.now) }
+{
+    let mut text = Vec::new(alloc);
+    let mut rest = input;
+    let mut number = 1u64;
+    while let Some((line, after)) = first_line(rest) {
+        let Some(datagram) = bytes_of(alloc, line)? else {
+            return Ok(Transcript {
+                text,
+                bad_line: Some(number),
+            });
+        };
+        let handled = meter.handle(alloc, &datagram)?;
+        append_line(alloc, &mut text, &handled.reply)?;
+        rest = after;
+        number += 1;
+    }
+    Ok(Transcript {
+        text,
+        bad_line: None,
+    })
+}
+
+/// Appends the line that tells a reply.
+fn append_line(alloc: Global, text: &mut Vec<u8>, reply: &Option<Vec<u8>>) -> Result<(), AllocError>
+    ensures { OnOk result (text.new.items ≡ text.old.items ++ line_for (reply_bytes reply.now)) }
+{
+    match reply {
+        None => text.extend_from_slice(b"-\n"),
+        Some(reply) => {
+            let digits = hex::encode(alloc, reply.as_slice())?;
+            text.extend_from_slice(digits.as_bytes())?;
+            text.extend_from_slice(b"\n")
+        }
+    }
+}

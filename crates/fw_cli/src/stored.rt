@@ -1,0 +1,163 @@
+//! The command `answer --store`: a meter in a file answers datagrams, one a line.
+
+ghost use Rattle.std.specs.Prelude.{◌≡◌, ◌<◌, ◌≤◌, ◌⊎◌, ℕ, List, Some, None, IfOk, IfErr, OnOk};
+ghost use Rattle.std.specs.Io.KnownBytes.{Keeps};
+ghost use Rattle.fw_image.specs.Meter.{reopened};
+ghost use Rattle.fw_image.specs.Stored.{Holds, Refused};
+ghost use Rattle.fw_image.specs.declared.error.OpenError.{OpenError};
+ghost use Rattle.fw_cli.specs.Options.{DescribesOne, DescribesNone};
+ghost use Rattle.fw_cli.specs.Reading.{Gives, ReadsAll, max_input};
+ghost use Rattle.fw_cli.specs.Faults.{ComesBeforeInput, ComesBeforeOutput, IsOfStoredAnswer, fault_of_opening};
+ghost use Rattle.fw_cli.specs.Answering.{AnswersOpened};
+
+use crate::answer::{AnswerOptions, describes_one, setup_of};
+use crate::fault::Fault;
+use crate::serving::serve;
+use fw_meter::MeterCore;
+use fw_store::{FileStore, FileStoreError, ImageStore};
+use std::alloc::Global;
+use std::fs;
+use std::fs::File;
+use std::io::{Read, Write};
+use std::rt::Files;
+
+/// The options of the command: where the meter is, and what a new one is made with.
+#[derive(Clone, Copy, Debug)]
+pub struct StoredOptions<'a> {
+    /// The path of the file.
+    pub file: &'a str,
+    /// The meter that is made where no file is there. Where one is, this isn't looked at.
+    pub fresh: AnswerOptions<'a>,
+}
+
+/// The meter in a file answers each line that the reader has, as a new one does in `run_answer`. Where no file is there, it
+/// is made, with a new meter. One that is there is never emptied or made anew. Of the file's contents nothing is known
+/// here, so the replies are those of some meter.
+///
+/// # Errors
+///
+/// - `StoreFault`: the file can't be made or opened, or another store has it open.
+/// - `Device`, which prints `Fault`: the file can't be read.
+/// - `BadFile`, `BadHeader` or `BadImage`: the file holds no meter. It is left as it is.
+/// - `BadSetup`: no file is there, and the options describe no meter. No file was made.
+/// - `Input` or `TooMuchInput`, whichever the reading meets first.
+/// - `BadLine`: this line is no hexadecimal, or of an odd number of digits. Those before it were answered.
+/// - `Output`: the writer failed. What it holds then is open.
+/// - `OutOfMemory`: nothing was written, and no more than 64 MiB were read.
+///
+/// Up to `BadSetup` nothing was read. From `BadLine` on the meter may have changed.
+pub fn run_answer_stored<F: Files<File = File>, R: Read, W: Write>(
+    rt: &F,
+    alloc: Global,
+    reader: &mut R,
+    writer: &mut W,
+    options: &StoredOptions<'_>,
+) -> Result<(), Fault>
+    // Each line is answered, or those before the bad one.
+    ensures ok { OnOk result (AnswersOpened None (R.remaining reader.old) (R.remaining reader.new)
+        (W.contents writer.old) (W.contents writer.new)) }
+    ensures bad_line { (number : ℕ) → result ≡ Err (Fault.BadLine number)
+        → AnswersOpened (Some number) (R.remaining reader.old) (R.remaining reader.new)
+        (W.contents writer.old) (W.contents writer.new) }
+
+    // No other options are refused.
+    ensures bad_setup { result ≡ Err Fault.BadSetup → DescribesNone options.now.fresh }
+    ensures setup_first { IfErr result (λ f. ComesBeforeInput f → Keeps (R.remaining reader.old) (R.remaining reader.new)) }
+
+    // How far the reading was.
+    ensures input { result ≡ Err Fault.Input
+        → Gives (R.remaining reader.old) (R.remaining reader.new) (λ count. count ≤ max_input) }
+    ensures too_much_input { result ≡ Err Fault.TooMuchInput
+        → Gives (R.remaining reader.old) (R.remaining reader.new) (λ count. max_input < count) }
+    ensures output { result ≡ Err Fault.Output
+        → (input : List ℕ) × ReadsAll (R.remaining reader.old) (R.remaining reader.new) input }
+    ensures out_of_memory { result ≡ Err Fault.OutOfMemory
+        → Gives (R.remaining reader.old) (R.remaining reader.new) (λ count. count ≤ max_input) }
+
+    ensures silent { IfErr result (λ f. ComesBeforeOutput f → Keeps (W.contents writer.old) (W.contents writer.new)) }
+    ensures only { IfErr result IsOfStoredAnswer }
+{
+    let meter = set_up(rt, alloc, options)?;
+    serve(alloc, meter, reader, writer)
+}
+
+/// The meter in the file.
+fn set_up<F: Files<File = File>>(
+    rt: &F,
+    alloc: Global,
+    options: &StoredOptions<'_>,
+) -> Result<MeterCore<FileStore>, Fault>
+    ensures begins { IfOk result (λ meter. reopened meter.meter ≡ meter.meter) }
+    ensures faultless { IfOk result (λ meter. meter.faults ≡ 0) }
+    ensures bad_setup { result ≡ Err Fault.BadSetup → DescribesNone options.now.fresh }
+    ensures only { IfErr result (λ f. ComesBeforeInput f ⊎ (f ≡ Fault.OutOfMemory)) }
+{
+    let store = open_or_make(rt, alloc, options)?;
+    opened(store)
+}
+
+/// The meter that a store holds.
+fn opened<S: ImageStore + Drop>(store: S) -> Result<MeterCore<S>, Fault>
+    ensures opened { IfOk result (λ meter. Holds S.honest S.capacity S.device store meter) }
+    ensures begins { IfOk result (λ meter. reopened meter.meter ≡ meter.meter) }
+    ensures faultless { IfOk result (λ meter. meter.faults ≡ S.faults store) }
+    ensures refused { IfErr result (λ f. (error : OpenError) × (f ≡ fault_of_opening error) × (back : S)
+        × Refused S.honest S.sound S.capacity S.faults S.calls_left S.device store error back) }
+{
+    match MeterCore::open_store(store) {
+        Ok(meter) => Ok(meter),
+        Err((error, _store)) => Err(Fault::from(error)),
+    }
+}
+
+/// The store in the file, which is made if no file is there.
+fn open_or_make<F: Files<File = File>>(
+    rt: &F,
+    alloc: Global,
+    options: &StoredOptions<'_>,
+) -> Result<FileStore, Fault>
+    ensures faultless { IfOk result (λ store. ⟦<FileStore as ImageStore>⟧.faults store ≡ 0) }
+    ensures bad_setup { result ≡ Err Fault.BadSetup → DescribesNone options.now.fresh }
+    ensures only { IfErr result (λ f. ComesBeforeInput f ⊎ (f ≡ Fault.OutOfMemory)) }
+{
+    match FileStore::reopen(rt, options.file) {
+        Ok(store) => Ok(store),
+        Err(FileStoreError::StoreFault) if is_absent(rt, options.file) => make(rt, alloc, options),
+        Err(error) => Err(Fault::from(error)),
+    }
+}
+
+/// Whether no file is there. One that can't be looked for may be.
+fn is_absent<F: Files<File = File>>(rt: &F, path: &str) -> bool {
+    matches!(fs::exists(rt, path), Ok(false))
+}
+
+/// A new store in a new file. Options that describe no meter are refused before memory is taken.
+fn make<F: Files<File = File>>(
+    rt: &F,
+    alloc: Global,
+    options: &StoredOptions<'_>,
+) -> Result<FileStore, Fault>
+    ensures faultless { IfOk result (λ store. ⟦<FileStore as ImageStore>⟧.faults store ≡ 0) }
+    ensures described { OnOk result (DescribesOne options.now.fresh) }
+    ensures bad_setup { result ≡ Err Fault.BadSetup → DescribesNone options.now.fresh }
+    ensures memory { result ≡ Err Fault.OutOfMemory → DescribesOne options.now.fresh }
+    ensures fault { result ≡ Err Fault.StoreFault → DescribesOne options.now.fresh }
+    ensures only { IfErr result (λ f. (f ≡ Fault.BadSetup) ⊎ ((f ≡ Fault.StoreFault) ⊎ (f ≡ Fault.OutOfMemory))) }
+{
+    if !describes_one(&options.fresh) {
+        return Err(Fault::BadSetup);
+    }
+    let setup = setup_of(alloc, &options.fresh)?;
+    let made = FileStore::create(
+        rt,
+        options.file,
+        setup.capacity,
+        setup.block_size,
+        &setup.factory,
+    );
+    match made {
+        Ok(store) => Ok(store),
+        Err(error) => Err(Fault::from(error)),
+    }
+}
