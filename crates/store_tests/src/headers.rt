@@ -230,10 +230,18 @@ fn abc_name() -> Option<ImageName> {
     Some(name_of(CampaignId::new(HeadId::new(7)?, 1)?, b"abc"))
 }
 
+/// The marks with these numbers besides.
+pub(crate) fn marked(mut marks: Pages, numbers: &[u32]) -> Pages {
+    for number in numbers {
+        if *number < marks.count() {
+            marks.mark(*number);
+        }
+    }
+    marks
+}
+
 fn receiving() -> Option<Header> {
     let name = abc_name()?;
-    let mut marks = Pages::none();
-    marks.mark(1);
     Some(Header {
         enabled: true,
         running_slot: Slot::First,
@@ -242,15 +250,13 @@ fn receiving() -> Option<Header> {
         running_size: 3,
         running_name: factory_name(b"abc"),
         goal: Some(Goal { name, size: 3 }),
-        marks,
+        marks: marked(Pages::none(), &[1]),
     })
 }
 
 fn counting_fewer() -> Option<Header> {
-    let mut marks = Pages::new(2)?;
-    marks.mark(1);
     Some(Header {
-        marks,
+        marks: marked(Pages::new(2)?, &[1]),
         ..receiving()?
     })
 }

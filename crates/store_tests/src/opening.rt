@@ -1,5 +1,6 @@
 //! Which stores are opened: each condition once, met and not met.
 
+use crate::headers::marked;
 use crate::session::bbbb;
 use crate::support::{Case, each};
 use fw_blocks::Pages;
@@ -41,9 +42,6 @@ fn bytes_of(head: &Head) -> Result<[u8; HEADER_SIZE], Fail> {
 }
 
 fn spelled(status: StoredStatus, image: &[u8]) -> Result<[u8; HEADER_SIZE], Fail> {
-    let mut marks = Pages::none();
-    marks.mark(0);
-    marks.mark(1);
     let header = Header {
         enabled: true,
         running_slot: Slot::First,
@@ -55,7 +53,7 @@ fn spelled(status: StoredStatus, image: &[u8]) -> Result<[u8; HEADER_SIZE], Fail
             name: bbbb()?,
             size: 4,
         }),
-        marks,
+        marks: marked(Pages::none(), &[0, 1]),
     };
     Ok(header.to_bytes())
 }
