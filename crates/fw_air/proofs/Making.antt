@@ -1,11 +1,10 @@
 -- The links of a world, as they are made one after another.
-use Rattle.std.proofs.Common.{◌≡◌, ℕ, Bool, true, false, IsTrue, is_some, ◌&&◌, List, [], ◌∷◌, ◌++◌, map, filter, cond, Option, Some, None, refl, sym, ap, subst, ◌∙◌, append_assoc, All}
+use Rattle.std.proofs.Common.{◌≡◌, ℕ, Bool, true, false, IsTrue, is_some, ◌&&◌, List, [], ◌∷◌, ◌++◌, map, filter, cond, Option, Some, None, refl, sym, ap, subst, ◌∙◌, append_assoc}
 use Rattle.std.proofs.lemmas.List.{map-append}
-use Rattle.std.proofs.lemmas.List.Elements.{All-nil, All-push}
+use Rattle.std.proofs.lemmas.List.Elements.{All-nil}
 use Rattle.fw_head.specs.Head.{Head}
-use Rattle.fw_world.specs.declared.setup.HeadSetup.{HeadSetup}
 use Rattle.fw_world.specs.declared.setup.MeterSetup.{MeterSetup}
-use Rattle.fw_world.specs.Setup.{number_of_head, number_of_meter}
+use Rattle.fw_world.specs.Setup.{number_of_meter}
 use Rattle.fw_world.specs.State.{State, head_at, meter_at}
 use Rattle.fw_air.specs.declared.links.Waiting.{Waiting}
 use Rattle.fw_air.specs.Inside.{IsThere, AreSent, link_of}

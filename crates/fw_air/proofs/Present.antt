@@ -1,5 +1,5 @@
 -- What is there and what was sent, before a run and after it.
-use Rattle.std.proofs.Common.{◌≡◌, ℕ, ◌+◌, ◌<◌, ◌≤◌, List, [], ◌∷◌, ◌++◌, length, slice_index_or, Option, Some, None, IsTrue, is_some, refl, sym, ap, subst, ◌∙◌, arith, All, slice_get}
+use Rattle.std.proofs.Common.{◌≡◌, ℕ, ◌<◌, ◌≤◌, List, [], ◌∷◌, ◌++◌, length, slice_index_or, Option, Some, None, IsTrue, is_some, refl, sym, ap, subst, ◌∙◌, arith, All, slice_get}
 use Rattle.std.proofs.lemmas.List.{length-append}
 use Rattle.std.proofs.lemmas.List.Elements.{All-nil, All-push}
 use Rattle.std.proofs.lemmas.Option.{slice_get-get_or}
@@ -11,7 +11,7 @@ use Rattle.fw_world.specs.declared.error.StepError.{StepError}
 use Rattle.fw_world.specs.Laws.{ActorsStay}
 use Rattle.fw_world.specs.Refusals.{refusal_of, with_head, with_meter, with_datagram, no_addressee}
 use Rattle.fw_world.specs.State.{State, IsState, IsAddressed, StateStep, DeliversAt, head_at, meter_at}
-use Rattle.fw_world.specs.Step.{Event, open_campaign, cancel_campaign, tick, deliver, stop, restart_meter, restart_head, turn, replies}
+use Rattle.fw_world.specs.Step.{Event, open_campaign, cancel_campaign, tick, deliver, stop, restart_meter, restart_head, turn}
 use Rattle.fw_world.specs.World.{Datagram}
 use Rattle.fw_air.specs.declared.links.Waiting.{Waiting}
 use Rattle.fw_air.specs.Inside.{AreSent, IsThere, link_of}

@@ -1,5 +1,5 @@
 -- Runs that nothing refuses: what they keep, and how they follow one another.
-use Rattle.std.proofs.Common.{◌≡◌, ℕ, ◌+◌, ◌<◌, ◌≤◌, length, slice_get, slice_index_or, drop, take, arith, List, [], ◌∷◌, ◌++◌, map, Option, Some, ◌⊎◌, Result, Ok, Err, refl, sym, ap, subst, ◌∙◌, append_assoc}
+use Rattle.std.proofs.Common.{◌≡◌, ℕ, ◌+◌, ◌<◌, ◌≤◌, length, slice_get, slice_index_or, drop, take, arith, List, [], ◌∷◌, ◌++◌, map, Some, ◌⊎◌, Result, Ok, Err, refl, sym, ap, subst, ◌∙◌, append_assoc}
 use Rattle.std.proofs.lemmas.List.{append-nil, drop_all, drop_more, get_or-map, length-map, length-take, map-append, take_more}
 use Rattle.std.proofs.lemmas.Option.{slice_get-get_or}
 use Rattle.std.specs.Prelude.{OnOk, OnErr, IfErr, IsErrAnd}
@@ -66,9 +66,11 @@ one_round link a b c d e late first second begins one other ends =
     ∙ ap (λ (l : List Event). begun ++ l) (sym (map-append deliver first second))
     ∙ append_assoc (map deliver late) (tick link.head link.meter ∷ []) (map deliver (first ++ second)) in
     let all : Follows a comes d =
-    subst (λ (l : List Event). Follows a l d) joined (follows_on a c d (begun ++ map deliver first) (map deliver second) (follows_on a b c begun (map deliver first) begins one) other) in
-    (comes ++ last_turn d.world link.meter, follows_on a d e comes (last_turn d.world link.meter) all ends,
-      record { late = late; waiting = first ++ second; middle = d.world; comes = all.run; turns = ends.run; events_are = refl })
+    subst (λ (l : List Event). Follows a l d) joined (follows_on a c d (begun ++ map deliver first) (map deliver second) (follows_on a b c begun (map deliver first) begins one) other) in (
+      comes ++ last_turn d.world link.meter,
+      follows_on a d e comes (last_turn d.world link.meter) all ends,
+      record { late = late; waiting = first ++ second; middle = d.world; comes = all.run; turns = ends.run; events_are = refl },
+    )
 
 -- ---- the end of a call
 

@@ -1,5 +1,5 @@
 -- Public vocabulary: links, and what happens on them round by round.
-use Rattle.std.specs.Prelude.{◌≡◌, ℕ, Bool, true, false, IsTrue, is_some, ◌&&◌, List, [], ◌∷◌, ◌++◌, map, filter, Option, Some, None, if◌then◌else◌}
+use Rattle.std.specs.Prelude.{◌≡◌, ℕ, Bool, true, false, is_some, ◌&&◌, List, [], ◌∷◌, ◌++◌, map, filter, Option, Some, None, if◌then◌else◌}
 use Rattle.std.specs.List.{list_any, flat_map}
 use Rattle.fw_book.specs.Contents.{Contents, Offered}
 use Rattle.fw_book.specs.Rows.{state_of}
@@ -43,7 +43,8 @@ is_link s head meter = is_some (meter_at s meter) && stands_with (head_at s head
 -- the links of a head end, and those of a world: by head ends, and then by meters, in the order of the setup
 abbrev pub links_with : State → ℕ → List MeterSetup → List Link
 links_with s head meters =
-    map (λ (meter : MeterSetup). record { head = head; meter = number_of_meter meter }) (filter (λ (meter : MeterSetup). is_link s head (number_of_meter meter)) meters)
+    map (λ (meter : MeterSetup). record { head = head; meter = number_of_meter meter })
+    (filter (λ (meter : MeterSetup). is_link s head (number_of_meter meter)) meters)
 
 abbrev pub links : Setup → State → List Link
 links setup s = flat_map (λ (head : HeadSetup). links_with s (number_of_head head) setup.meters.items) setup.heads.items
@@ -62,14 +63,16 @@ turn_of (Some meter) number = if is_verifying meter.phase then turn number ∷ [
 abbrev pub last_turn : State → ℕ → List Event
 last_turn s number = turn_of (meter_at s number) number
 
--- A round of a link: what is late comes, the head end ticks the meter, what waits comes, and last the meter takes a turn if it verifies.
+-- A round of a link: what is late comes, the head end ticks the meter, what waits comes, and last the meter takes a turn if it
+-- verifies.
 pub record IsLinkRound (link : Link) (old : State) (events : List Event) (new : State) : Type 0 where
   pub late : List ℕ
   pub waiting : List ℕ
   pub middle : State
   pub comes : AdmittedRun old (map deliver late ++ tick link.head link.meter ∷ map deliver waiting) middle
   pub turns : AdmittedRun middle (last_turn middle link.meter) new
-  pub events_are : events ≡ (map deliver late ++ tick link.head link.meter ∷ map deliver waiting) ++ last_turn middle link.meter
+  pub events_are : events
+      ≡ (map deliver late ++ tick link.head link.meter ∷ map deliver waiting) ++ last_turn middle link.meter
 
 -- the events of these, one behind another
 abbrev pub OneByOne : {A : Type 0} → (A → State → List Event → State → Type 0) → List A → State → List Event → State → Type 0

@@ -31,7 +31,8 @@ impl Waiting {
         end: usize,
     ) -> Result<Vec<usize>, AllocError>
         ensures coming { IfOk result (λ coming. All (λ number. number < end) coming.items) }
-        ensures late { All (λ number. number < end) self.old.late.items → OnOk result (All (λ number. number < end) self.new.late.items) }
+        ensures late { All (λ number. number < end) self.old.late.items
+            → OnOk result (All (λ number. number < end) self.new.late.items) }
         ensures link { OnOk result (link_of self.new ≡ link_of self.old) }
     {
         let mut coming = Vec::new(alloc);
@@ -77,7 +78,8 @@ fn push_links(
     meters: &[MeterSetup],
 ) -> Result<(), AllocError>
     requires { All (IsThere world.now) made.old.items }
-    ensures all { OnOk result (map link_of made.new.items ≡ map link_of made.old.items ++ links_with world.now head meters.now) }
+    ensures all { OnOk result (map link_of made.new.items
+        ≡ map link_of made.old.items ++ links_with world.now head meters.now) }
     ensures there { OnOk result (All (IsThere world.now) made.new.items) }
 {
     for meter in meters {

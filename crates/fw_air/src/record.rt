@@ -210,7 +210,8 @@ impl Record {
     /// What is late comes, and the head end ticks the meter.
     fn begin_round(&mut self, alloc: Global, link: &mut Waiting) -> Result<(), StepError>
         requires { IsThere self.old.world link.old }
-        ensures all { OnOk result (Follows self.old (map deliver link.old.late.items ++ tick link.old.head link.old.meter ∷ []) self.new) }
+        ensures all { OnOk result (Follows self.old
+            (map deliver link.old.late.items ++ tick link.old.head link.old.meter ∷ []) self.new) }
         ensures late { link.new.late.items ≡ [] }
         ensures link { link_of link.new ≡ link_of link.old }
         ensures memory { IfErr result (λ e. e ≡ OutOfMemory) }
@@ -233,7 +234,8 @@ impl Record {
     ) -> Result<(), StepError>
         requires { end ≤ length self.old.world.sent }
         ensures all { OnOk result ((waiting : List ℕ) × Follows self.old (map deliver waiting) self.new) }
-        ensures late { All (λ number. number < end) link.old.late.items → OnOk result (All (λ number. number < end) link.new.late.items) }
+        ensures late { All (λ number. number < end) link.old.late.items
+            → OnOk result (All (λ number. number < end) link.new.late.items) }
         ensures link { OnOk result (link_of link.new ≡ link_of link.old) }
         ensures memory { IfErr result (λ e. e ≡ OutOfMemory) }
         ensures goes_on { GoesOn self.old self.new }

@@ -19,17 +19,17 @@ loop-meter-preserved c =
     let next : drop i meters ≡ meter ∷ drop (i + 1) meters = drop_more meters i meter inside ∙ ap (λ x. x ∷ drop (i + 1) meters) (sym c.meter-item.is) in
     let rest = drop (i + 1) meters in
     elim c.if-has_link.branch [
-      then-has_link+in_ok-push w ↦
-        let is : is_link s c.args.head meter.meter ≡ true = sym w.if-has_link.ensures in
-        let one : Waiting = record { head = c.args.head; meter = meter.meter; passed = 0; late = w.new.result } in
-        let items : c.if-has_link.made.items ≡ made ++ one ∷ [] = ap (λ v. v.items) w.made-is ∙ w.in_ok-push.ensures.items in (
-          ap (λ l. map link_of l ++ links_with s c.args.head rest) items ∙ one_link s c.args.head (drop i meters) rest meter made one _ next is refl c.loop-meter.invariant.0,
-          subst (All (IsThere s)) (sym items) (All-push (IsThere s) made one c.loop-meter.invariant.1 (new_there s one is w.new.ensures.items)),
-        )
-    | else-has_link w ↦
-        let none : is_link s c.args.head meter.meter ≡ false = sym w.if-has_link.ensures in
-        let same : c.if-has_link.made.items ≡ made = ap (λ v. v.items) w.made-is in (
-          ap (λ l. map link_of l ++ links_with s c.args.head rest) same ∙ no_link s c.args.head (drop i meters) rest meter made _ next none c.loop-meter.invariant.0,
-          subst (All (IsThere s)) (sym same) c.loop-meter.invariant.1,
-        )
+      | then-has_link+in_ok-push w ↦
+          let is : is_link s c.args.head meter.meter ≡ true = sym w.if-has_link.ensures in
+          let one : Waiting = record { head = c.args.head; meter = meter.meter; passed = 0; late = w.new.result } in
+          let items : c.if-has_link.made.items ≡ made ++ one ∷ [] = ap (λ v. v.items) w.made-is ∙ w.in_ok-push.ensures.items in (
+            ap (λ l. map link_of l ++ links_with s c.args.head rest) items ∙ one_link s c.args.head (drop i meters) rest meter made one _ next is refl c.loop-meter.invariant.0,
+            subst (All (IsThere s)) (sym items) (All-push (IsThere s) made one c.loop-meter.invariant.1 (new_there s one is w.new.ensures.items)),
+          )
+      | else-has_link w ↦
+          let none : is_link s c.args.head meter.meter ≡ false = sym w.if-has_link.ensures in
+          let same : c.if-has_link.made.items ≡ made = ap (λ v. v.items) w.made-is in (
+            ap (λ l. map link_of l ++ links_with s c.args.head rest) same ∙ no_link s c.args.head (drop i meters) rest meter made _ next none c.loop-meter.invariant.0,
+            subst (All (IsThere s)) (sym same) c.loop-meter.invariant.1,
+          )
     ]

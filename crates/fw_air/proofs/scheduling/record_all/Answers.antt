@@ -1,4 +1,4 @@
-use Rattle.std.proofs.Common.{◌≡◌, ◌++◌, map, replicate, refl, sym, subst, ap, ◌∙◌, inr, All}
+use Rattle.std.proofs.Common.{◌≡◌, map, replicate, refl, sym, subst, ap, ◌∙◌, inr, All}
 use Rattle.fw_world.specs.declared.error.StepError.TheVariants.{OutOfMemory}
 use Rattle.fw_world.specs.Runs.{events_of}
 use Rattle.fw_air.specs.Inside.{IsThere, link_of}

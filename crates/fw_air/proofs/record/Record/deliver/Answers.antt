@@ -1,4 +1,4 @@
-use Rattle.std.proofs.Common.{sym, ap, subst}
+use Rattle.std.proofs.Common.{ap, subst}
 use Rattle.fw_world.specs.State.{IsState}
 use Rattle.fw_air.specs.Inside.{Recorded}
 use Rattle.fw_air.proofs.Present.{delivery_admitted}

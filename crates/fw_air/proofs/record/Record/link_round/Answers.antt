@@ -1,5 +1,5 @@
 use Rattle.fw_world.specs.State.{meter_at}
-use Rattle.std.proofs.Common.{◌≡◌, ◌≤◌, length, IsTrue, is_some, subst, sym, ap, ◌∙◌, arith}
+use Rattle.std.proofs.Common.{◌≡◌, length, IsTrue, is_some, subst, sym, ap, ◌∙◌, arith}
 use Rattle.fw_air.specs.Inside.{Recorded, Follows, link_of}
 use Rattle.fw_air.specs.Rounds.{Link, last_turn}
 use Rattle.fw_air.proofs.Present.{meter_stays, none_below, run_grows, widened}
@@ -27,9 +27,9 @@ returns-clause-all c =
     let link : link_of c.pass-2.new.link ≡ link_of c.args.link.now = c.in_ok-pass-2.ensures.link ∙ c.in_ok-pass.ensures.link ∙ c.begin_round.ensures.link in
     on_ok c.end_round.result _ _
     (λ (ends : Follows c.pass-2.new.self (last_turn c.pass-2.new.self.world c.pass-2.new.link.meter) c.end_round.new.self).
-      one_round (link_of c.args.link.now) c.args.self.now c.begin_round.new.self c.pass.new.self c.pass-2.new.self c.end_round.new.self c.args.link.now.late.items _ _
-      c.in_ok-begin_round.ensures.all c.in_ok-pass.ensures.all.1 c.in_ok-pass-2.ensures.all.1
-      (subst (λ (l : Link). Follows c.pass-2.new.self (last_turn c.pass-2.new.self.world l.meter) c.end_round.new.self) link ends))
+    one_round (link_of c.args.link.now) c.args.self.now c.begin_round.new.self c.pass.new.self c.pass-2.new.self c.end_round.new.self c.args.link.now.late.items _ _
+    c.in_ok-begin_round.ensures.all c.in_ok-pass.ensures.all.1 c.in_ok-pass-2.ensures.all.1
+    (subst (λ (l : Link). Follows c.pass-2.new.self (last_turn c.pass-2.new.self.world l.meter) c.end_round.new.self) link ends))
     c.end_round.ensures.all
 
 pub returns-clause-late : goal.returns-clause-late
@@ -44,8 +44,8 @@ returns-clause-late c =
     let both = c.in_ok-pass-2.ensures.late (widened second end _ (omega (arith, more, at_second, at_end)) first) in
     on_ok c.end_round.result _ _
     (λ (ends : Follows c.pass-2.new.self (last_turn c.pass-2.new.self.world c.pass-2.new.link.meter) c.end_round.new.self).
-      let last = run_grows c.pass-2.new.self.world c.end_round.new.self.world _ ends.run in
-      widened end (length c.end_round.new.self.world.sent) _ (omega (arith, most, last, at_end)) both)
+    let last = run_grows c.pass-2.new.self.world c.end_round.new.self.world _ ends.run in
+    widened end (length c.end_round.new.self.world.sent) _ (omega (arith, most, last, at_end)) both)
     c.end_round.ensures.all
 
 pub returns-clause-goes_on : goal.returns-clause-goes_on

@@ -33,6 +33,9 @@ returns-in_err-make-clause-cut c =
     let refused : (refusal_of c.make.new.self.world (event_of c.event-item.result) ≡ Some cause) ⊎ (cause ≡ OutOfMemory) =
     subst (λ (r : Recorded). (refusal_of r.world (event_of c.event-item.result) ≡ Some cause) ⊎ (cause ≡ OutOfMemory)) (sym same)
     (subst (λ (e : Event). (refusal_of c.loop-event.self.world e ≡ Some cause) ⊎ (cause ≡ OutOfMemory)) c.in_ok-event.ensures.cases c.in_err-make.ensures.refused) in
-    refused_by c.from_residual-in_err-make.result cause _ c.from_residual-in_err-make.ensures.1
-    (take i (events_of events), subst (λ (r : Recorded). Follows c.args.self.now (take i (events_of events)) r) (sym same) c.loop-event.invariant, same_take events i inside,
-      cut_at events i c.event-item.result c.make.new.self.world cause inside c.event-item.is refused)
+    refused_by c.from_residual-in_err-make.result cause _ c.from_residual-in_err-make.ensures.1 (
+      take i (events_of events),
+      subst (λ (r : Recorded). Follows c.args.self.now (take i (events_of events)) r) (sym same) c.loop-event.invariant,
+      same_take events i inside,
+      cut_at events i c.event-item.result c.make.new.self.world cause inside c.event-item.is refused,
+    )

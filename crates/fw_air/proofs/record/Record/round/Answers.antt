@@ -1,7 +1,6 @@
-use Rattle.std.proofs.Common.{◌≡◌, ◌+◌, ◌<◌, ◌∷◌, [], length, map, set, drop, slice_index_or, IsTrue, is_some, subst, sym, ap, ◌∙◌, arith, All}
+use Rattle.std.proofs.Common.{◌≡◌, ◌<◌, length, map, subst, sym, ap, ◌∙◌, arith}
 use Rattle.std.proofs.lemmas.List.Elements.{All-set}
 use Rattle.std.proofs.Math.Seq.{map-set_same}
-use Rattle.fw_world.specs.State.{head_at, meter_at}
 use Rattle.fw_air.specs.Inside.{IsThere, link_of}
 use Rattle.fw_air.specs.Rounds.{Link, IsLinkRound}
 use Rattle.fw_air.proofs.Present.{all_still_there, still_there, same_link_there}
@@ -31,8 +30,11 @@ loop-link-preserved c =
     let left = left_at link_of links (map link_of c.args.links.now) i link inv.1 inside c.link-item.is in (
       All-set (IsThere new.world) links i c.link_round.new.link there (all_still_there stay now.world new.world made.0 links made.1.run inv.0),
       map-set_same link_of links i c.link_round.new.link link c.in_ok-link_round.ensures.link ∙ inv.1,
-      (_, follows_on old now new inv.2.0 made.0 inv.2.1 made.1,
-        leads_on IsLinkRound _ _ _ (link_of link) old.world now.world new.world inv.2.0 made.0 left inv.2.2 round),
+      (
+        _,
+        follows_on old now new inv.2.0 made.0 inv.2.1 made.1,
+        leads_on IsLinkRound _ _ _ (link_of link) old.world now.world new.world inv.2.0 made.0 left inv.2.2 round,
+      ),
     )
 
 pub returns-clause-all : goal.returns-clause-all

@@ -11,4 +11,4 @@ invariant-loop-link l =
     All (IsThere l.self.world) l.links
     × (map link_of l.links ≡ map link_of l.initial.links)
     × ((so_far : List Event) × Follows l.initial.self so_far l.self
-        × Leads IsLinkRound (map link_of l.initial.links) l.initial.self.world (drop l.link-index (map link_of l.initial.links)) l.self.world so_far)
+    × Leads IsLinkRound (map link_of l.initial.links) l.initial.self.world (drop l.link-index (map link_of l.initial.links)) l.self.world so_far)

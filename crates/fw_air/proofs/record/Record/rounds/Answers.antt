@@ -1,4 +1,4 @@
-use Rattle.std.proofs.Common.{◌≡◌, ◌+◌, ◌-◌, ◌<◌, ◌∷◌, suc, map, replicate, subst, sym, ap, ◌∙◌, arith, [], zero}
+use Rattle.std.proofs.Common.{◌≡◌, ◌+◌, ◌-◌, ◌∷◌, suc, map, replicate, subst, ap, ◌∙◌, arith, zero}
 use Rattle.fw_air.specs.Inside.{link_of}
 use Rattle.fw_air.specs.Rounds.{IsRound}
 use Rattle.fw_air.proofs.Runs.{follows_on, goes_on, leads_on, leads_there}
@@ -20,8 +20,11 @@ loop-round-preserved c =
     let round = subst (λ l. IsRound l now.world made.0 new.world) inv.1 made.2 in (
       c.in_ok-round.ensures.there,
       c.in_ok-round.ensures.links ∙ inv.1,
-      (_, follows_on old now new inv.2.0 made.0 inv.2.1 made.1,
-        leads_on IsRound _ _ _ all old.world now.world new.world inv.2.0 made.0 is inv.2.2 round),
+      (
+        _,
+        follows_on old now new inv.2.0 made.0 inv.2.1 made.1,
+        leads_on IsRound _ _ _ all old.world now.world new.world inv.2.0 made.0 is inv.2.2 round,
+      ),
     )
 
 pub returns-clause-all : goal.returns-clause-all

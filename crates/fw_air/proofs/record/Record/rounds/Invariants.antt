@@ -11,4 +11,4 @@ invariant-loop-round l =
     All (IsThere l.self.world) l.links
     × (map link_of l.links ≡ map link_of l.initial.links)
     × ((so_far : List Event) × Follows l.initial.self so_far l.self
-        × Leads IsRound (replicate l.rounds (map link_of l.initial.links)) l.initial.self.world (replicate (l.rounds - l.round) (map link_of l.initial.links)) l.self.world so_far)
+    × Leads IsRound (replicate l.rounds (map link_of l.initial.links)) l.initial.self.world (replicate (l.rounds - l.round) (map link_of l.initial.links)) l.self.world so_far)
