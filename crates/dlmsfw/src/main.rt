@@ -9,7 +9,8 @@ ghost use Rattle.dlmsfw.specs.Status.{EndsParse, EndsWith};
 mod options;
 
 use clap::error::ErrorKind;
-use fw_cli::{Fault, run_answer};
+use fw_cli::{Fault, run_answer, run_name};
+use options::Invocation;
 use std::process::ExitCode;
 use std::rt::Env;
 use std::{env, io};
@@ -44,8 +45,15 @@ fn main(rt: HostRuntime) -> ExitCode {
 /// Runs the command that the command line asks for.
 fn run<R: AllocGlobal + Env + Input + Print>(rt: &R) -> Result<(), Ending> {
     let words = words(rt)?;
-    let options = options::parse(rt.alloc(), &words).map_err(Ending::CommandLine)?;
-    run_answer(rt.alloc(), &mut rt.reader(), &mut io::writer(rt), &options).map_err(Ending::Fault)
+    let invocation = options::parse(rt.alloc(), &words).map_err(Ending::CommandLine)?;
+    let alloc = rt.alloc();
+    let reader = &mut rt.reader();
+    let writer = &mut io::writer(rt);
+    let ended = match invocation {
+        Invocation::Answer(options) => run_answer(alloc, reader, writer, &options),
+        Invocation::Name(options) => run_name(alloc, reader, writer, &options),
+    };
+    ended.map_err(Ending::Fault)
 }
 
 /// The words of the command line, the first of which is the program's name.

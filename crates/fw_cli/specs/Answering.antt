@@ -4,8 +4,6 @@ use Rattle.std.specs.Prelude.{ℕ, List, Option}
 use Rattle.std.specs.Io.KnownBytes.{Appends}
 use Rattle.fw_image.specs.Meter.{Meter}
 use Rattle.fw_cli.specs.declared.answer.AnswerOptions.{AnswerOptions}
-use Rattle.fw_cli.specs.declared.fault.Fault.{Fault}
-use Rattle.fw_cli.specs.declared.fault.Fault.TheVariants.{BadSetup, Input, TooMuchInput, BadLine, Output, OutOfMemory}
 use Rattle.fw_cli.specs.Options.{Describes}
 use Rattle.fw_cli.specs.Session.{Session}
 use Rattle.fw_cli.specs.Reading.{ReadsAll}
@@ -22,12 +20,3 @@ pub record WritesSession (meter : Meter) (bad_line : Option ℕ) (before after f
 abbrev pub Answers : AnswerOptions → Option ℕ → Option (List ℕ) → Option (List ℕ) → Option (List ℕ) → Option (List ℕ) → Type 0
 Answers options bad_line before after first last =
     (meter : Meter) × Describes options meter × WritesSession meter bad_line before after first last
-
--- the faults that come before anything is written
-abbrev pub ComesBeforeOutput : Fault → Type 0
-ComesBeforeOutput BadSetup = Unit {0}
-ComesBeforeOutput Input = Unit {0}
-ComesBeforeOutput TooMuchInput = Unit {0}
-ComesBeforeOutput OutOfMemory = Unit {0}
-ComesBeforeOutput (BadLine number) = ⊥
-ComesBeforeOutput Output = ⊥

@@ -3,5 +3,7 @@ pub mod Lines
 pub mod Options
 pub mod Session
 pub mod Reading
+pub mod Faults
 pub mod Answering
+pub mod Naming
 pub mod Laws

@@ -10,7 +10,8 @@ ghost use Rattle.fw_meter.specs.Handling.{reply_bytes};
 ghost use Rattle.fw_cli.specs.Options.{Describes, DescribesOne, DescribesNone};
 ghost use Rattle.fw_cli.specs.Session.{Session, BeginsWell, line_for};
 ghost use Rattle.fw_cli.specs.Reading.{Gives, ReadsAll, max_input};
-ghost use Rattle.fw_cli.specs.Answering.{Answers, ComesBeforeOutput, WritesSession};
+ghost use Rattle.fw_cli.specs.Faults.{ComesBeforeOutput, IsOfAnswer};
+ghost use Rattle.fw_cli.specs.Answering.{Answers, WritesSession};
 
 use crate::fault::Fault;
 use crate::input::read_input;
@@ -84,6 +85,7 @@ pub fn run_answer<R: Read, W: Write>(
         → Gives (R.remaining reader.old) (R.remaining reader.new) (λ count. count ≤ max_input) }
 
     ensures silent { IfErr result (λ f. ComesBeforeOutput f → Keeps (W.contents writer.old) (W.contents writer.new)) }
+    ensures only { IfErr result IsOfAnswer }
 {
     let meter = set_up(alloc, options)?;
     serve(alloc, meter, reader, writer)
@@ -174,6 +176,7 @@ fn serve<R: Read, W: Write>(
     ensures out_of_memory { result ≡ Err Fault.OutOfMemory
         → Gives (R.remaining reader.old) (R.remaining reader.new) (λ count. count ≤ max_input) }
     ensures silent { IfErr result (λ f. ComesBeforeOutput f → Keeps (W.contents writer.old) (W.contents writer.new)) }
+    ensures only { IfErr result IsOfAnswer }
 {
     let mut reads = Reads::none();
     let input = read_input(alloc, reader, &mut reads)?;

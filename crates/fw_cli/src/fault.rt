@@ -21,6 +21,12 @@ pub enum Fault {
     /// The line of this number, counted from 1, is not in the form that the command reads.
     #[error("BadLine {0}")]
     BadLine(u64),
+    /// The reader had no byte, and an image has at least one.
+    #[error("EmptyImage")]
+    EmptyImage,
+    /// The reader had more bytes than an image can have, 4,194,304.
+    #[error("ImageTooLong")]
+    ImageTooLong,
     /// The writer failed.
     #[error("Output")]
     Output,

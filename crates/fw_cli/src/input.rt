@@ -33,7 +33,7 @@ pub(crate) fn read_input<R: Read>(
     ensures too_much { result ≡ Err Fault.TooMuchInput
         → Gives (R.remaining reader.old) (R.remaining reader.new) (λ count. max_input < count) }
     ensures memory { result ≡ Err Fault.OutOfMemory
-        → Gives (R.remaining reader.old) (R.remaining reader.new) (λ count. count ≤ max_input) }
+        → Gives (R.remaining reader.old) (R.remaining reader.new) (λ count. (1 ≤ count) × (count ≤ max_input)) }
     ensures memory_only { result ≡ Err Fault.OutOfMemory → reads.new.failed ≡ false }
     ensures only { IfErr result (λ f. (f ≡ Fault.Input) ⊎ ((f ≡ Fault.TooMuchInput) ⊎ (f ≡ Fault.OutOfMemory))) }
 {

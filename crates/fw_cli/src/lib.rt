@@ -6,7 +6,9 @@ mod fault;
 mod input;
 pub mod laws;
 mod lines;
+mod name;
 mod reads;
 
 pub use answer::{AnswerOptions, run_answer};
 pub use fault::Fault;
+pub use name::{NameOptions, run_name};

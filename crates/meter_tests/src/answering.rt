@@ -187,9 +187,9 @@ fn options_that_describe_no_meter_are_refused(rt: HostRuntime) -> Result<(), Fai
 
 /// Interrupted once, then a byte at a time, and then broken.
 #[derive(Drop)]
-struct BrokenReader<'a> {
-    interrupted: bool,
-    left: &'a [u8],
+pub(crate) struct BrokenReader<'a> {
+    pub(crate) interrupted: bool,
+    pub(crate) left: &'a [u8],
 }
 
 impl Read for BrokenReader<'_> {
@@ -211,7 +211,7 @@ impl Read for BrokenReader<'_> {
 
 /// Fills each buffer, without end.
 #[derive(Drop)]
-struct EndlessReader;
+pub(crate) struct EndlessReader;
 
 impl Read for EndlessReader {
     fn read(&mut self, buf: &mut [u8]) -> io::Result<usize> {
@@ -258,8 +258,8 @@ fn a_reader_is_asked_so_often_at_most(rt: HostRuntime) -> Result<(), Fail> {
 
 /// Takes so many bytes, and then fails.
 #[derive(Drop)]
-struct FullWriter {
-    room: usize,
+pub(crate) struct FullWriter {
+    pub(crate) room: usize,
 }
 
 impl Write for FullWriter {
@@ -306,6 +306,8 @@ const FAULTS: &[(Fault, &str)] = &[
     (Fault::BadSetup, "BadSetup"),
     (Fault::Input, "Input"),
     (Fault::TooMuchInput, "TooMuchInput"),
+    (Fault::EmptyImage, "EmptyImage"),
+    (Fault::ImageTooLong, "ImageTooLong"),
     (Fault::Output, "Output"),
     (Fault::OutOfMemory, "OutOfMemory"),
 ];

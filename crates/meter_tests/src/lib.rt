@@ -15,6 +15,8 @@ mod limits;
 #[cfg(test)]
 mod lines;
 #[cfg(test)]
+mod naming;
+#[cfg(test)]
 mod restarts;
 #[cfg(test)]
 mod results;

@@ -1,0 +1,66 @@
+//! The command `name`, and its help.
+
+use super::{STATUSES, option};
+use clap::{ArgMatches, Command};
+use fw_cli::NameOptions;
+use fw_names::{CampaignId, HeadId};
+use std::alloc::{AllocError, Global};
+
+/// What the long help begins with.
+const ABOUT: &str = "\
+Prints the name of an image, which is what image_transfer_initiate carries as its identifier, and
+what a meter that runs the image answers as its active firmware identifier.
+
+Standard input has the bytes of the image, 1 to 4194304. Standard output gets one line, the 82
+digits of the name in lower-case hexadecimal: 01, the number of the head end and the serial number
+of its campaign in 8 digits each, and the SHA-256 of the image. All input is read before anything
+is written.
+
+Example, the image `abc` in campaign 1 of head end 7:
+
+  printf abc | ./dlmsfw name --head 7 --serial 1
+
+prints
+
+  010000000700000001ba7816bf8f01cfea414140de5dae2223b00361a396177a9cb410ff61f20015ad";
+
+/// What ends the long help.
+const ENDINGS: &str = "\
+Exit status:
+  0  the name was printed
+  1  a fault: standard error has `dlmsfw: NAME`, with one of these names
+       Input         standard input can't be read to its end
+       TooMuchInput  standard input has more than 64 MiB
+       EmptyImage    standard input has no byte
+       ImageTooLong  standard input has more than 4194304 bytes
+       Output        standard output can't be written
+       OutOfMemory   memory ran out; nothing was written
+  2  a wrong command line: standard error says what is wrong";
+
+/// The command.
+pub(super) fn command<'a>(alloc: Global) -> Result<Command<'a>, AllocError> {
+    Command::new(alloc, "name")
+        .about("Prints the name under which a campaign offers an image")
+        .long_about(ABOUT)
+        .after_help(STATUSES)
+        .after_long_help(ENDINGS)
+        .arg(
+            option(alloc, "head", "H")
+                .required(true)
+                .help("The number of the head end, 1 to 4294967295")
+                .value_parser(clap::value_parser!(u32).range(1..)),
+        )?
+        .arg(
+            option(alloc, "serial", "S")
+                .required(true)
+                .help("The serial number of its campaign, 1 to 4294967295")
+                .value_parser(clap::value_parser!(u32).range(1..)),
+        )
+}
+
+/// The options that were given. The parser lets no number pass that is none of a head end or a campaign.
+pub(super) fn options(given: &ArgMatches<'_>) -> Option<NameOptions> {
+    let head = HeadId::new(given.get_one("head")?)?;
+    let campaign = CampaignId::new(head, given.get_one("serial")?)?;
+    Some(NameOptions { campaign })
+}

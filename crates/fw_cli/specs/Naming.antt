@@ -1,0 +1,22 @@
+-- Public vocabulary: what the command `name` does to its reader and its writer, where the bytes that these hold are known: what the reader
+-- has left before and after, and what the writer holds at first and at last.
+use Rattle.std.specs.Prelude.{ℕ, ◌≤◌, List, ◌++◌, length, Option, codes}
+use Rattle.std.specs.Io.KnownBytes.{Appends}
+use Rattle.hex.specs.Hex.{encode_lower}
+use Rattle.fw_names.specs.Name.{Campaign, SpellsName, name_of}
+use Rattle.fw_book.specs.Contents.{max_image}
+use Rattle.fw_cli.specs.Reading.{ReadsAll}
+
+-- All input was read, and it is an image that a campaign can offer: it has 1 to 4,194,304 bytes.
+pub record ReadsImage (before after : Option (List ℕ)) (image : List ℕ) : Type 0 where
+  pub read : ReadsAll before after image
+  pub begins : 1 ≤ length image
+  pub ends : length image ≤ max_image
+
+-- An image was read, and its name in this campaign was written: the hexadecimal digits of the spelling in lower case, and a line feed.
+pub record WritesName (campaign : Campaign) (before after first last : Option (List ℕ)) : Type 0 where
+  pub image : List ℕ
+  pub spelling : List ℕ
+  pub read : ReadsImage before after image
+  pub spelled : SpellsName spelling (name_of campaign image)
+  pub written : Appends first last (encode_lower spelling ++ codes "\n")

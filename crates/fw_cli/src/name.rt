@@ -1,0 +1,108 @@
+//! The command `name`: the name under which a campaign offers an image.
+
+ghost use Rattle.std.specs.Prelude.{◌≡◌, ◌<◌, ◌≤◌, ◌⊎◌, ◌++◌, [], List, ℕ, length, IfOk, IfErr, OnOk, codes};
+ghost use Rattle.std.specs.Io.KnownBytes.{Keeps};
+ghost use Rattle.hex.specs.Hex.{encode_lower};
+ghost use Rattle.fw_names.specs.Name.{SpellsName};
+ghost use Rattle.fw_book.specs.Contents.{max_image};
+ghost use Rattle.fw_cli.specs.Faults.{ComesBeforeOutput, IsOfName};
+ghost use Rattle.fw_cli.specs.Naming.{ReadsImage, WritesName};
+ghost use Rattle.fw_cli.specs.Reading.{Gives, ReadsAll, max_input};
+
+use crate::fault::Fault;
+use crate::input::read_input;
+use crate::reads::Reads;
+use fw_book::MAX_IMAGE_SIZE;
+use fw_names::{CampaignId, ImageName, NAME_SIZE, name_of};
+use std::alloc::Global;
+use std::io::{Read, Write};
+
+/// The hexadecimal digits of a name.
+const DIGITS: usize = 2 * NAME_SIZE;
+
+/// The options of the command.
+#[derive(Clone, Copy, Debug)]
+pub struct NameOptions {
+    /// The campaign that offers the image.
+    pub campaign: CampaignId,
+}
+
+/// The reader has the bytes of an image. The writer gets a line: the 82 digits of its name in the campaign, in lower-case
+/// hexadecimal.
+///
+/// All input is read before anything is written, and what is written is flushed.
+///
+/// # Errors
+///
+/// - `Input` or `TooMuchInput`, whichever the reading meets first.
+/// - `EmptyImage`: the reader had no byte.
+/// - `ImageTooLong`: the reader had more than 4,194,304 bytes.
+/// - `Output`: the writer failed. What it holds then is open.
+/// - `OutOfMemory`: nothing was written, and 1 byte to 64 MiB were read.
+pub fn run_name<R: Read, W: Write>(
+    alloc: Global,
+    reader: &mut R,
+    writer: &mut W,
+    options: &NameOptions,
+) -> Result<(), Fault>
+    ensures ok { OnOk result (WritesName options.now.campaign (R.remaining reader.old) (R.remaining reader.new)
+        (W.contents writer.old) (W.contents writer.new)) }
+
+    // Each input is refused by no other of these than its own.
+    ensures empty_image { result ≡ Err Fault.EmptyImage → ReadsAll (R.remaining reader.old) (R.remaining reader.new) [] }
+    ensures image_too_long { result ≡ Err Fault.ImageTooLong → (input : List ℕ)
+        × ReadsAll (R.remaining reader.old) (R.remaining reader.new) input × (max_image < length input) }
+    ensures output { result ≡ Err Fault.Output
+        → (image : List ℕ) × ReadsImage (R.remaining reader.old) (R.remaining reader.new) image }
+
+    // How far the reading was.
+    ensures input { result ≡ Err Fault.Input
+        → Gives (R.remaining reader.old) (R.remaining reader.new) (λ count. count ≤ max_input) }
+    ensures too_much_input { result ≡ Err Fault.TooMuchInput
+        → Gives (R.remaining reader.old) (R.remaining reader.new) (λ count. max_input < count) }
+    ensures out_of_memory { result ≡ Err Fault.OutOfMemory
+        → Gives (R.remaining reader.old) (R.remaining reader.new) (λ count. (1 ≤ count) × (count ≤ max_input)) }
+
+    ensures silent { IfErr result (λ f. ComesBeforeOutput f → Keeps (W.contents writer.old) (W.contents writer.new)) }
+    ensures only { IfErr result IsOfName }
+{
+    let image = read_image(alloc, reader)?;
+    let line = line_of(&name_of(options.campaign, &image));
+    writer.write_all(&line).map_err(|_| Fault::Output)?;
+    writer.flush().map_err(|_| Fault::Output)
+}
+
+/// The image that the reader has.
+fn read_image<R: Read>(alloc: Global, reader: &mut R) -> Result<Vec<u8>, Fault>
+    ensures image { IfOk result (λ image. ReadsImage (R.remaining reader.old) (R.remaining reader.new) image.items) }
+    ensures empty_image { result ≡ Err Fault.EmptyImage → ReadsAll (R.remaining reader.old) (R.remaining reader.new) [] }
+    ensures image_too_long { result ≡ Err Fault.ImageTooLong → (input : List ℕ)
+        × ReadsAll (R.remaining reader.old) (R.remaining reader.new) input × (max_image < length input) }
+    ensures input { result ≡ Err Fault.Input
+        → Gives (R.remaining reader.old) (R.remaining reader.new) (λ count. count ≤ max_input) }
+    ensures too_much_input { result ≡ Err Fault.TooMuchInput
+        → Gives (R.remaining reader.old) (R.remaining reader.new) (λ count. max_input < count) }
+    ensures out_of_memory { result ≡ Err Fault.OutOfMemory
+        → Gives (R.remaining reader.old) (R.remaining reader.new) (λ count. (1 ≤ count) × (count ≤ max_input)) }
+    ensures before_output { IfErr result ComesBeforeOutput }
+    ensures only { IfErr result IsOfName }
+{
+    let mut reads = Reads::none();
+    let image = read_input(alloc, reader, &mut reads)?;
+    if image.is_empty() {
+        return Err(Fault::EmptyImage);
+    }
+    if image.len() > MAX_IMAGE_SIZE {
+        return Err(Fault::ImageTooLong);
+    }
+    Ok(image)
+}
+
+/// The line that tells a name.
+fn line_of(name: &ImageName) -> [u8; DIGITS + 1]
+    ensures { (spelling : List ℕ) × SpellsName spelling name.now × (result ≡ encode_lower spelling ++ codes "\n") }
+{
+    let mut line = [b'\n'; DIGITS + 1];
+    let _ = hex::encode_to_slice(name.to_bytes(), &mut line[..DIGITS]);
+    line
+}
