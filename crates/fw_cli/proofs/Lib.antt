@@ -4,3 +4,4 @@ pub mod LineLemmas
 pub mod NewStores
 pub mod OneAnswer
 pub mod Turns
+pub mod WordLemmas

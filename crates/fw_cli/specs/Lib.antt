@@ -5,3 +5,7 @@ pub mod Session
 pub mod Reading
 pub mod Answering
 pub mod Laws
+pub mod Words
+pub mod Script
+-- For private clauses alone: no public clause cites it.
+pub mod Inside

@@ -4,9 +4,12 @@
 mod answer;
 mod fault;
 mod input;
+mod item;
 pub mod laws;
 mod lines;
 mod reads;
+mod script;
+mod words;
 
 pub use answer::{AnswerOptions, run_answer};
 pub use fault::Fault;
