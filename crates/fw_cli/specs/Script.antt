@@ -23,12 +23,12 @@ pub record Meter : Type 0 where
   pub factory : List ℕ
 
 -- what a line says
-pub data Item : Type 0 where
-  head_item : Head → Item
-  meter_item : Meter → Item
-  events_item : List Event → Item
+pub data Said : Type 0 where
+  head_item : Head → Said
+  meter_item : Meter → Said
+  events_item : List Event → Said
 
-abbrev pub event : Event → List (List ℕ) → Option Item
+abbrev pub event : Event → List (List ℕ) → Option Said
 event e = ending (events_item (e ∷ []))
 
 -- ---- the words behind the first one
@@ -41,54 +41,54 @@ abbrev pub byte_of : List ℕ → Option ℕ
 byte_of = number_within 0 255
 
 -- head H width W
-abbrev pub head_line : List (List ℕ) → Option Item
+abbrev pub head_line : List (List ℕ) → Option Said
 head_line = reading from_one λ head. reading (keyword (codes "width")) λ _. reading number_of λ width.
     ending (head_item (record { number = head; width = width }))
 
 -- meter M block B capacity C factory HEX
-abbrev pub meter_line : List (List ℕ) → Option Item
+abbrev pub meter_line : List (List ℕ) → Option Said
 meter_line = reading number_of λ meter. reading (keyword (codes "block")) λ _. reading number_of λ block_size.
     reading (keyword (codes "capacity")) λ _. reading number_of λ capacity. reading (keyword (codes "factory")) λ _. reading bytes_said λ factory.
     ending (meter_item (record { number = meter; block_size = block_size; capacity = capacity; factory = factory }))
 
 -- open H S HEX M M ..
-abbrev pub open_line : List (List ℕ) → Option Item
+abbrev pub open_line : List (List ℕ) → Option Said
 open_line = reading from_one λ head. reading from_one λ serial. reading bytes_said λ image. λ words.
     option_map (λ meters. events_item (open_campaign (record { head = head; serial = serial }) image meters ∷ [])) (numbers_of words)
 
 -- cancel H S
-abbrev pub cancel_line : List (List ℕ) → Option Item
+abbrev pub cancel_line : List (List ℕ) → Option Said
 cancel_line = reading from_one λ head. reading from_one λ serial. event (cancel_campaign (record { head = head; serial = serial }))
 
 -- tick H M
-abbrev pub tick_line : List (List ℕ) → Option Item
+abbrev pub tick_line : List (List ℕ) → Option Said
 tick_line = reading from_one λ head. reading number_of λ meter. event (tick head meter)
 
 -- deliver K K ..
-abbrev pub deliver_line : List (List ℕ) → Option Item
+abbrev pub deliver_line : List (List ℕ) → Option Said
 deliver_line [] = None
 deliver_line (word ∷ words) = option_map (λ numbers. events_item (map deliver numbers)) (numbers_of (word ∷ words))
 
 -- stop K CALLS TORN
-abbrev pub stop_line : List (List ℕ) → Option Item
+abbrev pub stop_line : List (List ℕ) → Option Said
 stop_line = reading number_of λ datagram. reading number_of λ calls. reading byte_of λ torn. event (stop datagram calls torn)
 
 -- restart-meter M
-abbrev pub restart_meter_line : List (List ℕ) → Option Item
+abbrev pub restart_meter_line : List (List ℕ) → Option Said
 restart_meter_line = reading number_of λ meter. event (restart_meter meter)
 
 -- restart-head H
-abbrev pub restart_head_line : List (List ℕ) → Option Item
+abbrev pub restart_head_line : List (List ℕ) → Option Said
 restart_head_line = reading from_one λ head. event (restart_head head)
 
 -- turn M
-abbrev pub turn_line : List (List ℕ) → Option Item
+abbrev pub turn_line : List (List ℕ) → Option Said
 turn_line = reading number_of λ meter. event (turn meter)
 
 -- ---- lines
 
 -- what the words behind the first one say, where that names an event without a list
-abbrev pub event_line : List ℕ → List (List ℕ) → Option Item
+abbrev pub event_line : List ℕ → List (List ℕ) → Option Said
 event_line first words =
     if bytes_eq first (codes "cancel") then cancel_line words else
     if bytes_eq first (codes "tick") then tick_line words else
@@ -98,7 +98,7 @@ event_line first words =
     if bytes_eq first (codes "turn") then turn_line words else None
 
 -- what the words of a line say
-abbrev pub item_of : List (List ℕ) → Option Item
+abbrev pub item_of : List (List ℕ) → Option Said
 item_of [] = None
 item_of (first ∷ words) =
     if bytes_eq first (codes "head") then head_line words else
@@ -139,7 +139,7 @@ before_all [] script = Some script
 before_all (event ∷ events) script = None
 
 -- the script with one item more: a setup line stands before all events
-abbrev pub with_item : Script → Item → Option Script
+abbrev pub with_item : Script → Said → Option Script
 with_item script (head_item head) = before_all script.events (record script { heads = script.heads ++ head ∷ [] })
 with_item script (meter_item meter) = before_all script.events (record script { meters = script.meters ++ meter ∷ [] })
 with_item script (events_item events) = Some (record script { events = script.events ++ events })
@@ -174,7 +174,7 @@ pub record SaysSomething (input : List ℕ) : Type 0 where
   pub line : List ℕ
   pub behind : List (List ℕ)
   pub script : Script
-  pub item : Item
+  pub item : Said
   pub lines : lines_of input ≡ before ++ line ∷ behind
   pub begins : with_lines no_script before ≡ Some script
   pub says : item_of (words_of line) ≡ Some item

@@ -52,9 +52,12 @@ abbrev pub reading : {A B : Type 0} → (List ℕ → Option A) → (A → List 
 reading says rest words = option_and_then (λ r. rest r.0 r.1) (first_says says words)
 
 -- no word is left
+abbrev pub at_end : List (List ℕ) → Option (Unit {0})
+at_end [] = Some tt
+at_end (word ∷ words) = None
+
 abbrev pub ending : {A : Type 0} → A → List (List ℕ) → Option A
-ending said [] = Some said
-ending said (word ∷ words) = None
+ending said words = option_map (λ _. said) (at_end words)
 
 -- all words that are left are numbers
 abbrev pub numbers_of : List (List ℕ) → Option (List ℕ)

@@ -4,8 +4,8 @@ ghost use Rattle.std.specs.Prelude.{◌≡◌, ◌≤◌, ℕ, List, IfSome, ◌
 ghost use Rattle.fw_world.specs.Step.{deliver, open_campaign};
 ghost use Rattle.fw_world.specs.View.{event_of};
 ghost use Rattle.fw_world.specs.Runs.{events_of};
-ghost use Rattle.fw_cli.specs.Words.{words_of, numbers_of, bytes_said};
-ghost use Rattle.fw_cli.specs.Script.{Item, head_item, meter_item, events_item, head_line, meter_line, open_line, deliver_line, cancel_line, tick_line, stop_line, restart_meter_line, restart_head_line, turn_line, item_of, event_line, head_of, meter_of};
+ghost use Rattle.fw_cli.specs.Words.{words_of, at_end, numbers_of, bytes_said};
+ghost use Rattle.fw_cli.specs.Script.{head_item, meter_item, events_item, head_line, meter_line, open_line, deliver_line, cancel_line, tick_line, stop_line, restart_meter_line, restart_head_line, turn_line, item_of, event_line, head_of, meter_of};
 ghost use Rattle.fw_cli.specs.Inside.{item_read, words_behind};
 
 use crate::words::{
@@ -255,7 +255,7 @@ fn turn_line(rest: &[u8]) -> Option<Event>
 
 /// Nothing, where no word is left.
 fn ends(rest: &[u8]) -> Option<()>
-    ensures { MatchOption result ((word : List ℕ) × (words : List (List ℕ)) × (words_behind rest.now ≡ word ∷ words)) (λ _. words_behind rest.now ≡ []) }
+    ensures { result ≡ at_end (words_behind rest.now) }
 {
     if rest.is_empty() { Some(()) } else { None }
 }

@@ -1,8 +1,9 @@
 //! Scripts: a setup, and what happens in the world.
 
-ghost use Rattle.std.specs.Prelude.{◌≡◌, ◌≤◌, ◌⊎◌, length, ℕ, Some, None, map, IfOk, IfErr, if◌then◌else◌};
+ghost use Rattle.std.specs.Prelude.{◌≡◌, ◌≤◌, ◌⊎◌, length, ℕ, Some, None, map, IfOk, IfErr, if◌then◌else◌, OnErr, IsSome};
 ghost use Rattle.fw_world.specs.Runs.{events_of};
-ghost use Rattle.fw_cli.specs.Script.{is_skipped, with_item, script_of, SpellsScript, IsBadLine, SaysSomething};
+ghost use Rattle.fw_cli.specs.Script.{is_skipped, item_of, with_line, with_item, script_of, SpellsScript, IsBadLine, SaysSomething};
+ghost use Rattle.fw_cli.specs.Words.{words_of};
 ghost use Rattle.fw_cli.specs.Reading.{max_input};
 ghost use Rattle.fw_cli.specs.Inside.{item_read};
 
@@ -42,13 +43,8 @@ pub(crate) fn read_script(alloc: Global, input: &[u8]) -> Result<Script, Fault>
     let mut rest = input;
     let mut number = 1u64;
     while let Some((line, after)) = first_line(rest) {
-        if !is_skipped(line) {
-            let Some(item) = item_of(alloc, line)? else {
-                return Err(Fault::BadLine(number));
-            };
-            if !script.add(item)? {
-                return Err(Fault::BadLine(number));
-            }
+        if !script.add_line(alloc, line)? {
+            return Err(Fault::BadLine(number));
         }
         rest = after;
         number += 1;
@@ -67,6 +63,21 @@ fn is_skipped(line: &[u8]) -> bool
 }
 
 impl Script {
+    /// Adds one line, and tells whether the script goes on with it.
+    fn add_line(&mut self, alloc: Global, line: &[u8]) -> Result<bool, AllocError>
+        ensures ok { IfOk result (λ good. with_line (script_of self.old.setup self.old.events.items) line.now
+            ≡ (if good then Some (script_of self.new.setup self.new.events.items) else None)) }
+        ensures memory { OnErr result (IsSome (item_of (words_of line.now))) }
+    {
+        if is_skipped(line) {
+            return Ok(true);
+        }
+        match item_of(alloc, line)? {
+            Some(item) => self.add(item),
+            None => Ok(false),
+        }
+    }
+
     /// Adds what a line says, and tells whether it may stand there: a setup line stands before all events.
     fn add(&mut self, item: Item) -> Result<bool, AllocError>
         ensures { IfOk result (λ added. with_item (script_of self.old.setup self.old.events.items) (item_read item) ≡ (if added then Some (script_of self.new.setup self.new.events.items) else None)) }

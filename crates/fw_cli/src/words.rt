@@ -78,7 +78,8 @@ fn value_of(digits: &[u8]) -> Option<u32>
 
 /// The number that the next word says, and the text behind it.
 pub(crate) fn number(rest: &[u8]) -> Option<(u32, &[u8])>
-    ensures { MatchOption result (first_says number_of (words_behind rest.now) ≡ None)
+    ensures shorter { IfSome result (λ r. length r.1.now < length rest.now) }
+    ensures says { MatchOption result (first_says number_of (words_behind rest.now) ≡ None)
         (λ r. first_says number_of (words_behind rest.now) ≡ Some (r.0, words_behind r.1.now)) }
 {
     let (word, rest) = next_word(rest)?;
