@@ -1,10 +1,9 @@
 -- What the words behind the first one say.
-use Rattle.std.proofs.Common.{◌≡◌, ℕ, ◌<◌, List, [], ◌∷◌, length, map, take, drop, eqb, Option, Some, None, refl, sym, ap, ◌∙◌, arith}
+use Rattle.std.proofs.Common.{◌≡◌, ℕ, ◌<◌, List, [], ◌∷◌, length, map, Option, Some, None, refl, ap, arith}
 use Rattle.std.specs.Prelude.{option_map, is_some, IsSome, true}
-use Rattle.std.specs.List.{position_or_len}
 use Rattle.fw_world.specs.Step.{Event, deliver}
-use Rattle.fw_cli.specs.Words.{words_of, at_end, numbers_of}
-use Rattle.fw_cli.specs.Script.{Said, events_item, deliver_line}
+use Rattle.fw_cli.specs.Words.{at_end, numbers_of}
+use Rattle.fw_cli.specs.Script.{events_item, deliver_line}
 use Rattle.fw_cli.specs.Inside.{words_behind}
 use Rattle.fw_cli.proofs.WordLemmas.{words_cut}
 

@@ -1,9 +1,9 @@
 -- A script as far as it has come, one line after another.
-use Rattle.std.proofs.Common.{◌≡◌, ℕ, ◌+◌, List, [], ◌∷◌, ◌++◌, length, Option, None, Some, refl, sym, ap, subst, ◌∙◌, append_assoc, append-nil, arith, length-append}
+use Rattle.std.proofs.Common.{◌≡◌, ℕ, ◌+◌, List, [], ◌∷◌, ◌++◌, length, Option, None, Some, refl, sym, ap, ◌∙◌, append_assoc, append-nil, arith, length-append}
 use Rattle.std.specs.Prelude.{IsSome, option_and_then}
 use Rattle.fw_cli.specs.Lines.{lines_of}
 use Rattle.fw_cli.specs.Words.{words_of}
-use Rattle.fw_cli.specs.Script.{Said, Script, no_script, item_of, with_line, with_lines, SpellsScript, IsBadLine, SaysSomething}
+use Rattle.fw_cli.specs.Script.{Script, no_script, item_of, with_line, with_lines, SpellsScript, IsBadLine, SaysSomething}
 
 -- Some lines of the input are this script, and the line of this number is the first of the rest.
 pub record SoFar (input : List ℕ) (script : Script) (number : ℕ) (rest : List ℕ) : Type 0 where

@@ -1,5 +1,5 @@
 -- For private clauses alone: no public clause cites it.
-use Rattle.std.specs.Prelude.{ℕ, List, [], ◌∷◌, map}
+use Rattle.std.specs.Prelude.{ℕ, List, [], ◌∷◌}
 use Rattle.fw_world.specs.Runs.{events_of}
 use Rattle.fw_world.specs.View.{event_of}
 use Rattle.fw_cli.specs.declared.item.Item.{Item as Read}

@@ -1,6 +1,5 @@
 -- Public vocabulary: scripts. A script is lines, of which each is skipped, or says a part of a setup or what happens in the world.
-use Rattle.std.specs.Prelude.{◌≡◌, ℕ, ◌+◌, Bool, true, false, ◌==◌, if◌then◌else◌, List, [], ◌∷◌, ◌++◌, map, length, Option, Some, None, option_map, option_and_then, bytes_eq, codes}
-use Rattle.fw_names.specs.Name.{Campaign}
+use Rattle.std.specs.Prelude.{◌≡◌, ℕ, ◌+◌, Bool, true, ◌==◌, if◌then◌else◌, List, [], ◌∷◌, ◌++◌, map, length, Option, Some, None, option_map, option_and_then, bytes_eq, codes}
 use Rattle.fw_world.specs.Step.{Event, open_campaign, cancel_campaign, tick, deliver, stop, restart_meter, restart_head, turn}
 use Rattle.fw_world.specs.Runs.{events_of}
 use Rattle.fw_world.specs.declared.event.Event.{Event as Given}

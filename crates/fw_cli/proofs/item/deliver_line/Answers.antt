@@ -1,11 +1,9 @@
-use Rattle.std.proofs.Common.{rules, ◌≡◌, length, ◌<◌, map, Option, Some, Result, sym, ◌∙◌, arith}
-use Rattle.std.specs.Prelude.{true, is_some, option_map, IsSome, OnErr}
+use Rattle.std.proofs.Common.{rules, ◌≡◌, length, ◌<◌, sym, ◌∙◌, arith}
+use Rattle.std.specs.Prelude.{true, is_some}
 use Rattle.std.proofs.lemmas.Grind.{common_steps}
-use Rattle.fw_world.specs.Step.{deliver}
 use Rattle.fw_world.specs.Runs.{events_of}
 use Rattle.fw_cli.specs.Words.{numbers_of}
 use Rattle.fw_cli.specs.Inside.{words_behind}
-use Rattle.fw_cli.specs.Script.{deliver_line, events_item}
 use Rattle.fw_cli.proofs.ScriptLemmas.{delivers, says_some, said_by}
 use Rattle.fw_cli.proofs.Turns.{on_err}
 use Rattle.fw_cli.proofs.item.deliver_line.Goals as goal

@@ -1,4 +1,3 @@
-use Rattle.std.proofs.Common.{arith}
 use Rattle.fw_cli.proofs.WordLemmas.{words_cut, end_within}
 use Rattle.fw_cli.proofs.words.first_word.Goals as goal
 

@@ -1,5 +1,4 @@
-use Rattle.std.proofs.Common.{◌∙◌, ap, length, eqb}
-use Rattle.std.specs.Prelude.{unwrap_or}
+use Rattle.std.proofs.Common.{eqb}
 use Rattle.fw_cli.proofs.WordLemmas.{place_or_length}
 use Rattle.fw_cli.proofs.words.word_end.Goals as goal
 
