@@ -4,3 +4,6 @@ pub mod LineLemmas
 pub mod NewStores
 pub mod OneAnswer
 pub mod Turns
+pub mod ScriptLemmas
+pub mod ScriptSteps
+pub mod WordLemmas

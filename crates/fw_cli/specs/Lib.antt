@@ -7,3 +7,7 @@ pub mod Faults
 pub mod Answering
 pub mod Naming
 pub mod Laws
+pub mod Words
+pub mod Script
+-- For private clauses alone: no public clause cites it.
+pub mod Inside

@@ -242,7 +242,7 @@ fn append_line(alloc: Global, text: &mut Vec<u8>, reply: &Option<Vec<u8>>) -> Re
 }
 
 /// The bytes that hexadecimal digits spell, if the text is such digits. Where memory is refused, the digits are judged without it.
-fn bytes_of(alloc: Global, text: &[u8]) -> Result<Option<Vec<u8>>, AllocError>
+pub(crate) fn bytes_of(alloc: Global, text: &[u8]) -> Result<Option<Vec<u8>>, AllocError>
     ensures bytes { IfOk result (λ r. MatchOption r (IsErr (decode_of text.now)) (λ bytes. decode_of text.now ≡ Ok bytes.items)) }
     ensures memory { OnErr result (IsOk (decode_of text.now)) }
 {
@@ -254,7 +254,7 @@ fn bytes_of(alloc: Global, text: &[u8]) -> Result<Option<Vec<u8>>, AllocError>
 }
 
 /// Whether a text is pairs of hexadecimal digits.
-fn is_hexadecimal(text: &[u8]) -> bool
+pub(crate) fn is_hexadecimal(text: &[u8]) -> bool
     ensures { IsTrue result ↔ IsOk (decode_of text.now) }
 {
     text.len() % 2 == 0 && are_digits(text)

@@ -4,10 +4,13 @@
 mod answer;
 mod fault;
 mod input;
+mod item;
 pub mod laws;
 mod lines;
 mod name;
 mod reads;
+mod script;
+mod words;
 
 pub use answer::{AnswerOptions, run_answer};
 pub use fault::Fault;

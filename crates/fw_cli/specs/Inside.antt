@@ -1,0 +1,20 @@
+-- For private clauses alone: no public clause cites it.
+use Rattle.std.specs.Prelude.{ℕ, List, [], ◌∷◌}
+use Rattle.fw_world.specs.Runs.{events_of}
+use Rattle.fw_world.specs.View.{event_of}
+use Rattle.fw_cli.specs.declared.item.Item.{Item as Read}
+use Rattle.fw_cli.specs.declared.item.Item.TheVariants as read
+use Rattle.fw_cli.specs.Words.{words_of}
+use Rattle.fw_cli.specs.Script.{Said, head_item, meter_item, events_item, head_of, meter_of}
+
+-- the words behind a word: the text behind it is empty, or begins with the space that ended it
+abbrev pub words_behind : List ℕ → List (List ℕ)
+words_behind [] = []
+words_behind (space ∷ text) = words_of text
+
+-- an item without where its lists lie in memory
+abbrev pub item_read : Read → Said
+item_read (read.Head head) = head_item (head_of head)
+item_read (read.Meter meter) = meter_item (meter_of meter)
+item_read (read.Event event) = events_item (event_of event ∷ [])
+item_read (read.Deliveries events) = events_item (events_of events.items)
