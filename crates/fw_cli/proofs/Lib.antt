@@ -1,5 +1,6 @@
 pub mod Described
 pub mod Digits
+pub mod FateLetters
 pub mod LineLemmas
 pub mod NewStores
 pub mod OneAnswer

@@ -2,6 +2,7 @@
 #![tactic(auto)]
 
 mod answer;
+mod fates;
 mod fault;
 mod input;
 mod item;
@@ -9,9 +10,12 @@ pub mod laws;
 mod lines;
 mod name;
 mod reads;
+mod replay;
+mod report;
 mod script;
 mod words;
 
 pub use answer::{AnswerOptions, run_answer};
 pub use fault::Fault;
 pub use name::{NameOptions, run_name};
+pub use replay::{Ended, ReplayOptions, Rounds, run_replay};
