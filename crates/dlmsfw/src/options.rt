@@ -2,16 +2,18 @@
 
 mod answer;
 mod name;
+mod replay;
 
 use clap::error::ErrorKind;
 use clap::{Arg, ArgMatches, Command, Error};
-use fw_cli::{AnswerOptions, NameOptions};
+use fw_cli::{AnswerOptions, NameOptions, ReplayOptions};
 use std::alloc::{AllocError, Global};
 
 /// A command with its options.
 pub(crate) enum Invocation<'a> {
     Answer(AnswerOptions<'a>),
     Name(NameOptions),
+    Replay(ReplayOptions<'a>),
 }
 
 /// What ends a short help.
@@ -39,6 +41,7 @@ fn found<'a>(matches: &ArgMatches<'a>) -> Option<Invocation<'a>> {
     match matches.subcommand()? {
         ("answer", given) => Some(Invocation::Answer(answer::options(given)?)),
         ("name", given) => Some(Invocation::Name(name::options(given)?)),
+        ("replay", given) => Some(Invocation::Replay(replay::options(given)?)),
         _ => None,
     }
 }
@@ -48,11 +51,14 @@ fn dlmsfw<'a>(alloc: Global) -> Result<Command<'a>, AllocError> {
     Command::new(alloc, "dlmsfw")
         .bin_name("dlmsfw")?
         .version("0.1.0")
-        .about("COSEM firmware distribution: a meter that answers datagrams, and names of images")
+        .about(
+            "COSEM firmware distribution: a meter that answers datagrams, names of images, and scripts of campaigns",
+        )
         .after_help(STATUSES)
         .subcommand_required(true)
         .subcommand(answer::command(alloc)?)?
-        .subcommand(name::command(alloc)?)
+        .subcommand(name::command(alloc)?)?
+        .subcommand(replay::command(alloc)?)
 }
 
 /// An option with a value.
