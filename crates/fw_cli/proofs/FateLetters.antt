@@ -1,13 +1,13 @@
 -- Which letters spell fates.
-use Rattle.std.proofs.Common.{◌≡◌, ℕ, ◌<◌, ◌≤◌, Bool, true, eqb, List, [], ◌∷◌, length, get_or, map, refl, sym, ap, ◌∙◌, inl, inr, arith}
-use Rattle.std.specs.Prelude.{◌&&◌, ◌||◌}
+use Rattle.std.proofs.Common.{◌≡◌, ℕ, ◌<◌, ◌≤◌, true, eqb, List, [], ◌∷◌, length, get_or, map, refl, sym, ap, ◌∙◌, inl, inr, arith}
+use Rattle.std.specs.Prelude.{◌||◌}
 use Rattle.std.specs.List.{list_all}
 use Rattle.std.proofs.lemmas.Bool.{or_cases, and_parts, eqb-true}
 use Rattle.std.proofs.lemmas.List.{get_or-map, length-map}
 use Rattle.fw_air.specs.declared.fates.Fate.{Fate}
 use Rattle.fw_air.specs.declared.fates.Fate.TheVariants.{Deliver, Drop, Twice, Late}
 use Rattle.fw_air.specs.Fates.{max_fates}
-use Rattle.fw_cli.specs.Fates.{letter_of, is_letter, SpellsFates, SpellsSome}
+use Rattle.fw_cli.specs.Fates.{letter_of, is_letter, SpellsSome}
 
 fate_for : (letter : ℕ) → is_letter letter ≡ true → (fate : Fate) × (letter_of fate ≡ letter)
 fate_for letter one = elim (or_cases (eqb letter 100) (eqb letter 120 || (eqb letter 116 || eqb letter 108)) one) [

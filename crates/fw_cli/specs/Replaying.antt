@@ -21,7 +21,7 @@ use Rattle.fw_cli.specs.declared.replay.Rounds.{Rounds}
 use Rattle.fw_cli.specs.Fates.{SpellsSome}
 use Rattle.fw_cli.specs.Reading.{ReadsAll}
 use Rattle.fw_cli.specs.Report.{report_of}
-use Rattle.fw_cli.specs.Script.{SpellsScript, IsBadLine, script_of}
+use Rattle.fw_cli.specs.Script.{SpellsScript, script_of}
 
 -- ---- what is told
 

@@ -1,5 +1,5 @@
 use Rattle.std.proofs.Common.{rules}
-use Rattle.fw_cli.proofs.FateLetters.{spells, size_of, all_letters}
+use Rattle.fw_cli.proofs.FateLetters.{spells, all_letters}
 use Rattle.fw_cli.proofs.fates.are_fates.Goals as goal
 
 pub returns-then-contains : goal.returns-then-contains
