@@ -4,6 +4,7 @@ pub mod LineLemmas
 pub mod NewStores
 pub mod OneAnswer
 pub mod Turns
+pub mod SaidKinds
 pub mod ScriptLemmas
 pub mod ScriptSteps
 pub mod WordLemmas

@@ -1,9 +1,8 @@
 -- A script as far as it has come, one line after another.
-use Rattle.std.proofs.Common.{◌≡◌, ℕ, ◌+◌, List, [], ◌∷◌, ◌++◌, length, Option, None, Some, refl, sym, ap, ◌∙◌, append_assoc, append-nil, arith, length-append}
+use Rattle.std.proofs.Common.{◌≡◌, false, ℕ, ◌+◌, List, [], ◌∷◌, ◌++◌, length, Option, None, Some, refl, sym, ap, ◌∙◌, append_assoc, append-nil, arith, length-append}
 use Rattle.std.specs.Prelude.{IsSome, option_and_then}
 use Rattle.fw_cli.specs.Lines.{lines_of}
-use Rattle.fw_cli.specs.Words.{words_of}
-use Rattle.fw_cli.specs.Script.{Script, no_script, item_of, with_line, with_lines, SpellsScript, IsBadLine, SaysSomething}
+use Rattle.fw_cli.specs.Script.{Script, no_script, is_skipped, with_line, with_lines, SpellsScript, IsBadLine, BeginsScript}
 
 -- Some lines of the input are this script, and the line of this number is the first of the rest.
 pub record SoFar (input : List ℕ) (script : Script) (number : ℕ) (rest : List ℕ) : Type 0 where
@@ -62,18 +61,17 @@ there : {A : Type 0} (o : Option A) → IsSome o → (x : A) × (o ≡ Some x)
 there None some = cc some
 there (Some x) some = (x, refl)
 
--- a line that says something is met
-pub says : (input : List ℕ) (script : Script) (line rest after : List ℕ) (number : ℕ) → SoFar input script number rest → lines_of rest ≡ line ∷ lines_of after → IsSome (item_of (words_of line))
-    → SaysSomething input
-says input script line rest after number so_far cut some =
-    let item = there (item_of (words_of line)) some in
+-- a line that the script goes on with is met
+pub begins_script : (input : List ℕ) (script : Script) (line rest after : List ℕ) (number : ℕ) → SoFar input script number rest → lines_of rest ≡ line ∷ lines_of after
+    → IsSome (with_line script line) → is_skipped line ≡ false → BeginsScript input
+begins_script input script line rest after number so_far cut some kept =
+    let next = there (with_line script line) some in
     record {
       before = so_far.before;
       line = line;
       behind = lines_of after;
-      script = script;
-      item = item.0;
+      begun = next.0;
       lines = so_far.lines ∙ ap (λ (ls : List (List ℕ)). so_far.before ++ ls) cut;
-      begins = so_far.begins;
-      says = item.1;
+      begins = more no_script script next.0 so_far.before line so_far.begins next.1;
+      kept = kept;
     }

@@ -1,5 +1,5 @@
 -- Public vocabulary: scripts. A script is lines, of which each is skipped, or says a part of a setup or what happens in the world.
-use Rattle.std.specs.Prelude.{◌≡◌, ℕ, ◌+◌, Bool, true, ◌==◌, if◌then◌else◌, List, [], ◌∷◌, ◌++◌, map, length, Option, Some, None, option_map, option_and_then, bytes_eq, codes}
+use Rattle.std.specs.Prelude.{◌≡◌, false, ℕ, ◌+◌, Bool, true, ◌==◌, if◌then◌else◌, List, [], ◌∷◌, ◌++◌, map, length, Option, Some, None, option_map, option_and_then, bytes_eq, codes}
 use Rattle.fw_world.specs.Step.{Event, open_campaign, cancel_campaign, tick, deliver, stop, restart_meter, restart_head, turn}
 use Rattle.fw_world.specs.Runs.{events_of}
 use Rattle.fw_world.specs.declared.event.Event.{Event as Given}
@@ -167,13 +167,12 @@ pub record IsBadLine (input : List ℕ) (number : ℕ) : Type 0 where
   pub bad : with_line begun line ≡ None
   pub counted : number ≡ length before + 1
 
--- The lines before some line begin a script, and this one says something.
-pub record SaysSomething (input : List ℕ) : Type 0 where
+-- The lines up to some line begin a script, and this one isn't skipped.
+pub record BeginsScript (input : List ℕ) : Type 0 where
   pub before : List (List ℕ)
   pub line : List ℕ
   pub behind : List (List ℕ)
-  pub script : Script
-  pub item : Said
+  pub begun : Script
   pub lines : lines_of input ≡ before ++ line ∷ behind
-  pub begins : with_lines no_script before ≡ Some script
-  pub says : item_of (words_of line) ≡ Some item
+  pub begins : with_lines no_script (before ++ line ∷ []) ≡ Some begun
+  pub kept : is_skipped line ≡ false

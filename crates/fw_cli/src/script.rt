@@ -1,15 +1,16 @@
 //! Scripts: a setup, and what happens in the world.
 
-ghost use Rattle.std.specs.Prelude.{◌≡◌, ◌≤◌, ◌⊎◌, length, ℕ, Some, None, map, IfOk, IfErr, if◌then◌else◌, OnErr, IsSome};
+ghost use Rattle.std.specs.Prelude.{◌≡◌, false, ◌≤◌, ◌⊎◌, length, ℕ, Some, None, map, IfOk, IfErr, if◌then◌else◌, OnErr, IsSome};
 ghost use Rattle.fw_world.specs.Runs.{events_of};
-ghost use Rattle.fw_cli.specs.Script.{is_skipped, item_of, with_line, with_item, script_of, SpellsScript, IsBadLine, SaysSomething};
+ghost use Rattle.fw_cli.specs.Script.{is_skipped, item_of, with_line, with_item, script_of, SpellsScript, IsBadLine, BeginsScript};
 ghost use Rattle.fw_cli.specs.Words.{words_of};
 ghost use Rattle.fw_cli.specs.Reading.{max_input};
-ghost use Rattle.fw_cli.specs.Inside.{item_read};
+ghost use Rattle.fw_cli.specs.Inside.{item_read, names_setup};
 
 use crate::fault::Fault;
 use crate::item::{Item, item_of};
 use crate::lines::first_line;
+use crate::words::{first_word, is};
 use fw_world::{Event, Setup};
 use std::alloc::{AllocError, Global};
 
@@ -30,7 +31,7 @@ pub(crate) fn read_script(alloc: Global, input: &[u8]) -> Result<Script, Fault>
     requires size { length input.now ≤ max_input }
     ensures ok { IfOk result (λ script. SpellsScript input.now (script_of script.setup script.events.items)) }
     ensures bad_line { (number : ℕ) → result ≡ Err (Fault.BadLine number) → IsBadLine input.now number }
-    ensures memory { result ≡ Err Fault.OutOfMemory → SaysSomething input.now }
+    ensures memory { result ≡ Err Fault.OutOfMemory → BeginsScript input.now }
     ensures only { IfErr result (λ f. (f ≡ Fault.OutOfMemory) ⊎ ((number : ℕ) × (f ≡ Fault.BadLine number))) }
 {
     let mut script = Script {
@@ -62,15 +63,28 @@ fn is_skipped(line: &[u8]) -> bool
     }
 }
 
+/// Whether the first word of a line is that of a setup line.
+fn names_setup(line: &[u8]) -> bool
+    ensures { result ≡ names_setup (words_of line.now) }
+{
+    let (first, _) = first_word(line);
+    is(first, b"head") || is(first, b"meter")
+}
+
 impl Script {
     /// Adds one line, and tells whether the script goes on with it.
     fn add_line(&mut self, alloc: Global, line: &[u8]) -> Result<bool, AllocError>
         ensures ok { IfOk result (λ good. with_line (script_of self.old.setup self.old.events.items) line.now
             ≡ (if good then Some (script_of self.new.setup self.new.events.items) else None)) }
-        ensures memory { OnErr result (IsSome (item_of (words_of line.now))) }
+        ensures memory { OnErr result (IsSome (with_line (script_of self.old.setup self.old.events.items) line.now)) }
+        ensures kept { OnErr result (is_skipped line.now ≡ false) }
     {
         if is_skipped(line) {
             return Ok(true);
+        }
+        // A setup line behind an event is bad, whether or not there is memory for what it says.
+        if !self.events.is_empty() && names_setup(line) {
+            return Ok(false);
         }
         match item_of(alloc, line)? {
             Some(item) => self.add(item),
@@ -80,7 +94,8 @@ impl Script {
 
     /// Adds what a line says, and tells whether it may stand there: a setup line stands before all events.
     fn add(&mut self, item: Item) -> Result<bool, AllocError>
-        ensures { IfOk result (λ added. with_item (script_of self.old.setup self.old.events.items) (item_read item) ≡ (if added then Some (script_of self.new.setup self.new.events.items) else None)) }
+        ensures ok { IfOk result (λ added. with_item (script_of self.old.setup self.old.events.items) (item_read item) ≡ (if added then Some (script_of self.new.setup self.new.events.items) else None)) }
+        ensures memory { OnErr result (IsSome (with_item (script_of self.old.setup self.old.events.items) (item_read item))) }
     {
         match item {
             Item::Event(event) => self.events.push(event)?,

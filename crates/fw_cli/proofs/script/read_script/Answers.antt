@@ -1,12 +1,12 @@
 use Rattle.std.proofs.Common.{arith}
 use Rattle.fw_cli.specs.Script.{script_of}
-use Rattle.fw_cli.proofs.ScriptSteps.{goes_on, says}
+use Rattle.fw_cli.proofs.ScriptSteps.{goes_on, begins_script}
 use Rattle.fw_cli.proofs.script.read_script.Goals as goal
 
 pub returns-in_err-add_line-clause-memory : goal.returns-in_err-add_line-clause-memory
 returns-in_err-add_line-clause-memory c = λ _.
-    says c.args.input.now (script_of c.loop-line.script.setup c.loop-line.script.events.items) c.in-Some.line.now c.loop-line.rest.now c.in-Some.after.now c.loop-line.number
-    c.loop-line.invariant.so_far c.in-Some.ensures.lines c.in_err-add_line.ensures.memory
+    begins_script c.args.input.now (script_of c.loop-line.script.setup c.loop-line.script.events.items) c.in-Some.line.now c.loop-line.rest.now c.in-Some.after.now c.loop-line.number
+    c.loop-line.invariant.so_far c.in-Some.ensures.lines c.in_err-add_line.ensures.memory c.in_err-add_line.ensures.kept
 
 pub loop-line-preserved : goal.loop-line-preserved
 loop-line-preserved c = record {
