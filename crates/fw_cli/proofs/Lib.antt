@@ -3,6 +3,7 @@ pub mod Digits
 pub mod LineLemmas
 pub mod NewStores
 pub mod OneAnswer
+pub mod OneScript
 pub mod Turns
 pub mod SaidKinds
 pub mod ScriptLemmas
