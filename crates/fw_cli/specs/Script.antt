@@ -47,7 +47,8 @@ head_line = reading from_one λ head. reading (keyword (codes "width")) λ _. re
 -- meter M block B capacity C factory HEX
 abbrev pub meter_line : List (List ℕ) → Option Said
 meter_line = reading number_of λ meter. reading (keyword (codes "block")) λ _. reading number_of λ block_size.
-    reading (keyword (codes "capacity")) λ _. reading number_of λ capacity. reading (keyword (codes "factory")) λ _. reading bytes_said λ factory.
+    reading (keyword (codes "capacity")) λ _. reading number_of λ capacity.
+    reading (keyword (codes "factory")) λ _. reading bytes_said λ factory.
     ending (meter_item (record { number = meter; block_size = block_size; capacity = capacity; factory = factory }))
 
 -- open H S HEX M M ..
@@ -124,7 +125,8 @@ meter_of meter = record { number = meter.meter; block_size = meter.block_size; c
 
 -- a setup and events, without where their lists lie in memory
 abbrev pub script_of : Setup → List Given → Script
-script_of setup events = record { heads = map head_of setup.heads.items; meters = map meter_of setup.meters.items; events = events_of events }
+script_of setup events =
+    record { heads = map head_of setup.heads.items; meters = map meter_of setup.meters.items; events = events_of events }
 
 -- ---- scripts
 

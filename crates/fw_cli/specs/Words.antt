@@ -17,7 +17,8 @@ words_of (byte ∷ rest) = if byte == 32 then [] ∷ words_of rest else onto_fir
 
 -- a number: 1 to 10 decimal digits, with a value below 2^32
 abbrev pub is_number : List ℕ → Bool
-is_number word = nat_le 1 (length word) && nat_le (length word) 10 && list_all is_ascii_digit word && nat_lt (digits_value 10 word) 4294967296
+is_number word =
+    nat_le 1 (length word) && nat_le (length word) 10 && list_all is_ascii_digit word && nat_lt (digits_value 10 word) 4294967296
 
 abbrev pub number_of : List ℕ → Option ℕ
 number_of word = if is_number word then Some (digits_value 10 word) else None

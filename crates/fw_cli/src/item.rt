@@ -1,6 +1,6 @@
 //! What a line of a script says.
 
-ghost use Rattle.std.specs.Prelude.{◌≡◌, ◌≤◌, ℕ, List, IfSome, ◌∷◌, [], Some, None, map, option_map, is_some, IfOk, OnErr, IsSome, MatchOption};
+ghost use Rattle.std.specs.Prelude.{◌≡◌, ◌≤◌, ℕ, List, IfSome, ◌∷◌, [], Some, None, map, option_map, IfOk, OnErr, IsSome, MatchOption};
 ghost use Rattle.fw_world.specs.Step.{deliver, open_campaign};
 ghost use Rattle.fw_world.specs.View.{event_of};
 ghost use Rattle.fw_world.specs.Runs.{events_of};
@@ -103,7 +103,8 @@ fn meter_line(alloc: Global, rest: &[u8]) -> Result<Option<MeterSetup>, AllocErr
 /// `M block B capacity C factory HEX`, with the word of the factory image.
 fn meter_words(rest: &[u8]) -> Option<(u32, u32, u32, &[u8])>
     ensures { MatchOption result (meter_line (words_behind rest.now) ≡ None) (λ r. (factory : List ℕ) × (bytes_said r.3.now ≡ Some factory)
-        × (meter_line (words_behind rest.now) ≡ Some (meter_item (record { number = r.0; block_size = r.1; capacity = r.2; factory = factory })))) }
+        × (meter_line (words_behind rest.now)
+        ≡ Some (meter_item (record { number = r.0; block_size = r.1; capacity = r.2; factory = factory })))) }
 {
     let (meter, rest) = number(rest)?;
     let rest = keyword(rest, b"block")?;
@@ -138,7 +139,8 @@ fn open_line(alloc: Global, rest: &[u8]) -> Result<Option<Event>, AllocError>
 fn open_words(rest: &[u8]) -> Option<(u32, u32, &[u8], &[u8])>
     ensures said { MatchOption result (open_line (words_behind rest.now) ≡ None) (λ r.
         (image : List ℕ) × (meters : List ℕ) × (bytes_said r.2.now ≡ Some image) × (numbers_of (words_behind r.3.now) ≡ Some meters)
-        × (open_line (words_behind rest.now) ≡ Some (events_item (open_campaign (record { head = r.0; serial = r.1 }) image meters ∷ [])))) }
+        × (open_line (words_behind rest.now)
+        ≡ Some (events_item (open_campaign (record { head = r.0; serial = r.1 }) image meters ∷ [])))) }
     ensures head { IfSome result (λ r. 1 ≤ r.0) }
     ensures serial { IfSome result (λ r. 1 ≤ r.1) }
 {
@@ -168,7 +170,8 @@ fn meters_of(alloc: Global, rest: &[u8]) -> Result<Vec<MeterId>, AllocError>
 
 /// `deliver K K ..`.
 fn deliver_line(alloc: Global, rest: &[u8]) -> Result<Option<Vec<Event>>, AllocError>
-    ensures ok { IfOk result (λ said. option_map (λ events. events_item (events_of events.items)) said ≡ deliver_line (words_behind rest.now)) }
+    ensures ok { IfOk result (λ said. option_map (λ events. events_item (events_of events.items)) said
+        ≡ deliver_line (words_behind rest.now)) }
     ensures memory { OnErr result (IsSome (deliver_line (words_behind rest.now))) }
 {
     if rest.is_empty() || !are_numbers(rest) {

@@ -1,7 +1,6 @@
 //! Scripts: a setup, and what happens in the world.
 
-ghost use Rattle.std.specs.Prelude.{◌≡◌, false, ◌≤◌, ◌⊎◌, length, ℕ, Some, None, map, IfOk, IfErr, if◌then◌else◌, OnErr, IsSome};
-ghost use Rattle.fw_world.specs.Runs.{events_of};
+ghost use Rattle.std.specs.Prelude.{◌≡◌, false, ◌≤◌, ◌⊎◌, length, ℕ, Some, None, IfOk, IfErr, if◌then◌else◌, OnErr, IsSome};
 ghost use Rattle.fw_cli.specs.Script.{is_skipped, item_of, with_line, with_item, script_of, SpellsScript, IsBadLine, BeginsScript};
 ghost use Rattle.fw_cli.specs.Words.{words_of};
 ghost use Rattle.fw_cli.specs.Reading.{max_input};
@@ -94,7 +93,8 @@ impl Script {
 
     /// Adds what a line says, and tells whether it may stand there: a setup line stands before all events.
     fn add(&mut self, item: Item) -> Result<bool, AllocError>
-        ensures ok { IfOk result (λ added. with_item (script_of self.old.setup self.old.events.items) (item_read item) ≡ (if added then Some (script_of self.new.setup self.new.events.items) else None)) }
+        ensures ok { IfOk result (λ added. with_item (script_of self.old.setup self.old.events.items) (item_read item)
+            ≡ (if added then Some (script_of self.new.setup self.new.events.items) else None)) }
         ensures memory { OnErr result (IsSome (with_item (script_of self.old.setup self.old.events.items) (item_read item))) }
     {
         match item {

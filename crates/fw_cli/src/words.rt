@@ -1,10 +1,10 @@
 //! The words of a line, and what they say.
 
-ghost use Rattle.std.specs.Prelude.{◌≡◌, true, List, IsSome, IfOk, ◌∷◌, [], ◌<◌, ◌≤◌, ◌==◌, ℕ, Some, None, length, is_some, bytes_eq, if◌then◌else◌, nat_lt, take, drop, IsTrue, MatchOption, IfSome, position};
+ghost use Rattle.std.specs.Prelude.{◌≡◌, true, List, IsSome, IfOk, ◌∷◌, [], ◌<◌, ◌≤◌, ◌==◌, ℕ, Some, None, length, is_some, bytes_eq, if◌then◌else◌, nat_lt, MatchOption, IfSome, position};
 ghost use Rattle.std.specs.List.{list_all, position_or_len};
 ghost use Rattle.std.specs.Char.{is_ascii_digit};
 ghost use Rattle.std.specs.Str.Parse.{digits_value};
-ghost use Rattle.fw_cli.specs.Words.{words_of, number_of, number_within, bytes_said, keyword, first_says, numbers_of};
+ghost use Rattle.fw_cli.specs.Words.{words_of, number_of, bytes_said, keyword, first_says, numbers_of};
 ghost use Rattle.fw_cli.specs.Script.{byte_of, from_one};
 ghost use Rattle.fw_cli.specs.Inside.{words_behind};
 
@@ -127,7 +127,8 @@ pub(crate) fn is(word: &[u8], text: &[u8]) -> bool
 /// The next word, which says bytes, and the text behind it.
 pub(crate) fn bytes(rest: &[u8]) -> Option<(&[u8], &[u8])>
     ensures { MatchOption result (first_says bytes_said (words_behind rest.now) ≡ None)
-        (λ r. (said : List ℕ) × (bytes_said r.0.now ≡ Some said) × (first_says bytes_said (words_behind rest.now) ≡ Some (said, words_behind r.1.now))) }
+        (λ r. (said : List ℕ) × (bytes_said r.0.now ≡ Some said)
+        × (first_says bytes_said (words_behind rest.now) ≡ Some (said, words_behind r.1.now))) }
 {
     let (word, rest) = next_word(rest)?;
     if says_bytes(word) {
