@@ -1,10 +1,10 @@
--- The exit statuses of the program: 0 where its work is done, 1 at a fault, 2 at a wrong command line.
+-- The exit statuses of the program: 0 where its work is done, 1 at a fault or a refused event, 2 at a wrong command line.
 use Rattle.std.specs.Prelude.{◌≡◌, ◌≢◌, ℕ, ◌⊎◌}
 use Rattle.clap.specs.declared.error.kind.ErrorKind.{ErrorKind}
 use Rattle.clap.specs.declared.error.kind.ErrorKind.TheVariants.{DisplayHelp, DisplayVersion, OutOfMemory}
 use Rattle.clap.specs.Values.{kind_of}
 use Rattle.dlmsfw.specs.declared.Ending.{Ending}
-use Rattle.dlmsfw.specs.declared.Ending.TheVariants.{Fault, CommandLine, NoText}
+use Rattle.dlmsfw.specs.declared.Ending.TheVariants.{Fault, Refused, CommandLine, NoText}
 
 -- the text that was asked for
 abbrev pub IsHelp : ErrorKind → Type 0
@@ -19,5 +19,6 @@ pub record EndsParse (kind : ErrorKind) (status : ℕ) : Type 0 where
 -- the program may end so with this status
 abbrev pub EndsWith : Ending → ℕ → Type 0
 EndsWith (Fault fault) status = status ≡ 1
+EndsWith Refused status = status ≡ 1
 EndsWith (CommandLine error) status = EndsParse (kind_of error) status
 EndsWith NoText status = status ≡ 2

@@ -9,7 +9,7 @@ ghost use Rattle.dlmsfw.specs.Status.{EndsParse, EndsWith};
 mod options;
 
 use clap::error::ErrorKind;
-use fw_cli::{Fault, run_answer, run_answer_stored, run_name};
+use fw_cli::{Ended, Fault, run_answer, run_answer_stored, run_name, run_replay};
 use options::Invocation;
 use std::fs::File;
 use std::process::ExitCode;
@@ -30,6 +30,8 @@ const WRONG_COMMAND_LINE: u8 = 2;
 enum Ending {
     /// A fault of the command.
     Fault(Fault),
+    /// An event of a script that was refused, which the command has told.
+    Refused,
     /// A wrong command line, or one that asks for help or the version.
     CommandLine(clap::Error),
     /// A command line that is no UTF-8 text.
@@ -50,14 +52,19 @@ fn run<R: AllocGlobal + Env + Files<File = File> + Input + Print>(rt: &R) -> Res
     let alloc = rt.alloc();
     let reader = &mut rt.reader();
     let writer = &mut io::writer(rt);
-    let ended = match invocation {
+    let done = match invocation {
         Invocation::Answer(options) => run_answer(alloc, reader, writer, &options),
         Invocation::StoredAnswer(options) => {
             run_answer_stored(rt, alloc, reader, writer, &options)
         }
         Invocation::Name(options) => run_name(alloc, reader, writer, &options),
+        Invocation::Replay(options) => match run_replay(alloc, reader, writer, &options) {
+            Ok(Ended::Refused) => return Err(Ending::Refused),
+            Ok(Ended::Whole) => Ok(()),
+            Err(fault) => Err(fault),
+        },
     };
-    ended.map_err(Ending::Fault)
+    done.map_err(Ending::Fault)
 }
 
 /// The words of the command line, the first of which is the program's name.
@@ -77,6 +84,7 @@ fn report(rt: &(impl Print + Eprint), ending: Ending) -> ExitCode
 {
     match ending {
         Ending::Fault(fault) => fail(rt, fault),
+        Ending::Refused => ExitCode::from(FAULT),
         Ending::CommandLine(error) => report_parse(rt, error),
         Ending::NoText => {
             let _ = eprintln!(rt; "error: invalid UTF-8 was detected in one or more arguments");

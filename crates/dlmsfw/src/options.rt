@@ -2,10 +2,11 @@
 
 mod answer;
 mod name;
+mod replay;
 
 use clap::error::ErrorKind;
 use clap::{Arg, ArgMatches, Command, Error};
-use fw_cli::{AnswerOptions, NameOptions, StoredOptions};
+use fw_cli::{AnswerOptions, NameOptions, ReplayOptions, StoredOptions};
 use std::alloc::{AllocError, Global};
 
 /// A command with its options.
@@ -13,6 +14,7 @@ pub(crate) enum Invocation<'a> {
     Answer(AnswerOptions<'a>),
     StoredAnswer(StoredOptions<'a>),
     Name(NameOptions),
+    Replay(ReplayOptions<'a>),
 }
 
 /// What ends a short help.
@@ -40,6 +42,7 @@ fn found<'a>(matches: &ArgMatches<'a>) -> Option<Invocation<'a>> {
     match matches.subcommand()? {
         ("answer", given) => answer::invoked(given),
         ("name", given) => name::invoked(given),
+        ("replay", given) => Some(Invocation::Replay(replay::options(given)?)),
         _ => None,
     }
 }
@@ -49,11 +52,14 @@ fn dlmsfw<'a>(alloc: Global) -> Result<Command<'a>, AllocError> {
     Command::new(alloc, "dlmsfw")
         .bin_name("dlmsfw")?
         .version("0.1.0")
-        .about("COSEM firmware distribution: a meter that answers datagrams, and names of images")
+        .about(
+            "COSEM firmware distribution: a meter that answers datagrams, names of images, and scripts of campaigns",
+        )
         .after_help(STATUSES)
         .subcommand_required(true)
         .subcommand(answer::command(alloc)?)?
-        .subcommand(name::command(alloc)?)
+        .subcommand(name::command(alloc)?)?
+        .subcommand(replay::command(alloc)?)
 }
 
 /// An option with a value.

@@ -1,3 +1,4 @@
 pub mod Making
 pub mod Present
 pub mod Runs
+pub mod Ticks

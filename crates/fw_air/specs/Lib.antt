@@ -2,4 +2,6 @@
 pub mod Fates
 pub mod Rounds
 pub mod Schedules
+pub mod Ticks
+pub mod Laws
 pub mod Inside

@@ -3,6 +3,7 @@
 #![tactic(auto)]
 
 mod fates;
+pub mod laws;
 mod links;
 mod record;
 mod scheduling;

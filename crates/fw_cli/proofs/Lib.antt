@@ -1,7 +1,13 @@
 pub mod Described
 pub mod Digits
+pub mod FateLetters
 pub mod Honest
 pub mod LineLemmas
 pub mod NewStores
 pub mod OneAnswer
+pub mod OneScript
 pub mod Turns
+pub mod SaidKinds
+pub mod ScriptLemmas
+pub mod ScriptSteps
+pub mod WordLemmas

@@ -4,7 +4,7 @@ use Rattle.fw_store.specs.declared.error.FileStoreError.TheVariants as file
 use Rattle.fw_image.specs.declared.error.OpenError.{OpenError}
 use Rattle.fw_image.specs.declared.error.OpenError.TheVariants as opening
 use Rattle.fw_cli.specs.declared.fault.Fault.{Fault}
-use Rattle.fw_cli.specs.declared.fault.Fault.TheVariants.{BadSetup, StoreFault, Device, BadFile, BadHeader, BadImage, Input, TooMuchInput, BadLine, EmptyImage, ImageTooLong, Output, OutOfMemory}
+use Rattle.fw_cli.specs.declared.fault.Fault.TheVariants.{BadFates, BadSetup, StoreFault, Device, BadFile, BadHeader, BadImage, Input, TooMuchInput, BadLine, EmptyImage, ImageTooLong, Output, OutOfMemory}
 
 -- the faults that come before anything is read
 abbrev pub ComesBeforeInput : Fault → Type 0
@@ -63,3 +63,14 @@ abbrev pub fault_of_opening : OpenError → Fault
 fault_of_opening opening.Fault = Device
 fault_of_opening opening.BadHeader = BadHeader
 fault_of_opening opening.BadImage = BadImage
+
+-- the faults of `replay`
+abbrev pub IsOfReplay : Fault → Type 0
+IsOfReplay BadFates = Unit {0}
+IsOfReplay Input = Unit {0}
+IsOfReplay TooMuchInput = Unit {0}
+IsOfReplay (BadLine number) = Unit {0}
+IsOfReplay BadSetup = Unit {0}
+IsOfReplay Output = Unit {0}
+IsOfReplay OutOfMemory = Unit {0}
+IsOfReplay fault = ⊥

@@ -5,6 +5,7 @@ use Rattle.fw_cli.specs.declared.answer.AnswerOptions.{AnswerOptions}
 use Rattle.fw_cli.specs.Lines.{lines_of}
 use Rattle.fw_cli.specs.Options.{Describes}
 use Rattle.fw_cli.specs.Session.{AnswersLine, Session}
+use Rattle.fw_cli.specs.Script.{Script, SpellsScript, IsBadLine}
 
 -- a line holds no line feed
 abbrev pub IsLine : List ℕ → Type 0
@@ -27,3 +28,9 @@ OneAnswer = (options : AnswerOptions) (meter second : Meter) (input text other :
     → Describes options meter → Session AnswersLine meter input text bad_line
     → Describes options second → Session AnswersLine second input other another
     → (text ≡ other) × (bad_line ≡ another)
+
+-- An input is a script or has a bad line, and never both; and it is one script, or has one bad line.
+pub record OneScript : Type 0 where
+  pub one_script : (input : List ℕ) (script other : Script) → SpellsScript input script → SpellsScript input other → script ≡ other
+  pub never_both : (input : List ℕ) (script : Script) (number : ℕ) → SpellsScript input script → IsBadLine input number → ⊥
+  pub one_bad_line : (input : List ℕ) (number other : ℕ) → IsBadLine input number → IsBadLine input other → number ≡ other

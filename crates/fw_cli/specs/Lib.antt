@@ -6,4 +6,11 @@ pub mod Reading
 pub mod Faults
 pub mod Answering
 pub mod Naming
+pub mod Words
+pub mod Script
+pub mod Fates
+pub mod Report
+pub mod Replaying
 pub mod Laws
+-- For private clauses alone: no public clause cites it.
+pub mod Inside

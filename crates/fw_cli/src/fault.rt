@@ -12,7 +12,10 @@ use thiserror::Error;
 /// Why a command ended early. It prints its name, and of a bad line the number too.
 #[derive(Clone, Copy, Debug, PartialEq, Eq, Error)]
 pub enum Fault {
-    /// The options describe no meter.
+    /// The fates aren't 1 to 4,096 of the letters `d`, `x`, `t` and `l`.
+    #[error("BadFates")]
+    BadFates,
+    /// The options describe no meter, or a script no world.
     #[error("BadSetup")]
     BadSetup,
     /// The file of a store can't be made or opened.

@@ -1,6 +1,6 @@
 //! Laws of the definitions that the contracts cite. A caller cites a law by calling it: nothing is done.
 
-ghost use Rattle.fw_cli.specs.Laws.{LinesAreCut, OneAnswer};
+ghost use Rattle.fw_cli.specs.Laws.{LinesAreCut, OneAnswer, OneScript};
 
 /// A text is cut into the lines that it was made of, whether or not a line feed ends the last.
 pub fn lines_are_cut()
@@ -13,3 +13,8 @@ pub fn one_answer()
 {
     fw_meter::laws::one_answer();
 }
+
+/// An input is one script, or it has one bad line.
+pub fn one_script()
+    ensures { OneScript }
+{}

@@ -2,17 +2,24 @@
 #![tactic(auto)]
 
 mod answer;
+mod fates;
 mod fault;
 mod hexadecimal;
 mod input;
+mod item;
 pub mod laws;
 mod lines;
 mod name;
 mod reads;
+mod replay;
+mod report;
+mod script;
 mod serving;
 mod stored;
+mod words;
 
 pub use answer::{AnswerOptions, run_answer};
 pub use fault::Fault;
 pub use name::{NameOptions, run_name};
+pub use replay::{Ended, ReplayOptions, Rounds, run_replay};
 pub use stored::{StoredOptions, run_answer_stored};

@@ -3,7 +3,7 @@
 ghost use Rattle.std.specs.Prelude.{◌≡◌, IfErr, IfOk, map, take};
 ghost use Rattle.fw_world.specs.Headline.{IsFirstName, InitiatesAreOffered, NamesAreOwn, GoalsAreOffered, ActivationsAreSafe, ActivationsAreEqual};
 ghost use Rattle.fw_world.specs.Runs.{EndsIn, IsStopped, IsUnmade, events_of};
-ghost use Rattle.fw_world.specs.Setup.{opening_state};
+ghost use Rattle.fw_world.specs.Setup.{IsSetup, opening_state};
 ghost use Rattle.fw_world.specs.State.{StateRun, world_of};
 ghost use Rattle.fw_world.specs.Step.{Run};
 
@@ -65,6 +65,7 @@ impl Error for RunError {}
 pub fn run(alloc: Global, setup: &Setup, events: &[Event]) -> Result<World, RunError>
     ensures runs { IfOk result (λ w. StateRun (opening_state setup.now) (events_of events.now) w) }
     ensures world { IfOk result (λ w. Run (world_of (opening_state setup.now)) (events_of events.now) (world_of w)) }
+    ensures made { EndsIn result (λ w. IsSetup setup.now) }
     ensures stopped { IfErr result (IsStopped setup.now events.now) }
     ensures initiates { EndsIn result (λ w. InitiatesAreOffered (world_of w)) }
     ensures names { EndsIn result (λ w. NamesAreOwn (IsFirstName (world_of (opening_state setup.now))) (world_of w)) }

@@ -17,6 +17,8 @@ mod lines;
 #[cfg(test)]
 mod naming;
 #[cfg(test)]
+mod replaying;
+#[cfg(test)]
 mod restarts;
 #[cfg(test)]
 mod results;

@@ -12,6 +12,8 @@ mod report;
 #[cfg(test)]
 mod restarts;
 #[cfg(test)]
+mod schedules;
+#[cfg(test)]
 mod script;
 #[cfg(test)]
 mod setups;

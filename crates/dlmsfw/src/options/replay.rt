@@ -1,0 +1,99 @@
+//! The command `replay`, and its help.
+
+use super::{STATUSES, option};
+use clap::{ArgMatches, Command};
+use fw_cli::{ReplayOptions, Rounds};
+use std::alloc::{AllocError, Global};
+
+/// What the long help begins with.
+const ABOUT: &str = "\
+Replays a script of head ends and meters, and tells how each campaign ended.
+
+Standard input has the script, one line after another. Lines that say what there is stand before
+all others:
+
+  head H width W                            head end H, from 1 on, sends W blocks at a time, 1 to 15
+  meter M block B capacity C factory HEX    meter M takes blocks of B bytes, 1 to 1024, and images of
+                                            up to C bytes, 1 to 4194304, and runs the image HEX
+  open H S HEX M M ..                       head end H opens campaign S, from 1 on: the image HEX for
+                                            these meters
+  cancel H S                                it cancels that campaign
+  tick H M                                  it sends what it has for meter M now
+  deliver K K ..                            these datagrams come, one after another
+  stop K CALLS TORN                         datagram K comes to its meter, which stops behind so many
+                                            calls of its store and starts again; a block that it writes
+                                            then ends with bytes TORN, 0 to 255
+  restart-meter M, restart-head H           it starts again
+  turn M                                    meter M digests 4096 bytes more of what it verifies
+
+Datagrams are numbered from 0 in the order in which they are sent. Numbers are decimal, HEX is
+hexadecimal or `-` for no bytes, and one space parts two words. Empty lines and lines that begin with
+`#` are skipped.
+
+With --rounds and --fates so many rounds follow on each link of a head end and a meter. In a round what
+is late comes, the head end sends, and each datagram has its fate, by its number on the link: the
+letters of --fates, again and again. At its end a meter that verifies takes a turn.
+
+Standard output gets the report: `row H S M STATE` for each meter of each campaign, where STATE is live,
+done, failed or cancelled; `meter M status X active H S size N` with the image_transfer_status and the
+image that the meter runs, 0 0 for the one that it was made with; `activations N`, how often a meter
+switched to an image. Where an event is refused, the report of the world there and `refused AT NAME`,
+where AT is the number of the event, from 0 on. All input is read before anything is written.
+
+Example, a campaign for one meter:
+
+  printf '%s\\n' 'head 7 width 4' 'meter 1 block 2 capacity 64 factory 78' 'open 7 1 616263 1' |
+  ./dlmsfw replay --rounds 9 --fates d
+
+prints
+
+  row 7 1 1 done
+  meter 1 status 6 active 7 1 size 3
+  activations 1";
+
+/// What ends the long help.
+const ENDINGS: &str = "\
+Exit status:
+  0  no event was refused
+  1  an event was refused, which standard output tells, or a fault: standard error has
+     `dlmsfw: NAME`, with one of these names
+       BadFates      --fates isn't 1 to 4096 of the letters d, x, t and l; nothing was read
+       Input         standard input can't be read to its end
+       TooMuchInput  standard input has more than 64 MiB
+       BadLine L     line L, counted from 1, is none of the above, or stands too late; nothing was
+                     written
+       BadSetup      there isn't a head end and a meter, or there are more than 16 or 256, or a number
+                     stands twice or is out of range; nothing was written
+       Output        standard output can't be written
+       OutOfMemory   memory ran out; nothing was written
+  2  a wrong command line: standard error says what is wrong";
+
+/// The command.
+pub(super) fn command<'a>(alloc: Global) -> Result<Command<'a>, AllocError> {
+    Command::new(alloc, "replay")
+        .about("Replays a script of head ends and meters, and tells how each campaign ended")
+        .long_about(ABOUT)
+        .after_help(STATUSES)
+        .after_long_help(ENDINGS)
+        .arg(
+            option(alloc, "rounds", "R")
+                .requires_arg("fates")?
+                .help("How many rounds of each link follow, 1 to 100000")
+                .value_parser(clap::value_parser!(u32).range(1..=100_000)),
+        )?
+        .arg(
+            option(alloc, "fates", "F").requires_arg("rounds")?.help(
+                "The fates of datagrams: d it comes, x it is lost, t it comes twice, l it comes a round late",
+            ),
+        )
+}
+
+/// The options that were given. The parser lets neither pass without the other.
+pub(super) fn options<'a>(given: &ArgMatches<'a>) -> Option<ReplayOptions<'a>> {
+    let rounds = match (given.get_one("rounds"), given.get_str("fates")) {
+        (Some(rounds), Some(fates)) => Some(Rounds { rounds, fates }),
+        (None, None) => None,
+        _ => return None,
+    };
+    Some(ReplayOptions { rounds })
+}

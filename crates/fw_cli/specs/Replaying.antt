@@ -1,0 +1,134 @@
+-- Public vocabulary: what the command `replay` tells of a script, and what it does to its reader and its writer, where the bytes that these
+-- hold are known: what the reader has left before and after, and what the writer holds at first and at last.
+use Rattle.std.specs.Prelude.{◌≡◌, ◌≢◌, ◌⊎◌, ℕ, List, ◌++◌, Option, Some, None, codes, decimal}
+use Rattle.std.specs.Option.{option_map}
+use Rattle.std.specs.Io.KnownBytes.{Appends}
+use Rattle.fw_book.specs.declared.error.BookError.{BookError}
+use Rattle.fw_book.specs.declared.error.BookError.TheVariants as book
+use Rattle.fw_world.specs.declared.error.SetupError.TheVariants as unmade
+use Rattle.fw_world.specs.declared.error.StepError.{StepError}
+use Rattle.fw_world.specs.declared.error.StepError.TheVariants.{NoSuchDatagram, NoSuchActor, Book, OutOfMemory}
+use Rattle.fw_world.specs.declared.event.Event.{Event as Given}
+use Rattle.fw_world.specs.declared.runs.RunError.{RunError}
+use Rattle.fw_world.specs.declared.runs.RunError.TheVariants as stopped
+use Rattle.fw_world.specs.declared.setup.Setup.{Setup}
+use Rattle.fw_world.specs.Runs.{IsStopped, events_of}
+use Rattle.fw_world.specs.Setup.{IsSetup, opening_state}
+use Rattle.fw_world.specs.State.{State, StateRun}
+use Rattle.fw_world.specs.Step.{Event}
+use Rattle.fw_air.specs.Schedules.{IsUnscheduled, Schedules}
+use Rattle.fw_cli.specs.declared.replay.Ended.{Ended}
+use Rattle.fw_cli.specs.declared.replay.Ended.TheVariants.{Whole, Refused}
+use Rattle.fw_cli.specs.declared.replay.ReplayOptions.{ReplayOptions}
+use Rattle.fw_cli.specs.declared.replay.Rounds.{Rounds}
+use Rattle.fw_cli.specs.Fates.{SpellsSome}
+use Rattle.fw_cli.specs.Reading.{ReadsAll}
+use Rattle.fw_cli.specs.Report.{report_of}
+use Rattle.fw_cli.specs.Script.{SpellsScript, IsBadLine, script_of}
+
+-- ---- what is told
+
+abbrev pub refusal_name : BookError → List ℕ
+refusal_name book.ForeignHead = codes "ForeignHead"
+refusal_name book.SerialUsed = codes "SerialUsed"
+refusal_name book.EmptyImage = codes "EmptyImage"
+refusal_name book.ImageTooLong = codes "ImageTooLong"
+refusal_name book.NoMeters = codes "NoMeters"
+refusal_name book.TooManyMeters = codes "TooManyMeters"
+refusal_name book.MeterTwice = codes "MeterTwice"
+refusal_name book.MeterBusy = codes "MeterBusy"
+refusal_name book.NoSuchCampaign = codes "NoSuchCampaign"
+refusal_name book.WrongCampaign = codes "WrongCampaign"
+refusal_name book.NotLive = codes "NotLive"
+refusal_name book.BadBook = codes "BadBook"
+refusal_name book.OutOfMemory = codes "OutOfMemory"
+
+abbrev pub cause_name : StepError → List ℕ
+cause_name NoSuchDatagram = codes "NoSuchDatagram"
+cause_name NoSuchActor = codes "NoSuchActor"
+cause_name (Book refusal) = refusal_name refusal
+cause_name OutOfMemory = codes "OutOfMemory"
+
+-- the number of the event, from 0 on, and why it was refused
+abbrev pub refusal_line : ℕ → StepError → List ℕ
+refusal_line at cause = codes "refused " ++ (decimal at ++ (codes " " ++ (cause_name cause ++ codes "\n")))
+
+-- the report of the world there, and that line, where the cause isn't want of memory
+abbrev pub TellsRefusal : Setup → RunError → List ℕ → Type 0
+TellsRefusal setup (stopped.Setup error) text = ⊥
+TellsRefusal setup (stopped.Event at world cause) text = (cause ≢ OutOfMemory) × (text ≡ report_of setup world ++ refusal_line at cause)
+
+-- memory was wanted
+abbrev pub WantsMemory : RunError → Type 0
+WantsMemory (stopped.Setup error) = error ≡ unmade.OutOfMemory
+WantsMemory (stopped.Event number world cause) = cause ≡ OutOfMemory
+
+-- No world is made, or an event is refused before there is a round, and not for want of memory.
+pub record HasNoRound (setup : Setup) (given : List Event) : Type 0 where
+  pub error : RunError
+  pub stopped : IsUnscheduled setup given error
+  pub other : ¬ WantsMemory error
+
+-- the events that are run: those of the script, and so many rounds behind them where rounds are asked for
+abbrev pub GoesOn : Option ℕ → Setup → List Event → List Event → Type 0
+GoesOn None setup given events = events ≡ given
+GoesOn (Some rounds) setup given events = Schedules setup given rounds events ⊎ ((events ≡ given) × HasNoRound setup given)
+
+-- From a new world no event is refused, and the text is the report of the world behind the last one.
+pub record RunsWhole (setup : Setup) (events : List Given) (text : List ℕ) : Type 0 where
+  pub world : State
+  pub run : StateRun (opening_state setup) (events_of events) world
+  pub told : text ≡ report_of setup world
+
+-- An event is refused, and the text tells so.
+pub record IsRefusedIn (setup : Setup) (events : List Given) (text : List ℕ) : Type 0 where
+  pub error : RunError
+  pub stopped : IsStopped setup events error
+  pub told : TellsRefusal setup error text
+
+abbrev pub EndsSo : Ended → Setup → List Given → List ℕ → Type 0
+EndsSo Whole setup events text = RunsWhole setup events text
+EndsSo Refused setup events text = IsRefusedIn setup events text
+
+-- a world is made, and the run ends so
+abbrev pub TellsRun : Setup → List Given → Ended → List ℕ → Type 0
+TellsRun setup events ended text = IsSetup setup × EndsSo ended setup events text
+
+-- The input is a script, and its run ends so.
+pub record Tells (rounds : Option ℕ) (input : List ℕ) (ended : Ended) (text : List ℕ) : Type 0 where
+  pub setup : Setup
+  pub given : List Given
+  pub events : List Given
+  pub spelled : SpellsScript input (script_of setup given)
+  pub goes_on : GoesOn rounds setup (events_of given) (events_of events)
+  pub run : TellsRun setup events ended text
+
+-- the input is a script of which no world can be made
+abbrev pub MakesNone : List ℕ → Type 0
+MakesNone input = (setup : Setup) × (given : List Given) × SpellsScript input (script_of setup given) × ¬ IsSetup setup
+
+-- ---- what the command does
+
+-- rounds are asked for, with fates that their letters don't spell
+abbrev pub HasBadFates : Option Rounds → Type 0
+HasBadFates None = ⊥
+HasBadFates (Some rounds) = ¬ SpellsSome rounds.fates.now
+
+-- All input was read, and what is told of it was written.
+pub record WritesRun (rounds : Option ℕ) (ended : Ended) (before after first last : Option (List ℕ)) : Type 0 where
+  pub input : List ℕ
+  pub text : List ℕ
+  pub read : ReadsAll before after input
+  pub tells : Tells rounds input ended text
+  pub written : Appends first last text
+
+-- how many rounds are asked for
+abbrev pub rounds_asked : ReplayOptions → Option ℕ
+rounds_asked options = option_map (λ (asked : Rounds). asked.rounds) options.rounds
+
+abbrev pub Replays : ReplayOptions → Ended → Option (List ℕ) → Option (List ℕ) → Option (List ℕ) → Option (List ℕ) → Type 0
+Replays options ended before after first last = WritesRun (rounds_asked options) ended before after first last
+
+-- all input was read, and P holds of it
+abbrev pub ReadsOne : Option (List ℕ) → Option (List ℕ) → (List ℕ → Type 0) → Type 0
+ReadsOne before after P = (input : List ℕ) × ReadsAll before after input × P input

@@ -1,0 +1,297 @@
+//! What a line of a script says.
+
+ghost use Rattle.std.specs.Prelude.{◌≡◌, ◌≤◌, ℕ, List, IfSome, ◌∷◌, [], Some, None, map, option_map, IfOk, OnErr, IsSome, MatchOption};
+ghost use Rattle.fw_world.specs.Step.{deliver, open_campaign};
+ghost use Rattle.fw_world.specs.View.{event_of};
+ghost use Rattle.fw_world.specs.Runs.{events_of};
+ghost use Rattle.fw_cli.specs.Words.{words_of, at_end, numbers_of, bytes_said};
+ghost use Rattle.fw_cli.specs.Script.{head_item, meter_item, events_item, head_line, meter_line, open_line, deliver_line, cancel_line, tick_line, stop_line, restart_meter_line, restart_head_line, turn_line, item_of, event_line, head_of, meter_of};
+ghost use Rattle.fw_cli.specs.Inside.{item_read, words_behind};
+
+use crate::words::{
+    are_numbers, byte, bytes, bytes_said, first_word, from_one, is, keyword, number,
+};
+use fw_names::{CampaignId, HeadId, MeterId};
+use fw_world::{Event, HeadSetup, MeterSetup};
+use std::alloc::{AllocError, Global};
+
+/// What a line says.
+#[derive(Debug, Drop)]
+pub(crate) enum Item {
+    Head(HeadSetup),
+    Meter(MeterSetup),
+    Event(Event),
+    /// One or more, each of a datagram.
+    Deliveries(Vec<Event>),
+}
+
+/// What a line says, if it says anything. Memory is wanted only for what is said.
+pub(crate) fn item_of(alloc: Global, line: &[u8]) -> Result<Option<Item>, AllocError>
+    ensures ok { IfOk result (λ item. option_map item_read item ≡ item_of (words_of line.now)) }
+    ensures memory { OnErr result (IsSome (item_of (words_of line.now))) }
+{
+    let (first, rest) = first_word(line);
+    if is(first, b"head") {
+        return Ok(head_line(rest).map(Item::Head));
+    }
+    if is(first, b"meter") {
+        return Ok(meter_line(alloc, rest)?.map(Item::Meter));
+    }
+    if is(first, b"open") {
+        return Ok(open_line(alloc, rest)?.map(Item::Event));
+    }
+    if is(first, b"deliver") {
+        return Ok(deliver_line(alloc, rest)?.map(Item::Deliveries));
+    }
+    Ok(event_line(first, rest).map(Item::Event))
+}
+
+/// What a line says whose words say an event that holds no list.
+fn event_line(first: &[u8], rest: &[u8]) -> Option<Event>
+    ensures { option_map (λ event. events_item (event_of event ∷ [])) result ≡ event_line first.now (words_behind rest.now) }
+{
+    if is(first, b"cancel") {
+        return cancel_line(rest);
+    }
+    if is(first, b"tick") {
+        return tick_line(rest);
+    }
+    if is(first, b"stop") {
+        return stop_line(rest);
+    }
+    if is(first, b"restart-meter") {
+        return restart_meter_line(rest);
+    }
+    if is(first, b"restart-head") {
+        return restart_head_line(rest);
+    }
+    if is(first, b"turn") {
+        return turn_line(rest);
+    }
+    None
+}
+
+/// `head H width W`.
+fn head_line(rest: &[u8]) -> Option<HeadSetup>
+    ensures { option_map (λ head. head_item (head_of head)) result ≡ head_line (words_behind rest.now) }
+{
+    let (head, rest) = from_one(rest)?;
+    let rest = keyword(rest, b"width")?;
+    let (width, rest) = number(rest)?;
+    ends(rest)?;
+    let head = head_id(head);
+    Some(HeadSetup { head, width })
+}
+
+/// `meter M block B capacity C factory HEX`.
+fn meter_line(alloc: Global, rest: &[u8]) -> Result<Option<MeterSetup>, AllocError>
+    ensures ok { IfOk result (λ said. option_map (λ meter. meter_item (meter_of meter)) said ≡ meter_line (words_behind rest.now)) }
+    ensures memory { OnErr result (IsSome (meter_line (words_behind rest.now))) }
+{
+    let Some((meter, block_size, capacity, word)) = meter_words(rest) else {
+        return Ok(None);
+    };
+    let factory = bytes_said(alloc, word)?;
+    Ok(Some(MeterSetup {
+        meter: meter_id(meter),
+        block_size,
+        capacity,
+        factory,
+    }))
+}
+
+/// `M block B capacity C factory HEX`, with the word of the factory image.
+fn meter_words(rest: &[u8]) -> Option<(u32, u32, u32, &[u8])>
+    ensures { MatchOption result (meter_line (words_behind rest.now) ≡ None) (λ r. (factory : List ℕ) × (bytes_said r.3.now ≡ Some factory)
+        × (meter_line (words_behind rest.now)
+        ≡ Some (meter_item (record { number = r.0; block_size = r.1; capacity = r.2; factory = factory })))) }
+{
+    let (meter, rest) = number(rest)?;
+    let rest = keyword(rest, b"block")?;
+    let (block_size, rest) = number(rest)?;
+    let rest = keyword(rest, b"capacity")?;
+    let (capacity, rest) = number(rest)?;
+    let rest = keyword(rest, b"factory")?;
+    let (word, rest) = bytes(rest)?;
+    ends(rest)?;
+    Some((meter, block_size, capacity, word))
+}
+
+/// `open H S HEX M M ..`.
+fn open_line(alloc: Global, rest: &[u8]) -> Result<Option<Event>, AllocError>
+    ensures ok { IfOk result (λ said. option_map (λ event. events_item (event_of event ∷ [])) said ≡ open_line (words_behind rest.now)) }
+    ensures memory { OnErr result (IsSome (open_line (words_behind rest.now))) }
+{
+    let Some((head, serial, word, rest)) = open_words(rest) else {
+        return Ok(None);
+    };
+    let campaign = campaign_id(head, serial);
+    let image = bytes_said(alloc, word)?;
+    let meters = meters_of(alloc, rest)?;
+    Ok(Some(Event::OpenCampaign {
+        campaign,
+        image,
+        meters,
+    }))
+}
+
+/// `H S HEX`, with the word of the image and the text behind it, which is numbers.
+fn open_words(rest: &[u8]) -> Option<(u32, u32, &[u8], &[u8])>
+    ensures said { MatchOption result (open_line (words_behind rest.now) ≡ None) (λ r.
+        (image : List ℕ) × (meters : List ℕ) × (bytes_said r.2.now ≡ Some image) × (numbers_of (words_behind r.3.now) ≡ Some meters)
+        × (open_line (words_behind rest.now)
+        ≡ Some (events_item (open_campaign (record { head = r.0; serial = r.1 }) image meters ∷ [])))) }
+    ensures head { IfSome result (λ r. 1 ≤ r.0) }
+    ensures serial { IfSome result (λ r. 1 ≤ r.1) }
+{
+    let (head, rest) = from_one(rest)?;
+    let (serial, rest) = from_one(rest)?;
+    let (word, rest) = bytes(rest)?;
+    if are_numbers(rest) {
+        Some((head, serial, word, rest))
+    } else {
+        None
+    }
+}
+
+/// The meters whose numbers are left.
+fn meters_of(alloc: Global, rest: &[u8]) -> Result<Vec<MeterId>, AllocError>
+    requires { IsSome (numbers_of (words_behind rest.now)) }
+    ensures { IfOk result (λ meters. numbers_of (words_behind rest.now) ≡ Some meters.items) }
+{
+    let mut meters = Vec::new(alloc);
+    let mut left = rest;
+    while let Some((meter, after)) = number(left) {
+        meters.push(meter_id(meter))?;
+        left = after;
+    }
+    Ok(meters)
+}
+
+/// `deliver K K ..`.
+fn deliver_line(alloc: Global, rest: &[u8]) -> Result<Option<Vec<Event>>, AllocError>
+    ensures ok { IfOk result (λ said. option_map (λ events. events_item (events_of events.items)) said
+        ≡ deliver_line (words_behind rest.now)) }
+    ensures memory { OnErr result (IsSome (deliver_line (words_behind rest.now))) }
+{
+    if rest.is_empty() || !are_numbers(rest) {
+        return Ok(None);
+    }
+    Ok(Some(deliveries_of(alloc, rest)?))
+}
+
+/// A delivery for each number that is left.
+fn deliveries_of(alloc: Global, rest: &[u8]) -> Result<Vec<Event>, AllocError>
+    requires { IsSome (numbers_of (words_behind rest.now)) }
+    ensures { IfOk result (λ events. option_map (map deliver) (numbers_of (words_behind rest.now)) ≡ Some (events_of events.items)) }
+{
+    let mut events = Vec::new(alloc);
+    let mut left = rest;
+    while let Some((datagram, after)) = number(left) {
+        events.push(Event::Deliver(datagram as usize))?;
+        left = after;
+    }
+    Ok(events)
+}
+
+/// `cancel H S`.
+fn cancel_line(rest: &[u8]) -> Option<Event>
+    ensures { option_map (λ event. events_item (event_of event ∷ [])) result ≡ cancel_line (words_behind rest.now) }
+{
+    let (head, rest) = from_one(rest)?;
+    let (serial, rest) = from_one(rest)?;
+    ends(rest)?;
+    Some(Event::CancelCampaign(campaign_id(head, serial)))
+}
+
+/// `tick H M`.
+fn tick_line(rest: &[u8]) -> Option<Event>
+    ensures { option_map (λ event. events_item (event_of event ∷ [])) result ≡ tick_line (words_behind rest.now) }
+{
+    let (head, rest) = from_one(rest)?;
+    let (meter, rest) = number(rest)?;
+    ends(rest)?;
+    Some(Event::Tick(head_id(head), meter_id(meter)))
+}
+
+/// `stop K CALLS TORN`.
+fn stop_line(rest: &[u8]) -> Option<Event>
+    ensures { option_map (λ event. events_item (event_of event ∷ [])) result ≡ stop_line (words_behind rest.now) }
+{
+    let (datagram, rest) = number(rest)?;
+    let (calls, rest) = number(rest)?;
+    let (torn, rest) = byte(rest)?;
+    ends(rest)?;
+    Some(Event::Stop {
+        datagram: datagram as usize,
+        calls: u64::from(calls),
+        torn,
+    })
+}
+
+/// `restart-meter M`.
+fn restart_meter_line(rest: &[u8]) -> Option<Event>
+    ensures { option_map (λ event. events_item (event_of event ∷ [])) result ≡ restart_meter_line (words_behind rest.now) }
+{
+    let (meter, rest) = number(rest)?;
+    ends(rest)?;
+    Some(Event::RestartMeter(meter_id(meter)))
+}
+
+/// `restart-head H`.
+fn restart_head_line(rest: &[u8]) -> Option<Event>
+    ensures { option_map (λ event. events_item (event_of event ∷ [])) result ≡ restart_head_line (words_behind rest.now) }
+{
+    let (head, rest) = from_one(rest)?;
+    ends(rest)?;
+    Some(Event::RestartHead(head_id(head)))
+}
+
+/// `turn M`.
+fn turn_line(rest: &[u8]) -> Option<Event>
+    ensures { option_map (λ event. events_item (event_of event ∷ [])) result ≡ turn_line (words_behind rest.now) }
+{
+    let (meter, rest) = number(rest)?;
+    ends(rest)?;
+    Some(Event::Turn(meter_id(meter)))
+}
+
+/// Nothing, where no word is left.
+fn ends(rest: &[u8]) -> Option<()>
+    ensures { result ≡ at_end (words_behind rest.now) }
+{
+    if rest.is_empty() { Some(()) } else { None }
+}
+
+/// The head end with this number.
+fn head_id(number: u32) -> HeadId
+    requires { 1 ≤ number }
+    ensures { result ≡ number }
+{
+    match HeadId::new(number) {
+        Some(head) => head,
+        None => unreachable!(),
+    }
+}
+
+/// The meter with this number.
+fn meter_id(number: u32) -> MeterId
+    ensures { result ≡ number }
+{
+    match MeterId::new(number) {
+        Some(meter) => meter,
+        None => unreachable!(),
+    }
+}
+
+/// The campaign with these numbers.
+fn campaign_id(head: u32, serial: u32) -> CampaignId
+    requires head { 1 ≤ head }
+    requires serial { 1 ≤ serial }
+    ensures { result ≡ record { head = head; serial = serial } }
+{
+    match CampaignId::new(head_id(head), serial) {
+        Some(campaign) => campaign,
+        None => unreachable!(),
+    }
+}

@@ -1,0 +1,303 @@
+//! The command `replay`: a script is run, and the report of its world is told.
+
+ghost use Rattle.std.specs.Prelude.{◌≡◌, ◌≢◌, ◌<◌, ◌≤◌, ◌⊎◌, ◌↔◌, ◌++◌, ℕ, List, length, IsTrue, IfOk, IfErr, OnOk, IfSome, string_bytes};
+ghost use Rattle.std.specs.Io.KnownBytes.{Keeps};
+ghost use Rattle.fw_world.specs.Runs.{events_of};
+ghost use Rattle.fw_world.specs.Setup.{IsSetup};
+ghost use Rattle.fw_air.specs.Fates.{IsFates};
+ghost use Rattle.fw_cli.specs.Fates.{SpellsSome};
+ghost use Rattle.fw_cli.specs.Faults.{IsOfReplay};
+ghost use Rattle.fw_cli.specs.Reading.{Gives, ReadsAll, max_input};
+ghost use Rattle.fw_cli.specs.Inside.{rounds_in};
+ghost use Rattle.fw_cli.specs.Report.{report_of};
+ghost use Rattle.fw_cli.specs.Script.{IsBadLine};
+ghost use Rattle.fw_cli.specs.Replaying.{Replays, WritesRun, ReadsOne, HasBadFates, MakesNone, Tells, TellsRun, TellsRefusal, GoesOn, WantsMemory, refusal_line, refusal_name, cause_name};
+
+use crate::fates::read_fates;
+use crate::fault::Fault;
+use crate::input::read_input;
+use crate::reads::Reads;
+use crate::report::report;
+use crate::script::{Script, read_script};
+use fw_air::{Fate, Fates, schedule};
+use fw_book::BookError;
+use fw_world::{Event, RunError, Setup, SetupError, StepError, World, run};
+use std::alloc::{AllocError, Global};
+use std::io::{Read, Write};
+
+/// The options of the command.
+#[derive(Clone, Copy, Debug)]
+pub struct ReplayOptions<'a> {
+    /// The rounds that follow the events of the script, if any do.
+    pub rounds: Option<Rounds<'a>>,
+}
+
+/// Rounds of all links: in each of them a head end sends to a meter, and each datagram has its fate.
+#[derive(Clone, Copy, Debug)]
+pub struct Rounds<'a> {
+    /// How many there are of each link.
+    pub rounds: u32,
+    /// The fates of the datagrams of a link, a letter each, 1 to 4,096 of them, which are repeated: `d` it comes, `x` it is lost, `t` it
+    /// comes twice, `l` it comes at the beginning of the next round.
+    pub fates: &'a str,
+}
+
+/// How the run of a script ended.
+#[derive(Clone, Copy, Debug, PartialEq, Eq)]
+pub enum Ended {
+    /// With its last event.
+    Whole,
+    /// With an event that was refused, for another cause than want of memory.
+    Refused,
+}
+
+/// Rounds, with the fates of their datagrams.
+#[derive(Drop)]
+struct Air {
+    rounds: u32,
+    fates: Vec<Fate>,
+}
+
+/// What is told of a run.
+#[derive(Drop)]
+struct Told {
+    ended: Ended,
+    text: String,
+}
+
+/// Runs the script that the reader has, and behind its events the rounds that are asked for. The writer gets the report of the world
+/// behind the last event. Where an event is refused, it gets that of the world there, and the line `refused AT NAME`.
+///
+/// All input is read before anything is written, and what is written is flushed.
+///
+/// # Errors
+///
+/// - `BadFates`: the fates aren't 1 to 4,096 of their letters. Nothing was read.
+/// - `Input` or `TooMuchInput`, whichever the reading meets first.
+/// - `BadLine`: this line can't go on with the script that the lines before it begin.
+/// - `BadSetup`: no world can be made of the setup.
+/// - `Output`: the writer failed. What it holds then is open.
+/// - `OutOfMemory`: nothing was written, and no more than 64 MiB were read.
+pub fn run_replay<R: Read, W: Write>(
+    alloc: Global,
+    reader: &mut R,
+    writer: &mut W,
+    options: &ReplayOptions<'_>,
+) -> Result<Ended, Fault>
+    // The report of the whole run, or of the run up to the event that is refused.
+    ensures ok { IfOk result (λ ended. Replays options.now ended (R.remaining reader.old) (R.remaining reader.new)
+        (W.contents writer.old) (W.contents writer.new)) }
+
+    // Bad fates are refused before anything is read, and no others are.
+    ensures bad_fates { result ≡ Err Fault.BadFates → HasBadFates options.now.rounds }
+    ensures fates_refused { HasBadFates options.now.rounds → result ≡ Err Fault.BadFates }
+    ensures fates_first { HasBadFates options.now.rounds → Keeps (R.remaining reader.old) (R.remaining reader.new) }
+
+    // What the script is refused for.
+    ensures bad_line { (number : ℕ) → result ≡ Err (Fault.BadLine number)
+        → ReadsOne (R.remaining reader.old) (R.remaining reader.new) (λ input. IsBadLine input number) }
+    ensures bad_setup { result ≡ Err Fault.BadSetup → ReadsOne (R.remaining reader.old) (R.remaining reader.new) MakesNone }
+
+    // How far the reading was.
+    ensures input { result ≡ Err Fault.Input
+        → Gives (R.remaining reader.old) (R.remaining reader.new) (λ count. count ≤ max_input) }
+    ensures too_much_input { result ≡ Err Fault.TooMuchInput
+        → Gives (R.remaining reader.old) (R.remaining reader.new) (λ count. max_input < count) }
+    ensures output { result ≡ Err Fault.Output
+        → (input : List ℕ) × ReadsAll (R.remaining reader.old) (R.remaining reader.new) input }
+    ensures out_of_memory { result ≡ Err Fault.OutOfMemory
+        → Gives (R.remaining reader.old) (R.remaining reader.new) (λ count. count ≤ max_input) }
+
+    ensures only { IfErr result IsOfReplay }
+    ensures silent { IfErr result (λ f. f ≢ Fault.Output → Keeps (W.contents writer.old) (W.contents writer.new)) }
+{
+    let air = match &options.rounds {
+        Some(rounds) => Some(air_of(alloc, rounds)?),
+        None => None,
+    };
+    replay_from(alloc, reader, writer, &air)
+}
+
+/// The rounds with their fates.
+fn air_of(alloc: Global, rounds: &Rounds<'_>) -> Result<Air, Fault>
+    ensures ok { IfOk result (λ air. IsFates air.fates.items) }
+    ensures rounds { IfOk result (λ air. air.rounds ≡ rounds.now.rounds) }
+    ensures spelled { IfOk result (λ air. SpellsSome rounds.now.fates.now) }
+    ensures bad_fates { result ≡ Err Fault.BadFates → ¬ SpellsSome rounds.now.fates.now }
+    ensures memory { result ≡ Err Fault.OutOfMemory → SpellsSome rounds.now.fates.now }
+    ensures only { IfErr result (λ f. (f ≡ Fault.BadFates) ⊎ (f ≡ Fault.OutOfMemory)) }
+{
+    Ok(Air {
+        rounds: rounds.rounds,
+        fates: read_fates(alloc, rounds.fates.as_bytes())?,
+    })
+}
+
+/// Runs the script that the reader has, and writes what is told of it.
+fn replay_from<R: Read, W: Write>(
+    alloc: Global,
+    reader: &mut R,
+    writer: &mut W,
+    air: &Option<Air>,
+) -> Result<Ended, Fault>
+    requires fates { IfSome air.now (λ air. IsFates air.fates.items) }
+    ensures ok { IfOk result (λ ended. WritesRun (rounds_in air.now) ended (R.remaining reader.old) (R.remaining reader.new)
+        (W.contents writer.old) (W.contents writer.new)) }
+    ensures not_fates { result ≢ Err Fault.BadFates }
+    ensures bad_line { (number : ℕ) → result ≡ Err (Fault.BadLine number)
+        → ReadsOne (R.remaining reader.old) (R.remaining reader.new) (λ input. IsBadLine input number) }
+    ensures bad_setup { result ≡ Err Fault.BadSetup → ReadsOne (R.remaining reader.old) (R.remaining reader.new) MakesNone }
+    ensures input { result ≡ Err Fault.Input
+        → Gives (R.remaining reader.old) (R.remaining reader.new) (λ count. count ≤ max_input) }
+    ensures too_much_input { result ≡ Err Fault.TooMuchInput
+        → Gives (R.remaining reader.old) (R.remaining reader.new) (λ count. max_input < count) }
+    ensures output { result ≡ Err Fault.Output
+        → (input : List ℕ) × ReadsAll (R.remaining reader.old) (R.remaining reader.new) input }
+    ensures out_of_memory { result ≡ Err Fault.OutOfMemory
+        → Gives (R.remaining reader.old) (R.remaining reader.new) (λ count. count ≤ max_input) }
+    ensures only { IfErr result IsOfReplay }
+    ensures silent { IfErr result (λ f. f ≢ Fault.Output → Keeps (W.contents writer.old) (W.contents writer.new)) }
+{
+    let mut reads = Reads::none();
+    let input = read_input(alloc, reader, &mut reads)?;
+    let told = replay(alloc, &input, air)?;
+    writer
+        .write_all(told.text.as_bytes())
+        .map_err(|_| Fault::Output)?;
+    writer.flush().map_err(|_| Fault::Output)?;
+    Ok(told.ended)
+}
+
+/// What is told of a script.
+fn replay(alloc: Global, input: &[u8], air: &Option<Air>) -> Result<Told, Fault>
+    requires size { length input.now ≤ max_input }
+    requires fates { IfSome air.now (λ air. IsFates air.fates.items) }
+    ensures ok { IfOk result (λ told. Tells (rounds_in air.now) input.now told.ended (string_bytes told.text)) }
+    ensures bad_line { (number : ℕ) → result ≡ Err (Fault.BadLine number) → IsBadLine input.now number }
+    ensures bad_setup { result ≡ Err Fault.BadSetup → MakesNone input.now }
+    ensures only { IfErr result (λ f. (f ≡ Fault.OutOfMemory) ⊎ ((f ≡ Fault.BadSetup) ⊎ ((number : ℕ) × (f ≡ Fault.BadLine number)))) }
+{
+    let Script { setup, events } = read_script(alloc, input)?;
+    let events = with_rounds(alloc, &setup, events, air)?;
+    tell_run(alloc, &setup, &events)
+}
+
+/// The events of a script, and behind them those of the rounds. Where a given event is refused no round is made: the run is refused there.
+fn with_rounds(
+    alloc: Global,
+    setup: &Setup,
+    events: Vec<Event>,
+    air: &Option<Air>,
+) -> Result<Vec<Event>, Fault>
+    requires fates { IfSome air.now (λ air. IsFates air.fates.items) }
+    ensures ok { IfOk result (λ all. GoesOn (rounds_in air.now) setup.now (events_of events.items) (events_of all.items)) }
+    ensures err { IfErr result (λ f. f ≡ Fault.OutOfMemory) }
+{
+    let Some(air) = air else {
+        return Ok(events);
+    };
+    let Some(fates) = Fates::new(&air.fates) else {
+        unreachable!()
+    };
+    match schedule(alloc, setup, &events, air.rounds, &fates) {
+        Ok(all) => Ok(all),
+        Err(error) if wants_memory(&error) => Err(Fault::OutOfMemory),
+        Err(_) => Ok(events),
+    }
+}
+
+/// Whether a run ended for want of memory.
+fn wants_memory(error: &RunError) -> bool
+    ensures { IsTrue result ↔ WantsMemory error.now }
+{
+    matches!(
+        error,
+        RunError::Setup(SetupError::OutOfMemory)
+            | RunError::Event {
+                cause: StepError::OutOfMemory,
+                ..
+            }
+    )
+}
+
+/// What is told of a run over these events.
+fn tell_run(alloc: Global, setup: &Setup, events: &[Event]) -> Result<Told, Fault>
+    ensures ok { IfOk result (λ told. TellsRun setup.now events.now told.ended (string_bytes told.text)) }
+    ensures bad_setup { result ≡ Err Fault.BadSetup → ¬ IsSetup setup.now }
+    ensures memory { result ≡ Err Fault.OutOfMemory → IsSetup setup.now }
+    ensures only { IfErr result (λ f. (f ≡ Fault.OutOfMemory) ⊎ (f ≡ Fault.BadSetup)) }
+{
+    match run(alloc, setup, events) {
+        Ok(world) => Ok(Told {
+            ended: Ended::Whole,
+            text: report(alloc, setup, &world)?,
+        }),
+        Err(error) => tell_refusal(alloc, setup, error),
+    }
+}
+
+/// What is told of a run that ended early.
+fn tell_refusal(alloc: Global, setup: &Setup, error: RunError) -> Result<Told, Fault>
+    ensures ok { IfOk result (λ told. (told.ended ≡ Ended.Refused) × TellsRefusal setup.now error (string_bytes told.text)) }
+    ensures bad_setup { result ≡ Err Fault.BadSetup → error ≡ RunError.Setup SetupError.BadSetup }
+    ensures memory { result ≡ Err Fault.OutOfMemory → error ≢ RunError.Setup SetupError.BadSetup }
+    ensures only { IfErr result (λ f. (f ≡ Fault.OutOfMemory) ⊎ (f ≡ Fault.BadSetup)) }
+{
+    match error {
+        RunError::Setup(SetupError::BadSetup) => Err(Fault::BadSetup),
+        RunError::Setup(SetupError::OutOfMemory) => Err(Fault::OutOfMemory),
+        RunError::Event {
+            cause: StepError::OutOfMemory,
+            ..
+        } => Err(Fault::OutOfMemory),
+        RunError::Event { at, world, cause } => {
+            let mut text = report(alloc, setup, &world)?;
+            append_refusal(&mut text, at, cause)?;
+            Ok(Told {
+                ended: Ended::Refused,
+                text,
+            })
+        }
+    }
+}
+
+/// Appends the line that tells which event was refused, and why.
+fn append_refusal(text: &mut String, at: usize, cause: StepError) -> Result<(), AllocError>
+    ensures { OnOk result (string_bytes text.new ≡ string_bytes text.old ++ refusal_line at cause) }
+{
+    let name = cause_name(cause);
+    write!(text, "refused {at} {name}\n")
+}
+
+/// The name of what an event was refused for.
+fn cause_name(cause: StepError) -> &'static str
+    ensures { result.now ≡ cause_name cause }
+{
+    match cause {
+        StepError::NoSuchDatagram => "NoSuchDatagram",
+        StepError::NoSuchActor => "NoSuchActor",
+        StepError::Book(refusal) => refusal_name(refusal),
+        StepError::OutOfMemory => "OutOfMemory",
+    }
+}
+
+/// The name of a book's refusal.
+fn refusal_name(refusal: BookError) -> &'static str
+    ensures { result.now ≡ refusal_name refusal }
+{
+    match refusal {
+        BookError::ForeignHead => "ForeignHead",
+        BookError::SerialUsed => "SerialUsed",
+        BookError::EmptyImage => "EmptyImage",
+        BookError::ImageTooLong => "ImageTooLong",
+        BookError::NoMeters => "NoMeters",
+        BookError::TooManyMeters => "TooManyMeters",
+        BookError::MeterTwice => "MeterTwice",
+        BookError::MeterBusy => "MeterBusy",
+        BookError::NoSuchCampaign => "NoSuchCampaign",
+        BookError::WrongCampaign => "WrongCampaign",
+        BookError::NotLive => "NotLive",
+        BookError::BadBook => "BadBook",
+        BookError::OutOfMemory => "OutOfMemory",
+    }
+}
