@@ -10,10 +10,15 @@
 //!   of verify and its turns, and that of the digest of the same bytes alone, in nanoseconds.
 //! - `events METERS SIZE`: the events are made of a campaign that brings an image of so many bytes `a` to so many meters. `world`
 //!   makes a world by them too. `paced` does the same, with a line before: the processor time of that, in nanoseconds.
+//! - `open METERS SIZE`: a setup is made, and the opening of a campaign that brings an image of so many bytes `a` to so many meters.
+//!   `schedule` makes the schedule of the campaign too, and counts its events. `scheduled` does the same, with a line before: the
+//!   processor time of that, in nanoseconds.
 #![tactic(auto)]
 
+mod campaign;
 mod codec;
 mod meter;
+mod schedule;
 mod verify;
 mod world;
 
@@ -48,6 +53,9 @@ fn measure(rt: &HostRuntime, line: &str) -> Result<u64> {
         "events" => world::count(rt.alloc(), first, second),
         "world" => world::measure(rt, first, second, false),
         "paced" => world::measure(rt, first, second, true),
+        "open" => schedule::open(rt.alloc(), first, second),
+        "schedule" => schedule::measure(rt, first, second, false),
+        "scheduled" => schedule::measure(rt, first, second, true),
         _ => bail!("no load has this name"),
     }
 }

@@ -1,14 +1,12 @@
 //! A campaign for many meters, from its opening to where all of them are done.
 
+use crate::campaign::{head, opening, setup_of};
 use anyhow::{Context, Result, bail};
 use fw_image::TransferStatus;
-use fw_names::{CampaignId, HeadId, MeterId};
-use fw_world::{Event, HeadSetup, MeterSetup, Setup, World, run};
+use fw_names::MeterId;
+use fw_world::{Event, Setup, World, run};
 use std::alloc::Global;
 use std::time::CpuClock;
-
-/// Bytes of each block.
-const BLOCK_SIZE: u32 = 1024;
 
 /// How many blocks the head end sends at a time.
 const WIDTH: u32 = 15;
@@ -18,14 +16,14 @@ const MANY: u32 = 4096;
 
 /// How many events the campaign of an image of so many bytes `a` for so many meters has.
 pub fn count(alloc: Global, meters: u32, size: u32) -> Result<u64> {
-    let setup = setup_of(alloc, meters, size)?;
+    let setup = setup_of(alloc, meters, size, WIDTH)?;
     let events = events_of(alloc, &setup, size)?;
     Ok(events.len() as u64)
 }
 
 /// Makes the same events, and then a world by them. Counts them.
 pub fn measure(rt: &HostRuntime, meters: u32, size: u32, timed: bool) -> Result<u64> {
-    let setup = setup_of(rt.alloc(), meters, size)?;
+    let setup = setup_of(rt.alloc(), meters, size, WIDTH)?;
     let events = events_of(rt.alloc(), &setup, size)?;
     let start = rt.thread_cpu_time()?;
     let ended = run(rt.alloc(), &setup, &events);
@@ -42,32 +40,6 @@ pub fn measure(rt: &HostRuntime, meters: u32, size: u32, timed: bool) -> Result<
     Ok(events.len() as u64)
 }
 
-fn head() -> Result<HeadId> {
-    HeadId::new(7).context("a head end")
-}
-
-/// One head end, and so many meters that have room for the image.
-fn setup_of(alloc: Global, meters: u32, size: u32) -> Result<Setup> {
-    let mut setups = Vec::new(alloc);
-    for number in 0..meters {
-        setups.push(MeterSetup {
-            meter: MeterId::new(number).context("a meter")?,
-            block_size: BLOCK_SIZE,
-            capacity: size,
-            factory: b"a".to_vec(alloc)?,
-        })?;
-    }
-    let mut heads = Vec::new(alloc);
-    heads.push(HeadSetup {
-        head: head()?,
-        width: WIDTH,
-    })?;
-    Ok(Setup {
-        heads,
-        meters: setups,
-    })
-}
-
 /// The campaign's events. In each round the head end ticks the meters in their order, and both ends hear at once what is sent.
 fn events_of(alloc: Global, setup: &Setup, size: u32) -> Result<Vec<Event>> {
     let mut world = World::new(alloc, setup)?;
@@ -82,18 +54,6 @@ fn events_of(alloc: Global, setup: &Setup, size: u32) -> Result<Vec<Event>> {
         }
     }
     bail!("the campaign has no end");
-}
-
-fn opening(alloc: Global, setup: &Setup, size: u32) -> Result<Event> {
-    let mut meters = Vec::new(alloc);
-    for meter in &setup.meters {
-        meters.push(meter.meter)?;
-    }
-    Ok(Event::OpenCampaign {
-        campaign: CampaignId::new(head()?, 1).context("a campaign")?,
-        image: vec![in alloc; b'a'; size as usize]?,
-        meters,
-    })
 }
 
 fn is_live(world: &World) -> Result<bool> {

@@ -8,11 +8,13 @@ use Rattle.fw_image.specs.Meter.{Meter}
 use Rattle.fw_world.specs.declared.datagram.Direction.{Direction}
 use Rattle.fw_world.specs.declared.datagram.Direction.TheVariants.{ToMeter, ToHead}
 use Rattle.fw_world.specs.declared.error.StepError.{StepError}
-use Rattle.fw_world.specs.Laws.{ActorsStay}
+use Rattle.fw_world.specs.Laws.{ActorsStay, SentStaysAddressed}
 use Rattle.fw_world.specs.Refusals.{refusal_of, with_head, with_meter, with_datagram, no_addressee}
-use Rattle.fw_world.specs.State.{State, IsState, IsAddressed, StateStep, DeliversAt, head_at, meter_at}
+use Rattle.fw_world.specs.State.{State, IsAddressed, AreAddressed, StateStep, DeliversAt, head_at, meter_at}
 use Rattle.fw_world.specs.Step.{Event, open_campaign, cancel_campaign, tick, deliver, stop, restart_meter, restart_head, turn}
 use Rattle.fw_world.specs.World.{Datagram}
+use Rattle.fw_world.specs.declared.setup.Setup.{Setup}
+use Rattle.fw_world.specs.Setup.{opening_state}
 use Rattle.fw_air.specs.declared.links.Waiting.{Waiting}
 use Rattle.fw_air.specs.Inside.{AreSent, IsThere, link_of}
 use Rattle.fw_air.specs.Rounds.{AdmittedRun, Link}
@@ -31,12 +33,12 @@ addressee_there : (s : State) (d : Datagram) (way : Direction) → IsAddressed s
 addressee_there s d ToMeter a = with_one (meter_at s d.meter) a.1
 addressee_there s d ToHead a = with_other (head_at s d.head) (λ head. None) a.0 (λ head. refl)
 
-pub delivery_admitted : (s : State) (number : ℕ) → IsState s → number < length s.sent → refusal_of s (deliver number) ≡ None
-delivery_admitted s number state inside =
+pub delivery_admitted : (s : State) (number : ℕ) → AreAddressed s → number < length s.sent → refusal_of s (deliver number) ≡ None
+delivery_admitted s number addressed inside =
     let d0 : Datagram = record { head = 0; meter = 0; direction = ToMeter; bytes = [] } in
     let d : Datagram = slice_index_or s.sent number d0 in
     let there : slice_get s.sent number ≡ Some d = slice_get-get_or s.sent number d0 inside in
-    ap (λ (o : Option Datagram). with_datagram o (λ d. no_addressee s d.direction d)) there ∙ addressee_there s d d.direction (state.addressed number d0 inside)
+    ap (λ (o : Option Datagram). with_datagram o (λ d. no_addressee s d.direction d)) there ∙ addressee_there s d d.direction (addressed number d0 inside)
 
 pub tick_admitted : (s : State) (head meter : ℕ) → IsTrue (is_some (head_at s head)) → IsTrue (is_some (meter_at s meter)) → refusal_of s (tick head meter) ≡ None
 tick_admitted s head meter h m = with_other (head_at s head) (λ head. with_meter (meter_at s meter)) h (λ head. with_one (meter_at s meter) m)
@@ -99,6 +101,15 @@ module _ (stay : ActorsStay) where
 
   pub all_still_there : (old new : State) (events : List Event) (links : List Waiting) → AdmittedRun old events new → All (IsThere old) links → All (IsThere new) links
   all_still_there old new events links r there k d inside = still_there old new events (slice_index_or links k d) r (there k d inside)
+
+-- ---- both ends of what was sent are there
+
+pub run_addressed : SentStaysAddressed → (old new : State) (events : List Event) → AdmittedRun old events new → AreAddressed old → AreAddressed new
+run_addressed stay old new [] r addressed = subst AreAddressed (sym r) addressed
+run_addressed stay old new (event ∷ events) r addressed = run_addressed stay r.0 new events r.2 (stay old r.0 event r.1.1 addressed)
+
+pub opening_addressed : (setup : Setup) → AreAddressed (opening_state setup)
+opening_addressed setup = All-nil (IsAddressed (opening_state setup))
 
 -- ---- numbers below a bound
 

@@ -1,19 +1,22 @@
 -- Runs that nothing refuses: what they keep, and how they follow one another.
-use Rattle.std.proofs.Common.{◌≡◌, ℕ, ◌+◌, ◌<◌, ◌≤◌, length, slice_get, slice_index_or, drop, take, arith, List, [], ◌∷◌, ◌++◌, map, Some, ◌⊎◌, Result, Ok, Err, refl, sym, ap, subst, ◌∙◌, append_assoc}
-use Rattle.std.proofs.lemmas.List.{append-nil, drop_all, drop_more, get_or-map, length-map, length-take, map-append, take_more}
-use Rattle.std.proofs.lemmas.Option.{slice_get-get_or}
+use Rattle.std.proofs.Common.{◌≡◌, ℕ, zero, suc, ◌+◌, ◌<◌, ◌≤◌, length, slice_get, slice_index_or, drop, take, arith, List, [], ◌∷◌, ◌++◌, map, Some, inl, inr, Result, Ok, Err, refl, sym, ap, subst, ◌∙◌, append_assoc}
+use Rattle.std.proofs.lemmas.List.{append-nil, drop_all, drop_more, get_or-map, length-map, map-append, take_all}
+use Rattle.std.specs.List.{AllZip}
 use Rattle.std.specs.Prelude.{OnOk, OnErr, IfErr, IsErrAnd}
 use Rattle.fw_world.specs.declared.error.StepError.{StepError}
 use Rattle.fw_world.specs.declared.error.StepError.TheVariants.{OutOfMemory}
 use Rattle.fw_world.specs.declared.event.Event.{Event as Given}
-use Rattle.fw_world.specs.Refusals.{refusal_of}
+use Rattle.fw_world.specs.declared.runs.RunError.TheVariants as stopped
+use Rattle.fw_world.specs.declared.setup.Setup.{Setup}
+use Rattle.fw_world.specs.Refusals.{IsRefused}
 use Rattle.fw_world.specs.Runs.{events_of}
+use Rattle.fw_world.specs.Setup.{opening_state}
 use Rattle.fw_world.specs.State.{State}
 use Rattle.fw_world.specs.Step.{Event, deliver, tick}
 use Rattle.fw_world.specs.View.{event_of}
-use Rattle.fw_air.specs.Inside.{Recorded, Follows, GoesOn}
-use Rattle.fw_air.specs.Rounds.{AdmittedRun, Link, IsLinkRound, OneByOne, last_turn}
-use Rattle.fw_air.specs.Schedules.{IsCutAt}
+use Rattle.fw_air.specs.Inside.{Recorded, Follows, GoesOn, MakesRounds}
+use Rattle.fw_air.specs.Rounds.{Admits, AdmittedRun, Link, IsLinkRound, OneByOne, last_turn}
+use Rattle.fw_air.specs.Schedules.{IsUnscheduled, Runs, Schedules}
 
 pub run_append : (old mid new : State) (xs ys : List Event) → AdmittedRun old xs mid → AdmittedRun mid ys new → AdmittedRun old (xs ++ ys) new
 run_append old mid new [] ys r s = subst (λ (w : State). AdmittedRun w ys new) r s
@@ -97,30 +100,73 @@ none_left f xs all i e past = let same = ap (λ l. length l) e in drop_all i all
 
 -- ---- the given events
 
-pub next_event : (events : List Given) (i : ℕ) (event copy : Given) → i < length events → event ≡ slice_index_or events i event → event_of copy ≡ event_of event
-    → take (i + 1) (events_of events) ≡ take i (events_of events) ++ event_of copy ∷ []
-next_event events i event copy inside is same =
-    let long : i < length (events_of events) = omega (arith, inside, length-map events event_of) in
-    let here : slice_index_or (events_of events) i (event_of event) ≡ event_of copy = get_or-map event_of events i event (event_of event) inside ∙ ap event_of (sym is) ∙ sym same in
-    take_more (events_of events) i (event_of event) long ∙ ap (λ x. take i (events_of events) ++ x ∷ []) here
+pub event_at : (events : List Given) (at : ℕ) (other event : Given) → at < length events → event ≡ slice_index_or events at other → slice_get (events_of events) at ≡ Some (event_of event)
+event_at [] at other event inside is = absurd (omega arith)
+event_at (first ∷ events) zero other event inside is = ap (λ e. Some (event_of e)) (sym is)
+event_at (first ∷ events) (suc at) other event inside is = event_at events at other event (omega arith) is
 
-pub so_long : (events : List Given) (i : ℕ) → i < length events → length (take i (events_of events)) ≡ i
-so_long events i inside = let cut = length-take i (events_of events) in omega (arith, cut, inside, length-map events event_of)
+so_long : (given : List Event) (at : ℕ) (event : Event) → slice_get given at ≡ Some event → length (take at given) ≡ at
+so_long [] at event e = absurd cc
+so_long (first ∷ given) zero event e = refl
+so_long (first ∷ given) (suc at) event e = ap suc (so_long given at event e)
 
-pub cut_at : (events : List Given) (i : ℕ) (event : Given) (world : State) (cause : StepError) → i < length events → event ≡ slice_index_or events i event
-    → (refusal_of world (event_of event) ≡ Some cause) ⊎ (cause ≡ OutOfMemory) → IsCutAt (events_of events) (length (take i (events_of events))) world cause
-cut_at events i event world cause inside is refused = record {
-  event = event_of event;
-  there =
-      let long : i < length (events_of events) = omega (arith, inside, length-map events event_of) in
-      ap (slice_get (events_of events)) (so_long events i inside)
-      ∙ slice_get-get_or (events_of events) i (event_of event) long
-      ∙ ap Some (get_or-map event_of events i event (event_of event) inside ∙ ap event_of (sym is));
-  refused = refused;
-}
+one_more : (given : List Event) (at : ℕ) (event : Event) → slice_get given at ≡ Some event → take (at + 1) given ≡ take at given ++ event ∷ []
+one_more [] at event e = absurd cc
+one_more (first ∷ given) zero event e = let same : first ≡ event = cc in ap (λ x. x ∷ []) same
+one_more (first ∷ given) (suc at) event e =
+    let next : suc at + 1 ≡ suc (at + 1) = omega arith in
+    ap (λ n. take n (first ∷ given)) next ∙ ap (λ xs. first ∷ xs) (one_more given at event e)
 
-pub same_take : (events : List Given) (i : ℕ) → i < length events → take i (events_of events) ≡ take (length (take i (events_of events))) (events_of events)
-same_take events i inside = ap (λ n. take n (events_of events)) (sym (so_long events i inside))
+pub run_on : (given : List Event) (at : ℕ) (event : Event) (old mid new : State) → slice_get given at ≡ Some event → AdmittedRun old (take at given) mid → Admits mid event new
+    → AdmittedRun old (take (at + 1) given) new
+run_on given at event old mid new there run step =
+    subst (λ es. AdmittedRun old es new) (sym (one_more given at event there)) (run_append old mid new (take at given) (event ∷ []) run (new, step, refl))
+
+pub whole : (given : List Event) (at : ℕ) (old new : State) → length given ≤ at → AdmittedRun old (take at given) new → AdmittedRun old given new
+whole given at old new past run = subst (λ es. AdmittedRun old es new) (take_all at given past) run
+
+pub cut_there : (setup : Setup) (given : List Event) (at : ℕ) (event : Event) (old new : State) (cause : StepError) → slice_get given at ≡ Some event → AdmittedRun (opening_state setup) (take at given) old
+    → new ≡ old → IsRefused old event cause → IsUnscheduled setup given (stopped.Event at new cause)
+cut_there setup given at event old new cause there run same refused =
+    let long = so_long given at event there in (
+      take at given,
+      long,
+      subst (AdmittedRun (opening_state setup) (take at given)) (sym same) run,
+      inl (
+        ap (λ n. take n given) (sym long),
+        record { event = event; there = ap (slice_get given) long ∙ there; refused = subst (λ w. IsRefused w event cause) (sym same) refused },
+      ),
+    )
+
+-- ---- copies
+
+pub same_events : (events copies : List Given) → AllZip (λ event copy. event_of copy ≡ event_of event) events copies → events_of copies ≡ events_of events
+same_events [] [] h = refl
+same_events [] (copy ∷ copies) h = absurd h
+same_events (event ∷ events) [] h = absurd h
+same_events (event ∷ events) (copy ∷ copies) h = ap (λ e. e ∷ events_of copies) h.0 ∙ ap (λ es. event_of event ∷ es) (same_events events copies h.1)
+
+-- ---- behind the given events
+
+pub scheduled : (setup : Setup) (given : List Event) (rounds : ℕ) (world : State) (list : List Event) (old new : Recorded) → old ≡ record { world = world; events = given } → AdmittedRun (opening_state setup) given world
+    → MakesRounds setup rounds old new → list ≡ new.events → Schedules setup given rounds list × Runs setup list
+scheduled setup given rounds world list old new is run made same =
+    let all : list ≡ given ++ made.events = same ∙ made.follows.noted ∙ ap (λ (r : Recorded). r.events ++ made.events) is in
+    let before : AdmittedRun (opening_state setup) given old.world = subst (AdmittedRun (opening_state setup) given) (sym (ap (λ (r : Recorded). r.world) is)) run in (
+      record { middle = old.world; end = new.world; behind = made.events; begins = all; given_run = before; rounds_run = made.rounds_run },
+      (new.world, subst (λ es. AdmittedRun (opening_state setup) es new.world) (sym all) (run_append (opening_state setup) old.world new.world given made.events before made.follows.run)),
+    )
+
+pub cut_behind : (setup : Setup) (given : List Event) (number : ℕ) (world : State) (cause : StepError) (old new : Recorded) → old ≡ record { world = world; events = given } → AdmittedRun (opening_state setup) given world
+    → GoesOn old new → number ≡ length new.events → cause ≡ OutOfMemory → IsUnscheduled setup given (stopped.Event number new.world cause)
+cut_behind setup given number world cause old new is run on long memory =
+    let all : new.events ≡ given ++ on.0 = on.1.noted ∙ ap (λ (r : Recorded). r.events ++ on.0) is in
+    let before : AdmittedRun (opening_state setup) given old.world = subst (AdmittedRun (opening_state setup) given) (sym (ap (λ (r : Recorded). r.world) is)) run in (
+      new.events,
+      sym long,
+      subst (λ es. AdmittedRun (opening_state setup) es new.world) (sym all) (run_append (opening_state setup) old.world new.world given on.0 before on.1.run),
+      inr (on.0, all, memory),
+    )
 
 -- ---- what is told of an error
 

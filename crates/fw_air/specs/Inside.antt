@@ -34,10 +34,8 @@ pub record IsThere (s : State) (waiting : Waiting) : Type 0 where
   pub meter : IsTrue (is_some (meter_at s waiting.meter))
   pub late : AreSent s waiting.late.items
 
--- the given events happened, and behind them so many rounds of the links that there were then
-pub record IsRecorded (setup : Setup) (given : List Event) (rounds : ℕ) (old new : Recorded) : Type 0 where
-  pub middle : State
-  pub behind : List Event
-  pub follows : Follows old (given ++ behind) new
-  pub given_run : AdmittedRun old.world given middle
-  pub rounds_run : OneByOne IsRound (replicate rounds (links setup middle)) middle behind new.world
+-- so many rounds happened, of the links that there were before them
+pub record MakesRounds (setup : Setup) (rounds : ℕ) (old new : Recorded) : Type 0 where
+  pub events : List Event
+  pub follows : Follows old events new
+  pub rounds_run : OneByOne IsRound (replicate rounds (links setup old.world)) old.world events new.world

@@ -4,4 +4,6 @@ pub mod Rounds
 pub mod Schedules
 pub mod Ticks
 pub mod Laws
+pub mod Logs
 pub mod Inside
+pub mod Parts

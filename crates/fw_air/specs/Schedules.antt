@@ -5,9 +5,9 @@ use Rattle.fw_world.specs.declared.error.StepError.TheVariants.{OutOfMemory}
 use Rattle.fw_world.specs.declared.runs.RunError.{RunError}
 use Rattle.fw_world.specs.declared.runs.RunError.TheVariants as stopped
 use Rattle.fw_world.specs.declared.setup.Setup.{Setup}
-use Rattle.fw_world.specs.Refusals.{refusal_of}
+use Rattle.fw_world.specs.Refusals.{IsRefused}
 use Rattle.fw_world.specs.Runs.{IsUnmade}
-use Rattle.fw_world.specs.Setup.{opening_state}
+use Rattle.fw_world.specs.Setup.{IsSetup, opening_state}
 use Rattle.fw_world.specs.State.{State}
 use Rattle.fw_world.specs.Step.{Event}
 use Rattle.fw_air.specs.Rounds.{AdmittedRun, OneByOne, IsRound, links}
@@ -25,14 +25,14 @@ pub record Schedules (setup : Setup) (given : List Event) (rounds : ℕ) (events
 abbrev pub Runs : Setup → List Event → Type 0
 Runs setup events = (world : State) × AdmittedRun (opening_state setup) events world
 
--- the event of this number is refused for this cause, or memory was
+-- the event of this number is refused for this cause
 pub record IsCutAt (given : List Event) (number : ℕ) (world : State) (cause : StepError) : Type 0 where
   pub event : Event
   pub there : slice_get given number ≡ Some event
-  pub refused : (refusal_of world event ≡ Some cause) ⊎ (cause ≡ OutOfMemory)
+  pub refused : IsRefused world event cause
 
--- The world is that of these events. They are the given ones before one that is refused, or go on behind all given ones; there memory alone
--- is refused.
+-- The world is that of these events. They are the given ones before one that is refused, or all given ones, which may go on; there memory
+-- alone is refused.
 abbrev pub IsCut : List Event → List Event → State → StepError → Type 0
 IsCut given events world cause =
     ((events ≡ take (length events) given) × IsCutAt given (length events) world cause)
@@ -43,3 +43,8 @@ abbrev pub IsUnscheduled : Setup → List Event → RunError → Type 0
 IsUnscheduled setup given (stopped.Setup error) = IsUnmade setup error
 IsUnscheduled setup given (stopped.Event number world cause) =
     (events : List Event) × (length events ≡ number) × AdmittedRun (opening_state setup) events world × IsCut given events world cause
+
+-- an event is refused only in a world that could be made
+abbrev pub IsOfWorld : Setup → RunError → Type 0
+IsOfWorld setup (stopped.Setup error) = Unit {0}
+IsOfWorld setup (stopped.Event number world cause) = IsSetup setup

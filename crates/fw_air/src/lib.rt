@@ -5,8 +5,12 @@
 mod fates;
 pub mod laws;
 mod links;
+mod log;
 mod record;
 mod scheduling;
+mod shared;
 
 pub use fates::{Fate, Fates, MAX_FATES};
+pub use log::{Entry, Log, MAX_ADDED, Room, Sent};
 pub use scheduling::schedule;
+pub use shared::SharedLog;

@@ -1,6 +1,6 @@
 //! A world, and all events that made it.
 
-ghost use Rattle.std.specs.Prelude.{◌≡◌, ◌⊎◌, ℕ, ◌<◌, ◌≤◌, ◌++◌, ◌∷◌, [], List, All, Some, None, is_some, IsTrue, false, IfErr, OnOk, OnErr, length, map, take, replicate};
+ghost use Rattle.std.specs.Prelude.{◌≡◌, ℕ, ◌<◌, ◌≤◌, ◌++◌, ◌∷◌, [], List, All, None, is_some, IsTrue, false, IfErr, OnOk, OnErr, length, map, replicate};
 ghost use Rattle.fw_world.specs.declared.error.StepError.TheVariants.{OutOfMemory};
 ghost use Rattle.fw_world.specs.declared.runs.RunError.TheVariants as stopped;
 ghost use Rattle.fw_world.specs.Refusals.{refusal_of};
@@ -10,7 +10,6 @@ ghost use Rattle.fw_world.specs.Step.{Event as Given, deliver, tick, turn};
 ghost use Rattle.fw_world.specs.View.{event_of};
 ghost use Rattle.fw_air.specs.Inside.{AreSent, Follows, GoesOn, IsThere, link_of};
 ghost use Rattle.fw_air.specs.Rounds.{IsLinkRound, IsRound, OneByOne, last_turn};
-ghost use Rattle.fw_air.specs.Schedules.{IsCutAt};
 
 use crate::fates::Fates;
 use crate::links::Waiting;
@@ -40,22 +39,27 @@ impl Model for Record {
     ghost coded = { Prim.hlevel (codes, code, cells_code) };
 
     ghost view = { λ r. record { world = r.world; events = events_of r.events.items } };
+
+    ghost use Rattle.fw_world.specs.State.{AreAddressed};
+
+    ghost invariant = { λ r. AreAddressed r.world };
 }
 
 impl Record {
-    /// No event.
-    pub(crate) fn new(alloc: Global, world: World) -> Record
-        ensures { result ≡ record { world = world; events = [] } }
+    ghost use Rattle.fw_world.specs.State.{AreAddressed};
+
+    /// A world, and the events that led to it. Each datagram was sent between a head end and a meter that are there.
+    pub(crate) fn new(world: World, events: Vec<Event>) -> Record
+        requires { AreAddressed world }
+        ensures { result ≡ record { world = world; events = events_of events.items } }
     {
-        Record {
-            world,
-            events: Vec::new(alloc),
-        }
+        Record { world, events }
     }
 
     /// The world.
     pub(crate) fn world(&self) -> &World
-        ensures { result.now ≡ self.now.world }
+        ensures value { result.now ≡ self.now.world }
+        ensures addressed { AreAddressed result.now }
     {
         &self.world
     }
@@ -78,20 +82,6 @@ impl Record {
         }
     }
 
-    /// An event.
-    fn make(&mut self, alloc: Global, event: Event) -> Result<(), StepError>
-        ensures made { OnOk result (Follows self.old (event_of event ∷ []) self.new) }
-        ensures refused { IfErr result (λ e. (refusal_of self.old.world (event_of event) ≡ Some e) ⊎ (e ≡ OutOfMemory)) }
-        ensures same { OnErr result (self.new ≡ self.old) }
-    {
-        self.events.reserve(1)?;
-        self.world.step(alloc, &event)?;
-        match self.events.push(event) {
-            Ok(()) => Ok(()),
-            Err(_) => unreachable!(),
-        }
-    }
-
     /// An event that is refused for nothing but memory.
     fn admit(&mut self, alloc: Global, event: Event) -> Result<(), StepError>
         requires { refusal_of self.old.world (event_of event) ≡ None }
@@ -99,20 +89,13 @@ impl Record {
         ensures memory { IfErr result (λ e. e ≡ OutOfMemory) }
         ensures same { OnErr result (self.new ≡ self.old) }
     {
-        self.make(alloc, event)
-    }
-
-    /// The given events.
-    pub(crate) fn make_all(&mut self, alloc: Global, events: &[Event]) -> Result<(), StepError>
-        ensures all { OnOk result (Follows self.old (events_of events.now) self.new) }
-        ensures cut { IfErr result (λ cause. (made : List Given) × Follows self.old made self.new
-            × (made ≡ take (length made) (events_of events.now)) × IsCutAt (events_of events.now) (length made) self.new.world cause) }
-    {
-        for event in events {
-            let event = event.clone()?;
-            self.make(alloc, event)?;
+        laws::sent_stays_addressed();
+        self.events.reserve(1)?;
+        self.world.step(alloc, &event)?;
+        match self.events.push(event) {
+            Ok(()) => Ok(()),
+            Err(_) => unreachable!(),
         }
-        Ok(())
     }
 
     /// These datagrams come.
@@ -136,7 +119,7 @@ impl Record {
         ensures same { OnErr result (self.new ≡ self.old) }
     {
         // Called for its clause: both ends of each link on which something was sent are in the world.
-        let _sent = self.world.sent();
+        let _world = self.world();
         self.admit(alloc, Event::Deliver(datagram))
     }
 

@@ -1,10 +1,12 @@
 //! The events of a run over the air.
 
-ghost use Rattle.std.specs.Prelude.{IfErr, IfOk, OnOk, List};
+ghost use Rattle.std.specs.Prelude.{◌≡◌, IfErr, IfOk, OnOk};
 ghost use Rattle.fw_world.specs.Runs.{events_of};
-ghost use Rattle.fw_world.specs.Step.{Event as Given};
-ghost use Rattle.fw_air.specs.Inside.{Follows, IsRecorded};
-ghost use Rattle.fw_air.specs.Schedules.{IsCut, IsUnscheduled, Runs, Schedules};
+ghost use Rattle.fw_world.specs.Setup.{IsSetup, opening_state};
+ghost use Rattle.fw_world.specs.declared.error.StepError.TheVariants.{OutOfMemory};
+ghost use Rattle.fw_air.specs.Inside.{GoesOn, MakesRounds};
+ghost use Rattle.fw_air.specs.Rounds.{AdmittedRun};
+ghost use Rattle.fw_air.specs.Schedules.{IsOfWorld, IsUnscheduled, Runs, Schedules};
 
 use crate::fates::Fates;
 use crate::links::links_of;
@@ -14,12 +16,13 @@ use std::alloc::Global;
 
 /// The given events, and behind them those of so many rounds of each link: round follows round, and in each the links go by head
 /// ends and then by meters, in the order of the setup. A link is a head end and a meter that stands in its book after the given
-/// events, also where its rows have all ended. `run` over the list is refused at no event, but for want of memory. Behind the given
-/// events each link has as many ticks as there are rounds, and any other two numbers have none: `laws::ticks_each`.
+/// events, also where its rows have all ended. `run` over the list is refused at no event, but for want of memory, and ends in the
+/// world of these rounds; where no given event is a stop, `laws::none_refused` and `laws::one_world` say so. Behind the given events
+/// each link has as many ticks as there are rounds, and any other two numbers have none: `laws::ticks_each`.
 ///
 /// # Errors
 ///
-/// As for `run` of the given events, and want of memory at a later event.
+/// As for `run` of the given events. Behind them want of memory alone, with the world there and the number of events that made it.
 pub fn schedule(
     alloc: Global,
     setup: &Setup,
@@ -30,32 +33,55 @@ pub fn schedule(
     ensures schedule { IfOk result (λ list. Schedules setup.now (events_of events.now) rounds (events_of list.items)) }
     ensures runs { IfOk result (λ list. Runs setup.now (events_of list.items)) }
     ensures refused { IfErr result (IsUnscheduled setup.now (events_of events.now)) }
+    ensures made { IfErr result (IsOfWorld setup.now) }
 {
-    let world = match World::new(alloc, setup) {
-        Ok(world) => world,
-        Err(error) => return Err(RunError::Setup(error)),
+    fw_world::laws::sent_stays_addressed();
+    let world = world_behind(alloc, setup, events)?;
+    let Ok(list) = events.to_vec(alloc) else {
+        return Err(RunError::Event {
+            at: events.len(),
+            world,
+            cause: StepError::OutOfMemory,
+        });
     };
-    let mut made = Record::new(alloc, world);
-    match record_all(alloc, &mut made, setup, events, rounds, fates) {
+    let mut made = Record::new(world, list);
+    match make_rounds(alloc, &mut made, setup, rounds, fates) {
         Ok(()) => Ok(made.into_events()),
         Err(cause) => Err(made.refused(cause)),
     }
 }
 
-/// Makes the given events, and then the rounds.
-fn record_all(
+/// The world that the given events lead to.
+fn world_behind(alloc: Global, setup: &Setup, events: &[Event]) -> Result<World, RunError>
+    ensures run { IfOk result (λ world. AdmittedRun (opening_state setup.now) (events_of events.now) world) }
+    ensures setup { OnOk result (IsSetup setup.now) }
+    ensures refused { IfErr result (IsUnscheduled setup.now (events_of events.now)) }
+    ensures made { IfErr result (IsOfWorld setup.now) }
+{
+    let mut world = match World::new(alloc, setup) {
+        Ok(world) => world,
+        Err(error) => return Err(RunError::Setup(error)),
+    };
+    for at in 0..events.len() {
+        if let Err(cause) = world.step(alloc, &events[at]) {
+            return Err(RunError::Event { at, world, cause });
+        }
+    }
+    Ok(world)
+}
+
+/// So many rounds of all links.
+fn make_rounds(
     alloc: Global,
     made: &mut Record,
     setup: &Setup,
-    events: &[Event],
     rounds: u32,
     fates: &Fates<'_>,
 ) -> Result<(), StepError>
-    ensures all { OnOk result (IsRecorded setup.now (events_of events.now) rounds made.old made.new) }
-    ensures cut { IfErr result (λ cause. (so_far : List Given) × Follows made.old so_far made.new
-        × IsCut (events_of events.now) so_far made.new.world cause) }
+    ensures all { OnOk result (MakesRounds setup.now rounds made.old made.new) }
+    ensures memory { IfErr result (λ e. e ≡ OutOfMemory) }
+    ensures goes_on { GoesOn made.old made.new }
 {
-    made.make_all(alloc, events)?;
     let mut links = links_of(alloc, setup, made.world())?;
     made.rounds(alloc, &mut links, rounds, fates)
 }

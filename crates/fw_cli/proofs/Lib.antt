@@ -6,6 +6,8 @@ pub mod LineLemmas
 pub mod NewStores
 pub mod OneAnswer
 pub mod OneScript
+pub mod OneTrace
+pub mod Traces
 pub mod Turns
 pub mod SaidKinds
 pub mod ScriptLemmas

@@ -1,11 +1,13 @@
 -- Public vocabulary: what the laws say.
 use Rattle.std.specs.Prelude.{◌≡◌, ◌≢◌, ℕ, List, [], ◌∷◌, ◌++◌, Option, All}
 use Rattle.fw_image.specs.Meter.{Meter}
+use Rattle.fw_world.specs.World.{Datagram}
 use Rattle.fw_cli.specs.declared.answer.AnswerOptions.{AnswerOptions}
 use Rattle.fw_cli.specs.Lines.{lines_of}
 use Rattle.fw_cli.specs.Options.{Describes}
 use Rattle.fw_cli.specs.Session.{AnswersLine, Session}
 use Rattle.fw_cli.specs.Script.{Script, SpellsScript, IsBadLine}
+use Rattle.fw_cli.specs.Trace.{IsTrace}
 
 -- a line holds no line feed
 abbrev pub IsLine : List ℕ → Type 0
@@ -34,3 +36,7 @@ pub record OneScript : Type 0 where
   pub one_script : (input : List ℕ) (script other : Script) → SpellsScript input script → SpellsScript input other → script ≡ other
   pub never_both : (input : List ℕ) (script : Script) (number : ℕ) → SpellsScript input script → IsBadLine input number → ⊥
   pub one_bad_line : (input : List ℕ) (number other : ℕ) → IsBadLine input number → IsBadLine input other → number ≡ other
+
+-- What was sent has one trace.
+abbrev pub OneTrace : Type 0
+OneTrace = (sent : List Datagram) (text other : List ℕ) → IsTrace sent text → IsTrace sent other → text ≡ other

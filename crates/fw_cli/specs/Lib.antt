@@ -10,6 +10,7 @@ pub mod Words
 pub mod Script
 pub mod Fates
 pub mod Report
+pub mod Trace
 pub mod Replaying
 pub mod Laws
 -- For private clauses alone: no public clause cites it.

@@ -1,8 +1,8 @@
 -- Public vocabulary: what the command `replay` tells of a script, and what it does to its reader and its writer, where the bytes that these
 -- hold are known: what the reader has left before and after, and what the writer holds at first and at last.
-use Rattle.std.specs.Prelude.{◌≡◌, ◌≢◌, ◌⊎◌, ℕ, List, ◌++◌, Option, Some, None, codes, decimal}
+use Rattle.std.specs.Prelude.{◌≡◌, ◌≢◌, ◌≤◌, ◌⊎◌, ℕ, Bool, true, false, List, [], ◌++◌, Option, Some, None, codes, decimal}
 use Rattle.std.specs.Option.{option_map}
-use Rattle.std.specs.Io.KnownBytes.{Appends}
+use Rattle.std.specs.Io.KnownBytes.{Appends, Keeps}
 use Rattle.fw_book.specs.declared.error.BookError.{BookError}
 use Rattle.fw_book.specs.declared.error.BookError.TheVariants as book
 use Rattle.fw_world.specs.declared.error.SetupError.TheVariants as unmade
@@ -16,15 +16,17 @@ use Rattle.fw_world.specs.Runs.{IsStopped, events_of}
 use Rattle.fw_world.specs.Setup.{IsSetup, opening_state}
 use Rattle.fw_world.specs.State.{State, StateRun}
 use Rattle.fw_world.specs.Step.{Event}
+use Rattle.fw_world.specs.World.{Datagram}
 use Rattle.fw_air.specs.Schedules.{IsUnscheduled, Schedules}
 use Rattle.fw_cli.specs.declared.replay.Ended.{Ended}
 use Rattle.fw_cli.specs.declared.replay.Ended.TheVariants.{Whole, Refused}
 use Rattle.fw_cli.specs.declared.replay.ReplayOptions.{ReplayOptions}
 use Rattle.fw_cli.specs.declared.replay.Rounds.{Rounds}
 use Rattle.fw_cli.specs.Fates.{SpellsSome}
-use Rattle.fw_cli.specs.Reading.{ReadsAll}
+use Rattle.fw_cli.specs.Reading.{Gives, ReadsAll, max_input}
 use Rattle.fw_cli.specs.Report.{report_of}
-use Rattle.fw_cli.specs.Script.{SpellsScript, IsBadLine, script_of}
+use Rattle.fw_cli.specs.Trace.{IsTrace}
+use Rattle.fw_cli.specs.Script.{SpellsScript, BeginsScript, script_of}
 
 -- ---- what is told
 
@@ -53,10 +55,20 @@ cause_name OutOfMemory = codes "OutOfMemory"
 abbrev pub refusal_line : ℕ → StepError → List ℕ
 refusal_line at cause = codes "refused " ++ (decimal at ++ (codes " " ++ (cause_name cause ++ codes "\n")))
 
--- the report of the world there, and that line, where the cause isn't want of memory
-abbrev pub TellsRefusal : Setup → RunError → List ℕ → Type 0
-TellsRefusal setup (stopped.Setup error) text = ⊥
-TellsRefusal setup (stopped.Event at world cause) text = (cause ≢ OutOfMemory) × (text ≡ report_of setup world ++ refusal_line at cause)
+-- the trace of what was sent, where it is asked for
+abbrev pub IsTraceIf : Bool → List Datagram → List ℕ → Type 0
+IsTraceIf true sent text = IsTrace sent text
+IsTraceIf false sent text = text ≡ []
+
+-- the report of a world behind that
+abbrev pub TellsWorld : Bool → Setup → State → List ℕ → Type 0
+TellsWorld traced setup world text = (trace : List ℕ) × IsTraceIf traced world.sent trace × (text ≡ trace ++ report_of setup world)
+
+-- what is told of the world there, and that line, where the cause isn't want of memory
+abbrev pub TellsRefusal : Bool → Setup → RunError → List ℕ → Type 0
+TellsRefusal traced setup (stopped.Setup error) text = ⊥
+TellsRefusal traced setup (stopped.Event at world cause) text =
+    (cause ≢ OutOfMemory) × ((there : List ℕ) × TellsWorld traced setup world there × (text ≡ there ++ refusal_line at cause))
 
 -- memory was wanted
 abbrev pub WantsMemory : RunError → Type 0
@@ -74,38 +86,46 @@ abbrev pub GoesOn : Option ℕ → Setup → List Event → List Event → Type 
 GoesOn None setup given events = events ≡ given
 GoesOn (Some rounds) setup given events = Schedules setup given rounds events ⊎ ((events ≡ given) × HasNoRound setup given)
 
--- From a new world no event is refused, and the text is the report of the world behind the last one.
-pub record RunsWhole (setup : Setup) (events : List Given) (text : List ℕ) : Type 0 where
+-- From a new world no event is refused, and the text tells of the world behind the last one.
+pub record RunsWhole (traced : Bool) (setup : Setup) (events : List Given) (text : List ℕ) : Type 0 where
   pub world : State
   pub run : StateRun (opening_state setup) (events_of events) world
-  pub told : text ≡ report_of setup world
+  pub told : TellsWorld traced setup world text
 
 -- An event is refused, and the text tells so.
-pub record IsRefusedIn (setup : Setup) (events : List Given) (text : List ℕ) : Type 0 where
+pub record IsRefusedIn (traced : Bool) (setup : Setup) (events : List Given) (text : List ℕ) : Type 0 where
   pub error : RunError
   pub stopped : IsStopped setup events error
-  pub told : TellsRefusal setup error text
+  pub told : TellsRefusal traced setup error text
 
-abbrev pub EndsSo : Ended → Setup → List Given → List ℕ → Type 0
-EndsSo Whole setup events text = RunsWhole setup events text
-EndsSo Refused setup events text = IsRefusedIn setup events text
+abbrev pub EndsSo : Ended → Bool → Setup → List Given → List ℕ → Type 0
+EndsSo Whole traced setup events text = RunsWhole traced setup events text
+EndsSo Refused traced setup events text = IsRefusedIn traced setup events text
 
 -- a world is made, and the run ends so
-abbrev pub TellsRun : Setup → List Given → Ended → List ℕ → Type 0
-TellsRun setup events ended text = IsSetup setup × EndsSo ended setup events text
+abbrev pub TellsRun : Bool → Setup → List Given → Ended → List ℕ → Type 0
+TellsRun traced setup events ended text = IsSetup setup × EndsSo ended traced setup events text
 
 -- The input is a script, and its run ends so.
-pub record Tells (rounds : Option ℕ) (input : List ℕ) (ended : Ended) (text : List ℕ) : Type 0 where
+pub record Tells (rounds : Option ℕ) (traced : Bool) (input : List ℕ) (ended : Ended) (text : List ℕ) : Type 0 where
   pub setup : Setup
   pub given : List Given
   pub events : List Given
   pub spelled : SpellsScript input (script_of setup given)
   pub goes_on : GoesOn rounds setup (events_of given) (events_of events)
-  pub run : TellsRun setup events ended text
+  pub run : TellsRun traced setup events ended text
 
 -- the input is a script of which no world can be made
 abbrev pub MakesNone : List ℕ → Type 0
 MakesNone input = (setup : Setup) × (given : List Given) × SpellsScript input (script_of setup given) × ¬ IsSetup setup
+
+-- the input is a script of which a world can be made
+abbrev pub MakesOne : List ℕ → Type 0
+MakesOne input = (setup : Setup) × (given : List Given) × SpellsScript input (script_of setup given) × IsSetup setup
+
+-- Memory may be wanted for a line that the script goes on with, and for the world of a script that makes one.
+abbrev pub MayTakeMemory : List ℕ → Type 0
+MayTakeMemory input = BeginsScript input ⊎ MakesOne input
 
 -- ---- what the command does
 
@@ -114,12 +134,17 @@ abbrev pub HasBadFates : Option Rounds → Type 0
 HasBadFates None = ⊥
 HasBadFates (Some rounds) = ¬ SpellsSome rounds.fates.now
 
+-- rounds are asked for, with fates that their letters spell
+abbrev pub HasGoodFates : Option Rounds → Type 0
+HasGoodFates None = ⊥
+HasGoodFates (Some rounds) = SpellsSome rounds.fates.now
+
 -- All input was read, and what is told of it was written.
-pub record WritesRun (rounds : Option ℕ) (ended : Ended) (before after first last : Option (List ℕ)) : Type 0 where
+pub record WritesRun (rounds : Option ℕ) (traced : Bool) (ended : Ended) (before after first last : Option (List ℕ)) : Type 0 where
   pub input : List ℕ
   pub text : List ℕ
   pub read : ReadsAll before after input
-  pub tells : Tells rounds input ended text
+  pub tells : Tells rounds traced input ended text
   pub written : Appends first last text
 
 -- how many rounds are asked for
@@ -127,8 +152,16 @@ abbrev pub rounds_asked : ReplayOptions → Option ℕ
 rounds_asked options = option_map (λ (asked : Rounds). asked.rounds) options.rounds
 
 abbrev pub Replays : ReplayOptions → Ended → Option (List ℕ) → Option (List ℕ) → Option (List ℕ) → Option (List ℕ) → Type 0
-Replays options ended before after first last = WritesRun (rounds_asked options) ended before after first last
+Replays options ended before after first last = WritesRun (rounds_asked options) options.trace ended before after first last
 
 -- all input was read, and P holds of it
 abbrev pub ReadsOne : Option (List ℕ) → Option (List ℕ) → (List ℕ → Type 0) → Type 0
 ReadsOne before after P = (input : List ℕ) × ReadsAll before after input × P input
+
+-- Memory may be wanted for the input while it is read, and behind its end for what may take some.
+abbrev pub MayWantFor : Option (List ℕ) → Option (List ℕ) → Type 0
+MayWantFor before after = Gives before after (λ count. (1 ≤ count) × (count ≤ max_input)) ⊎ ReadsOne before after MayTakeMemory
+
+-- the same, and for fates before anything is read
+abbrev pub MayWantMemory : ReplayOptions → Option (List ℕ) → Option (List ℕ) → Type 0
+MayWantMemory options before after = (HasGoodFates options.rounds × Keeps before after) ⊎ MayWantFor before after

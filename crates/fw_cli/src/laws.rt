@@ -1,6 +1,6 @@
 //! Laws of the definitions that the contracts cite. A caller cites a law by calling it: nothing is done.
 
-ghost use Rattle.fw_cli.specs.Laws.{LinesAreCut, OneAnswer, OneScript};
+ghost use Rattle.fw_cli.specs.Laws.{LinesAreCut, OneAnswer, OneScript, OneTrace};
 
 /// A text is cut into the lines that it was made of, whether or not a line feed ends the last.
 pub fn lines_are_cut()
@@ -18,3 +18,13 @@ pub fn one_answer()
 pub fn one_script()
     ensures { OneScript }
 {}
+
+/// What was sent has one trace.
+pub fn one_trace()
+    ensures { OneTrace }
+{
+    fw_wrapper::laws::one_frame();
+    fw_names::laws::one_name();
+    fw_apdu::laws::one_request();
+    fw_apdu::laws::one_response();
+}

@@ -13,9 +13,11 @@ mod name;
 mod reads;
 mod replay;
 mod report;
+mod saying;
 mod script;
 mod serving;
 mod stored;
+mod trace;
 mod words;
 
 pub use answer::{AnswerOptions, run_answer};

@@ -88,7 +88,18 @@ fn read_image<R: Read>(alloc: Global, reader: &mut R) -> Result<Vec<u8>, Fault>
     ensures only { IfErr result IsOfName }
 {
     let mut reads = Reads::none();
-    let image = read_input(alloc, reader, &mut reads)?;
+    let input = read_input(alloc, reader, &mut reads)?;
+    offered(input)
+}
+
+/// The image that the input is, if a campaign can offer it. No memory is wanted for that.
+fn offered(image: Vec<u8>) -> Result<Vec<u8>, Fault>
+    ensures image { IfOk result (λ offered. offered.items ≡ image.items) }
+    ensures sizes { OnOk result ((1 ≤ length image.items) × (length image.items ≤ max_image)) }
+    ensures empty_image { result ≡ Err Fault.EmptyImage → image.items ≡ [] }
+    ensures image_too_long { result ≡ Err Fault.ImageTooLong → max_image < length image.items }
+    ensures only { IfErr result (λ f. (f ≡ Fault.EmptyImage) ⊎ (f ≡ Fault.ImageTooLong)) }
+{
     if image.is_empty() {
         return Err(Fault::EmptyImage);
     }

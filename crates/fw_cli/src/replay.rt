@@ -1,6 +1,6 @@
 //! The command `replay`: a script is run, and the report of its world is told.
 
-ghost use Rattle.std.specs.Prelude.{◌≡◌, ◌≢◌, ◌<◌, ◌≤◌, ◌⊎◌, ◌↔◌, ◌++◌, ℕ, List, length, IsTrue, IfOk, IfErr, OnOk, IfSome, string_bytes};
+ghost use Rattle.std.specs.Prelude.{◌≡◌, ◌≢◌, ◌<◌, ◌≤◌, ◌⊎◌, ◌↔◌, ◌++◌, ℕ, List, length, IsTrue, IfOk, IfErr, OnOk, OnErr, IfSome, string_bytes};
 ghost use Rattle.std.specs.Io.KnownBytes.{Keeps};
 ghost use Rattle.fw_world.specs.Runs.{events_of};
 ghost use Rattle.fw_world.specs.Setup.{IsSetup};
@@ -9,16 +9,16 @@ ghost use Rattle.fw_cli.specs.Fates.{SpellsSome};
 ghost use Rattle.fw_cli.specs.Faults.{IsOfReplay};
 ghost use Rattle.fw_cli.specs.Reading.{Gives, ReadsAll, max_input};
 ghost use Rattle.fw_cli.specs.Inside.{rounds_in};
-ghost use Rattle.fw_cli.specs.Report.{report_of};
 ghost use Rattle.fw_cli.specs.Script.{IsBadLine};
-ghost use Rattle.fw_cli.specs.Replaying.{Replays, WritesRun, ReadsOne, HasBadFates, MakesNone, Tells, TellsRun, TellsRefusal, GoesOn, WantsMemory, refusal_line, refusal_name, cause_name};
+ghost use Rattle.fw_cli.specs.Replaying.{Replays, WritesRun, ReadsOne, HasBadFates, MakesNone, MayTakeMemory, MayWantFor, MayWantMemory, Tells, TellsRun, TellsWorld, TellsRefusal, GoesOn, WantsMemory, refusal_line, refusal_name, cause_name};
 
 use crate::fates::read_fates;
 use crate::fault::Fault;
 use crate::input::read_input;
 use crate::reads::Reads;
-use crate::report::report;
+use crate::report::append_report;
 use crate::script::{Script, read_script};
+use crate::trace::append_trace;
 use fw_air::{Fate, Fates, schedule};
 use fw_book::BookError;
 use fw_world::{Event, RunError, Setup, SetupError, StepError, World, run};
@@ -30,6 +30,8 @@ use std::io::{Read, Write};
 pub struct ReplayOptions<'a> {
     /// The rounds that follow the events of the script, if any do.
     pub rounds: Option<Rounds<'a>>,
+    /// Whether a line for each datagram that was sent stands before the report.
+    pub trace: bool,
 }
 
 /// Rounds of all links: in each of them a head end sends to a meter, and each datagram has its fate.
@@ -66,7 +68,8 @@ struct Told {
 }
 
 /// Runs the script that the reader has, and behind its events the rounds that are asked for. The writer gets the report of the world
-/// behind the last event. Where an event is refused, it gets that of the world there, and the line `refused AT NAME`.
+/// behind the last event. Where an event is refused, it gets that of the world there, and the line `refused AT NAME`. A trace, where it is
+/// asked for, stands before the report: a line for each datagram that was sent, with its number, who sent it to whom, and what it says.
 ///
 /// All input is read before anything is written, and what is written is flushed.
 ///
@@ -77,7 +80,8 @@ struct Told {
 /// - `BadLine`: this line can't go on with the script that the lines before it begin.
 /// - `BadSetup`: no world can be made of the setup.
 /// - `Output`: the writer failed. What it holds then is open.
-/// - `OutOfMemory`: nothing was written, and no more than 64 MiB were read.
+/// - `OutOfMemory`: nothing was written, and no more than 64 MiB were read. It comes for good fates, for input while it is read, for a line
+///   with which the script goes on, and for a script of which a world can be made.
 pub fn run_replay<R: Read, W: Write>(
     alloc: Global,
     reader: &mut R,
@@ -98,6 +102,9 @@ pub fn run_replay<R: Read, W: Write>(
         → ReadsOne (R.remaining reader.old) (R.remaining reader.new) (λ input. IsBadLine input number) }
     ensures bad_setup { result ≡ Err Fault.BadSetup → ReadsOne (R.remaining reader.old) (R.remaining reader.new) MakesNone }
 
+    // What memory may be wanted for, and never for bad fates, a bad line or a setup of which no world can be made.
+    ensures memory { result ≡ Err Fault.OutOfMemory → MayWantMemory options.now (R.remaining reader.old) (R.remaining reader.new) }
+
     // How far the reading was.
     ensures input { result ≡ Err Fault.Input
         → Gives (R.remaining reader.old) (R.remaining reader.new) (λ count. count ≤ max_input) }
@@ -115,7 +122,7 @@ pub fn run_replay<R: Read, W: Write>(
         Some(rounds) => Some(air_of(alloc, rounds)?),
         None => None,
     };
-    replay_from(alloc, reader, writer, &air)
+    replay_from(alloc, reader, writer, &air, options.trace)
 }
 
 /// The rounds with their fates.
@@ -139,14 +146,16 @@ fn replay_from<R: Read, W: Write>(
     reader: &mut R,
     writer: &mut W,
     air: &Option<Air>,
+    trace: bool,
 ) -> Result<Ended, Fault>
     requires fates { IfSome air.now (λ air. IsFates air.fates.items) }
-    ensures ok { IfOk result (λ ended. WritesRun (rounds_in air.now) ended (R.remaining reader.old) (R.remaining reader.new)
+    ensures ok { IfOk result (λ ended. WritesRun (rounds_in air.now) trace ended (R.remaining reader.old) (R.remaining reader.new)
         (W.contents writer.old) (W.contents writer.new)) }
     ensures not_fates { result ≢ Err Fault.BadFates }
     ensures bad_line { (number : ℕ) → result ≡ Err (Fault.BadLine number)
         → ReadsOne (R.remaining reader.old) (R.remaining reader.new) (λ input. IsBadLine input number) }
     ensures bad_setup { result ≡ Err Fault.BadSetup → ReadsOne (R.remaining reader.old) (R.remaining reader.new) MakesNone }
+    ensures memory { result ≡ Err Fault.OutOfMemory → MayWantFor (R.remaining reader.old) (R.remaining reader.new) }
     ensures input { result ≡ Err Fault.Input
         → Gives (R.remaining reader.old) (R.remaining reader.new) (λ count. count ≤ max_input) }
     ensures too_much_input { result ≡ Err Fault.TooMuchInput
@@ -160,7 +169,7 @@ fn replay_from<R: Read, W: Write>(
 {
     let mut reads = Reads::none();
     let input = read_input(alloc, reader, &mut reads)?;
-    let told = replay(alloc, &input, air)?;
+    let told = replay(alloc, &input, air, trace)?;
     writer
         .write_all(told.text.as_bytes())
         .map_err(|_| Fault::Output)?;
@@ -169,17 +178,18 @@ fn replay_from<R: Read, W: Write>(
 }
 
 /// What is told of a script.
-fn replay(alloc: Global, input: &[u8], air: &Option<Air>) -> Result<Told, Fault>
+fn replay(alloc: Global, input: &[u8], air: &Option<Air>, trace: bool) -> Result<Told, Fault>
     requires size { length input.now ≤ max_input }
     requires fates { IfSome air.now (λ air. IsFates air.fates.items) }
-    ensures ok { IfOk result (λ told. Tells (rounds_in air.now) input.now told.ended (string_bytes told.text)) }
+    ensures ok { IfOk result (λ told. Tells (rounds_in air.now) trace input.now told.ended (string_bytes told.text)) }
     ensures bad_line { (number : ℕ) → result ≡ Err (Fault.BadLine number) → IsBadLine input.now number }
     ensures bad_setup { result ≡ Err Fault.BadSetup → MakesNone input.now }
+    ensures memory { result ≡ Err Fault.OutOfMemory → MayTakeMemory input.now }
     ensures only { IfErr result (λ f. (f ≡ Fault.OutOfMemory) ⊎ ((f ≡ Fault.BadSetup) ⊎ ((number : ℕ) × (f ≡ Fault.BadLine number)))) }
 {
     let Script { setup, events } = read_script(alloc, input)?;
     let events = with_rounds(alloc, &setup, events, air)?;
-    tell_run(alloc, &setup, &events)
+    tell_run(alloc, &setup, &events, trace)
 }
 
 /// The events of a script, and behind them those of the rounds. Where a given event is refused no round is made: the run is refused there.
@@ -192,6 +202,7 @@ fn with_rounds(
     requires fates { IfSome air.now (λ air. IsFates air.fates.items) }
     ensures ok { IfOk result (λ all. GoesOn (rounds_in air.now) setup.now (events_of events.items) (events_of all.items)) }
     ensures err { IfErr result (λ f. f ≡ Fault.OutOfMemory) }
+    ensures memory { OnErr result (IsSetup setup.now) }
 {
     let Some(air) = air else {
         return Ok(events);
@@ -221,8 +232,8 @@ fn wants_memory(error: &RunError) -> bool
 }
 
 /// What is told of a run over these events.
-fn tell_run(alloc: Global, setup: &Setup, events: &[Event]) -> Result<Told, Fault>
-    ensures ok { IfOk result (λ told. TellsRun setup.now events.now told.ended (string_bytes told.text)) }
+fn tell_run(alloc: Global, setup: &Setup, events: &[Event], trace: bool) -> Result<Told, Fault>
+    ensures ok { IfOk result (λ told. TellsRun trace setup.now events.now told.ended (string_bytes told.text)) }
     ensures bad_setup { result ≡ Err Fault.BadSetup → ¬ IsSetup setup.now }
     ensures memory { result ≡ Err Fault.OutOfMemory → IsSetup setup.now }
     ensures only { IfErr result (λ f. (f ≡ Fault.OutOfMemory) ⊎ (f ≡ Fault.BadSetup)) }
@@ -230,15 +241,32 @@ fn tell_run(alloc: Global, setup: &Setup, events: &[Event]) -> Result<Told, Faul
     match run(alloc, setup, events) {
         Ok(world) => Ok(Told {
             ended: Ended::Whole,
-            text: report(alloc, setup, &world)?,
+            text: tell_world(alloc, setup, &world, trace)?,
         }),
-        Err(error) => tell_refusal(alloc, setup, error),
+        Err(error) => tell_refusal(alloc, setup, error, trace),
     }
 }
 
+/// What is told of a world: the trace of what was sent, where it is asked for, and the report.
+fn tell_world(
+    alloc: Global,
+    setup: &Setup,
+    world: &World,
+    trace: bool,
+) -> Result<String, AllocError>
+    ensures { IfOk result (λ text. TellsWorld trace setup.now world.now (string_bytes text)) }
+{
+    let mut text = String::new(alloc);
+    if trace {
+        append_trace(alloc, &mut text, world.sent())?;
+    }
+    append_report(&mut text, setup, world)?;
+    Ok(text)
+}
+
 /// What is told of a run that ended early.
-fn tell_refusal(alloc: Global, setup: &Setup, error: RunError) -> Result<Told, Fault>
-    ensures ok { IfOk result (λ told. (told.ended ≡ Ended.Refused) × TellsRefusal setup.now error (string_bytes told.text)) }
+fn tell_refusal(alloc: Global, setup: &Setup, error: RunError, trace: bool) -> Result<Told, Fault>
+    ensures ok { IfOk result (λ told. (told.ended ≡ Ended.Refused) × TellsRefusal trace setup.now error (string_bytes told.text)) }
     ensures bad_setup { result ≡ Err Fault.BadSetup → error ≡ RunError.Setup SetupError.BadSetup }
     ensures memory { result ≡ Err Fault.OutOfMemory → error ≢ RunError.Setup SetupError.BadSetup }
     ensures only { IfErr result (λ f. (f ≡ Fault.OutOfMemory) ⊎ (f ≡ Fault.BadSetup)) }
@@ -251,7 +279,7 @@ fn tell_refusal(alloc: Global, setup: &Setup, error: RunError) -> Result<Told, F
             ..
         } => Err(Fault::OutOfMemory),
         RunError::Event { at, world, cause } => {
-            let mut text = report(alloc, setup, &world)?;
+            let mut text = tell_world(alloc, setup, &world, trace)?;
             append_refusal(&mut text, at, cause)?;
             Ok(Told {
                 ended: Ended::Refused,

@@ -1,6 +1,6 @@
 //! The report of a world.
 
-ghost use Rattle.std.specs.Prelude.{◌≡◌, ◌++◌, length, flat_map, IfOk, OnOk, string_bytes};
+ghost use Rattle.std.specs.Prelude.{◌≡◌, ◌++◌, length, flat_map, OnOk, string_bytes};
 ghost use Rattle.std.specs.Option.{option_map};
 ghost use Rattle.fw_world.specs.State.{head_at, meter_at};
 ghost use Rattle.fw_cli.specs.Report.{report_of, head_lines, book_lines, campaign_lines, row_line, meter_lines, meter_line, activations_line, state_word};
@@ -8,18 +8,21 @@ ghost use Rattle.fw_cli.specs.Report.{report_of, head_lines, book_lines, campaig
 use fw_book::{Book, Offer, Row, RowState};
 use fw_names::{CampaignId, HeadId, MeterId};
 use fw_world::{HeadSetup, MeterSetup, Setup, World};
-use std::alloc::{AllocError, Global};
+use std::alloc::AllocError;
 
-/// The report of a world: its rows by head ends, campaigns and meters, then its meters, each in their order, and how many images were
-/// switched to. The time is that of the text.
-pub(crate) fn report(alloc: Global, setup: &Setup, world: &World) -> Result<String, AllocError>
-    ensures { IfOk result (λ text. string_bytes text ≡ report_of setup.now world.now) }
+/// Appends the report of a world: its rows by head ends, campaigns and meters, then its meters, each in their order, and how many images
+/// were switched to. The time is that of the text.
+pub(crate) fn append_report(
+    text: &mut String,
+    setup: &Setup,
+    world: &World,
+) -> Result<(), AllocError>
+    ensures { OnOk result (string_bytes text.new ≡ string_bytes text.old ++ report_of setup.now world.now) }
 {
-    let mut text = String::new(alloc);
-    append_heads(&mut text, &setup.heads, world)?;
-    append_meters(&mut text, &setup.meters, world)?;
-    append_activations(&mut text, world.activations().len())?;
-    Ok(text)
+    append_heads(text, &setup.heads, world)?;
+    append_meters(text, &setup.meters, world)?;
+    append_activations(text, world.activations().len())?;
+    Ok(())
 }
 
 /// Appends the rows of head ends.
@@ -113,7 +116,7 @@ fn append_meter(text: &mut String, meter: MeterId, world: &World) -> Result<(), 
 }
 
 /// The number of the head end whose campaign this is, and 0 for the factory's.
-fn head_number(campaign: CampaignId) -> u32
+pub(crate) fn head_number(campaign: CampaignId) -> u32
     ensures { result ≡ campaign.head }
 {
     match campaign.head() {

@@ -45,7 +45,7 @@ pub(crate) fn serve<S: ImageStore + Drop, R: Read, W: Write>(
     ensures output { result ≡ Err Fault.Output
         → (input : List ℕ) × ReadsAll (R.remaining reader.old) (R.remaining reader.new) input }
     ensures out_of_memory { result ≡ Err Fault.OutOfMemory
-        → Gives (R.remaining reader.old) (R.remaining reader.new) (λ count. count ≤ max_input) }
+        → Gives (R.remaining reader.old) (R.remaining reader.new) (λ count. (1 ≤ count) × (count ≤ max_input)) }
     ensures silent { IfErr result (λ f. ComesBeforeOutput f → Keeps (W.contents writer.old) (W.contents writer.new)) }
     ensures only { IfErr result IsOfAnswer }
 {

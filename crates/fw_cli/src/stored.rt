@@ -64,6 +64,10 @@ pub fn run_answer_stored<F: Files<File = File>, R: Read, W: Write>(
     ensures bad_setup { result ≡ Err Fault.BadSetup → DescribesNone options.now.fresh }
     ensures setup_first { IfErr result (λ f. ComesBeforeInput f → Keeps (R.remaining reader.old) (R.remaining reader.new)) }
 
+    // Where nothing was read, memory was wanted for a meter that the options describe.
+    ensures memory { result ≡ Err Fault.OutOfMemory → DescribesOne options.now.fresh
+        ⊎ Gives (R.remaining reader.old) (R.remaining reader.new) (λ count. (1 ≤ count) × (count ≤ max_input)) }
+
     // How far the reading was.
     ensures input { result ≡ Err Fault.Input
         → Gives (R.remaining reader.old) (R.remaining reader.new) (λ count. count ≤ max_input) }
@@ -90,6 +94,7 @@ fn set_up<F: Files<File = File>>(
     ensures begins { IfOk result (λ meter. reopened meter.meter ≡ meter.meter) }
     ensures faultless { IfOk result (λ meter. meter.faults ≡ 0) }
     ensures bad_setup { result ≡ Err Fault.BadSetup → DescribesNone options.now.fresh }
+    ensures memory { result ≡ Err Fault.OutOfMemory → DescribesOne options.now.fresh }
     ensures only { IfErr result (λ f. ComesBeforeInput f ⊎ (f ≡ Fault.OutOfMemory)) }
 {
     let store = open_or_make(rt, alloc, options)?;
@@ -118,6 +123,7 @@ fn open_or_make<F: Files<File = File>>(
 ) -> Result<FileStore, Fault>
     ensures faultless { IfOk result (λ store. ⟦<FileStore as ImageStore>⟧.faults store ≡ 0) }
     ensures bad_setup { result ≡ Err Fault.BadSetup → DescribesNone options.now.fresh }
+    ensures memory { result ≡ Err Fault.OutOfMemory → DescribesOne options.now.fresh }
     ensures only { IfErr result (λ f. ComesBeforeInput f ⊎ (f ≡ Fault.OutOfMemory)) }
 {
     match FileStore::reopen(rt, options.file) {

@@ -12,6 +12,9 @@ pub mod TakenOut
 pub mod RowLaws
 pub mod Permitted
 pub mod Offered
+pub mod ByMeter
+pub mod Joined
+pub mod PutBack
 mod NewRows
 mod Cancelling
 mod Openings

@@ -47,7 +47,7 @@ once_more rows new row meter rest others next added once =
     subst P (sym all) once
 
 -- there is room for those that are left
-pub fewer_left : (meter : ℕ) (rest others : List ℕ) (room left : ℕ) → rest ≡ meter ∷ others → length rest ≤ room → room ≤ left + 1 → length others ≤ left
-fewer_left meter rest others room left next fits used =
+pub fewer_left : {X : Type 0} (x : X) (rest others : List X) (room left : ℕ) → rest ≡ x ∷ others → length rest ≤ room → room ≤ left + 1 → length others ≤ left
+fewer_left x rest others room left next fits used =
     let one : length rest ≡ 1 + length others = grind (arith, common_steps, next) in
     omega (arith, one, fits, used)

@@ -103,22 +103,22 @@ new_there name size (meter ∷ meters) m there =
 
 -- ---- a meter that is live in no campaign has no row
 
-skipped : (row : book_row.Row) (rows : List book_row.Row) (m : ℕ) → (row.meter == m) ≡ false → state_of (row ∷ rows) m ≡ state_of rows m
+pub skipped : (row : book_row.Row) (rows : List book_row.Row) (m : ℕ) → (row.meter == m) ≡ false → state_of (row ∷ rows) m ≡ state_of rows m
 skipped row rows m away = ap (λ (o : Option book_row.Row). option_map (λ (r : book_row.Row). r.state) o) (cond-false (row.meter == m) (Some row) (find (λ (r : book_row.Row). r.meter == m) rows) away)
 
-first : (row : book_row.Row) (rows : List book_row.Row) (m : ℕ) → (row.meter == m) ≡ true → state_of (row ∷ rows) m ≡ Some row.state
+pub first : (row : book_row.Row) (rows : List book_row.Row) (m : ℕ) → (row.meter == m) ≡ true → state_of (row ∷ rows) m ≡ Some row.state
 first row rows m here = ap (λ (o : Option book_row.Row). option_map (λ (r : book_row.Row). r.state) o) (cond-true (row.meter == m) (Some row) (find (λ (r : book_row.Row). r.meter == m) rows) here)
 
-live_is : (s : RowState) → (let o : Option RowState = Some s in o ≡ Some Live) → s ≡ Live
+pub live_is : (s : RowState) → (let o : Option RowState = Some s in o ≡ Some Live) → s ≡ Live
 live_is s e = cc
 
-none_live : (let o : Option RowState = None in o ≡ Some Live) → ⊥
+pub none_live : (let o : Option RowState = None in o ≡ Some Live) → ⊥
 none_live e = cc
 
-abbrev state_at : ℕ → Option Offered → Option RowState
+abbrev pub state_at : ℕ → Option Offered → Option RowState
 state_at m o = option_and_then (λ (offer : Offered). state_of offer.rows m) o
 
-live_in : (rows : List book_row.Row) (m : ℕ) → state_of rows m ≡ Some Live → is_live_in rows m ≡ true
+pub live_in : (rows : List book_row.Row) (m : ℕ) → state_of rows m ≡ Some Live → is_live_in rows m ≡ true
 live_in [] m live = absurd (none_live live)
 live_in (row ∷ rows) m live =
     ⊎_elim
@@ -145,7 +145,7 @@ busy_at k m (entry ∷ entries) offer found live =
     some_offer a b e = cc
 
 -- the campaign of a meter that has a state in a book
-offer_at : (m : ℕ) (s : RowState) (b : Bool) (x : Option Offered) → state_at m (cond b x None) ≡ Some s → (b ≡ true) × ((offer : Offered) × (x ≡ Some offer) × (state_of offer.rows m ≡ Some s))
+pub offer_at : (m : ℕ) (s : RowState) (b : Bool) (x : Option Offered) → state_at m (cond b x None) ≡ Some s → (b ≡ true) × ((offer : Offered) × (x ≡ Some offer) × (state_of offer.rows m ≡ Some s))
 offer_at m s true None e = absurd (none_state s e)
 offer_at m s true (Some offer) e = (refl, (offer, refl, e))
 offer_at m s false x e = absurd (none_state s e)

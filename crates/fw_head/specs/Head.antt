@@ -151,11 +151,15 @@ pub record IsRowOf (book : Contents) (meter : ℕ) (row : Row) : Type 0 where
   pub sized : option_map length (image_in book row.name.campaign) ≡ Some row.size
   pub going : IsLive row.stage
 
--- the live rows are those of the book, and a meter has one row at most
-pub record IsHead (head : Head) : Type 0 where
-  pub of_book : (meter : ℕ) (row : Row) → row_of head.rows meter ≡ Some row → IsRowOf head.book meter row
-  pub of_rows : (campaign : Campaign) (meter : ℕ) → state_in head.book campaign meter ≡ Some state.Live → (row : Row) × (row_of head.rows meter ≡ Some row) × (row.name.campaign ≡ campaign)
-  pub once : IsDistinct nat_eq (keys_of head.rows)
+-- the rows are those that are live in the book, and a meter has one row at most
+pub record AreRowsOf (book : Contents) (rows : Rows) : Type 0 where
+  pub of_book : (meter : ℕ) (row : Row) → row_of rows meter ≡ Some row → IsRowOf book meter row
+  pub of_rows : (campaign : Campaign) (meter : ℕ) → state_in book campaign meter ≡ Some state.Live
+      → (row : Row) × (row_of rows meter ≡ Some row) × (row.name.campaign ≡ campaign)
+  pub once : IsDistinct nat_eq (keys_of rows)
+
+abbrev pub IsHead : Head → Type 0
+IsHead head = AreRowsOf head.book head.rows
 
 -- ---- what a head end may send: of an image that its book offers
 

@@ -1,5 +1,7 @@
 -- For private clauses, and for the models of the head end's types.
-use Rattle.std.specs.Prelude.{◌≡◌, ℕ, ◌+◌, ◌%◌, ◌<◌, ◌≤◌, List, [], ◌∷◌, length, IsSome}
+use Rattle.std.specs.Prelude.{◌≡◌, ℕ, ◌+◌, ◌%◌, ◌<◌, ◌≤◌, ◌==◌, Bool, false, not, ◌||◌, List, [], ◌∷◌, length, Option, IsSome}
+use Rattle.std.specs.List.{list_any, list_all}
+use Rattle.std.specs.Option.{option_map_or}
 use Rattle.std.specs.FinMap.{get}
 use Rattle.fw_names.specs.Name.{Name}
 use Rattle.fw_blocks.specs.Cuts.{Partition, IsWithinLimits}
@@ -13,7 +15,11 @@ use Rattle.fw_head.specs.declared.answers.Step.TheVariants.{Move, Return}
 use Rattle.fw_head.specs.declared.news.RowNews.{RowNews}
 use Rattle.fw_head.specs.declared.news.RowNews.TheVariants as news
 use Rattle.fw_head.specs.Phase.{count}
-use Rattle.fw_head.specs.Row.{max_returns}
+use Rattle.fw_head.specs.Row.{Row, max_returns, new_row, IsClaimOf}
+use Rattle.fw_head.specs.Head.{Rows, row_of, IsRowOf}
+use Rattle.fw_book.specs.declared.row.Row as book_row
+use Rattle.fw_book.specs.Rows.{is_live}
+use Rattle.fw_book.specs.Contents.{Contents, Offered}
 
 -- ---- of a stage: this of how the image is cut into blocks, with as many known as there are, and this of the claim that ended the row
 
@@ -43,11 +49,6 @@ pub record IsCutOf (size : ℕ) (g : Partition) : Type 0 where
   pub within : IsWithinLimits g.block_size g.size
   pub sized : g.size ≡ size
 
--- a claim of this meter, under this name
-pub record IsClaimOf (meter : ℕ) (name : Name) (claim : Claim) : Type 0 where
-  pub by : claim.meter ≡ meter
-  pub named : claim.name ≡ name
-
 -- a stage of the row of this meter, for the image of this name and size
 abbrev pub IsOwn : ℕ → Name → ℕ → Stage → Type 0
 IsOwn meter name size stage = StageHolds (IsCutOf size) (IsClaimOf meter name) stage
@@ -76,3 +77,26 @@ Carry c [] [] = Unit {0}
 Carry c (asked ∷ asks) (datagram ∷ datagrams) =
     (c.next < 16) × CarriesRequest datagram (invoke_byte c.next) (request_of asked) × Carry (asking c (kind_of asked)) asks datagrams
 Carry c asks datagrams = ⊥
+
+-- ---- whether rows are the live ones of a book
+
+-- a row that is live in the book, for the image that its campaign offers
+abbrev pub IsOfBook : Contents → Row → Type 0
+IsOfBook book row = IsRowOf book row.client.meter (new_row row.client.meter row.name row.size)
+
+-- whether a meter stands twice
+abbrev pub repeats : List Row → Bool
+repeats [] = false
+repeats (row ∷ rows) = list_any (λ (other : Row). other.client.meter == row.client.meter) rows || repeats rows
+
+-- whether there is a row, of the campaign of this serial number
+abbrev pub is_row_in : ℕ → Option Row → Bool
+is_row_in serial found = option_map_or (λ (row : Row). row.name.campaign.serial == serial) found false
+
+-- whether each meter that is live in a campaign has a row of it
+abbrev pub has_rows : Rows → ℕ → List book_row.Row → Bool
+has_rows entries serial rows = list_all (λ (row : book_row.Row). not (is_live row.state) || is_row_in serial (row_of entries row.meter)) rows
+
+-- and so for each campaign
+abbrev pub has_each : Rows → List (ℕ × Offered) → Bool
+has_each entries campaigns = list_all (λ (campaign : ℕ × Offered). has_rows entries campaign.0 campaign.1.rows) campaigns

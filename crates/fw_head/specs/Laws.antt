@@ -1,12 +1,21 @@
--- Public vocabulary: the laws of a row.
-use Rattle.std.specs.Prelude.{◌≡◌, ◌↔◌, List, ℕ}
+-- Public vocabulary: the laws of a row, and of a head end in parts.
+use Rattle.std.specs.Prelude.{◌≡◌, ◌↔◌, List, ℕ, Some}
+use Rattle.std.specs.Map.{values_of}
+use Rattle.fw_names.specs.Name.{Campaign}
 use Rattle.fw_client.specs.Claim.{Claim}
 use Rattle.fw_client.specs.Hearing.{IsClaimed}
+use Rattle.fw_book.specs.declared.row.RowState.{RowState}
+use Rattle.fw_book.specs.declared.row.RowState.TheVariants as state
+use Rattle.fw_book.specs.Contents.{Contents, image_in, state_in}
+use Rattle.fw_head.specs.declared.stage.Stage.{Stage}
+use Rattle.fw_head.specs.declared.stage.Stage.TheVariants.{Done, Failed}
 use Rattle.fw_head.specs.declared.phase.Phase.TheVariants as phase
 use Rattle.fw_head.specs.declared.news.RowNews.{RowNews}
 use Rattle.fw_head.specs.declared.news.RowNews.TheVariants as news
 use Rattle.fw_head.specs.Phase.{phase_of}
 use Rattle.fw_head.specs.Row.{Row, RowHears}
+use Rattle.fw_head.specs.Head.{Head, IsHead, row_of}
+use Rattle.fw_head.specs.Parts.{AreLiveRows, by_meter, with_ends, joined}
 
 -- a row and a datagram determine what is told, and the row afterwards
 abbrev pub OneRow : Type 0
@@ -36,3 +45,39 @@ DoneByClaim =
     (old new : Row) (datagram : List ℕ) (told : RowNews) (claim : Claim)
     → ¬ (phase_of old.stage ≡ phase.Done) → RowHears old datagram told new
     → (told ≡ news.Done claim) ↔ IsConfirmedBy old datagram claim
+
+-- ---- a head end that is parted and put together
+
+-- the same head end, the order of its live rows aside
+pub record IsAsBefore (before after : Head) : Type 0 where
+  pub book : after.book ≡ before.book
+  pub width : after.width ≡ before.width
+  pub rows : (meter : ℕ) → row_of after.rows meter ≡ row_of before.rows meter
+
+-- A head end that is put together of its own book, width and live rows is as before, in whatever order the rows come.
+abbrev pub PutBack : Type 0
+PutBack =
+    (head : Head) (rows : List Row)
+    → IsHead head → AreLiveRows head.book rows → ((meter : ℕ) → row_of (by_meter rows) meter ≡ row_of head.rows meter)
+    → IsAsBefore head (joined head.book head.width rows)
+
+-- and in their order it is that head end
+abbrev pub PutBackInOrder : Type 0
+PutBackInOrder = (head : Head) → IsHead head → joined head.book head.width (values_of head.rows) ≡ head
+
+-- the state that a book has of a row in this stage
+abbrev pub state_of_stage : Stage → RowState
+state_of_stage (Done claim) = state.Done
+state_of_stage Failed = state.Failed
+state_of_stage stage = state.Live
+
+-- What the ends of its live rows make of a book: no image changes, each of the rows has the state of its stage, and every state that
+-- was not live is as it was.
+pub record MarksEnds (before after : Contents) (rows : List Row) : Type 0 where
+  pub images : (campaign : Campaign) → image_in after campaign ≡ image_in before campaign
+  pub own : (meter : ℕ) (row : Row) → row_of (by_meter rows) meter ≡ Some row → state_in after row.name.campaign meter ≡ Some (state_of_stage row.stage)
+  pub others : (campaign : Campaign) (meter : ℕ) → ¬ (state_in before campaign meter ≡ Some state.Live) → state_in after campaign meter ≡ state_in before campaign meter
+
+-- A head end that is put together marks the ends of its rows in the book, and nothing else.
+abbrev pub EndsAreMarked : Type 0
+EndsAreMarked = (book : Contents) (rows : List Row) → AreLiveRows book rows → MarksEnds book (with_ends book rows) rows

@@ -1,6 +1,6 @@
 -- Public vocabulary: the table of a row's phases. What a tick asks in each phase, and where a matched answer leads
 -- (IEC 62056-6-2, Image transfer, procedure; the phases are own).
-use Rattle.std.specs.Prelude.{◌≡◌, ℕ, ◌==◌, ◌<◌, ◌≤◌, ◌⊎◌, Bool, false, List, [], ◌∷◌, map, length, replicate, Some, if◌then◌else◌}
+use Rattle.std.specs.Prelude.{◌≡◌, ℕ, ◌==◌, ◌<◌, ◌≤◌, ◌⊎◌, Bool, true, false, List, [], ◌∷◌, map, length, replicate, Some, if◌then◌else◌}
 use Rattle.fw_names.specs.Name.{Name}
 use Rattle.fw_blocks.specs.Cuts.{Partition, cut, block_count, IsWithinLimits}
 use Rattle.fw_blocks.specs.Members.{first_missing, window}
@@ -37,6 +37,12 @@ abbrev pub IsLive : Stage → Type 0
 IsLive (Done claim) = ⊥
 IsLive Failed = ⊥
 IsLive stage = Unit {0}
+
+-- the row is done, or was given up
+abbrev pub has_ended : Stage → Bool
+has_ended (Done claim) = true
+has_ended Failed = true
+has_ended stage = false
 
 -- ---- what a tick asks
 

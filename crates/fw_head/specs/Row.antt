@@ -1,10 +1,11 @@
 -- Public vocabulary: the row machine. What a tick and a datagram make of a row, a head end's work on one meter.
-use Rattle.std.specs.Prelude.{◌≡◌, ℕ, ◌+◌, ◌<◌, nat_lt, ◌⊎◌, true, List, [], ◌∷◌, map, length, slice_set, if◌then◌else◌}
+use Rattle.std.specs.Prelude.{◌≡◌, ℕ, ◌+◌, ◌<◌, nat_lt, ◌⊎◌, true, List, [], ◌∷◌, map, length, slice_set, Option, Some, None, if◌then◌else◌}
 use Rattle.std.specs.Global.{Vec}
 use Rattle.fw_names.specs.Name.{Name}
 use Rattle.fw_blocks.specs.Cuts.{Partition, IsWithinLimits, block_count, cut}
 use Rattle.fw_wrapper.specs.Wrapper.{wrapped}
 use Rattle.fw_apdu.specs.Request.{request_bytes}
+use Rattle.fw_client.specs.Claim.{Claim}
 use Rattle.fw_client.specs.Ask.{Ask, initiate, block, request_of, kind_of, CarriesRequest}
 use Rattle.fw_client.specs.State.{State, fresh, asking, forgetting, invoke_byte}
 use Rattle.fw_client.specs.Hearing.{Takes, AnswersNone, MayCarryData}
@@ -27,6 +28,16 @@ pub record Row : Type 0 where
   pub client : State
   -- how often it returned to Start
   pub returns : ℕ
+
+-- a claim of this meter, under this name
+pub record IsClaimOf (meter : ℕ) (name : Name) (claim : Claim) : Type 0 where
+  pub by : claim.meter ≡ meter
+  pub named : claim.name ≡ name
+
+-- the claim that ended a row, if one did
+abbrev pub claim_in : Stage → Option Claim
+claim_in (Done claim) = Some claim
+claim_in stage = None
 
 -- the number of returns that ends a row (own)
 abbrev pub max_returns : ℕ

@@ -7,8 +7,12 @@ ghost use Rattle.fw_blocks.specs.Width.{IsWidth};
 ghost use Rattle.fw_book.specs.Contents.{IsBook};
 ghost use Rattle.fw_book.specs.Changes.{opening_refusal, cancel_refusal, IsRefusal};
 
+use crate::ending::expect_marked;
+use crate::error::PutError;
 use crate::laws;
 use crate::news::{News, RowNews};
+use crate::parts::HeadParts;
+use crate::row::RowCore;
 use crate::rows::Rows;
 use crate::view::HeadView;
 use fw_blocks::Width;
@@ -44,7 +48,9 @@ impl Model for HeadCore {
 impl HeadCore {
     ghost use Rattle.fw_head.specs.Phase.{IsLive};
     ghost use Rattle.fw_head.specs.Row.{bytes_of};
-    ghost use Rattle.fw_head.specs.Head.{IsHead, row_of, RowsMayWant, new_head, campaign_at, opened_head, cancelled_head, restarted, sends_to, ticked_head, HeadHears, IsDoneBy, IsOfferedIn};
+    ghost use Rattle.fw_head.specs.Parts.{AreLiveRows, PutRefused, joined};
+    ghost use Rattle.fw_head.specs.Head.{IsHead, row_of, RowsMayWant, new_head, campaign_at, opened_head, cancelled_head};
+    ghost use Rattle.fw_head.specs.Head.{restarted, sends_to, ticked_head, HeadHears, IsDoneBy, IsOfferedIn};
 
     /// A head end of no campaign, that sends so many blocks at a time. It keeps the allocator, and takes no memory.
     pub fn new(alloc: Global, head: HeadId, width: Width) -> HeadCore
@@ -222,15 +228,44 @@ impl HeadCore {
             rows: self.rows.all(),
         }
     }
-}
 
-/// A row that ends here was live in the book, so that its end is marked.
-fn expect_marked(marked: Result<(), BookError>)
-    requires { IsOk marked }
-    ensures { IsOk marked }
-{
-    match marked {
-        Ok(()) => {}
-        Err(_) => unreachable!(),
+    /// Parts the head end into its book, its width and its live rows. They are put together again by `put_rows`, whatever ticks and
+    /// datagrams made of the rows meanwhile. It takes no memory.
+    pub fn take_rows(self) -> HeadParts
+        ensures book { result.book ≡ self.book }
+        ensures width { result.width ≡ self.width }
+        ensures rows { result.rows ≡ values_of self.rows }
+        ensures live { AreLiveRows self.book (values_of self.rows) }
+    {
+        let HeadCore { book, width, rows } = self;
+        let rows = rows.take_all();
+        HeadParts { book, width, rows }
+    }
+
+    /// Puts a head end together from its book, its width and the live rows of the book. Those that have ended are marked in the
+    /// book, done or failed, and the others are its live rows. The cost of each row is that of its campaign's rows; where memory
+    /// is refused, that of all rows.
+    ///
+    /// # Errors
+    ///
+    /// `WrongRows` where the rows are not those that are live in the book, each once and in any order, for the image that their
+    /// campaign offers. Otherwise `OutOfMemory` alone. The parts are lost.
+    pub fn put_rows(
+        alloc: Global,
+        book: Book,
+        width: Width,
+        rows: Vec<RowCore>,
+    ) -> Result<HeadCore, PutError>
+        ensures joined { IfOk result (λ head. head ≡ joined book width rows.items) }
+        ensures live { OnOk result (AreLiveRows book rows.items) }
+        ensures refused { IfErr result (PutRefused book rows.items) }
+    {
+        fw_book::laws::states_follow();
+        fw_book::laws::images_stay();
+        let mut book = book;
+        let mut rows = Rows::of_book(alloc, &book, rows)?;
+        rows.mark_ended(&mut book);
+        rows.keep_live();
+        Ok(HeadCore { book, width, rows })
     }
 }

@@ -1,6 +1,6 @@
-//! Laws of a row, over the definitions alone. A caller cites a law by calling it: nothing is done.
+//! Laws of a row and of a head end, over the definitions alone. A caller cites a law by calling it: nothing is done.
 
-ghost use Rattle.fw_head.specs.Laws.{OneRow, RowKeepsGoal, DoneByClaim};
+ghost use Rattle.fw_head.specs.Laws.{OneRow, RowKeepsGoal, DoneByClaim, PutBack, PutBackInOrder, EndsAreMarked};
 
 /// A row and a datagram determine what is told, and the row afterwards.
 pub fn one_row()
@@ -19,4 +19,24 @@ pub fn done_by_claim()
     ensures { DoneByClaim }
 {
     fw_client::laws::only_claimed();
+}
+
+/// A head end that is put together of its own book, width and live rows is as before, in whatever order the rows come: the book with
+/// no row marked, the width, and each meter's row.
+pub fn put_back()
+    ensures { PutBack }
+{}
+
+/// Put together of its rows in their order it is the same value.
+pub fn put_back_in_order()
+    ensures { PutBackInOrder }
+{}
+
+/// A head end that is put together marks the ends of its rows in the book, and nothing else: no image changes, and no state of a
+/// meter that was not live.
+pub fn ends_are_marked()
+    ensures { EndsAreMarked }
+{
+    fw_book::laws::states_follow();
+    fw_book::laws::images_stay();
 }

@@ -7,19 +7,25 @@
 
 mod answers;
 mod asks;
+mod ending;
+mod error;
 mod head;
 pub mod laws;
+mod matching;
 mod news;
+mod parts;
 mod phase;
 mod row;
 mod rows;
 mod stage;
 mod view;
 
+pub use error::PutError;
 pub use fw_client::OutOfMemory;
 pub use head::HeadCore;
 pub use news::{News, RowNews};
+pub use parts::HeadParts;
 pub use phase::Phase;
 pub use row::RowCore;
-pub use rows::LiveRows;
+pub use rows::{LiveRows, TakenRows};
 pub use view::HeadView;

@@ -1,15 +1,17 @@
 //! One row of a campaign: a head end's work on one meter.
 
-ghost use Rattle.std.specs.Prelude.{◌≡◌, ◌<◌, ◌≤◌, All, length, IfOk, OnOk, OnErr};
+ghost use Rattle.std.specs.Prelude.{◌≡◌, ◌<◌, ◌≤◌, All, length, IfSome, IfOk, OnOk, OnErr};
 ghost use Rattle.std.specs.FinMap.{empty};
 
 use crate::answers::{Step, next_step};
 use crate::asks::{ask_blocks, ask_one};
+use crate::ending::expect_marked;
 use crate::news::RowNews;
 use crate::phase::Phase;
 use crate::stage::Stage;
 use fw_blocks::{Geometry, Width, Window};
-use fw_client::{Ask, Client, Heard, OutOfMemory};
+use fw_book::Book;
+use fw_client::{ActiveClaim, Ask, Client, Heard, OutOfMemory};
 use fw_names::{ImageName, MeterId};
 use std::alloc::Global;
 use std::marker::Model;
@@ -47,9 +49,11 @@ impl Model for RowCore {
 }
 
 impl RowCore {
-    ghost use Rattle.fw_head.specs.Row.{Row, bytes_of, new_row, ticked, sends, stepped, moved, returned, settled, with_block, RowHears, IsPermitted, RowMayWant, news_in, tick_asks, datagrams, asking_all};
-    ghost use Rattle.fw_head.specs.Phase.{phase_of, IsLive};
-    ghost use Rattle.fw_head.specs.Inside.{Carry, IsCutOf, IsOwn, IsOwnStep, IsOwnNews};
+    ghost use Rattle.fw_head.specs.Row.{Row, bytes_of, new_row, ticked, sends, stepped, moved, returned, settled, with_block};
+    ghost use Rattle.fw_head.specs.Row.{RowHears, IsPermitted, RowMayWant, news_in, tick_asks, datagrams, asking_all, claim_in, IsClaimOf};
+    ghost use Rattle.fw_head.specs.Phase.{phase_of, has_ended, IsLive};
+    ghost use Rattle.fw_head.specs.Parts.{with_end};
+    ghost use Rattle.fw_head.specs.Inside.{IsOfBook, Carry, IsCutOf, IsOwn, IsOwnStep, IsOwnNews};
 
     /// A new row of this meter, for the image of this name and size in bytes.
     pub fn new(meter: MeterId, name: ImageName, size: u32) -> RowCore
@@ -90,6 +94,40 @@ impl RowCore {
         ensures { result ≡ phase_of self.now.stage }
     {
         self.stage.phase()
+    }
+
+    /// The claim that ended the row, if one did: the row's meter answered that it runs the image of the row's name.
+    pub fn claim(&self) -> Option<ActiveClaim>
+        ensures value { result ≡ claim_in self.now.stage }
+        ensures own { IfSome result (IsClaimOf self.now.client.meter self.now.name) }
+    {
+        self.stage.claim()
+    }
+
+    /// The size of that image in bytes.
+    pub(crate) fn size(&self) -> u32
+        ensures { result ≡ self.now.size }
+    {
+        self.size
+    }
+
+    /// Whether the row is done or was given up.
+    pub(crate) fn has_ended(&self) -> bool
+        ensures { result ≡ has_ended self.now.stage }
+    {
+        self.stage.has_ended()
+    }
+
+    /// Marks in the book how the row ended, if it did.
+    pub(crate) fn mark_end(&self, book: &mut Book)
+        requires { IsOfBook book.old self.now }
+        ensures { book.new ≡ with_end book.old self.now.name.campaign.serial self.now.client.meter self.now.stage }
+    {
+        match &self.stage {
+            Stage::Done(claim) => expect_marked(book.mark_done(self.name.campaign, *claim)),
+            Stage::Failed => expect_marked(book.mark_failed(self.name.campaign, self.meter())),
+            _ => {}
+        }
     }
 
     /// How often the row returned to `Start`: 7 times at most, since the eighth return ends it.

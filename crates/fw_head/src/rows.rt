@@ -1,26 +1,34 @@
 //! The live rows of a head end.
 
-ghost use Rattle.std.specs.Prelude.{◌≡◌, ◌≤◌, ◌==◌, nat_eq, not, true, [], All, ◌++◌, length, IsSomeAnd, IfOk, OnOk, OnErr};
-ghost use Rattle.std.specs.List.{IsDistinct};
+ghost use Rattle.std.specs.Prelude.{◌≡◌, ◌≤◌, ◌==◌, nat_eq, not, true, [], ◌++◌, length};
+ghost use Rattle.std.specs.Prelude.{All, IsTrue, MatchBool, IsSomeAnd, IfOk, IfErr, OnOk, OnErr};
+ghost use Rattle.std.specs.List.{IsDistinct, AllByRecursion};
 ghost use Rattle.std.specs.Map.{keys_of, values_of};
 ghost use Rattle.indexmap.specs.IndexMap.{spare};
 ghost use Rattle.std.specs.Option.{option_copied, option_map_or};
-ghost use Rattle.fw_head.specs.Phase.{IsLive};
+ghost use Rattle.fw_head.specs.Phase.{IsLive, has_ended};
 ghost use Rattle.fw_head.specs.Row.{Row, bytes_of, new_row, sends, ticked, IsPermitted};
-ghost use Rattle.fw_head.specs.Inside.{IsOwnNews};
+ghost use Rattle.fw_head.specs.Inside.{IsOwnNews, IsOfBook, is_row_in, has_rows, has_each};
+ghost use Rattle.fw_head.specs.Parts.{by_meter, still_live, with_ends, AreLiveRows, PutRefused};
 ghost use Rattle.fw_head.specs.Head.{row_of, at_meter, without_meter, without_serial, new_rows, renewed, RowsHear, RowsMayWant};
 
+use crate::error::PutError;
+use crate::matching::{are_of_book, refusal};
 use crate::news::RowNews;
 use crate::row::RowCore;
 use fw_blocks::Width;
+use fw_book::Book;
 use fw_client::OutOfMemory;
 use fw_names::{ImageName, MeterId};
 use indexmap::IndexMap;
-use indexmap::map::Values;
+use indexmap::map::{IntoValues, Values};
 use std::alloc::{AllocError, Global};
 
 /// The rows of a head end, each of a meter of its own, in the order in which their campaigns were opened.
 pub type LiveRows<'a> = Values<'a, u32, RowCore>;
+
+/// The same by value.
+pub type TakenRows = IntoValues<u32, RowCore>;
 
 /// The live rows by the numbers of their meters: a meter is live in one campaign at most. Contracts see the entries of the map, and
 /// the room that is left in it.
@@ -51,6 +59,105 @@ impl Rows {
         ensures { result ≡ values_of self.now.rows.entries }
     {
         self.rows.values()
+    }
+
+    /// Every row, by value.
+    pub(crate) fn take_all(self) -> TakenRows
+        ensures { result ≡ values_of self.rows.entries }
+    {
+        self.rows.into_values()
+    }
+
+    /// Rows that are the live ones of the book.
+    ///
+    /// # Errors
+    ///
+    /// `WrongRows` where they are not. Otherwise `OutOfMemory` alone.
+    pub(crate) fn of_book(alloc: Global, book: &Book, rows: Vec<RowCore>) -> Result<Rows, PutError>
+        ensures rows { IfOk result (λ live. live.rows.entries ≡ by_meter rows.items) }
+        ensures live { OnOk result (AreLiveRows book.now rows.items) }
+        ensures refused { IfErr result (PutRefused book.now rows.items) }
+    {
+        let _head = book.head();
+        let mut live = Rows::new(alloc);
+        if live.reserve(rows.len()).is_err() {
+            return Err(refusal(book, &rows));
+        }
+        if !are_of_book(book, &rows) {
+            return Err(PutError::WrongRows);
+        }
+        if !live.gather(rows) {
+            return Err(PutError::WrongRows);
+        }
+        if !live.has_each(book) {
+            return Err(PutError::WrongRows);
+        }
+        Ok(live)
+    }
+
+    /// Adds rows to none, for which there is room, as far as no two are of one meter, and tells whether that is all of them.
+    fn gather(&mut self, rows: Vec<RowCore>) -> bool
+        requires none { self.old.rows.entries ≡ [] }
+        requires room { length rows.items ≤ spare self.old.rows }
+        ensures all { IsTrue result → self.new.rows.entries ≡ by_meter rows.items }
+        ensures once { MatchBool result
+            (IsDistinct nat_eq (keys_of (by_meter rows.items))) (¬ IsDistinct nat_eq (keys_of (by_meter rows.items))) }
+    {
+        for row in rows {
+            match self.rows.insert(row.meter().number(), row) {
+                Ok(None) => {}
+                Ok(Some(_)) => return false,
+                Err(_) => unreachable!(),
+            }
+        }
+        true
+    }
+
+    /// Whether each meter that is live in the book has a row of its campaign.
+    fn has_each(&self, book: &Book) -> bool
+        ensures { result ≡ has_each self.now.rows.entries book.now.campaigns }
+    {
+        book.rows()
+            .all(|(serial, offer)| self.has_rows(*serial, offer.rows()))
+    }
+
+    /// Whether each meter that is live in these rows of a campaign has a row of that campaign.
+    fn has_rows(&self, serial: u32, meters: &[fw_book::Row]) -> bool
+        ensures { result ≡ has_rows self.now.rows.entries serial meters.now }
+    {
+        meters.iter().all(|row| !row.state.is_live() || self.has_row(serial, row.meter))
+    }
+
+    /// Whether the meter has a row of the campaign.
+    fn has_row(&self, serial: u32, meter: MeterId) -> bool
+        ensures { result ≡ is_row_in serial (row_of self.now.rows.entries meter) }
+    {
+        self.get(meter)
+            .is_some_and(|row| row.name().campaign.serial() == serial)
+    }
+
+    /// Marks in the book how each row ended that did.
+    pub(crate) fn mark_ended(&self, book: &mut Book)
+        requires of_book { AllByRecursion (IsOfBook book.old) (values_of self.now.rows.entries) }
+        requires once { IsDistinct nat_eq (keys_of (by_meter (values_of self.now.rows.entries))) }
+        ensures { book.new ≡ with_ends book.old (values_of self.now.rows.entries) }
+    {
+        fw_book::laws::states_follow();
+        fw_book::laws::images_stay();
+        for row in self.all() {
+            row.mark_end(book);
+        }
+    }
+
+    /// Takes out the rows that have ended.
+    pub(crate) fn keep_live(&mut self)
+        ensures { self.new.rows.entries ≡ still_live self.old.rows.entries }
+    {
+        self.rows.retain(
+            |_number: &u32, row: &mut RowCore| -> bool
+                ensures { (result ≡ not (has_ended row.old.stage)) × (row.new ≡ row.old) }
+            { !row.has_ended() },
+        );
     }
 
     /// Makes room for so many rows more.

@@ -1,8 +1,8 @@
 //! The phases of a row, each with what is known in it.
 
 ghost use Rattle.std.specs.Prelude.{◌≡◌};
-ghost use Rattle.fw_head.specs.Phase.{phase_of, with_known};
-ghost use Rattle.fw_head.specs.Row.{news_in, with_block};
+ghost use Rattle.fw_head.specs.Phase.{phase_of, has_ended, with_known};
+ghost use Rattle.fw_head.specs.Row.{claim_in, news_in, with_block};
 
 use crate::news::RowNews;
 use crate::phase::Phase;
@@ -46,6 +46,26 @@ impl Stage {
             Stage::Confirm(_) => Phase::Confirm,
             Stage::Done(_) => Phase::Done,
             Stage::Failed => Phase::Failed,
+        }
+    }
+
+    /// The claim that ended the row, if one did.
+    pub(crate) fn claim(&self) -> Option<ActiveClaim>
+        ensures { result ≡ claim_in self.now }
+    {
+        match self {
+            Stage::Done(claim) => Some(*claim),
+            _ => None,
+        }
+    }
+
+    /// Whether the row is done or was given up.
+    pub(crate) fn has_ended(&self) -> bool
+        ensures { result ≡ has_ended self.now }
+    {
+        match self {
+            Stage::Done(_) | Stage::Failed => true,
+            _ => false,
         }
     }
 

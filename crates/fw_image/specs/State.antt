@@ -53,6 +53,14 @@ pub record Turns (old new : State) : Type 0 where
   pub counts : Counts old new faultless
   pub spends : Spends (turn_calls old.meter.phase) old.calls_left new.calls_left faultless
 
+-- A state is that of a store of this type: as honest and as sound, with as many faults counted and as many calls left.
+pub record IsOver {S : Type 0} (honest sound : S → Bool) (faults : S → ℕ) (calls_left : S → Option ℕ) (state : State) : Type 0 where
+  pub store : S
+  pub honesty : state.honest ≡ honest store
+  pub soundness : state.sound ≡ sound store
+  pub count : state.faults ≡ faults store
+  pub calls : state.calls_left ≡ calls_left store
+
 -- the state as its store keeps it
 abbrev pub stored : State → State
 stored s = record s { meter = reopened s.meter }

@@ -15,7 +15,7 @@ ghost use Rattle.fw_image.specs.Meter.{Meter, status_of, count_of, marks_of, reo
 ghost use Rattle.fw_image.specs.Shown.{shown_of, IsView};
 ghost use Rattle.fw_image.specs.Fits.{IsFit};
 ghost use Rattle.fw_image.specs.Step.{enable, initiate, block, verify, activate, IsOffer, IsBlock};
-ghost use Rattle.fw_image.specs.State.{Makes, Turns, Follows, stored, outcome_of};
+ghost use Rattle.fw_image.specs.State.{Makes, Turns, Follows, IsOver, stored, outcome_of};
 ghost use Rattle.fw_image.specs.Stored.{meter_of, phase_of, IsHeld, IsMeterOf, Holds, Refused, IsSame};
 ghost use Rattle.fw_image.specs.Moves.{verify_outcome, judged, digested_of, IsVerifiedPhase, IsPlace, IsWholeGoal, LacksBlock, IsVerifiedGenuine};
 ghost use Rattle.fw_image.specs.declared.status.TransferStatus.TheVariants.{Initiated, VerificationSuccessful, VerificationFailed, ActivationSuccessful};
@@ -284,6 +284,7 @@ impl<S: ImageStore> Held<S> {
         ensures view { IsView result (shown_of self.now.meter) }
         ensures fits { IsFit self.now.meter }
         ensures trusted { IsTrue self.now.honest → IsTrusted self.now.meter }
+        ensures over { IsOver S.honest S.sound S.faults S.calls_left self.now }
     {
         laws::cut_size();
         let header = &self.header;

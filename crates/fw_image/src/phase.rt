@@ -8,7 +8,7 @@ ghost use Rattle.fw_image.specs.Meter.{Meter, status_of, count_of, marks_of, reo
 ghost use Rattle.fw_image.specs.Phases.{state_in, IsInPhase, left_in, left_begun};
 ghost use Rattle.fw_image.specs.Shown.{shown_of, IsView};
 ghost use Rattle.fw_image.specs.Fits.{IsFit};
-ghost use Rattle.fw_image.specs.State.{Makes, Turns, Follows, stored, told};
+ghost use Rattle.fw_image.specs.State.{Makes, Turns, Follows, IsOver, stored, told};
 ghost use Rattle.fw_image.specs.Step.{enable, initiate};
 ghost use Rattle.fw_image.specs.Stored.{IsMeterOf, Holds, Refused, IsSame};
 ghost use Rattle.fw_image.specs.declared.status.TransferStatus.TheVariants as status;
@@ -191,6 +191,9 @@ impl<S: ImageStore> Phase<S> {
 
         // Over an honest store the images have the digests of their names.
         ensures trusted { IsTrue (state_in self.now).honest → IsTrusted (state_in self.now).meter }
+
+        // It is over a store of its type: over one in memory it is honest, and sound where no fuse is set.
+        ensures over { IsOver S.honest S.sound S.faults S.calls_left (state_in self.now) }
     {
         self.held().view()
     }

@@ -6,7 +6,7 @@ ghost use Rattle.fw_image.specs.Meter.{status_of, IsTrusted};
 ghost use Rattle.fw_image.specs.Phases.{state_in, IsInPhase, told_verified, left_verified, IsVerified, IsNotVerified};
 ghost use Rattle.fw_image.specs.Shown.{shown_of, IsView};
 ghost use Rattle.fw_image.specs.Fits.{IsFit};
-ghost use Rattle.fw_image.specs.State.{Makes, Turns, Follows, stored, outcome_of, told, left};
+ghost use Rattle.fw_image.specs.State.{Makes, Turns, Follows, IsOver, stored, outcome_of, told, left};
 ghost use Rattle.fw_image.specs.Step.{enable, initiate, block, verify, activate};
 ghost use Rattle.fw_image.specs.Stored.{Holds, IsSame};
 ghost use Rattle.fw_image.specs.declared.status.TransferStatus.TheVariants as status;
@@ -133,6 +133,9 @@ impl<S: ImageStore, P: Status> Transfer<S, P> {
 
         // Over an honest store the images have the digests of their names.
         ensures trusted { IsTrue self.now.honest → IsTrusted self.now.meter }
+
+        // It is over a store of its type: over one in memory it is honest, and sound where no fuse is set.
+        ensures over { IsOver S.honest S.sound S.faults S.calls_left self.now }
     {
         self.held.view()
     }

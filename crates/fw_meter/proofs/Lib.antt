@@ -3,4 +3,5 @@ mod Responding
 mod OneAnswer
 mod Stops
 mod Faultless
+mod Telling
 pub mod Coding

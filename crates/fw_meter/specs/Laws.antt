@@ -1,8 +1,11 @@
 -- Public vocabulary: the laws of a meter.
 use Rattle.std.specs.Prelude.{◌≡◌, ◌⊎◌, Bool, true, IsTrue, List, ℕ, length, Option, Some, None}
 use Rattle.std.specs.FinMap.{get}
+use Rattle.fw_axdr.specs.Value.{octet_string}
+use Rattle.fw_wrapper.specs.Wrapper.{Wraps}
 use Rattle.fw_apdu.specs.Request.{RequestContent}
-use Rattle.fw_names.specs.Name.{Name}
+use Rattle.fw_apdu.specs.Response.{value, get_response, SpellsResponse}
+use Rattle.fw_names.specs.Name.{Name, IsName, SpellsName}
 use Rattle.fw_server.specs.Meaning.{meaning_of, block}
 use Rattle.fw_store.specs.declared.header.Goal.{Goal}
 use Rattle.fw_image.specs.Meter.{Meter, receiving, reopened}
@@ -60,3 +63,20 @@ abbrev pub TurnFaultIsStop : Type 0
 TurnFaultIsStop =
     (old new : State) (faultless : Bool) → IsTrue old.honest → Turn old.honest old.meter faultless new.meter
     → (new.meter ≡ reopened old.meter) ⊎ Turn true old.meter true new.meter
+
+-- a datagram, between whatever wPorts, carries an answer to a GET: an octet-string of these bytes
+pub record TellsString (datagram bytes : List ℕ) : Type 0 where
+  pub source : ℕ
+  pub dest : ℕ
+  pub invoke : ℕ
+  pub apdu : List ℕ
+  pub wraps : Wraps datagram source dest apdu
+  pub spells : SpellsResponse apdu invoke (get_response (value (octet_string bytes)))
+
+-- Of all that a meter replies to a GET, an octet-string of 41 bytes spells the name of the image that runs, where that has a spelling. No
+-- call of the store failed: behind one that did, no value is told. The store may be honest or not.
+abbrev pub TellsRunning : Type 0
+TellsRunning =
+    (honest : Bool) (old new : Meter) (datagram reply bytes : List ℕ) (activated : Option Name) → IsName old.running.name
+    → Handles honest IsTrue old datagram (Some reply) activated new → TellsString reply bytes → length bytes ≡ 41
+    → SpellsName bytes old.running.name

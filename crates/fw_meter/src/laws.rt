@@ -1,6 +1,6 @@
 //! Laws of a meter, over the definitions alone. A caller cites a law by calling it: nothing is done.
 
-ghost use Rattle.fw_meter.specs.Laws.{OneAnswer, Faultless, FaultIsStop, TurnFaultIsStop};
+ghost use Rattle.fw_meter.specs.Laws.{OneAnswer, Faultless, FaultIsStop, TurnFaultIsStop, TellsRunning};
 
 /// Over an honest store that doesn't fail, a meter and a datagram determine the reply, the activation and the meter
 /// afterwards.
@@ -30,3 +30,12 @@ pub fn fault_is_stop()
 pub fn turn_fault_is_stop()
     ensures { TurnFaultIsStop }
 {}
+
+/// Of all that a meter replies to a GET, an octet-string of 41 bytes spells the name of the image that runs, over any store of
+/// which no call failed. That name has a spelling, as the clause `fits` of `MeterCore::view` says.
+pub fn tells_running()
+    ensures { TellsRunning }
+{
+    fw_axdr::laws::short_spells();
+    fw_axdr::laws::one_spelling();
+}

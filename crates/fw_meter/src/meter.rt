@@ -1,6 +1,6 @@
 //! A meter without its wires.
 
-ghost use Rattle.std.specs.Prelude.{◌≡◌, ◌≢◌, ◌≤◌, IsTrue, IfOk, IfErr, IsOkAnd, OnOk, OnErr, Some, None, is_ok, true, false, length};
+ghost use Rattle.std.specs.Prelude.{◌≡◌, ◌≢◌, ◌≤◌, ◌↔◌, IsTrue, IfOk, IfErr, IsOkAnd, OnOk, OnErr, Some, None, is_ok, true, false, length};
 ghost use Rattle.fw_store.specs.Faults.{HasCause, Spends, count_after};
 ghost use Rattle.fw_server.specs.Meaning as meaning;
 ghost use Rattle.fw_server.specs.Meaning.{meaning_of};
@@ -13,8 +13,8 @@ ghost use Rattle.fw_image.specs.Calls.{verified_size, opening_calls};
 ghost use Rattle.fw_image.specs.Meter.{Meter, reopened, IsTrusted};
 ghost use Rattle.fw_image.specs.Shown.{shown_of, IsView};
 ghost use Rattle.fw_image.specs.Fits.{IsFit};
-ghost use Rattle.fw_image.specs.State.{Follows, Counts, Turns, stored};
-ghost use Rattle.fw_image.specs.Stored.{Holds, IsMeterOf, Refused, is_opening_faultless};
+ghost use Rattle.fw_image.specs.State.{Follows, Counts, Turns, IsOver, stored};
+ghost use Rattle.fw_image.specs.Stored.{Holds, IsMeterOf, Refused, IsSame, is_opening_faultless};
 ghost use Rattle.fw_image.specs.declared.error.OpenError.TheVariants as not_opened;
 ghost use Rattle.fw_meter.specs.Handling.{Handles, Responds, MayWantMemory, reply_to, reply_bytes};
 
@@ -171,6 +171,9 @@ impl<S: ImageStore + Drop> MeterCore<S> {
 
         // Over an honest store the images have the digests of their names.
         ensures trusted { IsTrue self.now.honest → IsTrusted self.now.meter }
+
+        // It is over a store of its type: over one in memory it is honest, and sound where no fuse is set.
+        ensures over { IsOver S.honest S.sound S.faults S.calls_left self.now }
     {
         match &self.phase {
             Some(phase) => phase.view(),
@@ -311,6 +314,18 @@ impl MeterCore<MemoryStore> {
         match &mut self.phase {
             Some(phase) => phase.unfuse(),
             None => unreachable!(),
+        }
+    }
+
+    /// Whether the two stores have the same capacity, header and slots, and as many bytes are digested where the image is
+    /// being verified. Then the two meters are the same. Fuses and counts of faults may differ.
+    pub fn same(&self, other: &Self) -> bool
+        ensures same { IsTrue result ↔ IsSame self.now other.now }
+        ensures meters { IsTrue result → self.now.meter ≡ other.now.meter }
+    {
+        match (&self.phase, &other.phase) {
+            (Some(phase), Some(other)) => phase.same(other),
+            _ => unreachable!(),
         }
     }
 }

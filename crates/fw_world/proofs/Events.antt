@@ -2,7 +2,6 @@
 use Rattle.std.proofs.Common.{◌≡◌, ℕ, zero, suc, Bool, true, nat_eq, inl, inr, ◌⊎◌, List, [], ◌∷◌, ◌++◌, Option, Some, None, refl, sym, ◌∙◌, ap, subst, eqb-true, arith, All, slice_get}
 use Rattle.std.proofs.lemmas.List.{append-nil}
 use Rattle.std.proofs.lemmas.List.Elements.{All-append, All-weaker, All-head, All-tail, Contains-append_left}
-use Rattle.fw_axdr.specs.Laws as axdr
 use Rattle.fw_names.specs.Laws as names
 use Rattle.fw_names.specs.Name.{Campaign, Name, IsOpened, SpellsName, name_bytes, name_of, factory}
 use Rattle.fw_apdu.specs.Laws as apdu
@@ -10,6 +9,7 @@ use Rattle.fw_client.specs.Ask.{initiate, request_of}
 use Rattle.fw_server.specs.Meaning.{meaning_of}
 use Rattle.fw_image.specs.Laws.{JoinedSize}
 use Rattle.fw_image.specs.Meter.{reopened, Meter}
+use Rattle.fw_meter.specs.Laws.{TellsRunning}
 use Rattle.fw_world.specs.declared.datagram.Direction.TheVariants.{ToHead}
 use Rattle.fw_world.specs.World.{Datagram, Activation, Offers, World, put, same_campaign, with_offer, with_meter, with_done}
 use Rattle.fw_world.specs.Step.{IsOfOffer, MayAsk, Permits, replies, activated, Serves, Marks, StopsAt}
@@ -17,7 +17,7 @@ use Rattle.fw_world.specs.Headline.{IsOffered, HasActivated, FirstNames, IsOwn, 
 use Rattle.fw_world.specs.Laws.{IsSafeWorld}
 use Rattle.fw_world.proofs.Maps.{put_cases, put_keeps, same_campaign_is}
 use Rattle.fw_world.proofs.Spelled.{one_brought, is_initiate}
-use Rattle.fw_world.proofs.Meters.{IsSafeMeter, IsSafeAfter, quiet, reopened_safe, OffersGrow, offered_grows, own_grows, offers_grow, activations_grow, offered_name}
+use Rattle.fw_world.proofs.SafeMeters.{IsSafeMeter, IsSafeAfter, quiet, reopened_safe, OffersGrow, offered_grows, own_grows, offers_grow, activations_grow, offered_name}
 use Rattle.fw_world.proofs.Handled.{handles_safe, stops_safe, reply_asks, reply_is_own}
 
 pub at_number : {X : Type 0} (P : X → Type 0) (xs : List X) (number : ℕ) (x : X) → All P xs → slice_get xs number ≡ Some x → P x
@@ -155,8 +155,8 @@ module _ (IsFirst : FirstNames) where
       more : List Activation
       more = activated number name after
 
-  pub serves_safe : JoinedSize → names.OneName → axdr.ShortSpells → axdr.OneSpelling → (old : World) → IsSafeWorld IsFirst old → (d : Datagram) → InitiatesOffered old.offered d → (new : World) → Serves old d new → IsSafeWorld IsFirst new
-  serves_safe sizes one_name shorts spellings old k d asks new s =
+  pub serves_safe : JoinedSize → names.OneName → TellsRunning → (old : World) → IsSafeWorld IsFirst old → (d : Datagram) → InitiatesOffered old.offered d → (new : World) → Serves old d new → IsSafeWorld IsFirst new
+  serves_safe sizes one_name tells old k d asks new s =
       subst (IsSafeWorld IsFirst) (sym s.new_is)
       (moves_safe old k d.meter s.name s.after (handles_safe sizes one_name IsFirst old.offered k.sound.campaigns old.activations d asks s.before before s.reply s.name s.after s.handles)
       (old.sent ++ replies d s.reply)
@@ -164,7 +164,7 @@ module _ (IsFirst : FirstNames) where
       (reply_asks sizes one_name IsFirst old.offered k.sound.campaigns old.activations d asks s.before before s.reply s.name s.after s.handles))
       (All-append (TellsOwn IsFirst (old.activations ++ more)) old.sent (replies d s.reply)
       (All-weaker (TellsOwn IsFirst old.activations) (TellsOwn IsFirst (old.activations ++ more)) (told_grows IsFirst old.activations more) old.sent k.names.told)
-      (reply_is_own sizes one_name IsFirst old.offered k.sound.campaigns old.activations d asks s.before before shorts spellings more s.reply s.name s.after s.handles)))
+      (reply_is_own sizes one_name IsFirst old.offered k.sound.campaigns old.activations d asks s.before before tells more s.reply s.name s.after s.handles)))
     where
       more : List Activation
       more = activated d.meter s.name s.after

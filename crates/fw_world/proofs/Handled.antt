@@ -1,14 +1,11 @@
 -- What a datagram that is handled, or a stop in it, keeps of a meter of the world.
-use Rattle.std.proofs.Common.{◌≡◌, ℕ, Bool, true, false, IsTrue, List, [], ◌++◌, length, Option, Some, None, inl, inr, refl, sym, ◌∙◌, ap, subst, if◌then◌else◌, All}
+use Rattle.std.proofs.Common.{◌≡◌, ℕ, Bool, true, false, IsTrue, List, [], ◌++◌, Option, Some, None, inl, inr, refl, sym, ◌∙◌, ap, subst, if◌then◌else◌, All}
 use Rattle.std.proofs.lemmas.List.Elements.{All-nil, All-cons}
-use Rattle.fw_axdr.specs.Laws as axdr
-use Rattle.fw_axdr.specs.Value.{octet_string}
 use Rattle.fw_names.specs.Laws as names
 use Rattle.fw_names.specs.Name.{Campaign, Name, IsOpened, SpellsName}
 use Rattle.fw_wrapper.specs.Wrapper.{wrapped}
 use Rattle.fw_apdu.specs.Request.{RequestContent, SpellsRequest, is_confirmed}
-use Rattle.fw_apdu.specs.Response.{value, get_response, response_bytes}
-use Rattle.fw_client.specs.Hearing.{CarriesResponse}
+use Rattle.fw_apdu.specs.Response.{response_bytes}
 use Rattle.fw_server.specs.Meaning as meaning
 use Rattle.fw_server.specs.Meaning.{Meaning, meaning_of}
 use Rattle.fw_server.specs.Answer.{response_of}
@@ -19,13 +16,13 @@ use Rattle.fw_image.specs.Step.{Operation, OperationOutcome, done, refused, veri
 use Rattle.fw_image.specs.declared.error.Refusal.TheVariants.{Disabled, BadInitiate, BadBlock, Missing, Fault, Differs}
 use Rattle.fw_meter.specs.Step.{MeterResult, coded, operation_code, Operates, MeterStep, activation_of}
 use Rattle.fw_meter.specs.Handling.{Brings, outcome_in, Handles}
-use Rattle.fw_meter.specs.Laws.{Stops}
+use Rattle.fw_meter.specs.Laws.{Stops, TellsString, TellsRunning}
 use Rattle.fw_world.specs.declared.datagram.Direction.TheVariants.{ToHead}
 use Rattle.fw_world.specs.World.{Datagram, Activation, Offers}
 use Rattle.fw_world.specs.Step.{replies}
 use Rattle.fw_world.specs.Headline.{IsOffered, FirstNames, InitiatesOffered, TellsOwn}
-use Rattle.fw_world.proofs.Spelled.{one_apdu, asks_nothing, reply_tells}
-use Rattle.fw_world.proofs.Meters.{IsSafeMeter, own_grows, switches, IsOfOffers, IsSafeAfter, quiet, cell_safe, step_safe}
+use Rattle.fw_world.proofs.Spelled.{one_apdu, asks_nothing}
+use Rattle.fw_world.proofs.SafeMeters.{IsSafeMeter, own_grows, switches, IsOfOffers, IsSafeAfter, quiet, cell_safe, step_safe}
 
 -- an accepted activate, and nothing else, switches
 pub activate_switches : (new : Meter) (made : OperationOutcome) → activation_of meaning.activate (coded (operation_code made)) new ≡ switches image.activate made new
@@ -108,16 +105,12 @@ module _ (sizes : JoinedSize) (one_name : names.OneName) (IsFirst : FirstNames) 
           asks_nothing h.invoke invoke h.content content h.responds.result (subst (λ (s : List ℕ). SpellsRequest s invoke content) same brings.spells)
 
   -- and what it tells of 41 bytes is a name of the meter's own
-  pub reply_is_own : axdr.ShortSpells → axdr.OneSpelling → (more : List Activation) (reply : Option (List ℕ)) (name : Option Name) (new : Meter) → Handles true IsTrue old d.bytes reply name new
+  pub reply_is_own : TellsRunning → (more : List Activation) (reply : Option (List ℕ)) (name : Option Name) (new : Meter) → Handles true IsTrue old d.bytes reply name new
       → All (TellsOwn IsFirst (activations ++ more)) (replies d reply)
-  reply_is_own shorts spellings more reply name new (inr h) = no_reply (TellsOwn IsFirst (activations ++ more)) d reply h.silent
-  reply_is_own shorts spellings more reply name new (inl h) =
-      each_reply (TellsOwn IsFirst (activations ++ more)) d reply (is_confirmed h.invoke) (wrapped 1 h.source written) h.responds.replies
-      (λ invoke bytes way carries size. (old.running.name, spells invoke bytes carries size, own_grows IsFirst activations more d.meter old.running.name k.own))
-    where
-      written : List ℕ
-      written = response_bytes h.invoke (response_of (outcome_in h.content h.responds.result))
-
-      spells : (invoke : ℕ) (bytes : List ℕ) → CarriesResponse (wrapped 1 h.source written) invoke (get_response (value (octet_string bytes))) → length bytes ≡ 41 → SpellsName bytes old.running.name
-      spells invoke bytes carries size =
-          reply_tells shorts spellings old new h.source h.invoke invoke h.content h.responds.result (wrapped 1 h.source written) bytes k.named h.responds.steps refl carries size
+  reply_is_own tells more None name new h = All-nil (TellsOwn IsFirst (activations ++ more))
+  reply_is_own tells more (Some reply) name new h =
+      let Own : Datagram → Type 0 = TellsOwn IsFirst (activations ++ more) in
+      let own : Own (record d { direction = ToHead; bytes = reply }) = λ invoke bytes way carries size.
+      let told : TellsString reply bytes = record { source = 1; dest = 1; invoke = invoke; apdu = carries.apdu; wraps = carries.wraps; spells = carries.spells } in
+      (old.running.name, tells true old new d.bytes reply bytes name k.named h told size, own_grows IsFirst activations more d.meter old.running.name k.own) in
+      All-cons Own (record d { direction = ToHead; bytes = reply }) [] own (All-nil Own)

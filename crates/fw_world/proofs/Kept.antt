@@ -2,7 +2,6 @@
 use Rattle.std.proofs.Common.{◌≡◌, ℕ, inl, inr, List, [], ◌∷◌, Some, refl, sym, ◌∙◌, ap, subst, All}
 use Rattle.std.proofs.lemmas.List.Elements.{All-nil, All-contains}
 use Rattle.sha2.proofs.Facts256.{length-sha256}
-use Rattle.fw_axdr.specs.Laws as axdr
 use Rattle.fw_names.specs.Laws as names
 use Rattle.fw_names.specs.Name.{Name, factory}
 use Rattle.fw_apdu.specs.Laws as apdu
@@ -10,16 +9,17 @@ use Rattle.fw_store.specs.Setup.{IsSetup}
 use Rattle.fw_image.specs.Fresh.{fresh_meter}
 use Rattle.fw_image.specs.Laws.{JoinedSize}
 use Rattle.fw_image.specs.Meter.{Meter, reopened}
+use Rattle.fw_meter.specs.Laws.{TellsRunning}
 use Rattle.fw_world.specs.declared.datagram.Direction.{Direction}
 use Rattle.fw_world.specs.declared.datagram.Direction.TheVariants.{ToMeter, ToHead}
 use Rattle.fw_world.specs.World.{World}
 use Rattle.fw_world.specs.Step.{Event, open_campaign, cancel_campaign, tick, deliver, stop, restart_meter, restart_head, turn, Delivers, WorldStep, IsOpening, Run}
 use Rattle.fw_world.specs.Headline.{FirstNames, IsFactoryName, IsFirstName, InitiatesOffered, TellsOwn, IsSafe, ActivationsAreEqual}
 use Rattle.fw_world.specs.Laws.{AfterEachRun, IsSafeWorld, EveryStepIsSafe}
-use Rattle.fw_world.proofs.Meters.{IsSafeMeter, reopened_safe, turn_safe}
+use Rattle.fw_world.proofs.SafeMeters.{IsSafeMeter, reopened_safe, turn_safe}
 use Rattle.fw_world.proofs.Events.{at_number, world_of, meter_of, meter_safe, open_safe, tick_safe, serves_safe, stop_safe, marks_safe}
 
-module _ (sizes : JoinedSize) (one_name : names.OneName) (size : names.SpellingSize) (requests : apdu.OneRequest) (shorts : axdr.ShortSpells) (spellings : axdr.OneSpelling) where
+module _ (sizes : JoinedSize) (one_name : names.OneName) (size : names.SpellingSize) (requests : apdu.OneRequest) (tells : TellsRunning) where
   module _ (IsFirst : FirstNames) (first : (number : ℕ) (name : Name) → IsFirst number name → name.campaign ≡ factory) where
     step_safe : (old new : World) (event : Event) → WorldStep old event new → IsSafeWorld IsFirst old → IsSafeWorld IsFirst new
     step_safe old new (open_campaign campaign image meters) s k = subst (IsSafeWorld IsFirst) (sym s.2) (open_safe IsFirst old k campaign image s.0 s.1)
@@ -29,7 +29,7 @@ module _ (sizes : JoinedSize) (one_name : names.OneName) (size : names.SpellingS
       where
         delivers : (way : Direction) → s.0.direction ≡ way → Delivers way old s.0 new → IsSafeWorld IsFirst new
         delivers ToMeter is serves =
-            serves_safe IsFirst sizes one_name shorts spellings old k s.0 (at_number (InitiatesOffered old.offered) old.sent number s.0 k.initiates s.1) new serves
+            serves_safe IsFirst sizes one_name tells old k s.0 (at_number (InitiatesOffered old.offered) old.sent number s.0 k.initiates s.1) new serves
         delivers ToHead is (inl same) = subst (IsSafeWorld IsFirst) (sym same) k
         delivers ToHead is (inr marks) =
             marks_safe IsFirst one_name size first old k s.0 is (at_number (TellsOwn IsFirst old.activations) old.sent number s.0 k.names.told s.1) new marks

@@ -1,13 +1,12 @@
 mod Maps
 mod Cells
 mod Spelled
-mod Meters
+mod SafeMeters
 mod Handled
 mod Room
 mod Events
 mod Kept
 pub mod Refinement
-mod Making
 mod Openings
 mod Following
 mod Staying
@@ -15,3 +14,5 @@ mod Places
 mod Refusing
 mod Delivered
 mod NewStores
+mod Finding
+mod Keeping

@@ -1,6 +1,6 @@
 -- A new world.
 use Rattle.std.proofs.Common.{◌≡◌, ℕ, nat_eq, ◌==◌, Bool, true, false, cond, if◌then◌else◌, List, [], ◌∷◌, map, Option, Some, None, refl, sym, ap, subst, ◌∙◌, eqb-true, All}
-use Rattle.std.proofs.lemmas.List.Elements.{All-nil, All-head, All-tail}
+use Rattle.std.proofs.lemmas.List.Elements.{All-head, All-tail}
 use Rattle.std.specs.Map.{lookup}
 use Rattle.std.specs.Option.{option_map, option_and_then}
 use Rattle.fw_names.specs.Name.{Campaign}
@@ -15,8 +15,8 @@ use Rattle.fw_world.specs.declared.setup.HeadSetup.{HeadSetup}
 use Rattle.fw_world.specs.declared.setup.MeterSetup.{MeterSetup}
 use Rattle.fw_world.specs.declared.setup.Setup.{Setup}
 use Rattle.fw_world.specs.Step.{IsOpening}
-use Rattle.fw_world.specs.World.{Datagram}
-use Rattle.fw_world.specs.State.{State, IsAddressed, IsState, is_done, world_of}
+use Rattle.fw_world.specs.State.{State, IsState, is_done, world_of}
+use Rattle.fw_world.specs.Parts.{head_behind}
 use Rattle.fw_world.specs.Setup.{IsSetup, IsStored, head_of, head_entry, meter_of, meter_entry, opening_state}
 
 abbrev IsNew : Meter → Type 0
@@ -35,12 +35,18 @@ own_head (first ∷ others) number head e =
     found_first (nat_eq number first.head) (head_of first) head (lookup (nat_eq number) (map head_entry others)) e (λ (h : Head). h.book.head ≡ number)
     (λ same. sym (eqb-true number first.head same)) (own_head others number head)
 
--- and nothing was sent
-pub new_own : (heads : List HeadSetup) (s : State) → s.heads ≡ map head_entry heads → s.sent ≡ [] → IsState s
-new_own heads s made none = record {
-  own = λ number head e. own_head heads number head (ap (λ es. lookup (nat_eq number) es) (sym made) ∙ e);
-  addressed = subst (λ (ds : List Datagram). All (IsAddressed s) ds) (sym none) (All-nil (IsAddressed s));
-}
+pub new_own : (heads : List HeadSetup) (s : State) → s.heads ≡ map head_entry heads → IsState s
+new_own heads s made = record { own = λ number head e. own_head heads number head (ap (λ es. lookup (nat_eq number) es) (sym made) ∙ e) }
+
+-- so is each of any list of head ends
+own_core : (heads : List Head) (number : ℕ) (head : Head) → lookup (nat_eq number) (map head_behind heads) ≡ Some head → head.book.head ≡ number
+own_core [] number head e = absurd cc
+own_core (first ∷ others) number head e =
+    found_first (nat_eq number first.book.head) first head (lookup (nat_eq number) (map head_behind others)) e (λ (h : Head). h.book.head ≡ number)
+    (λ same. sym (eqb-true number first.book.head same)) (own_core others number head)
+
+pub parts_own : (heads : List Head) (s : State) → s.heads ≡ map head_behind heads → IsState s
+parts_own heads s joined = record { own = λ number head e. own_core heads number head (ap (λ es. lookup (nat_eq number) es) (sym joined) ∙ e) }
 
 -- ---- it offers nothing, and nobody is done
 

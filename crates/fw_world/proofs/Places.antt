@@ -15,7 +15,6 @@ use Rattle.fw_world.specs.State.{State, IsState, head_at, meter_at, set_head, se
 use Rattle.fw_world.specs.Step.{replies, activated}
 use Rattle.fw_world.specs.Inside.{replied, noted, switched_name, IsRunning}
 use Rattle.fw_world.proofs.Refinement.{head_cases}
-use Rattle.fw_world.proofs.Staying.{head_addressed}
 
 pub on_ok : {X E : Type 0} (r : Result X E) (P Q : X → Type 0) → ((x : X) → P x → Q x) → IfOk r P → IfOk r Q
 on_ok (Ok x) P Q f h = f x h
@@ -85,10 +84,6 @@ module _ (s old : State) (is : s ≡ old) (key : ℕ) where
 
 -- ---- each head end stays behind its own number
 
-pub still_own : (s : State) → IsState s → (key : ℕ) (new : List (ℕ × Head)) (found written : Head) → lookup (nat_eq key) s.heads ≡ Some found → new ≡ set_value (nat_eq key) s.heads written → written ≡ found
-    → IsState (record s { heads = new })
-still_own s is key new found written there set e = subst (λ (hs : List (ℕ × Head)). IsState (record s { heads = hs })) (sym (written_back key s.heads new found written there set e)) is
-
 some_head : (a b : Head) → Some a ≡ Some b → a ≡ b
 some_head a b e = cc
 
@@ -100,7 +95,6 @@ moved_own s is key new found written there set keeps = subst (λ (hs : List (ℕ
     | inl at ↦ ap (λ (h : Head). h.book.head) (some_head head written (sym e ∙ at.then)) ∙ keeps ∙ is.own key found there ∙ sym at.is
     | inr other ↦ is.own number head (sym other.1 ∙ e)
   ];
-  addressed = head_addressed s is key (set_value (nat_eq key) s.heads written) written refl;
 })
 
 went_keeps : (old : Head) (meter : ℕ) (row : Row) (heard : RowNews) → (went_on old meter row heard).book.head ≡ old.book.head

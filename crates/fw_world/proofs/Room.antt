@@ -14,7 +14,7 @@ use Rattle.fw_image.specs.Step.{OperationOutcome, done, refused, verification_in
 use Rattle.fw_meter.specs.Step.{MeterResult, got, coded, MeterStep, activation_of}
 use Rattle.fw_meter.specs.Handling.{Handles}
 use Rattle.fw_world.specs.Inside.{HasRoom, IsRunning, switched_name}
-use Rattle.fw_world.proofs.Meters.{admits_activate, genuine_bytes, switches}
+use Rattle.fw_world.proofs.SafeMeters.{admits_activate, genuine_bytes, switches}
 use Rattle.fw_world.proofs.Handled.{activate_switches}
 
 module _ (sizes : JoinedSize) (old new : Meter) (fits : IsFit old) (trusted : IsTrusted old) (room : List ℕ) (has : HasRoom old room) where

@@ -3,13 +3,14 @@ use Rattle.std.proofs.Common.{◌≡◌, ℕ, nat_eq, Bool, true, false, cond, L
 use Rattle.std.specs.Map.{lookup, set_value}
 use Rattle.std.proofs.lemmas.List.Elements.{All-nil, All-cons, All-append, All-weaker}
 use Rattle.fw_image.specs.Meter.{Meter}
-use Rattle.fw_head.specs.Head.{Head}
+use Rattle.fw_head.specs.Head.{Head, sends_to}
 use Rattle.fw_world.specs.declared.datagram.Direction.{Direction}
 use Rattle.fw_world.specs.declared.datagram.Direction.TheVariants.{ToMeter, ToHead}
 use Rattle.fw_world.specs.World.{Datagram, Activation}
-use Rattle.fw_world.specs.Step.{open_campaign, cancel_campaign, tick, deliver, stop, restart_meter, restart_head, turn, replies}
-use Rattle.fw_world.specs.State.{State, head_at, meter_at, set_head, IsAddressed, IsState, sent_to, DeliversAt}
-use Rattle.fw_world.specs.Laws.{ActorsStay}
+use Rattle.fw_world.specs.Step.{Event, open_campaign, cancel_campaign, tick, deliver, stop, restart_meter, restart_head, turn, replies}
+use Rattle.fw_world.specs.State.{State, head_at, meter_at, set_head, IsAddressed, AreAddressed, sent_to, StateStep, DeliversAt}
+use Rattle.fw_world.specs.Laws.{ActorsStay, SentStaysAddressed}
+use Rattle.fw_world.proofs.Events.{at_number}
 
 -- another value behind a key leaves which keys are there
 pub same_there : {X : Type 0} (test other : ℕ → Bool) (value : X) (es : List (ℕ × X)) → is_some (lookup other (set_value test es value)) ≡ is_some (lookup other es)
@@ -63,32 +64,39 @@ actors_stay old new (turn number) o = meter_goes old new number _ (ap (λ (s : S
 addressed_in : (old new : State) → ((number : ℕ) → Stays old new number) → (sent : List Datagram) → All (IsAddressed old) sent → All (IsAddressed new) sent
 addressed_in old new stays = All-weaker (IsAddressed old) (IsAddressed new) (λ d there. ((stays d.head).0 ∙ there.0, (stays d.meter).1 ∙ there.1))
 
--- so it is where a head end is another one
-pub head_addressed : (s : State) → IsState s → (key : ℕ) (new : List (ℕ × Head)) (written : Head) → new ≡ set_value (nat_eq key) s.heads written → All (IsAddressed (record s { heads = new })) s.sent
-head_addressed s is key new written set =
-    addressed_in s (record s { heads = new }) (head_goes s (record s { heads = new }) key written s.sent (ap (λ (es : List (ℕ × Head)). let w : State = record s { heads = es } in w) set)) s.sent is.addressed
-
--- or a meter
-pub meter_own : (s : State) → IsState s → (key : ℕ) (new : List (ℕ × Meter)) (written : Meter) → new ≡ set_value (nat_eq key) s.meters written → IsState (record s { meters = new })
-meter_own s is key new written set =
-    record { own = is.own; addressed = addressed_in s (record s { meters = new }) (meter_goes s (record s { meters = new }) key written refl set) s.sent is.addressed }
-
--- or where more is sent, between those who are there
-pub sent_own : (s : State) → IsState s → (sent more : List Datagram) → sent ≡ s.sent ++ more → All (IsAddressed s) more → IsState (record s { sent = sent })
-sent_own s is sent more grown there =
-    record { own = is.own; addressed = subst (λ (ds : List Datagram). All (IsAddressed s) ds) (sym grown) (All-append (IsAddressed s) s.sent more is.addressed there) }
-
 -- a head end sends to a meter that is there
-pub sends_there : (s : State) (head meter : ℕ) (datagrams : List (List ℕ)) → is_some (head_at s head) ≡ true → is_some (meter_at s meter) ≡ true → All (IsAddressed s) (sent_to head meter datagrams)
+sends_there : (s : State) (head meter : ℕ) (datagrams : List (List ℕ)) → is_some (head_at s head) ≡ true → is_some (meter_at s meter) ≡ true → All (IsAddressed s) (sent_to head meter datagrams)
 sends_there s head meter [] h m = All-nil (IsAddressed s)
 sends_there s head meter (bytes ∷ others) h m =
     All-cons (IsAddressed s) (record { head = head; meter = meter; direction = ToMeter; bytes = bytes }) (sent_to head meter others) (h, m) (sends_there s head meter others h m)
 
 -- a meter replies to where a datagram came from
-pub replies_there : (s : State) (d : Datagram) (reply : Option (List ℕ)) → IsAddressed s d → All (IsAddressed s) (replies d reply)
+replies_there : (s : State) (d : Datagram) (reply : Option (List ℕ)) → IsAddressed s d → All (IsAddressed s) (replies d reply)
 replies_there s d None there = All-nil (IsAddressed s)
 replies_there s d (Some bytes) there = All-cons (IsAddressed s) (record d { direction = ToHead; bytes = bytes }) [] there (All-nil (IsAddressed s))
 
--- what was switched to is in no datagram
-pub noted_own : (s : State) → IsState s → (activations : List Activation) → IsState (record s { activations = activations })
-noted_own s is activations = record { own = is.own; addressed = is.addressed }
+-- where no more is sent, and where more is
+none_sent : (old new : State) → new.sent ≡ old.sent → All (IsAddressed new) old.sent → AreAddressed new
+none_sent old new same kept = subst (λ (ds : List Datagram). All (IsAddressed new) ds) (sym same) kept
+
+more_sent : (old new : State) (more : List Datagram) → new.sent ≡ old.sent ++ more → All (IsAddressed new) old.sent → All (IsAddressed new) more → AreAddressed new
+more_sent old new more grown kept there = subst (λ (ds : List Datagram). All (IsAddressed new) ds) (sym grown) (All-append (IsAddressed new) old.sent more kept there)
+
+delivery_addressed : (old new : State) (d : Datagram) (way : Direction) → DeliversAt way old d new → All (IsAddressed new) old.sent → IsAddressed new d → AreAddressed new
+delivery_addressed old new d ToMeter o kept there = more_sent old new (replies d o.reply) (ap (λ (s : State). s.sent) o.new_is) kept (replies_there new d o.reply there)
+delivery_addressed old new d ToHead o kept there = none_sent old new (ap (λ (s : State). s.sent) o.new_is) kept
+
+pub sent_addressed : SentStaysAddressed
+sent_addressed old new event o addressed = go event o (actors_stay old new event o) (addressed_in old new (actors_stay old new event o) old.sent addressed)
+  where
+    go : (event : Event) → StateStep old event new → ((number : ℕ) → Stays old new number) → All (IsAddressed new) old.sent → AreAddressed new
+    go (open_campaign campaign image meters) o stays kept = none_sent old new (ap (λ (s : State). s.sent) o.new_is) kept
+    go (cancel_campaign campaign) o stays kept = none_sent old new (ap (λ (s : State). s.sent) o.new_is) kept
+    go (tick head meter) o stays kept =
+        more_sent old new (sent_to head meter (sends_to o.head meter)) (ap (λ (s : State). s.sent) o.new_is) kept
+        (sends_there new head meter (sends_to o.head meter) ((stays head).0 ∙ ap is_some o.there) ((stays meter).1 ∙ o.meter_there))
+    go (deliver number) o stays kept = delivery_addressed old new o.0 o.0.direction o.2 kept (at_number (IsAddressed new) old.sent number o.0 kept o.1)
+    go (stop number calls torn) o stays kept = let s = o.3 in none_sent old new (ap (λ (s : State). s.sent) s.new_is) kept
+    go (restart_meter number) o stays kept = none_sent old new (ap (λ (s : State). s.sent) o.2) kept
+    go (restart_head number) o stays kept = none_sent old new (ap (λ (s : State). s.sent) o.2) kept
+    go (turn number) o stays kept = none_sent old new (ap (λ (s : State). s.sent) o.4) kept

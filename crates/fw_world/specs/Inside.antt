@@ -1,5 +1,5 @@
 -- For the models of the world's types and private clauses alone.
-use Rattle.std.specs.Prelude.{◌≡◌, ℕ, IsTrue, List, [], ◌∷◌, length, Option, Some, None, slice_get}
+use Rattle.std.specs.Prelude.{◌≡◌, ℕ, Bool, IsTrue, cond, List, [], ◌∷◌, length, Option, Some, None, slice_get}
 use Rattle.std.specs.Option.{option_map}
 use Rattle.fw_names.specs.Name.{Name}
 use Rattle.fw_store.specs.declared.header.Goal.{Goal}
@@ -9,6 +9,8 @@ use Rattle.fw_meter.specs.Inside.{no_state}
 use Rattle.fw_world.specs.declared.datagram.Direction.{Direction}
 use Rattle.fw_world.specs.declared.datagram.Direction.TheVariants.{ToHead}
 use Rattle.fw_world.specs.World.{Datagram, Activation}
+use Rattle.fw_world.specs.State as kept
+use Rattle.fw_world.specs.Parts.{IsOnce}
 
 -- the meter is there, over a store that gives what was written and doesn't fail
 pub record IsSound (state : State) : Type 0 where
@@ -49,3 +51,13 @@ replied head meter (Some bytes) = record { head = head; meter = meter; direction
 abbrev pub noted : ℕ → Option Image → List Activation
 noted meter None = []
 noted meter (Some image) = record { meter = meter; name = image.name; bytes = image.bytes } ∷ []
+
+-- with this entry in the place of the first whose key passes
+abbrev pub set_entry : {X : Type 0} → (ℕ → Bool) → List (ℕ × X) → ℕ × X → List (ℕ × X)
+set_entry test [] new = []
+set_entry test (entry ∷ entries) new = cond (test entry.0) (new ∷ entries) (entry ∷ set_entry test entries new)
+
+-- what holds of each world
+pub record IsWorld (s : kept.State) : Type 0 where
+  pub state : kept.IsState s
+  pub once : IsOnce s

@@ -1,7 +1,7 @@
 -- Public vocabulary: the laws of the world. They speak of definitions alone.
 use Rattle.std.specs.Prelude.{◌≡◌, ℕ, List, is_some}
 use Rattle.fw_world.specs.World.{World}
-use Rattle.fw_world.specs.State.{State, head_at, meter_at, IsState, StateStep, world_of}
+use Rattle.fw_world.specs.State.{State, head_at, meter_at, AreAddressed, IsState, StateStep, world_of}
 use Rattle.fw_world.specs.Step.{Event, IsOpening, WorldStep, Run}
 use Rattle.fw_world.specs.Headline.{FirstNames, IsFactoryName, IsSound, InitiatesAreOffered, NamesAreOwn, GoalsAreOffered, ActivationsAreSafe}
 
@@ -30,3 +30,7 @@ abbrev pub ActorsStay : Type 0
 ActorsStay =
     (old new : State) (event : Event) → StateStep old event new → (number : ℕ)
     → (is_some (head_at new number) ≡ is_some (head_at old number)) × (is_some (meter_at new number) ≡ is_some (meter_at old number))
+
+-- where all was sent between head ends and meters that are there, each step keeps it so
+abbrev pub SentStaysAddressed : Type 0
+SentStaysAddressed = (old new : State) (event : Event) → StateStep old event new → AreAddressed old → AreAddressed new

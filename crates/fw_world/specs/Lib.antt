@@ -7,6 +7,8 @@ pub mod Refusals
 pub mod View
 pub mod Headline
 pub mod Runs
+pub mod Parts
 pub mod Laws
 -- For private clauses and models alone: no public clause cites it.
 pub mod Inside
+pub mod Lends

@@ -43,10 +43,13 @@ set_meter s number meter = record s { meters = set_value (nat_eq number) s.meter
 abbrev pub IsAddressed : State → Datagram → Type 0
 IsAddressed s d = IsTrue (is_some (head_at s d.head)) × IsTrue (is_some (meter_at s d.meter))
 
--- each head end stands behind its own number, and each datagram was sent between a head end and a meter that are there
+-- each datagram was sent between a head end and a meter that are there
+abbrev pub AreAddressed : State → Type 0
+AreAddressed s = All (IsAddressed s) s.sent
+
+-- each head end stands behind its own number
 pub record IsState (s : State) : Type 0 where
   pub own : (number : ℕ) (head : Head) → head_at s number ≡ Some head → head.book.head ≡ number
-  pub addressed : All (IsAddressed s) s.sent
 
 -- ---- the world that it is
 

@@ -1,18 +1,17 @@
 //! Laws of the world, over the definitions alone. A caller cites a law by calling it: nothing is done.
 
-ghost use Rattle.fw_world.specs.Laws.{AfterEachRun, EveryStepIsSafe, StateStepsAsWorld, ActorsStay};
+ghost use Rattle.fw_world.specs.Laws.{AfterEachRun, EveryStepIsSafe, StateStepsAsWorld, ActorsStay, SentStaysAddressed};
 ghost use Rattle.fw_world.specs.Headline.{IsFirstName, InitiatesAreOffered, NamesAreOwn, GoalsAreOffered, ActivationsAreSafe, ActivationsAreEqual};
 
 /// Each step keeps what holds of a world that events led to.
 pub fn every_step_is_safe()
     ensures { EveryStepIsSafe }
 {
-    fw_axdr::laws::short_spells();
-    fw_axdr::laws::one_spelling();
     fw_names::laws::one_name();
     fw_names::laws::spelling_size();
     fw_apdu::laws::one_request();
     fw_image::laws::joined_size();
+    fw_meter::laws::tells_running();
 }
 
 /// What is kept makes the steps of the world that it is.
@@ -31,6 +30,11 @@ pub fn actors_stay()
     ensures { ActorsStay }
 {}
 
+/// Where each datagram was sent between a head end and a meter that are there, each step keeps it so. In a new world none was sent.
+pub fn sent_stays_addressed()
+    ensures { SentStaysAddressed }
+{}
+
 /// Over every run, what a meter switches to is what the campaign in its name offers, and a meter that is done switched to it.
 pub fn every_run_is_safe()
     ensures initiates { AfterEachRun (λ opening w. InitiatesAreOffered w) }
@@ -39,10 +43,9 @@ pub fn every_run_is_safe()
     ensures activations { AfterEachRun (λ opening w. ActivationsAreSafe w) }
     ensures equal { AfterEachRun (λ opening w. ActivationsAreEqual w) }
 {
-    fw_axdr::laws::short_spells();
-    fw_axdr::laws::one_spelling();
     fw_names::laws::one_name();
     fw_names::laws::spelling_size();
     fw_apdu::laws::one_request();
     fw_image::laws::joined_size();
+    fw_meter::laws::tells_running();
 }

@@ -1,4 +1,4 @@
-//! What is appended to the lists of a world, for which there is room, and what is looked up in its maps.
+//! What is appended to the lists of a world, for which there is room, and what is looked up among its meters.
 
 ghost use Rattle.std.specs.Prelude.{◌≡◌, ◌+◌, ◌≤◌, ◌<◌, ◌++◌, ◌∷◌, [], is_some, nat_eq, length, slice_get};
 ghost use Rattle.std.specs.List.{list_all};
@@ -12,17 +12,17 @@ ghost use Rattle.fw_world.specs.State.{sent_to};
 
 use crate::activation::Activation;
 use crate::datagram::{Datagram, Direction};
-use crate::seat::{Seat, Switched};
+use crate::meters::Meters;
+use crate::seat::Switched;
 use fw_names::{HeadId, MeterId};
-use indexmap::IndexMap;
 
 /// Whether each of these meters is there.
-pub(crate) fn all_there(seats: &IndexMap<u32, Seat>, meters: &[MeterId]) -> bool
-    ensures { result ≡ list_all (λ meter. is_some (lookup (nat_eq meter) seats.now.entries)) meters.now }
+pub(crate) fn all_there(there: &Meters, meters: &[MeterId]) -> bool
+    ensures { result ≡ list_all (λ meter. is_some (lookup (nat_eq meter) there.now)) meters.now }
 {
     meters
         .iter()
-        .all(|meter| seats.contains_key(&meter.number()))
+        .all(|meter| there.contains_key(meter.number()))
 }
 
 /// The datagram of this number, if one was sent.

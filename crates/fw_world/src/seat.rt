@@ -86,6 +86,27 @@ impl Seat {
         }
     }
 
+    /// This meter, in whose store no fuse is set.
+    pub(crate) fn of(core: MeterCore<MemoryStore>) -> Seat
+        requires unfused { IsTrue core.sound }
+        ensures { result ≡ core.meter }
+    {
+        // For its clauses alone: a store in memory is honest.
+        let _view = core.view();
+        Seat { core: Some(core) }
+    }
+
+    /// The meter.
+    pub(crate) fn into_core(self) -> MeterCore<MemoryStore>
+        ensures meter { result.meter ≡ self }
+        ensures sound { IsSound result }
+    {
+        match self.core {
+            Some(core) => core,
+            None => unreachable!(),
+        }
+    }
+
     /// The meter.
     pub(crate) fn core(&self) -> &MeterCore<MemoryStore>
         ensures meter { result.now.meter ≡ self.now }

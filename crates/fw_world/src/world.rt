@@ -8,17 +8,17 @@ use crate::activation::Activation;
 use crate::datagram::{Datagram, Direction};
 use crate::error::{SetupError, StepError};
 use crate::event::Event;
+use crate::heads::Heads;
 use crate::laws;
 use crate::lists::{all_there, note, reply, send, sent_at};
+use crate::meters::Meters;
 use crate::opening::{heads_of, meters_of};
-use crate::seat::Seat;
+use crate::parts::Parts;
 use crate::setup::Setup;
 use fw_book::Book;
-use fw_head::HeadCore;
 use fw_meter::MeterCore;
 use fw_names::{CampaignId, HeadId, MeterId};
 use fw_store::MemoryStore;
-use indexmap::IndexMap;
 use std::alloc::Global;
 use std::marker::Model;
 
@@ -28,8 +28,8 @@ const MAX_SENDS: usize = 15;
 /// Head ends and meters, in the order of their setup, with all that was ever sent and switched to.
 #[derive(Drop)]
 pub struct World {
-    heads: IndexMap<u32, HeadCore>,
-    meters: IndexMap<u32, Seat>,
+    heads: Heads,
+    meters: Meters,
     sent: Vec<Datagram>,
     activations: Vec<Activation>,
 }
@@ -38,21 +38,23 @@ impl Model for World {
     ghost use Rattle.std.specs.Coded.{codes};
     ghost use Rattle.std.specs.FinMap.{code};
     ghost use Rattle.fw_image.specs.Meter.{cells_code};
-    ghost use Rattle.fw_world.specs.State.{State, IsState};
+    ghost use Rattle.fw_world.specs.State.{State};
+    ghost use Rattle.fw_world.specs.Inside.{IsWorld};
 
     ghost Value = { State };
 
     ghost coded = { Prim.hlevel (codes, code, cells_code) };
 
-    ghost view = { λ w. record { heads = w.heads.entries; meters = w.meters.entries; sent = w.sent.items; activations = w.activations.items } };
+    ghost view = { λ w. record { heads = w.heads; meters = w.meters; sent = w.sent.items; activations = w.activations.items } };
 
-    ghost invariant = { λ w. IsState (record { heads = w.heads.entries; meters = w.meters.entries; sent = w.sent.items; activations = w.activations.items }) };
+    ghost invariant = { λ w. IsWorld (record { heads = w.heads; meters = w.meters; sent = w.sent.items; activations = w.activations.items }) };
 }
 
 impl World {
     ghost use Rattle.fw_world.specs.Laws.{IsSafeWorld};
     ghost use Rattle.fw_world.specs.Headline.{IsFactoryName};
     ghost use Rattle.fw_world.specs.Refusals.{IsRefused, refusal_of};
+    ghost use Rattle.fw_world.specs.Parts.{IsOnce, state_of};
     ghost use Rattle.fw_world.specs.Setup.{IsSetup, opening_state};
     ghost use Rattle.fw_world.specs.State.{IsState, StateStep, head_at, meter_at, world_of};
     ghost use Rattle.fw_world.specs.Step.{WorldStep, open_campaign, cancel_campaign, tick, deliver, stop, restart_meter, restart_head, turn};
@@ -144,7 +146,7 @@ impl World {
         ensures refused { IfErr result (IsRefused self.old (open_campaign campaign image.now meters.now)) }
         ensures same { OnErr result (self.new ≡ self.old) }
     {
-        let Some(head) = self.heads.get_mut(&head_number(campaign)) else {
+        let Some(head) = self.heads.get_mut(head_number(campaign)) else {
             return Err(StepError::NoSuchActor);
         };
         if !all_there(&self.meters, meters) {
@@ -163,7 +165,7 @@ impl World {
         ensures refused { IfErr result (IsRefused self.old (cancel_campaign campaign)) }
         ensures same { OnErr result (self.new ≡ self.old) }
     {
-        let Some(head) = self.heads.get_mut(&head_number(campaign)) else {
+        let Some(head) = self.heads.get_mut(head_number(campaign)) else {
             return Err(StepError::NoSuchActor);
         };
         // For its clauses alone: the number of a head end begins at 1, and so the campaign is one.
@@ -179,10 +181,10 @@ impl World {
         ensures refused { IfErr result (IsRefused self.old (tick head meter)) }
         ensures same { OnErr result (self.new ≡ self.old) }
     {
-        let Some(core) = self.heads.get_mut(&head.number()) else {
+        let Some(core) = self.heads.get_mut(head.number()) else {
             return Err(StepError::NoSuchActor);
         };
-        if !self.meters.contains_key(&meter.number()) {
+        if !self.meters.contains_key(meter.number()) {
             return Err(StepError::NoSuchActor);
         }
         self.sent.reserve(MAX_SENDS)?;
@@ -219,7 +221,7 @@ impl World {
             unreachable!()
         };
         let (head, meter) = (datagram.head, datagram.meter);
-        let Some(seat) = self.meters.get_mut(&meter.number()) else {
+        let Some(seat) = self.meters.get_mut(meter.number()) else {
             return Err(StepError::NoSuchActor);
         };
         self.sent.reserve(1)?;
@@ -244,7 +246,7 @@ impl World {
         let Some(datagram) = sent_at(&self.sent, number) else {
             unreachable!()
         };
-        let Some(head) = self.heads.get_mut(&datagram.head.number()) else {
+        let Some(head) = self.heads.get_mut(datagram.head.number()) else {
             return Err(StepError::NoSuchActor);
         };
         // For its clauses alone: the live rows are those of the book.
@@ -267,7 +269,7 @@ impl World {
             return Err(StepError::NoSuchActor);
         };
         let meter = datagram.meter;
-        let Some(seat) = self.meters.get_mut(&meter.number()) else {
+        let Some(seat) = self.meters.get_mut(meter.number()) else {
             return Err(StepError::NoSuchActor);
         };
         self.activations.reserve(1)?;
@@ -283,7 +285,7 @@ impl World {
         ensures refused { IfErr result (IsRefused self.old (restart_meter meter)) }
         ensures same { OnErr result (self.new ≡ self.old) }
     {
-        let Some(seat) = self.meters.get_mut(&meter.number()) else {
+        let Some(seat) = self.meters.get_mut(meter.number()) else {
             return Err(StepError::NoSuchActor);
         };
         seat.restart();
@@ -297,7 +299,7 @@ impl World {
         ensures refused { IfErr result (IsRefused self.old (restart_head head)) }
         ensures same { OnErr result (self.new ≡ self.old) }
     {
-        let Some(core) = self.heads.get_mut(&head.number()) else {
+        let Some(core) = self.heads.get_mut(head.number()) else {
             return Err(StepError::NoSuchActor);
         };
         core.restart();
@@ -311,7 +313,7 @@ impl World {
         ensures refused { IfErr result (IsRefused self.old (turn meter)) }
         ensures same { OnErr result (self.new ≡ self.old) }
     {
-        let Some(seat) = self.meters.get_mut(&meter.number()) else {
+        let Some(seat) = self.meters.get_mut(meter.number()) else {
             return Err(StepError::NoSuchActor);
         };
         seat.turn();
@@ -323,7 +325,7 @@ impl World {
         ensures value { option_map (λ core. core.now.meter) result ≡ meter_at self.now meter }
         ensures sound { IfSome result (λ core. IsSound core.now) }
     {
-        let seat = self.meters.get(&meter.number())?;
+        let seat = self.meters.get(meter.number())?;
         Some(seat.core())
     }
 
@@ -331,7 +333,7 @@ impl World {
     pub fn book(&self, head: HeadId) -> Option<&Book>
         ensures { option_map (λ book. book.now) result ≡ option_map (λ h. h.book) (head_at self.now head) }
     {
-        let core = self.heads.get(&head.number())?;
+        let core = self.heads.get(head.number())?;
         Some(core.view().book)
     }
 
@@ -339,10 +341,38 @@ impl World {
     pub fn sent(&self) -> &[Datagram]
         ensures sent { result.now ≡ self.now.sent }
 
-        // Each head end stands behind its own number, and each datagram was sent between a head end and a meter that are there.
+        // Each head end stands behind its own number.
         ensures state { IsState self.now }
     {
         self.sent.as_slice()
+    }
+
+    /// The world of these parts. It takes no memory. The parts that `into_parts` gives make the world that they were of.
+    pub fn from_parts(parts: Parts) -> World
+        requires once { IsOnce (state_of parts) }
+        ensures { result ≡ state_of parts }
+    {
+        World {
+            heads: Heads::new(parts.heads),
+            meters: Meters::new(parts.meters),
+            sent: parts.sent,
+            activations: parts.activations,
+        }
+    }
+
+    /// Takes the world apart. It takes no memory.
+    pub fn into_parts(self) -> Parts
+        ensures parts { state_of result ≡ self }
+
+        // No two head ends have one number, and no two meters.
+        ensures once { IsOnce (state_of result) }
+    {
+        Parts {
+            heads: self.heads.into_vec(),
+            meters: self.meters.into_vec(),
+            sent: self.sent,
+            activations: self.activations,
+        }
     }
 
     /// All images that meters ever switched to, in order.

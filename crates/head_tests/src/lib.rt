@@ -21,6 +21,8 @@ mod openings;
 #[cfg(test)]
 mod outstanding;
 #[cfg(test)]
+mod parts;
+#[cfg(test)]
 mod returns;
 #[cfg(test)]
 mod rows;

@@ -6,6 +6,13 @@ use std::test::Fail;
 /// A value whose drop is written out: each place that drops it calls that, and isn't proved to drop what the value has.
 pub(crate) struct Kept<T: Drop>(pub(crate) T);
 
+impl<T: Drop> Kept<T> {
+    pub(crate) fn into_inner(self) -> T {
+        let Kept(inner) = self;
+        inner
+    }
+}
+
 impl<T: Drop> Drop for Kept<T> {
     fn drop(self) {
         let Kept(_) = self;

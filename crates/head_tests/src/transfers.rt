@@ -4,7 +4,7 @@ use crate::head::{Step, head_session};
 use std::test::Fail;
 
 /// Image `abc` of campaign (7, 1) for a meter with blocks of 2 bytes, up to the ask of what the meter runs then.
-const TO_CONFIRM: &[(Step, &str)] = &[
+pub(crate) const TO_CONFIRM: &[(Step, &str)] = &[
     (
         Step::Open(1, b"abc"),
         "010000000700000001ba7816bf8f01cfea414140de5dae2223b00361a396177a9cb410ff61f20015ad",
@@ -81,7 +81,7 @@ const AGAIN_TO_CONFIRM: &[(Step, &str)] = &[
 ];
 
 /// The answer that the meter runs `abc` of campaign (7, 1).
-const CLAIM: &str =
+pub(crate) const CLAIM: &str =
     "c401c9000929010000000700000001ba7816bf8f01cfea414140de5dae2223b00361a396177a9cb410ff61f20015ad";
 
 const DONE: &[(Step, &str)] = &[(Step::Hear(CLAIM), "Done 7 1 1, None"), (Step::Tick, "")];

@@ -7,6 +7,8 @@ mod answering;
 #[cfg(test)]
 mod apdus;
 #[cfg(test)]
+mod comparing;
+#[cfg(test)]
 mod faults;
 #[cfg(test)]
 mod handling;

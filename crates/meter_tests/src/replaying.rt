@@ -21,6 +21,7 @@ fn options(given: Option<(u32, &str)>) -> ReplayOptions<'_> {
             Some((rounds, fates)) => Some(Rounds { rounds, fates }),
             None => None,
         },
+        trace: false,
     }
 }
 
@@ -293,6 +294,79 @@ activations 0
 #[test]
 fn scripts_and_their_reports(rt: HostRuntime) -> Result<(), Fail> {
     each(rt.alloc(), REPORTS)
+}
+
+/// A script in parts, of which the trace is told too.
+struct Traced(&'static [&'static str]);
+
+impl Case for Traced {
+    fn told(&self, alloc: Global) -> Result<String, Fail> {
+        let script = joined(alloc, self.0)?;
+        let options = ReplayOptions {
+            rounds: None,
+            trace: true,
+        };
+        replayed(alloc, &mut script.as_bytes(), &options)
+    }
+}
+
+/// A campaign, no datagram, and an event that is refused.
+const TRACES: &[(Traced, &str)] = &[
+    (
+        Traced(&[
+            SETUP,
+            OPEN,
+            UP_TO_BLOCKS,
+            UP_TO_VERIFY,
+            UP_TO_ACTIVATE,
+            UP_TO_DONE,
+        ]),
+        "\
+0 head 7 -> meter 1  get block size
+1 meter 1 -> head 7  get 2
+2 head 7 -> meter 1  enable
+3 meter 1 -> head 7  set 0
+4 head 7 -> meter 1  initiate campaign 7 1 (3 bytes)
+5 meter 1 -> head 7  action 0
+6 head 7 -> meter 1  block 0 (2 bytes)
+7 head 7 -> meter 1  block 1 (1 bytes)
+8 meter 1 -> head 7  action 0
+9 meter 1 -> head 7  action 0
+10 head 7 -> meter 1  get first not transferred block
+11 meter 1 -> head 7  get 2
+12 head 7 -> meter 1  verify
+13 meter 1 -> head 7  action 0
+14 head 7 -> meter 1  get image to activate
+15 meter 1 -> head 7  get images 1
+16 head 7 -> meter 1  activate
+17 meter 1 -> head 7  action 0
+18 head 7 -> meter 1  get active firmware identifier
+19 meter 1 -> head 7  get campaign 7 1
+row 7 1 1 done
+meter 1 status 6 active 7 1 size 3
+activations 1
+",
+    ),
+    (
+        Traced(&[SETUP]),
+        "meter 1 status 0 active 0 0 size 1\nactivations 0\n",
+    ),
+    (
+        Traced(&[SETUP, OPEN, "tick 7 1\ndeliver 0 2\n"]),
+        "\
+0 head 7 -> meter 1  get block size
+1 meter 1 -> head 7  get 2
+row 7 1 1 live
+meter 1 status 0 active 0 0 size 1
+activations 0
+refused 3 NoSuchDatagram
+status 1",
+    ),
+];
+
+#[test]
+fn traces(rt: HostRuntime) -> Result<(), Fail> {
+    each(rt.alloc(), TRACES)
 }
 
 /// Stops behind so many calls of the store: in a block that is written again, and in verify.

@@ -80,6 +80,13 @@ pub(crate) fn store_after(alloc: Global, parts: &[Part]) -> Result<MemoryStore, 
     }
 }
 
+/// Whether two new meters that run `abc`, with blocks of two bytes and room for 64, are the same after a session each.
+pub(crate) fn same_after(alloc: Global, one: &[Part], other: &[Part]) -> Result<bool, Fail> {
+    let one = played(alloc, 2, 64, b"abc", one)?;
+    let other = played(alloc, 2, 64, b"abc", other)?;
+    Ok(one.meter.same(&other.meter))
+}
+
 fn played(
     alloc: Global,
     block_size: u32,

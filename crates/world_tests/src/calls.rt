@@ -1,5 +1,7 @@
 //! The calls of a world one by one.
 
+ghost use Rattle.std.specs.Prelude.{◌≡◌};
+
 use crate::campaigns::{SMALL, UP_TO_ACTIVATE, UP_TO_BLOCKS, UP_TO_DONE, UP_TO_VERIFY};
 use crate::report::{head_number, meter_text, push, push_rows, report};
 use crate::script::{Given, Line, events_of, head, meter, setup_of};
@@ -171,4 +173,38 @@ const SHOWN: &[(Shown, &str)] = &[
 #[test]
 fn what_is_shown(rt: HostRuntime) -> Result<(), Fail> {
     each(rt.alloc(), SHOWN)
+}
+
+/// A world that events led to, taken apart and joined again: its report.
+struct Joined(&'static Given, &'static [&'static [Line]]);
+
+impl Case for Joined {
+    fn told(&self, alloc: Global) -> Result<String, Fail> {
+        let setup = setup_of(alloc, self.0)?;
+        let mut world = World::new(alloc, &setup)?;
+        for event in &events_of(alloc, self.1)? {
+            world.step(alloc, event)?;
+        }
+        report(alloc, &setup, &rejoined(world))
+    }
+}
+
+/// A world that is taken apart and joined is as it was.
+fn rejoined(world: World) -> World
+    ensures { result ≡ world }
+{
+    World::from_parts(world.into_parts())
+}
+
+const JOINED: &[(Joined, &str)] = &[(
+    Joined(
+        SMALL,
+        &[UP_TO_BLOCKS, UP_TO_VERIFY, UP_TO_ACTIVATE, UP_TO_DONE],
+    ),
+    "row 7 1 1 done; meter 1 status 6 active 7 1 size 3; activations 1; sent 20",
+)];
+
+#[test]
+fn taken_apart_and_joined(rt: HostRuntime) -> Result<(), Fail> {
+    each(rt.alloc(), JOINED)
 }

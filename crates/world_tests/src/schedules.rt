@@ -108,6 +108,11 @@ const BAD_AIR: &[Fate] = &[
     Fate::Drop,
 ];
 
+/// Two meters of one head end.
+const TWO: &Given = &Given(&[(7, 4)], &[(1, 2, 64, b"x"), (2, 2, 64, b"x")]);
+
+const OPENED_FOR_TWO: &[Line] = &[Line::Open(7, 1, b"abc", &[1, 2])];
+
 /// A meter with blocks of 1,024 bytes, and an image that it verifies in three slices.
 const LARGE: &Given = &Given(&[(7, 4)], &[(1, 1024, 8193, b"x")]);
 
@@ -127,6 +132,67 @@ const SCHEDULES: &[(Schedule, &str)] = &[
          tick 7 1; deliver 6; deliver 7; deliver 8; deliver 9; tick 7 1; deliver 10; deliver 11; \
          tick 7 1; deliver 12; deliver 13; tick 7 1; deliver 14; deliver 15; tick 7 1; deliver 16; deliver 17; \
          tick 7 1; deliver 18; deliver 19",
+    ),
+    // Each request comes a round late: it is answered before the tick, which forgets its ask, so that the answer moves nothing.
+    (
+        Schedule(SMALL, OPENED, 3, &[Fate::Late, Fate::Deliver], Told::Events),
+        "tick 7 1; deliver 0; tick 7 1; deliver 1; deliver 2; tick 7 1; deliver 3",
+    ),
+    // Each answer to a tick is late, and comes before the next tick, which would forget its ask. Of the two blocks, 6 and 7, one is
+    // late too: it is answered by 9 before the tick, which asks for it again by 10. So 9 has the number before 10, and is late: it
+    // waits a round more, and comes before 11, the late answer to 10, which alone still has its ask.
+    (
+        Schedule(
+            SMALL,
+            OPENED,
+            11,
+            &[Fate::Deliver, Fate::Late],
+            Told::Events,
+        ),
+        "tick 7 1; deliver 0; deliver 1; tick 7 1; deliver 2; deliver 3; tick 7 1; deliver 4; \
+         deliver 5; tick 7 1; deliver 6; deliver 8; deliver 7; tick 7 1; deliver 10; \
+         deliver 9; deliver 11; tick 7 1; deliver 12; deliver 13; tick 7 1; deliver 14; \
+         deliver 15; tick 7 1; deliver 16; deliver 17; tick 7 1; deliver 18; \
+         deliver 19; tick 7 1; deliver 20; deliver 21; tick 7 1",
+    ),
+    // Request 0 is late, and so is its answer 1, but 2 of the tick behind it comes. Its answer 3 is late, and comes behind 1. Then
+    // request 4 is late, and its answer 5 comes at once, before 6 of the tick behind it, which is late.
+    (
+        Schedule(
+            SMALL,
+            OPENED,
+            6,
+            &[Fate::Late, Fate::Late, Fate::Deliver],
+            Told::Events,
+        ),
+        "tick 7 1; deliver 0; tick 7 1; deliver 2; deliver 1; deliver 3; tick 7 1; deliver 4; tick 7 1; deliver 5; \
+         deliver 6; tick 7 1; deliver 8; deliver 7; deliver 9; tick 7 1",
+    ),
+    // Each request that comes comes twice at once, and of its two answers one is late and one is lost, but in the round of the blocks:
+    // 9 comes twice, 10 is late, and of the answers to 9 the first, 11, is lost and the second, 12, comes twice.
+    (
+        Schedule(
+            SMALL,
+            OPENED,
+            7,
+            &[Fate::Twice, Fate::Late, Fate::Drop],
+            Told::Events,
+        ),
+        "tick 7 1; deliver 0; deliver 0; deliver 1; tick 7 1; deliver 3; deliver 3; \
+         deliver 4; tick 7 1; deliver 6; deliver 6; deliver 7; tick 7 1; deliver 9; deliver 9; deliver 12; deliver 12; \
+         deliver 10; tick 7 1; deliver 13; tick 7 1; deliver 15; deliver 15; deliver 16; tick 7 1; deliver 18; deliver 18",
+    ),
+    // Each link has its own numbers from 0 on: on both the first request comes, its answer is late, and the second request is lost.
+    (
+        Schedule(
+            TWO,
+            OPENED_FOR_TWO,
+            3,
+            &[Fate::Deliver, Fate::Late, Fate::Drop],
+            Told::Events,
+        ),
+        "tick 7 1; deliver 0; tick 7 2; deliver 2; deliver 1; tick 7 1; deliver 3; tick 7 2; \
+         tick 7 1; deliver 6; tick 7 2; deliver 8",
     ),
     (
         Schedule(FOUR, OPENED_FOR_FOUR, 40, BAD_AIR, Told::Report),

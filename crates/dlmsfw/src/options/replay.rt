@@ -1,7 +1,7 @@
 //! The command `replay`, and its help.
 
 use super::{STATUSES, option};
-use clap::{ArgMatches, Command};
+use clap::{Arg, ArgAction, ArgMatches, Command};
 use fw_cli::{ReplayOptions, Rounds};
 use std::alloc::{AllocError, Global};
 
@@ -39,6 +39,14 @@ done, failed or cancelled; `meter M status X active H S size N` with the image_t
 image that the meter runs, 0 0 for the one that it was made with; `activations N`, how often a meter
 switched to an image. Where an event is refused, the report of the world there and `refused AT NAME`,
 where AT is the number of the event, from 0 on. All input is read before anything is written.
+
+With --trace a line for each datagram that was sent stands before the report: its number, who sent it to
+whom, and what it says. A head end says `get ATTRIBUTE`, `enable`, `initiate campaign H S (N bytes)`,
+`block K (N bytes)`, `verify` or `activate`. A meter says `get VALUE`, in short, or `get code C`, `set C`
+or `action C`. `? (N bytes)` is what can't be read.
+
+  0 head 7 -> meter 1  get block size
+  1 meter 1 -> head 7  get 2
 
 Example, a campaign for one meter:
 
@@ -85,6 +93,12 @@ pub(super) fn command<'a>(alloc: Global) -> Result<Command<'a>, AllocError> {
             option(alloc, "fates", "F").requires_arg("rounds")?.help(
                 "The fates of datagrams: d it comes, x it is lost, t it comes twice, l it comes a round late",
             ),
+        )?
+        .arg(
+            Arg::new(alloc, "trace")
+                .long("trace")
+                .action(ArgAction::SetTrue)
+                .help("Tells each datagram that was sent before the report, in a line"),
         )
 }
 
@@ -95,5 +109,6 @@ pub(super) fn options<'a>(given: &ArgMatches<'a>) -> Option<ReplayOptions<'a>> {
         (None, None) => None,
         _ => return None,
     };
-    Some(ReplayOptions { rounds })
+    let trace = given.get_flag("trace");
+    Some(ReplayOptions { rounds, trace })
 }

@@ -1,4 +1,4 @@
-use Rattle.std.proofs.Common.{List, Result, Ok, Err, subst}
+use Rattle.std.proofs.Common.{List, Result, Ok, Err, inr, subst}
 use Rattle.std.specs.Prelude.{IfOk, string_bytes}
 use Rattle.fw_world.specs.declared.event.Event.{Event as Given}
 use Rattle.fw_cli.specs.Replaying.{TellsRun}
@@ -19,9 +19,17 @@ returns-clause-ok c =
       events = c.in_ok-events.events.items;
       spelled = c.in_ok-setup.ensures.ok;
       goes_on = c.in_ok-events.ensures.ok;
-      run = subst (λ (all : List Given). TellsRun script.setup all told.ended (string_bytes told.text)) c.deref.ensures.value tells;
+      run = subst (λ (all : List Given). TellsRun c.args.trace script.setup all told.ended (string_bytes told.text)) c.deref.ensures.value tells;
     })
     c.tell_run.ensures.ok
 
 pub returns-clause-bad_setup : goal.returns-clause-bad_setup
 returns-clause-bad_setup c = λ bad. (c.in_ok-setup.field-0.setup, c.in_ok-setup.field-0.events.items, c.in_ok-setup.ensures.ok, c.tell_run.ensures.bad_setup bad)
+
+pub returns-in_err-events-clause-memory : goal.returns-in_err-events-clause-memory
+returns-in_err-events-clause-memory c = λ _.
+    inr (c.in_ok-setup.field-0.setup, c.in_ok-setup.field-0.events.items, c.in_ok-setup.ensures.ok, c.in_err-events.ensures.memory)
+
+pub returns-clause-memory : goal.returns-clause-memory
+returns-clause-memory c = λ wanted.
+    inr (c.in_ok-setup.field-0.setup, c.in_ok-setup.field-0.events.items, c.in_ok-setup.ensures.ok, c.tell_run.ensures.memory wanted)

@@ -1,7 +1,7 @@
-use Rattle.std.proofs.Common.{drop}
-use Rattle.fw_world.specs.Setup.{number_of_meter, meter_of}
-use Rattle.fw_world.proofs.Making.{IsMaking}
+use Rattle.std.proofs.Common.{◌≡◌, drop, map, ◌++◌}
+use Rattle.fw_world.specs.Setup.{meter_entry}
 use Rattle.fw_world.proofs.opening.meters_of.Given as goal
 
+-- what is made and what is left are the whole
 abbrev pub invariant-loop-meter : goal.invariant-loop-meter
-invariant-loop-meter l = IsMaking number_of_meter meter_of l.meters (drop l.meter-index l.meters) l.made.entries
+invariant-loop-meter l = l.made.items ++ map meter_entry (drop l.meter-index l.meters) ≡ map meter_entry l.meters

@@ -1,7 +1,9 @@
 use Rattle.std.proofs.Common.{◌<◌, length, sym, subst, take, arith, slice_get, ◌≡◌, Some}
 use Rattle.fw_world.specs.Runs.{events_of}
 use Rattle.fw_world.specs.Setup.{opening_state}
-use Rattle.fw_world.specs.State.{State, StateStep, world_of}
+use Rattle.fw_world.specs.State.{State, StateStep, StateRun, world_of}
+use Rattle.fw_world.specs.Refusals.{IsRefused}
+use Rattle.fw_world.specs.View.{event_of}
 use Rattle.fw_world.specs.Step.{WorldStep, Run}
 use Rattle.fw_world.proofs.Following.{at_index, goes_on}
 use Rattle.fw_world.proofs.Openings.{is_opening}
@@ -74,3 +76,15 @@ returns-in-Err-step-clause-equal c =
     let so_far = events_of (take c.loop-at.at c.args.events.now) in
     let run = subst (λ (w : State). Run opening so_far (world_of w)) (sym c.in-Err-step.ensures.same) c.loop-at.invariant.2 in
     c.every_run_is_safe.ensures.equal opening (world_of c.step.new.self) so_far (is_opening c.args.setup.now c.loop-at.invariant.0) run
+
+pub returns-in-Err-step-clause-stopped : goal.returns-in-Err-step-clause-stopped
+returns-in-Err-step-clause-stopped c =
+    let events = c.args.events.now in
+    let at = c.loop-at.at in
+    let event = c.index-events-at.result in
+    let inside : at < length events = omega (arith, c.loop-at-test.true) in (
+      event,
+      at_index events at _ event inside c.index-events-at.is,
+      subst (λ (w : State). StateRun (opening_state c.args.setup.now) (events_of (take at events)) w) (sym c.in-Err-step.ensures.same) c.loop-at.invariant.1,
+      subst (λ (w : State). IsRefused w (event_of event) c.in-Err-step.cause) (sym c.in-Err-step.ensures.same) c.in-Err-step.ensures.refused,
+    )

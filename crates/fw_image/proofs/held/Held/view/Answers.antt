@@ -30,3 +30,6 @@ returns-clause-fits g c =
     let store = c.self.inside.store in
     let sized = seen_size (s.honest store) (s.capacity store) (s.device store) (g.met.S.ImageStore.sized store) in
     rw (← c.self.view_is) (fit_at c.cut_size.ensures (s.capacity store) c.self.inside.header c.self.inside.digesting (seen (s.honest store) (s.capacity store) (s.device store)) c.self.invariant.held.valid sized)
+
+pub returns-clause-over : goal.returns-clause-over
+returns-clause-over g c = rw (← c.self.view_is) (record { store = c.self.inside.store; honesty = refl; soundness = refl; count = refl; calls = refl })

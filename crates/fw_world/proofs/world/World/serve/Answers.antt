@@ -7,7 +7,7 @@ use Rattle.fw_world.specs.World.{Datagram}
 use Rattle.fw_world.specs.Step.{deliver, replies}
 use Rattle.fw_world.specs.State.{State, IsAddressed}
 use Rattle.fw_world.proofs.Events.{at_number}
-use Rattle.fw_world.proofs.Staying.{sent_own, meter_own, noted_own, replies_there}
+use Rattle.fw_world.proofs.Keeping.{keeps_meter, keeps_lists}
 use Rattle.fw_world.specs.Inside.{switched_name}
 use Rattle.fw_world.proofs.Places.{told_err, meter_found, meter_serves, meter_same, replied_is, noted_is}
 use Rattle.fw_world.proofs.Delivered.{sent_here, one_datagram, way_of, delivers_to_meter}
@@ -17,15 +17,15 @@ use Rattle.fw_world.proofs.world.World.serve.Goals as goal
 pub returns-in_err-reserve-clause-same : goal.returns-in_err-reserve-clause-same
 returns-in_err-reserve-clause-same c =
     let key = c.number.result in
-    let found : lookup (nat_eq key) c.self.inside.meters.entries ≡ Some c.in-Some-get_mut.seat.now = sym c.get_mut.ensures.value ∙ ap option_copied_mut c.in-Some-get_mut.is in
-    told_err c.from_residual.result _ (meter_same _ _ c.self.view_is key _ _ _ _ _ found (c.get_mut.follows.holds c.in-Some-get_mut.seat.now).0 refl c.reserve.ensures.items refl)
+    let found : lookup (nat_eq key) c.self.inside.meters ≡ Some c.in-Some-get_mut.seat.now = sym c.get_mut.ensures.value ∙ ap option_copied_mut c.in-Some-get_mut.is in
+    told_err c.from_residual.result _ (meter_same _ _ c.self.view_is key _ _ _ _ _ found refl refl c.reserve.ensures.items refl)
 
 pub returns-in_err-reserve-clause-refused : goal.returns-in_err-reserve-clause-refused
 returns-in_err-reserve-clause-refused c =
     let key = c.number.result in
     let d = c.in-Some.datagram.now in
     let seat = c.in-Some-get_mut.seat.now in
-    let found : lookup (nat_eq key) c.self.inside.meters.entries ≡ Some seat = sym c.get_mut.ensures.value ∙ ap option_copied_mut c.in-Some-get_mut.is in
+    let found : lookup (nat_eq key) c.self.inside.meters ≡ Some seat = sym c.get_mut.ensures.value ∙ ap option_copied_mut c.in-Some-get_mut.is in
     let at : slice_get c.self.inside.sent.items c.args.number ≡ Some d = ap (λ (xs : List Datagram). slice_get xs c.args.number) (sym c.deref.ensures.value) ∙ sym c.sent_at.ensures ∙ ap option_copied c.in-Some.is in
     let here : slice_get c.args.self.now.sent c.args.number ≡ Some d = sent_here _ _ c.self.view_is c.deref.result.now c.args.number d c.deref.ensures.value (sym c.sent_at.ensures ∙ ap option_copied c.in-Some.is) in
     let same : key ≡ d.meter = c.number.ensures ∙ ap (λ (x : Datagram). x.meter) c.datagram.view_is in
@@ -38,7 +38,7 @@ returns-in_err-reserve-2-clause-refused c =
     let key = c.number.result in
     let d = c.in-Some.datagram.now in
     let seat = c.in-Some-get_mut.seat.now in
-    let found : lookup (nat_eq key) c.self.inside.meters.entries ≡ Some seat = sym c.get_mut.ensures.value ∙ ap option_copied_mut c.in-Some-get_mut.is in
+    let found : lookup (nat_eq key) c.self.inside.meters ≡ Some seat = sym c.get_mut.ensures.value ∙ ap option_copied_mut c.in-Some-get_mut.is in
     let at : slice_get c.self.inside.sent.items c.args.number ≡ Some d = ap (λ (xs : List Datagram). slice_get xs c.args.number) (sym c.deref.ensures.value) ∙ sym c.sent_at.ensures ∙ ap option_copied c.in-Some.is in
     let here : slice_get c.args.self.now.sent c.args.number ≡ Some d = sent_here _ _ c.self.view_is c.deref.result.now c.args.number d c.deref.ensures.value (sym c.sent_at.ensures ∙ ap option_copied c.in-Some.is) in
     let same : key ≡ d.meter = c.number.ensures ∙ ap (λ (x : Datagram). x.meter) c.datagram.view_is in
@@ -49,16 +49,16 @@ returns-in_err-reserve-2-clause-refused c =
 pub returns-in_err-reserve-2-clause-same : goal.returns-in_err-reserve-2-clause-same
 returns-in_err-reserve-2-clause-same c =
     let key = c.number.result in
-    let found : lookup (nat_eq key) c.self.inside.meters.entries ≡ Some c.in-Some-get_mut.seat.now = sym c.get_mut.ensures.value ∙ ap option_copied_mut c.in-Some-get_mut.is in
+    let found : lookup (nat_eq key) c.self.inside.meters ≡ Some c.in-Some-get_mut.seat.now = sym c.get_mut.ensures.value ∙ ap option_copied_mut c.in-Some-get_mut.is in
     told_err c.from_residual-in_err-reserve-2.result _
-    (meter_same _ _ c.self.view_is key _ _ _ _ _ found (c.get_mut.follows.holds c.in-Some-get_mut.seat.now).0 refl c.reserve.ensures.items c.reserve-2.ensures.items)
+    (meter_same _ _ c.self.view_is key _ _ _ _ _ found refl refl c.reserve.ensures.items c.reserve-2.ensures.items)
 
 pub returns-in_err-served-clause-refused : goal.returns-in_err-served-clause-refused
 returns-in_err-served-clause-refused c =
     let key = c.number.result in
     let d = c.in-Some.datagram.now in
     let seat = c.in-Some-get_mut.seat.now in
-    let found : lookup (nat_eq key) c.self.inside.meters.entries ≡ Some seat = sym c.get_mut.ensures.value ∙ ap option_copied_mut c.in-Some-get_mut.is in
+    let found : lookup (nat_eq key) c.self.inside.meters ≡ Some seat = sym c.get_mut.ensures.value ∙ ap option_copied_mut c.in-Some-get_mut.is in
     let at : slice_get c.self.inside.sent.items c.args.number ≡ Some d = ap (λ (xs : List Datagram). slice_get xs c.args.number) (sym c.deref.ensures.value) ∙ sym c.sent_at.ensures ∙ ap option_copied c.in-Some.is in
     let here : slice_get c.args.self.now.sent c.args.number ≡ Some d = sent_here _ _ c.self.view_is c.deref.result.now c.args.number d c.deref.ensures.value (sym c.sent_at.ensures ∙ ap option_copied c.in-Some.is) in
     let same : key ≡ d.meter = c.number.ensures ∙ ap (λ (x : Datagram). x.meter) c.datagram.view_is in
@@ -69,9 +69,9 @@ returns-in_err-served-clause-refused c =
 pub returns-in_err-served-clause-same : goal.returns-in_err-served-clause-same
 returns-in_err-served-clause-same c =
     let key = c.number.result in
-    let found : lookup (nat_eq key) c.self.inside.meters.entries ≡ Some c.in-Some-get_mut.seat.now = sym c.get_mut.ensures.value ∙ ap option_copied_mut c.in-Some-get_mut.is in
+    let found : lookup (nat_eq key) c.self.inside.meters ≡ Some c.in-Some-get_mut.seat.now = sym c.get_mut.ensures.value ∙ ap option_copied_mut c.in-Some-get_mut.is in
     told_err c.from_residual-in_err-served.result _
-    (meter_same _ _ c.self.view_is key _ _ _ _ _ found (c.get_mut.follows.holds c.handle.new.self).0 c.in_err-served.ensures.same c.reserve.ensures.items c.reserve-2.ensures.items)
+    (meter_same _ _ c.self.view_is key _ _ _ _ _ found refl c.in_err-served.ensures.same c.reserve.ensures.items c.reserve-2.ensures.items)
 
 pub returns-clause-stepped : goal.returns-clause-stepped
 returns-clause-stepped c =
@@ -79,7 +79,7 @@ returns-clause-stepped c =
     let d = c.in-Some.datagram.now in
     let seat = c.in-Some-get_mut.seat.now in
     let served = c.in_ok-served.served in
-    let found : lookup (nat_eq key) c.self.inside.meters.entries ≡ Some seat = sym c.get_mut.ensures.value ∙ ap option_copied_mut c.in-Some-get_mut.is in
+    let found : lookup (nat_eq key) c.self.inside.meters ≡ Some seat = sym c.get_mut.ensures.value ∙ ap option_copied_mut c.in-Some-get_mut.is in
     let here : slice_get c.args.self.now.sent c.args.number ≡ Some d = sent_here _ _ c.self.view_is c.deref.result.now c.args.number d c.deref.ensures.value (sym c.sent_at.ensures ∙ ap option_copied c.in-Some.is) in
     let again : slice_get c.args.self.now.sent c.args.number ≡ Some c.in-Some-sent_at.datagram.now =
     sent_here _ _ c.self.view_is c.deref-2.result.now c.args.number c.in-Some-sent_at.datagram.now (c.deref-2.ensures.value ∙ c.reserve.ensures.items) (sym c.sent_at-2.ensures ∙ ap option_copied c.in-Some-sent_at.is) in
@@ -97,7 +97,7 @@ returns-clause-stepped c =
         name = switched_name served.switched;
         there = meter_found _ _ c.self.view_is key d.meter (c.number.ensures ∙ meters) seat found;
         handles = subst Q carried c.in_ok-served.ensures.handled;
-        new_is = meter_serves _ _ c.self.view_is key d.meter (c.number.ensures ∙ meters) _ _ _ _ _ _ _ (c.get_mut.follows.holds c.handle.new.self).0 refl
+        new_is = meter_serves _ _ c.self.view_is key d.meter (c.number.ensures ∙ meters) _ _ _ _ _ _ _ refl refl
             (c.reply.ensures ∙ (λ i. c.reserve.ensures.items i ++ replied_is d _ _ (reply_bytes served.reply) heads meters i))
             (c.note.ensures ∙ (λ i. c.reserve-2.ensures.items i ++ noted_is _ d.meter served.switched c.handle.new.self meters c.in_ok-served.ensures.switched i));
       }),
@@ -108,26 +108,20 @@ returns-clause-admitted c =
     let key = c.number.result in
     let d = c.in-Some.datagram.now in
     let seat = c.in-Some-get_mut.seat.now in
-    let found : lookup (nat_eq key) c.self.inside.meters.entries ≡ Some seat = sym c.get_mut.ensures.value ∙ ap option_copied_mut c.in-Some-get_mut.is in
+    let found : lookup (nat_eq key) c.self.inside.meters ≡ Some seat = sym c.get_mut.ensures.value ∙ ap option_copied_mut c.in-Some-get_mut.is in
     let at : slice_get c.self.inside.sent.items c.args.number ≡ Some d = ap (λ (xs : List Datagram). slice_get xs c.args.number) (sym c.deref.ensures.value) ∙ sym c.sent_at.ensures ∙ ap option_copied c.in-Some.is in
     let here : slice_get c.args.self.now.sent c.args.number ≡ Some d = sent_here _ _ c.self.view_is c.deref.result.now c.args.number d c.deref.ensures.value (sym c.sent_at.ensures ∙ ap option_copied c.in-Some.is) in
     let same : key ≡ d.meter = c.number.ensures ∙ ap (λ (x : Datagram). x.meter) c.datagram.view_is in
     delivered_to_meter _ _ c.self.view_is c.args.number d at seat (way_of c.args.self.now.sent c.args.number ToMeter d c.requires here) (meter_found _ _ c.self.view_is key d.meter same seat found)
 
--- the reply goes back on the link of a datagram that was sent
 pub invariant_of-self-2 : goal.invariant_of-self-2
-invariant_of-self-2 c =
-    let key = c.number.result in
-    let d = c.in-Some.datagram.now in
-    let reply = reply_bytes c.in_ok-served.served.reply in
-    let s : State =
-    record { heads = c.self.inside.heads.entries; meters = c.self.inside.meters.entries; sent = c.self.inside.sent.items; activations = c.self.inside.activations.items } in
-    let at : slice_get c.self.inside.sent.items c.args.number ≡ Some d = ap (λ (xs : List Datagram). slice_get xs c.args.number) (sym c.deref.ensures.value) ∙ sym c.sent_at.ensures ∙ ap option_copied c.in-Some.is in
-    let meters : c.datagram.inside.meter ≡ d.meter = ap (λ (x : Datagram). x.meter) c.datagram.view_is in
-    let heads : c.datagram.inside.head ≡ d.head = ap (λ (x : Datagram). x.head) c.datagram.view_is in
-    noted_own _
-    (meter_own _
-    (sent_own s c.self.invariant _ (replies d reply) (c.reply.ensures ∙ (λ i. c.reserve.ensures.items i ++ replied_is d _ _ reply heads meters i))
-    (replies_there s d reply (at_number (IsAddressed s) s.sent c.args.number d c.self.invariant.addressed at)))
-    key _ c.handle.new.self (c.get_mut.follows.holds c.handle.new.self).0)
-    _
+invariant_of-self-2 c = keeps_meter _ (keeps_lists _ c.self.invariant c.reply.new.sent.items c.note.new.activations.items) c.number.result c.handle.new.self
+
+pub invariant_of-self-in_err-reserve : goal.invariant_of-self-in_err-reserve
+invariant_of-self-in_err-reserve c = keeps_meter _ (keeps_lists _ c.self.invariant c.reserve.new.self.items c.self.inside.activations.items) c.number.result c.in-Some-get_mut.seat.now
+
+pub invariant_of-self-in_err-reserve-2 : goal.invariant_of-self-in_err-reserve-2
+invariant_of-self-in_err-reserve-2 c = keeps_meter _ (keeps_lists _ c.self.invariant c.reserve.new.self.items c.reserve-2.new.self.items) c.number.result c.in-Some-get_mut.seat.now
+
+pub invariant_of-self-in_err-served : goal.invariant_of-self-in_err-served
+invariant_of-self-in_err-served c = keeps_meter _ (keeps_lists _ c.self.invariant c.reserve.new.self.items c.reserve-2.new.self.items) c.number.result c.handle.new.self

@@ -2,14 +2,18 @@ use Rattle.std.proofs.Common.{◌≡◌, nat_eq, Some, refl, sym, ap, ◌∙◌}
 use Rattle.std.specs.Map.{lookup}
 use Rattle.std.specs.Option.{option_copied_mut}
 use Rattle.fw_world.proofs.Places.{meter_found, meter_set}
+use Rattle.fw_world.proofs.Keeping.{keeps_meter}
 use Rattle.fw_world.proofs.world.World.turn.Goals as goal
 
 pub returns-clause-stepped : goal.returns-clause-stepped
 returns-clause-stepped c =
-    let found : lookup (nat_eq c.number.result) c.self.inside.meters.entries ≡ Some c.in-Some.seat.now = sym c.get_mut.ensures.value ∙ ap option_copied_mut c.in-Some.is in (
+    let found : lookup (nat_eq c.number.result) c.self.inside.meters ≡ Some c.in-Some.seat.now = sym c.get_mut.ensures.value ∙ ap option_copied_mut c.in-Some.is in (
       c.in-Some.seat.now,
       c.turn.new.self,
       meter_found _ _ c.self.view_is _ _ c.number.ensures _ found,
       c.turn.ensures,
-      meter_set _ _ c.self.view_is _ _ c.number.ensures _ _ _ (c.get_mut.follows.holds c.turn.new.self).0 refl,
+      meter_set _ _ c.self.view_is _ _ c.number.ensures _ _ _ refl refl,
     )
+
+pub invariant_of-self-2 : goal.invariant_of-self-2
+invariant_of-self-2 c = keeps_meter _ c.self.invariant c.number.result c.turn.new.self

@@ -1,0 +1,71 @@
+//! A log that threads share.
+
+ghost use Rattle.std.specs.Prelude.{◌≡◌, [], length, IfOk};
+ghost use Rattle.fw_air.specs.Logs.{IsCounted};
+ghost use Rattle.fw_world.specs.View.{event_of};
+
+use crate::log::{Entry, Log, Room, Sent};
+use fw_world::{Datagram, Event};
+use std::alloc::{AllocError, Global};
+use std::sync::{Mutex, Wait};
+
+/// A log behind a lock. Whenever the lock is free, the numbers of datagrams that the events added sum to how many were sent.
+#[derive(Drop)]
+pub struct SharedLog {
+    log: Mutex<Log>,
+}
+
+impl SharedLog {
+    /// A log of what was sent and of what happened before. It asks that the events' numbers of datagrams sum to how many were
+    /// sent.
+    pub fn new(sent: Vec<Datagram>, entries: Vec<Entry>) -> SharedLog
+        requires { IsCounted (record { sent = sent.items; entries = entries.items }) }
+    {
+        SharedLog {
+            log: Mutex::new(Log::new(sent, entries)),
+        }
+    }
+
+    /// A copy of the datagram of a number, and `None` where there is none yet.
+    ///
+    /// # Errors
+    ///
+    /// Want of memory alone.
+    pub fn get<R: Wait>(
+        &self,
+        rt: &R,
+        alloc: Global,
+        number: usize,
+    ) -> Result<Option<Datagram>, AllocError> {
+        self.log.lock(rt).get(alloc, number)
+    }
+
+    /// The memory for one event and 15 datagrams. It takes no lock.
+    ///
+    /// # Errors
+    ///
+    /// Want of memory alone.
+    pub fn reserve(&self, alloc: Global) -> Result<Room, AllocError>
+        ensures { IfOk result (λ room. room ≡ []) }
+    {
+        Room::new(alloc)
+    }
+
+    /// Adds an event with the datagrams that stand in the room, in one piece. It takes no memory but the room's.
+    pub fn append<R: Wait>(&self, rt: &R, room: Room, event: Event) -> Sent
+        ensures { result.count ≡ length room }
+    {
+        self.log.lock(rt).add(room, event)
+    }
+
+    /// Both lists, what was sent and what happened.
+    ///
+    /// # Errors
+    ///
+    /// Want of memory alone, and only where there is an event. The log is then lost.
+    pub fn into_inner(self, alloc: Global) -> Result<(Vec<Datagram>, Vec<Entry>), AllocError>
+        ensures { IfOk result (λ lists. IsCounted (record { sent = lists.0.items; entries = lists.1.items })) }
+    {
+        self.log.into_inner().into_inner(alloc)
+    }
+}

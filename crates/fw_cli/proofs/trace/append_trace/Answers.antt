@@ -1,0 +1,23 @@
+use Rattle.std.proofs.Common.{◌≡◌, ◌<◌, ◌+◌, ◌∷◌, length, drop, suc, add-one, ap, sym, ◌∙◌, drop-cons, arith}
+use Rattle.std.specs.Prelude.{string_bytes}
+use Rattle.std.proofs.lemmas.List.{drop_all}
+use Rattle.fw_world.specs.World.{Datagram}
+use Rattle.fw_cli.proofs.Traces.{goes_on, ends}
+use Rattle.fw_cli.proofs.trace.append_trace.Goals as goal
+
+pub loop-number-preserved : goal.loop-number-preserved
+loop-number-preserved c =
+    let sent = c.args.sent.now in
+    let number = c.loop-number.number in
+    let d = c.index-sent-number.result in
+    let inside : number < length sent = omega arith in
+    let cut : drop number sent ≡ d ∷ drop (number + 1) sent =
+    rw add-one (drop-cons sent number d inside ∙ ap (λ (first : Datagram). first ∷ drop (suc number) sent) (sym c.index-sent-number.is)) in
+    let said = c.in_ok-append_line.ensures in
+    goes_on sent number d said.0 (string_bytes c.args.text.now) (string_bytes c.loop-number.text) (string_bytes c.append_line.new.text) c.loop-number.invariant cut said.1 said.2
+
+pub returns : goal.returns
+returns c =
+    let sent = c.args.sent.now in
+    let number = c.loop-number.number in
+    ends sent number (string_bytes c.args.text.now) (string_bytes c.loop-number.text) c.loop-number.invariant (drop_all number sent (omega arith))

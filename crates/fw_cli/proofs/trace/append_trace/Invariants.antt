@@ -1,0 +1,6 @@
+use Rattle.std.specs.Prelude.{string_bytes}
+use Rattle.fw_cli.proofs.Traces.{SoFar}
+use Rattle.fw_cli.proofs.trace.append_trace.Given as goal
+
+abbrev pub invariant-loop-number : goal.invariant-loop-number
+invariant-loop-number l = SoFar l.sent l.number (string_bytes l.initial.text) (string_bytes l.text)

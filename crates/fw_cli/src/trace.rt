@@ -1,0 +1,175 @@
+//! The trace of a run: a line for each datagram that was sent.
+
+ghost use Rattle.std.specs.Prelude.{◌≡◌, ◌++◌, ℕ, List, OnOk, string_bytes};
+ghost use Rattle.fw_cli.specs.Trace.{IsTrace, Says, line_of, ends_words, kind_of, number_of, saying_words, brief_words, campaign_words, attribute_name};
+ghost use Rattle.fw_cli.specs.declared.saying.Saying.{Saying};
+
+use crate::report::head_number;
+use crate::saying::{Brief, Saying, saying_of};
+use fw_names::CampaignId;
+use fw_server::Reading;
+use fw_world::{Actor, Datagram};
+use std::alloc::{AllocError, Global};
+
+/// Appends the trace of what was sent: for each datagram, by its number from 0 on, who sent it to whom, and what it says.
+pub(crate) fn append_trace(
+    alloc: Global,
+    text: &mut String,
+    sent: &[Datagram],
+) -> Result<(), AllocError>
+    ensures { OnOk result ((trace : List ℕ) × IsTrace sent.now trace × (string_bytes text.new ≡ string_bytes text.old ++ trace)) }
+{
+    for number in 0..sent.len() {
+        append_line(alloc, text, number, &sent[number])?;
+    }
+    Ok(())
+}
+
+/// Appends the line of a datagram.
+fn append_line(
+    alloc: Global,
+    text: &mut String,
+    number: usize,
+    datagram: &Datagram,
+) -> Result<(), AllocError>
+    ensures { OnOk result ((s : Saying) × Says datagram.now.direction datagram.now.bytes s
+        × (string_bytes text.new ≡ string_bytes text.old ++ line_of number datagram.now s)) }
+{
+    match saying_of(alloc, datagram) {
+        Ok(saying) => append_saying_line(text, number, datagram, saying),
+        Err(error) => Err(error),
+    }
+}
+
+/// Appends the line of a datagram that says this.
+fn append_saying_line(
+    text: &mut String,
+    number: usize,
+    datagram: &Datagram,
+    saying: Saying,
+) -> Result<(), AllocError>
+    ensures { OnOk result (string_bytes text.new ≡ string_bytes text.old ++ line_of number datagram.now saying) }
+{
+    write!(text, "{number} ")?;
+    append_ends(text, datagram.from(), datagram.to())?;
+    text.push_str("  ")?;
+    append_saying(text, saying)?;
+    text.push_str("\n")
+}
+
+/// Appends who sends to whom.
+fn append_ends(text: &mut String, from: Actor, to: Actor) -> Result<(), AllocError>
+    ensures { OnOk result (string_bytes text.new ≡ string_bytes text.old ++ ends_words from to) }
+{
+    let (sender, addressee) = (kind_of(&from), kind_of(&to));
+    let (source, target) = (number_of(&from), number_of(&to));
+    write!(text, "{sender} {source} -> {addressee} {target}")
+}
+
+/// Whether this is a head end or a meter.
+fn kind_of(actor: &Actor) -> &'static str
+    ensures { result.now ≡ kind_of actor.now }
+{
+    match actor {
+        Actor::Head(_) => "head",
+        Actor::Meter(_) => "meter",
+    }
+}
+
+/// The number of a head end or a meter.
+fn number_of(actor: &Actor) -> u32
+    ensures { result ≡ number_of actor.now }
+{
+    match actor {
+        Actor::Head(head) => head.number(),
+        Actor::Meter(meter) => meter.number(),
+    }
+}
+
+/// Appends what a datagram says.
+fn append_saying(text: &mut String, saying: Saying) -> Result<(), AllocError>
+    ensures { OnOk result (string_bytes text.new ≡ string_bytes text.old ++ saying_words saying) }
+{
+    match saying {
+        Saying::Get(attribute) => append_attribute(text, attribute),
+        Saying::Enable(true) => text.push_str("enable"),
+        Saying::Enable(false) => text.push_str("disable"),
+        Saying::Initiate { campaign, size } => append_initiate(text, campaign, size),
+        Saying::InitiateUnnamed(size) => write!(text, "initiate ? ({size} bytes)"),
+        Saying::Block { number, size } => write!(text, "block {number} ({size} bytes)"),
+        Saying::Verify => text.push_str("verify"),
+        Saying::Activate => text.push_str("activate"),
+        Saying::Got(brief) => append_got(text, brief),
+        Saying::GotCode(code) => write!(text, "get code {code}"),
+        Saying::SetCode(code) => write!(text, "set {code}"),
+        Saying::ActionCode(code) => write!(text, "action {code}"),
+        Saying::Unread(size) => write!(text, "? ({size} bytes)"),
+    }
+}
+
+/// Appends that an attribute is asked for.
+fn append_attribute(text: &mut String, attribute: Reading) -> Result<(), AllocError>
+    ensures { OnOk result (string_bytes text.new ≡ string_bytes text.old ++ saying_words (Saying.Get attribute)) }
+{
+    let name = attribute_name(attribute);
+    write!(text, "get {name}")
+}
+
+/// The name of an attribute.
+fn attribute_name(attribute: Reading) -> &'static str
+    ensures { result.now ≡ attribute_name attribute }
+{
+    match attribute {
+        Reading::LogicalName(_) => "logical name",
+        Reading::BlockSize => "block size",
+        Reading::TransferredBlocks => "transferred blocks",
+        Reading::FirstNotTransferred => "first not transferred block",
+        Reading::TransferEnabled => "transfer enabled",
+        Reading::TransferStatus => "transfer status",
+        Reading::ToActivate => "image to activate",
+        Reading::ActiveName => "active firmware identifier",
+        Reading::ActiveDigest => "active firmware signature",
+    }
+}
+
+/// Appends which image is initiated.
+fn append_initiate(text: &mut String, campaign: CampaignId, size: u32) -> Result<(), AllocError>
+    ensures { OnOk result (string_bytes text.new ≡ string_bytes text.old ++ saying_words (Saying.Initiate campaign size)) }
+{
+    text.push_str("initiate ")?;
+    append_campaign(text, campaign)?;
+    write!(text, " ({size} bytes)")
+}
+
+/// Appends the numbers of a campaign.
+fn append_campaign(text: &mut String, campaign: CampaignId) -> Result<(), AllocError>
+    ensures { OnOk result (string_bytes text.new ≡ string_bytes text.old ++ campaign_words campaign) }
+{
+    let (head, serial) = (head_number(campaign), campaign.serial());
+    write!(text, "campaign {head} {serial}")
+}
+
+/// Appends the answer to a GET.
+fn append_got(text: &mut String, brief: Brief) -> Result<(), AllocError>
+    ensures { OnOk result (string_bytes text.new ≡ string_bytes text.old ++ saying_words (Saying.Got brief)) }
+{
+    text.push_str("get ")?;
+    append_brief(text, brief)
+}
+
+/// Appends a value in short.
+fn append_brief(text: &mut String, brief: Brief) -> Result<(), AllocError>
+    ensures { OnOk result (string_bytes text.new ≡ string_bytes text.old ++ brief_words brief) }
+{
+    match brief {
+        Brief::Number(number) => write!(text, "{number}"),
+        Brief::Flag(true) => text.push_str("true"),
+        Brief::Flag(false) => text.push_str("false"),
+        Brief::Status(status) => write!(text, "status {status}"),
+        Brief::Bits(count) => write!(text, "bits {count}"),
+        Brief::Campaign(campaign) => append_campaign(text, campaign),
+        Brief::Octets(size) => write!(text, "? ({size} bytes)"),
+        Brief::Images(count) => write!(text, "images {count}"),
+        Brief::Other => text.push_str("?"),
+    }
+}

@@ -1,0 +1,26 @@
+//! Why a head end was not put together.
+
+ghost use Rattle.std.specs.Prelude.{◌≡◌};
+ghost use Rattle.fw_head.specs.declared.error.PutError.TheVariants as put_error;
+
+use std::alloc::AllocError;
+use thiserror::Error;
+
+/// Why parts were not put together. Where both would apply, the first comes.
+#[derive(Clone, Copy, Debug, PartialEq, Eq, Error)]
+pub enum PutError {
+    /// The rows are not those that are live in the book, each once, for the image that their campaign offers.
+    #[error("WrongRows")]
+    WrongRows,
+    /// Memory was refused.
+    #[error("OutOfMemory")]
+    OutOfMemory,
+}
+
+impl From<AllocError> for PutError {
+    ghost from_gives = { λ _ e. e ≡ put_error.OutOfMemory };
+
+    fn from(_error: AllocError) -> PutError {
+        PutError::OutOfMemory
+    }
+}

@@ -1,0 +1,70 @@
+//! One campaign to its end: head end 7 offers `abc` in campaign 1 to meter 1, with windows of 4. The meter runs `x`, and has blocks of two
+//! bytes and room for 64.
+
+use fw_names::{CampaignId, HeadId, MeterId};
+use fw_world::{Event, HeadSetup, MeterSetup, Setup};
+use std::alloc::Global;
+use std::test::Fail;
+
+/// The datagrams that come behind each tick, by their places among all that are sent: what the head end asks, and what the meter answers.
+const ROUNDS: &[&[usize]] = &[
+    &[0, 1],
+    &[2, 3],
+    &[4, 5],
+    &[6, 7, 8, 9],
+    &[10, 11],
+    &[12, 13],
+    &[14, 15],
+    &[16, 17],
+    &[18, 19],
+];
+
+/// The head end.
+pub(crate) fn head() -> Result<HeadId, Fail> {
+    Ok(HeadId::new(7).ok_or("a head end's number begins at 1")?)
+}
+
+/// The meter.
+pub(crate) fn meter() -> Result<MeterId, Fail> {
+    Ok(MeterId::new(1).ok_or("every number is a meter's")?)
+}
+
+/// What the world is made with.
+pub(crate) fn setup(alloc: Global) -> Result<Setup, Fail> {
+    let mut heads = Vec::new(alloc);
+    heads.push(HeadSetup {
+        head: head()?,
+        width: 4,
+    })?;
+    let mut meters = Vec::new(alloc);
+    meters.push(MeterSetup {
+        meter: meter()?,
+        block_size: 2,
+        capacity: 64,
+        factory: b"x".to_vec(alloc)?,
+    })?;
+    Ok(Setup { heads, meters })
+}
+
+/// So many of its events: the opening, and then by rounds the tick and the datagrams that come.
+pub(crate) fn events(alloc: Global, count: usize) -> Result<Vec<Event>, Fail> {
+    let mut meters = Vec::new(alloc);
+    meters.push(meter()?)?;
+    let mut events = Vec::new(alloc);
+    events.push(Event::OpenCampaign {
+        campaign: CampaignId::new(head()?, 1).ok_or("a serial number begins at 1")?,
+        image: b"abc".to_vec(alloc)?,
+        meters,
+    })?;
+    for round in ROUNDS {
+        events.push(Event::Tick(head()?, meter()?))?;
+        for datagram in *round {
+            events.push(Event::Deliver(*datagram))?;
+        }
+    }
+    events.truncate(count);
+    Ok(events)
+}
+
+/// How many there are.
+pub(crate) const ALL: usize = 30;

@@ -1,0 +1,133 @@
+//! Stops of the meter in each datagram of a campaign, at each call of its store. The meter is then as before the datagram or as after it,
+//! and the campaign goes on to its end.
+
+use crate::campaign::{events, head, meter, setup};
+use crate::support::{expect_tried, failed};
+use fw_air::{Fate, Fates, schedule};
+use fw_book::RowState;
+use fw_names::CampaignId;
+use fw_world::{Event, World, run};
+use std::alloc::Global;
+use std::test::Fail;
+
+/// How many events of the campaign come before a datagram to the meter, its number, and how many calls of the store it makes: of a GET
+/// none, of a SET, an initiate and an activate one, of a new block and of a verify two.
+const DATAGRAMS: &[(usize, usize, u64)] = &[
+    (2, 0, 0),
+    (5, 2, 1),
+    (8, 4, 1),
+    (11, 6, 2),
+    (12, 7, 2),
+    (16, 10, 0),
+    (19, 12, 2),
+    (22, 14, 0),
+    (25, 16, 1),
+    (28, 18, 0),
+];
+
+/// What a torn block is filled with.
+const TORN: &[u8] = &[0, 255, 238];
+
+/// What is seen of the meter: its status, the marks of the first eight blocks, the campaign of what it runs, and how often it switched.
+type Sight = (u8, u8, CampaignId, usize);
+
+fn sight(world: &World) -> Result<Sight, Fail> {
+    let core = world.meter(meter()?).ok_or("the meter of the setup")?;
+    let view = core.view();
+    let [marks, ..] = view.marked;
+    Ok((
+        view.status.number(),
+        marks,
+        view.active.campaign,
+        world.activations().len(),
+    ))
+}
+
+/// What is seen behind so many events of the campaign and then these.
+fn seen(alloc: Global, count: usize, then: [Option<Event>; 2]) -> Result<Sight, Fail> {
+    let mut events = events(alloc, count)?;
+    for event in then {
+        if let Some(event) = event {
+            events.push(event)?;
+        }
+    }
+    match run(alloc, &setup(alloc)?, &events) {
+        Ok(world) => sight(&world),
+        Err(_) => Err("an event is refused".into()),
+    }
+}
+
+/// Each image that was switched to is the one that the campaign offers, and the meter is done.
+fn is_done(world: &World) -> Result<bool, Fail> {
+    let book = world.book(head()?).ok_or("the head end of the setup")?;
+    let campaign = CampaignId::new(head()?, 1).ok_or("a serial number begins at 1")?;
+    let same = world.activations().iter().all(|activation| activation.bytes.as_slice()
+        == b"abc".as_slice());
+    Ok(same && book.state(campaign, meter()?) == Some(RowState::Done))
+}
+
+/// The campaign goes on behind these events.
+fn goes_on(alloc: Global, given: &[Event]) -> Result<bool, Fail> {
+    let setup = setup(alloc)?;
+    let fates = Fates::new(&[Fate::Deliver]).ok_or("1 to 4,096 fates")?;
+    let Ok(events) = schedule(alloc, &setup, given, 20, &fates) else {
+        return Err("an event is refused".into());
+    };
+    match run(alloc, &setup, &events) {
+        Ok(world) => is_done(&world),
+        Err(_) => Err("an event of the schedule is refused".into()),
+    }
+}
+
+/// A stop in a datagram at each call of its store. Before the last call is made the meter is as before.
+fn stopped(
+    alloc: Global,
+    count: usize,
+    datagram: usize,
+    calls: u64,
+    all_calls: u64,
+) -> Result<usize, Fail> {
+    let restart = Event::RestartMeter(meter()?);
+    let want = if calls < all_calls {
+        seen(alloc, count, [Some(restart), None])?
+    } else {
+        seen(
+            alloc,
+            count,
+            [Some(Event::Deliver(datagram)), Some(restart)],
+        )?
+    };
+    for torn in TORN {
+        let stop = Event::Stop {
+            datagram,
+            calls,
+            torn: *torn,
+        };
+        let mut given = events(alloc, count)?;
+        given.push(stop)?;
+        let stop = Event::Stop {
+            datagram,
+            calls,
+            torn: *torn,
+        };
+        if seen(alloc, count, [Some(stop), None])? != want {
+            failed(alloc, "the meter is another one", datagram)?;
+        }
+        if !goes_on(alloc, &given)? {
+            failed(alloc, "the campaign doesn't end", datagram)?;
+        }
+    }
+    Ok(TORN.len())
+}
+
+#[test]
+fn each_call_of_each_datagram(rt: HostRuntime) -> Result<(), Fail> {
+    let alloc = rt.alloc();
+    let mut tried = 0usize;
+    for (count, datagram, all_calls) in DATAGRAMS {
+        for calls in 0..=*all_calls {
+            tried = tried.saturating_add(stopped(alloc, *count, *datagram, calls, *all_calls)?);
+        }
+    }
+    expect_tried(alloc, tried, 57)
+}

@@ -1,0 +1,29 @@
+//! The count of what was tried.
+
+use fw_meter::MeterCore;
+use fw_store::MemoryStore;
+use std::alloc::Global;
+use std::test::Fail;
+
+/// So many cases were tried, and so many there are.
+pub(crate) fn expect_tried(alloc: Global, tried: usize, want: usize) -> Result<(), Fail> {
+    if tried == want {
+        return Ok(());
+    }
+    let told = format!(in alloc; "{tried} cases in place of {want}")?;
+    Err(Fail::from(told))
+}
+
+/// A case that went wrong, by its place.
+pub(crate) fn failed(alloc: Global, what: &str, at: usize) -> Result<(), Fail> {
+    let told = format!(in alloc; "case {at}: {what}")?;
+    Err(Fail::from(told))
+}
+
+/// The meter in a store.
+pub(crate) fn opened(store: MemoryStore) -> Result<MeterCore<MemoryStore>, Fail> {
+    match MeterCore::open_store(store) {
+        Ok(meter) => Ok(meter),
+        Err((error, _store)) => Err(error.into()),
+    }
+}

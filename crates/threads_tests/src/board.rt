@@ -1,0 +1,90 @@
+//! The board: from one thread to another, and in one.
+
+ghost use Rattle.std.specs.Prelude.{◌≡◌, ◌<◌};
+
+use fw_workers::{Board, Seat};
+use std::test::Fail;
+use std::thread;
+
+/// The most turns of a thread that waits for a mark, each of which yields.
+const TURNS: u32 = 1 << 24;
+
+/// Marks the board, once.
+fn mark(board: &Board, mut seat: Seat) -> Seat
+    requires board { seat.board ≡ board.now.id }
+    requires left { 0 < seat.allowance }
+    ensures { result.board ≡ board.now.id }
+{
+    board.add(&mut seat);
+    seat
+}
+
+/// Looks at the board until it has a mark, or for as many turns as there may be: the count that was seen last.
+fn look(board: &Board, mut seat: Seat) -> (Seat, u64)
+    requires { seat.board ≡ board.now.id }
+    ensures { result.0.board ≡ board.now.id }
+{
+    let mut seen = board.seen(&mut seat);
+    for _ in 0..TURNS {
+        if seen > 0 {
+            break;
+        }
+        thread::yield_now();
+        seen = board.seen(&mut seat);
+    }
+    (seat, seen)
+}
+
+#[test]
+fn mark_is_seen(rt: HostRuntime) -> Result<(), Fail> {
+    let (board, mut first) = Board::new(rt.alloc(), 0)?;
+    let second = board.split(rt.alloc(), &mut first, 10)?;
+    let shared = &board;
+    let (mut first, (second, seen)) = thread::join(
+        &rt,
+        move || -> Seat
+            requires { (first.board ≡ shared.now.id) × (0 < first.allowance) }
+            ensures { result.board ≡ shared.entry.now.id }
+        { mark(shared, first) },
+        move || -> (Seat, u64)
+            requires { second.board ≡ shared.now.id }
+            ensures { result.0.board ≡ shared.entry.now.id }
+        { look(shared, second) },
+    );
+    assert_eq!(rt; seen, 1);
+    assert!(rt; board.join(&mut first, second).is_empty());
+    let (count, receipts) = board.close(first);
+    assert_eq!(rt; count, 1);
+    assert!(rt; receipts.is_empty());
+    Ok(())
+}
+
+#[test]
+fn own_mark(rt: HostRuntime) -> Result<(), Fail> {
+    let (board, mut seat) = Board::new(rt.alloc(), 0)?;
+    board.add(&mut seat);
+    assert!(rt; board.seen(&mut seat) >= 1);
+    let (count, _) = board.close(seat);
+    assert_eq!(rt; count, 1);
+    Ok(())
+}
+
+#[test]
+fn marks_move_between_seats(rt: HostRuntime) -> Result<(), Fail> {
+    let (board, mut first) = Board::new(rt.alloc(), 7)?;
+    assert_eq!(rt; first.allowance(), 1 << 63);
+    let mut second = board.split(rt.alloc(), &mut first, 3)?;
+    assert_eq!(rt; first.allowance(), (1 << 63) - 3);
+    board.add(&mut second);
+    assert_eq!(rt; second.allowance(), 2);
+    assert_eq!(rt; board.seen(&mut first), 8);
+    let mut third = board.split(rt.alloc(), &mut second, 2)?;
+    board.add(&mut third);
+    assert_eq!(rt; second.allowance(), 0);
+    assert!(rt; board.join(&mut first, third).is_empty());
+    assert_eq!(rt; first.allowance(), (1 << 63) - 2);
+    let (count, receipts) = board.close(first);
+    assert_eq!(rt; count, 9);
+    assert!(rt; receipts.is_empty());
+    Ok(())
+}

@@ -1,0 +1,71 @@
+"""Edits that make a body wrong, and the sources to which they are applied."""
+import os
+import subprocess
+
+ROOT = os.path.dirname(os.path.dirname(os.path.realpath(__file__)))
+# The folder in mutants/ whose edits tests see; each other one has the edits of a crate, which the prover refuses.
+TRIED_BY_TESTS = "by_tests"
+
+
+class Unfit(Exception):
+    """Why an edit can't be applied."""
+
+
+class Edit:
+    """One edit: its name, its text, the test that it names, if it names one, and the pairs of it by file."""
+
+    def __init__(self, name, path):
+        self.name, self.test, self.pairs = name, None, []
+        with open(path, encoding="utf-8") as it:
+            self.text = it.read()
+        file = old = None
+        for line in self.text.split("\n"):
+            word, _, rest = line.partition(":")
+            rest = rest[1:] if rest.startswith(" ") else rest
+            if word == "test":
+                self.test = rest.strip()
+            elif word == "file":
+                file = rest.strip()
+            elif word == "old":
+                old = rest
+            elif word == "new":
+                self.pairs.append((file, old, rest))
+
+    def applied(self, texts):
+        """The texts of the files with this edit in them, of those that it changes, and each place by file and line.
+        `Unfit` where it can't be applied."""
+        made, places = {}, []
+        if not self.pairs:
+            raise Unfit("it has no 'old:' and 'new:' pair")
+        for file, old, new in self.pairs:
+            if file not in texts:
+                raise Unfit(f"there is no file {file}")
+            text = made.get(file, texts[file])
+            if not old or text.count(old) != 1:
+                raise Unfit(f"an 'old:' text is in {file} {text.count(old) if old else 0} times, and not once")
+            places.append((file, text[: text.index(old)].count("\n")))
+            made[file] = text.replace(old, new)
+        return made, places
+
+
+def sources():
+    """The bytes of each file that git has or would have, by its path in the repository."""
+    words = ["git", "ls-files", "-z", "-c", "-o", "--exclude-standard"]
+    listed = subprocess.run(words, cwd=ROOT, stdout=subprocess.PIPE, check=True).stdout.decode().split("\0")
+    found = {}
+    for path in listed:
+        if path.split("/")[0] in ("crates", "crates.txt", "HANDLES") and os.path.isfile(f"{ROOT}/{path}"):
+            with open(f"{ROOT}/{path}", "rb") as it:
+                found[path] = it.read()
+    return found
+
+
+def write(path, text):
+    """Writes a file where it hasn't these bytes."""
+    os.makedirs(os.path.dirname(path), exist_ok=True)
+    if os.path.isfile(path):
+        with open(path, "rb") as it:
+            if it.read() == text:
+                return
+    with open(path, "wb") as it:
+        it.write(text)
