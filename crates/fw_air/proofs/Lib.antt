@@ -1,7 +1,9 @@
 pub mod Adding
+pub mod Alike
 pub mod Finding
 pub mod Making
 pub mod OneWorld
 pub mod Present
+pub mod Refused
 pub mod Runs
 pub mod Ticks

@@ -7,7 +7,7 @@ use Rattle.fw_world.specs.declared.setup.MeterSetup.{MeterSetup}
 use Rattle.fw_world.specs.Setup.{number_of_meter}
 use Rattle.fw_world.specs.State.{State, head_at, meter_at}
 use Rattle.fw_air.specs.declared.links.Waiting.{Waiting}
-use Rattle.fw_air.specs.Inside.{IsThere, AreSent, link_of}
+use Rattle.fw_air.specs.Links.{AreSent, IsThere, link_of}
 use Rattle.fw_air.specs.Rounds.{Link, is_link, stands_with, links_with}
 
 first_true : (a b : Bool) → (a && b) ≡ true → a ≡ true

@@ -16,7 +16,7 @@ use Rattle.fw_world.specs.World.{Datagram}
 use Rattle.fw_world.specs.declared.setup.Setup.{Setup}
 use Rattle.fw_world.specs.Setup.{opening_state}
 use Rattle.fw_air.specs.declared.links.Waiting.{Waiting}
-use Rattle.fw_air.specs.Inside.{AreSent, IsThere, link_of}
+use Rattle.fw_air.specs.Links.{AreSent, IsThere, link_of}
 use Rattle.fw_air.specs.Rounds.{AdmittedRun, Link}
 
 -- ---- what nothing refuses

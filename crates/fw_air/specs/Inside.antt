@@ -1,10 +1,17 @@
--- Private vocabulary: a world with the events that made it, and what waits on links.
-use Rattle.std.specs.Prelude.{◌≡◌, ℕ, ◌<◌, IsTrue, is_some, List, ◌++◌, length, replicate, All}
+-- Private vocabulary: a world with the events that made it, and the steps of an audit.
+use Rattle.std.specs.Prelude.{◌≡◌, ℕ, List, ◌++◌, replicate}
+use Rattle.fw_head.specs.Phase.{phase_of}
+use Rattle.fw_head.specs.Row.{Row}
+use Rattle.fw_world.specs.declared.error.SetupError.TheVariants as unmade
+use Rattle.fw_world.specs.declared.error.StepError.TheVariants as step
+use Rattle.fw_world.specs.declared.runs.RunError.{RunError}
+use Rattle.fw_world.specs.declared.runs.RunError.TheVariants as stopped
 use Rattle.fw_world.specs.declared.setup.Setup.{Setup}
-use Rattle.fw_world.specs.State.{State, head_at, meter_at}
+use Rattle.fw_world.specs.State.{State}
 use Rattle.fw_world.specs.Step.{Event}
-use Rattle.fw_air.specs.declared.links.Waiting.{Waiting}
-use Rattle.fw_air.specs.Rounds.{AdmittedRun, Link, OneByOne, IsRound, links}
+use Rattle.fw_air.specs.declared.audits.AuditError.{AuditError}
+use Rattle.fw_air.specs.declared.audits.AuditError.TheVariants as audit
+use Rattle.fw_air.specs.Rounds.{AdmittedRun, OneByOne, IsRound, links}
 
 -- a world that events led to, and these events
 pub record Recorded : Type 0 where
@@ -20,22 +27,22 @@ pub record Follows (old : Recorded) (events : List Event) (new : Recorded) : Typ
 abbrev pub GoesOn : Recorded → Recorded → Type 0
 GoesOn old new = (events : List Event) × Follows old events new
 
--- these datagrams were sent
-abbrev pub AreSent : State → List ℕ → Type 0
-AreSent s numbers = All (λ number. number < length s.sent) numbers
-
--- the link of what waits
-abbrev pub link_of : Waiting → Link
-link_of waiting = record { head = waiting.head; meter = waiting.meter }
-
--- both ends of a link are in the world, and what is late was sent
-pub record IsThere (s : State) (waiting : Waiting) : Type 0 where
-  pub head : IsTrue (is_some (head_at s waiting.head))
-  pub meter : IsTrue (is_some (meter_at s waiting.meter))
-  pub late : AreSent s waiting.late.items
-
 -- so many rounds happened, of the links that there were before them
 pub record MakesRounds (setup : Setup) (rounds : ℕ) (old new : Recorded) : Type 0 where
   pub events : List Event
   pub follows : Follows old events new
   pub rounds_run : OneByOne IsRound (replicate rounds (links setup old.world)) old.world events new.world
+
+-- ---- audits
+
+-- another row is of the same meter, and in the same phase
+pub record IsInPhase (row other : Row) : Type 0 where
+  pub meter : row.client.meter ≡ other.client.meter
+  pub phase : phase_of row.stage ≡ phase_of other.stage
+
+-- what an audit is refused for where a run was stopped
+abbrev pub audit_error_of : RunError → AuditError
+audit_error_of (stopped.Setup unmade.BadSetup) = audit.BadSetup
+audit_error_of (stopped.Setup unmade.OutOfMemory) = audit.OutOfMemory
+audit_error_of (stopped.Event number world step.OutOfMemory) = audit.OutOfMemory
+audit_error_of (stopped.Event number world cause) = audit.Mismatch

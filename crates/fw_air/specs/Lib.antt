@@ -5,5 +5,8 @@ pub mod Schedules
 pub mod Ticks
 pub mod Laws
 pub mod Logs
+pub mod Events
+pub mod Links
+pub mod Audits
 pub mod Inside
 pub mod Parts

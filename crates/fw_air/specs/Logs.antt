@@ -14,6 +14,11 @@ pub record Log : Type 0 where
   pub sent : List Datagram
   pub entries : List Entry
 
+-- an event that was added, under its number
+pub record Appended : Type 0 where
+  pub number : ℕ
+  pub event : Event
+
 -- the numbers of datagrams that the events added sum to how many were sent
 abbrev pub IsCounted : Log → Type 0
 IsCounted log = sum_by (λ e. e.count) log.entries ≡ length log.sent

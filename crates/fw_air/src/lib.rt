@@ -2,15 +2,21 @@
 //! round.
 #![tactic(auto)]
 
+mod audits;
+mod core_event;
 mod fates;
 pub mod laws;
 mod links;
 mod log;
 mod record;
+mod sameness;
 mod scheduling;
 mod shared;
 
+pub use audits::{AuditError, audit};
+pub use core_event::CoreEvent;
 pub use fates::{Fate, Fates, MAX_FATES};
+pub use links::{Waiting, links_of};
 pub use log::{Entry, Log, MAX_ADDED, Room, Sent};
 pub use scheduling::schedule;
-pub use shared::SharedLog;
+pub use shared::{SharedLog, Stub};

@@ -1,7 +1,7 @@
 //! The links of a world, and what waits on each.
 
-ghost use Rattle.std.specs.Prelude.{◌≡◌, ◌<◌, ◌++◌, All, IfOk, OnOk, map};
-ghost use Rattle.fw_air.specs.Inside.{IsThere, link_of};
+ghost use Rattle.std.specs.Prelude.{◌≡◌, ◌<◌, ◌++◌, [], All, IfOk, OnOk, map};
+ghost use Rattle.fw_air.specs.Links.{IsThere, late_of, link_of};
 ghost use Rattle.fw_air.specs.Rounds.{is_link, links, links_with, stands_in};
 
 use crate::fates::{Fate, Fates};
@@ -9,10 +9,11 @@ use fw_book::Book;
 use fw_names::{HeadId, MeterId};
 use fw_world::{MeterSetup, Setup, World};
 use std::alloc::{AllocError, Global};
+use std::mem;
 
 /// The link of a head end and a meter that stands in its book, and what waits on it.
 #[derive(Drop)]
-pub(crate) struct Waiting {
+pub struct Waiting {
     pub(crate) head: HeadId,
     pub(crate) meter: MeterId,
     /// How many datagrams had their fates since its first round.
@@ -22,8 +23,37 @@ pub(crate) struct Waiting {
 }
 
 impl Waiting {
-    /// Of the datagrams from one number up to another, those that come now, each as often as it comes. Those that are late wait.
-    pub(crate) fn pass(
+    /// The head end.
+    pub fn head(&self) -> HeadId
+        ensures { result ≡ (link_of self.now).head }
+    {
+        self.head
+    }
+
+    /// The meter.
+    pub fn meter(&self) -> MeterId
+        ensures { result ≡ (link_of self.now).meter }
+    {
+        self.meter
+    }
+
+    /// Takes the datagrams that are late, in the order in which `pass` left them: none is late then. It takes no memory.
+    pub fn take_late(&mut self, alloc: Global) -> Vec<usize>
+        ensures late { result.items ≡ late_of self.old }
+        ensures none { late_of self.new ≡ [] }
+        ensures link { link_of self.new ≡ link_of self.old }
+    {
+        mem::replace(&mut self.late, Vec::new(alloc))
+    }
+
+    /// Gives each datagram from number `from` on and below `end` its fate, the next one of this link in the repeated list, and
+    /// answers those that come now, in the order of their numbers, each as often as it comes. Those that are late wait behind the
+    /// others until `take_late`, and have had their fate then.
+    ///
+    /// # Errors
+    ///
+    /// Want of memory alone. Some of the datagrams have then had their fates, and those that were to come are lost.
+    pub fn pass(
         &mut self,
         alloc: Global,
         fates: &Fates<'_>,
@@ -31,8 +61,8 @@ impl Waiting {
         end: usize,
     ) -> Result<Vec<usize>, AllocError>
         ensures coming { IfOk result (λ coming. All (λ number. number < end) coming.items) }
-        ensures late { All (λ number. number < end) self.old.late.items
-            → OnOk result (All (λ number. number < end) self.new.late.items) }
+        ensures late { All (λ number. number < end) (late_of self.old)
+            → OnOk result (All (λ number. number < end) (late_of self.new)) }
         ensures link { OnOk result (link_of self.new ≡ link_of self.old) }
     {
         let mut coming = Vec::new(alloc);
@@ -53,12 +83,14 @@ impl Waiting {
     }
 }
 
-/// The links of a world: by head ends, and then by meters, in the order of the setup. Nothing waits on them.
-pub(crate) fn links_of(
-    alloc: Global,
-    setup: &Setup,
-    world: &World,
-) -> Result<Vec<Waiting>, AllocError>
+/// The links of a world: by head ends, and then by meters, in the order of the setup. A link is a head end and a meter that stands in
+/// its book, also where its rows have all ended. Nothing waits on them. Each end of a link is looked for as `World::book` and
+/// `World::meter` do.
+///
+/// # Errors
+///
+/// Want of memory alone.
+pub fn links_of(alloc: Global, setup: &Setup, world: &World) -> Result<Vec<Waiting>, AllocError>
     ensures all { IfOk result (λ made. map link_of made.items ≡ links setup.now world.now) }
     ensures there { IfOk result (λ made. All (IsThere world.now) made.items) }
 {

@@ -8,7 +8,8 @@ ghost use Rattle.fw_world.specs.Runs.{events_of};
 ghost use Rattle.fw_world.specs.State.{meter_at};
 ghost use Rattle.fw_world.specs.Step.{Event as Given, deliver, tick, turn};
 ghost use Rattle.fw_world.specs.View.{event_of};
-ghost use Rattle.fw_air.specs.Inside.{AreSent, Follows, GoesOn, IsThere, link_of};
+ghost use Rattle.fw_air.specs.Inside.{Follows, GoesOn};
+ghost use Rattle.fw_air.specs.Links.{AreSent, IsThere, link_of};
 ghost use Rattle.fw_air.specs.Rounds.{IsLinkRound, IsRound, OneByOne, last_turn};
 
 use crate::fates::Fates;
@@ -18,7 +19,6 @@ use fw_names::MeterId;
 use fw_world::{Event, RunError, StepError, World, laws};
 use std::alloc::Global;
 use std::marker::Model;
-use std::mem;
 
 /// A world that events led to, and these events.
 #[derive(Drop)]
@@ -201,7 +201,7 @@ impl Record {
         ensures goes_on { GoesOn self.old self.new }
     {
         laws::actors_stay();
-        let late = mem::replace(&mut link.late, Vec::new(alloc));
+        let late = link.take_late(alloc);
         self.deliver_all(alloc, &late)?;
         self.admit(alloc, Event::Tick(link.head, link.meter))
     }

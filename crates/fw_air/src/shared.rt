@@ -2,12 +2,52 @@
 
 ghost use Rattle.std.specs.Prelude.{◌≡◌, [], length, IfOk};
 ghost use Rattle.fw_air.specs.Logs.{IsCounted};
-ghost use Rattle.fw_world.specs.View.{event_of};
+ghost use Rattle.fw_air.specs.Events.{core_event_of};
 
+use crate::core_event::CoreEvent;
 use crate::log::{Entry, Log, Room, Sent};
-use fw_world::{Datagram, Event};
+use fw_world::Datagram;
 use std::alloc::{AllocError, Global};
+use std::marker::Model;
 use std::sync::{Mutex, Wait};
+
+/// That an event was appended, under its number. It can't be let go of but by `spend`: who appended an event has to account for
+/// it.
+pub struct Stub {
+    number: usize,
+    event: CoreEvent,
+}
+
+impl Model for Stub {
+    ghost use Rattle.fw_air.specs.Events.{core_event_of};
+    ghost use Rattle.fw_air.specs.Logs.{Appended};
+
+    ghost Value = { Appended };
+
+    ghost view = { λ s. record { number = s.number; event = core_event_of s.event } };
+}
+
+impl Stub {
+    /// What was appended, with the stub of the event.
+    fn behind(sent: Sent, event: CoreEvent) -> (Sent, Stub)
+        ensures sent { result.0 ≡ sent }
+        ensures stub { result.1 ≡ record { number = sent.event; event = core_event_of event } }
+    {
+        let stub = Stub {
+            number: sent.event,
+            event,
+        };
+        (sent, stub)
+    }
+
+    /// The number of the event, from 0 on, and the event.
+    pub fn spend(self) -> (usize, CoreEvent)
+        ensures { self ≡ record { number = result.0; event = core_event_of result.1 } }
+    {
+        let Stub { number, event } = self;
+        (number, event)
+    }
+}
 
 /// A log behind a lock. Whenever the lock is free, the numbers of datagrams that the events added sum to how many were sent.
 #[derive(Drop)]
@@ -51,11 +91,21 @@ impl SharedLog {
         Room::new(alloc)
     }
 
-    /// Adds an event with the datagrams that stand in the room, in one piece. It takes no memory but the room's.
-    pub fn append<R: Wait>(&self, rt: &R, room: Room, event: Event) -> Sent
+    /// Adds an event with the datagrams that stand in the room, in one piece. It takes no memory but the room's. The stub says
+    /// that it was added, and has to be spent.
+    pub fn append<R: Wait>(&self, rt: &R, room: Room, event: CoreEvent) -> (Sent, Stub)
+        ensures sent { result.0.count ≡ length room }
+        ensures stub { result.1 ≡ record { number = result.0.event; event = core_event_of event } }
+    {
+        let sent = self.add(rt, room, &event);
+        Stub::behind(sent, event)
+    }
+
+    /// Adds an event under the lock.
+    fn add<R: Wait>(&self, rt: &R, room: Room, event: &CoreEvent) -> Sent
         ensures { result.count ≡ length room }
     {
-        self.log.lock(rt).add(room, event)
+        self.log.lock(rt).add(room, event.event())
     }
 
     /// Both lists, what was sent and what happened.

@@ -1,5 +1,5 @@
 -- Public vocabulary: what contracts see of boards, seats and receipts.
-use Rattle.std.specs.Prelude.{ℕ, List}
+use Rattle.std.specs.Prelude.{ℕ, List, [], ◌∷◌, ◌++◌}
 use Rattle.atomic_table.specs.Seated.{TableId}
 use Rattle.fw_world.specs.Step.{Event}
 
@@ -21,3 +21,7 @@ pub record Seat : Type 0 where
   pub seen : ℕ
   pub allowance : ℕ
   pub receipts : List Receipt
+
+-- a seat with one receipt more
+abbrev pub noted : Seat → ℕ → Event → Seat
+noted seat number event = record seat { receipts = seat.receipts ++ (record { number = number; event = event }) ∷ [] }

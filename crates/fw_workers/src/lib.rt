@@ -1,13 +1,19 @@
-//! Workers that share head ends and meters: the board on which they count what is done, and a seat for each of them.
+//! Workers that share head ends and meters: the board on which they count what is done, a seat for each of them, and meters and
+//! head ends behind locks, each event of which leaves a receipt.
 #![tactic(auto)]
 
+mod acts;
 mod board;
+mod desk;
 mod error;
+mod meter;
 mod receipt;
 mod rule;
 mod seat;
 
 pub use board::Board;
+pub use desk::Desk;
 pub use error::OutOfMemory;
+pub use meter::SharedMeter;
 pub use receipt::Receipt;
 pub use seat::Seat;

@@ -1,8 +1,19 @@
-//! Tests of what threads share, through its public calls. Each test joins its threads, and ends in the same way whatever their
-//! schedule.
+//! Tests of what threads share, through public calls. Each test joins its threads, and ends in the same way whatever their schedule.
 #![tactic(auto)]
 
 #[cfg(test)]
+mod audits;
+#[cfg(test)]
 mod board;
 #[cfg(test)]
+mod links;
+#[cfg(test)]
 mod log;
+#[cfg(test)]
+mod report;
+#[cfg(test)]
+mod script;
+#[cfg(test)]
+mod sharing;
+#[cfg(test)]
+mod support;

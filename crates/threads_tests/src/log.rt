@@ -1,6 +1,6 @@
 //! The log: in one thread, and added to by two.
 
-use fw_air::{Entry, Sent, SharedLog};
+use fw_air::{CoreEvent, Entry, Sent, SharedLog};
 use fw_names::{HeadId, MeterId};
 use fw_world::{Datagram, Direction, Event};
 use std::alloc::{AllocError, Global};
@@ -59,10 +59,12 @@ fn log_grows_at_its_ends(rt: HostRuntime) -> Result<(), Fail> {
     let mut room = log.reserve(alloc)?;
     room.push(link.datagram(alloc, 11)?);
     room.push(link.datagram(alloc, 12)?);
-    let ticked = log.append(&rt, room, link.tick());
+    let (ticked, stub) = log.append(&rt, room, CoreEvent::Tick(link.head, link.meter));
+    assert!(rt; stub.spend() == (1, CoreEvent::Tick(link.head, link.meter)));
     assert_eq!(rt; (ticked.event, ticked.first, ticked.count), (1, 1, 2));
     let room = log.reserve(alloc)?;
-    let delivered = log.append(&rt, room, Event::Deliver(2));
+    let (delivered, stub) = log.append(&rt, room, CoreEvent::Deliver(2));
+    assert!(rt; stub.spend() == (2, CoreEvent::Deliver(2)));
     assert_eq!(rt;
         (delivered.event, delivered.first, delivered.count),
         (2, 3, 0)
@@ -103,12 +105,14 @@ fn add_all<R: Wait>(
     for _ in 0..EVENTS {
         let mut room = log.reserve(alloc)?;
         room.push(link.datagram(alloc, byte)?);
+        let (sent, stub) = log.append(rt, room, CoreEvent::Tick(link.head, link.meter));
+        let (number, _tick) = stub.spend();
         let Sent {
             event,
             first,
             count,
-        } = log.append(rt, room, link.tick());
-        rose = rose && event >= next && first == event && count == 1;
+        } = sent;
+        rose = rose && number == event && event >= next && first == event && count == 1;
         next = event.saturating_add(1);
     }
     Ok(rose)

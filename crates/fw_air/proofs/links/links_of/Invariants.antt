@@ -2,7 +2,7 @@ use Rattle.std.proofs.Common.{◌≡◌, ◌++◌, drop, map, All}
 use Rattle.std.specs.List.{flat_map}
 use Rattle.fw_world.specs.declared.setup.HeadSetup.{HeadSetup}
 use Rattle.fw_world.specs.Setup.{number_of_head}
-use Rattle.fw_air.specs.Inside.{IsThere, link_of}
+use Rattle.fw_air.specs.Links.{IsThere, link_of}
 use Rattle.fw_air.specs.Rounds.{links, links_with}
 use Rattle.fw_air.proofs.links.links_of.Given as goal
 

@@ -2,7 +2,7 @@ use Rattle.std.proofs.Common.{◌≡◌, ◌+◌, ◌<◌, false, true, [], ◌�
 use Rattle.std.proofs.lemmas.List.{drop_more}
 use Rattle.std.proofs.lemmas.List.Elements.{All-push}
 use Rattle.fw_air.specs.declared.links.Waiting.{Waiting}
-use Rattle.fw_air.specs.Inside.{IsThere, link_of}
+use Rattle.fw_air.specs.Links.{IsThere, link_of}
 use Rattle.fw_air.specs.Rounds.{is_link, links_with}
 use Rattle.fw_air.proofs.Making.{new_there, one_link, no_link}
 use Rattle.fw_air.proofs.links.push_links.Goals.{then-has_link+in_ok-push, else-has_link}

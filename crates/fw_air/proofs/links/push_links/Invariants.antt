@@ -1,5 +1,5 @@
 use Rattle.std.proofs.Common.{◌≡◌, ◌++◌, drop, map, All}
-use Rattle.fw_air.specs.Inside.{IsThere, link_of}
+use Rattle.fw_air.specs.Links.{IsThere, link_of}
 use Rattle.fw_air.specs.Rounds.{links_with}
 use Rattle.fw_air.proofs.links.push_links.Given as goal
 

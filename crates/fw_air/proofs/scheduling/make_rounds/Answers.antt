@@ -1,5 +1,5 @@
 use Rattle.std.proofs.Common.{sym, subst, All}
-use Rattle.fw_air.specs.Inside.{IsThere}
+use Rattle.fw_air.specs.Links.{IsThere}
 use Rattle.fw_air.proofs.scheduling.make_rounds.Goals as goal
 
 pub rounds-requires : goal.rounds-requires

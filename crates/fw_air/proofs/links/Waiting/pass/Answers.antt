@@ -1,5 +1,5 @@
 use Rattle.std.proofs.Common.{◌<◌, ap, sym, subst, ◌∙◌, arith, All}
-use Rattle.fw_air.specs.Inside.{link_of}
+use Rattle.fw_air.specs.Links.{link_of}
 use Rattle.fw_air.proofs.Present.{pushed}
 use Rattle.fw_air.proofs.links.Waiting.pass.Goals.{in-Deliver+in_ok-push-in-Deliver, in-Drop, in-Twice+in_ok-push-in-Twice+in_ok-push-in-Twice-2, in-Late+in_ok-push-in-Late}
 use Rattle.fw_air.proofs.links.Waiting.pass.Goals as goal

@@ -1,5 +1,5 @@
 use Rattle.std.proofs.Common.{◌≡◌, ◌<◌, All}
-use Rattle.fw_air.specs.Inside.{link_of}
+use Rattle.fw_air.specs.Links.{link_of}
 use Rattle.fw_air.proofs.links.Waiting.pass.Given as goal
 
 -- all that comes or waits is below the end

@@ -1,6 +1,7 @@
 use Rattle.fw_world.specs.State.{meter_at}
 use Rattle.std.proofs.Common.{◌≡◌, length, IsTrue, is_some, subst, sym, ap, ◌∙◌, arith}
-use Rattle.fw_air.specs.Inside.{Recorded, Follows, link_of}
+use Rattle.fw_air.specs.Inside.{Recorded, Follows}
+use Rattle.fw_air.specs.Links.{link_of}
 use Rattle.fw_air.specs.Rounds.{Link, last_turn}
 use Rattle.fw_air.proofs.Present.{meter_stays, none_below, run_grows, widened}
 use Rattle.fw_air.proofs.Runs.{at_last, follows_on, goes_on, on_ok, one_round}

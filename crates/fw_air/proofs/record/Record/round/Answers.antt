@@ -1,7 +1,7 @@
 use Rattle.std.proofs.Common.{◌≡◌, ◌<◌, length, map, subst, sym, ap, ◌∙◌, arith}
 use Rattle.std.proofs.lemmas.List.Elements.{All-set}
 use Rattle.std.proofs.Math.Seq.{map-set_same}
-use Rattle.fw_air.specs.Inside.{IsThere, link_of}
+use Rattle.fw_air.specs.Links.{IsThere, link_of}
 use Rattle.fw_air.specs.Rounds.{Link, IsLinkRound}
 use Rattle.fw_air.proofs.Present.{all_still_there, still_there, same_link_there}
 use Rattle.fw_air.proofs.Runs.{follows_on, goes_on, leads_on, leads_there, left_at, none_left}

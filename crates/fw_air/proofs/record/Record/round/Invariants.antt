@@ -1,6 +1,7 @@
 use Rattle.std.proofs.Common.{◌≡◌, List, map, drop, All}
 use Rattle.fw_world.specs.Step.{Event}
-use Rattle.fw_air.specs.Inside.{Follows, IsThere, link_of}
+use Rattle.fw_air.specs.Inside.{Follows}
+use Rattle.fw_air.specs.Links.{IsThere, link_of}
 use Rattle.fw_air.specs.Rounds.{IsLinkRound}
 use Rattle.fw_air.proofs.Runs.{Leads}
 use Rattle.fw_air.proofs.record.Record.round.Given as goal

@@ -1,5 +1,5 @@
 use Rattle.std.proofs.Common.{◌≡◌, ◌+◌, ◌-◌, ◌∷◌, suc, map, replicate, subst, ap, ◌∙◌, arith, zero}
-use Rattle.fw_air.specs.Inside.{link_of}
+use Rattle.fw_air.specs.Links.{link_of}
 use Rattle.fw_air.specs.Rounds.{IsRound}
 use Rattle.fw_air.proofs.Runs.{follows_on, goes_on, leads_on, leads_there}
 use Rattle.fw_air.proofs.record.Record.rounds.Goals as goal

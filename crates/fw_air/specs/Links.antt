@@ -1,0 +1,23 @@
+-- Public vocabulary: the links of a world with what waits on them.
+use Rattle.std.specs.Prelude.{ℕ, ◌<◌, IsTrue, is_some, List, length, All}
+use Rattle.fw_world.specs.State.{State, head_at, meter_at}
+use Rattle.fw_air.specs.declared.links.Waiting.{Waiting}
+use Rattle.fw_air.specs.Rounds.{Link}
+
+-- the link of what waits
+abbrev pub link_of : Waiting → Link
+link_of waiting = record { head = waiting.head; meter = waiting.meter }
+
+-- the datagrams that are late
+abbrev pub late_of : Waiting → List ℕ
+late_of waiting = waiting.late.items
+
+-- these datagrams were sent
+abbrev pub AreSent : State → List ℕ → Type 0
+AreSent s numbers = All (λ number. number < length s.sent) numbers
+
+-- both ends of a link are in the world, and what is late was sent
+pub record IsThere (s : State) (waiting : Waiting) : Type 0 where
+  pub head : IsTrue (is_some (head_at s waiting.head))
+  pub meter : IsTrue (is_some (meter_at s waiting.meter))
+  pub late : AreSent s (late_of waiting)

@@ -1,0 +1,128 @@
+//! Audits of the parts of runs.
+
+use crate::report::report;
+use crate::script::{DONE, Given, LARGE, Line, NO_HEAD, SMALL, events_of, setup_of};
+use crate::support::{Case, each};
+use fw_air::audit;
+use fw_world::{Event, run};
+use std::alloc::Global;
+use std::sync::Wait;
+use std::test::Fail;
+use std::thread::Threads;
+
+/// What an audit is told of a run.
+enum Told {
+    /// All of it.
+    All,
+    /// The last event is left out.
+    WithoutLastEvent,
+    /// There is one event more, which is refused.
+    WithRefused,
+    /// The last datagram is left out.
+    WithoutLastDatagram,
+    /// The head end is left out.
+    WithoutHead,
+    /// The meter is left out.
+    WithoutMeter,
+    /// The setup has no head end.
+    NoHead,
+}
+
+/// An audit of the parts of a run.
+struct Audit(&'static Given, &'static [Line], Told);
+
+impl Case for Audit {
+    fn told<R: Threads + Wait + Sync>(&self, _rt: &R, alloc: Global) -> Result<String, Fail> {
+        let mut setup = setup_of(alloc, self.0)?;
+        let mut events = events_of(alloc, self.1)?;
+        let Ok(world) = run(alloc, &setup, &events) else {
+            return Err("an event is refused".into());
+        };
+        let mut parts = world.into_parts();
+        match self.2 {
+            Told::All => {}
+            Told::WithoutLastEvent => {
+                let _last = events.pop();
+            }
+            Told::WithRefused => events.push(Event::Deliver(parts.sent.len()))?,
+            Told::WithoutLastDatagram => {
+                let _last = parts.sent.pop();
+            }
+            Told::WithoutHead => {
+                let _last = parts.heads.pop();
+            }
+            Told::WithoutMeter => {
+                let _last = parts.meters.pop();
+            }
+            Told::NoHead => setup = setup_of(alloc, NO_HEAD)?,
+        }
+        match audit(
+            alloc,
+            &setup,
+            &events,
+            &parts.heads,
+            &parts.meters,
+            &parts.sent,
+        ) {
+            Ok(world) => report(alloc, &setup, &world),
+            Err(refusal) => Ok(refusal.to_string(alloc)?),
+        }
+    }
+}
+
+/// Of the campaign that ends, the last event makes the row done. The first answer moves the row to another phase. The turn changes the
+/// meter alone.
+const AUDITS: &[(Audit, &str)] = &[
+    (
+        Audit(SMALL, DONE, Told::All),
+        "row 7 1 1 done; meter 1 status 6 active 7 1 size 3; activations 1; sent 20",
+    ),
+    (Audit(SMALL, DONE, Told::WithoutLastEvent), "Mismatch"),
+    (Audit(SMALL, DONE, Told::WithRefused), "Mismatch"),
+    (Audit(SMALL, DONE, Told::WithoutLastDatagram), "Mismatch"),
+    (Audit(SMALL, DONE, Told::WithoutHead), "Mismatch"),
+    (Audit(SMALL, DONE, Told::WithoutMeter), "Mismatch"),
+    (Audit(SMALL, DONE, Told::NoHead), "BadSetup"),
+    (
+        Audit(SMALL, ANSWERED, Told::All),
+        "row 7 1 1 live; meter 1 status 0 active 0 0 size 1; activations 0; sent 2",
+    ),
+    (Audit(SMALL, ANSWERED, Told::WithoutLastEvent), "Mismatch"),
+    (
+        Audit(LARGE, TURNED, Told::All),
+        "row 7 1 1 live; meter 1 status 3 active 0 0 size 1; activations 0; sent 20",
+    ),
+    (Audit(LARGE, TURNED, Told::WithoutLastEvent), "Mismatch"),
+];
+
+/// Up to the first answer.
+const ANSWERED: &[Line] = &[
+    Line::Open(7, 1, b"abc", &[1]),
+    Line::Tick(7, 1),
+    Line::Deliver(&[0, 1]),
+];
+
+/// Up to where 4,097 bytes in five blocks, by windows of four, are verified.
+const TURNED: &[Line] = &[
+    Line::OpenLong(7, 1, 4097, &[1]),
+    Line::Tick(7, 1),
+    Line::Deliver(&[0, 1]),
+    Line::Tick(7, 1),
+    Line::Deliver(&[2, 3]),
+    Line::Tick(7, 1),
+    Line::Deliver(&[4, 5]),
+    Line::Tick(7, 1),
+    Line::Deliver(&[6, 7, 8, 9, 10, 11, 12, 13]),
+    Line::Tick(7, 1),
+    Line::Deliver(&[14, 15]),
+    Line::Tick(7, 1),
+    Line::Deliver(&[16, 17]),
+    Line::Tick(7, 1),
+    Line::Deliver(&[18]),
+    Line::Turn(1),
+];
+
+#[test]
+fn audits(rt: HostRuntime) -> Result<(), Fail> {
+    each(&rt, rt.alloc(), AUDITS)
+}
