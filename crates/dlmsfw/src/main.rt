@@ -9,11 +9,13 @@ ghost use Rattle.dlmsfw.specs.Status.{EndsParse, EndsWith};
 mod options;
 
 use clap::error::ErrorKind;
-use fw_cli::{Ended, Fault, run_answer, run_answer_stored, run_name, run_replay};
+use fw_cli::{Ended, Fault, run_answer, run_answer_stored, run_name, run_rehearse, run_replay};
 use options::Invocation;
 use std::fs::File;
 use std::process::ExitCode;
 use std::rt::{Env, Files};
+use std::sync::Wait;
+use std::thread::Threads;
 use std::{env, io};
 
 /// The status of work that is done.
@@ -46,7 +48,9 @@ fn main(rt: HostRuntime) -> ExitCode {
 }
 
 /// Runs the command that the command line asks for.
-fn run<R: AllocGlobal + Env + Files<File = File> + Input + Print>(rt: &R) -> Result<(), Ending> {
+fn run<R: AllocGlobal + Env + Files<File = File> + Input + Print + Threads + Wait + Sync>(
+    rt: &R,
+) -> Result<(), Ending> {
     let words = words(rt)?;
     let invocation = options::parse(rt.alloc(), &words).map_err(Ending::CommandLine)?;
     let alloc = rt.alloc();
@@ -63,6 +67,7 @@ fn run<R: AllocGlobal + Env + Files<File = File> + Input + Print>(rt: &R) -> Res
             Ok(Ended::Whole) => Ok(()),
             Err(fault) => Err(fault),
         },
+        Invocation::Rehearse(options) => run_rehearse(rt, alloc, reader, writer, &options),
     };
     done.map_err(Ending::Fault)
 }

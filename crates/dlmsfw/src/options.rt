@@ -2,11 +2,12 @@
 
 mod answer;
 mod name;
+mod rehearse;
 mod replay;
 
 use clap::error::ErrorKind;
 use clap::{Arg, ArgMatches, Command, Error};
-use fw_cli::{AnswerOptions, NameOptions, ReplayOptions, StoredOptions};
+use fw_cli::{AnswerOptions, NameOptions, RehearseOptions, ReplayOptions, StoredOptions};
 use std::alloc::{AllocError, Global};
 
 /// A command with its options.
@@ -15,6 +16,7 @@ pub(crate) enum Invocation<'a> {
     StoredAnswer(StoredOptions<'a>),
     Name(NameOptions),
     Replay(ReplayOptions<'a>),
+    Rehearse(RehearseOptions<'a>),
 }
 
 /// What ends a short help.
@@ -43,6 +45,7 @@ fn found<'a>(matches: &ArgMatches<'a>) -> Option<Invocation<'a>> {
         ("answer", given) => answer::invoked(given),
         ("name", given) => name::invoked(given),
         ("replay", given) => Some(Invocation::Replay(replay::options(given)?)),
+        ("rehearse", given) => Some(Invocation::Rehearse(rehearse::options(given)?)),
         _ => None,
     }
 }
@@ -59,7 +62,8 @@ fn dlmsfw<'a>(alloc: Global) -> Result<Command<'a>, AllocError> {
         .subcommand_required(true)
         .subcommand(answer::command(alloc)?)?
         .subcommand(name::command(alloc)?)?
-        .subcommand(replay::command(alloc)?)
+        .subcommand(replay::command(alloc)?)?
+        .subcommand(rehearse::command(alloc)?)
 }
 
 /// An option with a value.

@@ -13,11 +13,16 @@
 //! - `open METERS SIZE`: a setup is made, and the opening of a campaign that brings an image of so many bytes `a` to so many meters.
 //!   `schedule` makes the schedule of the campaign too, and counts its events. `scheduled` does the same, with a line before: the
 //!   processor time of that, in nanoseconds.
+//! - `rehearse METERS SIZE WORKERS`: so many workers, in two digits, make the campaign of that schedule, and its events are counted.
+//!   `rehearsed` does the same, with a line before: the time of that by the clock, in nanoseconds.
+//! - `audit METERS SIZE`: that schedule is made, and the parts of a run of it are audited. `audited` does the same, with a line before:
+//!   the times by the clock of the schedule and of the audit, in nanoseconds.
 #![tactic(auto)]
 
 mod campaign;
 mod codec;
 mod meter;
+mod rehearsal;
 mod schedule;
 mod verify;
 mod world;
@@ -25,18 +30,20 @@ mod world;
 use anyhow::{Context, Result, bail};
 use std::alloc::Global;
 use std::io;
+use std::sync::Wait;
+use std::thread::Threads;
 
 fn main(rt: HostRuntime) -> Result<()> {
     let text = io::read_to_string(rt.alloc(), rt.reader())?;
     for line in text.lines() {
-        let count = measure(&rt, line)?;
+        let count = measure(&rt, &rt, line)?;
         println!(rt; "{count}")?;
     }
     Ok(())
 }
 
-/// Does what the line says, and counts what was done.
-fn measure(rt: &HostRuntime, line: &str) -> Result<u64> {
+/// Does what the line says, and counts what was done. Workers are started by the handle `threads`.
+fn measure<R: Threads + Wait + Sync>(rt: &HostRuntime, threads: &R, line: &str) -> Result<u64> {
     let words: Vec<&str> = line.split_whitespace().collect(rt.alloc())?;
     let [word, first, second, strings @ ..] = words.as_slice() else {
         bail!("a line is a word, two numbers and byte strings");
@@ -56,8 +63,18 @@ fn measure(rt: &HostRuntime, line: &str) -> Result<u64> {
         "open" => schedule::open(rt.alloc(), first, second),
         "schedule" => schedule::measure(rt, first, second, false),
         "scheduled" => schedule::measure(rt, first, second, true),
+        "rehearse" => rehearsal::measure(rt, threads, first, second, workers(&bytes)?, false),
+        "rehearsed" => rehearsal::measure(rt, threads, first, second, workers(&bytes)?, true),
+        "audit" => rehearsal::audited(rt, first, second, false),
+        "audited" => rehearsal::audited(rt, first, second, true),
         _ => bail!("no load has this name"),
     }
+}
+
+/// A number of workers, of one byte.
+fn workers(bytes: &[Vec<u8>]) -> Result<u32> {
+    let digits = bytes.first().context("two digits")?;
+    Ok(u32::from(*digits.first().context("a number of workers")?))
 }
 
 fn number(word: &str) -> Result<u32> {

@@ -26,9 +26,8 @@ pub fn open(alloc: Global, meters: u32, size: u32) -> Result<u64> {
 pub fn measure(rt: &HostRuntime, meters: u32, size: u32, timed: bool) -> Result<u64> {
     let (setup, given) = given(rt.alloc(), meters, size)?;
     let fates = Fates::new(&[Fate::Deliver]).context("a fate")?;
-    let rounds = size.div_ceil(BLOCK_SIZE).div_ceil(WIDTH) + size.div_ceil(SLICE) + OTHER_ROUNDS;
     let start = rt.thread_cpu_time()?;
-    let made = schedule(rt.alloc(), &setup, &given, rounds, &fates);
+    let made = schedule(rt.alloc(), &setup, &given, rounds_of(size), &fates);
     let end = rt.thread_cpu_time()?;
     let Ok(events) = made else {
         bail!("an event was refused");
@@ -39,8 +38,13 @@ pub fn measure(rt: &HostRuntime, meters: u32, size: u32, timed: bool) -> Result<
     Ok(events.len() as u64)
 }
 
+/// How many rounds there are up to where all meters are done.
+pub fn rounds_of(size: u32) -> u32 {
+    size.div_ceil(BLOCK_SIZE).div_ceil(WIDTH) + size.div_ceil(SLICE) + OTHER_ROUNDS
+}
+
 /// A setup, and the opening of a campaign.
-fn given(alloc: Global, meters: u32, size: u32) -> Result<(Setup, Vec<Event>)> {
+pub fn given(alloc: Global, meters: u32, size: u32) -> Result<(Setup, Vec<Event>)> {
     let setup = setup_of(alloc, meters, size, WIDTH)?;
     let mut given = Vec::new(alloc);
     given.push(opening(alloc, &setup, size)?)?;

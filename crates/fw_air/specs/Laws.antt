@@ -1,5 +1,5 @@
 -- Public vocabulary: the laws of schedules. They speak of definitions alone.
-use Rattle.std.specs.Prelude.{◌≡◌, ℕ, Bool, true, false, List}
+use Rattle.std.specs.Prelude.{◌≡◌, ◌≤◌, ℕ, Bool, true, false, List, length}
 use Rattle.std.specs.List.{list_any}
 use Rattle.fw_world.specs.declared.error.StepError.{StepError}
 use Rattle.fw_world.specs.declared.error.StepError.TheVariants.{OutOfMemory}
@@ -10,6 +10,7 @@ use Rattle.fw_world.specs.Runs.{IsStopped, events_of}
 use Rattle.fw_world.specs.Setup.{IsSetup, opening_state}
 use Rattle.fw_world.specs.State.{State, StateRun}
 use Rattle.fw_world.specs.Step.{Event, stop}
+use Rattle.fw_air.specs.Rounds.{AdmittedRun}
 use Rattle.fw_air.specs.Schedules.{Schedules}
 use Rattle.fw_air.specs.Ticks.{IsLink, ticks}
 
@@ -38,3 +39,7 @@ NoneRefused =
     (setup : Setup) (given : List Event) (rounds : ℕ) (events : List Given) → Schedules setup given rounds (events_of events)
     → list_any is_stop given ≡ false
     → (number : ℕ) (world : State) (cause : StepError) → IsStopped setup events (stopped.Event number world cause) → cause ≡ OutOfMemory
+
+-- what was sent stays, in a run in which no event is refused
+abbrev pub SentGrows : Type 0
+SentGrows = (old new : State) (events : List Event) → AdmittedRun old events new → length old.sent ≤ length new.sent

@@ -51,6 +51,14 @@ impl<'a> Fates<'a> {
         }
     }
 
+    /// The list.
+    pub fn as_slice(&self) -> &'a [Fate]
+        ensures value { result.now ≡ self.now }
+        ensures fates { IsFates result.now }
+    {
+        self.list
+    }
+
     /// The fate of the datagram of this number, from 0 on.
     pub fn of(&self, number: u64) -> Fate
         ensures { slice_get self.now (number % length self.now) ≡ Some result }

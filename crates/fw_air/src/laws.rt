@@ -1,6 +1,6 @@
 //! Laws of schedules, over the definitions alone. A caller cites a law by calling it: nothing is done.
 
-ghost use Rattle.fw_air.specs.Laws.{NoneRefused, OneWorld, TicksEach};
+ghost use Rattle.fw_air.specs.Laws.{NoneRefused, OneWorld, SentGrows, TicksEach};
 
 /// Behind the given events of a schedule each link has as many ticks as there are rounds, and any other two numbers have none.
 pub fn ticks_each()
@@ -25,3 +25,8 @@ pub fn none_refused()
     fw_image::laws::one_turn();
     fw_meter::laws::one_answer();
 }
+
+/// A run in which no event is refused leaves no fewer datagrams sent than there were.
+pub fn sent_grows()
+    ensures { SentGrows }
+{}

@@ -3,8 +3,10 @@ use Rattle.fw_store.specs.declared.error.FileStoreError.{FileStoreError}
 use Rattle.fw_store.specs.declared.error.FileStoreError.TheVariants as file
 use Rattle.fw_image.specs.declared.error.OpenError.{OpenError}
 use Rattle.fw_image.specs.declared.error.OpenError.TheVariants as opening
+use Rattle.fw_workers.specs.declared.report.RehearseError.{RehearseError}
+use Rattle.fw_workers.specs.declared.report.RehearseError.TheVariants as workers
 use Rattle.fw_cli.specs.declared.fault.Fault.{Fault}
-use Rattle.fw_cli.specs.declared.fault.Fault.TheVariants.{BadFates, BadSetup, StoreFault, Device, BadFile, BadHeader, BadImage, Input, TooMuchInput, BadLine, EmptyImage, ImageTooLong, Output, OutOfMemory}
+use Rattle.fw_cli.specs.declared.fault.Fault.TheVariants.{BadFates, BadSetup, StoreFault, Device, BadFile, BadHeader, BadImage, Input, TooMuchInput, BadLine, EmptyImage, ImageTooLong, Event, Mismatch, ThreadRefused, GateShut, Output, OutOfMemory}
 
 -- the faults that come before anything is read
 abbrev pub ComesBeforeInput : Fault → Type 0
@@ -74,3 +76,30 @@ IsOfReplay BadSetup = Unit {0}
 IsOfReplay Output = Unit {0}
 IsOfReplay OutOfMemory = Unit {0}
 IsOfReplay fault = ⊥
+
+-- the fault that tells why a rehearsal has no report
+abbrev pub fault_of_rehearsal : RehearseError → Fault
+fault_of_rehearsal workers.Mismatch = Mismatch
+fault_of_rehearsal workers.ThreadRefused = ThreadRefused
+fault_of_rehearsal (workers.Event at) = Event
+fault_of_rehearsal workers.OutOfMemory = OutOfMemory
+fault_of_rehearsal workers.GateShut = GateShut
+fault_of_rehearsal workers.BadSetup = BadSetup
+
+-- the faults that tell why a rehearsal has no report
+abbrev pub IsOfWorkers : Fault → Type 0
+IsOfWorkers Event = Unit {0}
+IsOfWorkers Mismatch = Unit {0}
+IsOfWorkers ThreadRefused = Unit {0}
+IsOfWorkers GateShut = Unit {0}
+IsOfWorkers BadSetup = Unit {0}
+IsOfWorkers OutOfMemory = Unit {0}
+IsOfWorkers fault = ⊥
+
+-- the faults of `rehearse`
+abbrev pub IsOfRehearse : Fault → Type 0
+IsOfRehearse Event = Unit {0}
+IsOfRehearse Mismatch = Unit {0}
+IsOfRehearse ThreadRefused = Unit {0}
+IsOfRehearse GateShut = Unit {0}
+IsOfRehearse fault = IsOfReplay fault

@@ -12,6 +12,7 @@ pub mod Fates
 pub mod Report
 pub mod Trace
 pub mod Replaying
+pub mod Rehearsing
 pub mod Laws
 -- For private clauses alone: no public clause cites it.
 pub mod Inside

@@ -56,3 +56,7 @@ abbrev pub report_of : Setup → State → List ℕ
 report_of setup s =
     flat_map (λ (head : HeadSetup). head_lines s head) setup.heads.items
     ++ (flat_map (λ (meter : MeterSetup). meter_lines s meter) setup.meters.items ++ activations_line (length s.activations))
+
+-- how many rows the workers of a rehearsal counted as done
+abbrev pub board_line : ℕ → List ℕ
+board_line board = codes "board " ++ (decimal board ++ codes "\n")

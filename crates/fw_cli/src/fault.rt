@@ -2,10 +2,11 @@
 
 ghost use Rattle.std.specs.Prelude.{◌≡◌};
 ghost use Rattle.fw_cli.specs.declared.fault.Fault.TheVariants.{OutOfMemory};
-ghost use Rattle.fw_cli.specs.Faults.{fault_of_file, fault_of_opening};
+ghost use Rattle.fw_cli.specs.Faults.{fault_of_file, fault_of_opening, fault_of_rehearsal};
 
 use fw_image::OpenError;
 use fw_store::FileStoreError;
+use fw_workers::RehearseError;
 use std::alloc::{AllocError, AllocFailed};
 use thiserror::Error;
 
@@ -48,6 +49,18 @@ pub enum Fault {
     /// The reader had more bytes than an image can have, 4,194,304.
     #[error("ImageTooLong")]
     ImageTooLong,
+    /// An event of the script that is rehearsed was refused, for another cause than memory.
+    #[error("Event")]
+    Event,
+    /// What the workers of a rehearsal left isn't what their record says.
+    #[error("Mismatch")]
+    Mismatch,
+    /// A thread for a worker of a rehearsal could not be started.
+    #[error("ThreadRefused")]
+    ThreadRefused,
+    /// A worker of a rehearsal was not let pass.
+    #[error("GateShut")]
+    GateShut,
     /// The writer failed.
     #[error("Output")]
     Output,
@@ -101,6 +114,21 @@ impl From<OpenError> for Fault {
             OpenError::Fault => Fault::Device,
             OpenError::BadHeader => Fault::BadHeader,
             OpenError::BadImage => Fault::BadImage,
+        }
+    }
+}
+
+impl From<RehearseError> for Fault {
+    ghost from_gives = { λ error fault. fault ≡ fault_of_rehearsal error };
+
+    fn from(error: RehearseError) -> Fault {
+        match error {
+            RehearseError::Mismatch => Fault::Mismatch,
+            RehearseError::ThreadRefused => Fault::ThreadRefused,
+            RehearseError::Event(_) => Fault::Event,
+            RehearseError::OutOfMemory => Fault::OutOfMemory,
+            RehearseError::GateShut => Fault::GateShut,
+            RehearseError::BadSetup => Fault::BadSetup,
         }
     }
 }

@@ -15,6 +15,7 @@ ghost use Rattle.fw_cli.specs.Replaying.{Replays, WritesRun, ReadsOne, HasBadFat
 use crate::fates::read_fates;
 use crate::fault::Fault;
 use crate::input::read_input;
+use crate::output::write_text;
 use crate::reads::Reads;
 use crate::report::append_report;
 use crate::script::{Script, read_script};
@@ -55,9 +56,9 @@ pub enum Ended {
 
 /// Rounds, with the fates of their datagrams.
 #[derive(Drop)]
-struct Air {
-    rounds: u32,
-    fates: Vec<Fate>,
+pub(crate) struct Air {
+    pub(crate) rounds: u32,
+    pub(crate) fates: Vec<Fate>,
 }
 
 /// What is told of a run.
@@ -126,7 +127,7 @@ pub fn run_replay<R: Read, W: Write>(
 }
 
 /// The rounds with their fates.
-fn air_of(alloc: Global, rounds: &Rounds<'_>) -> Result<Air, Fault>
+pub(crate) fn air_of(alloc: Global, rounds: &Rounds<'_>) -> Result<Air, Fault>
     ensures ok { IfOk result (λ air. IsFates air.fates.items) }
     ensures rounds { IfOk result (λ air. air.rounds ≡ rounds.now.rounds) }
     ensures spelled { IfOk result (λ air. SpellsSome rounds.now.fates.now) }
@@ -170,10 +171,7 @@ fn replay_from<R: Read, W: Write>(
     let mut reads = Reads::none();
     let input = read_input(alloc, reader, &mut reads)?;
     let told = replay(alloc, &input, air, trace)?;
-    writer
-        .write_all(told.text.as_bytes())
-        .map_err(|_| Fault::Output)?;
-    writer.flush().map_err(|_| Fault::Output)?;
+    write_text(writer, told.text.as_str())?;
     Ok(told.ended)
 }
 

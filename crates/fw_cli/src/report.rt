@@ -3,7 +3,7 @@
 ghost use Rattle.std.specs.Prelude.{◌≡◌, ◌++◌, length, flat_map, OnOk, string_bytes};
 ghost use Rattle.std.specs.Option.{option_map};
 ghost use Rattle.fw_world.specs.State.{head_at, meter_at};
-ghost use Rattle.fw_cli.specs.Report.{report_of, head_lines, book_lines, campaign_lines, row_line, meter_lines, meter_line, activations_line, state_word};
+ghost use Rattle.fw_cli.specs.Report.{report_of, head_lines, book_lines, campaign_lines, row_line, meter_lines, meter_line, activations_line, board_line, state_word};
 
 use fw_book::{Book, Offer, Row, RowState};
 use fw_names::{CampaignId, HeadId, MeterId};
@@ -130,4 +130,11 @@ fn append_activations(text: &mut String, count: usize) -> Result<(), AllocError>
     ensures { OnOk result (string_bytes text.new ≡ string_bytes text.old ++ activations_line count) }
 {
     write!(text, "activations {count}\n")
+}
+
+/// Appends the line of the board, which has so many rows as done.
+pub(crate) fn append_board(text: &mut String, board: u64) -> Result<(), AllocError>
+    ensures { OnOk result (string_bytes text.new ≡ string_bytes text.old ++ board_line board) }
+{
+    write!(text, "board {board}\n")
 }

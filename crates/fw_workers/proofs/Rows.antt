@@ -1,5 +1,5 @@
 -- What a tick and a datagram make of the rows of a shard, and of a meter.
-use Rattle.std.proofs.Common.{◌≡◌, ℕ, List, [], ◌∷◌, position, slice_get, slice_set, slice_index_or, Option, Some, unwrap_or, refl, sym, ap, subst, ◌∙◌, inl}
+use Rattle.std.proofs.Common.{◌≡◌, ℕ, List, [], position, slice_set, slice_index_or, Option, Some, unwrap_or, refl, sym, ap, subst, ◌∙◌, inl}
 use Rattle.std.proofs.lemmas.List.Quantifiers.{position-Some}
 use Rattle.std.proofs.lemmas.Option.{slice_get-get_or}
 use Rattle.fw_names.specs.Name.{Campaign, Name}

@@ -2,3 +2,5 @@
 pub mod Seat
 pub mod Board
 pub mod Acts
+pub mod Accounts
+pub mod Refusals

@@ -115,4 +115,9 @@ impl<S: ImageStore + Drop> SharedMeter<S> {
         act.record(rt, log, &mut seat.receipts);
         Ok(true)
     }
+
+    /// Whether the meter goes on with a verification, as its lock shows it now.
+    pub(crate) fn is_verifying<R: Wait>(&self, rt: &R) -> bool {
+        self.core.lock(rt).is_verifying()
+    }
 }

@@ -5,7 +5,7 @@ use Rattle.fw_world.specs.Step.{Event, RunBy}
 use Rattle.fw_world.specs.View.{event_of}
 use Rattle.fw_world.specs.Runs.{events_of}
 
-run_on : {W : Type 0} (step : W → Event → W → Type 0) (events : List Event) (event : Event) (old mid new : W) → RunBy step old events mid → step mid event new → RunBy step old (events ++ event ∷ []) new
+pub run_on : {W : Type 0} (step : W → Event → W → Type 0) (events : List Event) (event : Event) (old mid new : W) → RunBy step old events mid → step mid event new → RunBy step old (events ++ event ∷ []) new
 run_on step [] event old mid new r s = (new, subst (λ w. step w event new) r s, refl)
 run_on step (first ∷ events) event old mid new r s = (r.0, r.1, run_on step events event r.0 mid new r.2 s)
 

@@ -1,7 +1,7 @@
 -- Public vocabulary: the laws of the world. They speak of definitions alone.
-use Rattle.std.specs.Prelude.{◌≡◌, ℕ, List, is_some}
+use Rattle.std.specs.Prelude.{◌≡◌, ℕ, List, [], ◌∷◌, ◌++◌, is_some}
 use Rattle.fw_world.specs.World.{World}
-use Rattle.fw_world.specs.State.{State, head_at, meter_at, AreAddressed, IsState, StateStep, world_of}
+use Rattle.fw_world.specs.State.{State, head_at, meter_at, AreAddressed, IsState, StateStep, StateRun, world_of}
 use Rattle.fw_world.specs.Step.{Event, IsOpening, WorldStep, Run}
 use Rattle.fw_world.specs.Headline.{FirstNames, IsFactoryName, IsSound, InitiatesAreOffered, NamesAreOwn, GoalsAreOffered, ActivationsAreSafe}
 
@@ -34,3 +34,8 @@ ActorsStay =
 -- where all was sent between head ends and meters that are there, each step keeps it so
 abbrev pub SentStaysAddressed : Type 0
 SentStaysAddressed = (old new : State) (event : Event) → StateStep old event new → AreAddressed old → AreAddressed new
+
+-- a run goes on by a step
+abbrev pub RunGoesOn : Type 0
+RunGoesOn =
+    (old mid new : State) (events : List Event) (event : Event) → StateRun old events mid → StateStep mid event new → StateRun old (events ++ event ∷ []) new

@@ -1,6 +1,6 @@
 //! Laws of the world, over the definitions alone. A caller cites a law by calling it: nothing is done.
 
-ghost use Rattle.fw_world.specs.Laws.{AfterEachRun, EveryStepIsSafe, StateStepsAsWorld, ActorsStay, SentStaysAddressed};
+ghost use Rattle.fw_world.specs.Laws.{AfterEachRun, EveryStepIsSafe, StateStepsAsWorld, ActorsStay, SentStaysAddressed, RunGoesOn};
 ghost use Rattle.fw_world.specs.Headline.{IsFirstName, InitiatesAreOffered, NamesAreOwn, GoalsAreOffered, ActivationsAreSafe, ActivationsAreEqual};
 
 /// Each step keeps what holds of a world that events led to.
@@ -33,6 +33,11 @@ pub fn actors_stay()
 /// Where each datagram was sent between a head end and a meter that are there, each step keeps it so. In a new world none was sent.
 pub fn sent_stays_addressed()
     ensures { SentStaysAddressed }
+{}
+
+/// A run, and a step behind it, are a run over one event more.
+pub fn run_goes_on()
+    ensures { RunGoesOn }
 {}
 
 /// Over every run, what a meter switches to is what the campaign in its name offers, and a meter that is done switched to it.

@@ -1,6 +1,6 @@
 //! Stores whose header has one byte turned. It is one that a store can have and the meter is opened as it says, or it is refused.
 
-use crate::support::{expect_tried, failed, opened};
+use crate::support::{expect_tried, opened, replies};
 use fw_image::OpenError;
 use fw_meter::MeterCore;
 use fw_store::{HEADER_SIZE, ImageStore, MemoryStore};
@@ -140,12 +140,7 @@ fn of_a_new_store(rt: HostRuntime) -> Result<(), Fail> {
 fn of_a_verified_image(rt: HostRuntime) -> Result<(), Fail> {
     let alloc = rt.alloc();
     let mut meter = opened(MemoryStore::new(alloc, 64, 2, b"x")?)?;
-    for (at, text) in TO_VERIFIED.iter().enumerate() {
-        let handled = meter.handle(alloc, &hex::decode(alloc, *text)?)?;
-        if handled.reply.is_none() {
-            failed(alloc, "there is no reply", at)?;
-        }
-    }
+    replies(alloc, &mut meter, TO_VERIFIED)?;
     let want = Count {
         opened: 614 + 1 + 2 + 2 * (3 * 255 + 254),
         bad_header: 614 * 256 - 2_655 - 16_385,

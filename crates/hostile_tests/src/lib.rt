@@ -12,6 +12,12 @@ mod claims;
 #[cfg(test)]
 mod datagrams;
 #[cfg(test)]
+mod disk;
+#[cfg(test)]
+mod files;
+#[cfg(test)]
+mod full_disks;
+#[cfg(test)]
 mod headers;
 #[cfg(test)]
 mod stops;

@@ -1,7 +1,7 @@
-//! The count of what was tried.
+//! The count of what was tried, and meters.
 
 use fw_meter::MeterCore;
-use fw_store::MemoryStore;
+use fw_store::ImageStore;
 use std::alloc::Global;
 use std::test::Fail;
 
@@ -21,9 +21,23 @@ pub(crate) fn failed(alloc: Global, what: &str, at: usize) -> Result<(), Fail> {
 }
 
 /// The meter in a store.
-pub(crate) fn opened(store: MemoryStore) -> Result<MeterCore<MemoryStore>, Fail> {
+pub(crate) fn opened<S: ImageStore + Drop>(store: S) -> Result<MeterCore<S>, Fail> {
     match MeterCore::open_store(store) {
         Ok(meter) => Ok(meter),
         Err((error, _store)) => Err(error.into()),
     }
+}
+
+/// The replies of a meter to these datagrams, each of which it replies to.
+pub(crate) fn replies<S: ImageStore + Drop>(
+    alloc: Global,
+    meter: &mut MeterCore<S>,
+    asks: &[&str],
+) -> Result<Vec<Vec<u8>>, Fail> {
+    let mut replies = Vec::new(alloc);
+    for text in asks {
+        let handled = meter.handle(alloc, &hex::decode(alloc, *text)?)?;
+        replies.push(handled.reply.ok_or("a reply")?)?;
+    }
+    Ok(replies)
 }

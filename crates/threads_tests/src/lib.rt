@@ -1,4 +1,5 @@
-//! Tests of what threads share, through public calls. Each test joins its threads, and ends in the same way whatever their schedule.
+//! Tests of what threads share and of what workers make together, through public calls. Each test joins its threads, and ends in the same
+//! way whatever their schedule.
 #![tactic(auto)]
 
 #[cfg(test)]
@@ -6,9 +7,15 @@ mod audits;
 #[cfg(test)]
 mod board;
 #[cfg(test)]
+mod commands;
+#[cfg(test)]
+mod gates;
+#[cfg(test)]
 mod links;
 #[cfg(test)]
 mod log;
+#[cfg(test)]
+mod rehearsing;
 #[cfg(test)]
 mod report;
 #[cfg(test)]

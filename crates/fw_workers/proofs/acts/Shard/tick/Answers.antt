@@ -1,4 +1,4 @@
-use Rattle.std.proofs.Common.{ℕ, List, [], ◌++◌, unwrap_or, sym, ap, ◌∙◌}
+use Rattle.std.proofs.Common.{List, [], ◌++◌, unwrap_or, sym, ap, ◌∙◌}
 use Rattle.fw_names.specs.Name.{Name, Campaign}
 use Rattle.fw_book.specs.Contents.{image_in}
 use Rattle.fw_head.specs.Row.{bytes_of, sends}

@@ -1,4 +1,4 @@
-use Rattle.std.proofs.Common.{sym, ap, ◌∙◌}
+use Rattle.std.proofs.Common.{ap, ◌∙◌}
 use Rattle.fw_world.specs.Step.{deliver}
 use Rattle.fw_workers.specs.Acts.{Act}
 use Rattle.fw_workers.proofs.Noted.{noted_as, heard_done, heard_more}

@@ -1,0 +1,90 @@
+//! The command `rehearse`, and its help.
+
+use super::{STATUSES, option};
+use clap::{ArgMatches, Command};
+use fw_cli::{RehearseOptions, Rounds};
+use std::alloc::{AllocError, Global};
+
+/// What the long help begins with.
+const ABOUT: &str = "\
+Rehearses a script with several workers, each in a thread of its own, and tells how each campaign
+ended.
+
+Standard input has a script, as `replay` reads it; `replay --help` has its lines. Its events are made
+first. Then the workers make R rounds on each link of a head end and a meter, as `replay --rounds` makes
+them: the links go by head ends, then meters, as in the setup, and link J, from 0 on, is worker J modulo
+W's. The workers share the head ends, the meters and a board, on which they count the meters that are
+done. What they did is recorded, and nothing is told that isn't the end of a run of this record.
+
+Standard output gets the report of that end, as of `replay`, and the line `board N`, the number of rows
+that are done. All input is read before anything is written.
+
+Example, a campaign for two meters, and a worker for each:
+
+  printf '%s\\n' 'head 7 width 4' 'meter 1 block 2 capacity 64 factory 78' \\
+  'meter 2 block 2 capacity 64 factory 78' 'open 7 1 616263 1 2' |
+  ./dlmsfw rehearse --rounds 9 --workers 2
+
+prints
+
+  row 7 1 1 done
+  row 7 1 2 done
+  meter 1 status 6 active 7 1 size 3
+  meter 2 status 6 active 7 1 size 3
+  activations 2
+  board 2";
+
+/// What ends the long help.
+const ENDINGS: &str = "\
+Exit status:
+  0  all rounds were made
+  1  a fault: standard error has `dlmsfw: NAME`, with one of these names
+       BadFates       --fates isn't 1 to 4096 of the letters d, x, t and l; nothing was read
+       Input          standard input can't be read to its end
+       TooMuchInput   standard input has more than 64 MiB
+       BadLine L      line L, counted from 1, is none of a script, or stands too late
+       BadSetup       no world can be made of the setup, as told by `replay --help`
+       Event          an event of the script was refused; `replay` tells which, and why
+       Mismatch       what the workers left isn't what their record says
+       ThreadRefused  a thread could not be started
+       GateShut       a worker was not let pass, which here is none
+       Output         standard output can't be written
+       OutOfMemory    memory ran out
+     up to OutOfMemory, but for Output, nothing was written
+  2  a wrong command line: standard error says what is wrong";
+
+/// The command.
+pub(super) fn command<'a>(alloc: Global) -> Result<Command<'a>, AllocError> {
+    Command::new(alloc, "rehearse")
+        .about("Rehearses a script with several workers, and tells how each campaign ended")
+        .long_about(ABOUT)
+        .after_help(STATUSES)
+        .after_long_help(ENDINGS)
+        .arg(
+            option(alloc, "rounds", "R")
+                .required(true)
+                .help("How many rounds of each link follow, 1 to 100000")
+                .value_parser(clap::value_parser!(u32).range(1..=100_000)),
+        )?
+        .arg(
+            option(alloc, "workers", "W")
+                .required(true)
+                .help("How many workers make them, 1 to 8")
+                .value_parser(clap::value_parser!(u32).range(1..=8)),
+        )?
+        .arg(
+            option(alloc, "fates", "F").default_value("d").help(
+                "The fates of datagrams: d it comes, x it is lost, t it comes twice, l it comes a round late",
+            ),
+        )
+}
+
+/// The options that were given. The parser lets none of them lack: the fates have a default.
+pub(super) fn options<'a>(given: &ArgMatches<'a>) -> Option<RehearseOptions<'a>> {
+    let rounds = Rounds {
+        rounds: given.get_one("rounds")?,
+        fates: given.get_str("fates")?,
+    };
+    let workers = given.get_one("workers")?;
+    Some(RehearseOptions { rounds, workers })
+}

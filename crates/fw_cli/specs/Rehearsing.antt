@@ -1,0 +1,57 @@
+-- Public vocabulary: what the command `rehearse` tells of a script, and what it does to its reader and its writer, where the bytes that
+-- these hold are known.
+use Rattle.std.specs.Prelude.{◌≡◌, ◌≤◌, ◌⊎◌, ℕ, List, ◌++◌, Option}
+use Rattle.std.specs.Io.KnownBytes.{Appends, Keeps}
+use Rattle.fw_world.specs.declared.event.Event.{Event as Given}
+use Rattle.fw_world.specs.declared.setup.Setup.{Setup}
+use Rattle.fw_world.specs.Runs.{events_of}
+use Rattle.fw_world.specs.State.{State}
+use Rattle.fw_workers.specs.Accounts.{IsAccounted}
+use Rattle.fw_workers.specs.Refusals.{IsBarred}
+use Rattle.fw_workers.specs.Seat.{Receipt}
+use Rattle.fw_cli.specs.declared.rehearse.RehearseOptions.{RehearseOptions}
+use Rattle.fw_cli.specs.Fates.{SpellsSome}
+use Rattle.fw_cli.specs.Reading.{ReadsAll}
+use Rattle.fw_cli.specs.Replaying.{MayWantFor}
+use Rattle.fw_cli.specs.Report.{report_of, board_line}
+use Rattle.fw_cli.specs.Script.{SpellsScript, script_of}
+
+-- so many workers may there be
+abbrev pub AreWorkers : ℕ → Type 0
+AreWorkers workers = (1 ≤ workers) × (workers ≤ 8)
+
+-- Workers made so many rounds behind these events, and are accounted for. The text is the report of their world, and the line of their
+-- board.
+pub record TellsRehearsal (rounds workers : ℕ) (setup : Setup) (events : List Given) (text : List ℕ) : Type 0 where
+  pub world : State
+  pub board : ℕ
+  pub receipts : List (List Receipt)
+  pub accounted : IsAccounted setup (events_of events) rounds workers world board receipts
+  pub told : text ≡ report_of setup world ++ board_line board
+
+-- The input is a script, and the text tells of its rehearsal.
+pub record RehearsesScript (rounds workers : ℕ) (input text : List ℕ) : Type 0 where
+  pub setup : Setup
+  pub events : List Given
+  pub spelled : SpellsScript input (script_of setup events)
+  pub tells : TellsRehearsal rounds workers setup events text
+
+-- The input is a script, and one of its events is refused, for another cause than want of memory.
+abbrev pub IsBarredIn : List ℕ → Type 0
+IsBarredIn input =
+    (setup : Setup) × (events : List Given) × (number : ℕ) × SpellsScript input (script_of setup events) × IsBarred setup events number
+
+-- All input was read, and what is told of it was written.
+pub record WritesRehearsal (rounds workers : ℕ) (before after first last : Option (List ℕ)) : Type 0 where
+  pub input : List ℕ
+  pub text : List ℕ
+  pub read : ReadsAll before after input
+  pub rehearses : RehearsesScript rounds workers input text
+  pub written : Appends first last text
+
+abbrev pub Rehearses : RehearseOptions → Option (List ℕ) → Option (List ℕ) → Option (List ℕ) → Option (List ℕ) → Type 0
+Rehearses options before after first last = WritesRehearsal options.rounds.rounds options.workers before after first last
+
+-- Memory may be wanted for fates that their letters spell, before anything is read, and for what a replay may want it.
+abbrev pub MayWantToRehearse : RehearseOptions → Option (List ℕ) → Option (List ℕ) → Type 0
+MayWantToRehearse options before after = (SpellsSome options.rounds.fates.now × Keeps before after) ⊎ MayWantFor before after

@@ -1,0 +1,205 @@
+//! The command `rehearse`: several workers make rounds behind the events of a script, and the report of the world is told.
+
+ghost use Rattle.std.specs.Prelude.{◌≡◌, ◌≢◌, ◌<◌, ◌≤◌, ◌⊎◌, ◌++◌, ℕ, List, length, IfOk, IfErr, OnOk, string_bytes};
+ghost use Rattle.std.specs.Io.KnownBytes.{Keeps};
+ghost use Rattle.fw_world.specs.Setup.{IsSetup};
+ghost use Rattle.fw_air.specs.Fates.{IsFates};
+ghost use Rattle.fw_workers.specs.Refusals.{IsBarred};
+ghost use Rattle.fw_cli.specs.Fates.{SpellsSome};
+ghost use Rattle.fw_cli.specs.Faults.{IsOfRehearse, IsOfWorkers};
+ghost use Rattle.fw_cli.specs.Reading.{Gives, ReadsAll, max_input};
+ghost use Rattle.fw_cli.specs.Report.{report_of, board_line};
+ghost use Rattle.fw_cli.specs.Script.{IsBadLine};
+ghost use Rattle.fw_cli.specs.Replaying.{MakesNone, MayTakeMemory, MayWantFor, ReadsOne};
+ghost use Rattle.fw_cli.specs.Rehearsing.{AreWorkers, IsBarredIn, MayWantToRehearse, Rehearses, RehearsesScript, TellsRehearsal, WritesRehearsal};
+
+use crate::fault::Fault;
+use crate::input::read_input;
+use crate::output::write_text;
+use crate::reads::Reads;
+use crate::replay::{Air, Rounds, air_of};
+use crate::report::{append_board, append_report};
+use crate::script::{Script, read_script};
+use fw_air::Fates;
+use fw_workers::{Gate, Report, rehearse};
+use fw_world::{Event, Setup};
+use std::alloc::{AllocError, Global};
+use std::io::{Read, Write};
+use std::sync::Wait;
+use std::thread::Threads;
+
+/// The options of the command.
+#[derive(Clone, Copy, Debug)]
+pub struct RehearseOptions<'a> {
+    /// The rounds that the workers make behind the events of the script.
+    pub rounds: Rounds<'a>,
+    /// How many workers there are, 1 to 8, each in a thread of its own.
+    pub workers: u32,
+}
+
+/// A gate that lets every worker pass.
+struct OpenGate;
+
+impl Gate for OpenGate {
+    fn pass(&self, _worker: u32, _step: u64, _done: u64) -> bool {
+        true
+    }
+}
+
+/// Runs the script that the reader has, and lets workers make rounds behind its events. The writer gets the report of the world at the
+/// end, and the line `board N` with the number of rows that the workers counted as done.
+///
+/// All input is read before anything is written, and what is written is flushed.
+///
+/// # Errors
+///
+/// - `BadFates`: the fates aren't 1 to 4,096 of their letters. Nothing was read.
+/// - `Input` or `TooMuchInput`, whichever the reading meets first.
+/// - `BadLine`: this line can't go on with the script that the lines before it begin.
+/// - `BadSetup`: no world can be made of the setup, or the workers are not 1 to 8.
+/// - `Event`: an event of the script was refused, for another cause than memory.
+/// - `Mismatch`: what the workers left isn't what their record says.
+/// - `ThreadRefused`: a thread could not be started.
+/// - `GateShut`: a worker was not let pass. The gate of the command lets every worker pass.
+/// - `Output`: the writer failed. What it holds then is open.
+/// - `OutOfMemory`: nothing was written, and no more than 64 MiB were read. It comes for good fates, for input while it is read, for a line
+///   with which the script goes on, and for a script of which a world can be made.
+pub fn run_rehearse<T: Threads + Wait + Sync, R: Read, W: Write>(
+    rt: &T,
+    alloc: Global,
+    reader: &mut R,
+    writer: &mut W,
+    options: &RehearseOptions<'_>,
+) -> Result<(), Fault>
+    // The report of the world at the end of an accounted run, and its board.
+    ensures ok { OnOk result (Rehearses options.now (R.remaining reader.old) (R.remaining reader.new)
+        (W.contents writer.old) (W.contents writer.new)) }
+
+    ensures workers { OnOk result (AreWorkers options.now.workers) }
+
+    // Bad fates are refused before anything is read, and no others are.
+    ensures bad_fates { result ≡ Err Fault.BadFates → ¬ SpellsSome options.now.rounds.fates.now }
+    ensures fates_refused { ¬ SpellsSome options.now.rounds.fates.now → result ≡ Err Fault.BadFates }
+    ensures fates_first { ¬ SpellsSome options.now.rounds.fates.now → Keeps (R.remaining reader.old) (R.remaining reader.new) }
+
+    // What the script is refused for.
+    ensures bad_line { (number : ℕ) → result ≡ Err (Fault.BadLine number)
+        → ReadsOne (R.remaining reader.old) (R.remaining reader.new) (λ input. IsBadLine input number) }
+    ensures bad_setup { result ≡ Err Fault.BadSetup
+        → ReadsOne (R.remaining reader.old) (R.remaining reader.new) (λ input. AreWorkers options.now.workers → MakesNone input) }
+    ensures event { result ≡ Err Fault.Event → ReadsOne (R.remaining reader.old) (R.remaining reader.new) IsBarredIn }
+
+    // What memory may be wanted for, and never for bad fates, a bad line or a setup of which no world can be made.
+    ensures memory { result ≡ Err Fault.OutOfMemory → MayWantToRehearse options.now (R.remaining reader.old) (R.remaining reader.new) }
+
+    // How far the reading was.
+    ensures input { result ≡ Err Fault.Input
+        → Gives (R.remaining reader.old) (R.remaining reader.new) (λ count. count ≤ max_input) }
+    ensures too_much_input { result ≡ Err Fault.TooMuchInput
+        → Gives (R.remaining reader.old) (R.remaining reader.new) (λ count. max_input < count) }
+    ensures output { result ≡ Err Fault.Output
+        → (input : List ℕ) × ReadsAll (R.remaining reader.old) (R.remaining reader.new) input }
+    ensures out_of_memory { result ≡ Err Fault.OutOfMemory
+        → Gives (R.remaining reader.old) (R.remaining reader.new) (λ count. count ≤ max_input) }
+
+    ensures only { IfErr result IsOfRehearse }
+    ensures silent { IfErr result (λ f. f ≢ Fault.Output → Keeps (W.contents writer.old) (W.contents writer.new)) }
+{
+    let air = air_of(alloc, &options.rounds)?;
+    rehearse_from(rt, alloc, reader, writer, &air, options.workers)
+}
+
+/// Rehearses the script that the reader has, and writes what is told of it.
+fn rehearse_from<T: Threads + Wait + Sync, R: Read, W: Write>(
+    rt: &T,
+    alloc: Global,
+    reader: &mut R,
+    writer: &mut W,
+    air: &Air,
+    workers: u32,
+) -> Result<(), Fault>
+    requires fates { IsFates air.now.fates.items }
+    ensures ok { OnOk result (WritesRehearsal air.now.rounds workers (R.remaining reader.old) (R.remaining reader.new)
+        (W.contents writer.old) (W.contents writer.new)) }
+    ensures workers { OnOk result (AreWorkers workers) }
+    ensures not_fates { result ≢ Err Fault.BadFates }
+    ensures bad_line { (number : ℕ) → result ≡ Err (Fault.BadLine number)
+        → ReadsOne (R.remaining reader.old) (R.remaining reader.new) (λ input. IsBadLine input number) }
+    ensures bad_setup { result ≡ Err Fault.BadSetup
+        → ReadsOne (R.remaining reader.old) (R.remaining reader.new) (λ input. AreWorkers workers → MakesNone input) }
+    ensures event { result ≡ Err Fault.Event → ReadsOne (R.remaining reader.old) (R.remaining reader.new) IsBarredIn }
+    ensures memory { result ≡ Err Fault.OutOfMemory → MayWantFor (R.remaining reader.old) (R.remaining reader.new) }
+    ensures input { result ≡ Err Fault.Input
+        → Gives (R.remaining reader.old) (R.remaining reader.new) (λ count. count ≤ max_input) }
+    ensures too_much_input { result ≡ Err Fault.TooMuchInput
+        → Gives (R.remaining reader.old) (R.remaining reader.new) (λ count. max_input < count) }
+    ensures output { result ≡ Err Fault.Output
+        → (input : List ℕ) × ReadsAll (R.remaining reader.old) (R.remaining reader.new) input }
+    ensures out_of_memory { result ≡ Err Fault.OutOfMemory
+        → Gives (R.remaining reader.old) (R.remaining reader.new) (λ count. count ≤ max_input) }
+    ensures only { IfErr result IsOfRehearse }
+    ensures silent { IfErr result (λ f. f ≢ Fault.Output → Keeps (W.contents writer.old) (W.contents writer.new)) }
+{
+    let mut reads = Reads::none();
+    let input = read_input(alloc, reader, &mut reads)?;
+    let text = rehearse_script(rt, alloc, &input, air, workers)?;
+    write_text(writer, text.as_str())
+}
+
+/// What is told of a script.
+fn rehearse_script<T: Threads + Wait + Sync>(
+    rt: &T,
+    alloc: Global,
+    input: &[u8],
+    air: &Air,
+    workers: u32,
+) -> Result<String, Fault>
+    requires size { length input.now ≤ max_input }
+    requires fates { IsFates air.now.fates.items }
+    ensures ok { IfOk result (λ text. RehearsesScript air.now.rounds workers input.now (string_bytes text)) }
+    ensures bad_line { (number : ℕ) → result ≡ Err (Fault.BadLine number) → IsBadLine input.now number }
+    ensures workers { OnOk result (AreWorkers workers) }
+    ensures bad_setup { result ≡ Err Fault.BadSetup → AreWorkers workers → MakesNone input.now }
+    ensures event { result ≡ Err Fault.Event → IsBarredIn input.now }
+    ensures memory { result ≡ Err Fault.OutOfMemory → MayTakeMemory input.now }
+    ensures only { IfErr result (λ f. IsOfWorkers f ⊎ ((number : ℕ) × (f ≡ Fault.BadLine number))) }
+{
+    let Script { setup, events } = read_script(alloc, input)?;
+    tell_rehearsal(rt, alloc, &setup, &events, air, workers)
+}
+
+/// What is told of a rehearsal: the report of its world, and the line of its board.
+fn tell_rehearsal<T: Threads + Wait + Sync>(
+    rt: &T,
+    alloc: Global,
+    setup: &Setup,
+    events: &[Event],
+    air: &Air,
+    workers: u32,
+) -> Result<String, Fault>
+    requires fates { IsFates air.now.fates.items }
+    ensures ok { IfOk result (λ text. TellsRehearsal air.now.rounds workers setup.now events.now (string_bytes text)) }
+    ensures workers { OnOk result (AreWorkers workers) }
+    ensures bad_setup { result ≡ Err Fault.BadSetup → AreWorkers workers → ¬ IsSetup setup.now }
+    ensures event { result ≡ Err Fault.Event → (number : ℕ) × IsBarred setup.now events.now number }
+    ensures memory { result ≡ Err Fault.OutOfMemory → IsSetup setup.now }
+    ensures only { IfErr result IsOfWorkers }
+{
+    let Some(fates) = Fates::new(&air.fates) else {
+        unreachable!()
+    };
+    let report = rehearse(
+        rt, alloc, setup, events, air.rounds, workers, &fates, &OpenGate,
+    )?;
+    Ok(tell_report(alloc, setup, &report)?)
+}
+
+/// The report of the world of a rehearsal, and behind it the line of the board.
+fn tell_report(alloc: Global, setup: &Setup, report: &Report) -> Result<String, AllocError>
+    ensures { IfOk result (λ text. string_bytes text ≡ report_of setup.now report.now.world ++ board_line report.now.board) }
+{
+    let mut text = String::new(alloc);
+    append_report(&mut text, setup, &report.world)?;
+    append_board(&mut text, report.board)?;
+    Ok(text)
+}

@@ -1,0 +1,31 @@
+-- The record of workers: the given events, and behind them those of the receipts.
+use Rattle.std.proofs.Common.{◌≡◌, ◌-◌, List, [], ◌∷◌, ◌++◌, length, drop, take, refl, ap, sym, ◌∙◌, arith}
+use Rattle.std.proofs.lemmas.List.{length-map, take_all}
+use lib.ListN.{length-drop}
+use Rattle.std.specs.List.Sorted.{IsPermutation}
+use Rattle.fw_world.specs.declared.event.Event.{Event as Given}
+use Rattle.fw_world.specs.Runs.{events_of}
+use Rattle.fw_world.specs.Step.{Event}
+use Rattle.fw_world.specs.View.{event_of}
+use Rattle.fw_workers.specs.Accounts.{AreNumbered, all_of, numbered}
+use Rattle.fw_workers.specs.Seat.{Receipt}
+
+behind : (given events : List Given) (made : List Event) → events_of events ≡ events_of given ++ made → events_of events ≡ events_of given ++ events_of (drop (length given) events)
+behind [] events made e = refl
+behind (first ∷ given) [] made e = absurd cc
+behind (first ∷ given) (event ∷ events) made e =
+    let same : event_of event ≡ event_of first = cc in
+    let rest : events_of events ≡ events_of given ++ made = cc in
+    ap (λ (x : Event). x ∷ events_of events) same ∙ ap (λ (l : List Event). event_of first ∷ l) (behind given events made rest)
+
+pub numbered_are : (given events : List Given) (receipts : List (List Receipt)) → (made : List Event) × (events_of events ≡ events_of given ++ made)
+    → IsPermutation (all_of receipts) (numbered (length given) (events_of (take (length events - length given) (drop (length given) events)))) → AreNumbered (events_of given) (events_of events) receipts
+numbered_are given events receipts begins once =
+    let others = drop (length given) events in
+    let long = length-drop (length given) events in
+    let all : take (length events - length given) others ≡ others = take_all (length events - length given) others (omega arith) in
+    record {
+      made = events_of others;
+      events_are = behind given events begins.0 begins.1;
+      each_once = rw (length-map given event_of, sym all) once;
+    }

@@ -1,0 +1,78 @@
+-- Public vocabulary: when a run of workers is accounted for.
+use Rattle.std.specs.Prelude.{◌≡◌, ℕ, ◌+◌, ◌%◌, ◌==◌, ◌<◌, List, [], ◌∷◌, ◌++◌, length, count_by, All, slice_get, slice_index_or, Some, if◌then◌else◌}
+use Rattle.std.specs.List.{flat_map, sum_by}
+use Rattle.std.specs.List.Sorted.{IsPermutation}
+use Rattle.std.specs.Option.{option_map_or}
+use Rattle.fw_book.specs.Contents.{Contents, Offered}
+use Rattle.fw_book.specs.declared.row.Row.{Row}
+use Rattle.fw_head.specs.Head.{Head}
+use Rattle.fw_world.specs.declared.setup.HeadSetup.{HeadSetup}
+use Rattle.fw_world.specs.declared.setup.Setup.{Setup}
+use Rattle.fw_world.specs.Setup.{opening_state, number_of_head}
+use Rattle.fw_world.specs.State.{State, StateRun, head_at, is_done}
+use Rattle.fw_world.specs.Step.{Event}
+use Rattle.fw_air.specs.Rounds.{Link, links}
+use Rattle.fw_air.specs.Ticks.{is_tick}
+use Rattle.fw_workers.specs.Seat.{Receipt}
+
+-- receipts for these events, numbered from n on
+abbrev pub numbered : ℕ → List Event → List Receipt
+numbered n [] = []
+numbered n (event ∷ events) = (record { number = n; event = event }) ∷ numbered (n + 1) events
+
+abbrev pub all_of : List (List Receipt) → List Receipt
+all_of receipts = flat_map (λ of_worker. of_worker) receipts
+
+-- the numbers rise
+abbrev pub IsRising : List Receipt → Type 0
+IsRising receipts =
+    (k : ℕ) (d : Receipt) → k + 1 < length receipts → (slice_index_or receipts k d).number < (slice_index_or receipts (k + 1) d).number
+
+-- how often these receipts say that the head end of this number ticked the meter of that one
+abbrev pub ticks_of : ℕ → ℕ → List Receipt → ℕ
+ticks_of head meter receipts = count_by (λ (receipt : Receipt). is_tick head meter receipt.event) receipts
+
+-- Link j is dealt to worker j modulo the number of workers. A worker makes as many ticks of a link as there are rounds where the link is
+-- dealt to it, and else none.
+abbrev pub its_ticks : ℕ → ℕ → ℕ → ℕ → ℕ
+its_ticks rounds workers worker j = if j % workers == worker then rounds else 0
+
+abbrev pub HasItsTicks : List Link → ℕ → ℕ → ℕ → List Receipt → Type 0
+HasItsTicks links rounds workers worker receipts =
+    (j : ℕ) (link : Link) → slice_get links j ≡ Some link
+    → ticks_of link.head link.meter receipts ≡ its_ticks rounds workers worker j
+
+abbrev pub AreDealt : List Link → ℕ → ℕ → List (List Receipt) → Type 0
+AreDealt links rounds workers receipts =
+    (worker : ℕ) (of_worker : List Receipt) → slice_get receipts worker ≡ Some of_worker
+    → HasItsTicks links rounds workers worker of_worker
+
+-- how many rows of a campaign are done, of a book, of a head end, and of all head ends of a world
+abbrev pub done_of : ℕ × Offered → ℕ
+done_of entry = count_by (λ (row : Row). is_done (Some row.state)) entry.1.rows
+
+abbrev pub done_in : Contents → ℕ
+done_in book = sum_by done_of book.campaigns
+
+abbrev pub done_with : State → HeadSetup → ℕ
+done_with s head = option_map_or (λ (h : Head). done_in h.book) (head_at s (number_of_head head)) 0
+
+abbrev pub done_rows : Setup → State → ℕ
+done_rows setup s = sum_by (done_with s) setup.heads.items
+
+-- The events are the given ones, and behind them those of the receipts in the order of their numbers, each number once.
+pub record AreNumbered (given events : List Event) (receipts : List (List Receipt)) : Type 0 where
+  pub made : List Event
+  pub events_are : events ≡ given ++ made
+  pub each_once : IsPermutation (all_of receipts) (numbered (length given) made)
+
+-- A run of workers is accounted for: what each of them made is in one record, in which each link has all of its rounds, by the worker
+-- that it was dealt to; the world at the end is that of a run over this record; and the board has the number of rows that are done.
+pub record IsAccounted (setup : Setup) (given : List Event) (rounds workers : ℕ) (world : State) (board : ℕ) (receipts : List (List Receipt)) : Type 0 where
+  pub events : List Event
+  pub workers_are : length receipts ≡ workers
+  pub numbered_are : AreNumbered given events receipts
+  pub rising : All IsRising receipts
+  pub dealt : AreDealt (links setup world) rounds workers receipts
+  pub run : StateRun (opening_state setup) events world
+  pub board_is : board ≡ done_rows setup world

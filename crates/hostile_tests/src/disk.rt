@@ -1,0 +1,188 @@
+//! A disk in memory with the file of a store. It can be full, or one that is only read.
+
+ghost use Rattle.std.specs.Prelude.{false, []};
+
+use fw_store::{ByteDevice, DeviceFault};
+use std::alloc::{AllocError, Global};
+use std::cell::RefCell;
+use std::rc::Rc;
+use std::test::Fail;
+
+/// What a disk takes.
+#[derive(Clone, Copy)]
+pub(crate) enum Takes {
+    /// All that is written.
+    All,
+    /// So many bytes more. A write of more than these is cut there, and fails. A length takes none.
+    Only(usize),
+    /// Nothing, and no length either.
+    Nothing,
+}
+
+/// A file, and what its disk takes.
+#[derive(Drop)]
+struct File {
+    bytes: Vec<u8>,
+    takes: Takes,
+}
+
+impl File {
+    /// How many of so many bytes its disk still takes, which are taken then.
+    fn take(&mut self, count: usize) -> usize {
+        match self.takes {
+            Takes::All => count,
+            Takes::Nothing => 0,
+            Takes::Only(left) => {
+                let taken = left.min(count);
+                self.takes = Takes::Only(left.saturating_sub(taken));
+                taken
+            }
+        }
+    }
+
+    /// Whether its disk still takes so many bytes.
+    fn has_room(&self, count: usize) -> bool {
+        match self.takes {
+            Takes::All => true,
+            Takes::Nothing => false,
+            Takes::Only(left) => count <= left,
+        }
+    }
+
+    fn set_len(&mut self, len: u64) -> Result<(), DeviceFault> {
+        match self.takes {
+            Takes::Nothing => Err(DeviceFault),
+            _ => self.bytes.resize(len as usize, 0).map_err(|_| DeviceFault),
+        }
+    }
+
+    fn get(&self, at: u64, out: &mut [u8]) -> Result<(), DeviceFault> {
+        let start = at as usize;
+        let bytes = self
+            .bytes
+            .get(start..start.saturating_add(out.len()))
+            .ok_or(DeviceFault)?;
+        out.copy_from_slice(bytes);
+        Ok(())
+    }
+
+    /// Writes as many of these bytes over those from `at` on as the disk takes, and fails where they aren't all.
+    fn put(&mut self, at: u64, bytes: &[u8]) -> Result<(), DeviceFault> {
+        let start = at as usize;
+        let taken = self.take(bytes.len());
+        for (at, byte) in (start..start.saturating_add(taken)).zip(bytes) {
+            *self.bytes.get_mut(at).ok_or(DeviceFault)? = *byte;
+        }
+        if taken < bytes.len() {
+            return Err(DeviceFault);
+        }
+        Ok(())
+    }
+}
+
+/// A disk with one file.
+#[derive(Drop)]
+pub(crate) struct Disk {
+    file: Rc<RefCell<File>>,
+}
+
+impl Disk {
+    /// A disk that takes all, whose file has these bytes.
+    pub(crate) fn with(alloc: Global, bytes: &[u8]) -> Result<Disk, AllocError> {
+        let file = File {
+            bytes: bytes.to_vec(alloc)?,
+            takes: Takes::All,
+        };
+        Ok(Disk {
+            file: Rc::new(alloc, RefCell::new(file))?,
+        })
+    }
+
+    /// The file as a store has it.
+    pub(crate) fn open(&self) -> Result<OpenFile, AllocError> {
+        Ok(OpenFile {
+            file: self.file.clone()?,
+        })
+    }
+
+    /// From now on the disk takes so much.
+    pub(crate) fn takes(&self, takes: Takes) {
+        if let Ok(mut file) = self.file.try_borrow_mut() {
+            file.takes = takes;
+        }
+    }
+
+    /// The bytes of the file.
+    pub(crate) fn bytes(&self, alloc: Global) -> Result<Vec<u8>, Fail> {
+        match self.file.try_borrow() {
+            Ok(file) => Ok(file.bytes.to_vec(alloc)?),
+            Err(_) => Err("the file is being written".into()),
+        }
+    }
+
+    /// Sets a byte of the file.
+    pub(crate) fn set(&self, at: usize, value: u8) {
+        if let Ok(mut file) = self.file.try_borrow_mut()
+            && let Some(byte) = file.bytes.get_mut(at)
+        {
+            *byte = value;
+        }
+    }
+
+    /// Whether these are the bytes of the file.
+    pub(crate) fn holds(&self, bytes: &[u8]) -> bool {
+        match self.file.try_borrow() {
+            Ok(file) => file.bytes.as_slice() == bytes,
+            Err(_) => false,
+        }
+    }
+}
+
+/// A file that is open. What it holds is known by tests alone.
+#[derive(Drop)]
+pub(crate) struct OpenFile {
+    file: Rc<RefCell<File>>,
+}
+
+impl ByteDevice for OpenFile {
+    ghost honest = { λ _. false };
+
+    ghost sound = { λ _. false };
+
+    ghost contents = { λ _. [] };
+
+    fn len(&mut self) -> Result<u64, DeviceFault> {
+        match self.file.try_borrow() {
+            Ok(file) => Ok(file.bytes.len() as u64),
+            Err(_) => Err(DeviceFault),
+        }
+    }
+
+    fn set_len(&mut self, len: u64) -> Result<(), DeviceFault> {
+        match self.file.try_borrow_mut() {
+            Ok(mut file) => file.set_len(len),
+            Err(_) => Err(DeviceFault),
+        }
+    }
+
+    fn read_at(&mut self, at: u64, out: &mut [u8]) -> Result<(), DeviceFault> {
+        match self.file.try_borrow() {
+            Ok(file) => file.get(at, out),
+            Err(_) => Err(DeviceFault),
+        }
+    }
+
+    fn write_at(&mut self, at: u64, bytes: &[u8]) -> Result<(), DeviceFault> {
+        match self.file.try_borrow_mut() {
+            Ok(mut file) => file.put(at, bytes),
+            Err(_) => Err(DeviceFault),
+        }
+    }
+
+    fn replace_at(&mut self, at: u64, bytes: &[u8]) -> Result<(), DeviceFault> {
+        match self.file.try_borrow_mut() {
+            Ok(mut file) if file.has_room(bytes.len()) => file.put(at, bytes),
+            _ => Err(DeviceFault),
+        }
+    }
+}

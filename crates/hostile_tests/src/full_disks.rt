@@ -1,0 +1,273 @@
+//! Stores on disks that are full behind so many bytes, and on disks that are only read, in each operation of a campaign. The operation
+//! answers code 1, hardware-fault, and the meter is as before it, but for bytes of the block that is being written; or the operation is
+//! done.
+
+use crate::disk::{Disk, Takes};
+use crate::support::{self, expect_tried, failed, opened};
+use fw_store::{DeviceStore, FileStoreError};
+use std::alloc::Global;
+use std::ops::Range;
+use std::test::Fail;
+
+/// A request to a meter.
+struct Operation {
+    asks: &'static str,
+    /// The reply where the store failed, and where it is done.
+    fault: &'static str,
+    done: &'static str,
+    /// Where in the file the block is that it writes.
+    block: Range<usize>,
+    /// How many bytes it writes: those of the block, and the 614 of a header.
+    writes: usize,
+}
+
+const SET_FAULT: &str = "0001000100010004c501c101";
+
+const SET_DONE: &str = "0001000100010004c501c100";
+
+const FAULT: &str = "0001000100010005c701c10100";
+
+const DONE: &str = "0001000100010005c701c10000";
+
+/// A campaign for a meter that runs `x`, with blocks of two bytes and room for eight: image_transfer_enabled is set to true; `abc` of
+/// campaign 1 of head end 7 is initiated; block 0 comes as `zz`, and once more as `ab`, now under its old mark; block 1; verify;
+/// activate. The second slot of the file begins at byte 626.
+const CAMPAIGN: &[Operation] = &[
+    Operation {
+        asks: "000100010001000fc101c1001200002c0000ff05000301",
+        fault: SET_FAULT,
+        done: SET_DONE,
+        block: 0..0,
+        writes: 614,
+    },
+    Operation {
+        asks: "000100010001003fc301c1001200002c0000ff010102020929010000000700000001ba7816bf8f01cfea414140de5dae2223b00361a396177a9cb410ff61f20015ad0600000003",
+        fault: FAULT,
+        done: DONE,
+        block: 0..0,
+        writes: 614,
+    },
+    Operation {
+        asks: "0001000100010018c301c1001200002c0000ff02010202060000000009027a7a",
+        fault: FAULT,
+        done: DONE,
+        block: 626..628,
+        writes: 616,
+    },
+    Operation {
+        asks: "0001000100010018c301c1001200002c0000ff02010202060000000009026162",
+        fault: FAULT,
+        done: DONE,
+        block: 626..628,
+        writes: 2,
+    },
+    Operation {
+        asks: "0001000100010017c301c1001200002c0000ff020102020600000001090163",
+        fault: FAULT,
+        done: DONE,
+        block: 628..629,
+        writes: 615,
+    },
+    Operation {
+        asks: "000100010001000fc301c1001200002c0000ff03010f00",
+        fault: FAULT,
+        done: DONE,
+        block: 0..0,
+        writes: 614,
+    },
+    Operation {
+        asks: "000100010001000fc301c1001200002c0000ff04010f00",
+        fault: FAULT,
+        done: DONE,
+        block: 0..0,
+        writes: 614,
+    },
+];
+
+/// GETs of attributes 2 to 7, and of the active firmware identifier.
+const READS: &[&str] = &[
+    "000100010001000dc001c1001200002c0000ff0200",
+    "000100010001000dc001c1001200002c0000ff0300",
+    "000100010001000dc001c1001200002c0000ff0400",
+    "000100010001000dc001c1001200002c0000ff0500",
+    "000100010001000dc001c1001200002c0000ff0600",
+    "000100010001000dc001c1001200002c0000ff0700",
+    "000100010001000dc001c100010100000200ff0200",
+];
+
+/// The replies of the meter in the file on a disk to these requests, one behind the other.
+fn replies(alloc: Global, disk: &Disk, asks: &[&str]) -> Result<Vec<Vec<u8>>, Fail> {
+    let mut meter = opened(DeviceStore::reopen_on(disk.open()?)?)?;
+    support::replies(alloc, &mut meter, asks)
+}
+
+/// Whether a meter replies so to a request.
+fn is_reply(alloc: Global, disk: &Disk, asks: &str, want: &str) -> Result<bool, Fail> {
+    let replies = replies(alloc, disk, &[asks])?;
+    Ok(replies.len() == 1 && replies[0].as_slice() == hex::decode(alloc, want)?.as_slice())
+}
+
+/// The file of a new meter, and then the one behind each operation.
+fn files(alloc: Global) -> Result<Vec<Vec<u8>>, Fail> {
+    let disk = Disk::with(alloc, b"")?;
+    DeviceStore::create_on(disk.open()?, 8, 2, b"x")?;
+    let mut files = Vec::new(alloc);
+    files.push(disk.bytes(alloc)?)?;
+    for (at, operation) in CAMPAIGN.iter().enumerate() {
+        if !is_reply(alloc, &disk, operation.asks, operation.done)? {
+            failed(alloc, "the operation isn't done", at)?;
+        }
+        files.push(disk.bytes(alloc)?)?;
+    }
+    Ok(files)
+}
+
+/// The file is as before an operation, but in its block, where each byte is as before it or as behind it.
+fn is_between(found: &[u8], before: &[u8], after: &[u8], block: &Range<usize>) -> bool {
+    found.len() == before.len()
+        && found.iter().zip(before.iter().zip(after)).enumerate().all(|(
+            at,
+            (byte, (old, new)),
+        )| byte == old || (block.contains(&at) && byte == new))
+}
+
+/// An operation on a disk that takes so many bytes more, which are too few for it, or enough. The bytes of the file then.
+fn on_full_disk(
+    alloc: Global,
+    operation: &Operation,
+    before: &[u8],
+    after: &[u8],
+    room: usize,
+) -> Result<Vec<u8>, Fail> {
+    let disk = Disk::with(alloc, before)?;
+    disk.takes(Takes::Only(room));
+    let is_done = room == operation.writes;
+    let want = if is_done {
+        operation.done
+    } else {
+        operation.fault
+    };
+    if !is_reply(alloc, &disk, operation.asks, want)? {
+        failed(alloc, "another reply", room)?;
+    }
+    let found = disk.bytes(alloc)?;
+    let is_right = if is_done {
+        found.as_slice() == after
+    } else {
+        is_between(&found, before, after, &operation.block)
+    };
+    if !is_right {
+        failed(alloc, "another file", room)?;
+    }
+    Ok(found)
+}
+
+/// The replies to the reads of the meter in a file, which is opened again.
+fn reads_of(alloc: Global, file: &[u8]) -> Result<Vec<Vec<u8>>, Fail> {
+    let disk = Disk::with(alloc, file)?;
+    replies(alloc, &disk, READS)
+}
+
+/// An operation with room for each number of bytes up to those that it writes. With less than these the reads are answered as before it.
+fn on_full_disks(
+    alloc: Global,
+    operation: &Operation,
+    before: &[u8],
+    after: &[u8],
+) -> Result<usize, Fail> {
+    let old = reads_of(alloc, before)?;
+    let new = reads_of(alloc, after)?;
+    let mut tried = 0usize;
+    for room in 0..=operation.writes {
+        let found = on_full_disk(alloc, operation, before, after, room)?;
+        let found = reads_of(alloc, &found)?;
+        let want = if room == operation.writes { &new } else { &old };
+        if found != *want {
+            failed(alloc, "another meter", room)?;
+        }
+        tried = tried.saturating_add(1);
+    }
+    Ok(tried)
+}
+
+/// The operations write 614, 614, 616, 2, 615, 614 and 614 bytes, 3,689 in all. Each is tried with room for none and so on up to all.
+#[test]
+fn a_disk_that_is_full(rt: HostRuntime) -> Result<(), Fail> {
+    let alloc = rt.alloc();
+    let files = files(alloc)?;
+    let mut tried = 0usize;
+    for (operation, (before, after)) in CAMPAIGN
+        .iter()
+        .zip(files.iter().zip(files.iter().skip(1)))
+    {
+        tried = tried.saturating_add(on_full_disks(alloc, operation, before, after)?);
+    }
+    expect_tried(alloc, tried, 3_689 + 7)
+}
+
+/// A store is made on a disk that takes so much, over the file of another one: whether it is, and is opened then.
+fn is_made(disk: &Disk, takes: Takes) -> Result<bool, Fail> {
+    disk.takes(takes);
+    let made = match DeviceStore::create_on(disk.open()?, 8, 2, b"x") {
+        Ok(_store) => true,
+        Err(FileStoreError::StoreFault) => false,
+        Err(refusal) => return Err(refusal.into()),
+    };
+    disk.takes(Takes::All);
+    Ok(made)
+}
+
+/// What is made in part is no store: the capacity, which is written last, isn't there. The image has one byte, the header 614 and the
+/// capacity 4.
+#[test]
+fn a_store_on_a_full_disk(rt: HostRuntime) -> Result<(), Fail> {
+    let alloc = rt.alloc();
+    let files = files(alloc)?;
+    let mut tried = 0usize;
+    for room in 0..=619 {
+        let disk = Disk::with(alloc, files.last().ok_or("a file")?)?;
+        let made = is_made(&disk, Takes::Only(room))?;
+        let opened = match DeviceStore::reopen_on(disk.open()?) {
+            Ok(_store) => true,
+            Err(FileStoreError::BadFile) => false,
+            Err(refusal) => return Err(refusal.into()),
+        };
+        if made != (room == 619) || opened != made {
+            failed(alloc, "a store that isn't whole", room)?;
+        }
+        tried = tried.saturating_add(1);
+    }
+    expect_tried(alloc, tried, 620)
+}
+
+/// An operation on a disk that is only read, and then the reads: these are answered as on any other disk.
+fn on_read_only_disk(alloc: Global, operation: &Operation, before: &[u8]) -> Result<usize, Fail> {
+    let disk = Disk::with(alloc, before)?;
+    let want = replies(alloc, &disk, READS)?;
+    disk.takes(Takes::Nothing);
+    if !is_reply(alloc, &disk, operation.asks, operation.fault)? {
+        failed(alloc, "another reply", 0)?;
+    }
+    let found = replies(alloc, &disk, READS)?;
+    if found != want || !disk.holds(before) {
+        failed(alloc, "it isn't as before", 0)?;
+    }
+    Ok(found.len().saturating_add(1))
+}
+
+/// The making of a store, and seven operations, each of them with seven reads.
+#[test]
+fn a_disk_that_is_only_read(rt: HostRuntime) -> Result<(), Fail> {
+    let alloc = rt.alloc();
+    let files = files(alloc)?;
+    let whole = files.last().ok_or("a file")?;
+    let disk = Disk::with(alloc, whole)?;
+    if is_made(&disk, Takes::Nothing)? || !disk.holds(whole) {
+        failed(alloc, "a store is made", 0)?;
+    }
+    let mut tried = 1usize;
+    for (operation, before) in CAMPAIGN.iter().zip(&files) {
+        tried = tried.saturating_add(on_read_only_disk(alloc, operation, before)?);
+    }
+    expect_tried(alloc, tried, 1 + 7 * (1 + 7))
+}

@@ -1,0 +1,170 @@
+//! The command `rehearse`, over readers and writers in memory. Scripts and reports are worked out by hand from the head end's and the
+//! meter's documents.
+
+use fw_cli::{Fault, RehearseOptions, Rounds, run_rehearse};
+use std::alloc::Global;
+use std::io::{Read, Write};
+use std::sync::Wait;
+use std::test::Fail;
+use std::thread::Threads;
+
+/// A script, the rounds and the workers of its rehearsal, and the fates of the datagrams.
+struct Rehearsal(&'static str, u32, u32, &'static str);
+
+impl Rehearsal {
+    /// What the command answers.
+    fn run<T: Threads + Wait + Sync, R: Read, W: Write>(
+        &self,
+        rt: &T,
+        alloc: Global,
+        reader: &mut R,
+        writer: &mut W,
+    ) -> Result<(), Fault> {
+        let Rehearsal(_, rounds, workers, fates) = *self;
+        let rounds = Rounds { rounds, fates };
+        run_rehearse(
+            rt,
+            alloc,
+            reader,
+            writer,
+            &RehearseOptions { rounds, workers },
+        )
+    }
+
+    /// What is written, and behind it the fault.
+    fn told<T: Threads + Wait + Sync>(&self, rt: &T, alloc: Global) -> Result<String, Fail> {
+        let mut written = Vec::new(alloc);
+        let result = self.run(rt, alloc, &mut self.0.as_bytes(), &mut written);
+        let mut text = String::from_utf8(written)?;
+        if let Err(fault) = result {
+            text.push_str(format!(in alloc; "{fault}")?.as_str())?;
+        }
+        Ok(text)
+    }
+}
+
+/// Of each rehearsal is told what stands beside it. What else is told is named with the place of its row.
+fn each<T: Threads + Wait + Sync>(
+    rt: &T,
+    alloc: Global,
+    rows: &[(Rehearsal, &str)],
+) -> Result<(), Fail> {
+    for (at, (rehearsal, want)) in rows.iter().enumerate() {
+        let found = rehearsal.told(rt, alloc)?;
+        if found.as_str() != *want {
+            let told = format!(in alloc; "row {at}: {found} in place of {want}")?;
+            return Err(Fail::from(told));
+        }
+    }
+    Ok(())
+}
+
+/// A head end, and four meters with blocks of two bytes.
+const FOUR: &str = "\
+head 7 width 4
+meter 1 block 2 capacity 64 factory 78
+meter 2 block 2 capacity 64 factory 78
+meter 3 block 2 capacity 64 factory 78
+meter 4 block 2 capacity 64 factory 78
+open 7 1 616263 1 2 3 4
+";
+
+const FOUR_DONE: &str = "\
+row 7 1 1 done
+row 7 1 2 done
+row 7 1 3 done
+row 7 1 4 done
+meter 1 status 6 active 7 1 size 3
+meter 2 status 6 active 7 1 size 3
+meter 3 status 6 active 7 1 size 3
+meter 4 status 6 active 7 1 size 3
+activations 4
+board 4
+";
+
+const NONE_DONE: &str = "\
+row 7 1 1 live
+row 7 1 2 live
+row 7 1 3 live
+row 7 1 4 live
+meter 1 status 0 active 0 0 size 1
+meter 2 status 0 active 0 0 size 1
+meter 3 status 0 active 0 0 size 1
+meter 4 status 0 active 0 0 size 1
+activations 0
+board 0
+";
+
+const ONE: &str = "\
+head 7 width 4
+meter 1 block 2 capacity 64 factory 78
+open 7 1 616263 1
+";
+
+const TWICE: &str = "\
+head 7 width 4
+meter 1 block 2 capacity 64 factory 78
+open 7 1 616263 1
+open 7 1 616263 1
+";
+
+const BUSY: &str = "\
+head 7 width 4
+meter 1 block 2 capacity 64 factory 78
+open 7 1 616263 1
+open 7 2 616263 1
+";
+
+const NO_HEADS: &str = "meter 1 block 2 capacity 64 factory 78\n";
+
+const REPORTS: &[(Rehearsal, &str)] = &[
+    // of each link every third datagram is lost, and every fourth comes twice
+    (Rehearsal(FOUR, 40, 2, "ddxtdxdtxddx"), FOUR_DONE),
+    // nine rounds in which all comes, by a worker, and by more than there are links
+    (Rehearsal(FOUR, 9, 1, "d"), FOUR_DONE),
+    (Rehearsal(FOUR, 9, 8, "d"), FOUR_DONE),
+    // each datagram is lost
+    (Rehearsal(FOUR, 9, 2, "x"), NONE_DONE),
+    // no link
+    (
+        Rehearsal(
+            "head 7 width 4\nmeter 1 block 2 capacity 64 factory 78\n",
+            1,
+            1,
+            "d",
+        ),
+        "meter 1 status 0 active 0 0 size 1\nactivations 0\nboard 0\n",
+    ),
+];
+
+#[test]
+fn rehearsals_and_their_reports(rt: HostRuntime) -> Result<(), Fail> {
+    each(&rt, rt.alloc(), REPORTS)
+}
+
+/// Fates come first, then a bad line, then what can't begin, and last an event that is refused. Of none of these anything is written.
+const BAD: &[(Rehearsal, &str)] = &[
+    (Rehearsal("x\n", 1, 0, ""), "BadFates"),
+    (Rehearsal("x\n", 1, 0, "dxtlD"), "BadFates"),
+    (Rehearsal("x\n", 1, 0, "dxtl"), "BadLine 1"),
+    (Rehearsal(NO_HEADS, 1, 1, "d"), "BadSetup"),
+    (Rehearsal(FOUR, 1, 0, "d"), "BadSetup"),
+    (Rehearsal(FOUR, 1, 9, "d"), "BadSetup"),
+    (Rehearsal(TWICE, 1, 1, "d"), "Event"),
+    (Rehearsal(BUSY, 1, 1, "d"), "Event"),
+];
+
+#[test]
+fn what_cannot_be_rehearsed(rt: HostRuntime) -> Result<(), Fail> {
+    each(&rt, rt.alloc(), BAD)
+}
+
+#[test]
+fn writer_that_fails(rt: HostRuntime) -> Result<(), Fail> {
+    let alloc = rt.alloc();
+    let mut room = [0; 70];
+    let mut writer = room.as_mut_slice();
+    let result = Rehearsal(ONE, 1, 1, "d").run(&rt, alloc, &mut ONE.as_bytes(), &mut writer);
+    assert!(rt; result == Err(Fault::Output));
+    Ok(())
+}
