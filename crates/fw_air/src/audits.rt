@@ -3,7 +3,14 @@
 ghost use Rattle.std.specs.Prelude.{◌≡◌, IfOk, OnOk, IsErrOf};
 ghost use Rattle.fw_air.specs.Audits.{AreSameHeads, Differs};
 ghost use Rattle.fw_air.specs.Inside.{audit_error_of};
-ghost use Rattle.fw_world.specs.Headline.{IsFirstName, InitiatesAreOffered, NamesAreOwn, GoalsAreOffered, ActivationsAreSafe, ActivationsAreEqual};
+ghost use Rattle.fw_world.specs.Headline.{
+  IsFirstName,
+  InitiatesAreOffered,
+  NamesAreOwn,
+  GoalsAreOffered,
+  ActivationsAreSafe,
+  ActivationsAreEqual,
+};
 ghost use Rattle.fw_world.specs.Runs.{events_of};
 ghost use Rattle.fw_world.specs.Setup.{IsSetup, opening_state};
 ghost use Rattle.fw_world.specs.State.{StateRun, world_of};

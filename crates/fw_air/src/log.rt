@@ -1,6 +1,25 @@
 //! What was sent, and what happened, as a list that grows at its end.
 
-ghost use Rattle.std.specs.Prelude.{◌≡◌, ℕ, ◌+◌, ◌-◌, ◌^◌, ◌<◌, ◌≤◌, ◌++◌, ◌∷◌, [], List, IfOk, OnOk, OnErr, length, map, reverse, slice_get};
+ghost use Rattle.std.specs.Prelude.{
+  ◌≡◌,
+  ℕ,
+  ◌+◌,
+  ◌-◌,
+  ◌^◌,
+  ◌<◌,
+  ◌≤◌,
+  ◌++◌,
+  ◌∷◌,
+  [],
+  List,
+  IfOk,
+  OnOk,
+  OnErr,
+  length,
+  map,
+  reverse,
+  slice_get,
+};
 ghost use Rattle.fw_air.specs.Logs.{IsCopy, IsCounted, capped};
 ghost use Rattle.fw_air.specs.Parts.{datagrams_of, entries_of, parts};
 ghost use Rattle.fw_world.specs.View.{event_of};

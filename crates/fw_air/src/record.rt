@@ -1,6 +1,26 @@
 //! A world, and all events that made it.
 
-ghost use Rattle.std.specs.Prelude.{◌≡◌, ℕ, ◌<◌, ◌≤◌, ◌++◌, ◌∷◌, [], List, All, None, is_some, IsTrue, false, IfErr, OnOk, OnErr, length, map, replicate};
+ghost use Rattle.std.specs.Prelude.{
+  ◌≡◌,
+  ℕ,
+  ◌<◌,
+  ◌≤◌,
+  ◌++◌,
+  ◌∷◌,
+  [],
+  List,
+  All,
+  None,
+  is_some,
+  IsTrue,
+  false,
+  IfErr,
+  OnOk,
+  OnErr,
+  length,
+  map,
+  replicate,
+};
 ghost use Rattle.fw_world.specs.declared.error.StepError.TheVariants.{OutOfMemory};
 ghost use Rattle.fw_world.specs.declared.runs.RunError.TheVariants as stopped;
 ghost use Rattle.fw_world.specs.Refusals.{refusal_of};

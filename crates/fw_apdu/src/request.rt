@@ -5,7 +5,16 @@ ghost use Rattle.std.specs.Option.{option_map};
 ghost use Rattle.fw_axdr.specs.Spelling.{IsData, max_depth, short};
 ghost use Rattle.fw_axdr.specs.Fault.{unwritable};
 ghost use Rattle.fw_axdr.specs.View.{value_of};
-ghost use Rattle.fw_apdu.specs.Request.{IsDescriptor, SpellsRequest, NoRequest, MayHoldData, request_descriptor, head_bytes, request_bytes, unwritable_request};
+ghost use Rattle.fw_apdu.specs.Request.{
+  IsDescriptor,
+  SpellsRequest,
+  NoRequest,
+  MayHoldData,
+  request_descriptor,
+  head_bytes,
+  request_bytes,
+  unwritable_request,
+};
 ghost use Rattle.fw_apdu.specs.Fault.{RequestFails, GetFails, SetFails, ActionFails, ParameterFails, IfFault, IfMemory, IsBadData};
 ghost use Rattle.fw_apdu.specs.View.{request_content, request_invoke};
 ghost use Rattle.fw_apdu.specs.Inside.{descriptor_of, HeadRead, HeadStops, SelectionStops, IsParameter, ParameterTakes};

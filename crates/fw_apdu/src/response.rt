@@ -2,8 +2,27 @@
 
 ghost use Rattle.std.specs.Prelude.{◌≡◌, ◌∷◌, ◌++◌, None, IfOk, IfErr, OnOk};
 ghost use Rattle.std.specs.Option.{option_map};
-ghost use Rattle.fw_apdu.specs.Response.{SpellsResult, NoResponse, SpellsResponse, MayReturnData, response_bytes, result_bytes, unwritable_response, unwritable_result};
-ghost use Rattle.fw_apdu.specs.Fault.{ResponseFails, GetAnswerFails, SetAnswerFails, ActionAnswerFails, ReturnedFails, ResultFails, IfFault, IfMemory, IsBadData};
+ghost use Rattle.fw_apdu.specs.Response.{
+  SpellsResult,
+  NoResponse,
+  SpellsResponse,
+  MayReturnData,
+  response_bytes,
+  result_bytes,
+  unwritable_response,
+  unwritable_result,
+};
+ghost use Rattle.fw_apdu.specs.Fault.{
+  ResponseFails,
+  GetAnswerFails,
+  SetAnswerFails,
+  ActionAnswerFails,
+  ReturnedFails,
+  ResultFails,
+  IfFault,
+  IfMemory,
+  IsBadData,
+};
 ghost use Rattle.fw_apdu.specs.Inside.{AnswerRead, AnswerStops, CodeStops, IsReturned, ResultTakes, ReturnedTakes};
 ghost use Rattle.fw_apdu.specs.View.{response_content, response_invoke, result_of};
 

@@ -1,6 +1,22 @@
 //! The bits of a bit-string.
 
-ghost use Rattle.std.specs.Prelude.{◌≡◌, ◌≢◌, ◌==◌, ◌-◌, ◌*◌, ◌%◌, ◌^◌, ◌<◌, ◌≤◌, false, length, take, slice_get, slice_index_or, slice_set};
+ghost use Rattle.std.specs.Prelude.{
+  ◌≡◌,
+  ◌≢◌,
+  ◌==◌,
+  ◌-◌,
+  ◌*◌,
+  ◌%◌,
+  ◌^◌,
+  ◌<◌,
+  ◌≤◌,
+  false,
+  length,
+  take,
+  slice_get,
+  slice_index_or,
+  slice_set,
+};
 ghost use Rattle.fw_axdr.specs.Bits.{bits, bytes_for, packed};
 ghost use Rattle.fw_axdr.specs.Inside.{Keeps};
 

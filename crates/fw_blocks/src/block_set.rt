@@ -1,6 +1,33 @@
 //! Sets of block numbers.
 
-ghost use Rattle.std.specs.Prelude.{◌≡◌, ◌==◌, ◌||◌, ℕ, Some, slice_get, ◌≢◌, ◌+◌, ◌<◌, ◌≤◌, ◌^◌, true, false, length, drop, insert, replicate, slice_set, IsTrue, IfOk, OnErr, SomeIff, nat_lt, vec_len, vec_capacity, if◌then◌else◌};
+ghost use Rattle.std.specs.Prelude.{
+  ◌≡◌,
+  ◌==◌,
+  ◌||◌,
+  ℕ,
+  Some,
+  slice_get,
+  ◌≢◌,
+  ◌+◌,
+  ◌<◌,
+  ◌≤◌,
+  ◌^◌,
+  true,
+  false,
+  length,
+  drop,
+  insert,
+  replicate,
+  slice_set,
+  IsTrue,
+  IfOk,
+  OnErr,
+  SomeIff,
+  nat_lt,
+  vec_len,
+  vec_capacity,
+  if◌then◌else◌,
+};
 ghost use Rattle.std.specs.List.{AllWithin, HoldsAt};
 ghost use Rattle.std.specs.List.Sorted.{IsPartitionedBy};
 ghost use Rattle.fw_axdr.specs.Bits.{packed, byte_of};

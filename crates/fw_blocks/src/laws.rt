@@ -1,6 +1,18 @@
 //! Laws of block cuts and of sets of block numbers, over the definitions alone.
 
-ghost use Rattle.fw_blocks.specs.Laws.{NonemptyBelowCount, BeginsWithin, CutsJoin, NextJoins, WholeButTheLast, CutSize, CutOfFront, OtherBlocksStay, OneFirstMissing, CompleteWithoutMissing, OneSetForBytes};
+ghost use Rattle.fw_blocks.specs.Laws.{
+  NonemptyBelowCount,
+  BeginsWithin,
+  CutsJoin,
+  NextJoins,
+  WholeButTheLast,
+  CutSize,
+  CutOfFront,
+  OtherBlocksStay,
+  OneFirstMissing,
+  CompleteWithoutMissing,
+  OneSetForBytes,
+};
 
 use fw_axdr::laws;
 

@@ -1,6 +1,29 @@
 //! Sets of block numbers as pages of marks: so many words, and no memory beside them.
 
-ghost use Rattle.std.specs.Prelude.{◌≡◌, ℕ, ◌+◌, ◌*◌, ◌/◌, ◌<◌, ◌≤◌, ◌||◌, ◌==◌, ◌++◌, Bool, List, true, false, length, take, replicate, slice_index, slice_set, slice_range, SomeIff, IfOk};
+ghost use Rattle.std.specs.Prelude.{
+  ◌≡◌,
+  ℕ,
+  ◌+◌,
+  ◌*◌,
+  ◌/◌,
+  ◌<◌,
+  ◌≤◌,
+  ◌||◌,
+  ◌==◌,
+  ◌++◌,
+  Bool,
+  List,
+  true,
+  false,
+  length,
+  take,
+  replicate,
+  slice_index,
+  slice_set,
+  slice_range,
+  SomeIff,
+  IfOk,
+};
 ghost use Rattle.std.specs.Int.{w64, to_be_bytes};
 ghost use Rattle.fw_axdr.specs.Bits.{bits, packed};
 ghost use Rattle.fw_blocks.specs.Cuts.{max_blocks};

@@ -42,7 +42,20 @@ impl Model for Book {
 
 impl Book {
     ghost use Rattle.fw_book.specs.Contents.{Contents, IsBook, offered_in, name_in, state_in, has_serial, is_busy};
-    ghost use Rattle.fw_book.specs.Changes.{empty_book, added, opened, marked, cancelled, opening_refusal, cancel_refusal, mark_refusal, Confirms, DoneRefused, IsRefusal, ReadRefused};
+    ghost use Rattle.fw_book.specs.Changes.{
+      empty_book,
+      added,
+      opened,
+      marked,
+      cancelled,
+      opening_refusal,
+      cancel_refusal,
+      mark_refusal,
+      Confirms,
+      DoneRefused,
+      IsRefusal,
+      ReadRefused,
+    };
     ghost use Rattle.fw_book.specs.Inside.{Admits, meters_refusal};
     ghost use Rattle.fw_book.specs.Format.{SpellsBook};
 

@@ -1,11 +1,45 @@
 //! What a line of a script says.
 
-ghost use Rattle.std.specs.Prelude.{◌≡◌, ◌≤◌, ℕ, List, IfSome, ◌∷◌, [], Some, None, map, option_map, IfOk, OnErr, IsSome, MatchOption};
+ghost use Rattle.std.specs.Prelude.{
+  ◌≡◌,
+  ◌≤◌,
+  ℕ,
+  List,
+  IfSome,
+  ◌∷◌,
+  [],
+  Some,
+  None,
+  map,
+  option_map,
+  IfOk,
+  OnErr,
+  IsSome,
+  MatchOption,
+};
 ghost use Rattle.fw_world.specs.Step.{deliver, open_campaign};
 ghost use Rattle.fw_world.specs.View.{event_of};
 ghost use Rattle.fw_world.specs.Runs.{events_of};
 ghost use Rattle.fw_cli.specs.Words.{words_of, at_end, numbers_of, bytes_said};
-ghost use Rattle.fw_cli.specs.Script.{head_item, meter_item, events_item, head_line, meter_line, open_line, deliver_line, cancel_line, tick_line, stop_line, restart_meter_line, restart_head_line, turn_line, item_of, event_line, head_of, meter_of};
+ghost use Rattle.fw_cli.specs.Script.{
+  head_item,
+  meter_item,
+  events_item,
+  head_line,
+  meter_line,
+  open_line,
+  deliver_line,
+  cancel_line,
+  tick_line,
+  stop_line,
+  restart_meter_line,
+  restart_head_line,
+  turn_line,
+  item_of,
+  event_line,
+  head_of,
+  meter_of,
+};
 ghost use Rattle.fw_cli.specs.Inside.{item_read, words_behind};
 
 use crate::words::{

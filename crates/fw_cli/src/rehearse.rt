@@ -11,7 +11,15 @@ ghost use Rattle.fw_cli.specs.Reading.{Gives, ReadsAll, max_input};
 ghost use Rattle.fw_cli.specs.Report.{report_of, board_line};
 ghost use Rattle.fw_cli.specs.Script.{IsBadLine};
 ghost use Rattle.fw_cli.specs.Replaying.{MakesNone, MayTakeMemory, MayWantFor, ReadsOne};
-ghost use Rattle.fw_cli.specs.Rehearsing.{AreWorkers, IsBarredIn, MayWantToRehearse, Rehearses, RehearsesScript, TellsRehearsal, WritesRehearsal};
+ghost use Rattle.fw_cli.specs.Rehearsing.{
+  AreWorkers,
+  IsBarredIn,
+  MayWantToRehearse,
+  Rehearses,
+  RehearsesScript,
+  TellsRehearsal,
+  WritesRehearsal,
+};
 
 use crate::fault::Fault;
 use crate::input::read_input;

@@ -1,6 +1,24 @@
 //! The command `replay`: a script is run, and the report of its world is told.
 
-ghost use Rattle.std.specs.Prelude.{◌≡◌, ◌≢◌, ◌<◌, ◌≤◌, ◌⊎◌, ◌↔◌, ◌++◌, ℕ, List, length, IsTrue, IfOk, IfErr, OnOk, OnErr, IfSome, string_bytes};
+ghost use Rattle.std.specs.Prelude.{
+  ◌≡◌,
+  ◌≢◌,
+  ◌<◌,
+  ◌≤◌,
+  ◌⊎◌,
+  ◌↔◌,
+  ◌++◌,
+  ℕ,
+  List,
+  length,
+  IsTrue,
+  IfOk,
+  IfErr,
+  OnOk,
+  OnErr,
+  IfSome,
+  string_bytes,
+};
 ghost use Rattle.std.specs.Io.KnownBytes.{Keeps};
 ghost use Rattle.fw_world.specs.Runs.{events_of};
 ghost use Rattle.fw_world.specs.Setup.{IsSetup};
@@ -10,7 +28,25 @@ ghost use Rattle.fw_cli.specs.Faults.{IsOfReplay};
 ghost use Rattle.fw_cli.specs.Reading.{Gives, ReadsAll, max_input};
 ghost use Rattle.fw_cli.specs.Inside.{rounds_in};
 ghost use Rattle.fw_cli.specs.Script.{IsBadLine};
-ghost use Rattle.fw_cli.specs.Replaying.{Replays, WritesRun, ReadsOne, HasBadFates, MakesNone, MayTakeMemory, MayWantFor, MayWantMemory, Tells, TellsRun, TellsWorld, TellsRefusal, GoesOn, WantsMemory, refusal_line, refusal_name, cause_name};
+ghost use Rattle.fw_cli.specs.Replaying.{
+  Replays,
+  WritesRun,
+  ReadsOne,
+  HasBadFates,
+  MakesNone,
+  MayTakeMemory,
+  MayWantFor,
+  MayWantMemory,
+  Tells,
+  TellsRun,
+  TellsWorld,
+  TellsRefusal,
+  GoesOn,
+  WantsMemory,
+  refusal_line,
+  refusal_name,
+  cause_name,
+};
 
 use crate::fates::read_fates;
 use crate::fault::Fault;

@@ -3,7 +3,18 @@
 ghost use Rattle.std.specs.Prelude.{◌≡◌, ◌++◌, length, flat_map, OnOk, string_bytes};
 ghost use Rattle.std.specs.Option.{option_map};
 ghost use Rattle.fw_world.specs.State.{head_at, meter_at};
-ghost use Rattle.fw_cli.specs.Report.{report_of, head_lines, book_lines, campaign_lines, row_line, meter_lines, meter_line, activations_line, board_line, state_word};
+ghost use Rattle.fw_cli.specs.Report.{
+  report_of,
+  head_lines,
+  book_lines,
+  campaign_lines,
+  row_line,
+  meter_lines,
+  meter_line,
+  activations_line,
+  board_line,
+  state_word,
+};
 
 use fw_book::{Book, Offer, Row, RowState};
 use fw_names::{CampaignId, HeadId, MeterId};

@@ -1,7 +1,18 @@
 //! The trace of a run: a line for each datagram that was sent.
 
 ghost use Rattle.std.specs.Prelude.{◌≡◌, ◌++◌, ℕ, List, OnOk, string_bytes};
-ghost use Rattle.fw_cli.specs.Trace.{IsTrace, Says, line_of, ends_words, kind_of, number_of, saying_words, brief_words, campaign_words, attribute_name};
+ghost use Rattle.fw_cli.specs.Trace.{
+  IsTrace,
+  Says,
+  line_of,
+  ends_words,
+  kind_of,
+  number_of,
+  saying_words,
+  brief_words,
+  campaign_words,
+  attribute_name,
+};
 ghost use Rattle.fw_cli.specs.declared.saying.Saying.{Saying};
 
 use crate::report::head_number;

@@ -1,6 +1,28 @@
 //! The words of a line, and what they say.
 
-ghost use Rattle.std.specs.Prelude.{◌≡◌, true, List, IsSome, IfOk, ◌∷◌, [], ◌<◌, ◌≤◌, ◌==◌, ℕ, Some, None, length, is_some, bytes_eq, if◌then◌else◌, nat_lt, MatchOption, IfSome, position};
+ghost use Rattle.std.specs.Prelude.{
+  ◌≡◌,
+  true,
+  List,
+  IsSome,
+  IfOk,
+  ◌∷◌,
+  [],
+  ◌<◌,
+  ◌≤◌,
+  ◌==◌,
+  ℕ,
+  Some,
+  None,
+  length,
+  is_some,
+  bytes_eq,
+  if◌then◌else◌,
+  nat_lt,
+  MatchOption,
+  IfSome,
+  position,
+};
 ghost use Rattle.std.specs.List.{list_all, position_or_len};
 ghost use Rattle.std.specs.Char.{is_ascii_digit};
 ghost use Rattle.std.specs.Str.Parse.{digits_value};

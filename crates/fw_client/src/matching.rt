@@ -6,7 +6,17 @@ ghost use Rattle.fw_axdr.specs.View.{value_of};
 ghost use Rattle.fw_apdu.specs.View.{response_content, response_invoke};
 ghost use Rattle.fw_client.specs.Matching.{Matches, IsValue, IsNumber, IsBits, IsStatus, IsInfo, IsInfoOf, IsActive};
 ghost use Rattle.fw_client.specs.Hearing.{MayCarryData};
-ghost use Rattle.fw_client.specs.Inside.{Finds, IsResponseIn, identification_of, signed_of, one_of, three_of, fields_in, size_in, octets_in};
+ghost use Rattle.fw_client.specs.Inside.{
+  Finds,
+  IsResponseIn,
+  identification_of,
+  signed_of,
+  one_of,
+  three_of,
+  fields_in,
+  size_in,
+  octets_in,
+};
 
 use crate::ask::{Asked, Service};
 use crate::asking::PORT;

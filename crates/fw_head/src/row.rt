@@ -50,7 +50,17 @@ impl Model for RowCore {
 
 impl RowCore {
     ghost use Rattle.fw_head.specs.Row.{Row, bytes_of, new_row, ticked, sends, stepped, moved, returned, settled, with_block};
-    ghost use Rattle.fw_head.specs.Row.{RowHears, IsPermitted, RowMayWant, news_in, tick_asks, datagrams, asking_all, claim_in, IsClaimOf};
+    ghost use Rattle.fw_head.specs.Row.{
+      RowHears,
+      IsPermitted,
+      RowMayWant,
+      news_in,
+      tick_asks,
+      datagrams,
+      asking_all,
+      claim_in,
+      IsClaimOf,
+    };
     ghost use Rattle.fw_head.specs.Phase.{phase_of, has_ended, IsLive};
     ghost use Rattle.fw_head.specs.Parts.{with_end};
     ghost use Rattle.fw_head.specs.Inside.{IsOfBook, Carry, IsCutOf, IsOwn, IsOwnStep, IsOwnNews};

@@ -1,6 +1,29 @@
 //! The header of a meter beside its store, and what the operations of Image transfer do to the two.
 
-ghost use Rattle.std.specs.Prelude.{◌≡◌, ◌≢◌, ◌≤◌, ◌↔◌, IsTrue, IfSome, IfNone, IfOk, IfErr, OnOk, OnErr, IsOkAnd, Some, None, is_ok, true, false, ℕ, List, ◌+◌, length, take};
+ghost use Rattle.std.specs.Prelude.{
+  ◌≡◌,
+  ◌≢◌,
+  ◌≤◌,
+  ◌↔◌,
+  IsTrue,
+  IfSome,
+  IfNone,
+  IfOk,
+  IfErr,
+  OnOk,
+  OnErr,
+  IsOkAnd,
+  Some,
+  None,
+  is_ok,
+  true,
+  false,
+  ℕ,
+  List,
+  ◌+◌,
+  length,
+  take,
+};
 ghost use Rattle.sha2.specs.Sha256.{sha256};
 ghost use Rattle.fw_blocks.specs.Cuts.{IsWithinLimits, block_count, max_blocks};
 ghost use Rattle.fw_store.specs.Device.{with_head, slot_bytes};
@@ -17,8 +40,22 @@ ghost use Rattle.fw_image.specs.Fits.{IsFit};
 ghost use Rattle.fw_image.specs.Step.{enable, initiate, block, verify, activate, IsOffer, IsBlock};
 ghost use Rattle.fw_image.specs.State.{Makes, Turns, Follows, IsOver, stored, outcome_of};
 ghost use Rattle.fw_image.specs.Stored.{meter_of, phase_of, IsHeld, IsMeterOf, Holds, Refused, IsSame};
-ghost use Rattle.fw_image.specs.Moves.{verify_outcome, judged, digested_of, IsVerifiedPhase, IsPlace, IsWholeGoal, LacksBlock, IsVerifiedGenuine};
-ghost use Rattle.fw_image.specs.declared.status.TransferStatus.TheVariants.{Initiated, VerificationSuccessful, VerificationFailed, ActivationSuccessful};
+ghost use Rattle.fw_image.specs.Moves.{
+  verify_outcome,
+  judged,
+  digested_of,
+  IsVerifiedPhase,
+  IsPlace,
+  IsWholeGoal,
+  LacksBlock,
+  IsVerifiedGenuine,
+};
+ghost use Rattle.fw_image.specs.declared.status.TransferStatus.TheVariants.{
+  Initiated,
+  VerificationSuccessful,
+  VerificationFailed,
+  ActivationSuccessful,
+};
 
 use crate::error::{OpenError, Refusal};
 use crate::status::TransferStatus;

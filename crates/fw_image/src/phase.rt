@@ -1,6 +1,22 @@
 //! A transfer in the status that a store tells.
 
-ghost use Rattle.std.specs.Prelude.{◌≡◌, ◌≤◌, ◌↔◌, true, false, IsTrue, IfOk, IfErr, IsOkAnd, OnOk, Some, None, is_ok, length, take};
+ghost use Rattle.std.specs.Prelude.{
+  ◌≡◌,
+  ◌≤◌,
+  ◌↔◌,
+  true,
+  false,
+  IsTrue,
+  IfOk,
+  IfErr,
+  IsOkAnd,
+  OnOk,
+  Some,
+  None,
+  is_ok,
+  length,
+  take,
+};
 ghost use Rattle.fw_blocks.specs.Cuts.{max_blocks};
 ghost use Rattle.fw_store.specs.Faults.{HasCause, Spends};
 ghost use Rattle.fw_image.specs.Calls.{verified_size, opening_calls};

@@ -1,6 +1,23 @@
 //! A meter without its wires.
 
-ghost use Rattle.std.specs.Prelude.{◌≡◌, ◌≢◌, ◌≤◌, ◌↔◌, IsTrue, IfOk, IfErr, IsOkAnd, OnOk, OnErr, Some, None, is_ok, true, false, length};
+ghost use Rattle.std.specs.Prelude.{
+  ◌≡◌,
+  ◌≢◌,
+  ◌≤◌,
+  ◌↔◌,
+  IsTrue,
+  IfOk,
+  IfErr,
+  IsOkAnd,
+  OnOk,
+  OnErr,
+  Some,
+  None,
+  is_ok,
+  true,
+  false,
+  length,
+};
 ghost use Rattle.fw_store.specs.Faults.{HasCause, Spends, count_after};
 ghost use Rattle.fw_server.specs.Meaning as meaning;
 ghost use Rattle.fw_server.specs.Meaning.{meaning_of};

@@ -4,7 +4,23 @@ ghost use Rattle.std.specs.Prelude.{◌≡◌};
 ghost use Rattle.std.specs.Option.{option_map, option_copied};
 ghost use Rattle.fw_axdr.specs.View.{value_of};
 ghost use Rattle.fw_apdu.specs.View.{request_content};
-ghost use Rattle.fw_server.specs.Meaning.{meaning_of, asked_of, method_of, initiate_of, block_of, enable_of, order_of, verify, activate, or_refused, octets_in, number_in, two_in, two_of, code_number};
+ghost use Rattle.fw_server.specs.Meaning.{
+  meaning_of,
+  asked_of,
+  method_of,
+  initiate_of,
+  block_of,
+  enable_of,
+  order_of,
+  verify,
+  activate,
+  or_refused,
+  octets_in,
+  number_in,
+  two_in,
+  two_of,
+  code_number,
+};
 ghost use Rattle.fw_server.specs.View.{operation_meaning, planned_meaning};
 ghost use Rattle.fw_server.specs.declared.planning.Refusal.TheVariants.{TypeUnmatched};
 

@@ -1,6 +1,22 @@
 //! A store over a device of bytes.
 
-ghost use Rattle.std.specs.Prelude.{◌≡◌, ◌+◌, ◌≤◌, ℕ, IsTrue, IsOk, IfOk, IfErr, IsErrOf, IfSome, IfNone, OnOk, is_ok, length, replicate};
+ghost use Rattle.std.specs.Prelude.{
+  ◌≡◌,
+  ◌+◌,
+  ◌≤◌,
+  ℕ,
+  IsTrue,
+  IsOk,
+  IfOk,
+  IfErr,
+  IsErrOf,
+  IfSome,
+  IfNone,
+  OnOk,
+  is_ok,
+  length,
+  replicate,
+};
 ghost use Rattle.std.specs.Int.{w32, to_be_bytes};
 ghost use Rattle.fw_store.specs.Faults.{count_after};
 ghost use Rattle.fw_store.specs.Contents.{KeepsDevice};

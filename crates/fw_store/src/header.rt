@@ -10,7 +10,17 @@ ghost use Rattle.fw_store.specs.declared.header.Header.{Header};
 ghost use Rattle.fw_store.specs.declared.header.StoredStatus.{StoredStatus};
 ghost use Rattle.fw_store.specs.declared.slot.Slot.{Slot};
 ghost use Rattle.fw_store.specs.Layout.{status_number, slot_number, goal_bytes, header_bytes};
-ghost use Rattle.fw_store.specs.Header.{GoalFieldsFit, FieldsFit, IsGoal, IsHeader, fresh_header, with_all_marks, goal_count, has_goal, is_verified};
+ghost use Rattle.fw_store.specs.Header.{
+  GoalFieldsFit,
+  FieldsFit,
+  IsGoal,
+  IsHeader,
+  fresh_header,
+  with_all_marks,
+  goal_count,
+  has_goal,
+  is_verified,
+};
 
 use crate::slot::Slot;
 use fw_blocks::{Geometry, MARKS_SIZE, MAX_BLOCK_SIZE, MAX_BLOCKS, Pages};

@@ -1,7 +1,19 @@
 //! Laws of headers, of what stores hold and of faults, over the definitions alone.
 
 ghost use Rattle.fw_store.specs.Laws.{OneHeader, HeaderSize, FreshIsHeader, VerifiedIsComplete};
-ghost use Rattle.fw_store.specs.StoreLaws.{SpliceStands, WrittenIsRead, OthersAreRead, OtherSlotStays, HeaderStays, SlotsStay, FieldsJoin, DeviceIsRead, FaultsShow, CallsAdd, CallsEnd};
+ghost use Rattle.fw_store.specs.StoreLaws.{
+  SpliceStands,
+  WrittenIsRead,
+  OthersAreRead,
+  OtherSlotStays,
+  HeaderStays,
+  SlotsStay,
+  FieldsJoin,
+  DeviceIsRead,
+  FaultsShow,
+  CallsAdd,
+  CallsEnd,
+};
 
 /// A byte string is at most one header's.
 pub fn one_header()

@@ -104,7 +104,16 @@ impl MemoryStore {
 // failing write leaves.
 impl ImageStore for MemoryStore {
     ghost use Rattle.std.specs.Prelude.{true};
-    ghost use Rattle.fw_store.specs.Memory.{device_of, capacity_of, faults_of, fuse_of, calls_left_of, is_sound, slot_size, IsFused};
+    ghost use Rattle.fw_store.specs.Memory.{
+      device_of,
+      capacity_of,
+      faults_of,
+      fuse_of,
+      calls_left_of,
+      is_sound,
+      slot_size,
+      IsFused,
+    };
 
     ghost honest = { λ _. true };
 

@@ -38,10 +38,14 @@ pub record IsMarked (old new : Seat) : Type 0 where
   pub mark : new ≡ record old { own = old.own + 1; seen = new.seen; allowance = old.allowance - 1 }
   pub seen : old.seen < new.seen
 
+-- a mark just where a meter is done
+abbrev pub MarksDone : News → Seat → Seat → Type 0
+MarksDone (news.Done campaign meter) old new = IsMarked old new
+MarksDone told old new = new ≡ old
+
 -- the seat of a worker that let a head end hear the datagram of this number: one receipt more, and a mark just where a meter is done
 abbrev pub HasHeard : News → Seat → ℕ → Seat → Type 0
-HasHeard (news.Done campaign meter) old number new = (event : ℕ) × IsMarked (noted old event (deliver number)) new
-HasHeard told old number new = (event : ℕ) × (new ≡ noted old event (deliver number))
+HasHeard told old number new = (event : ℕ) × MarksDone told (noted old event (deliver number)) new
 
 -- the head end of the desk's book and width, with rows that are the live ones of the book, wherever the workers led them
 pub record IsPutBack (desk : Desk) (head : Head) : Type 0 where

@@ -4,3 +4,5 @@ pub mod Board
 pub mod Acts
 pub mod Accounts
 pub mod Refusals
+-- For private clauses alone: no public clause cites it.
+pub mod Inside

@@ -1,16 +1,44 @@
 //! Whether what workers left is what they made.
 
-ghost use Rattle.std.specs.Prelude.{◌≡◌, ◌↔◌, ◌≤◌, ◌<◌, ◌+◌, ◌++◌, ◌^◌, List, Some, All, IsTrue, IfOk, IfErr, IfSome, OnOk, count_by, length, map};
+ghost use Rattle.std.specs.Prelude.{
+  ◌≡◌,
+  ◌↔◌,
+  ◌≤◌,
+  ◌<◌,
+  ◌+◌,
+  ◌++◌,
+  ◌^◌,
+  List,
+  Some,
+  All,
+  IsTrue,
+  IfOk,
+  IfErr,
+  IfSome,
+  OnOk,
+  count_by,
+  length,
+  map,
+};
 ghost use Rattle.std.specs.List.Sorted.{IsPermutation};
 ghost use Rattle.fw_air.specs.Events.{core_event_of};
 ghost use Rattle.fw_air.specs.Links.{link_of};
-ghost use Rattle.fw_world.specs.Headline.{IsFirstName, InitiatesAreOffered, NamesAreOwn, GoalsAreOffered, ActivationsAreSafe, ActivationsAreEqual};
 ghost use Rattle.fw_world.specs.Runs.{events_of};
-ghost use Rattle.fw_world.specs.Setup.{IsSetup, opening_state};
-ghost use Rattle.fw_world.specs.State.{is_done, world_of};
+ghost use Rattle.fw_world.specs.State.{is_done};
 ghost use Rattle.fw_world.specs.Step.{Event as Given};
 ghost use Rattle.fw_world.specs.View.{event_of};
-ghost use Rattle.fw_workers.specs.Accounts.{AreDealt, HasItsTicks, IsAccounted, IsRising, all_of, done_in, done_rows, its_ticks, numbered, ticks_of};
+ghost use Rattle.fw_workers.specs.Accounts.{
+  AreDealt,
+  HasItsTicks,
+  IsRising,
+  all_of,
+  done_in,
+  done_rows,
+  its_ticks,
+  numbered,
+  ticks_of,
+};
+ghost use Rattle.fw_workers.specs.Inside.{IsReported};
 
 use crate::receipt::Receipt;
 use crate::receipts::Receipts;
@@ -43,13 +71,7 @@ pub(crate) fn account(
     left: Left,
 ) -> Result<Report, Unaccounted>
     requires { 1 ≤ workers }
-    ensures accounted { IfOk result (λ r. IsAccounted setup.now (events_of given.now) rounds workers r.world r.board r.receipts.items) }
-    ensures initiates { IfOk result (λ r. InitiatesAreOffered (world_of r.world)) }
-    ensures names { IfOk result (λ r. NamesAreOwn (IsFirstName (world_of (opening_state setup.now))) (world_of r.world)) }
-    ensures goals { IfOk result (λ r. GoalsAreOffered (world_of r.world)) }
-    ensures activations { IfOk result (λ r. ActivationsAreSafe (world_of r.world)) }
-    ensures equal { IfOk result (λ r. ActivationsAreEqual (world_of r.world)) }
-    ensures setup { OnOk result (IsSetup setup.now) }
+    ensures { IfOk result (λ r. IsReported setup.now (events_of given.now) rounds workers r.world r.board r.receipts.items) }
 {
     let Left {
         heads,

@@ -7,7 +7,27 @@
 //! The lock of a meter or of a shard is taken first, and that of the log inside it. No two meters or shards are ever held by one
 //! call.
 
-ghost use Rattle.std.specs.Prelude.{◌≡◌, ◌+◌, ◌≤◌, ◌<◌, ◌++◌, ◌∷◌, [], not, position, length, unwrap_or, IfOk, IfSome, IfNone, OnOk, OnErr, true, false};
+ghost use Rattle.std.specs.Prelude.{
+  ◌≡◌,
+  ◌+◌,
+  ◌≤◌,
+  ◌<◌,
+  ◌++◌,
+  ◌∷◌,
+  [],
+  not,
+  position,
+  length,
+  unwrap_or,
+  IfOk,
+  IfErr,
+  IfSome,
+  IfNone,
+  OnOk,
+  OnErr,
+  true,
+  false,
+};
 ghost use Rattle.std.specs.Vec.{vec_len, vec_capacity};
 ghost use Rattle.fw_air.specs.Rounds.{is_verifying};
 ghost use Rattle.fw_book.specs.Contents.{image_in};
@@ -20,7 +40,7 @@ ghost use Rattle.fw_meter.specs.Handling.{reply_bytes};
 ghost use Rattle.fw_world.specs.Step.{deliver, replies, tick, turn};
 ghost use Rattle.fw_world.specs.View.{addressee};
 ghost use Rattle.fw_world.specs.declared.datagram.Actor.TheVariants as actor;
-ghost use Rattle.fw_workers.specs.Acts.{MeterServes, RowsHear, RowsTick, is_live_of};
+ghost use Rattle.fw_workers.specs.Acts.{IsCoreRefusal, MeterServes, RowsHear, RowsTick, is_live_of};
 
 use crate::receipt::Receipt;
 use fw_air::{CoreEvent, Room, Sent, SharedLog};
@@ -31,7 +51,7 @@ use fw_image::TransferStatus;
 use fw_meter::MeterCore;
 use fw_names::{CampaignId, HeadId, MeterId};
 use fw_store::ImageStore;
-use fw_world::{Datagram, Direction};
+use fw_world::{Actor, Datagram, Direction, StepError};
 use std::alloc::{AllocError, Global};
 use std::marker::Model;
 use std::sync::Wait;
@@ -281,6 +301,30 @@ fn image_of(book: &Book, campaign: CampaignId) -> &[u8]
         Some(offer) => offer.image(),
         None => &[],
     }
+}
+
+/// The datagram of this number, which is for this addressee.
+///
+/// # Errors
+///
+/// `NoSuchDatagram`, `NoSuchActor` where it is for another addressee, or `OutOfMemory`.
+pub(crate) fn addressed<R: Wait>(
+    rt: &R,
+    alloc: Global,
+    log: &SharedLog,
+    to: Actor,
+    number: usize,
+) -> Result<Datagram, StepError>
+    ensures addressee { IfOk result (λ datagram. addressee datagram ≡ to) }
+    ensures refused { IfErr result IsCoreRefusal }
+{
+    let Some(datagram) = log.get(rt, alloc, number)? else {
+        return Err(StepError::NoSuchDatagram);
+    };
+    if datagram.to() != to {
+        return Err(StepError::NoSuchActor);
+    }
+    Ok(datagram)
 }
 
 /// Puts in what a meter replies to a datagram that is for it, if it does.

@@ -6,9 +6,9 @@ ghost use Rattle.fw_air.specs.Rounds.{stands_in};
 ghost use Rattle.fw_world.specs.Step.{deliver, tick};
 ghost use Rattle.fw_world.specs.declared.error.StepError.TheVariants.{NoSuchActor, OutOfMemory};
 ghost use Rattle.fw_workers.specs.Seat.{noted};
-ghost use Rattle.fw_workers.specs.Acts.{HasHeard, IsCoreRefusal, IsPutBack, all_rows};
+ghost use Rattle.fw_workers.specs.Acts.{HasHeard, IsCoreRefusal, IsPutBack, MarksDone, all_rows};
 
-use crate::acts::Shard;
+use crate::acts::{Shard, addressed};
 use crate::board::Board;
 use crate::seat::Seat;
 use fw_air::{Sent, SharedLog};
@@ -132,21 +132,14 @@ impl Desk {
         ensures refused { IfErr result IsCoreRefusal }
         ensures same { OnErr result (seat.new ≡ seat.old) }
     {
-        let Some(datagram) = log.get(rt, alloc, number)? else {
-            return Err(StepError::NoSuchDatagram);
-        };
-        if datagram.to() != Actor::Head(self.book.head()) {
-            return Err(StepError::NoSuchActor);
-        }
+        let datagram = addressed(rt, alloc, log, Actor::Head(self.book.head()), number)?;
         seat.receipts.reserve(1)?;
         let room = log.reserve(alloc)?;
         let mut shard = self.shard(datagram.meter).lock(rt);
         let (act, told) = shard.hear(alloc, number, &datagram, room)?;
         act.record(rt, log, &mut seat.receipts);
         drop(shard);
-        if let News::Done(..) = told {
-            board.add(seat);
-        }
+        mark_done(board, seat, &told);
         Ok(told)
     }
 
@@ -162,6 +155,17 @@ impl Desk {
     /// The shard of a meter.
     fn shard(&self, meter: MeterId) -> &Mutex<Shard> {
         &self.shards[place(meter)]
+    }
+}
+
+/// Marks the board where a meter is done, and nowhere else.
+fn mark_done(board: &Board, seat: &mut Seat, told: &News)
+    requires board { seat.old.board ≡ board.now.id }
+    requires left { 0 < seat.old.allowance }
+    ensures { MarksDone told.now seat.old seat.new }
+{
+    if let News::Done(..) = told {
+        board.add(seat);
     }
 }
 

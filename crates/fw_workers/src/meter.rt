@@ -6,7 +6,7 @@ ghost use Rattle.fw_world.specs.declared.error.StepError.TheVariants.{OutOfMemor
 ghost use Rattle.fw_workers.specs.Seat.{noted};
 ghost use Rattle.fw_workers.specs.Acts.{IsCoreRefusal};
 
-use crate::acts::GuardedMeter;
+use crate::acts::{GuardedMeter, addressed};
 use crate::seat::Seat;
 use fw_air::{Sent, SharedLog};
 use fw_meter::MeterCore;
@@ -76,12 +76,7 @@ impl<S: ImageStore + Drop> SharedMeter<S> {
         ensures refused { IfErr result IsCoreRefusal }
         ensures same { OnErr result (seat.new ≡ seat.old) }
     {
-        let Some(datagram) = log.get(rt, alloc, number)? else {
-            return Err(StepError::NoSuchDatagram);
-        };
-        if datagram.to() != Actor::Meter(self.meter) {
-            return Err(StepError::NoSuchActor);
-        }
+        let datagram = addressed(rt, alloc, log, Actor::Meter(self.meter), number)?;
         seat.receipts.reserve(1)?;
         let room = log.reserve(alloc)?;
         let mut core = self.core.lock(rt);

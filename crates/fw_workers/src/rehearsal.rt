@@ -1,13 +1,21 @@
 //! A rehearsal: the rounds of a schedule, made by several workers.
 
-ghost use Rattle.std.specs.Prelude.{◌≡◌, ◌≢◌, ◌≤◌, All, IfOk, IfErr, OnOk, IsErrOf};
+ghost use Rattle.std.specs.Prelude.{◌≡◌, ◌≢◌, ◌<◌, ◌≤◌, ◌^◌, All, IfOk, IfErr, OnOk, IsErrOf};
 ghost use Rattle.fw_air.specs.Fates.{IsFates};
 ghost use Rattle.fw_air.specs.Logs.{IsCounted};
-ghost use Rattle.fw_world.specs.Headline.{IsFirstName, InitiatesAreOffered, NamesAreOwn, GoalsAreOffered, ActivationsAreSafe, ActivationsAreEqual};
+ghost use Rattle.fw_world.specs.Headline.{
+  IsFirstName,
+  InitiatesAreOffered,
+  NamesAreOwn,
+  GoalsAreOffered,
+  ActivationsAreSafe,
+  ActivationsAreEqual,
+};
 ghost use Rattle.fw_world.specs.Runs.{events_of};
 ghost use Rattle.fw_world.specs.Setup.{IsSetup, opening_state};
 ghost use Rattle.fw_world.specs.State.{world_of};
 ghost use Rattle.fw_workers.specs.Accounts.{IsAccounted};
+ghost use Rattle.fw_workers.specs.Inside.{IsReported};
 ghost use Rattle.fw_workers.specs.Refusals.{TellsOfEvent, of_event};
 
 use crate::accounts::{Left, account, done_rows};
@@ -106,8 +114,7 @@ pub fn rehearse<R: Threads + Wait + Sync, G: Gate + Sync>(
         fates,
         gate,
     };
-    let left = make(rt, alloc, setup, world, entries, &task)?;
-    let report = account(alloc, setup, events, rounds, workers, left)?;
+    let report = make(rt, alloc, setup, events, world, entries, &task)?;
     Ok(report)
 }
 
@@ -150,40 +157,107 @@ fn barred(at: usize, cause: StepError) -> RehearseError
     }
 }
 
-/// What the workers leave, who begin in this world.
+/// Lets the workers make their rounds from this world on, which the given events and these entries led to, and accounts for what they
+/// left.
 fn make<R: Threads + Wait + Sync, G: Gate + Sync>(
     rt: &R,
     alloc: Global,
     setup: &Setup,
+    given: &[Event],
     world: World,
     entries: Vec<Entry>,
     task: &Task<'_, G>,
-) -> Result<Left, Unaccounted>
+) -> Result<Report, Unaccounted>
     requires log { IsCounted (record { sent = world.sent; entries = entries.items }) }
     requires workers { 1 ≤ task.now.workers }
+    ensures { IfOk result (λ r. IsReported setup.now (events_of given.now) task.now.rounds task.now.workers
+        r.world r.board r.receipts.items) }
 {
     let links = links_of(alloc, setup, &world)?;
-    let done = match done_rows(setup, &world) {
-        Some(done) if done < 1 << 63 => done,
-        _ => return Err(Unaccounted::Mismatch),
-    };
-    let Parts {
-        heads,
-        meters,
-        sent,
-        ..
-    } = world.into_parts();
-    let desks = desks_of(alloc, heads)?;
-    let meters = shared(alloc, meters)?;
-    let log = SharedLog::new(sent, entries);
+    let done = marks_of(setup, &world)?;
+    let world = SharedWorld::of(alloc, world, entries)?;
+    let (board, receipts) = worked(rt, alloc, &world, links, done, task)?;
+    let left = world.into_left(alloc, board, receipts)?;
+    account(alloc, setup, given, task.rounds, task.workers, left)
+}
+
+/// The count with which the board begins: the rows that are done.
+fn marks_of(setup: &Setup, world: &World) -> Result<u64, Unaccounted>
+    ensures { IfOk result (λ done. done < 2 ^ 63) }
+{
+    match done_rows(setup, world) {
+        Some(done) if done < 1 << 63 => Ok(done),
+        _ => Err(Unaccounted::Mismatch),
+    }
+}
+
+/// A world as workers share it.
+#[derive(Drop)]
+struct SharedWorld {
+    desks: Vec<NumberedDesk>,
+    meters: Vec<SharedMeter<MemoryStore>>,
+    log: SharedLog,
+}
+
+impl SharedWorld {
+    /// This world, and its record.
+    fn of(alloc: Global, world: World, entries: Vec<Entry>) -> Result<SharedWorld, Unaccounted>
+        requires { IsCounted (record { sent = world.sent; entries = entries.items }) }
+    {
+        let Parts {
+            heads,
+            meters,
+            sent,
+            ..
+        } = world.into_parts();
+        Ok(SharedWorld {
+            desks: desks_of(alloc, heads)?,
+            meters: shared(alloc, meters)?,
+            log: SharedLog::new(sent, entries),
+        })
+    }
+
+    /// What the workers left of it, and what they counted and noted.
+    fn into_left(
+        self,
+        alloc: Global,
+        board: u64,
+        receipts: Vec<Receipts>,
+    ) -> Result<Left, Unaccounted> {
+        let SharedWorld { desks, meters, log } = self;
+        let (sent, entries) = log.into_inner(alloc)?;
+        Ok(Left {
+            heads: heads_of(alloc, desks)?,
+            meters: unshared(alloc, meters)?,
+            sent,
+            entries,
+            board,
+            receipts,
+        })
+    }
+}
+
+/// What the board counts when the workers have made the rounds of these links, and the receipts of each.
+fn worked<R: Threads + Wait + Sync, G: Gate + Sync>(
+    rt: &R,
+    alloc: Global,
+    world: &SharedWorld,
+    links: Vec<Waiting>,
+    done: u64,
+    task: &Task<'_, G>,
+) -> Result<(u64, Vec<Receipts>), Unaccounted>
+    requires workers { 1 ≤ task.now.workers }
+    requires done { done < 2 ^ 63 }
+{
+    let hands = dealt(alloc, links, task.workers)?;
     let (board, mut seat) = Board::new(alloc, done)?;
-    let jobs = seated(alloc, &board, &mut seat, dealt(alloc, links, task.workers)?)?;
+    let jobs = seated(alloc, &board, &mut seat, hands)?;
     let outcomes = spawned(
         rt,
         alloc,
-        &desks,
-        &meters,
-        &log,
+        &world.desks,
+        &world.meters,
+        &world.log,
         &board,
         task.fates.as_slice(),
         task.gate,
@@ -192,15 +266,7 @@ fn make<R: Threads + Wait + Sync, G: Gate + Sync>(
     )?;
     let receipts = gathered(alloc, &board, &mut seat, outcomes)?;
     let (count, _receipts) = board.close(seat);
-    let (sent, entries) = log.into_inner(alloc)?;
-    Ok(Left {
-        heads: heads_of(alloc, desks)?,
-        meters: unshared(alloc, meters)?,
-        sent,
-        entries,
-        board: count,
-        receipts,
-    })
+    Ok((count, receipts))
 }
 
 /// Each head end as workers share it.

@@ -74,7 +74,7 @@ impl From<SetupError> for RehearseError {
 }
 
 /// Why what workers did is not accounted for. A setup or a given event is never the reason.
-#[derive(Clone, Copy, Debug, Drop, PartialEq, Eq)]
+#[derive(Drop)]
 pub(crate) enum Unaccounted {
     Mismatch,
     ThreadRefused,

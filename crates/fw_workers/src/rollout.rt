@@ -131,16 +131,45 @@ impl<'a> Floor<'a> {
         requires { worker.old.seat.board ≡ self.now.board.now.id }
         ensures { worker.new.seat.board ≡ worker.old.seat.board }
     {
+        let sent = self.open_round(rt, alloc, worker, line)?;
+        let replies = self.deliver_passed(rt, alloc, worker, line, &sent)?;
+        self.deliver_passed(rt, alloc, worker, line, &replies)?;
+        self.turn(rt, alloc, worker, line.waiting.meter())
+    }
+
+    /// What was late comes, and then the head end ticks: what was sent in return, and what the tick sent.
+    fn open_round<R: Wait, G: Gate>(
+        &self,
+        rt: &R,
+        alloc: Global,
+        worker: &mut Worker<'_, G>,
+        line: &mut Line,
+    ) -> Result<Vec<Sent>, Unaccounted>
+        requires { worker.old.seat.board ≡ self.now.board.now.id }
+        ensures { worker.new.seat.board ≡ worker.old.seat.board }
+    {
         let late = line.waiting.take_late(alloc);
         let mut sent = self.deliver_all(rt, alloc, worker, line, &late)?;
         let asked = self.tick(rt, alloc, worker, line)?;
         line.asked = asked;
         sent.push(asked)?;
-        let coming = self.pass(alloc, line, &sent)?;
-        let replies = self.deliver_all(rt, alloc, worker, line, &coming)?;
-        let coming = self.pass(alloc, line, &replies)?;
-        self.deliver_all(rt, alloc, worker, line, &coming)?;
-        self.turn(rt, alloc, worker, line.waiting.meter())
+        Ok(sent)
+    }
+
+    /// Of the datagrams that were sent, those come now that their fates let come: what was sent in return.
+    fn deliver_passed<R: Wait, G: Gate>(
+        &self,
+        rt: &R,
+        alloc: Global,
+        worker: &mut Worker<'_, G>,
+        line: &mut Line,
+        sent: &[Sent],
+    ) -> Result<Vec<Sent>, Unaccounted>
+        requires { worker.old.seat.board ≡ self.now.board.now.id }
+        ensures { worker.new.seat.board ≡ worker.old.seat.board }
+    {
+        let coming = self.pass(alloc, line, sent)?;
+        self.deliver_all(rt, alloc, worker, line, &coming)
     }
 
     /// Of the datagrams that were sent, those that come now, each as often as it comes.

@@ -1,7 +1,14 @@
 //! Laws of the world, over the definitions alone. A caller cites a law by calling it: nothing is done.
 
 ghost use Rattle.fw_world.specs.Laws.{AfterEachRun, EveryStepIsSafe, StateStepsAsWorld, ActorsStay, SentStaysAddressed, RunGoesOn};
-ghost use Rattle.fw_world.specs.Headline.{IsFirstName, InitiatesAreOffered, NamesAreOwn, GoalsAreOffered, ActivationsAreSafe, ActivationsAreEqual};
+ghost use Rattle.fw_world.specs.Headline.{
+  IsFirstName,
+  InitiatesAreOffered,
+  NamesAreOwn,
+  GoalsAreOffered,
+  ActivationsAreSafe,
+  ActivationsAreEqual,
+};
 
 /// Each step keeps what holds of a world that events led to.
 pub fn every_step_is_safe()

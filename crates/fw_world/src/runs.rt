@@ -1,7 +1,14 @@
 //! A run of a world over a list of events.
 
 ghost use Rattle.std.specs.Prelude.{◌≡◌, IfErr, IfOk, map, take};
-ghost use Rattle.fw_world.specs.Headline.{IsFirstName, InitiatesAreOffered, NamesAreOwn, GoalsAreOffered, ActivationsAreSafe, ActivationsAreEqual};
+ghost use Rattle.fw_world.specs.Headline.{
+  IsFirstName,
+  InitiatesAreOffered,
+  NamesAreOwn,
+  GoalsAreOffered,
+  ActivationsAreSafe,
+  ActivationsAreEqual,
+};
 ghost use Rattle.fw_world.specs.Runs.{EndsIn, IsStopped, IsUnmade, events_of};
 ghost use Rattle.fw_world.specs.Setup.{IsSetup, opening_state};
 ghost use Rattle.fw_world.specs.State.{StateRun, world_of};

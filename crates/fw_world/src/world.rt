@@ -57,7 +57,17 @@ impl World {
     ghost use Rattle.fw_world.specs.Parts.{IsOnce, state_of};
     ghost use Rattle.fw_world.specs.Setup.{IsSetup, opening_state};
     ghost use Rattle.fw_world.specs.State.{IsState, StateStep, head_at, meter_at, world_of};
-    ghost use Rattle.fw_world.specs.Step.{WorldStep, open_campaign, cancel_campaign, tick, deliver, stop, restart_meter, restart_head, turn};
+    ghost use Rattle.fw_world.specs.Step.{
+      WorldStep,
+      open_campaign,
+      cancel_campaign,
+      tick,
+      deliver,
+      stop,
+      restart_meter,
+      restart_head,
+      turn,
+    };
     ghost use Rattle.fw_world.specs.View.{event_of};
     ghost use Rattle.fw_world.specs.Inside.{IsSound, IsSentTo};
     ghost use Rattle.fw_world.specs.declared.datagram.Direction.TheVariants.{ToMeter, ToHead};
