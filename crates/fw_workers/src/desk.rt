@@ -81,7 +81,8 @@ impl Desk {
         HeadCore::put_rows(alloc, book, width, rows)
     }
 
-    /// Sends to a meter what the head end has for it now: a tick, for which the seat has a receipt.
+    /// Sends to a meter what the head end has for it now: a tick, for which the seat has a receipt. The board is the seat's, as for
+    /// `hear`; no tick marks it.
     ///
     /// # Errors
     ///
@@ -91,9 +92,11 @@ impl Desk {
         rt: &R,
         alloc: Global,
         log: &SharedLog,
+        board: &Board,
         seat: &mut Seat,
         meter: MeterId,
     ) -> Result<Sent, StepError>
+        requires board { seat.old.board ≡ board.now.id }
         ensures ticked { IfOk result (λ sent. seat.new ≡ noted seat.old sent.event (tick self.now.book.head meter)) }
         ensures few { IfOk result (λ sent. sent.count ≤ 15) }
         ensures listed { OnOk result (IsTrue (stands_in self.now.book meter)) }

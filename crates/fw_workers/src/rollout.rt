@@ -201,7 +201,8 @@ impl<'a> Floor<'a> {
     {
         let desk = self.desk(line.waiting.head())?;
         worker.enter(self.board)?;
-        let sent = desk.tick(rt, alloc, self.log, &mut worker.seat, line.waiting.meter())?;
+        let meter = line.waiting.meter();
+        let sent = desk.tick(rt, alloc, self.log, self.board, &mut worker.seat, meter)?;
         Ok(sent)
     }
 

@@ -138,7 +138,7 @@ fn link_round<R: Wait>(
     requires { seat.old.board ≡ board.now.id }
     ensures { seat.new.board ≡ board.now.id }
 {
-    let asked = desk.tick(rt, alloc, log, seat, meter.meter())?;
+    let asked = desk.tick(rt, alloc, log, board, seat, meter.meter())?;
     let end = asked.first.saturating_add(asked.count);
     'asks: for number in asked.first..end {
         let replied = meter.serve(rt, alloc, log, seat, number)?;
@@ -314,7 +314,10 @@ impl Call {
         match *self {
             Call::Tick(head, number) => {
                 let desk = shared.desks.get(head).ok_or("a head end")?;
-                sent_text(alloc, desk.tick(rt, alloc, log, seat, meter(number)?))
+                sent_text(
+                    alloc,
+                    desk.tick(rt, alloc, log, board, seat, meter(number)?),
+                )
             }
             Call::Serve(place, number) => {
                 let meter = shared.meters.get(place).ok_or("a meter")?;
