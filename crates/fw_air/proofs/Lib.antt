@@ -6,4 +6,5 @@ pub mod OneWorld
 pub mod Present
 pub mod Refused
 pub mod Runs
+pub mod Searching
 pub mod Ticks

@@ -1,10 +1,10 @@
 -- Private vocabulary: what was added to a log, part by part.
-use Rattle.std.specs.Prelude.{◌≡◌, ℕ, List, [], ◌∷◌, ◌++◌, length, map}
+use Rattle.std.specs.Prelude.{◌≡◌, ◌≤◌, ℕ, ◌-◌, Option, Some, None, List, [], ◌∷◌, ◌++◌, length, map, All}
 use Rattle.fw_world.specs.View.{event_of}
 use Rattle.fw_world.specs.World.{Datagram}
 use Rattle.fw_air.specs.declared.log.Part.{Part}
 use Rattle.fw_air.specs.declared.log.Chain.{Chain, End, Link'}
-use Rattle.fw_air.specs.Logs.{Entry, IsCounted, capped}
+use Rattle.fw_air.specs.Logs.{Entry, IsCounted, IsLast, capped}
 
 -- the oldest first
 abbrev pub parts : Chain → List Part
@@ -26,3 +26,8 @@ pub record IsKept (sent : List Datagram) (entries : List Entry) (events datagram
   pub counted : IsCounted (record { sent = sent; entries = entries })
   pub events_are : events ≡ capped (length entries)
   pub datagrams_are : datagrams ≡ capped (length sent)
+
+-- the greatest number of a datagram of which P holds, where the first has this number
+abbrev pub FindsLastFrom : ℕ → Option ℕ → List Datagram → (Datagram → Type 0) → Type 0
+FindsLastFrom first None all P = All (λ d. ¬ P d) all
+FindsLastFrom first (Some number) all P = (first ≤ number) × IsLast all P (number - first)

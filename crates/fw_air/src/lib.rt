@@ -12,6 +12,9 @@ mod record;
 mod sameness;
 mod scheduling;
 mod shared;
+mod udp;
+mod wanted;
+mod wire;
 
 pub use audits::{AuditError, audit};
 pub use core_event::CoreEvent;
@@ -20,3 +23,5 @@ pub use links::{Waiting, links_of};
 pub use log::{Entry, Log, MAX_ADDED, Room, Sent};
 pub use scheduling::schedule;
 pub use shared::{SharedLog, Stub};
+pub use udp::UdpWire;
+pub use wire::{MAX_PASSED, MAX_RECEIVED, Pass, Wire, WireFault};

@@ -20,11 +20,12 @@ ghost use Rattle.std.specs.Prelude.{
   reverse,
   slice_get,
 };
-ghost use Rattle.fw_air.specs.Logs.{IsCopy, IsCounted, capped};
-ghost use Rattle.fw_air.specs.Parts.{datagrams_of, entries_of, parts};
+ghost use Rattle.fw_air.specs.Logs.{FindsLast, IsCopy, IsCounted, IsSent, capped};
+ghost use Rattle.fw_air.specs.Parts.{FindsLastFrom, datagrams_of, entries_of, parts};
 ghost use Rattle.fw_world.specs.View.{event_of};
 
-use fw_world::{Datagram, Event};
+use crate::wanted::Wanted;
+use fw_world::{Actor, Datagram, Event};
 use std::alloc::{AllocError, Global};
 use std::marker::Model;
 use std::mem;
@@ -228,6 +229,19 @@ impl Log {
         find(alloc, &self.newer.chain, self.datagrams, number)
     }
 
+    /// The greatest number of a datagram with these bytes that this sender sent to this addressee, and `None` where there is none.
+    /// It takes no memory.
+    pub fn find(&self, from: Actor, to: Actor, bytes: &[u8]) -> Option<u64>
+        // No memory has room for more.
+        ensures { length self.now.sent < 2 ^ 64 - 1 → FindsLast result self.now.sent (IsSent from to bytes.now) }
+    {
+        let wanted = Wanted { from, to, bytes };
+        match find_last(&self.newer.chain, self.datagrams, &wanted) {
+            Some(number) => Some(number as u64),
+            None => Some(wanted.last_in(&self.sent)? as u64),
+        }
+    }
+
     /// Both lists, what was sent and what happened.
     ///
     /// # Errors
@@ -287,6 +301,25 @@ fn find(
         chain = older;
     }
     Ok(None)
+}
+
+/// The greatest number of such a datagram among the newer parts, behind the last of which stands the number `end`.
+fn find_last(chain: &Chain, end: usize, wanted: &Wanted<'_>) -> Option<usize>
+    ensures { (base : ℕ) → end ≡ base + length (datagrams_of (parts chain.now))
+        → FindsLastFrom base result (datagrams_of (parts chain.now)) (IsSent wanted.now.from wanted.now.to wanted.now.bytes.now) }
+{
+    let mut end = end;
+    let mut chain = chain;
+    'links: while let Chain::Link(part, older) = chain {
+        let here = part.sent.as_slice();
+        let start = end.saturating_sub(here.len());
+        if let Some(at) = wanted.last_in(here) {
+            return Some(start.saturating_add(at));
+        }
+        end = start;
+        chain = older;
+    }
+    None
 }
 
 /// The parts of a chain, the newest first.

@@ -6,7 +6,7 @@ ghost use Rattle.fw_air.specs.Events.{core_event_of};
 
 use crate::core_event::CoreEvent;
 use crate::log::{Entry, Log, Room, Sent};
-use fw_world::Datagram;
+use fw_world::{Actor, Datagram};
 use std::alloc::{AllocError, Global};
 use std::marker::Model;
 use std::sync::{Mutex, Wait};
@@ -78,6 +78,12 @@ impl SharedLog {
         number: usize,
     ) -> Result<Option<Datagram>, AllocError> {
         self.log.lock(rt).get(alloc, number)
+    }
+
+    /// The greatest number of a datagram with these bytes that this sender sent to this addressee, and `None` where there is none
+    /// yet. It takes no memory.
+    pub fn find<R: Wait>(&self, rt: &R, from: Actor, to: Actor, bytes: &[u8]) -> Option<u64> {
+        self.log.lock(rt).find(from, to, bytes)
     }
 
     /// The memory for one event and 15 datagrams. It takes no lock.

@@ -1,6 +1,5 @@
 -- Public vocabulary: the words of public clauses, for callers and readers.
 pub mod Seat
-pub mod Board
 pub mod Acts
 pub mod Accounts
 pub mod Refusals

@@ -1,6 +1,6 @@
 -- Public vocabulary: what contracts see of boards, seats and receipts.
 use Rattle.std.specs.Prelude.{ℕ, List, [], ◌∷◌, ◌++◌}
-use Rattle.atomic_table.specs.Seated.{TableId}
+use Rattle.fw_tally.specs.Tally.{TallyId}
 use Rattle.fw_world.specs.Step.{Event}
 
 -- an event, under its number in the record
@@ -10,13 +10,13 @@ pub record Receipt : Type 0 where
 
 -- a board: which one it is, and the count that it began with
 pub record Board : Type 0 where
-  pub id : TableId
+  pub id : TallyId
   pub start : ℕ
 
 -- A seat: of which board it is, how many marks it made, a count that the board has reached, how many marks are left to it, and the
 -- receipts.
 pub record Seat : Type 0 where
-  pub board : TableId
+  pub board : TallyId
   pub own : ℕ
   pub seen : ℕ
   pub allowance : ℕ

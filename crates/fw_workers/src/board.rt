@@ -4,28 +4,24 @@ ghost use Rattle.std.specs.Prelude.{◌≡◌, ◌+◌, ◌-◌, ◌^◌, ◌<�
 
 use crate::error::OutOfMemory;
 use crate::receipt::Receipt;
-use crate::rule::{Counted, Fits, Joins, Looks, Marks, Parts, Portion, View};
 use crate::seat::Seat;
-use atomic_table::Table;
+use fw_tally::Tally;
 use std::alloc::Global;
-use std::marker::{Brand, Model};
+use std::marker::Model;
 
 /// A count that workers mark and see, each from a seat of its own and none behind a lock. Between any two steps it is the sum of
 /// the marks of all seats, and no seat has seen more.
 #[derive(Drop)]
 pub struct Board {
-    table: Table<(), View, u64, Counted, Global>,
+    tally: Tally,
 }
 
 impl Model for Board {
-    ghost use Rattle.std.specs.Prelude.{◌≡◌};
     ghost use Rattle.fw_workers.specs.Seat as seat;
 
     ghost Value = { seat.Board };
 
-    ghost view = { λ b. record { id = b.table.shared.table_id; start = b.table.shared.key } };
-
-    ghost invariant = { λ b. (b.table.shared.table_id.words ≡ 1) × (b.table.shared.table_id.slots ≡ 0) };
+    ghost view = { λ b. record { id = b.tally.id; start = b.tally.start } };
 }
 
 impl Board {
@@ -40,13 +36,12 @@ impl Board {
         ensures seat { IfOk result (λ made. made.1
             ≡ record { board = made.0.id; own = marks; seen = marks; allowance = 2 ^ 63; receipts = [] }) }
     {
-        let (table, place) = Table::of_words(alloc, &[marks], &marks)?;
+        let (tally, share) = Tally::new(alloc, marks)?;
         let seat = Seat {
-            place,
-            left: 1 << 63,
+            share,
             receipts: Vec::new(alloc),
         };
-        Ok((Board { table }, seat))
+        Ok((Board { tally }, seat))
     }
 
     /// A second seat, with so many of the marks that are left to this one, which it asks for. It has seen what this one has, and
@@ -62,25 +57,11 @@ impl Board {
             ≡ record { board = self.now.id; own = 0; seen = seat.old.seen; allowance = marks; receipts = [] }) }
         ensures first { seat.new ≡ record seat.old { allowance = seat.old.allowance - marks } }
     {
-        Ok(self.part::<Brand>(alloc, seat, marks))
-    }
-
-    /// A second seat, with a portion of the marks that are left to this one.
-    fn part<M: Portion>(&self, alloc: Global, seat: &mut Seat, marks: u64) -> Seat
-        requires portion { marks ≡ M.portion }
-        requires board { seat.old.board ≡ self.now.id }
-        requires left { marks ≤ seat.old.allowance }
-        ensures second { result
-            ≡ record { board = self.now.id; own = 0; seen = seat.old.seen; allowance = marks; receipts = [] } }
-        ensures first { seat.new ≡ record seat.old { allowance = seat.old.allowance - marks } }
-    {
-        let place = self.table.shared.split_seat::<Parts<M>>(&mut seat.place);
-        seat.left -= marks;
-        Seat {
-            place,
-            left: marks,
+        let share = self.tally.split(&mut seat.share, marks);
+        Ok(Seat {
+            share,
             receipts: Vec::new(alloc),
-        }
+        })
     }
 
     /// Marks the board, once. It asks that a mark is left to the seat.
@@ -91,8 +72,7 @@ impl Board {
             ≡ record seat.old { own = seat.old.own + 1; seen = seat.new.seen; allowance = seat.old.allowance - 1 } }
         ensures seen { (seat.old.seen < seat.new.seen) × (seat.new.own ≤ seat.new.seen) }
     {
-        self.table.shared.fetch_add::<Marks>(&mut seat.place, 0, 1);
-        seat.left -= 1;
+        self.tally.add(&mut seat.share);
     }
 
     /// The count, as it is seen from this seat: never less than the seat saw before, and never less than its own marks.
@@ -103,7 +83,7 @@ impl Board {
         ensures own { seat.old.own ≤ result }
         ensures fits { result + seat.old.allowance ≤ 2 ^ 64 - 1 }
     {
-        self.table.shared.load::<Looks>(&mut seat.place, 0)
+        self.tally.seen(&mut seat.share)
     }
 
     /// Joins another seat into this one, and answers its receipts. Its marks and what is left to it are this one's, and so is
@@ -118,14 +98,8 @@ impl Board {
         } }
         ensures receipts { result.items ≡ other.receipts }
     {
-        let Seat {
-            place,
-            left,
-            receipts,
-        } = other;
-        self.table.shared.join_seat::<Joins>(&mut seat.place, place);
-        self.table.shared.load::<Fits>(&mut seat.place, 0);
-        seat.left += left;
+        let Seat { share, receipts } = other;
+        self.tally.join(&mut seat.share, share);
         receipts
     }
 
@@ -139,15 +113,8 @@ impl Board {
         ensures all { seat.own + seat.allowance ≡ self.start + 2 ^ 63 → result.0 ≡ seat.own }
         ensures receipts { result.1.items ≡ seat.receipts }
     {
-        let Board { table } = self;
-        let Seat {
-            place,
-            receipts,
-            ..
-        } = seat;
-        let closed = table.close_with(place);
-        let count = closed.word(0);
-        closed.free();
-        (count, receipts)
+        let Board { tally } = self;
+        let Seat { share, receipts } = seat;
+        (tally.close(share), receipts)
     }
 }

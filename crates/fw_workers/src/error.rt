@@ -19,3 +19,9 @@ impl<T: Drop> From<AllocFailed<T>> for OutOfMemory {
         OutOfMemory
     }
 }
+
+impl From<fw_tally::OutOfMemory> for OutOfMemory {
+    fn from(_error: fw_tally::OutOfMemory) -> OutOfMemory {
+        OutOfMemory
+    }
+}

@@ -14,7 +14,6 @@ mod receipts;
 mod rehearsal;
 mod report;
 mod rollout;
-mod rule;
 mod seat;
 
 pub use board::Board;

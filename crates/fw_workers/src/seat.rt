@@ -3,33 +3,28 @@
 ghost use Rattle.std.specs.Prelude.{◌≡◌};
 
 use crate::receipt::Receipt;
-use crate::rule::View;
+use fw_tally::Share;
 use std::marker::Model;
 
-/// A worker's place at a board, with the marks that are left to it, and its receipts. It has no lock, and one worker has it at a
-/// time.
+/// A worker's place at a board: its share of the count, and its receipts. It has no lock, and one worker has it at a time.
 #[derive(Drop)]
 pub struct Seat {
-    pub(crate) place: atomic_table::Seat<(), View>,
-    pub(crate) left: u64,
+    pub(crate) share: Share,
     pub(crate) receipts: Vec<Receipt>,
 }
 
 impl Model for Seat {
-    ghost use Rattle.std.specs.Prelude.{◌≡◌, []};
     ghost use Rattle.fw_workers.specs.Seat as seat;
 
     ghost Value = { seat.Seat };
 
     ghost view = { λ s. record {
-      board = s.place.table_id;
-      own = s.place.me.0.own;
-      seen = s.place.me.0.seen;
-      allowance = s.left;
+      board = s.share.tally;
+      own = s.share.own;
+      seen = s.share.seen;
+      allowance = s.share.allowance;
       receipts = s.receipts.items;
     } };
-
-    ghost invariant = { λ s. (s.left ≡ s.place.me.0.allowance) × (s.place.me.1 ≡ []) };
 }
 
 impl Seat {
@@ -37,6 +32,6 @@ impl Seat {
     pub fn allowance(&self) -> u64
         ensures { result ≡ self.now.allowance }
     {
-        self.left
+        self.share.allowance()
     }
 }

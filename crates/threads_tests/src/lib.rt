@@ -24,3 +24,5 @@ mod script;
 mod sharing;
 #[cfg(test)]
 mod support;
+#[cfg(test)]
+mod wires;

@@ -2,7 +2,7 @@
 
 use fw_air::{CoreEvent, Entry, Sent, SharedLog};
 use fw_names::{HeadId, MeterId};
-use fw_world::{Datagram, Direction, Event};
+use fw_world::{Actor, Datagram, Direction, Event};
 use std::alloc::{AllocError, Global};
 use std::sync::Wait;
 use std::test::Fail;
@@ -116,6 +116,38 @@ fn add_all<R: Wait>(
         next = event.saturating_add(1);
     }
     Ok(rose)
+}
+
+/// The byte of a datagram, and the greatest number of such a one.
+const FOUND: &[(u8, Option<u64>)] = &[(10, Some(4)), (11, Some(1)), (12, Some(3)), (13, None)];
+
+#[test]
+fn finds_the_last(rt: HostRuntime) -> Result<(), Fail> {
+    let alloc = rt.alloc();
+    let link = Link::new()?;
+    let mut sent = Vec::new(alloc);
+    sent.push(link.datagram(alloc, 10)?)?;
+    sent.push(link.datagram(alloc, 11)?)?;
+    let mut entries = Vec::new(alloc);
+    entries.push(Entry {
+        event: link.tick(),
+        count: 2,
+    })?;
+    assert_eq!(rt; (sent.len(), entries.len()), (2, 1));
+    let log = SharedLog::new(sent, entries);
+    for byte in [12, 12, 10] {
+        let mut room = log.reserve(alloc)?;
+        room.push(link.datagram(alloc, byte)?);
+        let (_sent, stub) = log.append(&rt, room, CoreEvent::Tick(link.head, link.meter));
+        let _ = stub.spend();
+    }
+    let (head, meter) = (Actor::Head(link.head), Actor::Meter(link.meter));
+    for (byte, number) in FOUND {
+        assert_eq!(rt; log.find(&rt, head, meter, &[*byte]), *number);
+        assert_eq!(rt; log.find(&rt, meter, head, &[*byte]), None);
+    }
+    assert_eq!(rt; log.find(&rt, head, meter, &[]), None);
+    Ok(())
 }
 
 #[test]
