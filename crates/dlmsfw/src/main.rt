@@ -9,9 +9,12 @@ ghost use Rattle.dlmsfw.specs.Status.{EndsParse, EndsWith};
 mod options;
 
 use clap::error::ErrorKind;
-use fw_cli::{Ended, Fault, run_answer, run_answer_stored, run_name, run_rehearse, run_replay};
+use fw_cli::{
+    Ended, Fault, run_answer, run_answer_stored, run_live, run_name, run_rehearse, run_replay,
+};
 use options::Invocation;
 use std::fs::File;
+use std::net::Net;
 use std::process::ExitCode;
 use std::rt::{Env, Files};
 use std::sync::Wait;
@@ -48,7 +51,7 @@ fn main(rt: HostRuntime) -> ExitCode {
 }
 
 /// Runs the command that the command line asks for.
-fn run<R: AllocGlobal + Env + Files<File = File> + Input + Print + Threads + Wait + Sync>(
+fn run<R: AllocGlobal + Env + Files<File = File> + Input + Print + Threads + Wait + Net + Sync>(
     rt: &R,
 ) -> Result<(), Ending> {
     let words = words(rt)?;
@@ -68,6 +71,7 @@ fn run<R: AllocGlobal + Env + Files<File = File> + Input + Print + Threads + Wai
             Err(fault) => Err(fault),
         },
         Invocation::Rehearse(options) => run_rehearse(rt, alloc, reader, writer, &options),
+        Invocation::Live(options) => run_live(rt, alloc, reader, writer, &options),
     };
     done.map_err(Ending::Fault)
 }

@@ -1,13 +1,16 @@
 //! The command line of `dlmsfw`, and its help.
 
 mod answer;
+mod live;
 mod name;
 mod rehearse;
 mod replay;
 
 use clap::error::ErrorKind;
 use clap::{Arg, ArgMatches, Command, Error};
-use fw_cli::{AnswerOptions, NameOptions, RehearseOptions, ReplayOptions, StoredOptions};
+use fw_cli::{
+    AnswerOptions, LiveOptions, NameOptions, RehearseOptions, ReplayOptions, StoredOptions,
+};
 use std::alloc::{AllocError, Global};
 
 /// A command with its options.
@@ -17,6 +20,7 @@ pub(crate) enum Invocation<'a> {
     Name(NameOptions),
     Replay(ReplayOptions<'a>),
     Rehearse(RehearseOptions<'a>),
+    Live(LiveOptions),
 }
 
 /// What ends a short help.
@@ -46,6 +50,7 @@ fn found<'a>(matches: &ArgMatches<'a>) -> Option<Invocation<'a>> {
         ("name", given) => name::invoked(given),
         ("replay", given) => Some(Invocation::Replay(replay::options(given)?)),
         ("rehearse", given) => Some(Invocation::Rehearse(rehearse::options(given)?)),
+        ("live", given) => Some(Invocation::Live(live::options(given)?)),
         _ => None,
     }
 }
@@ -63,7 +68,8 @@ fn dlmsfw<'a>(alloc: Global) -> Result<Command<'a>, AllocError> {
         .subcommand(answer::command(alloc)?)?
         .subcommand(name::command(alloc)?)?
         .subcommand(replay::command(alloc)?)?
-        .subcommand(rehearse::command(alloc)?)
+        .subcommand(rehearse::command(alloc)?)?
+        .subcommand(live::command(alloc)?)
 }
 
 /// An option with a value.

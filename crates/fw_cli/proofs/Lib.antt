@@ -7,6 +7,7 @@ pub mod NewStores
 pub mod OneAnswer
 pub mod OneScript
 pub mod OneTrace
+pub mod Rehearsed
 pub mod Traces
 pub mod Turns
 pub mod SaidKinds

@@ -6,7 +6,7 @@ use Rattle.fw_image.specs.declared.error.OpenError.TheVariants as opening
 use Rattle.fw_workers.specs.declared.report.RehearseError.{RehearseError}
 use Rattle.fw_workers.specs.declared.report.RehearseError.TheVariants as workers
 use Rattle.fw_cli.specs.declared.fault.Fault.{Fault}
-use Rattle.fw_cli.specs.declared.fault.Fault.TheVariants.{BadFates, BadSetup, StoreFault, Device, BadFile, BadHeader, BadImage, Input, TooMuchInput, BadLine, EmptyImage, ImageTooLong, Event, Mismatch, ThreadRefused, GateShut, Output, OutOfMemory}
+use Rattle.fw_cli.specs.declared.fault.Fault.TheVariants.{BadFates, BadSetup, StoreFault, Device, BadFile, BadHeader, BadImage, Input, TooMuchInput, BadLine, EmptyImage, ImageTooLong, Event, Mismatch, ThreadRefused, Socket, GateShut, Output, OutOfMemory}
 
 -- the faults that come before anything is read
 abbrev pub ComesBeforeInput : Fault → Type 0
@@ -83,6 +83,7 @@ fault_of_rehearsal workers.Mismatch = Mismatch
 fault_of_rehearsal workers.ThreadRefused = ThreadRefused
 fault_of_rehearsal (workers.Event at) = Event
 fault_of_rehearsal workers.OutOfMemory = OutOfMemory
+fault_of_rehearsal workers.Socket = Socket
 fault_of_rehearsal workers.GateShut = GateShut
 fault_of_rehearsal workers.BadSetup = BadSetup
 
@@ -103,3 +104,14 @@ IsOfRehearse Mismatch = Unit {0}
 IsOfRehearse ThreadRefused = Unit {0}
 IsOfRehearse GateShut = Unit {0}
 IsOfRehearse fault = IsOfReplay fault
+
+-- the faults that tell why a live rollout has no report
+abbrev pub IsOfLiveWorkers : Fault → Type 0
+IsOfLiveWorkers Socket = Unit {0}
+IsOfLiveWorkers fault = IsOfWorkers fault
+
+-- the faults of `live`
+abbrev pub IsOfLive : Fault → Type 0
+IsOfLive BadFates = ⊥
+IsOfLive Socket = Unit {0}
+IsOfLive fault = IsOfRehearse fault

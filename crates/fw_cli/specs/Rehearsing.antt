@@ -1,4 +1,4 @@
--- Public vocabulary: what the command `rehearse` tells of a script, and what it does to its reader and its writer, where the bytes that
+-- Public vocabulary: what the commands `rehearse` and `live` tell of a script, and what they do to its reader and its writer, where the bytes that
 -- these hold are known.
 use Rattle.std.specs.Prelude.{◌≡◌, ◌≤◌, ◌⊎◌, ℕ, List, ◌++◌, Option}
 use Rattle.std.specs.Io.KnownBytes.{Appends, Keeps}
@@ -40,6 +40,12 @@ pub record RehearsesScript (rounds workers : ℕ) (input text : List ℕ) : Type
 abbrev pub IsBarredIn : List ℕ → Type 0
 IsBarredIn input =
     (setup : Setup) × (events : List Given) × (number : ℕ) × SpellsScript input (script_of setup events) × IsBarred setup events number
+
+-- All input was read, and it is this script.
+pub record ReadsScript (before after : Option (List ℕ)) (setup : Setup) (events : List Given) : Type 0 where
+  pub input : List ℕ
+  pub read : ReadsAll before after input
+  pub spelled : SpellsScript input (script_of setup events)
 
 -- All input was read, and what is told of it was written.
 pub record WritesRehearsal (rounds workers : ℕ) (before after first last : Option (List ℕ)) : Type 0 where

@@ -5,7 +5,7 @@ ghost use Rattle.std.specs.Io.KnownBytes.{Keeps};
 ghost use Rattle.hex.specs.Hex.{decode_of};
 ghost use Rattle.fw_store.specs.Setup.{IsSetup};
 ghost use Rattle.fw_cli.specs.Options.{Describes, DescribesOne, DescribesNone};
-ghost use Rattle.fw_cli.specs.Reading.{Gives, ReadsAll, max_input};
+ghost use Rattle.fw_cli.specs.Reading.{ReadsUntil};
 ghost use Rattle.fw_cli.specs.Faults.{ComesBeforeOutput, IsOfAnswer};
 ghost use Rattle.fw_cli.specs.Answering.{Answers};
 
@@ -70,14 +70,7 @@ pub fn run_answer<R: Read, W: Write>(
     ensures memory { result ≡ Err Fault.OutOfMemory → DescribesOne options.now }
 
     // How far the reading was.
-    ensures input { result ≡ Err Fault.Input
-        → Gives (R.remaining reader.old) (R.remaining reader.new) (λ count. count ≤ max_input) }
-    ensures too_much_input { result ≡ Err Fault.TooMuchInput
-        → Gives (R.remaining reader.old) (R.remaining reader.new) (λ count. max_input < count) }
-    ensures output { result ≡ Err Fault.Output
-        → (input : List ℕ) × ReadsAll (R.remaining reader.old) (R.remaining reader.new) input }
-    ensures out_of_memory { result ≡ Err Fault.OutOfMemory
-        → Gives (R.remaining reader.old) (R.remaining reader.new) (λ count. count ≤ max_input) }
+    ensures reading { IfErr result (λ f. ReadsUntil f (R.remaining reader.old) (R.remaining reader.new)) }
 
     ensures silent { IfErr result (λ f. ComesBeforeOutput f → Keeps (W.contents writer.old) (W.contents writer.new)) }
     ensures only { IfErr result IsOfAnswer }

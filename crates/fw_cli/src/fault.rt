@@ -58,7 +58,10 @@ pub enum Fault {
     /// A thread for a worker of a rehearsal could not be started.
     #[error("ThreadRefused")]
     ThreadRefused,
-    /// A worker of a rehearsal was not let pass.
+    /// No socket could be bound for the wires of a live rollout.
+    #[error("Socket")]
+    Socket,
+    /// A worker was not let pass.
     #[error("GateShut")]
     GateShut,
     /// The writer failed.
@@ -127,6 +130,7 @@ impl From<RehearseError> for Fault {
             RehearseError::ThreadRefused => Fault::ThreadRefused,
             RehearseError::Event(_) => Fault::Event,
             RehearseError::OutOfMemory => Fault::OutOfMemory,
+            RehearseError::Socket => Fault::Socket,
             RehearseError::GateShut => Fault::GateShut,
             RehearseError::BadSetup => Fault::BadSetup,
         }

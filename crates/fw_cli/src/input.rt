@@ -1,7 +1,7 @@
 //! Reading all that a reader has, within limits.
 
 ghost use Rattle.std.specs.Prelude.{◌≡◌, ◌<◌, ◌≤◌, ◌⊎◌, IsTrue, IfOk, IfErr, false};
-ghost use Rattle.fw_cli.specs.Reading.{Gives, ReadsAll, max_input, max_reads};
+ghost use Rattle.fw_cli.specs.Reading.{Gives, ReadsAll, ReadsUntil, max_input, max_reads};
 
 use crate::fault::Fault;
 use crate::reads::Reads;
@@ -27,11 +27,8 @@ pub(crate) fn read_input<R: Read>(
     ensures all { IfOk result (λ input. ReadsAll (R.remaining reader.old) (R.remaining reader.new) input.items) }
 
     // The fault that the reading meets first.
-    ensures input { result ≡ Err Fault.Input
-        → Gives (R.remaining reader.old) (R.remaining reader.new) (λ count. count ≤ max_input) }
+    ensures reading { IfErr result (λ f. ReadsUntil f (R.remaining reader.old) (R.remaining reader.new)) }
     ensures input_only { result ≡ Err Fault.Input → IsTrue reads.new.failed ⊎ (max_reads ≤ reads.new.made) }
-    ensures too_much { result ≡ Err Fault.TooMuchInput
-        → Gives (R.remaining reader.old) (R.remaining reader.new) (λ count. max_input < count) }
     ensures memory { result ≡ Err Fault.OutOfMemory
         → Gives (R.remaining reader.old) (R.remaining reader.new) (λ count. (1 ≤ count) × (count ≤ max_input)) }
     ensures memory_only { result ≡ Err Fault.OutOfMemory → reads.new.failed ≡ false }

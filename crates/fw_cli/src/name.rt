@@ -7,7 +7,7 @@ ghost use Rattle.fw_names.specs.Name.{SpellsName};
 ghost use Rattle.fw_book.specs.Contents.{max_image};
 ghost use Rattle.fw_cli.specs.Faults.{ComesBeforeOutput, IsOfName};
 ghost use Rattle.fw_cli.specs.Naming.{ReadsImage, WritesName};
-ghost use Rattle.fw_cli.specs.Reading.{Gives, ReadsAll, max_input};
+ghost use Rattle.fw_cli.specs.Reading.{Gives, ReadsAll, ReadsUntil, max_input};
 
 use crate::fault::Fault;
 use crate::input::read_input;
@@ -56,11 +56,8 @@ pub fn run_name<R: Read, W: Write>(
         → (image : List ℕ) × ReadsImage (R.remaining reader.old) (R.remaining reader.new) image }
 
     // How far the reading was.
-    ensures input { result ≡ Err Fault.Input
-        → Gives (R.remaining reader.old) (R.remaining reader.new) (λ count. count ≤ max_input) }
-    ensures too_much_input { result ≡ Err Fault.TooMuchInput
-        → Gives (R.remaining reader.old) (R.remaining reader.new) (λ count. max_input < count) }
-    ensures out_of_memory { result ≡ Err Fault.OutOfMemory
+    ensures reading { IfErr result (λ f. ReadsUntil f (R.remaining reader.old) (R.remaining reader.new)) }
+    ensures memory { result ≡ Err Fault.OutOfMemory
         → Gives (R.remaining reader.old) (R.remaining reader.new) (λ count. (1 ≤ count) × (count ≤ max_input)) }
 
     ensures silent { IfErr result (λ f. ComesBeforeOutput f → Keeps (W.contents writer.old) (W.contents writer.new)) }
@@ -78,11 +75,8 @@ fn read_image<R: Read>(alloc: Global, reader: &mut R) -> Result<Vec<u8>, Fault>
     ensures empty_image { result ≡ Err Fault.EmptyImage → ReadsAll (R.remaining reader.old) (R.remaining reader.new) [] }
     ensures image_too_long { result ≡ Err Fault.ImageTooLong → (input : List ℕ)
         × ReadsAll (R.remaining reader.old) (R.remaining reader.new) input × (max_image < length input) }
-    ensures input { result ≡ Err Fault.Input
-        → Gives (R.remaining reader.old) (R.remaining reader.new) (λ count. count ≤ max_input) }
-    ensures too_much_input { result ≡ Err Fault.TooMuchInput
-        → Gives (R.remaining reader.old) (R.remaining reader.new) (λ count. max_input < count) }
-    ensures out_of_memory { result ≡ Err Fault.OutOfMemory
+    ensures reading { IfErr result (λ f. ReadsUntil f (R.remaining reader.old) (R.remaining reader.new)) }
+    ensures memory { result ≡ Err Fault.OutOfMemory
         → Gives (R.remaining reader.old) (R.remaining reader.new) (λ count. (1 ≤ count) × (count ≤ max_input)) }
     ensures before_output { IfErr result ComesBeforeOutput }
     ensures only { IfErr result IsOfName }

@@ -7,7 +7,7 @@ ghost use Rattle.fw_air.specs.Fates.{IsFates};
 ghost use Rattle.fw_workers.specs.Refusals.{IsBarred};
 ghost use Rattle.fw_cli.specs.Fates.{SpellsSome};
 ghost use Rattle.fw_cli.specs.Faults.{IsOfRehearse, IsOfWorkers};
-ghost use Rattle.fw_cli.specs.Reading.{Gives, ReadsAll, max_input};
+ghost use Rattle.fw_cli.specs.Reading.{ReadsUntil, max_input};
 ghost use Rattle.fw_cli.specs.Report.{report_of, board_line};
 ghost use Rattle.fw_cli.specs.Script.{IsBadLine};
 ghost use Rattle.fw_cli.specs.Replaying.{MakesNone, MayTakeMemory, MayWantFor, ReadsOne};
@@ -22,16 +22,14 @@ ghost use Rattle.fw_cli.specs.Rehearsing.{
 };
 
 use crate::fault::Fault;
-use crate::input::read_input;
 use crate::output::write_text;
-use crate::reads::Reads;
 use crate::replay::{Air, Rounds, air_of};
-use crate::report::{append_board, append_report};
-use crate::script::{Script, read_script};
+use crate::script::Script;
+use crate::workers::{OpenGate, script_from, tell_report};
 use fw_air::Fates;
-use fw_workers::{Gate, Report, rehearse};
+use fw_workers::rehearse;
 use fw_world::{Event, Setup};
-use std::alloc::{AllocError, Global};
+use std::alloc::Global;
 use std::io::{Read, Write};
 use std::sync::Wait;
 use std::thread::Threads;
@@ -43,15 +41,6 @@ pub struct RehearseOptions<'a> {
     pub rounds: Rounds<'a>,
     /// How many workers there are, 1 to 8, each in a thread of its own.
     pub workers: u32,
-}
-
-/// A gate that lets every worker pass.
-struct OpenGate;
-
-impl Gate for OpenGate {
-    fn pass(&self, _worker: u32, _step: u64, _done: u64) -> bool {
-        true
-    }
 }
 
 /// Runs the script that the reader has, and lets workers make rounds behind its events. The writer gets the report of the world at the
@@ -101,14 +90,7 @@ pub fn run_rehearse<T: Threads + Wait + Sync, R: Read, W: Write>(
     ensures memory { result ≡ Err Fault.OutOfMemory → MayWantToRehearse options.now (R.remaining reader.old) (R.remaining reader.new) }
 
     // How far the reading was.
-    ensures input { result ≡ Err Fault.Input
-        → Gives (R.remaining reader.old) (R.remaining reader.new) (λ count. count ≤ max_input) }
-    ensures too_much_input { result ≡ Err Fault.TooMuchInput
-        → Gives (R.remaining reader.old) (R.remaining reader.new) (λ count. max_input < count) }
-    ensures output { result ≡ Err Fault.Output
-        → (input : List ℕ) × ReadsAll (R.remaining reader.old) (R.remaining reader.new) input }
-    ensures out_of_memory { result ≡ Err Fault.OutOfMemory
-        → Gives (R.remaining reader.old) (R.remaining reader.new) (λ count. count ≤ max_input) }
+    ensures reading { IfErr result (λ f. ReadsUntil f (R.remaining reader.old) (R.remaining reader.new)) }
 
     ensures only { IfErr result IsOfRehearse }
     ensures silent { IfErr result (λ f. f ≢ Fault.Output → Keeps (W.contents writer.old) (W.contents writer.new)) }
@@ -137,43 +119,13 @@ fn rehearse_from<T: Threads + Wait + Sync, R: Read, W: Write>(
         → ReadsOne (R.remaining reader.old) (R.remaining reader.new) (λ input. AreWorkers workers → MakesNone input) }
     ensures event { result ≡ Err Fault.Event → ReadsOne (R.remaining reader.old) (R.remaining reader.new) IsBarredIn }
     ensures memory { result ≡ Err Fault.OutOfMemory → MayWantFor (R.remaining reader.old) (R.remaining reader.new) }
-    ensures input { result ≡ Err Fault.Input
-        → Gives (R.remaining reader.old) (R.remaining reader.new) (λ count. count ≤ max_input) }
-    ensures too_much_input { result ≡ Err Fault.TooMuchInput
-        → Gives (R.remaining reader.old) (R.remaining reader.new) (λ count. max_input < count) }
-    ensures output { result ≡ Err Fault.Output
-        → (input : List ℕ) × ReadsAll (R.remaining reader.old) (R.remaining reader.new) input }
-    ensures out_of_memory { result ≡ Err Fault.OutOfMemory
-        → Gives (R.remaining reader.old) (R.remaining reader.new) (λ count. count ≤ max_input) }
+    ensures reading { IfErr result (λ f. ReadsUntil f (R.remaining reader.old) (R.remaining reader.new)) }
     ensures only { IfErr result IsOfRehearse }
     ensures silent { IfErr result (λ f. f ≢ Fault.Output → Keeps (W.contents writer.old) (W.contents writer.new)) }
 {
-    let mut reads = Reads::none();
-    let input = read_input(alloc, reader, &mut reads)?;
-    let text = rehearse_script(rt, alloc, &input, air, workers)?;
+    let Script { setup, events } = script_from(alloc, reader)?;
+    let text = tell_rehearsal(rt, alloc, &setup, &events, air, workers)?;
     write_text(writer, text.as_str())
-}
-
-/// What is told of a script.
-fn rehearse_script<T: Threads + Wait + Sync>(
-    rt: &T,
-    alloc: Global,
-    input: &[u8],
-    air: &Air,
-    workers: u32,
-) -> Result<String, Fault>
-    requires size { length input.now ≤ max_input }
-    requires fates { IsFates air.now.fates.items }
-    ensures ok { IfOk result (λ text. RehearsesScript air.now.rounds workers input.now (string_bytes text)) }
-    ensures bad_line { (number : ℕ) → result ≡ Err (Fault.BadLine number) → IsBadLine input.now number }
-    ensures workers { OnOk result (AreWorkers workers) }
-    ensures bad_setup { result ≡ Err Fault.BadSetup → AreWorkers workers → MakesNone input.now }
-    ensures event { result ≡ Err Fault.Event → IsBarredIn input.now }
-    ensures memory { result ≡ Err Fault.OutOfMemory → MayTakeMemory input.now }
-    ensures only { IfErr result (λ f. IsOfWorkers f ⊎ ((number : ℕ) × (f ≡ Fault.BadLine number))) }
-{
-    let Script { setup, events } = read_script(alloc, input)?;
-    tell_rehearsal(rt, alloc, &setup, &events, air, workers)
 }
 
 /// What is told of a rehearsal: the report of its world, and the line of its board.
@@ -200,14 +152,4 @@ fn tell_rehearsal<T: Threads + Wait + Sync>(
         rt, alloc, setup, events, air.rounds, workers, &fates, &OpenGate,
     )?;
     Ok(tell_report(alloc, setup, &report)?)
-}
-
-/// The report of the world of a rehearsal, and behind it the line of the board.
-fn tell_report(alloc: Global, setup: &Setup, report: &Report) -> Result<String, AllocError>
-    ensures { IfOk result (λ text. string_bytes text ≡ report_of setup.now report.now.world ++ board_line report.now.board) }
-{
-    let mut text = String::new(alloc);
-    append_report(&mut text, setup, &report.world)?;
-    append_board(&mut text, report.board)?;
-    Ok(text)
 }

@@ -25,7 +25,7 @@ ghost use Rattle.fw_world.specs.Setup.{IsSetup};
 ghost use Rattle.fw_air.specs.Fates.{IsFates};
 ghost use Rattle.fw_cli.specs.Fates.{SpellsSome};
 ghost use Rattle.fw_cli.specs.Faults.{IsOfReplay};
-ghost use Rattle.fw_cli.specs.Reading.{Gives, ReadsAll, max_input};
+ghost use Rattle.fw_cli.specs.Reading.{ReadsUntil, max_input};
 ghost use Rattle.fw_cli.specs.Inside.{rounds_in};
 ghost use Rattle.fw_cli.specs.Script.{IsBadLine};
 ghost use Rattle.fw_cli.specs.Replaying.{
@@ -143,14 +143,7 @@ pub fn run_replay<R: Read, W: Write>(
     ensures memory { result ≡ Err Fault.OutOfMemory → MayWantMemory options.now (R.remaining reader.old) (R.remaining reader.new) }
 
     // How far the reading was.
-    ensures input { result ≡ Err Fault.Input
-        → Gives (R.remaining reader.old) (R.remaining reader.new) (λ count. count ≤ max_input) }
-    ensures too_much_input { result ≡ Err Fault.TooMuchInput
-        → Gives (R.remaining reader.old) (R.remaining reader.new) (λ count. max_input < count) }
-    ensures output { result ≡ Err Fault.Output
-        → (input : List ℕ) × ReadsAll (R.remaining reader.old) (R.remaining reader.new) input }
-    ensures out_of_memory { result ≡ Err Fault.OutOfMemory
-        → Gives (R.remaining reader.old) (R.remaining reader.new) (λ count. count ≤ max_input) }
+    ensures reading { IfErr result (λ f. ReadsUntil f (R.remaining reader.old) (R.remaining reader.new)) }
 
     ensures only { IfErr result IsOfReplay }
     ensures silent { IfErr result (λ f. f ≢ Fault.Output → Keeps (W.contents writer.old) (W.contents writer.new)) }
@@ -193,14 +186,7 @@ fn replay_from<R: Read, W: Write>(
         → ReadsOne (R.remaining reader.old) (R.remaining reader.new) (λ input. IsBadLine input number) }
     ensures bad_setup { result ≡ Err Fault.BadSetup → ReadsOne (R.remaining reader.old) (R.remaining reader.new) MakesNone }
     ensures memory { result ≡ Err Fault.OutOfMemory → MayWantFor (R.remaining reader.old) (R.remaining reader.new) }
-    ensures input { result ≡ Err Fault.Input
-        → Gives (R.remaining reader.old) (R.remaining reader.new) (λ count. count ≤ max_input) }
-    ensures too_much_input { result ≡ Err Fault.TooMuchInput
-        → Gives (R.remaining reader.old) (R.remaining reader.new) (λ count. max_input < count) }
-    ensures output { result ≡ Err Fault.Output
-        → (input : List ℕ) × ReadsAll (R.remaining reader.old) (R.remaining reader.new) input }
-    ensures out_of_memory { result ≡ Err Fault.OutOfMemory
-        → Gives (R.remaining reader.old) (R.remaining reader.new) (λ count. count ≤ max_input) }
+    ensures reading { IfErr result (λ f. ReadsUntil f (R.remaining reader.old) (R.remaining reader.new)) }
     ensures only { IfErr result IsOfReplay }
     ensures silent { IfErr result (λ f. f ≢ Fault.Output → Keeps (W.contents writer.old) (W.contents writer.new)) }
 {

@@ -4,7 +4,7 @@ ghost use Rattle.std.specs.Prelude.{◌≡◌, ◌<◌, ◌≤◌, ◌++◌, ℕ
 ghost use Rattle.std.specs.Io.KnownBytes.{Keeps};
 ghost use Rattle.fw_meter.specs.Handling.{reply_bytes};
 ghost use Rattle.fw_cli.specs.Session.{AnswersLineOver, BeginsWell, Session, line_for};
-ghost use Rattle.fw_cli.specs.Reading.{Gives, ReadsAll, max_input};
+ghost use Rattle.fw_cli.specs.Reading.{Gives, ReadsUntil, max_input};
 ghost use Rattle.fw_cli.specs.Faults.{ComesBeforeInput, ComesBeforeOutput, IsOfAnswer};
 ghost use Rattle.fw_cli.specs.Answering.{WritesSession};
 
@@ -38,13 +38,8 @@ pub(crate) fn serve<S: ImageStore + Drop, R: Read, W: Write>(
         → WritesSession AnswersLineOver meter (Some number) (R.remaining reader.old) (R.remaining reader.new)
         (W.contents writer.old) (W.contents writer.new) }
     ensures later { IfErr result (λ f. ComesBeforeInput f → ⊥) }
-    ensures input { result ≡ Err Fault.Input
-        → Gives (R.remaining reader.old) (R.remaining reader.new) (λ count. count ≤ max_input) }
-    ensures too_much_input { result ≡ Err Fault.TooMuchInput
-        → Gives (R.remaining reader.old) (R.remaining reader.new) (λ count. max_input < count) }
-    ensures output { result ≡ Err Fault.Output
-        → (input : List ℕ) × ReadsAll (R.remaining reader.old) (R.remaining reader.new) input }
-    ensures out_of_memory { result ≡ Err Fault.OutOfMemory
+    ensures reading { IfErr result (λ f. ReadsUntil f (R.remaining reader.old) (R.remaining reader.new)) }
+    ensures memory { result ≡ Err Fault.OutOfMemory
         → Gives (R.remaining reader.old) (R.remaining reader.new) (λ count. (1 ≤ count) × (count ≤ max_input)) }
     ensures silent { IfErr result (λ f. ComesBeforeOutput f → Keeps (W.contents writer.old) (W.contents writer.new)) }
     ensures only { IfErr result IsOfAnswer }

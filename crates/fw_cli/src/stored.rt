@@ -6,7 +6,7 @@ ghost use Rattle.fw_image.specs.Meter.{reopened};
 ghost use Rattle.fw_image.specs.Stored.{Holds, Refused};
 ghost use Rattle.fw_image.specs.declared.error.OpenError.{OpenError};
 ghost use Rattle.fw_cli.specs.Options.{DescribesOne, DescribesNone};
-ghost use Rattle.fw_cli.specs.Reading.{Gives, ReadsAll, max_input};
+ghost use Rattle.fw_cli.specs.Reading.{Gives, ReadsUntil, max_input};
 ghost use Rattle.fw_cli.specs.Faults.{ComesBeforeInput, ComesBeforeOutput, IsOfStoredAnswer, fault_of_opening};
 ghost use Rattle.fw_cli.specs.Answering.{AnswersOpened};
 
@@ -69,14 +69,7 @@ pub fn run_answer_stored<F: Files<File = File>, R: Read, W: Write>(
         ⊎ Gives (R.remaining reader.old) (R.remaining reader.new) (λ count. (1 ≤ count) × (count ≤ max_input)) }
 
     // How far the reading was.
-    ensures input { result ≡ Err Fault.Input
-        → Gives (R.remaining reader.old) (R.remaining reader.new) (λ count. count ≤ max_input) }
-    ensures too_much_input { result ≡ Err Fault.TooMuchInput
-        → Gives (R.remaining reader.old) (R.remaining reader.new) (λ count. max_input < count) }
-    ensures output { result ≡ Err Fault.Output
-        → (input : List ℕ) × ReadsAll (R.remaining reader.old) (R.remaining reader.new) input }
-    ensures out_of_memory { result ≡ Err Fault.OutOfMemory
-        → Gives (R.remaining reader.old) (R.remaining reader.new) (λ count. count ≤ max_input) }
+    ensures reading { IfErr result (λ f. ReadsUntil f (R.remaining reader.old) (R.remaining reader.new)) }
 
     ensures silent { IfErr result (λ f. ComesBeforeOutput f → Keeps (W.contents writer.old) (W.contents writer.new)) }
     ensures only { IfErr result IsOfStoredAnswer }

@@ -8,7 +8,7 @@ use native.Mathlib.Decide.{ℕ_discrete}
 use Rattle.fw_air.specs.declared.links.Waiting.{Waiting}
 use Rattle.fw_air.specs.Links.{link_of}
 use Rattle.fw_air.specs.Rounds.{Link}
-use Rattle.fw_workers.specs.Seat.{Receipt}
+use Rattle.fw_shared.specs.Seat.{Receipt}
 use Rattle.fw_workers.specs.Accounts.{ticks_of, its_ticks, HasItsTicks}
 
 -- each link before the one of this place has its ticks

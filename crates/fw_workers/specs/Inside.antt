@@ -6,7 +6,7 @@ use Rattle.fw_world.specs.Setup.{IsSetup, opening_state}
 use Rattle.fw_world.specs.State.{State, world_of}
 use Rattle.fw_world.specs.Step.{Event}
 use Rattle.fw_workers.specs.Accounts.{IsAccounted}
-use Rattle.fw_workers.specs.Seat.{Receipt}
+use Rattle.fw_shared.specs.Seat.{Receipt}
 
 -- a run of workers that is accounted for, and the headline of its world
 pub record IsReported (setup : Setup) (given : List Event) (rounds workers : ℕ) (world : State) (board : ℕ) (receipts : List (List Receipt)) : Type 0 where

@@ -1,5 +1,5 @@
--- Public vocabulary: why a rehearsal has no report.
-use Rattle.std.specs.Prelude.{◌≢◌, ℕ, List}
+-- Public vocabulary: why a rehearsal or a live rollout has no report.
+use Rattle.std.specs.Prelude.{◌≡◌, ◌≢◌, ℕ, List, length}
 use Rattle.fw_world.specs.declared.error.SetupError.{SetupError}
 use Rattle.fw_world.specs.declared.error.SetupError.TheVariants as unmade
 use Rattle.fw_world.specs.declared.error.StepError.{StepError}
@@ -8,7 +8,10 @@ use Rattle.fw_world.specs.declared.event.Event.{Event as Given}
 use Rattle.fw_world.specs.declared.runs.RunError.TheVariants as stopped
 use Rattle.fw_world.specs.declared.setup.Setup.{Setup}
 use Rattle.fw_world.specs.Runs.{IsStopped}
-use Rattle.fw_world.specs.State.{State}
+use Rattle.fw_world.specs.Setup.{opening_state}
+use Rattle.fw_world.specs.State.{State, StateRun}
+use Rattle.fw_world.specs.Step.{Event}
+use Rattle.fw_air.specs.Rounds.{links}
 use Rattle.fw_workers.specs.declared.report.RehearseError.{RehearseError}
 use Rattle.fw_workers.specs.declared.report.RehearseError.TheVariants as refused
 
@@ -22,7 +25,7 @@ abbrev pub of_event : ℕ → StepError → RehearseError
 of_event number cause.OutOfMemory = refused.OutOfMemory
 of_event number other = refused.Event number
 
--- it is told of the workers, not of the setup or of a given event
+-- it is told behind the given events, not of the setup or of one of them
 abbrev pub IsLater : RehearseError → Type 0
 IsLater refused.BadSetup = ⊥
 IsLater (refused.Event number) = ⊥
@@ -39,3 +42,15 @@ pub record IsBarred (setup : Setup) (events : List Given) (number : ℕ) : Type 
 abbrev pub TellsOfEvent : Setup → List Given → RehearseError → Type 0
 TellsOfEvent setup events (refused.Event number) = IsBarred setup events number
 TellsOfEvent setup events other = Unit {0}
+
+-- Behind these events there are so many links.
+pub record HasLinks (setup : Setup) (given : List Event) (count : ℕ) : Type 0 where
+  pub world : State
+  pub runs : StateRun (opening_state setup) given world
+  pub count_is : length (links setup world) ≡ count
+
+-- Behind these events there is another number of links.
+pub record HasOtherLinks (setup : Setup) (given : List Event) (count : ℕ) : Type 0 where
+  pub world : State
+  pub runs : StateRun (opening_state setup) given world
+  pub other : length (links setup world) ≢ count

@@ -40,12 +40,12 @@ ghost use Rattle.fw_workers.specs.Accounts.{
 };
 ghost use Rattle.fw_workers.specs.Inside.{IsReported};
 
-use crate::receipt::Receipt;
 use crate::receipts::Receipts;
 use crate::report::{Report, Unaccounted};
 use fw_air::{CoreEvent, Entry, Waiting, audit, links_of};
 use fw_book::{Book, Row, RowState};
 use fw_head::HeadCore;
+use fw_shared::Receipt;
 use fw_world::{Datagram, Event, NumberedMeter, Setup, World};
 use std::alloc::{AllocError, Global};
 

@@ -1,28 +1,23 @@
-//! Workers that share head ends and meters: the board on which they count what is done, a seat for each of them, and rehearsals,
-//! in which they make the rounds of a schedule together and are held to account.
+//! Workers that share head ends and meters: rehearsals and live rollouts, in which they make rounds together, by fates or over wires,
+//! and are held to account.
 #![tactic(auto)]
 
 mod accounts;
-mod acts;
-mod board;
-mod desk;
-mod error;
+mod carrier;
+mod floor;
 mod gate;
-mod meter;
-mod receipt;
+mod given;
+mod lines;
 mod receipts;
 mod rehearsal;
 mod report;
 mod rollout;
-mod seat;
+mod stage;
+mod wired;
 
-pub use board::Board;
-pub use desk::Desk;
-pub use error::OutOfMemory;
+pub use fw_shared::{Board, Desk, OutOfMemory, Receipt, Seat, SharedMeter};
 pub use gate::Gate;
-pub use meter::SharedMeter;
-pub use receipt::Receipt;
 pub use receipts::Receipts;
 pub use rehearsal::{MAX_WORKERS, rehearse};
 pub use report::{RehearseError, Report};
-pub use seat::Seat;
+pub use wired::{live, live_over};

@@ -5,9 +5,9 @@ ghost use Rattle.fw_air.specs.Events.{core_event_of};
 ghost use Rattle.fw_air.specs.Ticks.{is_tick};
 ghost use Rattle.fw_workers.specs.Accounts.{IsRising, ticks_of};
 
-use crate::receipt::Receipt;
 use fw_air::CoreEvent;
 use fw_names::{HeadId, MeterId};
+use fw_shared::Receipt;
 use std::marker::Model;
 
 /// What one worker made, event by event.
@@ -18,7 +18,7 @@ pub struct Receipts {
 
 impl Model for Receipts {
     ghost use Rattle.std.specs.Prelude.{List};
-    ghost use Rattle.fw_workers.specs.Seat as seat;
+    ghost use Rattle.fw_shared.specs.Seat as seat;
 
     ghost Value = { List seat.Receipt };
 

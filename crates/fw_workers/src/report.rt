@@ -1,13 +1,13 @@
-//! What a rehearsal leads to.
+//! What a rehearsal or a live rollout leads to.
 
-ghost use Rattle.std.specs.Prelude.{◌≡◌};
+ghost use Rattle.std.specs.Prelude.{◌≡◌, ◌≢◌};
 ghost use Rattle.fw_workers.specs.Refusals.{IsLater, of_setup};
 ghost use Rattle.fw_workers.specs.declared.report.RehearseError.TheVariants as refused;
 
-use crate::error::OutOfMemory;
 use crate::receipts::Receipts;
 use fw_air::AuditError;
 use fw_head::PutError;
+use fw_shared::OutOfMemory;
 use fw_world::{SetupError, StepError, World};
 use std::alloc::{AllocError, AllocFailed};
 use thiserror::Error;
@@ -38,6 +38,9 @@ pub enum RehearseError {
     /// Memory was refused.
     #[error("OutOfMemory")]
     OutOfMemory,
+    /// There is another number of wires than of links, or no socket could be bound.
+    #[error("Socket")]
+    Socket,
     /// A gate answered that a worker may not go on.
     #[error("GateShut")]
     GateShut,
@@ -73,7 +76,7 @@ impl From<SetupError> for RehearseError {
     }
 }
 
-/// Why what workers did is not accounted for. A setup or a given event is never the reason.
+/// Why what workers did is not accounted for. A setup, a given event or the wires are never the reason.
 #[derive(Drop)]
 pub(crate) enum Unaccounted {
     Mismatch,
@@ -83,7 +86,7 @@ pub(crate) enum Unaccounted {
 }
 
 impl From<Unaccounted> for RehearseError {
-    ghost from_gives = { λ _ e. IsLater e };
+    ghost from_gives = { λ _ e. IsLater e × (e ≢ refused.Socket) };
 
     fn from(reason: Unaccounted) -> RehearseError {
         match reason {

@@ -60,7 +60,7 @@ fn each<T: Threads + Wait + Sync>(
 }
 
 /// A head end, and four meters with blocks of two bytes.
-const FOUR: &str = "\
+pub(crate) const FOUR: &str = "\
 head 7 width 4
 meter 1 block 2 capacity 64 factory 78
 meter 2 block 2 capacity 64 factory 78
@@ -101,7 +101,7 @@ meter 1 block 2 capacity 64 factory 78
 open 7 1 616263 1
 ";
 
-const TWICE: &str = "\
+pub(crate) const TWICE: &str = "\
 head 7 width 4
 meter 1 block 2 capacity 64 factory 78
 open 7 1 616263 1
@@ -115,7 +115,7 @@ open 7 1 616263 1
 open 7 2 616263 1
 ";
 
-const NO_HEADS: &str = "meter 1 block 2 capacity 64 factory 78\n";
+pub(crate) const NO_HEADS: &str = "meter 1 block 2 capacity 64 factory 78\n";
 
 const REPORTS: &[(Rehearsal, &str)] = &[
     // of each link every third datagram is lost, and every fourth comes twice

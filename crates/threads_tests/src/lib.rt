@@ -13,6 +13,10 @@ mod gates;
 #[cfg(test)]
 mod links;
 #[cfg(test)]
+mod live;
+#[cfg(test)]
+mod live_commands;
+#[cfg(test)]
 mod log;
 #[cfg(test)]
 mod rehearsing;

@@ -7,7 +7,7 @@ use Rattle.fw_world.specs.Runs.{events_of}
 use Rattle.fw_world.specs.Setup.{opening_state}
 use Rattle.fw_world.specs.State.{StateRun}
 use Rattle.fw_workers.specs.Accounts.{AreDealt, IsAccounted, IsRising, all_of, numbered}
-use Rattle.fw_workers.specs.Seat.{Receipt}
+use Rattle.fw_shared.specs.Seat.{Receipt}
 use Rattle.fw_workers.proofs.Accounting.{numbered_are}
 use Rattle.fw_workers.proofs.accounts.account.Goals as goal
 

@@ -1,5 +1,5 @@
 use Rattle.std.proofs.Common.{◌≡◌, ◌+◌, ◌<◌, length, refl, ap, sym, ◌∙◌, arith}
-use Rattle.fw_workers.specs.Seat.{Receipt}
+use Rattle.fw_shared.specs.Seat.{Receipt}
 use Rattle.fw_workers.proofs.Numbering.{is_next}
 use Rattle.fw_workers.proofs.accounts.are_for.Goals as goal
 

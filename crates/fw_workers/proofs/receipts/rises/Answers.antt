@@ -1,5 +1,5 @@
 use Rattle.std.proofs.Common.{◌<◌, ◌≤◌, ap, arith}
-use Rattle.fw_workers.specs.Seat.{Receipt}
+use Rattle.fw_shared.specs.Seat.{Receipt}
 use Rattle.fw_workers.proofs.Rising.{rising_more, not_rising}
 use Rattle.fw_workers.proofs.receipts.rises.Goals as goal
 

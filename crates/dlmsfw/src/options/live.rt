@@ -1,0 +1,85 @@
+//! The command `live`, and its help.
+
+use super::{STATUSES, option};
+use clap::{ArgMatches, Command};
+use fw_cli::LiveOptions;
+use std::alloc::{AllocError, Global};
+
+/// What the long help begins with.
+const ABOUT: &str = "\
+Runs a script with several workers over UDP sockets on this machine, and tells how each campaign ended.
+
+Standard input has a script, as `replay` reads it; `replay --help` has its lines. Its events are made
+first. Then each link of a head end and a meter gets a pair of sockets on 127.0.0.1, one for each end,
+and the workers make R rounds on each link: the head end ticks the meter, what comes is handled until
+nothing more comes in 5 ms, and the meter takes its turn where it verifies. What the network loses is
+lost, and what nobody sent is dropped. Links go to workers as in `rehearse`, and what the workers did is
+recorded and held to account as there.
+
+Standard output gets the report of that end, as of `replay`, and the line `board N`, the number of rows
+that are done. All input is read before anything is written.
+
+Example, a campaign for two meters, and a worker for each:
+
+  printf '%s\\n' 'head 7 width 4' 'meter 1 block 2 capacity 64 factory 78' \\
+  'meter 2 block 2 capacity 64 factory 78' 'open 7 1 616263 1 2' |
+  ./dlmsfw live --rounds 20 --workers 2
+
+prints, where no datagram is lost twenty times,
+
+  row 7 1 1 done
+  row 7 1 2 done
+  meter 1 status 6 active 7 1 size 3
+  meter 2 status 6 active 7 1 size 3
+  activations 2
+  board 2";
+
+/// What ends the long help.
+const ENDINGS: &str = "\
+Exit status:
+  0  all rounds were made
+  1  a fault: standard error has `dlmsfw: NAME`, with one of these names
+       Input          standard input can't be read to its end
+       TooMuchInput   standard input has more than 64 MiB
+       BadLine L      line L, counted from 1, is none of a script, or stands too late
+       BadSetup       no world can be made of the setup, as told by `replay --help`
+       Event          an event of the script was refused; `replay` tells which, and why
+       Socket         no socket could be bound
+       Mismatch       what the workers left isn't what their record says
+       ThreadRefused  a thread could not be started
+       GateShut       a worker was not let pass, which here is none
+       Output         standard output can't be written
+       OutOfMemory    memory ran out
+     up to OutOfMemory, but for Output, nothing was written
+  2  a wrong command line: standard error says what is wrong";
+
+/// The command.
+pub(super) fn command<'a>(alloc: Global) -> Result<Command<'a>, AllocError> {
+    Command::new(alloc, "live")
+        .about(
+            "Runs a script with several workers over UDP sockets, and tells how each campaign ended",
+        )
+        .long_about(ABOUT)
+        .after_help(STATUSES)
+        .after_long_help(ENDINGS)
+        .arg(
+            option(alloc, "rounds", "R")
+                .required(true)
+                .help("How many rounds of each link follow, 1 to 100000")
+                .value_parser(clap::value_parser!(u32).range(1..=100_000)),
+        )?
+        .arg(
+            option(alloc, "workers", "W")
+                .required(true)
+                .help("How many workers make them, 1 to 8")
+                .value_parser(clap::value_parser!(u32).range(1..=8)),
+        )
+}
+
+/// The options that were given. The parser lets none of them lack.
+pub(super) fn options(given: &ArgMatches<'_>) -> Option<LiveOptions> {
+    Some(LiveOptions {
+        rounds: given.get_one("rounds")?,
+        workers: given.get_one("workers")?,
+    })
+}

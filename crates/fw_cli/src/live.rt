@@ -1,0 +1,96 @@
+//! The command `live`: several workers make rounds over UDP sockets behind the events of a script, and the report of the world is told.
+
+ghost use Rattle.std.specs.Prelude.{◌≡◌, ◌≢◌, ℕ, IfOk, IfErr, OnOk, string_bytes};
+ghost use Rattle.std.specs.Io.KnownBytes.{Keeps};
+ghost use Rattle.fw_world.specs.Setup.{IsSetup};
+ghost use Rattle.fw_workers.specs.Refusals.{IsBarred};
+ghost use Rattle.fw_cli.specs.Faults.{IsOfLive, IsOfLiveWorkers};
+ghost use Rattle.fw_cli.specs.Reading.{ReadsUntil};
+ghost use Rattle.fw_cli.specs.Script.{IsBadLine};
+ghost use Rattle.fw_cli.specs.Replaying.{MakesNone, MayWantFor, ReadsOne};
+ghost use Rattle.fw_cli.specs.Rehearsing.{AreWorkers, IsBarredIn, TellsRehearsal, WritesRehearsal};
+
+use crate::fault::Fault;
+use crate::output::write_text;
+use crate::script::Script;
+use crate::workers::{OpenGate, script_from, tell_report};
+use fw_workers::live;
+use fw_world::{Event, Setup};
+use std::alloc::Global;
+use std::io::{Read, Write};
+use std::net::Net;
+use std::sync::Wait;
+use std::thread::Threads;
+
+/// The options of the command.
+#[derive(Clone, Copy, Debug)]
+pub struct LiveOptions {
+    /// How many rounds the workers make behind the events of the script.
+    pub rounds: u32,
+    /// How many workers there are, 1 to 8, each in a thread of its own, and with another for its sockets.
+    pub workers: u32,
+}
+
+/// Runs the script that the reader has, and lets workers make rounds over UDP sockets on this machine behind its events. The writer gets
+/// the report of the world at the end, and the line `board N` with the number of rows that the workers counted as done.
+///
+/// All input is read before anything is written, and what is written is flushed.
+///
+/// # Errors
+///
+/// As of `run_rehearse`, but for `BadFates`, and besides
+///
+/// - `Socket`: no socket could be bound.
+pub fn run_live<T: Threads + Wait + Net + Sync, R: Read, W: Write>(
+    rt: &T,
+    alloc: Global,
+    reader: &mut R,
+    writer: &mut W,
+    options: &LiveOptions,
+) -> Result<(), Fault>
+    // The report of the world at the end of an accounted run, and its board.
+    ensures ok { OnOk result (WritesRehearsal options.now.rounds options.now.workers (R.remaining reader.old) (R.remaining reader.new)
+        (W.contents writer.old) (W.contents writer.new)) }
+
+    ensures workers { OnOk result (AreWorkers options.now.workers) }
+
+    // What the script is refused for.
+    ensures bad_line { (number : ℕ) → result ≡ Err (Fault.BadLine number)
+        → ReadsOne (R.remaining reader.old) (R.remaining reader.new) (λ input. IsBadLine input number) }
+    ensures bad_setup { result ≡ Err Fault.BadSetup
+        → ReadsOne (R.remaining reader.old) (R.remaining reader.new) (λ input. AreWorkers options.now.workers → MakesNone input) }
+    ensures event { result ≡ Err Fault.Event → ReadsOne (R.remaining reader.old) (R.remaining reader.new) IsBarredIn }
+
+    // What memory may be wanted for, and never for a bad line or a setup of which no world can be made.
+    ensures memory { result ≡ Err Fault.OutOfMemory → MayWantFor (R.remaining reader.old) (R.remaining reader.new) }
+
+    // How far the reading was.
+    ensures reading { IfErr result (λ f. ReadsUntil f (R.remaining reader.old) (R.remaining reader.new)) }
+
+    ensures only { IfErr result IsOfLive }
+    ensures silent { IfErr result (λ f. f ≢ Fault.Output → Keeps (W.contents writer.old) (W.contents writer.new)) }
+{
+    let Script { setup, events } = script_from(alloc, reader)?;
+    let text = tell_live(rt, alloc, &setup, &events, options)?;
+    write_text(writer, text.as_str())
+}
+
+/// What is told of a live rollout: the report of its world, and the line of its board.
+fn tell_live<T: Threads + Wait + Net + Sync>(
+    rt: &T,
+    alloc: Global,
+    setup: &Setup,
+    events: &[Event],
+    options: &LiveOptions,
+) -> Result<String, Fault>
+    ensures ok { IfOk result (λ text. TellsRehearsal options.now.rounds options.now.workers setup.now events.now (string_bytes text)) }
+    ensures workers { OnOk result (AreWorkers options.now.workers) }
+    ensures bad_setup { result ≡ Err Fault.BadSetup → AreWorkers options.now.workers → ¬ IsSetup setup.now }
+    ensures event { result ≡ Err Fault.Event → (number : ℕ) × IsBarred setup.now events.now number }
+    ensures memory { result ≡ Err Fault.OutOfMemory → IsSetup setup.now }
+    ensures only { IfErr result IsOfLiveWorkers }
+{
+    let LiveOptions { rounds, workers } = *options;
+    let report = live(rt, alloc, setup, events, rounds, workers, &OpenGate)?;
+    Ok(tell_report(alloc, setup, &report)?)
+}

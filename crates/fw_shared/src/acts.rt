@@ -1,0 +1,361 @@
+//! What is done behind the locks, each step of which comes into the record.
+//!
+//! A meter, or a shard of the rows of a head end, stands behind its lock in a type of this file, whose steps leave an `Act`. An act
+//! can't be let go of, and nothing but `Act::record` ends it: that appends the event to the log, once, and notes the receipt. So a
+//! step of a core, an event in the record and a receipt are made one for one.
+//!
+//! The lock of a meter or of a shard is taken first, and that of the log inside it. No two meters or shards are ever held by one
+//! call.
+
+ghost use Rattle.std.specs.Prelude.{
+  ◌≡◌,
+  ◌+◌,
+  ◌≤◌,
+  ◌<◌,
+  ◌++◌,
+  ◌∷◌,
+  [],
+  not,
+  position,
+  length,
+  unwrap_or,
+  IfOk,
+  IfErr,
+  IfSome,
+  IfNone,
+  OnOk,
+  OnErr,
+  true,
+  false,
+};
+ghost use Rattle.std.specs.Vec.{vec_len, vec_capacity};
+ghost use Rattle.fw_air.specs.Rounds.{is_verifying};
+ghost use Rattle.fw_book.specs.Contents.{image_in};
+ghost use Rattle.fw_image.specs.State.{Turns};
+ghost use Rattle.fw_head.specs.Head.{news_of};
+ghost use Rattle.fw_head.specs.Phase.{has_ended};
+ghost use Rattle.fw_head.specs.Row.{bytes_of};
+ghost use Rattle.fw_world.specs.State.{sent_to};
+ghost use Rattle.fw_meter.specs.Handling.{reply_bytes};
+ghost use Rattle.fw_world.specs.Step.{deliver, replies, tick, turn};
+ghost use Rattle.fw_world.specs.View.{addressee};
+ghost use Rattle.fw_world.specs.declared.datagram.Actor.TheVariants as actor;
+ghost use Rattle.fw_shared.specs.Acts.{IsCoreRefusal, MeterServes, RowsHear, RowsTick, is_live_of};
+
+use crate::receipt::Receipt;
+use fw_air::{CoreEvent, Room, Sent, SharedLog};
+use fw_blocks::Width;
+use fw_book::Book;
+use fw_head::{News, Phase, RowCore, RowNews};
+use fw_image::TransferStatus;
+use fw_meter::MeterCore;
+use fw_names::{CampaignId, HeadId, MeterId};
+use fw_store::ImageStore;
+use fw_world::{Actor, Datagram, Direction, StepError};
+use std::alloc::{AllocError, Global};
+use std::marker::Model;
+use std::sync::Wait;
+
+/// What a core did, and what isn't in the record yet: the event, and room with the datagrams that it sends. It can't be let go of
+/// but by `record`.
+pub(crate) struct Act {
+    event: CoreEvent,
+    room: Room,
+}
+
+impl Model for Act {
+    ghost use Rattle.fw_air.specs.Events.{core_event_of};
+    ghost use Rattle.fw_shared.specs.Acts as acts;
+
+    ghost Value = { acts.Act };
+
+    ghost view = { λ a. record { event = core_event_of a.event; sent = a.room } };
+}
+
+impl Act {
+    /// Appends it to the log, once, and notes the receipt under the number that it has there. It asks for room for the receipt.
+    pub(crate) fn record<R: Wait>(
+        self,
+        rt: &R,
+        log: &SharedLog,
+        receipts: &mut Vec<Receipt>,
+    ) -> Sent
+        requires { vec_len receipts.old < vec_capacity receipts.old }
+        ensures noted { receipts.new.items
+            ≡ receipts.old.items ++ (record { number = result.event; event = self.event }) ∷ [] }
+        ensures sent { result.count ≡ length self.sent }
+    {
+        let Act { event, room } = self;
+        let (sent, stub) = log.append(rt, room, event);
+        let (number, event) = stub.spend();
+        receipts.push_reserved(Receipt { number, event });
+        sent
+    }
+}
+
+/// A meter as its lock keeps it. Whenever the lock is free it is a meter by its type alone: within the limits of its store, and over
+/// an honest store the image that runs has the digest of its name.
+#[derive(Drop)]
+pub(crate) struct GuardedMeter<S: ImageStore + Drop> {
+    core: MeterCore<S>,
+}
+
+impl<S: ImageStore + Drop> GuardedMeter<S> {
+    /// This meter.
+    pub(crate) fn new(core: MeterCore<S>) -> GuardedMeter<S>
+        ensures { result.core ≡ core }
+    {
+        GuardedMeter { core }
+    }
+
+    /// The meter.
+    pub(crate) fn into_inner(self) -> MeterCore<S>
+        ensures { result ≡ self.core }
+    {
+        self.core
+    }
+
+    /// Handles the datagram of this number, which is for this meter, and sends its reply.
+    ///
+    /// # Errors
+    ///
+    /// Want of memory alone. The meter is then as before.
+    pub(crate) fn handle(
+        &mut self,
+        alloc: Global,
+        meter: MeterId,
+        number: usize,
+        datagram: &Datagram,
+        room: Room,
+    ) -> Result<Act, fw_meter::OutOfMemory>
+        requires addressee { addressee datagram.now ≡ actor.Meter meter }
+        requires empty { room ≡ [] }
+        ensures event { IfOk result (λ act. act.event ≡ deliver number) }
+        ensures step { IfOk result (λ act. MeterServes self.old.core datagram.now act.sent self.new.core) }
+        ensures few { IfOk result (λ act. length act.sent ≤ 1) }
+        ensures same { OnErr result (self.new.core ≡ self.old.core) }
+    {
+        let handled = self.core.handle(alloc, &datagram.bytes)?;
+        let mut room = room;
+        reply(&mut room, datagram, meter, handled.reply);
+        let event = CoreEvent::Deliver(number);
+        Ok(Act { event, room })
+    }
+
+    /// A turn of this meter, where it verifies. In every other status it is left as it is, and there is no act.
+    pub(crate) fn turn(&mut self, meter: MeterId, room: Room) -> Option<Act>
+        requires { room ≡ [] }
+        ensures made { IfSome result (λ act. act ≡ record { event = turn meter; sent = [] }) }
+        ensures step { IfSome result (λ act. Turns self.old.core self.new.core) }
+        ensures verifying { IfSome result (λ act. is_verifying self.old.core.meter.phase ≡ true) }
+        ensures otherwise { IfNone result (is_verifying self.old.core.meter.phase ≡ false) }
+        ensures same { IfNone result (self.new.core ≡ self.old.core) }
+    {
+        if !self.is_verifying() {
+            return None;
+        }
+        self.core.turn();
+        let event = CoreEvent::Turn(meter);
+        Some(Act { event, room })
+    }
+
+    /// Whether it goes on with a verification.
+    pub(crate) fn is_verifying(&self) -> bool
+        ensures { result ≡ is_verifying self.now.core.meter.phase }
+    {
+        self.core.view().status == TransferStatus::VerificationInitiated
+    }
+}
+
+/// Rows of a head end as their lock keeps them. Whenever the lock is free each is a row by its type alone: one that is done has a
+/// claim of its own meter, under its own name.
+#[derive(Drop)]
+pub(crate) struct Shard {
+    rows: Vec<RowCore>,
+}
+
+impl Shard {
+    /// No row.
+    pub(crate) fn new(alloc: Global) -> Shard
+        ensures { result.rows.items ≡ [] }
+    {
+        Shard {
+            rows: Vec::new(alloc),
+        }
+    }
+
+    /// Adds a row behind the others.
+    ///
+    /// # Errors
+    ///
+    /// Want of memory alone. The row is then lost.
+    pub(crate) fn push(&mut self, row: RowCore) -> Result<(), AllocError>
+        ensures { OnOk result (self.new.rows.items ≡ self.old.rows.items ++ row ∷ []) }
+    {
+        self.rows.push(row)?;
+        Ok(())
+    }
+
+    /// The rows.
+    pub(crate) fn into_rows(self) -> Vec<RowCore>
+        ensures { result ≡ self.rows }
+    {
+        self.rows
+    }
+
+    /// Where the live row of a meter stands.
+    fn place(&self, meter: MeterId) -> Option<usize>
+        ensures { result ≡ position (is_live_of meter) self.now.rows.items }
+    {
+        self.rows
+            .iter()
+            .position(|row| row.meter() == meter && is_live(row))
+    }
+
+    /// The live row of a meter, if it has one, sends what it has for the meter now.
+    ///
+    /// # Errors
+    ///
+    /// Want of memory alone. The rows are then as before.
+    pub(crate) fn tick(
+        &mut self,
+        alloc: Global,
+        book: &Book,
+        width: Width,
+        meter: MeterId,
+        room: Room,
+    ) -> Result<Act, fw_head::OutOfMemory>
+        requires { room ≡ [] }
+        ensures event { IfOk result (λ act. act.event ≡ tick book.now.head meter) }
+        ensures step { IfOk result (λ act. RowsTick book.now width meter self.old.rows.items act.sent self.new.rows.items) }
+        ensures few { IfOk result (λ act. length act.sent ≤ 15) }
+        ensures same { OnErr result (self.new.rows.items ≡ self.old.rows.items) }
+    {
+        let head = book.head();
+        let event = CoreEvent::Tick(head, meter);
+        let Some(at) = self.place(meter) else {
+            return Ok(Act { event, room });
+        };
+        let row = &mut self.rows[at];
+        let image = image_of(book, row.name().campaign);
+        let sends = row.tick(alloc, image, width)?;
+        let mut room = room;
+        send(&mut room, head, meter, sends);
+        Ok(Act { event, room })
+    }
+
+    /// The live row of the meter that sent the datagram of this number, if it has one, hears it. A row that has ended hears nothing:
+    /// a claim that is repeated is no news.
+    ///
+    /// # Errors
+    ///
+    /// Want of memory alone. The rows are then as before.
+    pub(crate) fn hear(
+        &mut self,
+        alloc: Global,
+        number: usize,
+        datagram: &Datagram,
+        room: Room,
+    ) -> Result<(Act, News), fw_head::OutOfMemory>
+        requires { room ≡ [] }
+        ensures act { IfOk result (λ heard. heard.0 ≡ record { event = deliver number; sent = [] }) }
+        ensures step { IfOk result (λ heard. RowsHear self.old.rows.items datagram.now heard.1 self.new.rows.items) }
+        ensures same { OnErr result (self.new.rows.items ≡ self.old.rows.items) }
+    {
+        let event = CoreEvent::Deliver(number);
+        let meter = datagram.meter;
+        let Some(at) = self.place(meter) else {
+            return Ok((Act { event, room }, News::Nothing));
+        };
+        let row = &mut self.rows[at];
+        let campaign = row.name().campaign;
+        let told = row.hear(alloc, &datagram.bytes)?;
+        Ok((Act { event, room }, news_of(campaign, meter, told)))
+    }
+}
+
+/// Whether a row hasn't ended.
+fn is_live(row: &RowCore) -> bool
+    ensures { result ≡ not (has_ended row.now.stage) }
+{
+    !matches!(row.phase(), Phase::Done | Phase::Failed)
+}
+
+/// What a head end tells of a row's news.
+fn news_of(campaign: CampaignId, meter: MeterId, told: RowNews) -> News
+    ensures { result ≡ news_of campaign meter told }
+{
+    match told {
+        RowNews::Nothing => News::Nothing,
+        RowNews::Moved => News::Moved,
+        RowNews::Done(_) => News::Done(campaign, meter),
+        RowNews::Failed => News::Failed(campaign, meter),
+    }
+}
+
+/// The image that a campaign offers. Each row of a desk is of a campaign of its book.
+fn image_of(book: &Book, campaign: CampaignId) -> &[u8]
+    ensures { result.now ≡ unwrap_or (image_in book.now campaign) [] }
+{
+    match book.offer(campaign) {
+        Some(offer) => offer.image(),
+        None => &[],
+    }
+}
+
+/// The datagram of this number, which is for this addressee.
+///
+/// # Errors
+///
+/// `NoSuchDatagram`, `NoSuchActor` where it is for another addressee, or `OutOfMemory`.
+pub(crate) fn addressed<R: Wait>(
+    rt: &R,
+    alloc: Global,
+    log: &SharedLog,
+    to: Actor,
+    number: usize,
+) -> Result<Datagram, StepError>
+    ensures addressee { IfOk result (λ datagram. addressee datagram ≡ to) }
+    ensures refused { IfErr result IsCoreRefusal }
+{
+    let Some(datagram) = log.get(rt, alloc, number)? else {
+        return Err(StepError::NoSuchDatagram);
+    };
+    if datagram.to() != to {
+        return Err(StepError::NoSuchActor);
+    }
+    Ok(datagram)
+}
+
+/// Puts in what a meter replies to a datagram that is for it, if it does.
+fn reply(room: &mut Room, datagram: &Datagram, meter: MeterId, reply: Option<Vec<u8>>)
+    requires addressee { addressee datagram.now ≡ actor.Meter meter }
+    requires empty { room.old ≡ [] }
+    ensures sent { room.new ≡ replies datagram.now (reply_bytes reply) }
+    ensures few { length room.new ≤ 1 }
+{
+    let Some(bytes) = reply else {
+        return;
+    };
+    room.push(Datagram {
+        head: datagram.head,
+        meter,
+        direction: Direction::ToHead,
+        bytes,
+    });
+}
+
+/// Puts in what a head end sends to a meter.
+fn send(room: &mut Room, head: HeadId, meter: MeterId, sends: Vec<Vec<u8>>)
+    requires { length room.old + length sends.items ≤ 15 }
+    ensures { room.new ≡ room.old ++ sent_to head meter (bytes_of sends.items) }
+{
+    for bytes in sends {
+        room.push(Datagram {
+            head,
+            meter,
+            direction: Direction::ToMeter,
+            bytes,
+        });
+    }
+}
