@@ -1,8 +1,8 @@
 -- Entries for events that happened in a world, and the events of entries.
-use Rattle.std.proofs.Common.{◌≡◌, ℕ, ◌+◌, ◌-◌, ◌<◌, ◌≤◌, List, [], ◌∷◌, ◌++◌, length, get_or, take, refl, ap, sym, subst, ◌∙◌, arith, append_assoc}
-use Rattle.std.proofs.lemmas.List.{append-nil, map_more, map_push}
+use Rattle.std.proofs.Common.{◌≡◌, ℕ, ◌+◌, ◌-◌, ◌<◌, ◌≤◌, List, [], ◌∷◌, ◌++◌, length, get_or, take, ap, sym, subst, ◌∙◌, arith}
+use Rattle.std.proofs.lemmas.List.{map_more}
 use Rattle.std.proofs.lemmas.List.Sums.{sum_by_push}
-use Rattle.std.specs.List.{AllZip, sum_by}
+use Rattle.std.specs.List.{sum_by}
 use Rattle.fw_world.specs.declared.error.StepError.{StepError}
 use Rattle.fw_world.specs.declared.error.StepError.TheVariants as cause
 use Rattle.fw_world.specs.declared.event.Event.{Event as Given}
@@ -14,7 +14,7 @@ use Rattle.fw_world.specs.State.{State, StateRun, StateStep}
 use Rattle.fw_world.specs.Step.{Event}
 use Rattle.fw_world.specs.View.{event_of}
 use Rattle.fw_air.specs.Logs.{Entry}
-use Rattle.fw_workers.specs.declared.report.RehearseError.TheVariants as refused
+use Rattle.fw_workers.specs.declared.error.RehearseError.TheVariants as refused
 use Rattle.fw_workers.specs.Refusals.{TellsOfEvent, of_event}
 
 -- an entry more, with the number of datagrams that were added
@@ -45,23 +45,3 @@ not_setup number cause.OutOfMemory e = absurd cc
 not_setup number cause.NoSuchDatagram e = absurd cc
 not_setup number cause.NoSuchActor e = absurd cc
 not_setup number (cause.Book error) e = absurd cc
-
--- copies are for the same events
-pub same_events : (events copies : List Given) → AllZip (λ event copy. event_of copy ≡ event_of event) events copies → events_of copies ≡ events_of events
-same_events [] [] h = refl
-same_events [] (copy ∷ copies) h = absurd h
-same_events (event ∷ events) [] h = absurd h
-same_events (event ∷ events) (copy ∷ copies) h = ap (λ e. e ∷ events_of copies) h.0 ∙ ap (λ es. event_of event ∷ es) (same_events events copies h.1)
-
--- an event more behind the given ones
-abbrev pub Begins : List Event → List Given → Type 0
-Begins given events = (made : List Event) × (events_of events ≡ given ++ made)
-
-pub begins : (given : List Event) (events : List Given) → events_of events ≡ given → Begins given events
-begins given events is = ([], is ∙ sym (append-nil given))
-
-pub begins_on : (given : List Event) (events new : List Given) (event : Given) → Begins given events → new ≡ events ++ event ∷ [] → Begins given new
-begins_on given events new event was is = (
-  was.0 ++ event_of event ∷ [],
-  ap events_of is ∙ map_push event_of events event ∙ ap (λ (xs : List Event). xs ++ event_of event ∷ []) was.1 ∙ append_assoc given was.0 (event_of event ∷ []),
-)

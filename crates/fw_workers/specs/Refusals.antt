@@ -12,8 +12,8 @@ use Rattle.fw_world.specs.Setup.{opening_state}
 use Rattle.fw_world.specs.State.{State, StateRun}
 use Rattle.fw_world.specs.Step.{Event}
 use Rattle.fw_air.specs.Rounds.{links}
-use Rattle.fw_workers.specs.declared.report.RehearseError.{RehearseError}
-use Rattle.fw_workers.specs.declared.report.RehearseError.TheVariants as refused
+use Rattle.fw_workers.specs.declared.error.RehearseError.{RehearseError}
+use Rattle.fw_workers.specs.declared.error.RehearseError.TheVariants as refused
 
 -- why no world is made
 abbrev pub of_setup : SetupError → RehearseError

@@ -2,18 +2,17 @@
 //! behind it.
 
 ghost use Rattle.std.specs.Prelude.{◌≡◌, IfOk};
-ghost use Rattle.fw_air.specs.Logs.{IsCounted};
 
-use crate::accounts::Left;
+use crate::error::Unaccounted;
 use crate::gate::Gate;
-use crate::receipts::Receipts;
-use crate::report::Unaccounted;
-use fw_air::{Entry, Sent, SharedLog};
+use crate::given::Opening;
+use fw_accounts::{Left, Receipts};
+use fw_air::{Sent, SharedLog};
 use fw_head::HeadCore;
 use fw_names::{HeadId, MeterId};
 use fw_shared::{Board, Desk, Seat, SharedMeter};
 use fw_store::MemoryStore;
-use fw_world::{NumberedMeter, Parts, World};
+use fw_world::{NumberedMeter, Parts};
 use std::alloc::Global;
 use std::sync::Wait;
 
@@ -73,16 +72,11 @@ impl<'a, G: Gate> Worker<'a, G> {
 }
 
 impl Floor {
-    /// This world, with the record of these entries, and this board.
-    pub(crate) fn of(
-        alloc: Global,
-        world: World,
-        entries: Vec<Entry>,
-        board: Board,
-    ) -> Result<Floor, Unaccounted>
-        requires { IsCounted (record { sent = world.sent; entries = entries.items }) }
+    /// The world and the record of this opening, and this board.
+    pub(crate) fn of(alloc: Global, opening: Opening, board: Board) -> Result<Floor, Unaccounted>
         ensures { IfOk result (λ made. made.board ≡ board) }
     {
+        let Opening { world, entries } = opening;
         let Parts {
             heads,
             meters,

@@ -1,25 +1,54 @@
 //! The given events, which stand before all that workers make.
 
-ghost use Rattle.std.specs.Prelude.{◌≡◌, ◌≢◌, IfOk, IfErr, OnOk, IsErrOf};
+ghost use Rattle.std.specs.Prelude.{◌≡◌, ◌≢◌, ◌≤◌, IfOk, IfErr, OnOk, IsErrOf};
 ghost use Rattle.fw_air.specs.Logs.{IsCounted};
 ghost use Rattle.fw_world.specs.Runs.{events_of};
 ghost use Rattle.fw_world.specs.Setup.{IsSetup, opening_state};
 ghost use Rattle.fw_world.specs.State.{StateRun};
 ghost use Rattle.fw_workers.specs.Refusals.{TellsOfEvent, of_event};
 
-use crate::report::RehearseError;
+use crate::error::RehearseError;
 use fw_air::Entry;
 use fw_world::{Event, Setup, StepError, World};
 use std::alloc::Global;
 
+/// The most workers of a rehearsal or a live rollout.
+pub(crate) const MAX_WORKERS: u32 = 8;
+
 /// The world behind the given events, and an entry for each of them.
-pub(crate) fn play(
+#[derive(Drop)]
+pub(crate) struct Opening {
+    pub(crate) world: World,
+    pub(crate) entries: Vec<Entry>,
+    ghost counted: { IsCounted (record { sent = world.sent; entries = entries.items }) },
+}
+
+/// What so many workers begin with, who have to be 1 to 8.
+pub(crate) fn begin(
     alloc: Global,
     setup: &Setup,
     events: &[Event],
-) -> Result<(World, Vec<Entry>), RehearseError>
-    ensures runs { IfOk result (λ made. StateRun (opening_state setup.now) (events_of events.now) made.0) }
-    ensures log { IfOk result (λ made. IsCounted (record { sent = made.0.sent; entries = made.1.items })) }
+    workers: u32,
+) -> Result<Opening, RehearseError>
+    ensures runs { IfOk result (λ made. StateRun (opening_state setup.now) (events_of events.now) made.world) }
+    ensures workers { OnOk result ((1 ≤ workers) × (workers ≤ 8)) }
+    ensures setup { OnOk result (IsSetup setup.now) }
+    ensures bad_setup { IsErrOf result RehearseError.BadSetup → (1 ≤ workers) × (workers ≤ 8) → ¬ IsSetup setup.now }
+    ensures few { ¬ ((1 ≤ workers) × (workers ≤ 8)) → IsErrOf result RehearseError.BadSetup }
+    ensures event { IfErr result (TellsOfEvent setup.now events.now) }
+    ensures made { IfErr result (λ e. e ≢ RehearseError.BadSetup → IsSetup setup.now) }
+    ensures wireless { IfErr result (λ e. e ≢ RehearseError.Socket) }
+{
+    if (1..=MAX_WORKERS).contains(&workers) {
+        play(alloc, setup, events)
+    } else {
+        Err(RehearseError::BadSetup)
+    }
+}
+
+/// The opening behind the given events.
+fn play(alloc: Global, setup: &Setup, events: &[Event]) -> Result<Opening, RehearseError>
+    ensures runs { IfOk result (λ made. StateRun (opening_state setup.now) (events_of events.now) made.world) }
     ensures bad_setup { IsErrOf result RehearseError.BadSetup → ¬ IsSetup setup.now }
     ensures event { IfErr result (TellsOfEvent setup.now events.now) }
     ensures setup { OnOk result (IsSetup setup.now) }
@@ -40,7 +69,7 @@ pub(crate) fn play(
         let event = event.clone()?;
         entries.push(Entry { event, count })?;
     }
-    Ok((world, entries))
+    Ok(Opening { world, entries })
 }
 
 /// Why no world was made, where the event of this number is refused for this cause.

@@ -2,22 +2,21 @@
 //! and are held to account.
 #![tactic(auto)]
 
-mod accounts;
 mod carrier;
+mod crew;
+mod error;
 mod floor;
 mod gate;
 mod given;
 mod lines;
-mod receipts;
 mod rehearsal;
-mod report;
 mod rollout;
 mod stage;
 mod wired;
 
+pub use error::RehearseError;
+pub use fw_accounts::{Receipts, Report};
 pub use fw_shared::{Board, Desk, OutOfMemory, Receipt, Seat, SharedMeter};
 pub use gate::Gate;
-pub use receipts::Receipts;
-pub use rehearsal::{MAX_WORKERS, rehearse};
-pub use report::{RehearseError, Report};
+pub use rehearsal::rehearse;
 pub use wired::{live, live_over};

@@ -3,9 +3,9 @@
 ghost use Rattle.std.specs.Prelude.{◌≡◌};
 
 use crate::carrier::{Brought, Letter, Post};
+use crate::error::Unaccounted;
 use crate::floor::{Floor, Worker};
 use crate::gate::Gate;
-use crate::report::Unaccounted;
 use fw_air::{Sent, Waiting};
 use fw_world::{Actor, Direction};
 use std::alloc::Global;

@@ -1,8 +1,9 @@
 //! A rehearsal: the rounds of a schedule, made by several workers.
 
-ghost use Rattle.std.specs.Prelude.{◌≡◌, ◌≢◌, ◌≤◌, All, IfOk, IfErr, OnOk, IsErrOf};
+ghost use Rattle.std.specs.Prelude.{◌≡◌, ◌≢◌, ◌≤◌, IfOk, IfErr, OnOk, IsErrOf};
+ghost use Rattle.fw_accounts.specs.Accounts.{IsAccounted};
+ghost use Rattle.fw_accounts.specs.Reported.{IsReported};
 ghost use Rattle.fw_air.specs.Fates.{IsFates};
-ghost use Rattle.fw_air.specs.Logs.{IsCounted};
 ghost use Rattle.fw_world.specs.Headline.{
   IsFirstName,
   InitiatesAreOffered,
@@ -14,33 +15,49 @@ ghost use Rattle.fw_world.specs.Headline.{
 ghost use Rattle.fw_world.specs.Runs.{events_of};
 ghost use Rattle.fw_world.specs.Setup.{IsSetup, opening_state};
 ghost use Rattle.fw_world.specs.State.{world_of};
-ghost use Rattle.fw_workers.specs.Accounts.{IsAccounted};
-ghost use Rattle.fw_workers.specs.Inside.{IsReported};
 ghost use Rattle.fw_workers.specs.Refusals.{TellsOfEvent};
 
+use crate::crew::{Hand, Task, work};
+use crate::error::{RehearseError, Unaccounted};
 use crate::floor::{Floor, Worker};
 use crate::gate::Gate;
-use crate::given::play;
-use crate::report::{RehearseError, Report, Unaccounted};
+use crate::given::{Opening, begin};
 use crate::rollout::{Line, Rollout};
-use crate::stage::{Job, OnBoard, Outcome, Stage, dealt};
-use fw_air::{Entry, Fate, Fates, links_of};
+use crate::stage::dealt;
+use fw_accounts::Report;
+use fw_air::{Fate, Fates, links_of};
 use fw_world::{Event, Setup, World};
 use std::alloc::Global;
 use std::sync::Wait;
-use std::thread;
 use std::thread::Threads;
 
-/// The most workers of a rehearsal.
-pub const MAX_WORKERS: u32 = 8;
-
-/// What the workers of a rehearsal are asked to do.
+/// The links of a worker, and the fates of what is sent on them.
 #[derive(Drop)]
-struct Task<'a, G: Gate> {
-    rounds: u32,
-    workers: u32,
-    fates: &'a Fates<'a>,
-    gate: &'a G,
+struct Fated<'a> {
+    lines: Vec<Line>,
+    fates: &'a [Fate],
+    ghost are_fates: { IsFates fates.now },
+}
+
+impl<'a> Hand for Fated<'a> {
+    fn rounds<R: Wait, G: Gate>(
+        &mut self,
+        rt: &R,
+        alloc: Global,
+        floor: &Floor,
+        worker: &mut Worker<'_, G>,
+        rounds: u32,
+    ) -> Result<(), Unaccounted> {
+        let Some(fates) = Fates::new(self.fates) else {
+            unreachable!();
+        };
+        let rollout = Rollout {
+            floor,
+            fates: &fates,
+            rounds,
+        };
+        rollout.rounds(rt, alloc, worker, &mut self.lines)
+    }
 }
 
 /// Makes the given events, and behind them the rounds of all links, as `schedule` makes them, by 1 to 8 workers in threads of their
@@ -77,50 +94,37 @@ pub fn rehearse<R: Threads + Wait + Sync, G: Gate + Sync>(
     ensures made { IfErr result (λ e. e ≢ RehearseError.BadSetup → IsSetup setup.now) }
     ensures wireless { IfErr result (λ e. e ≢ RehearseError.Socket) }
 {
-    if !(1..=MAX_WORKERS).contains(&workers) {
-        return Err(RehearseError::BadSetup);
-    }
-    let (world, entries) = play(alloc, setup, events)?;
+    let opening = begin(alloc, setup, events, workers)?;
     let task = Task {
+        setup,
+        given: events,
         rounds,
         workers,
-        fates,
         gate,
     };
-    let report = make(rt, alloc, setup, events, world, entries, &task)?;
+    let report = by_fates(rt, alloc, &task, opening, fates)?;
     Ok(report)
 }
 
-/// Lets the workers make their rounds from this world on, which the given events and these entries led to, and accounts for what they
-/// left.
-fn make<R: Threads + Wait + Sync, G: Gate + Sync>(
+/// Lets the workers make their rounds by these fates.
+fn by_fates<R: Threads + Wait + Sync, G: Gate + Sync>(
     rt: &R,
     alloc: Global,
-    setup: &Setup,
-    given: &[Event],
-    world: World,
-    entries: Vec<Entry>,
     task: &Task<'_, G>,
+    opening: Opening,
+    fates: &Fates<'_>,
 ) -> Result<Report, Unaccounted>
-    requires log { IsCounted (record { sent = world.sent; entries = entries.items }) }
-    requires workers { 1 ≤ task.now.workers }
-    ensures { IfOk result (λ r. IsReported setup.now (events_of given.now) task.now.rounds task.now.workers
+    requires { 1 ≤ task.now.workers }
+    ensures { IfOk result (λ r. IsReported task.now.setup.now (events_of task.now.given.now) task.now.rounds task.now.workers
         r.world r.board r.receipts.items) }
 {
-    let lines = lines_of(alloc, setup, &world)?;
-    let hands = dealt(alloc, lines, task.workers)?;
-    let mut stage = Stage::of(alloc, setup, world, entries)?;
-    let jobs = stage.seat(alloc, hands)?;
-    let outcomes = spawned(
-        rt,
-        alloc,
-        &stage.floor,
-        task.fates.as_slice(),
-        task.gate,
-        task.rounds,
-        jobs,
-    )?;
-    stage.account(alloc, setup, given, task.rounds, task.workers, outcomes)
+    let lines = lines_of(alloc, task.setup, &opening.world)?;
+    let mut hands = Vec::new(alloc);
+    for lines in dealt(alloc, lines, task.workers)? {
+        let fates = fates.as_slice();
+        hands.push(Fated { lines, fates })?;
+    }
+    work(rt, alloc, task, opening, hands)
 }
 
 /// The links of a world, on which nothing was sent.
@@ -130,84 +134,4 @@ fn lines_of(alloc: Global, setup: &Setup, world: &World) -> Result<Vec<Line>, Un
         lines.push(Line::new(link))?;
     }
     Ok(lines)
-}
-
-/// Each worker in a thread of its own. All are started before the first is joined. The fates are passed as a list, since a
-/// closure's clauses are lost where it captures a value whose type has a lifetime.
-fn spawned<R: Threads + Wait + Sync, G: Gate + Sync>(
-    rt: &R,
-    alloc: Global,
-    floor: &Floor,
-    fates: &[Fate],
-    gate: &G,
-    rounds: u32,
-    jobs: Vec<Job<Vec<Line>>>,
-) -> Result<Vec<Outcome>, Unaccounted>
-    requires fates { IsFates fates.now }
-    requires jobs { All (λ job. job.seat.board ≡ floor.now.board.id) jobs.items }
-    ensures { IfOk result (λ v. All (λ outcome. outcome.seat.board ≡ floor.now.board.id) v.items) }
-{
-    thread::scope(
-        thread::scope_env(),
-        rt,
-        move |scope| -> Result<Vec<Outcome>, Unaccounted>
-            requires { IsFates fates.now × All (λ job. job.seat.board ≡ floor.now.board.id) jobs.items }
-            ensures { IfOk result (λ v. All (λ outcome. outcome.seat.board ≡ floor.entry.now.board.id) v.items) }
-        {
-            let mut rest = jobs;
-            let mut children = Vec::new(alloc);
-            'starts: while !rest.is_empty() {
-                let job = rest.remove(0);
-                let work = move || -> Outcome
-                    requires { IsFates fates.now × (job.seat.board ≡ floor.now.board.id) }
-                    ensures { result.seat.board ≡ floor.entry.now.board.id }
-                { work_off(rt, alloc, floor, fates, gate, rounds, job) };
-                let Ok(child) = scope.spawn_with(OnBoard(&floor.board), work) else {
-                    return Err(Unaccounted::ThreadRefused);
-                };
-                if children.push(child).is_err() {
-                    return Err(Unaccounted::OutOfMemory);
-                }
-            }
-            match thread::join_promised(rt, children) {
-                Ok(outcomes) => Ok(outcomes),
-                Err(_) => Err(Unaccounted::OutOfMemory),
-            }
-        },
-    )
-}
-
-/// What a worker does in its thread.
-fn work_off<R: Wait, G: Gate>(
-    rt: &R,
-    alloc: Global,
-    floor: &Floor,
-    fates: &[Fate],
-    gate: &G,
-    rounds: u32,
-    job: Job<Vec<Line>>,
-) -> Outcome
-    requires fates { IsFates fates.now }
-    requires job { job.seat.board ≡ floor.now.board.id }
-    ensures { result.seat.board ≡ floor.now.board.id }
-{
-    let Job {
-        number,
-        seat,
-        hand: mut links,
-    } = job;
-    let Some(fates) = Fates::new(fates) else {
-        unreachable!();
-    };
-    let rollout = Rollout {
-        floor,
-        fates: &fates,
-        rounds,
-    };
-    let mut worker = Worker::new(number, seat, gate);
-    let ended = rollout.rounds(rt, alloc, &mut worker, &mut links);
-    Outcome {
-        seat: worker.seat,
-        ended,
-    }
 }

@@ -2,9 +2,9 @@
 
 ghost use Rattle.std.specs.Prelude.{◌≡◌};
 
+use crate::error::Unaccounted;
 use crate::floor::{Floor, Worker};
 use crate::gate::Gate;
-use crate::report::Unaccounted;
 use fw_air::{Fates, Sent, Waiting};
 use std::alloc::Global;
 use std::sync::Wait;

@@ -1,15 +1,13 @@
 //! What workers begin with, and what is made of what they leave.
 
 ghost use Rattle.std.specs.Prelude.{◌≡◌, ◌<◌, ◌≤◌, ◌^◌, All, IfOk};
-ghost use Rattle.fw_air.specs.Logs.{IsCounted};
+ghost use Rattle.fw_accounts.specs.Reported.{IsReported};
 ghost use Rattle.fw_world.specs.Runs.{events_of};
-ghost use Rattle.fw_workers.specs.Inside.{IsReported};
 
-use crate::accounts::{account, done_rows};
+use crate::error::Unaccounted;
 use crate::floor::Floor;
-use crate::receipts::Receipts;
-use crate::report::{Report, Unaccounted};
-use fw_air::Entry;
+use crate::given::Opening;
+use fw_accounts::{Receipts, Report, account, done_rows};
 use fw_shared::{Board, Seat};
 use fw_world::{Event, Setup, World};
 use std::alloc::Global;
@@ -47,19 +45,12 @@ pub(crate) struct Stage {
 }
 
 impl Stage {
-    /// The stage for this world, which the given events and these entries led to. The board begins with the rows that are done.
-    pub(crate) fn of(
-        alloc: Global,
-        setup: &Setup,
-        world: World,
-        entries: Vec<Entry>,
-    ) -> Result<Stage, Unaccounted>
-        requires { IsCounted (record { sent = world.sent; entries = entries.items }) }
-    {
-        let done = marks_of(setup, &world)?;
+    /// The stage for this opening. The board begins with the rows that are done.
+    pub(crate) fn of(alloc: Global, setup: &Setup, opening: Opening) -> Result<Stage, Unaccounted> {
+        let done = marks_of(setup, &opening.world)?;
         let (board, seat) = Board::new(alloc, done)?;
         Ok(Stage {
-            floor: Floor::of(alloc, world, entries, board)?,
+            floor: Floor::of(alloc, opening, board)?,
             seat,
         })
     }
@@ -101,7 +92,8 @@ impl Stage {
         let Stage { floor, mut seat } = self;
         let receipts = gathered(alloc, &floor.board, &mut seat, outcomes)?;
         let left = floor.into_left(alloc, seat, receipts)?;
-        account(alloc, setup, given, rounds, workers, left)
+        let report = account(alloc, setup, given, rounds, workers, left)?;
+        Ok(report)
     }
 }
 

@@ -1,7 +1,8 @@
 //! Live rollouts: the rounds of links over wires, made by several workers.
 
-ghost use Rattle.std.specs.Prelude.{◌≡◌, ◌≢◌, ◌≤◌, All, length, IfOk, IfErr, OnOk, IsErrOf};
-ghost use Rattle.fw_air.specs.Logs.{IsCounted};
+ghost use Rattle.std.specs.Prelude.{◌≡◌, ◌≢◌, ◌≤◌, length, IfOk, IfErr, OnOk, IsErrOf};
+ghost use Rattle.fw_accounts.specs.Accounts.{IsAccounted};
+ghost use Rattle.fw_accounts.specs.Reported.{IsReported};
 ghost use Rattle.fw_world.specs.Headline.{
   IsFirstName,
   InitiatesAreOffered,
@@ -13,54 +14,30 @@ ghost use Rattle.fw_world.specs.Headline.{
 ghost use Rattle.fw_world.specs.Runs.{events_of};
 ghost use Rattle.fw_world.specs.Setup.{IsSetup, opening_state};
 ghost use Rattle.fw_world.specs.State.{world_of};
-ghost use Rattle.fw_workers.specs.Accounts.{IsAccounted};
-ghost use Rattle.fw_workers.specs.Inside.{IsReported};
 ghost use Rattle.fw_workers.specs.Refusals.{HasLinks, HasOtherLinks, IsLater, TellsOfEvent};
 
 use crate::carrier::{Carrier, Post};
+use crate::crew::{Hand, Task, work};
+use crate::error::{RehearseError, Unaccounted};
 use crate::floor::{Floor, Worker};
 use crate::gate::Gate;
-use crate::given::play;
+use crate::given::{Opening, begin};
 use crate::lines::Lines;
-use crate::rehearsal::MAX_WORKERS;
-use crate::report::{RehearseError, Report, Unaccounted};
-use crate::stage::{Job, OnBoard, Outcome, Stage, dealt};
-use fw_air::{Entry, UdpWire, Waiting, Wire, links_of};
-use fw_world::{Event, Setup, World};
+use crate::stage::dealt;
+use fw_accounts::Report;
+use fw_air::{UdpWire, Waiting, Wire, links_of};
+use fw_world::{Event, Setup};
 use std::alloc::{AllocError, Global};
 use std::net::Net;
 use std::sync::Wait;
 use std::thread;
 use std::thread::Threads;
 
-/// What the workers of a live rollout are asked to do.
-#[derive(Drop)]
-struct Task<'a, G: Gate> {
-    rounds: u32,
-    workers: u32,
-    gate: &'a G,
-}
-
 /// A link, and both ends of its wire: the head end's and the meter's.
 #[derive(Drop)]
 struct WiredLink<W: Wire + Drop> {
     link: Waiting,
     ends: (W, W),
-}
-
-/// What is dealt to a worker.
-trait Hand {
-    /// So many rounds of its links.
-    fn rounds<R: Wait, G: Gate>(
-        &self,
-        rt: &R,
-        alloc: Global,
-        floor: &Floor,
-        worker: &mut Worker<'_, G>,
-        rounds: u32,
-    ) -> Result<(), Unaccounted>
-        requires { worker.old.seat.board ≡ floor.now.board.id }
-        ensures { worker.new.seat.board ≡ worker.old.seat.board };
 }
 
 /// Links over wires, and what stands between their worker and these.
@@ -72,7 +49,7 @@ struct Wired {
 
 impl Hand for Wired {
     fn rounds<R: Wait, G: Gate>(
-        &self,
+        &mut self,
         rt: &R,
         alloc: Global,
         floor: &Floor,
@@ -126,18 +103,17 @@ pub fn live_over<R: Threads + Wait + Sync, G: Gate + Sync, W: Wire + Send + Drop
     ensures wires { OnOk result (HasLinks setup.now (events_of events.now) (length wires.items)) }
     ensures socket { IsErrOf result RehearseError.Socket → HasOtherLinks setup.now (events_of events.now) (length wires.items) }
 {
-    if !(1..=MAX_WORKERS).contains(&workers) {
-        return Err(RehearseError::BadSetup);
-    }
-    let (world, entries) = play(alloc, setup, events)?;
-    let links = links_of(alloc, setup, &world)?;
+    let opening = begin(alloc, setup, events, workers)?;
+    let links = links_of(alloc, setup, &opening.world)?;
     let lines = with_wires(alloc, links, wires)?;
     let task = Task {
+        setup,
+        given: events,
         rounds,
         workers,
         gate,
     };
-    let report = make(rt, alloc, setup, events, world, entries, lines, &task)?;
+    let report = over_wires(rt, alloc, &task, opening, lines)?;
     Ok(report)
 }
 
@@ -168,18 +144,17 @@ pub fn live<R: Threads + Wait + Net + Sync, G: Gate + Sync>(
     ensures event { IfErr result (TellsOfEvent setup.now events.now) }
     ensures made { IfErr result (λ e. e ≢ RehearseError.BadSetup → IsSetup setup.now) }
 {
-    if !(1..=MAX_WORKERS).contains(&workers) {
-        return Err(RehearseError::BadSetup);
-    }
-    let (world, entries) = play(alloc, setup, events)?;
-    let links = links_of(alloc, setup, &world)?;
+    let opening = begin(alloc, setup, events, workers)?;
+    let links = links_of(alloc, setup, &opening.world)?;
     let lines = bound(rt, alloc, links)?;
     let task = Task {
+        setup,
+        given: events,
         rounds,
         workers,
         gate,
     };
-    let report = make(rt, alloc, setup, events, world, entries, lines, &task)?;
+    let report = over_wires(rt, alloc, &task, opening, lines)?;
     Ok(report)
 }
 
@@ -222,37 +197,32 @@ fn bound<N: Net>(
     Ok(lines)
 }
 
-/// Lets the workers make their rounds from this world on, which the given events and these entries led to, and accounts for what they
-/// left.
-fn make<R: Threads + Wait + Sync, G: Gate + Sync, W: Wire + Send + Drop>(
+/// Lets the workers make their rounds over these wires.
+fn over_wires<R: Threads + Wait + Sync, G: Gate + Sync, W: Wire + Send + Drop>(
     rt: &R,
     alloc: Global,
-    setup: &Setup,
-    given: &[Event],
-    world: World,
-    entries: Vec<Entry>,
-    lines: Vec<WiredLink<W>>,
     task: &Task<'_, G>,
+    opening: Opening,
+    lines: Vec<WiredLink<W>>,
 ) -> Result<Report, Unaccounted>
-    requires log { IsCounted (record { sent = world.sent; entries = entries.items }) }
-    requires workers { 1 ≤ task.now.workers }
-    ensures { IfOk result (λ r. IsReported setup.now (events_of given.now) task.now.rounds task.now.workers
+    requires { 1 ≤ task.now.workers }
+    ensures { IfOk result (λ r. IsReported task.now.setup.now (events_of task.now.given.now) task.now.rounds task.now.workers
         r.world r.board r.receipts.items) }
 {
     let lines = dealt(alloc, lines, task.workers)?;
     let (hands, carriers) = crews(alloc, lines)?;
-    let mut stage = Stage::of(alloc, setup, world, entries)?;
-    let jobs = stage.seat(alloc, hands)?;
-    let outcomes = carried(
+    carried(
         rt,
         alloc,
-        &stage.floor,
-        task.gate,
+        task.setup,
+        task.given,
         task.rounds,
-        jobs,
+        task.workers,
+        task.gate,
+        opening,
+        hands,
         carriers,
-    )?;
-    stage.account(alloc, setup, given, task.rounds, task.workers, outcomes)
+    )
 }
 
 /// What each worker is dealt, and what its wire thread does.
@@ -285,25 +255,30 @@ fn parted<W: Wire + Drop>(
     Ok((Wired { links, post }, carrier))
 }
 
-/// The wires of each worker in a thread of their own, and behind them the workers. Each wire thread ends when its worker has.
+/// The wires of each worker in a thread of their own, and behind them the workers. Each wire thread ends when its worker has. The task
+/// is passed part by part, since a closure's clauses are lost where it captures a value whose type has a lifetime.
 fn carried<R: Threads + Wait + Sync, G: Gate + Sync, W: Wire + Send + Drop>(
     rt: &R,
     alloc: Global,
-    floor: &Floor,
-    gate: &G,
+    setup: &Setup,
+    given: &[Event],
     rounds: u32,
-    jobs: Vec<Job<Wired>>,
+    workers: u32,
+    gate: &G,
+    opening: Opening,
+    hands: Vec<Wired>,
     carriers: Vec<Carrier<W>>,
-) -> Result<Vec<Outcome>, Unaccounted>
-    requires { All (λ job. job.seat.board ≡ floor.now.board.id) jobs.items }
-    ensures { IfOk result (λ v. All (λ outcome. outcome.seat.board ≡ floor.now.board.id) v.items) }
+) -> Result<Report, Unaccounted>
+    requires { 1 ≤ workers }
+    ensures { IfOk result (λ r. IsReported setup.now (events_of given.now) rounds workers r.world r.board r.receipts.items) }
 {
     thread::scope(
         thread::scope_env(),
         rt,
-        move |scope| -> Result<Vec<Outcome>, Unaccounted>
-            requires { All (λ job. job.seat.board ≡ floor.now.board.id) jobs.items }
-            ensures { IfOk result (λ v. All (λ outcome. outcome.seat.board ≡ floor.entry.now.board.id) v.items) }
+        move |scope| -> Result<Report, Unaccounted>
+            requires { 1 ≤ workers }
+            ensures { IfOk result (λ r. IsReported setup.entry.now (events_of given.entry.now) rounds workers
+                r.world r.board r.receipts.items) }
         {
             let mut rest = carriers;
             'carriers: while !rest.is_empty() {
@@ -312,70 +287,14 @@ fn carried<R: Threads + Wait + Sync, G: Gate + Sync, W: Wire + Send + Drop>(
                     return Err(Unaccounted::ThreadRefused);
                 }
             }
-            spawned(rt, alloc, floor, gate, rounds, jobs)
+            let task = Task {
+                setup,
+                given,
+                rounds,
+                workers,
+                gate,
+            };
+            work(rt, alloc, &task, opening, hands)
         },
     )
-}
-
-/// Each worker in a thread of its own. All are started before the first is joined.
-fn spawned<R: Threads + Wait + Sync, G: Gate + Sync, H: Hand + Send + Drop>(
-    rt: &R,
-    alloc: Global,
-    floor: &Floor,
-    gate: &G,
-    rounds: u32,
-    jobs: Vec<Job<H>>,
-) -> Result<Vec<Outcome>, Unaccounted>
-    requires { All (λ job. job.seat.board ≡ floor.now.board.id) jobs.items }
-    ensures { IfOk result (λ v. All (λ outcome. outcome.seat.board ≡ floor.now.board.id) v.items) }
-{
-    thread::scope(
-        thread::scope_env(),
-        rt,
-        move |scope| -> Result<Vec<Outcome>, Unaccounted>
-            requires { All (λ job. job.seat.board ≡ floor.now.board.id) jobs.items }
-            ensures { IfOk result (λ v. All (λ outcome. outcome.seat.board ≡ floor.entry.now.board.id) v.items) }
-        {
-            let mut rest = jobs;
-            let mut children = Vec::new(alloc);
-            'starts: while !rest.is_empty() {
-                let job = rest.remove(0);
-                let work = move || -> Outcome
-                    requires { job.seat.board ≡ floor.now.board.id }
-                    ensures { result.seat.board ≡ floor.entry.now.board.id }
-                { work_off(rt, alloc, floor, gate, rounds, job) };
-                let Ok(child) = scope.spawn_with(OnBoard(&floor.board), work) else {
-                    return Err(Unaccounted::ThreadRefused);
-                };
-                if children.push(child).is_err() {
-                    return Err(Unaccounted::OutOfMemory);
-                }
-            }
-            match thread::join_promised(rt, children) {
-                Ok(outcomes) => Ok(outcomes),
-                Err(_) => Err(Unaccounted::OutOfMemory),
-            }
-        },
-    )
-}
-
-/// What a worker does in its thread.
-fn work_off<R: Wait, G: Gate, H: Hand + Drop>(
-    rt: &R,
-    alloc: Global,
-    floor: &Floor,
-    gate: &G,
-    rounds: u32,
-    job: Job<H>,
-) -> Outcome
-    requires { job.seat.board ≡ floor.now.board.id }
-    ensures { result.seat.board ≡ floor.now.board.id }
-{
-    let Job { number, seat, hand } = job;
-    let mut worker = Worker::new(number, seat, gate);
-    let ended = hand.rounds(rt, alloc, floor, &mut worker, rounds);
-    Outcome {
-        seat: worker.seat,
-        ended,
-    }
 }

@@ -1,7 +1,5 @@
 //! Audits of the parts of runs.
 
-use crate::report::report;
-use crate::script::{DONE, Given, LARGE, Line, NO_HEAD, SMALL, events_of, setup_of};
 use crate::support::{Case, each};
 use fw_air::audit;
 use fw_world::{Event, run};
@@ -9,6 +7,7 @@ use std::alloc::Global;
 use std::sync::Wait;
 use std::test::Fail;
 use std::thread::Threads;
+use test_worlds::{DONE, Given, LARGE, Line, NO_HEAD, SMALL, events_of, report, setup_of};
 
 /// What an audit is told of a run.
 enum Told {

@@ -2,7 +2,7 @@
 
 ghost use Rattle.std.specs.Prelude.{◌≡◌, ◌<◌};
 
-use fw_workers::{Board, Seat};
+use fw_shared::{Board, Seat};
 use std::test::Fail;
 use std::thread;
 

@@ -1,9 +1,9 @@
 //! The links of a world, and what waits on one.
 
-use crate::script::{OPENED_FOR_SOME, TWO_HEADS, events_of, setup_of};
 use fw_air::{Fate, Fates, links_of};
 use fw_world::World;
 use std::test::Fail;
+use test_worlds::{OPENED_FOR_SOME, TWO_HEADS, events_of, setup_of};
 
 /// By head ends and then by meters, in the order of the setup.
 const LINKS: &[(u32, u32)] = &[(7, 1), (7, 2), (7, 3), (7, 4), (8, 2), (8, 4)];

@@ -2,22 +2,21 @@
 
 ghost use Rattle.std.specs.Prelude.{◌≡◌, ◌<◌, IfOk};
 
-use crate::report::{done_rows, push, report};
-use crate::script::{
-    FOUR, Given, Line, OPENED, OPENED_BY_TWO, OPENED_FOR_FOUR, OPENED_FOR_SOME, OPENED_TWO_LARGE,
-    SMALL, TWO_HEADS, TWO_LARGE, events_of, head, meter, setup_of,
-};
-use crate::support::{Case, each, expect};
+use crate::support::{Case, each};
 use fw_air::{CoreEvent, Entry, Sent, SharedLog, audit};
 use fw_head::News;
+use fw_shared::{Board, Desk, Seat, SharedMeter};
 use fw_store::MemoryStore;
-use fw_workers::{Board, Desk, Seat, SharedMeter};
 use fw_world::{Event, NumberedMeter, Parts, Setup, StepError, World};
 use std::alloc::{AllocError, Global};
 use std::sync::Wait;
 use std::test::Fail;
 use std::thread;
 use std::thread::Threads;
+use test_worlds::{
+    FOUR, Given, Line, OPENED, OPENED_BY_TWO, OPENED_FOR_FOUR, OPENED_FOR_SOME, OPENED_TWO_LARGE,
+    SMALL, TWO_HEADS, TWO_LARGE, done_rows, events_of, expect, head, meter, push, report, setup_of,
+};
 
 /// Head ends and meters in the order of their setup, and the log.
 #[derive(Drop)]

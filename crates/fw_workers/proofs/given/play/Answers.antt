@@ -3,7 +3,7 @@ use Rattle.std.proofs.lemmas.Option.{slice_get_read}
 use Rattle.fw_air.specs.Logs.{IsCounted}
 use Rattle.fw_world.specs.Setup.{opening_state}
 use Rattle.fw_world.specs.View.{event_of}
-use Rattle.fw_workers.specs.declared.report.RehearseError.TheVariants as refused
+use Rattle.fw_workers.specs.declared.error.RehearseError.TheVariants as refused
 use Rattle.fw_workers.specs.Refusals.{TellsOfEvent}
 use Rattle.fw_workers.proofs.Playing.{counted_on, not_setup, runs_on, told}
 use Rattle.fw_workers.proofs.given.play.Goals as goal

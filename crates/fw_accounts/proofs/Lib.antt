@@ -1,0 +1,4 @@
+pub mod Accounting
+pub mod Dealing
+pub mod Numbering
+pub mod Rising

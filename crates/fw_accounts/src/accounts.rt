@@ -1,0 +1,293 @@
+//! Whether what workers left is what they made.
+
+ghost use Rattle.std.specs.Prelude.{
+  ◌≡◌,
+  ◌↔◌,
+  ◌≤◌,
+  ◌<◌,
+  ◌+◌,
+  ◌++◌,
+  ◌^◌,
+  List,
+  Some,
+  All,
+  IsTrue,
+  IfOk,
+  OnOk,
+  SomeIff,
+  count_by,
+  length,
+  map,
+};
+ghost use Rattle.std.specs.List.Sorted.{IsPermutation};
+ghost use Rattle.fw_air.specs.Events.{core_event_of};
+ghost use Rattle.fw_air.specs.Links.{link_of};
+ghost use Rattle.fw_world.specs.Runs.{events_of};
+ghost use Rattle.fw_world.specs.State.{is_done};
+ghost use Rattle.fw_world.specs.Step.{Event as Given};
+ghost use Rattle.fw_world.specs.View.{event_of};
+ghost use Rattle.fw_accounts.specs.Accounts.{
+  AreDealt,
+  HasItsTicks,
+  IsRising,
+  all_of,
+  done_in,
+  done_rows,
+  its_ticks,
+  numbered,
+  ticks_of,
+};
+ghost use Rattle.fw_accounts.specs.Reported.{IsReported};
+
+use crate::error::AccountError;
+use crate::receipts::Receipts;
+use crate::report::Report;
+use fw_air::{CoreEvent, Entry, Waiting, audit, links_of};
+use fw_book::{Book, Row, RowState};
+use fw_head::HeadCore;
+use fw_shared::Receipt;
+use fw_world::{Datagram, Event, NumberedMeter, Setup, World};
+use std::alloc::{AllocError, Global};
+
+/// What workers left: the parts of a world, the log, the board's count and the receipts.
+#[derive(Drop)]
+pub struct Left {
+    /// The head ends.
+    pub heads: Vec<HeadCore>,
+    /// The meters, with their numbers.
+    pub meters: Vec<NumberedMeter>,
+    /// All that was sent.
+    pub sent: Vec<Datagram>,
+    /// The given events, and behind them those of the workers.
+    pub entries: Vec<Entry>,
+    /// How many rows the board has as done.
+    pub board: u64,
+    /// The receipts of each worker, in the order of the workers' numbers.
+    pub receipts: Vec<Receipts>,
+}
+
+/// Compares what the workers left with what their record leads to, where they were to make so many rounds of all links behind the
+/// given events. What is answered rests on this alone, not on what they did.
+///
+/// # Errors
+///
+/// `Mismatch` where anything differs, and `OutOfMemory`.
+pub fn account(
+    alloc: Global,
+    setup: &Setup,
+    given: &[Event],
+    rounds: u32,
+    workers: u32,
+    left: Left,
+) -> Result<Report, AccountError>
+    requires { 1 ≤ workers }
+    ensures { IfOk result (λ r. IsReported setup.now (events_of given.now) rounds workers r.world r.board r.receipts.items) }
+{
+    let Left {
+        heads,
+        meters,
+        sent,
+        entries,
+        board,
+        receipts,
+    } = left;
+    let events = record_of(alloc, given, entries)?;
+    if receipts.len() != workers as usize
+        || !are_rising(&receipts)
+        || !are_numbered(alloc, given.len(), &events[given.len()..], &receipts)?
+    {
+        return Err(AccountError::Mismatch);
+    }
+    let world = audit(alloc, setup, &events, &heads, &meters, &sent)?;
+    let links = links_of(alloc, setup, &world)?;
+    if !are_dealt(&links, rounds, workers, &receipts) || !is_count(board, setup, &world) {
+        return Err(AccountError::Mismatch);
+    }
+    Ok(Report {
+        world,
+        board,
+        receipts,
+    })
+}
+
+/// The given events, and behind them those of the entries that come after theirs.
+fn record_of(alloc: Global, given: &[Event], entries: Vec<Entry>) -> Result<Vec<Event>, AllocError>
+    ensures { IfOk result (λ v. (made : List Given) × (events_of v.items ≡ events_of given.now ++ made)) }
+{
+    let mut events = given.to_vec(alloc)?;
+    for entry in entries.into_iter().skip(given.len()) {
+        events.push(entry.event)?;
+    }
+    Ok(events)
+}
+
+/// Whether each worker's numbers rise.
+fn are_rising(receipts: &[Receipts]) -> bool
+    ensures { IsTrue result ↔ All IsRising receipts.now }
+{
+    receipts.iter().all(|of_worker| of_worker.is_rising())
+}
+
+/// Whether the receipts are those for these events, each once, with their numbers from `first` on.
+fn are_numbered(
+    alloc: Global,
+    first: usize,
+    made: &[Event],
+    receipts: &[Receipts],
+) -> Result<bool, AllocError>
+    requires { first + length made.now < 2 ^ 64 }
+    ensures { IfOk result (λ b. IsTrue b → IsPermutation (all_of receipts.now) (numbered first (events_of made.now))) }
+{
+    let mut all = joined(alloc, receipts)?;
+    all.sort_by_key(|receipt| receipt.number)?;
+    Ok(are_for(&all, first, made))
+}
+
+/// The receipts of all workers, one worker's behind another's.
+fn joined(alloc: Global, receipts: &[Receipts]) -> Result<Vec<Receipt>, AllocError>
+    ensures { IfOk result (λ v. v.items ≡ all_of receipts.now) }
+{
+    let mut all = Vec::new(alloc);
+    for of_worker in receipts {
+        push_all(&mut all, of_worker.as_slice())?;
+    }
+    Ok(all)
+}
+
+/// Appends copies of these receipts.
+fn push_all(all: &mut Vec<Receipt>, receipts: &[Receipt]) -> Result<(), AllocError>
+    ensures { OnOk result (all.new.items ≡ all.old.items ++ receipts.now) }
+{
+    for receipt in receipts {
+        all.push(Receipt {
+            number: receipt.number,
+            event: receipt.event,
+        })?;
+    }
+    Ok(())
+}
+
+/// Whether the receipts are, one by one, those for these events, with their numbers from `first` on.
+fn are_for(receipts: &[Receipt], first: usize, made: &[Event]) -> bool
+    requires { first + length made.now < 2 ^ 64 }
+    ensures { IsTrue result → receipts.now ≡ numbered first (events_of made.now) }
+{
+    if receipts.len() != made.len() {
+        return false;
+    }
+    for at in 0..made.len() {
+        let receipt = &receipts[at];
+        if receipt.number != first + at || !is_event(receipt.event, &made[at]) {
+            return false;
+        }
+    }
+    true
+}
+
+/// Whether a worker's event is this event.
+fn is_event(made: CoreEvent, event: &Event) -> bool
+    ensures { IsTrue result → event_of event.now ≡ core_event_of made }
+{
+    match made {
+        CoreEvent::Tick(head, meter) => {
+            matches!(event, Event::Tick(by, of) if *by == head && *of == meter)
+        }
+        CoreEvent::Deliver(number) => matches!(event, Event::Deliver(of) if *of == number),
+        CoreEvent::Turn(meter) => matches!(event, Event::Turn(of) if *of == meter),
+    }
+}
+
+/// Whether each worker made as many ticks of each link as it should have.
+fn are_dealt(links: &[Waiting], rounds: u32, workers: u32, receipts: &[Receipts]) -> bool
+    requires { 1 ≤ workers }
+    ensures { IsTrue result → AreDealt (map link_of links.now) rounds workers receipts.now }
+{
+    for worker in 0..receipts.len() {
+        if !has_its_ticks(links, rounds, workers, worker, &receipts[worker]) {
+            return false;
+        }
+    }
+    true
+}
+
+/// Whether a worker made as many ticks of each link as it should have.
+fn has_its_ticks(
+    links: &[Waiting],
+    rounds: u32,
+    workers: u32,
+    worker: usize,
+    receipts: &Receipts,
+) -> bool
+    requires { 1 ≤ workers }
+    ensures { IsTrue result → HasItsTicks (map link_of links.now) rounds workers worker receipts.now }
+{
+    for j in 0..links.len() {
+        let its = its_ticks(rounds, workers, worker, j);
+        if !has_ticks(&links[j], its, receipts) {
+            return false;
+        }
+    }
+    true
+}
+
+/// How many ticks a worker makes of the link of this place.
+fn its_ticks(rounds: u32, workers: u32, worker: usize, j: usize) -> usize
+    requires { 1 ≤ workers }
+    ensures { result ≡ its_ticks rounds workers worker j }
+{
+    if j % workers as usize == worker {
+        rounds as usize
+    } else {
+        0
+    }
+}
+
+/// Whether there are so many ticks of a link among these receipts.
+fn has_ticks(link: &Waiting, wanted: usize, receipts: &Receipts) -> bool
+    ensures { IsTrue result → ticks_of (link_of link.now).head (link_of link.now).meter receipts.now ≡ wanted }
+{
+    receipts.ticks(link.head(), link.meter()) == wanted
+}
+
+/// Whether so many rows of all head ends are done.
+fn is_count(board: u64, setup: &Setup, world: &World) -> bool
+    ensures { IsTrue result → board ≡ done_rows setup.now world.now }
+{
+    match done_rows(setup, world) {
+        Some(done) => done == board,
+        None => false,
+    }
+}
+
+/// How many rows of all head ends are done, and `None` where they are more than 2^64 - 1.
+pub fn done_rows(setup: &Setup, world: &World) -> Option<u64>
+    ensures { SomeIff result (done_rows setup.now world.now < 2 ^ 64) (done_rows setup.now world.now) }
+{
+    let mut done = 0u64;
+    for head in &setup.heads {
+        if let Some(book) = world.book(head.head) {
+            done = done.checked_add(done_in(book)?)?;
+        }
+    }
+    Some(done)
+}
+
+/// How many rows of a book are done.
+fn done_in(book: &Book) -> Option<u64>
+    ensures { SomeIff result (done_in book.now < 2 ^ 64) (done_in book.now) }
+{
+    let mut done = 0u64;
+    for (_serial, offer) in book.rows() {
+        done = done.checked_add(done_among(offer.rows()) as u64)?;
+    }
+    Some(done)
+}
+
+/// How many of these rows are done.
+fn done_among(rows: &[Row]) -> usize
+    ensures { result ≡ count_by (λ row. is_done (Some row.state)) rows.now }
+{
+    rows.iter()
+        .filter(|row| row.state == RowState::Done)
+        .count()
+}

@@ -1,0 +1,12 @@
+//! What workers are held to: whether what they left is what they made, one run of the world.
+#![tactic(auto)]
+
+mod accounts;
+mod error;
+mod receipts;
+mod report;
+
+pub use accounts::{Left, account, done_rows};
+pub use error::AccountError;
+pub use receipts::Receipts;
+pub use report::Report;

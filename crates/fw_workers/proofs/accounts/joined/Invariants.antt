@@ -1,6 +1,0 @@
-use Rattle.std.proofs.Common.{◌≡◌, take}
-use Rattle.fw_workers.specs.Accounts.{all_of}
-use Rattle.fw_workers.proofs.accounts.joined.Given as goal
-
-abbrev pub invariant-loop-of_worker : goal.invariant-loop-of_worker
-invariant-loop-of_worker l = l.all.items ≡ all_of (take l.of_worker-index l.receipts)

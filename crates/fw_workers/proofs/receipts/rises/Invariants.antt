@@ -1,5 +1,0 @@
-use Rattle.fw_workers.proofs.Rising.{RisesBelow}
-use Rattle.fw_workers.proofs.receipts.rises.Given as goal
-
-abbrev pub invariant-loop-i : goal.invariant-loop-i
-invariant-loop-i l = RisesBelow l.receipts l.i
