@@ -1,6 +1,6 @@
 //! What worlds are made with, and what happens in them, by numbers.
 
-use fw_names::{CampaignId, HeadId, MeterId};
+use fw_names::{CampaignId, HeadId, MeterId, factory_name};
 use fw_world::{Event, HeadSetup, MeterSetup, Setup};
 use std::alloc::Global;
 use std::test::Fail;
@@ -17,10 +17,20 @@ pub enum Line {
     Open(u32, u32, &'static [u8], &'static [u32]),
     /// The same of an image of so many bytes `a`.
     OpenLong(u32, u32, usize, &'static [u32]),
+    /// The same of the image `abc`, for one meter so many times.
+    OpenOften(u32, u32, u32, usize),
+    /// A head end cancels the campaign of this serial number.
+    Cancel(u32, u32),
     /// A head end sends to a meter.
     Tick(u32, u32),
     /// These datagrams come, one after another.
     Deliver(&'static [usize]),
+    /// A datagram comes to its meter, which stops behind so many calls of its store.
+    Stop(usize, u64, u8),
+    /// A meter starts again.
+    RestartMeter(u32),
+    /// A head end starts again.
+    RestartHead(u32),
     /// A meter goes on with what it verifies.
     Turn(u32),
 }
@@ -47,11 +57,13 @@ pub fn setup_of(alloc: Global, given: &Given) -> Result<Setup, Fail> {
     Ok(Setup { heads, meters })
 }
 
-/// The events of all lines.
-pub fn events_of(alloc: Global, lines: &[Line]) -> Result<Vec<Event>, Fail> {
+/// The events of all parts.
+pub fn events_of(alloc: Global, parts: &[&[Line]]) -> Result<Vec<Event>, Fail> {
     let mut events = Vec::new(alloc);
-    for line in lines {
-        push_line(alloc, &mut events, line)?;
+    for part in parts {
+        for line in *part {
+            push_line(alloc, &mut events, line)?;
+        }
     }
     Ok(events)
 }
@@ -70,30 +82,37 @@ fn push_line(alloc: Global, events: &mut Vec<Event>, line: &Line) -> Result<(), 
 fn event(alloc: Global, line: &Line) -> Result<Event, Fail> {
     Ok(match *line {
         Line::Open(head, serial, image, numbers) => {
-            opening(alloc, head, serial, image.to_vec(alloc)?, numbers)?
+            opening(head, serial, image.to_vec(alloc)?, meters(alloc, numbers)?)?
         }
         Line::OpenLong(head, serial, size, numbers) => {
-            opening(alloc, head, serial, vec![in alloc; b'a'; size]?, numbers)?
+            opening(
+                head,
+                serial,
+                vec![in alloc; b'a'; size]?,
+                meters(alloc, numbers)?,
+            )?
         }
+        Line::OpenOften(head, serial, number, times) => {
+            let meters = vec![in alloc; meter(number)?; times]?;
+            opening(head, serial, b"abc".to_vec(alloc)?, meters)?
+        }
+        Line::Cancel(head, serial) => Event::CancelCampaign(campaign(head, serial)?),
         Line::Tick(number, other) => Event::Tick(head(number)?, meter(other)?),
         Line::Deliver(_) => return Err("several events".into()),
+        Line::Stop(datagram, calls, torn) => Event::Stop {
+            datagram,
+            calls,
+            torn,
+        },
+        Line::RestartMeter(number) => Event::RestartMeter(meter(number)?),
+        Line::RestartHead(number) => Event::RestartHead(head(number)?),
         Line::Turn(number) => Event::Turn(meter(number)?),
     })
 }
 
-fn opening(
-    alloc: Global,
-    number: u32,
-    serial: u32,
-    image: Vec<u8>,
-    numbers: &[u32],
-) -> Result<Event, Fail> {
-    let mut meters = Vec::new(alloc);
-    for number in numbers {
-        meters.push(meter(*number)?)?;
-    }
+fn opening(head: u32, serial: u32, image: Vec<u8>, meters: Vec<MeterId>) -> Result<Event, Fail> {
     Ok(Event::OpenCampaign {
-        campaign: CampaignId::new(head(number)?, serial).ok_or("a serial number begins at 1")?,
+        campaign: campaign(head, serial)?,
         image,
         meters,
     })
@@ -107,6 +126,22 @@ pub fn head(number: u32) -> Result<HeadId, Fail> {
 /// The meter of this number.
 pub fn meter(number: u32) -> Result<MeterId, Fail> {
     Ok(MeterId::new(number).ok_or("every number is a meter's")?)
+}
+
+/// The campaign of these numbers; of 0 and 0, that of images which meters are made with.
+fn campaign(number: u32, serial: u32) -> Result<CampaignId, Fail> {
+    if (number, serial) == (0, 0) {
+        return Ok(factory_name(b"x").campaign);
+    }
+    Ok(CampaignId::new(head(number)?, serial).ok_or("a serial number begins at 1")?)
+}
+
+fn meters(alloc: Global, numbers: &[u32]) -> Result<Vec<MeterId>, Fail> {
+    let mut meters = Vec::new(alloc);
+    for number in numbers {
+        meters.push(meter(*number)?)?;
+    }
+    Ok(meters)
 }
 
 /// One head end and one meter, and a campaign of two blocks.

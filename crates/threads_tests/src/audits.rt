@@ -33,7 +33,7 @@ struct Audit(&'static Given, &'static [Line], Told);
 impl Case for Audit {
     fn told<R: Threads + Wait + Sync>(&self, _rt: &R, alloc: Global) -> Result<String, Fail> {
         let mut setup = setup_of(alloc, self.0)?;
-        let mut events = events_of(alloc, self.1)?;
+        let mut events = events_of(alloc, &[self.1])?;
         let Ok(world) = run(alloc, &setup, &events) else {
             return Err("an event is refused".into());
         };

@@ -23,7 +23,7 @@ fn links(rt: HostRuntime) -> Result<(), Fail> {
     let alloc = rt.alloc();
     let setup = setup_of(alloc, TWO_HEADS)?;
     let mut world = World::new(alloc, &setup)?;
-    for event in &events_of(alloc, OPENED_FOR_SOME)? {
+    for event in &events_of(alloc, &[OPENED_FOR_SOME])? {
         world.step(alloc, event)?;
     }
     let mut links = links_of(alloc, &setup, &world)?;

@@ -185,7 +185,7 @@ impl Joined {
         alloc: Global,
     ) -> Result<(World, u64), Fail> {
         let setup = setup_of(alloc, self.0)?;
-        let shared = Shared::new(alloc, &setup, events_of(alloc, self.1)?)?;
+        let shared = Shared::new(alloc, &setup, events_of(alloc, &[self.1])?)?;
         let count = together(rt, alloc, &shared, self.2, self.3)?;
         Ok((shared.audited(alloc, &setup)?, count))
     }
@@ -382,7 +382,7 @@ struct Made(&'static [Call]);
 impl Case for Made {
     fn told<R: Threads + Wait + Sync>(&self, rt: &R, alloc: Global) -> Result<String, Fail> {
         let setup = setup_of(alloc, TWO_HEADS)?;
-        let shared = Shared::new(alloc, &setup, events_of(alloc, OPENED_FOR_SOME)?)?;
+        let shared = Shared::new(alloc, &setup, events_of(alloc, &[OPENED_FOR_SOME])?)?;
         let (board, mut seat) = Board::new(alloc, 0)?;
         let mut text = answers(rt, alloc, &shared, &board, &mut seat, self.0)?;
         let (_count, receipts) = board.close(seat);
@@ -449,7 +449,11 @@ fn call_by_call(rt: HostRuntime) -> Result<(), Fail> {
 fn receipts_and_parts(rt: HostRuntime) -> Result<(), Fail> {
     let alloc = rt.alloc();
     let (head, meter) = (head(7)?, meter(1)?);
-    let shared = Shared::new(alloc, &setup_of(alloc, SMALL)?, events_of(alloc, OPENED)?)?;
+    let shared = Shared::new(
+        alloc,
+        &setup_of(alloc, SMALL)?,
+        events_of(alloc, &[OPENED])?,
+    )?;
     let (board, mut seat) = Board::new(alloc, 0)?;
     let calls = &[Call::Tick(0, 1), Call::Serve(0, 0), Call::Hear(0, 1)];
     let _answers = answers(&rt, alloc, &shared, &board, &mut seat, calls)?;

@@ -124,7 +124,7 @@ impl Rollout {
         gate: &G,
     ) -> Result<Result<Report, RehearseError>, Fail> {
         let setup = setup_of(alloc, self.0)?;
-        let given = events_of(alloc, self.1)?;
+        let given = events_of(alloc, &[self.1])?;
         let mut wires = Vec::new(alloc);
         for _ in 0..self.4 {
             wires.push(MemoryWire::pair(rt, alloc, self.5)?)?;
@@ -234,7 +234,7 @@ fn over_sockets<R: Threads + Wait + Net + Sync, G: Gate + Sync>(
     gate: &G,
 ) -> Result<Report, Fail> {
     let setup = setup_of(alloc, FOUR)?;
-    let given = events_of(alloc, OPENED_FOR_FOUR)?;
+    let given = events_of(alloc, &[OPENED_FOR_FOUR])?;
     Ok(live(rt, alloc, &setup, &given, 12, 2, gate)?)
 }
 

@@ -26,7 +26,7 @@ impl Rehearsal {
         gate: &G,
     ) -> Result<Result<Report, RehearseError>, Fail> {
         let setup = setup_of(alloc, self.0)?;
-        let given = events_of(alloc, self.1)?;
+        let given = events_of(alloc, &[self.1])?;
         let fates = Fates::new(self.4).ok_or("1 to 4,096 fates")?;
         Ok(rehearse(rt, alloc, &setup, &given, self.2, self.3, &fates, gate))
     }
@@ -203,7 +203,7 @@ impl Scheduled {
     fn told<R: Threads + Wait + Sync>(&self, rt: &R, alloc: Global) -> Result<String, Fail> {
         let Rehearsal(given, lines, rounds, _, fates) = self.0;
         let setup = setup_of(alloc, given)?;
-        let given = events_of(alloc, lines)?;
+        let given = events_of(alloc, &[lines])?;
         let fates = Fates::new(fates).ok_or("1 to 4,096 fates")?;
         let Ok(events) = schedule(alloc, &setup, &given, rounds, &fates) else {
             return Err("an event is refused".into());

@@ -3,12 +3,13 @@
 ghost use Rattle.std.specs.Prelude.{◌≡◌};
 
 use crate::campaigns::{SMALL, UP_TO_ACTIVATE, UP_TO_BLOCKS, UP_TO_DONE, UP_TO_VERIFY};
-use crate::report::{head_number, meter_text, push, push_rows, report};
-use crate::script::{Given, Line, events_of, head, meter, setup_of};
 use crate::support::{Case, each};
 use fw_world::{Actor, Datagram, World};
 use std::alloc::{AllocError, Global};
 use std::test::Fail;
+use test_worlds::{
+    Given, Line, events_of, head, head_number, meter, meter_text, push, push_rows, report, setup_of,
+};
 
 /// A world takes the events one after another, also behind one that is refused: each refusal, and then the report.
 struct Made(&'static Given, &'static [&'static [Line]]);

@@ -1,8 +1,9 @@
 //! Campaigns, to where they end.
 
-use crate::script::{Given, Line, Script};
+use crate::script::Script;
 use crate::support::each;
 use std::test::Fail;
+use test_worlds::{Given, Line};
 
 /// One head end, and one meter with blocks of two bytes.
 pub(crate) const SMALL: &Given = &Given(&[(7, 4)], &[(1, 2, 64, b"x")]);

@@ -8,8 +8,6 @@ mod campaigns;
 #[cfg(test)]
 mod refusals;
 #[cfg(test)]
-mod report;
-#[cfg(test)]
 mod restarts;
 #[cfg(test)]
 mod schedules;

@@ -1,9 +1,10 @@
 //! Events that are refused: the world before them, and the cause. Nothing happens behind one.
 
 use crate::campaigns::{SMALL, UP_TO_ACTIVATE, UP_TO_BLOCKS, UP_TO_DONE, UP_TO_VERIFY};
-use crate::script::{Line, Script};
+use crate::script::Script;
 use crate::support::each;
 use std::test::Fail;
+use test_worlds::Line;
 
 /// An unknown head end comes before an unknown meter, and both before what the book refuses.
 const REFUSED_OPENINGS: &[(Script, &str)] = &[

@@ -1,9 +1,10 @@
 //! Restarts of meters and head ends.
 
 use crate::campaigns::SMALL;
-use crate::script::{Line, Script};
+use crate::script::Script;
 use crate::support::each;
 use std::test::Fail;
+use test_worlds::Line;
 
 /// A meter that starts again in each status and behind each request takes the campaign to its end.
 const METER_RESTARTS: &[Line] = &[

@@ -1,14 +1,13 @@
 //! Link rounds: which events come of them, and what the world is then.
 
 use crate::campaigns::SMALL;
-use crate::report::{push, report};
-use crate::script::{Given, Line, events_of, setup_of};
 use crate::support::{Case, each};
 use fw_air::{Fate, Fates, schedule};
 use fw_world::{Event, RunError, Setup, run};
 use std::alloc::{AllocError, Global};
 use std::rt::HostRuntime;
 use std::test::Fail;
+use test_worlds::{Given, Line, events_of, push, report, setup_of};
 
 /// What is told of a schedule.
 enum Told {

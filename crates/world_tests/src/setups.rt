@@ -1,11 +1,11 @@
 //! What worlds are made with, within the limits and past them.
 
-use crate::script::{Given, head, meter, setup_of};
 use crate::support::{Case, each};
 use fw_store::is_setup;
 use fw_world::{HeadSetup, MeterSetup, Setup, World};
 use std::alloc::Global;
 use std::test::Fail;
+use test_worlds::{Given, head, meter, setup_of};
 
 /// Whether a world is made: `made`, or the refusal.
 impl Case for Given {

@@ -1,8 +1,9 @@
 //! Images of more than 4,096 bytes: verify answers that it goes on, and turns of the meter finish it.
 
-use crate::script::{Given, Line, Script};
+use crate::script::Script;
 use crate::support::each;
 use std::test::Fail;
+use test_worlds::{Given, Line};
 
 /// One head end with the widest windows, and one meter with the longest blocks.
 const LARGE: &Given = &Given(&[(7, 15)], &[(1, 1_024, 8_193, b"x")]);

@@ -2,9 +2,10 @@
 //! sent.
 
 use crate::campaigns::{SMALL, UP_TO_ACTIVATE, UP_TO_BLOCKS, UP_TO_VERIFY};
-use crate::script::{Line, Script};
+use crate::script::Script;
 use crate::support::each;
 use std::test::Fail;
+use test_worlds::Line;
 
 /// The campaign goes on: the activate is asked again, and then the claim.
 const ACTIVATED_AGAIN: &[Line] = &[

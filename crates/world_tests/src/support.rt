@@ -2,6 +2,7 @@
 
 use std::alloc::Global;
 use std::test::Fail;
+use test_worlds::expect;
 
 /// Something that is tried, and told of in a line.
 pub(crate) trait Case {
@@ -14,12 +15,4 @@ pub(crate) fn each<C: Case>(alloc: Global, rows: &[(C, &str)]) -> Result<(), Fai
         expect(alloc, at, case.told(alloc)?.as_str(), want)?;
     }
     Ok(())
-}
-
-fn expect(alloc: Global, at: usize, found: &str, want: &str) -> Result<(), Fail> {
-    if found == want {
-        return Ok(());
-    }
-    let told = format!(in alloc; "row {at}: {found} in place of {want}")?;
-    Err(Fail::from(told))
 }

@@ -3,13 +3,13 @@
 use fw_book::{Book, RowState};
 use fw_image::MeterView;
 use fw_names::{HeadId, MeterId};
-use fw_world::{Setup, World};
+use fw_world::{Event, Setup, World};
 use std::alloc::{AllocError, Global};
 use std::test::Fail;
 
 /// The rows by head ends, campaigns and meters, each in their order, then the meters, and then how many images were switched to and
 /// how many datagrams were sent.
-pub(crate) fn report(alloc: Global, setup: &Setup, world: &World) -> Result<String, Fail> {
+pub fn report(alloc: Global, setup: &Setup, world: &World) -> Result<String, Fail> {
     let mut text = String::new(alloc);
     for head in &setup.heads {
         let book = world.book(head.head).ok_or("a head end of the setup")?;
@@ -31,7 +31,7 @@ pub(crate) fn report(alloc: Global, setup: &Setup, world: &World) -> Result<Stri
 }
 
 /// The rows of a book.
-pub(crate) fn push_rows(alloc: Global, text: &mut String, book: &Book) -> Result<(), AllocError> {
+pub fn push_rows(alloc: Global, text: &mut String, book: &Book) -> Result<(), AllocError> {
     let head = book.head().number();
     for (serial, offer) in book.rows() {
         for row in offer.rows() {
@@ -55,11 +55,7 @@ fn state_text(state: RowState) -> &'static str {
 }
 
 /// What a meter shows.
-pub(crate) fn meter_text(
-    alloc: Global,
-    meter: MeterId,
-    view: &MeterView,
-) -> Result<String, AllocError> {
+pub fn meter_text(alloc: Global, meter: MeterId, view: &MeterView) -> Result<String, AllocError> {
     let campaign = view.active.campaign;
     let (meter, status, size) = (meter.number(), view.status.number(), view.active_size);
     let (head, serial) = (head_number(campaign.head()), campaign.serial());
@@ -67,14 +63,47 @@ pub(crate) fn meter_text(
 }
 
 /// The number of a head end, or 0.
-pub(crate) fn head_number(head: Option<HeadId>) -> u32 {
+pub fn head_number(head: Option<HeadId>) -> u32 {
     head.map_or(0, |head| head.number())
 }
 
 /// Appends a part, behind `; ` if another stands before it.
-pub(crate) fn push(text: &mut String, part: &str) -> Result<(), AllocError> {
+pub fn push(text: &mut String, part: &str) -> Result<(), AllocError> {
     if !text.is_empty() {
         text.push_str("; ")?;
     }
     text.push_str(part)
+}
+
+/// How many rows of all head ends are done.
+pub fn done_rows(setup: &Setup, world: &World) -> Result<u64, Fail> {
+    let mut done = 0u64;
+    for head in &setup.heads {
+        let book = world.book(head.head).ok_or("a head end of the setup")?;
+        for (_serial, offer) in book.rows() {
+            let ended = offer
+                .rows()
+                .iter()
+                .filter(|row| row.state == RowState::Done)
+                .count();
+            done = done.saturating_add(ended as u64);
+        }
+    }
+    Ok(done)
+}
+
+/// An event behind its number, as a script has it.
+pub fn numbered(alloc: Global, number: usize, event: &Event) -> Result<String, AllocError> {
+    match event {
+        Event::Tick(head, meter) => {
+            let (head, meter) = (head.number(), meter.number());
+            format!(in alloc; "{number} tick {head} {meter}")
+        }
+        Event::Deliver(datagram) => format!(in alloc; "{number} deliver {datagram}"),
+        Event::Turn(meter) => {
+            let meter = meter.number();
+            format!(in alloc; "{number} turn {meter}")
+        }
+        _ => format!(in alloc; "{number} another"),
+    }
 }
