@@ -2,7 +2,7 @@
 
 use crate::support::{Case, each};
 use fw_air::audit;
-use fw_world::{Event, run};
+use fw_world::{Event, Parts, Setup, run};
 use std::alloc::Global;
 use std::sync::Wait;
 use std::test::Fail;
@@ -27,45 +27,75 @@ enum Told {
     NoHead,
 }
 
+/// A run: its setup, its events, and the parts of the world that it leads to.
+#[derive(Drop)]
+struct Made {
+    setup: Setup,
+    events: Vec<Event>,
+    parts: Parts,
+}
+
+impl Made {
+    /// The run of some events.
+    fn new(alloc: Global, given: &Given, lines: &[Line]) -> Result<Made, Fail> {
+        let setup = setup_of(alloc, given)?;
+        let events = events_of(alloc, &[lines])?;
+        let Ok(world) = run(alloc, &setup, &events) else {
+            return Err("an event is refused".into());
+        };
+        let parts = world.into_parts();
+        Ok(Made {
+            setup,
+            events,
+            parts,
+        })
+    }
+
+    /// Changes what is to be told.
+    fn change(&mut self, alloc: Global, told: &Told) -> Result<(), Fail> {
+        match told {
+            Told::All => {}
+            Told::WithoutLastEvent => {
+                let _last = self.events.pop();
+            }
+            Told::WithRefused => self.events.push(Event::Deliver(self.parts.sent.len()))?,
+            Told::WithoutLastDatagram => {
+                let _last = self.parts.sent.pop();
+            }
+            Told::WithoutHead => {
+                let _last = self.parts.heads.pop();
+            }
+            Told::WithoutMeter => {
+                let _last = self.parts.meters.pop();
+            }
+            Told::NoHead => self.setup = setup_of(alloc, NO_HEAD)?,
+        }
+        Ok(())
+    }
+
+    /// The report of the world that an audit answers, or its refusal.
+    fn audited(&self, alloc: Global) -> Result<String, Fail> {
+        let Parts {
+            heads,
+            meters,
+            sent,
+            ..
+        } = &self.parts;
+        match audit(alloc, &self.setup, &self.events, heads, meters, sent) {
+            Ok(world) => report(alloc, &self.setup, &world),
+            Err(refusal) => Ok(refusal.to_string(alloc)?),
+        }
+    }
+}
+
 /// An audit of the parts of a run.
 struct Audit(&'static Given, &'static [Line], Told);
 
 impl Case for Audit {
     fn told<R: Threads + Wait + Sync>(&self, _rt: &R, alloc: Global) -> Result<String, Fail> {
-        let mut setup = setup_of(alloc, self.0)?;
-        let mut events = events_of(alloc, &[self.1])?;
-        let Ok(world) = run(alloc, &setup, &events) else {
-            return Err("an event is refused".into());
-        };
-        let mut parts = world.into_parts();
-        match self.2 {
-            Told::All => {}
-            Told::WithoutLastEvent => {
-                let _last = events.pop();
-            }
-            Told::WithRefused => events.push(Event::Deliver(parts.sent.len()))?,
-            Told::WithoutLastDatagram => {
-                let _last = parts.sent.pop();
-            }
-            Told::WithoutHead => {
-                let _last = parts.heads.pop();
-            }
-            Told::WithoutMeter => {
-                let _last = parts.meters.pop();
-            }
-            Told::NoHead => setup = setup_of(alloc, NO_HEAD)?,
-        }
-        match audit(
-            alloc,
-            &setup,
-            &events,
-            &parts.heads,
-            &parts.meters,
-            &parts.sent,
-        ) {
-            Ok(world) => report(alloc, &setup, &world),
-            Err(refusal) => Ok(refusal.to_string(alloc)?),
-        }
+        let mut made = Made::new(alloc, self.0, self.1)?;
+        made.change(alloc, &self.2)?;
+        made.audited(alloc)
     }
 }
 

@@ -51,11 +51,10 @@ fn mark_is_seen(rt: HostRuntime) -> Result<(), Fail> {
             ensures { result.0.board ≡ shared.entry.now.id }
         { look(shared, second) },
     );
-    assert_eq!(rt; seen, 1);
-    assert!(rt; board.join(&mut first, second).is_empty());
-    let (count, receipts) = board.close(first);
-    assert_eq!(rt; count, 1);
-    assert!(rt; receipts.is_empty());
+    let receipts = board.join(&mut first, second);
+    let (count, last) = board.close(first);
+    assert_eq!(rt; (seen, count), (1, 1));
+    assert!(rt; receipts.is_empty() && last.is_empty());
     Ok(())
 }
 
@@ -63,8 +62,9 @@ fn mark_is_seen(rt: HostRuntime) -> Result<(), Fail> {
 fn own_mark(rt: HostRuntime) -> Result<(), Fail> {
     let (board, mut seat) = Board::new(rt.alloc(), 0)?;
     board.add(&mut seat);
-    assert!(rt; board.seen(&mut seat) >= 1);
+    let seen = board.seen(&mut seat);
     let (count, _) = board.close(seat);
+    assert!(rt; seen >= 1);
     assert_eq!(rt; count, 1);
     Ok(())
 }
@@ -72,19 +72,23 @@ fn own_mark(rt: HostRuntime) -> Result<(), Fail> {
 #[test]
 fn marks_move_between_seats(rt: HostRuntime) -> Result<(), Fail> {
     let (board, mut first) = Board::new(rt.alloc(), 7)?;
-    assert_eq!(rt; first.allowance(), 1 << 63);
+    let all = first.allowance();
     let mut second = board.split(rt.alloc(), &mut first, 3)?;
-    assert_eq!(rt; first.allowance(), (1 << 63) - 3);
+    let kept = first.allowance();
     board.add(&mut second);
-    assert_eq!(rt; second.allowance(), 2);
-    assert_eq!(rt; board.seen(&mut first), 8);
+    let (marked, seen) = (second.allowance(), board.seen(&mut first));
     let mut third = board.split(rt.alloc(), &mut second, 2)?;
     board.add(&mut third);
-    assert_eq!(rt; second.allowance(), 0);
-    assert!(rt; board.join(&mut first, third).is_empty());
-    assert_eq!(rt; first.allowance(), (1 << 63) - 2);
-    let (count, receipts) = board.close(first);
+    let split = second.allowance();
+    let receipts = board.join(&mut first, third);
+    let joined = first.allowance();
+    let (count, last) = board.close(first);
+    assert_eq!(rt;
+        (all, kept, joined),
+        (1 << 63, (1 << 63) - 3, (1 << 63) - 2)
+    );
+    assert_eq!(rt; (seen, marked, split), (8, 2, 0));
     assert_eq!(rt; count, 9);
-    assert!(rt; receipts.is_empty());
+    assert!(rt; receipts.is_empty() && last.is_empty());
     Ok(())
 }

@@ -43,10 +43,8 @@ impl Link {
     }
 }
 
-#[test]
-fn log_grows_at_its_ends(rt: HostRuntime) -> Result<(), Fail> {
-    let alloc = rt.alloc();
-    let link = Link::new()?;
+/// A log of one event, which sent the datagram 10.
+fn begun(alloc: Global, link: Link) -> Result<SharedLog, AllocError> {
     let mut sent = Vec::new(alloc);
     sent.push(link.datagram(alloc, 10)?)?;
     let mut entries = Vec::new(alloc);
@@ -54,41 +52,79 @@ fn log_grows_at_its_ends(rt: HostRuntime) -> Result<(), Fail> {
         event: link.tick(),
         count: 1,
     })?;
-    assert_eq!(rt; (sent.len(), entries.len()), (1, 1));
-    let log = SharedLog::new(sent, entries);
+    Ok(SharedLog::new(sent, entries))
+}
+
+/// Appends a tick that sends the datagrams 11 and 12: what is answered, and what its stub says.
+fn tick<R: Wait>(
+    rt: &R,
+    alloc: Global,
+    log: &SharedLog,
+    link: Link,
+) -> Result<(Sent, (usize, CoreEvent)), AllocError> {
     let mut room = log.reserve(alloc)?;
     room.push(link.datagram(alloc, 11)?);
     room.push(link.datagram(alloc, 12)?);
-    let (ticked, stub) = log.append(&rt, room, CoreEvent::Tick(link.head, link.meter));
-    assert!(rt; stub.spend() == (1, CoreEvent::Tick(link.head, link.meter)));
-    assert_eq!(rt; (ticked.event, ticked.first, ticked.count), (1, 1, 2));
+    let (sent, stub) = log.append(rt, room, CoreEvent::Tick(link.head, link.meter));
+    Ok((sent, stub.spend()))
+}
+
+/// Appends a delivery that sends nothing: the same.
+fn deliver<R: Wait>(
+    rt: &R,
+    alloc: Global,
+    log: &SharedLog,
+) -> Result<(Sent, (usize, CoreEvent)), AllocError> {
     let room = log.reserve(alloc)?;
-    let (delivered, stub) = log.append(&rt, room, CoreEvent::Deliver(2));
-    assert!(rt; stub.spend() == (2, CoreEvent::Deliver(2)));
-    assert_eq!(rt;
-        (delivered.event, delivered.first, delivered.count),
-        (2, 3, 0)
-    );
-    for (number, byte) in [(0, 10), (1, 11), (2, 12)] {
-        let found = log.get(&rt, alloc, number)?.ok_or("it was sent")?;
-        assert!(rt; found.bytes.first() == Some(&byte));
+    let (sent, stub) = log.append(rt, room, CoreEvent::Deliver(2));
+    Ok((sent, stub.spend()))
+}
+
+/// Whether the datagram of this number is this one, or isn't there.
+fn shows<R: Wait>(
+    rt: &R,
+    alloc: Global,
+    log: &SharedLog,
+    number: usize,
+    byte: Option<u8>,
+) -> Result<bool, AllocError> {
+    let found = log.get(rt, alloc, number)?;
+    Ok(found.and_then(|datagram| datagram.bytes.first().copied()) == byte)
+}
+
+/// Whether these are the datagrams 10, 11 and 12, and the events that sent one, two and none of them, the last one a delivery.
+fn are_grown(sent: &[Datagram], entries: &[Entry]) -> bool {
+    let [first, second, third] = sent else {
+        return false;
+    };
+    let [begun, ticked, delivered] = entries else {
+        return false;
+    };
+    let are_sent = first.bytes.first() == Some(&10)
+        && second.bytes.first() == Some(&11)
+        && third.bytes.first() == Some(&12);
+    let are_counted = (begun.count, ticked.count, delivered.count) == (1, 2, 0);
+    are_sent && are_counted && matches!(delivered.event, Event::Deliver(2))
+}
+
+#[test]
+fn log_grows_at_its_ends(rt: HostRuntime) -> Result<(), Fail> {
+    let alloc = rt.alloc();
+    let link = Link::new()?;
+    let log = begun(alloc, link)?;
+    let ticked = tick(&rt, alloc, &log, link)?;
+    let delivered = deliver(&rt, alloc, &log)?;
+    for (number, byte) in [(0, Some(10)), (1, Some(11)), (2, Some(12)), (3, None)] {
+        assert!(rt; shows(&rt, alloc, &log, number, byte)?);
     }
-    assert!(rt; log.get(&rt, alloc, 3)?.is_none());
     let (sent, entries) = log.into_inner(alloc)?;
-    assert_eq!(rt; sent.len(), 3);
-    for (datagram, byte) in sent.iter().zip([10, 11, 12]) {
-        assert!(rt; datagram.bytes.first() == Some(&byte));
-    }
-    assert_eq!(rt; entries.len(), 3);
-    for (entry, count) in entries.iter().zip([1, 2, 0]) {
-        assert_eq!(rt; entry.count, count);
-    }
-    assert!(rt;
-        matches!(
-            entries.last().map(|entry| &entry.event),
-            Some(Event::Deliver(2))
-        )
-    );
+    assert!(rt; are_grown(&sent, &entries));
+    let (tick, stub) = ticked;
+    assert_eq!(rt; (tick.event, tick.first, tick.count), (1, 1, 2));
+    assert!(rt; stub == (1, CoreEvent::Tick(link.head, link.meter)));
+    let (delivery, stub) = delivered;
+    assert_eq!(rt; (delivery.event, delivery.first, delivery.count), (2, 3, 0));
+    assert!(rt; stub == (2, CoreEvent::Deliver(2)));
     Ok(())
 }
 
@@ -121,25 +157,28 @@ fn add_all<R: Wait>(
 /// The byte of a datagram, and the greatest number of such a one.
 const FOUND: &[(u8, Option<u64>)] = &[(10, Some(4)), (11, Some(1)), (12, Some(3)), (13, None)];
 
+/// Appends a tick that sends the datagram of this byte.
+fn send<R: Wait>(
+    rt: &R,
+    alloc: Global,
+    log: &SharedLog,
+    link: Link,
+    byte: u8,
+) -> Result<(), AllocError> {
+    let mut room = log.reserve(alloc)?;
+    room.push(link.datagram(alloc, byte)?);
+    let (_sent, stub) = log.append(rt, room, CoreEvent::Tick(link.head, link.meter));
+    let _ = stub.spend();
+    Ok(())
+}
+
 #[test]
 fn finds_the_last(rt: HostRuntime) -> Result<(), Fail> {
     let alloc = rt.alloc();
     let link = Link::new()?;
-    let mut sent = Vec::new(alloc);
-    sent.push(link.datagram(alloc, 10)?)?;
-    sent.push(link.datagram(alloc, 11)?)?;
-    let mut entries = Vec::new(alloc);
-    entries.push(Entry {
-        event: link.tick(),
-        count: 2,
-    })?;
-    assert_eq!(rt; (sent.len(), entries.len()), (2, 1));
-    let log = SharedLog::new(sent, entries);
-    for byte in [12, 12, 10] {
-        let mut room = log.reserve(alloc)?;
-        room.push(link.datagram(alloc, byte)?);
-        let (_sent, stub) = log.append(&rt, room, CoreEvent::Tick(link.head, link.meter));
-        let _ = stub.spend();
+    let log = begun(alloc, link)?;
+    for byte in [11, 12, 12, 10] {
+        send(&rt, alloc, &log, link, byte)?;
     }
     let (head, meter) = (Actor::Head(link.head), Actor::Meter(link.meter));
     for (byte, number) in FOUND {
