@@ -157,28 +157,25 @@ fn add_all<R: Wait>(
 /// The byte of a datagram, and the greatest number of such a one.
 const FOUND: &[(u8, Option<u64>)] = &[(10, Some(4)), (11, Some(1)), (12, Some(3)), (13, None)];
 
-/// Appends a tick that sends the datagram of this byte.
-fn send<R: Wait>(
-    rt: &R,
-    alloc: Global,
-    log: &SharedLog,
-    link: Link,
-    byte: u8,
-) -> Result<(), AllocError> {
-    let mut room = log.reserve(alloc)?;
-    room.push(link.datagram(alloc, byte)?);
-    let (_sent, stub) = log.append(rt, room, CoreEvent::Tick(link.head, link.meter));
-    let _ = stub.spend();
-    Ok(())
-}
-
 #[test]
 fn finds_the_last(rt: HostRuntime) -> Result<(), Fail> {
     let alloc = rt.alloc();
     let link = Link::new()?;
-    let log = begun(alloc, link)?;
-    for byte in [11, 12, 12, 10] {
-        send(&rt, alloc, &log, link, byte)?;
+    let mut sent = Vec::new(alloc);
+    sent.push(link.datagram(alloc, 10)?)?;
+    sent.push(link.datagram(alloc, 11)?)?;
+    let mut entries = Vec::new(alloc);
+    entries.push(Entry {
+        event: link.tick(),
+        count: 2,
+    })?;
+    assert_eq!(rt; (sent.len(), entries.len()), (2, 1));
+    let log = SharedLog::new(sent, entries);
+    for byte in [12, 12, 10] {
+        let mut room = log.reserve(alloc)?;
+        room.push(link.datagram(alloc, byte)?);
+        let (_sent, stub) = log.append(&rt, room, CoreEvent::Tick(link.head, link.meter));
+        let _ = stub.spend();
     }
     let (head, meter) = (Actor::Head(link.head), Actor::Meter(link.meter));
     for (byte, number) in FOUND {
