@@ -15,7 +15,7 @@ use fw_air::{Sent, SharedLog};
 use fw_blocks::Width;
 use fw_book::Book;
 use fw_head::{HeadCore, HeadParts, News, PutError, RowCore, TakenRows};
-use fw_names::MeterId;
+use fw_names::{HeadId, MeterId};
 use fw_world::{Actor, StepError};
 use std::alloc::{AllocError, Global};
 use std::marker::Model;
@@ -62,6 +62,13 @@ impl Desk {
             width,
             shards: locked(alloc, dealt(alloc, rows)?)?,
         })
+    }
+
+    /// Its number.
+    pub fn head(&self) -> HeadId
+        ensures { result ≡ self.now.book.head }
+    {
+        self.book.head()
     }
 
     /// The head end, with its rows as the workers left them.
@@ -135,7 +142,7 @@ impl Desk {
         ensures refused { IfErr result IsCoreRefusal }
         ensures same { OnErr result (seat.new ≡ seat.old) }
     {
-        let datagram = addressed(rt, alloc, log, Actor::Head(self.book.head()), number)?;
+        let datagram = addressed(rt, alloc, log, Actor::Head(self.head()), number)?;
         seat.receipts.reserve(1)?;
         let room = log.reserve(alloc)?;
         let mut shard = self.shard(datagram.meter).lock(rt);

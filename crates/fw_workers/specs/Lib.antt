@@ -2,4 +2,5 @@
 pub use Rattle.fw_shared.specs.Seat
 pub use Rattle.fw_shared.specs.Acts
 pub use Rattle.fw_accounts.specs.Accounts
-pub mod Refusals
+pub use Rattle.fw_crew.specs.Refusals
+pub mod Wires

@@ -1,8 +1,8 @@
 //! The wires of a worker's links, in a thread of their own. What is lost there is loss on the wire: no clause speaks of it.
 
-use crate::error::Unaccounted;
 use crossbeam_channel::{Receiver, SendError, Sender, unbounded};
 use fw_air::{MAX_RECEIVED, Pass, Wire};
+use fw_crew::Unaccounted;
 use fw_world::Direction;
 use std::alloc::{AllocError, Global};
 use std::sync::Wait;

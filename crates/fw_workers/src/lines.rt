@@ -3,10 +3,8 @@
 ghost use Rattle.std.specs.Prelude.{◌≡◌};
 
 use crate::carrier::{Brought, Letter, Post};
-use crate::error::Unaccounted;
-use crate::floor::{Floor, Worker};
-use crate::gate::Gate;
 use fw_air::{Sent, Waiting};
+use fw_crew::{Floor, Gate, Unaccounted, Worker};
 use fw_world::{Actor, Direction};
 use std::alloc::Global;
 use std::sync::Wait;
@@ -31,8 +29,8 @@ impl<'a> Lines<'a> {
         worker: &mut Worker<'_, G>,
         rounds: u32,
     ) -> Result<(), Unaccounted>
-        requires { worker.old.seat.board ≡ self.now.floor.now.board.id }
-        ensures { worker.new.seat.board ≡ worker.old.seat.board }
+        requires { worker.old.board ≡ self.now.floor.now.board.id }
+        ensures { worker.new.board ≡ worker.old.board }
     {
         'rounds: for _ in 0..rounds {
             'links: for (place, link) in self.links.iter().enumerate() {
@@ -52,8 +50,8 @@ impl<'a> Lines<'a> {
         place: usize,
         link: &Waiting,
     ) -> Result<(), Unaccounted>
-        requires { worker.old.seat.board ≡ self.now.floor.now.board.id }
-        ensures { worker.new.seat.board ≡ worker.old.seat.board }
+        requires { worker.old.board ≡ self.now.floor.now.board.id }
+        ensures { worker.new.board ≡ worker.old.board }
     {
         let asked = self
             .floor
@@ -74,8 +72,8 @@ impl<'a> Lines<'a> {
         alloc: Global,
         worker: &mut Worker<'_, G>,
     ) -> Result<bool, Unaccounted>
-        requires { worker.old.seat.board ≡ self.now.floor.now.board.id }
-        ensures { worker.new.seat.board ≡ worker.old.seat.board }
+        requires { worker.old.board ≡ self.now.floor.now.board.id }
+        ensures { worker.new.board ≡ worker.old.board }
     {
         self.post.pass(rt)?;
         let mut has_come = false;
@@ -97,8 +95,8 @@ impl<'a> Lines<'a> {
         worker: &mut Worker<'_, G>,
         letter: &Letter,
     ) -> Result<(), Unaccounted>
-        requires { worker.old.seat.board ≡ self.now.floor.now.board.id }
-        ensures { worker.new.seat.board ≡ worker.old.seat.board }
+        requires { worker.old.board ≡ self.now.floor.now.board.id }
+        ensures { worker.new.board ≡ worker.old.board }
     {
         let Some(link) = self.links.get(letter.link) else {
             return Ok(());
@@ -117,7 +115,7 @@ impl<'a> Lines<'a> {
 
     /// The number under which a datagram was sent, and `None` where it wasn't.
     fn number<R: Wait>(&self, rt: &R, link: &Waiting, letter: &Letter) -> Option<usize> {
-        let log = &self.floor.log;
+        let log = self.floor.log();
         let head = Actor::Head(link.head());
         let meter = Actor::Meter(link.meter());
         let number = match letter.direction {
@@ -138,7 +136,7 @@ impl<'a> Lines<'a> {
     ) -> Result<(), Unaccounted> {
         let end = sent.first.saturating_add(sent.count);
         'datagrams: for number in sent.first..end {
-            if let Some(datagram) = self.floor.log.get(rt, alloc, number)? {
+            if let Some(datagram) = self.floor.log().get(rt, alloc, number)? {
                 let letter = Letter {
                     link,
                     direction,

@@ -15,17 +15,13 @@ ghost use Rattle.fw_world.specs.Headline.{
 ghost use Rattle.fw_world.specs.Runs.{events_of};
 ghost use Rattle.fw_world.specs.Setup.{IsSetup, opening_state};
 ghost use Rattle.fw_world.specs.State.{world_of};
-ghost use Rattle.fw_workers.specs.Refusals.{TellsOfEvent};
+ghost use Rattle.fw_crew.specs.Refusals.{TellsOfEvent};
 
-use crate::crew::{Hand, Task, work};
-use crate::error::{RehearseError, Unaccounted};
-use crate::floor::{Floor, Worker};
-use crate::gate::Gate;
-use crate::given::{Opening, begin};
+use crate::deal::dealt;
 use crate::rollout::{Line, Rollout};
-use crate::stage::dealt;
 use fw_accounts::Report;
 use fw_air::{Fate, Fates, links_of};
+use fw_crew::{Floor, Gate, Hand, Opening, RehearseError, Task, Unaccounted, Worker, begin, work};
 use fw_world::{Event, Setup, World};
 use std::alloc::Global;
 use std::sync::Wait;

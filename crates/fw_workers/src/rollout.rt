@@ -2,10 +2,8 @@
 
 ghost use Rattle.std.specs.Prelude.{◌≡◌};
 
-use crate::error::Unaccounted;
-use crate::floor::{Floor, Worker};
-use crate::gate::Gate;
 use fw_air::{Fates, Sent, Waiting};
+use fw_crew::{Floor, Gate, Unaccounted, Worker};
 use std::alloc::Global;
 use std::sync::Wait;
 
@@ -53,8 +51,8 @@ impl<'a> Rollout<'a> {
         worker: &mut Worker<'_, G>,
         lines: &mut [Line],
     ) -> Result<(), Unaccounted>
-        requires { worker.old.seat.board ≡ self.now.floor.now.board.id }
-        ensures { worker.new.seat.board ≡ worker.old.seat.board }
+        requires { worker.old.board ≡ self.now.floor.now.board.id }
+        ensures { worker.new.board ≡ worker.old.board }
     {
         'rounds: for _ in 0..self.rounds {
             'links: for line in lines.iter_mut() {
@@ -73,8 +71,8 @@ impl<'a> Rollout<'a> {
         worker: &mut Worker<'_, G>,
         line: &mut Line,
     ) -> Result<(), Unaccounted>
-        requires { worker.old.seat.board ≡ self.now.floor.now.board.id }
-        ensures { worker.new.seat.board ≡ worker.old.seat.board }
+        requires { worker.old.board ≡ self.now.floor.now.board.id }
+        ensures { worker.new.board ≡ worker.old.board }
     {
         let sent = self.open_round(rt, alloc, worker, line)?;
         let replies = self.deliver_passed(rt, alloc, worker, line, &sent)?;
@@ -90,8 +88,8 @@ impl<'a> Rollout<'a> {
         worker: &mut Worker<'_, G>,
         line: &mut Line,
     ) -> Result<Vec<Sent>, Unaccounted>
-        requires { worker.old.seat.board ≡ self.now.floor.now.board.id }
-        ensures { worker.new.seat.board ≡ worker.old.seat.board }
+        requires { worker.old.board ≡ self.now.floor.now.board.id }
+        ensures { worker.new.board ≡ worker.old.board }
     {
         let late = line.waiting.take_late(alloc);
         let mut sent = self.deliver_all(rt, alloc, worker, line, &late)?;
@@ -111,8 +109,8 @@ impl<'a> Rollout<'a> {
         line: &mut Line,
         sent: &[Sent],
     ) -> Result<Vec<Sent>, Unaccounted>
-        requires { worker.old.seat.board ≡ self.now.floor.now.board.id }
-        ensures { worker.new.seat.board ≡ worker.old.seat.board }
+        requires { worker.old.board ≡ self.now.floor.now.board.id }
+        ensures { worker.new.board ≡ worker.old.board }
     {
         let coming = self.pass(alloc, line, sent)?;
         self.deliver_all(rt, alloc, worker, line, &coming)
@@ -143,8 +141,8 @@ impl<'a> Rollout<'a> {
         line: &Line,
         numbers: &[usize],
     ) -> Result<Vec<Sent>, Unaccounted>
-        requires { worker.old.seat.board ≡ self.now.floor.now.board.id }
-        ensures { worker.new.seat.board ≡ worker.old.seat.board }
+        requires { worker.old.board ≡ self.now.floor.now.board.id }
+        ensures { worker.new.board ≡ worker.old.board }
     {
         let mut sent = Vec::new(alloc);
         for number in numbers {

@@ -7,6 +7,8 @@ mod commands;
 #[cfg(test)]
 mod gates;
 #[cfg(test)]
+mod hands;
+#[cfg(test)]
 mod live;
 #[cfg(test)]
 mod live_commands;

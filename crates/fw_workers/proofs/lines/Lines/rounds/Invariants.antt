@@ -2,7 +2,7 @@ use Rattle.std.proofs.Common.{◌≡◌}
 use Rattle.fw_workers.proofs.lines.Lines.rounds.Given as goal
 
 abbrev pub invariant-rounds : goal.invariant-rounds
-invariant-rounds g l = l.worker.seat.board ≡ l.fn.worker.seat.board
+invariant-rounds g l = l.worker.board ≡ l.fn.worker.board
 
 abbrev pub invariant-links : goal.invariant-links
-invariant-links g l = l.worker.seat.board ≡ l.fn.worker.seat.board
+invariant-links g l = l.worker.board ≡ l.fn.worker.board

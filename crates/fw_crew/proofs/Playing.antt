@@ -1,0 +1,47 @@
+-- Entries for events that happened in a world, and the events of entries.
+use Rattle.std.proofs.Common.{◌≡◌, ℕ, ◌+◌, ◌-◌, ◌<◌, ◌≤◌, List, [], ◌∷◌, ◌++◌, length, get_or, take, ap, sym, subst, ◌∙◌, arith}
+use Rattle.std.proofs.lemmas.List.{map_more}
+use Rattle.std.proofs.lemmas.List.Sums.{sum_by_push}
+use Rattle.std.specs.List.{sum_by}
+use Rattle.fw_world.specs.declared.error.StepError.{StepError}
+use Rattle.fw_world.specs.declared.error.StepError.TheVariants as cause
+use Rattle.fw_world.specs.declared.event.Event.{Event as Given}
+use Rattle.fw_world.specs.declared.runs.RunError.TheVariants as stopped
+use Rattle.fw_world.specs.declared.setup.Setup.{Setup}
+use Rattle.fw_world.specs.Laws.{RunGoesOn}
+use Rattle.fw_world.specs.Runs.{IsStopped, events_of}
+use Rattle.fw_world.specs.State.{State, StateRun, StateStep}
+use Rattle.fw_world.specs.Step.{Event}
+use Rattle.fw_world.specs.View.{event_of}
+use Rattle.fw_air.specs.Logs.{Entry}
+use Rattle.fw_crew.specs.declared.error.RehearseError.TheVariants as refused
+use Rattle.fw_crew.specs.Refusals.{TellsOfEvent, of_event}
+
+-- an entry more, with the number of datagrams that were added
+pub counted_on : (entries : List Entry) (entry : Entry) (old new : ℕ) → sum_by (λ (e : Entry). e.count) entries ≡ old → old ≤ new
+    → entry.count ≡ new - old → sum_by (λ (e : Entry). e.count) (entries ++ entry ∷ []) ≡ new
+counted_on entries entry old new was grew is =
+    let more = sum_by_push (λ (e : Entry). e.count) entries entry in
+    omega arith
+
+-- the next event
+pub runs_on : RunGoesOn → (opening old new : State) (events : List Given) (at : ℕ) (event : Given) → at < length events → event ≡ get_or events at event
+    → StateRun opening (events_of (take at events)) old → StateStep old (event_of event) new → StateRun opening (events_of (take (at + 1) events)) new
+runs_on goes_on opening old new events at event inside is run step =
+    let more : events_of (take (at + 1) events) ≡ events_of (take at events) ++ event_of event ∷ [] =
+    map_more event_of events at event inside ∙ ap (λ (e : Given). events_of (take at events) ++ event_of e ∷ []) (sym is) in
+    subst (λ (es : List Event). StateRun opening es new) (sym more) (goes_on opening old new (events_of (take at events)) (event_of event) run step)
+
+-- where a given event was refused, it is told so
+pub told : (setup : Setup) (events : List Given) (number : ℕ) (world : State) (reason : StepError) → IsStopped setup events (stopped.Event number world reason)
+    → TellsOfEvent setup events (of_event number reason)
+told setup events number world cause.OutOfMemory stop = tt
+told setup events number world cause.NoSuchDatagram stop = record { world = world; reason = cause.NoSuchDatagram; other = λ e. absurd cc; stopped_is = stop }
+told setup events number world cause.NoSuchActor stop = record { world = world; reason = cause.NoSuchActor; other = λ e. absurd cc; stopped_is = stop }
+told setup events number world (cause.Book error) stop = record { world = world; reason = cause.Book error; other = λ e. absurd cc; stopped_is = stop }
+
+pub not_setup : (number : ℕ) (reason : StepError) → of_event number reason ≡ refused.BadSetup → ⊥
+not_setup number cause.OutOfMemory e = absurd cc
+not_setup number cause.NoSuchDatagram e = absurd cc
+not_setup number cause.NoSuchActor e = absurd cc
+not_setup number (cause.Book error) e = absurd cc

@@ -1,0 +1,46 @@
+use Rattle.std.proofs.Common.{◌≡◌, ◌<◌, [], ◌∷◌, Some, length, slice_get, refl, ap, sym, subst, ◌∙◌, arith}
+use Rattle.std.proofs.lemmas.Option.{slice_get_read}
+use Rattle.fw_air.specs.Logs.{IsCounted}
+use Rattle.fw_world.specs.Setup.{opening_state}
+use Rattle.fw_world.specs.View.{event_of}
+use Rattle.fw_crew.specs.declared.error.RehearseError.TheVariants as refused
+use Rattle.fw_crew.specs.Refusals.{TellsOfEvent}
+use Rattle.fw_crew.proofs.Playing.{counted_on, not_setup, runs_on, told}
+use Rattle.fw_crew.proofs.given.play.Goals as goal
+
+pub returns-in-Err-clause-bad_setup : goal.returns-in-Err-clause-bad_setup
+returns-in-Err-clause-bad_setup c = λ is.
+    let same : c.barred.result ≡ refused.BadSetup = cc in
+    absurd (not_setup c.loop-at.at c.in-Err.cause (sym c.barred.ensures ∙ same))
+
+pub returns-in-Err-clause-event : goal.returns-in-Err-clause-event
+returns-in-Err-clause-event c =
+    let setup = c.args.setup.now in
+    let events = c.args.events.now in
+    let at = c.loop-at.at in
+    let event = c.index-events-at.result in
+    let inside : at < length events = omega (arith, c.loop-at-test.true) in
+    let there : slice_get events at ≡ Some event = slice_get_read events (length events) at event refl inside c.index-events-at.is in
+    subst (TellsOfEvent setup events) (sym c.barred.ensures)
+    (told setup events at c.loop-at.world c.in-Err.cause (event, there, c.loop-at.invariant.1, c.in-Err.ensures.refused))
+
+pub overflow_sub-count : goal.overflow_sub-count
+overflow_sub-count c =
+    let new = c.step.new.self in
+    rw (c.sent-before.ensures.sent, c.sent.ensures.sent)
+    (c.sent_grows.ensures c.loop-at.world new (event_of c.index-events-at.result ∷ []) (new, (c.in_default.ensures.admitted, c.in_default.ensures.stepped), refl))
+
+pub loop-at-preserved : goal.loop-at-preserved
+loop-at-preserved c =
+    let events = c.args.events.now in
+    let old = c.loop-at.world in
+    let new = c.step.new.self in
+    let event = c.index-events-at.result in
+    let inside : c.loop-at.at < length events = omega (arith, c.loop-at-test.true) in
+    let grew = c.sent_grows.ensures old new (event_of event ∷ []) (new, (c.in_default.ensures.admitted, c.in_default.ensures.stepped), refl) in
+    let before = ap length c.sent-before.ensures.sent in
+    let after = ap length c.sent.ensures.sent in (
+      subst (λ entries. IsCounted (record { sent = new.sent; entries = entries })) (sym c.in_ok-push.ensures.items)
+          (counted_on c.loop-at.entries.items _ (length old.sent) (length new.sent) c.loop-at.invariant.0 grew (omega (arith, before, after))),
+      runs_on c.run_goes_on.ensures (opening_state c.args.setup.now) old new events c.loop-at.at event inside c.index-events-at.is c.loop-at.invariant.1 c.in_default.ensures.stepped,
+    )

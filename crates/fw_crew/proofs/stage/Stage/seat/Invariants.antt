@@ -1,0 +1,5 @@
+use Rattle.std.proofs.Common.{◌≡◌, All}
+use Rattle.fw_crew.proofs.stage.Stage.seat.Given as goal
+
+abbrev pub invariant-loop-hand : goal.invariant-loop-hand
+invariant-loop-hand g l = All (λ job. job.seat.board ≡ l.self.floor.board.id) l.jobs.items

@@ -1,0 +1,138 @@
+//! Why a rehearsal or a live rollout has no report.
+
+ghost use Rattle.std.specs.Prelude.{◌≡◌, ◌≢◌};
+ghost use Rattle.fw_crew.specs.Refusals.{IsLater, of_setup, of_step};
+ghost use Rattle.fw_crew.specs.declared.error.RehearseError.TheVariants as refused;
+
+use fw_accounts::AccountError;
+use fw_head::PutError;
+use fw_shared::OutOfMemory;
+use fw_world::{SetupError, StepError};
+use std::alloc::{AllocError, AllocFailed};
+use thiserror::Error;
+
+/// Why a rehearsal has no report. Of several workers' refusals the lowest worker's is given.
+#[derive(Clone, Copy, Debug, Drop, PartialEq, Eq, Error)]
+pub enum RehearseError {
+    /// What the workers left isn't what their record says.
+    #[error("Mismatch")]
+    Mismatch,
+    /// A thread could not be started.
+    #[error("ThreadRefused")]
+    ThreadRefused,
+    /// The given event at this place, counted from 0, was refused, for another cause than memory.
+    #[error("Event({0})")]
+    Event(usize),
+    /// Memory was refused.
+    #[error("OutOfMemory")]
+    OutOfMemory,
+    /// There is another number of wires than of links, or no socket could be bound.
+    #[error("Socket")]
+    Socket,
+    /// A gate answered that a worker may not go on.
+    #[error("GateShut")]
+    GateShut,
+    /// The workers are not 1 to 8, or no world can be made with this setup.
+    #[error("BadSetup")]
+    BadSetup,
+}
+
+impl From<AllocError> for RehearseError {
+    ghost from_gives = { λ _ e. e ≡ refused.OutOfMemory };
+
+    fn from(_error: AllocError) -> RehearseError {
+        RehearseError::OutOfMemory
+    }
+}
+
+impl<T: Drop> From<AllocFailed<T>> for RehearseError {
+    ghost from_gives = { λ _ e. e ≡ refused.OutOfMemory };
+
+    fn from(_error: AllocFailed<T>) -> RehearseError {
+        RehearseError::OutOfMemory
+    }
+}
+
+impl From<SetupError> for RehearseError {
+    ghost from_gives = { λ refusal e. e ≡ of_setup refusal };
+
+    fn from(refusal: SetupError) -> RehearseError {
+        match refusal {
+            SetupError::BadSetup => RehearseError::BadSetup,
+            SetupError::OutOfMemory => RehearseError::OutOfMemory,
+        }
+    }
+}
+
+/// Why what workers did is not accounted for. A setup, a given event or the wires are never the reason.
+#[derive(Drop)]
+pub enum Unaccounted {
+    /// What the workers left isn't what their record says.
+    Mismatch,
+    /// A thread could not be started.
+    ThreadRefused,
+    /// Memory was refused.
+    OutOfMemory,
+    /// A gate answered that a worker may not go on.
+    GateShut,
+}
+
+impl From<Unaccounted> for RehearseError {
+    ghost from_gives = { λ _ e. IsLater e × (e ≢ refused.Socket) };
+
+    fn from(reason: Unaccounted) -> RehearseError {
+        match reason {
+            Unaccounted::Mismatch => RehearseError::Mismatch,
+            Unaccounted::ThreadRefused => RehearseError::ThreadRefused,
+            Unaccounted::OutOfMemory => RehearseError::OutOfMemory,
+            Unaccounted::GateShut => RehearseError::GateShut,
+        }
+    }
+}
+
+impl From<AllocError> for Unaccounted {
+    fn from(_error: AllocError) -> Unaccounted {
+        Unaccounted::OutOfMemory
+    }
+}
+
+impl<T: Drop> From<AllocFailed<T>> for Unaccounted {
+    fn from(_error: AllocFailed<T>) -> Unaccounted {
+        Unaccounted::OutOfMemory
+    }
+}
+
+impl From<OutOfMemory> for Unaccounted {
+    fn from(_error: OutOfMemory) -> Unaccounted {
+        Unaccounted::OutOfMemory
+    }
+}
+
+impl From<StepError> for Unaccounted {
+    ghost from_gives = { λ refusal e. e ≡ of_step refusal };
+
+    fn from(refusal: StepError) -> Unaccounted {
+        match refusal {
+            StepError::OutOfMemory => Unaccounted::OutOfMemory,
+            _ => Unaccounted::Mismatch,
+        }
+    }
+}
+
+impl From<PutError> for Unaccounted {
+    fn from(refusal: PutError) -> Unaccounted {
+        match refusal {
+            PutError::WrongRows => Unaccounted::Mismatch,
+            PutError::OutOfMemory => Unaccounted::OutOfMemory,
+        }
+    }
+}
+
+impl From<AccountError> for Unaccounted {
+    fn from(refusal: AccountError) -> Unaccounted {
+        match refusal {
+            AccountError::Mismatch => Unaccounted::Mismatch,
+            AccountError::OutOfMemory => Unaccounted::OutOfMemory,
+        }
+    }
+}
