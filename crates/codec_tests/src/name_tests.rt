@@ -1,4 +1,5 @@
-//! Names of images: 01, the head end's number, the campaign's serial number, and the SHA-256 (FIPS 180-4) of the image.
+//! Names of images: 01, the head end's number, the campaign's serial number, and the SHA-256 (FIPS 180-4) of the image; with a
+//! release 02 in place of 01, and the release before the SHA-256.
 
 use crate::support::{Case, Way, each, each_by};
 use fw_names::{CampaignId, HeadId, ImageName, MeterId, digest_of, factory_name, name_of};
@@ -67,10 +68,68 @@ const FRONTS: &[(&str, &str)] = &[
     ),
 ];
 
-/// The spelling of a name of `abc`: as a factory image, or under a head end's campaign; and its digest alone.
+/// The same with a release.
+const RELEASED: &[(&str, &str)] = &[
+    (
+        "02000000070000000100000005ba7816bf8f01cfea414140de5dae2223b00361a396177a9cb410ff61f20015ad",
+        "true",
+    ),
+    // The least numbers, and the greatest.
+    (
+        "02000000010000000100000001ba7816bf8f01cfea414140de5dae2223b00361a396177a9cb410ff61f20015ad",
+        "true",
+    ),
+    (
+        "02ffffffffffffffffffffffffba7816bf8f01cfea414140de5dae2223b00361a396177a9cb410ff61f20015ad",
+        "true",
+    ),
+    // Release 0, which has the other spelling.
+    (
+        "02000000070000000100000000ba7816bf8f01cfea414140de5dae2223b00361a396177a9cb410ff61f20015ad",
+        "false",
+    ),
+    // The campaign of the images that meters are made with, which have no release.
+    (
+        "02000000000000000000000005ba7816bf8f01cfea414140de5dae2223b00361a396177a9cb410ff61f20015ad",
+        "false",
+    ),
+    (
+        "02000000000000000000000000ba7816bf8f01cfea414140de5dae2223b00361a396177a9cb410ff61f20015ad",
+        "false",
+    ),
+    // One of the two numbers of the campaign is 0.
+    (
+        "02000000000000000100000005ba7816bf8f01cfea414140de5dae2223b00361a396177a9cb410ff61f20015ad",
+        "false",
+    ),
+    (
+        "02000000070000000000000005ba7816bf8f01cfea414140de5dae2223b00361a396177a9cb410ff61f20015ad",
+        "false",
+    ),
+    // Another first byte.
+    (
+        "01000000070000000100000005ba7816bf8f01cfea414140de5dae2223b00361a396177a9cb410ff61f20015ad",
+        "false",
+    ),
+    (
+        "03000000070000000100000005ba7816bf8f01cfea414140de5dae2223b00361a396177a9cb410ff61f20015ad",
+        "false",
+    ),
+    // 44 and 46 bytes.
+    (
+        "020000000700000001000005ba7816bf8f01cfea414140de5dae2223b00361a396177a9cb410ff61f20015ad",
+        "false",
+    ),
+    (
+        "02000000070000000100000005ba7816bf8f01cfea414140de5dae2223b00361a396177a9cb410ff61f20015ad00",
+        "false",
+    ),
+];
+
+/// The spelling of a name of `abc`: as a factory image, or under a head end's campaign, of a release; and its digest alone.
 enum Named {
     Factory,
-    Offered(u32, u32),
+    Offered(u32, u32, u32),
     Digest,
 }
 
@@ -78,33 +137,41 @@ impl Case for Named {
     fn told(&self, alloc: Global) -> Result<String, Fail> {
         let name = match *self {
             Named::Factory => Some(factory_name(b"abc")),
-            Named::Offered(head, serial) => offered(head, serial),
+            Named::Offered(head, serial, release) => offered(head, serial, release),
             Named::Digest => return Ok(hex::encode(alloc, digest_of(b"abc"))?),
         };
         Ok(match name {
-            Some(name) => hex::encode(alloc, name.to_bytes())?,
+            Some(name) => hex::encode(alloc, name.to_bytes().as_slice())?,
             None => String::from_str(alloc, "none")?,
         })
     }
 }
 
-fn offered(head: u32, serial: u32) -> Option<ImageName> {
+fn offered(head: u32, serial: u32, release: u32) -> Option<ImageName> {
     let campaign = CampaignId::new(HeadId::new(head)?, serial)?;
-    Some(name_of(campaign, b"abc"))
+    Some(name_of(campaign, release, b"abc"))
 }
 
 /// Numbers of head ends and serial numbers begin at 1.
 const NAMES: &[(Named, &str)] = &[
     (
-        Named::Offered(7, 1),
+        Named::Offered(7, 1, 0),
         "010000000700000001ba7816bf8f01cfea414140de5dae2223b00361a396177a9cb410ff61f20015ad",
+    ),
+    (
+        Named::Offered(7, 1, 5),
+        "02000000070000000100000005ba7816bf8f01cfea414140de5dae2223b00361a396177a9cb410ff61f20015ad",
+    ),
+    (
+        Named::Offered(4_294_967_295, 258, 4_294_967_295),
+        "02ffffffff00000102ffffffffba7816bf8f01cfea414140de5dae2223b00361a396177a9cb410ff61f20015ad",
     ),
     (
         Named::Factory,
         "010000000000000000ba7816bf8f01cfea414140de5dae2223b00361a396177a9cb410ff61f20015ad",
     ),
-    (Named::Offered(0, 1), "none"),
-    (Named::Offered(1, 0), "none"),
+    (Named::Offered(0, 1, 0), "none"),
+    (Named::Offered(1, 0, 0), "none"),
     (
         Named::Digest,
         "ba7816bf8f01cfea414140de5dae2223b00361a396177a9cb410ff61f20015ad",
@@ -156,6 +223,7 @@ const NUMBERS: &[(Number, &str)] = &[
 #[test]
 fn names_and_numbers(rt: HostRuntime) -> Result<(), Fail> {
     each_by(rt.alloc(), &Spelling, FRONTS)?;
+    each_by(rt.alloc(), &Spelling, RELEASED)?;
     each(rt.alloc(), NAMES)?;
     each(rt.alloc(), NUMBERS)
 }

@@ -43,6 +43,7 @@ pub fn opening(alloc: Global, setup: &Setup, size: u32) -> Result<Event> {
     }
     Ok(Event::OpenCampaign {
         campaign: CampaignId::new(head()?, 1).context("a campaign")?,
+        release: 0,
         image: vec![in alloc; b'a'; size as usize]?,
         meters,
     })

@@ -1,7 +1,7 @@
 -- Public vocabulary: what holds of a report.
 use Rattle.std.specs.Prelude.{ℕ, List}
 use Rattle.fw_world.specs.declared.setup.Setup.{Setup}
-use Rattle.fw_world.specs.Headline.{IsFirstName, InitiatesAreOffered, NamesAreOwn, GoalsAreOffered, ActivationsAreSafe, ActivationsAreEqual}
+use Rattle.fw_world.specs.Headline.{IsFirstName, InitiatesAreOffered, NamesAreOwn, GoalsAreOffered, ActivationsAreSafe, ActivationsAreEqual, ReleasesNeverFall}
 use Rattle.fw_world.specs.Setup.{IsSetup, opening_state}
 use Rattle.fw_world.specs.State.{State, world_of}
 use Rattle.fw_world.specs.Step.{Event}
@@ -17,3 +17,4 @@ pub record IsReported (setup : Setup) (given : List Event) (rounds workers : ℕ
   pub goals : GoalsAreOffered (world_of world)
   pub activations : ActivationsAreSafe (world_of world)
   pub equal : ActivationsAreEqual (world_of world)
+  pub releases : ReleasesNeverFall (world_of world)

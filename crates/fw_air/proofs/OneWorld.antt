@@ -63,9 +63,9 @@ module _ (one_row : OneRow) (one_turn : OneTurn) (one_answer : OneAnswer) where
       a.new_is ∙ ap (λ h. set_head old d.head h) after ∙ sym b.new_is
 
   step_once : (old new other : State) (event : Event) → is_stop event ≡ false → StateStep old event new → StateStep old event other → new ≡ other
-  step_once old new other (open_campaign campaign image meters) none a b =
+  step_once old new other (open_campaign campaign release image meters) none a b =
       let head = same_found (head_at old campaign.head) a.head b.head a.there b.there in
-      a.new_is ∙ ap (λ h. set_head old campaign.head (opened_head h campaign.serial image meters)) head ∙ sym b.new_is
+      a.new_is ∙ ap (λ h. set_head old campaign.head (opened_head h campaign.serial release image meters)) head ∙ sym b.new_is
   step_once old new other (cancel_campaign campaign) none a b =
       let head = same_found (head_at old campaign.head) a.head b.head a.there b.there in
       a.new_is ∙ ap (λ h. set_head old campaign.head (cancelled_head h campaign.serial)) head ∙ sym b.new_is

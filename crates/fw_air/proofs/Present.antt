@@ -55,7 +55,7 @@ as_long : (old new : State) → new.sent ≡ old.sent → length old.sent ≤ le
 as_long old new e = let same = ap (λ (l : List Datagram). length l) e in omega arith
 
 sent_grows : (old new : State) (event : Event) → StateStep old event new → length old.sent ≤ length new.sent
-sent_grows old new (open_campaign campaign image meters) s = as_long old new (ap (λ (w : State). w.sent) s.new_is)
+sent_grows old new (open_campaign campaign release image meters) s = as_long old new (ap (λ (w : State). w.sent) s.new_is)
 sent_grows old new (cancel_campaign campaign) s = as_long old new (ap (λ (w : State). w.sent) s.new_is)
 sent_grows old new (tick head meter) s = grown old.sent _ new.sent (ap (λ (w : State). w.sent) s.new_is)
 sent_grows old new (deliver number) s = by s.0.direction s.2

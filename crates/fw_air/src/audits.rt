@@ -10,6 +10,7 @@ ghost use Rattle.fw_world.specs.Headline.{
   GoalsAreOffered,
   ActivationsAreSafe,
   ActivationsAreEqual,
+  ReleasesNeverFall,
 };
 ghost use Rattle.fw_world.specs.Runs.{events_of};
 ghost use Rattle.fw_world.specs.Setup.{IsSetup, opening_state};
@@ -66,6 +67,7 @@ pub fn audit(
     ensures goals { IfOk result (λ w. GoalsAreOffered (world_of w)) }
     ensures activations { IfOk result (λ w. ActivationsAreSafe (world_of w)) }
     ensures equal { IfOk result (λ w. ActivationsAreEqual (world_of w)) }
+    ensures releases { IfOk result (λ w. ReleasesNeverFall (world_of w)) }
     ensures bad_setup { IsErrOf result AuditError.BadSetup → ¬ IsSetup setup.now }
     ensures memory { IsErrOf result AuditError.OutOfMemory → IsSetup setup.now }
     ensures mismatch { IsErrOf result AuditError.Mismatch

@@ -84,11 +84,11 @@ fn are_same_campaigns(ones: Campaigns<'_>, others: Campaigns<'_>) -> bool
         && ones.zip(others).all(|(one, other)| one.0 == other.0 && is_same_offer(one.1, other.1))
 }
 
-/// Whether two campaigns offer one image, and have the same rows in the same order.
+/// Whether two campaigns offer one image of one release, and have the same rows in the same order.
 fn is_same_offer(one: &Offer, other: &Offer) -> bool
     ensures { IsTrue result ↔ (one.now ≡ other.now) }
 {
-    one.image() == other.image() && one.rows() == other.rows()
+    one.release() == other.release() && one.image() == other.image() && one.rows() == other.rows()
 }
 
 /// Whether each meter is as the other at its place.

@@ -66,7 +66,7 @@ pub record Keeps (change : List Row → List Row) : Type 0 where
   pub ends : (rows : List Row) (meter : ℕ) → is_live_in (change rows) meter ≡ true → is_live_in rows meter ≡ true
 
 abbrev changed : (List Row → List Row) → ℕ × Offered → ℕ × Offered
-changed change entry = (entry.0, record { image = entry.1.image; rows = change entry.1.rows })
+changed change entry = (entry.0, record { release = entry.1.release; image = entry.1.image; rows = change entry.1.rows })
 
 live_changed : (change : List Row → List Row) → Keeps change → (a b : ℕ × Offered) → Apart a b → Apart (changed change a) b
 live_changed change keeps a b apart = record {
@@ -109,6 +109,7 @@ entry_changed : (change : List Row → List Row) → Keeps change → (entry : �
 entry_changed change keeps entry is = record {
   serial_begins = is.serial_begins;
   serial_fits = is.serial_fits;
+  release_fits = is.release_fits;
   image_begins = is.image_begins;
   image_ends = is.image_ends;
   meters_begin = rw (same_length change keeps entry.1.rows) is.meters_begin;
@@ -161,17 +162,17 @@ Keeps-cancelled =
     })
 
 -- the change of one campaign, as a map's value is written
-pub at_serial-set_value : (serial : ℕ) (change : List Row → List Row) (entries : List (ℕ × Offered)) (offer : Offered) → lookup (nat_eq serial) entries ≡ Some offer → set_value (nat_eq serial) entries (record { image = offer.image; rows = change offer.rows }) ≡ at_serial serial change entries
+pub at_serial-set_value : (serial : ℕ) (change : List Row → List Row) (entries : List (ℕ × Offered)) (offer : Offered) → lookup (nat_eq serial) entries ≡ Some offer → set_value (nat_eq serial) entries (record { release = offer.release; image = offer.image; rows = change offer.rows }) ≡ at_serial serial change entries
 at_serial-set_value serial change [] offer h = refl
 at_serial-set_value serial change (entry ∷ entries) offer h =
-    let new : Offered = record { image = offer.image; rows = change offer.rows } in
-    let one : List (ℕ × Offered) = (entry.0, record { image = entry.1.image; rows = change entry.1.rows }) ∷ entries in
+    let new : Offered = record { release = offer.release; image = offer.image; rows = change offer.rows } in
+    let one : List (ℕ × Offered) = (entry.0, record { release = entry.1.release; image = entry.1.image; rows = change entry.1.rows }) ∷ entries in
     ⊎_elim
     (λ here.
     let same : Some entry.1 ≡ Some offer = sym (cond-true (nat_eq serial entry.0) (Some entry.1) (lookup (nat_eq serial) entries) here) ∙ h in
     let same' : entry.1 ≡ offer = cc in
     cond-true (nat_eq serial entry.0) ((entry.0, new) ∷ entries) (entry ∷ set_value (nat_eq serial) entries new) here
-    ∙ ap (λ (o : Offered). (entry.0, record { image = o.image; rows = change o.rows }) ∷ entries) (sym same')
+    ∙ ap (λ (o : Offered). (entry.0, record { release = o.release; image = o.image; rows = change o.rows }) ∷ entries) (sym same')
     ∙ sym (cond-true (nat_eq serial entry.0) one (entry ∷ at_serial serial change entries) here))
     (λ other.
     let later : lookup (nat_eq serial) entries ≡ Some offer = sym (cond-false (nat_eq serial entry.0) (Some entry.1) (lookup (nat_eq serial) entries) other) ∙ h in
@@ -188,7 +189,7 @@ none_from (Some x) h = absurd (false≢true (sym h))
 pub at_serial-none : (serial : ℕ) (change : List Row → List Row) (entries : List (ℕ × Offered)) → lookup (nat_eq serial) entries ≡ None → at_serial serial change entries ≡ entries
 at_serial-none serial change [] h = refl
 at_serial-none serial change (entry ∷ entries) h =
-    let one : List (ℕ × Offered) = (entry.0, record { image = entry.1.image; rows = change entry.1.rows }) ∷ entries in
+    let one : List (ℕ × Offered) = (entry.0, record { release = entry.1.release; image = entry.1.image; rows = change entry.1.rows }) ∷ entries in
     ⊎_elim
     (λ here.
     let same : Some entry.1 ≡ None = sym (cond-true (nat_eq serial entry.0) (Some entry.1) (lookup (nat_eq serial) entries) here) ∙ h in
@@ -199,7 +200,7 @@ at_serial-none serial change (entry ∷ entries) h =
     ∙ ap (λ es. entry ∷ es) (at_serial-none serial change entries later))
     (cases_Bool (nat_eq serial entry.0))
 
-pub changed_entries : (serial : ℕ) (change : List Row → List Row) (old new : List (ℕ × Offered)) (offer written : Offered) → lookup (nat_eq serial) old ≡ Some offer → written ≡ record { image = offer.image; rows = change offer.rows } → new ≡ set_value (nat_eq serial) old written → new ≡ at_serial serial change old
+pub changed_entries : (serial : ℕ) (change : List Row → List Row) (old new : List (ℕ × Offered)) (offer written : Offered) → lookup (nat_eq serial) old ≡ Some offer → written ≡ record { release = offer.release; image = offer.image; rows = change offer.rows } → new ≡ set_value (nat_eq serial) old written → new ≡ at_serial serial change old
 changed_entries serial change old new offer written found write set =
     set ∙ ap (λ (o : Offered). set_value (nat_eq serial) old o) write ∙ at_serial-set_value serial change old offer found
 

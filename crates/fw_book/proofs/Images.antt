@@ -28,7 +28,7 @@ same_later false o r r' e = e
 changed_stays : (k serial : ℕ) (change : List Row → List Row) (entries : List (ℕ × Offered)) → image_at k (at_serial serial change entries) ≡ image_at k entries
 changed_stays k serial change [] = refl
 changed_stays k serial change (entry ∷ entries) =
-    let new : Offered = record { image = entry.1.image; rows = change entry.1.rows } in
+    let new : Offered = record { release = entry.1.release; image = entry.1.image; rows = change entry.1.rows } in
     cond_both (eqb serial entry.0) ((entry.0, new) ∷ entries) (entry ∷ at_serial serial change entries)
     (λ (xs : List (ℕ × Offered)). image_at k xs ≡ image_at k (entry ∷ entries))
     (λ _. same_here (nat_eq k entry.0) entry.1 new (lookup (nat_eq k) entries) refl)
@@ -59,9 +59,9 @@ changed_in_book false r r' e = refl
 
 pub images_stay : ImagesStay
 images_stay book campaign = record {
-  at_opening = λ serial image other meters h.
-      in_book (eqb campaign.head book.head) (lookup (nat_eq campaign.serial) book.campaigns) (lookup (nat_eq campaign.serial) (opened book serial other meters).campaigns) image
-      (added_stays campaign.serial book.campaigns (serial, record { image = other; rows = map live_row meters }) image) h;
+  at_opening = λ serial release image other meters h.
+      in_book (eqb campaign.head book.head) (lookup (nat_eq campaign.serial) book.campaigns) (lookup (nat_eq campaign.serial) (opened book serial release other meters).campaigns) image
+      (added_stays campaign.serial book.campaigns (serial, record { release = release; image = other; rows = map live_row meters }) image) h;
   at_mark = λ serial meter state.
       changed_in_book (eqb campaign.head book.head) (lookup (nat_eq campaign.serial) book.campaigns) (lookup (nat_eq campaign.serial) (marked book serial meter state).campaigns)
       (changed_stays campaign.serial serial (with_state meter state) book.campaigns);
@@ -90,9 +90,9 @@ same_campaign a b heads serials =
     let at_serial : ℕ → Campaign = λ n. record { head = b.head; serial = n } in
     ap at_head heads ∙ ap at_serial serials
 
-others_stay : (book : Contents) (campaign other : Campaign) (image meters : List ℕ) → campaign.head ≡ book.head → other ≢ campaign → image_in (opened book campaign.serial image meters) other ≡ image_in book other
-others_stay book campaign other image meters same differs =
-    let offer : Offered = record { image = image; rows = map live_row meters } in
+others_stay : (book : Contents) (campaign other : Campaign) (release : ℕ) (image meters : List ℕ) → campaign.head ≡ book.head → other ≢ campaign → image_in (opened book campaign.serial release image meters) other ≡ image_in book other
+others_stay book campaign other release image meters same differs =
+    let offer : Offered = record { release = release; image = image; rows = map live_row meters } in
     let before : Option Offered = lookup (nat_eq other.serial) book.campaigns in
     let after : Option Offered = lookup (nat_eq other.serial) (book.campaigns ++ (campaign.serial, offer) ∷ []) in
     ⊎_elim
@@ -105,11 +105,11 @@ others_stay book campaign other image meters same differs =
     (cases_Bool (eqb other.head book.head))
 
 pub opening_offers : OpeningOffers
-opening_offers book campaign image meters same new =
-    let offer : Offered = record { image = image; rows = map live_row meters } in
+opening_offers book campaign release image meters same new =
+    let offer : Offered = record { release = release; image = image; rows = map live_row meters } in
     record {
       own = ap (λ o. image_of o)
-          (cond-true (eqb campaign.head book.head) (lookup (nat_eq campaign.serial) (opened book campaign.serial image meters).campaigns) None ((Decides-eqb campaign.head book.head).1 same)
+          (cond-true (eqb campaign.head book.head) (lookup (nat_eq campaign.serial) (opened book campaign.serial release image meters).campaigns) None ((Decides-eqb campaign.head book.head).1 same)
           ∙ found_last campaign.serial book.campaigns offer new);
-      others = λ other differs. others_stay book campaign other image meters same differs;
+      others = λ other differs. others_stay book campaign other release image meters same differs;
     }

@@ -96,14 +96,15 @@ clashes-live campaigns [] = refl
 clashes-live campaigns (meter ∷ meters) = ap (λ b. is_busy campaigns meter || b) (clashes-live campaigns meters)
 
 -- a book takes a campaign whose opening nothing refuses
-pub opening_admits : (book : Contents) (campaign : Campaign) (image meters : List ℕ) → IsOpened campaign → AllByRecursion (λ meter. meter < 2 ^ 32) (meters_of (map live_row meters)) → opening_refusal book campaign image meters ≡ None → Admits book campaign.serial (record { image = image; rows = map live_row meters })
-opening_admits book campaign image meters opened fit none =
+pub opening_admits : (book : Contents) (campaign : Campaign) (release : ℕ) (image meters : List ℕ) → IsOpened campaign → release < 2 ^ 32 → AllByRecursion (λ meter. meter < 2 ^ 32) (meters_of (map live_row meters)) → opening_refusal book campaign image meters ≡ None → Admits book campaign.serial (record { release = release; image = image; rows = map live_row meters })
+opening_admits book campaign release image meters opened small fit none =
     let h = opens book campaign image meters none in
     let many : length (map live_row meters) ≡ length meters = length-map meters live_row in
     record {
       is_entry = record {
         serial_begins = opened.serial_begins;
         serial_fits = opened.serial_fits;
+        release_fits = small;
         image_begins = h.image_begins;
         image_ends = h.image_ends;
         meters_begin = omega (arith, h.meters_begin);

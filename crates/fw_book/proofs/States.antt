@@ -106,7 +106,7 @@ cancelled_as (row ∷ rows) m =
 -- ---- in the campaigns of a book
 
 abbrev changed : (List Row → List Row) → Offered → Offered
-changed change offer = record { image = offer.image; rows = change offer.rows }
+changed change offer = record { release = offer.release; image = offer.image; rows = change offer.rows }
 
 -- another campaign is not changed
 at_other : (k serial : ℕ) (change : List Row → List Row) (entries : List (ℕ × Offered)) → k ≢ serial → lookup (nat_eq k) (at_serial serial change entries) ≡ lookup (nat_eq k) entries
@@ -211,13 +211,13 @@ cancels (Some offer) m = cancelled_as offer.rows m
 
 pub states_follow : StatesFollowCalls
 states_follow book campaign same = record {
-  at_opening = λ image meters new. record {
+  at_opening = λ release image meters new. record {
     own = λ m.
-        in_book (opened book campaign.serial image meters) campaign m same
-        ∙ ap (λ (o : Option Offered). state_at m o) (found_last campaign.serial book.campaigns (record { image = image; rows = map live_row meters }) new)
+        in_book (opened book campaign.serial release image meters) campaign m same
+        ∙ ap (λ (o : Option Offered). state_at m o) (found_last campaign.serial book.campaigns (record { release = release; image = image; rows = map live_row meters }) new)
         ∙ live_state meters m;
-    others = others_keep book.head campaign book.campaigns (opened book campaign.serial image meters).campaigns same
-        (λ k apart. passed_over k campaign.serial book.campaigns (record { image = image; rows = map live_row meters })
+    others = others_keep book.head campaign book.campaigns (opened book campaign.serial release image meters).campaigns same
+        (λ k apart. passed_over k campaign.serial book.campaigns (record { release = release; image = image; rows = map live_row meters })
         (false_from_ne_true (nat_eq k campaign.serial) (λ is. apart ((Decides-eqb k campaign.serial).0 is))));
   };
   at_mark = λ meter state.

@@ -12,7 +12,7 @@ use Rattle.fw_book.specs.declared.row.RowState.{RowState}
 use Rattle.fw_book.specs.declared.row.RowState.TheVariants.{Live}
 use Rattle.fw_book.specs.Rows.{is_live, has_live, live_row, repeats, with_state, cancelled_rows}
 use Rattle.fw_book.specs.Contents.{Offered, Contents, max_image, max_meters, offered_in, name_in, state_in, has_serial, is_busy}
-use Rattle.fw_book.specs.Format.{SpellsBook}
+use Rattle.fw_book.specs.Format.{IsReadAs}
 
 -- a book of no campaign
 abbrev pub empty_book : ℕ → Contents
@@ -23,15 +23,15 @@ abbrev pub added : Contents → ℕ → Offered → Contents
 added book serial offer = record { head = book.head; campaigns = book.campaigns ++ (serial, offer) ∷ [] }
 
 -- the book after an opening: the campaign's rows are all live
-abbrev pub opened : Contents → ℕ → List ℕ → List ℕ → Contents
-opened book serial image meters = added book serial (record { image = image; rows = map live_row meters })
+abbrev pub opened : Contents → ℕ → ℕ → List ℕ → List ℕ → Contents
+opened book serial release image meters = added book serial (record { release = release; image = image; rows = map live_row meters })
 
 -- the campaigns with the rows of this one changed
 abbrev pub at_serial : ℕ → (List Row → List Row) → List (ℕ × Offered) → List (ℕ × Offered)
 at_serial serial change [] = []
 at_serial serial change (entry ∷ entries) =
     if serial == entry.0
-    then (entry.0, record { image = entry.1.image; rows = change entry.1.rows }) ∷ entries
+    then (entry.0, record { release = entry.1.release; image = entry.1.image; rows = change entry.1.rows }) ∷ entries
     else entry ∷ at_serial serial change entries
 
 -- the book after a mark: the meter's row in the campaign has this state
@@ -106,9 +106,9 @@ abbrev pub IsRefusal : Option BookError → BookError → Type 0
 IsRefusal (Some refusal) error = error ≡ refusal
 IsRefusal None error = error ≡ OutOfMemory
 
--- What bytes are refused for: they spell no book; or memory ran out, and they spell one that has a campaign, since images and rows
--- alone take memory.
+-- What bytes are refused for: they are read as no book; or memory ran out, and they are read as one that has a campaign, since images
+-- and rows alone take memory.
 abbrev pub ReadRefused : List ℕ → BookError → Type 0
-ReadRefused bytes BadBook = (book : Contents) → ¬ SpellsBook bytes book
-ReadRefused bytes OutOfMemory = (book : Contents) × SpellsBook bytes book × (book.campaigns ≢ [])
+ReadRefused bytes BadBook = (book : Contents) → ¬ IsReadAs bytes book
+ReadRefused bytes OutOfMemory = (book : Contents) × IsReadAs bytes book × (book.campaigns ≢ [])
 ReadRefused bytes _ = ⊥

@@ -8,8 +8,9 @@ use Rattle.fw_book.specs.declared.row.Row.{Row}
 use Rattle.fw_book.specs.declared.row.RowState.{RowState}
 use Rattle.fw_book.specs.Rows.{state_of, meters_of, repeats, is_live_in}
 
--- what a campaign offers, and to which meters
+-- what a campaign offers, and to which meters: an image of a release, which is 0 where the image has none
 pub record Offered : Type 0 where
+  pub release : ℕ
   pub image : List ℕ
   pub rows : List Row
 
@@ -35,9 +36,9 @@ offered_in book campaign =
 abbrev pub image_in : Contents → Campaign → Option (List ℕ)
 image_in book campaign = option_map (λ (offer : Offered). offer.image) (offered_in book campaign)
 
--- the name under which a campaign offers its image
+-- the name under which a campaign offers its image, with the release that it has there
 abbrev pub name_in : Contents → Campaign → Option Name
-name_in book campaign = option_map (λ (image : List ℕ). name_of campaign image) (image_in book campaign)
+name_in book campaign = option_map (λ (offer : Offered). name_of campaign offer.release offer.image) (offered_in book campaign)
 
 -- the state of a meter in a campaign, if the book has the campaign and the campaign the meter
 abbrev pub state_in : Contents → Campaign → ℕ → Option RowState
@@ -52,11 +53,12 @@ has_serial book serial = is_some (lookup (nat_eq serial) book.campaigns)
 abbrev pub is_busy : List (ℕ × Offered) → ℕ → Bool
 is_busy campaigns meter = list_any (λ (offer : Offered). is_live_in offer.rows meter) (values_of campaigns)
 
--- a campaign that a book can have: its serial number begins at 1, its image has 1 to 4,194,304 bytes, and it has 1 to 256 meters,
--- each once
+-- a campaign that a book can have: its serial number begins at 1, its release has four bytes, its image has 1 to 4,194,304 bytes, and
+-- it has 1 to 256 meters, each once
 pub record IsEntry (entry : ℕ × Offered) : Type 0 where
   pub serial_begins : 1 ≤ entry.0
   pub serial_fits : entry.0 < 2 ^ 32
+  pub release_fits : entry.1.release < 2 ^ 32
   pub image_begins : 1 ≤ length entry.1.image
   pub image_ends : length entry.1.image ≤ max_image
   pub meters_begin : 1 ≤ length entry.1.rows

@@ -10,7 +10,9 @@ use Rattle.fw_wrapper.specs.Refusals.{first_applying}
 use Rattle.std.specs.Int.{w16, w32, to_be_bytes, from_be_bytes}
 use Rattle.fw_book.specs.declared.row.RowState.{RowState}
 use Rattle.fw_book.specs.declared.row.RowState.TheVariants.{Live, Done, Failed, Cancelled}
-use Rattle.fw_book.specs.Format.{image_bytes, rows_bytes, counted_bytes, entry_bytes, entries_bytes, SpellsBook}
+use Rattle.fw_book.specs.declared.version.Version.{Version}
+use Rattle.fw_book.specs.declared.version.Version.TheVariants.{First, Second}
+use Rattle.fw_book.specs.Format.{image_bytes, rows_bytes, counted_bytes, numbers_bytes, entry_bytes, entries_bytes, IsReadAs}
 
 -- whether a live row's meter is live in a campaign
 abbrev pub clashes : List (ℕ × Offered) → List Row → Bool
@@ -32,6 +34,30 @@ meters_refusal book meters = first_applying (
     ∷ [])
 
 -- ---- reading
+
+-- a release that a version can tell: version 1 has none
+abbrev pub Tells : Version → ℕ → Type 0
+Tells First release = release ≡ 0
+Tells Second release = Unit {0}
+
+-- the serial number and the release of a campaign have four bytes each, and the version can tell the release
+pub record AreNumbers (version : Version) (serial release : ℕ) : Type 0 where
+  pub serial_fits : serial < 2 ^ 32
+  pub release_fits : release < 2 ^ 32
+  pub tells : Tells version release
+
+-- no campaign's numbers stand there
+abbrev pub NoNumbers : Version → List ℕ → Type 0
+NoNumbers version bytes = (serial release : ℕ) (rest : List ℕ) → ¬ (bytes ≡ numbers_bytes version serial release ++ rest)
+
+-- a campaign that a book of a version can have
+pub record IsEntryIn (version : Version) (entry : ℕ × Offered) : Type 0 where
+  pub is_entry : IsEntry entry
+  pub tells : Tells version entry.1.release
+
+-- a version can tell the releases of these campaigns
+abbrev pub TellsAll : Version → List (ℕ × Offered) → Type 0
+TellsAll version entries = AllByRecursion (λ (entry : ℕ × Offered). Tells version entry.1.release) entries
 
 -- 1 to 4,194,304 bytes
 pub record IsImage (image : List ℕ) : Type 0 where
@@ -58,8 +84,8 @@ abbrev pub NoCounted : List ℕ → Type 0
 NoCounted bytes = (rows : List Row) (rest : List ℕ) → IsRows rows → ¬ (bytes ≡ counted_bytes rows ++ rest)
 
 -- no campaign stands there
-abbrev pub NoEntry : List ℕ → Type 0
-NoEntry bytes = (entry : ℕ × Offered) (rest : List ℕ) → IsEntry entry → ¬ (bytes ≡ entry_bytes entry ++ rest)
+abbrev pub NoEntry : Version → List ℕ → Type 0
+NoEntry version bytes = (entry : ℕ × Offered) (rest : List ℕ) → IsEntryIn version entry → ¬ (bytes ≡ entry_bytes version entry ++ rest)
 
 -- the state that a number stands for, if it stands for one
 abbrev pub state_of_number : ℕ → Option RowState
@@ -80,8 +106,8 @@ rows_in (a ∷ b ∷ c ∷ d ∷ state ∷ rest) = row_before (from_be_bytes w32
 rows_in _ = []
 
 -- a campaign whose image and rows stand in these bytes
-abbrev pub entry_in : ℕ → List ℕ → List ℕ → ℕ × Offered
-entry_in serial image rows = (serial, record { image = image; rows = rows_in rows })
+abbrev pub entry_in : ℕ → ℕ → List ℕ → List ℕ → ℕ × Offered
+entry_in serial release image rows = (serial, record { release = release; image = image; rows = rows_in rows })
 
 -- rows behind their number, of which none was looked at
 pub record SkimsRows (bytes rows rest : List ℕ) : Type 0 where
@@ -91,31 +117,35 @@ pub record SkimsRows (bytes rows rest : List ℕ) : Type 0 where
   pub spelled : bytes ≡ to_be_bytes w16 count ++ (rows ++ rest)
 
 -- a campaign of whose rows none was looked at
-pub record Skims (bytes : List ℕ) (serial : ℕ) (image rows rest : List ℕ) : Type 0 where
-  pub serial_fits : serial < 2 ^ 32
+pub record Skims (version : Version) (bytes : List ℕ) (serial release : ℕ) (image rows rest : List ℕ) : Type 0 where
+  pub are_numbers : AreNumbers version serial release
   pub is_image : IsImage image
   pub behind : List ℕ
   pub of_rows : SkimsRows behind rows rest
-  pub spelled : bytes ≡ to_be_bytes w32 serial ++ (image_bytes image ++ behind)
+  pub spelled : bytes ≡ numbers_bytes version serial release ++ (image_bytes image ++ behind)
 
 -- the bytes are those of these campaigns
-pub record AreEntries (bytes : List ℕ) (entries : List (ℕ × Offered)) : Type 0 where
-  pub spelled : bytes ≡ entries_bytes entries
-  pub fit : AllByRecursion (λ (entry : ℕ × Offered). IsEntry entry) entries
+pub record AreEntries (version : Version) (bytes : List ℕ) (entries : List (ℕ × Offered)) : Type 0 where
+  pub spelled : bytes ≡ entries_bytes version entries
+  pub fit : AllByRecursion (λ (entry : ℕ × Offered). IsEntryIn version entry) entries
 
 -- the bytes are those of the campaigns of a book of this head end
-pub record Campaigns (head : ℕ) (bytes : List ℕ) : Type 0 where
+pub record Campaigns (version : Version) (head : ℕ) (bytes : List ℕ) : Type 0 where
   pub campaigns : List (ℕ × Offered)
   pub is_book : IsBook (record { head = head; campaigns = campaigns })
-  pub spelled : bytes ≡ entries_bytes campaigns
+  pub tells : TellsAll version campaigns
+  pub spelled : bytes ≡ entries_bytes version campaigns
 
 -- no book of this head end has campaigns with these bytes
-abbrev pub NoCampaigns : ℕ → List ℕ → Type 0
-NoCampaigns head bytes = (campaigns : List (ℕ × Offered)) → IsBook (record { head = head; campaigns = campaigns }) → ¬ (bytes ≡ entries_bytes campaigns)
+abbrev pub NoCampaigns : Version → ℕ → List ℕ → Type 0
+NoCampaigns version head bytes =
+    (campaigns : List (ℕ × Offered)) → IsBook (record { head = head; campaigns = campaigns }) → TellsAll version campaigns
+    → ¬ (bytes ≡ entries_bytes version campaigns)
 
--- the bytes are a book's, of this head end and with these bytes of its campaigns
-pub record Parts (bytes : List ℕ) (head : ℕ) (entries : List ℕ) : Type 0 where
+-- the bytes are a book's in this version, of this head end and with these bytes of its campaigns
+pub record Parts (version : Version) (bytes : List ℕ) (head : ℕ) (entries : List ℕ) : Type 0 where
   pub book : Contents
-  pub spells : SpellsBook bytes book
+  pub is_book : IsBook book
+  pub is_read : IsReadAs bytes book
   pub of_head : book.head ≡ head
-  pub of_entries : AreEntries entries book.campaigns
+  pub of_entries : AreEntries version entries book.campaigns

@@ -8,15 +8,19 @@ use Rattle.fw_book.specs.declared.row.RowState.TheVariants.{Live, Cancelled}
 use Rattle.fw_book.specs.Rows.{is_live}
 use Rattle.fw_book.specs.Contents.{Contents, image_in, state_in, has_serial}
 use Rattle.fw_book.specs.Changes.{opened, marked, cancelled, opening_refusal, Opens}
-use Rattle.fw_book.specs.Format.{SpellsBook}
+use Rattle.fw_book.specs.Format.{SpellsBook, IsReadAs}
 
 -- a byte string spells at most one book
 abbrev pub OneBook : Type 0
 OneBook = (bytes : List ℕ) (a b : Contents) → SpellsBook bytes a → SpellsBook bytes b → a ≡ b
 
+-- a byte string is read as at most one book
+abbrev pub OneReading : Type 0
+OneReading = (bytes : List ℕ) (a b : Contents) → IsReadAs bytes a → IsReadAs bytes b → a ≡ b
+
 -- what a campaign offers it offers after each call; a mark and a cancelling leave the offered images as they are
 pub record Stays (book : Contents) (campaign : Campaign) : Type 0 where
-  pub at_opening : (serial : ℕ) (image other meters : List ℕ) → image_in book campaign ≡ Some image → image_in (opened book serial other meters) campaign ≡ Some image
+  pub at_opening : (serial release : ℕ) (image other meters : List ℕ) → image_in book campaign ≡ Some image → image_in (opened book serial release other meters) campaign ≡ Some image
   pub at_mark : (serial meter : ℕ) (state : RowState) → image_in (marked book serial meter state) campaign ≡ image_in book campaign
   pub at_cancelling : (serial : ℕ) → image_in (cancelled book serial) campaign ≡ image_in book campaign
 
@@ -31,7 +35,7 @@ pub record AddsOne (before after : Contents) (campaign : Campaign) (image : List
 
 -- an opening adds the image under its campaign, where the serial number is new, and nothing else
 abbrev pub OpeningOffers : Type 0
-OpeningOffers = (book : Contents) (campaign : Campaign) (image meters : List ℕ) → campaign.head ≡ book.head → has_serial book campaign.serial ≡ false → AddsOne book (opened book campaign.serial image meters) campaign image
+OpeningOffers = (book : Contents) (campaign : Campaign) (release : ℕ) (image meters : List ℕ) → campaign.head ≡ book.head → has_serial book campaign.serial ≡ false → AddsOne book (opened book campaign.serial release image meters) campaign image
 
 -- ---- states
 
@@ -55,7 +59,7 @@ pub record StatesGoOn (before after : Contents) (campaign : Campaign) (states : 
 
 -- what each call makes of the states: an opening adds live rows alone, a mark changes one row, and cancelling turns live rows alone
 pub record StatesFollow (book : Contents) (campaign : Campaign) : Type 0 where
-  pub at_opening : (image meters : List ℕ) → has_serial book campaign.serial ≡ false → StatesGoOn book (opened book campaign.serial image meters) campaign (opening_state meters)
+  pub at_opening : (release : ℕ) (image meters : List ℕ) → has_serial book campaign.serial ≡ false → StatesGoOn book (opened book campaign.serial release image meters) campaign (opening_state meters)
   pub at_mark : (meter : ℕ) (state : RowState) → StatesGoOn book (marked book campaign.serial meter state) campaign (marked_state book campaign meter state)
   pub at_cancelling : StatesGoOn book (cancelled book campaign.serial) campaign (cancelled_state book campaign)
 

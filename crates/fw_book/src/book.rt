@@ -1,6 +1,6 @@
 //! The book of a head end's campaigns.
 
-ghost use Rattle.std.specs.Prelude.{◌≡◌, None, false, IfOk, IfErr, IsOk, MatchResult, OnOk, OnErr, Some};
+ghost use Rattle.std.specs.Prelude.{◌≡◌, None, false, IfOk, IfErr, IsOk, MatchResult, OnOk, OnErr, OnSome, Some};
 ghost use Rattle.std.specs.List.{list_any};
 ghost use Rattle.std.specs.Option.{option_copied};
 ghost use Rattle.fw_names.specs.Name.{name_of, IsOpened};
@@ -57,7 +57,7 @@ impl Book {
       ReadRefused,
     };
     ghost use Rattle.fw_book.specs.Inside.{Admits, meters_refusal};
-    ghost use Rattle.fw_book.specs.Format.{SpellsBook};
+    ghost use Rattle.fw_book.specs.Format.{SpellsBook, IsReadAs};
 
     /// The book of a head end that has no campaign yet. It keeps the allocator, and takes no memory.
     pub fn new(alloc: Global, head: HeadId) -> Book
@@ -80,7 +80,8 @@ impl Book {
 
     /// What a campaign offers, and `None` where the book doesn't have it.
     pub fn offer(&self, campaign: CampaignId) -> Option<&Offer>
-        ensures { option_copied result ≡ offered_in self.now campaign }
+        ensures offer { option_copied result ≡ offered_in self.now campaign }
+        ensures opened { OnSome result (IsOpened campaign) }
     {
         if campaign.head() != Some(self.head) {
             return None;
@@ -125,8 +126,8 @@ impl Book {
         meters.iter().any(|meter| self.is_busy(*meter))
     }
 
-    /// Opens a campaign: it offers the image to the meters under the name that is answered, and each of its rows is live. The
-    /// rows of all campaigns are looked through once for each meter.
+    /// Opens a campaign: it offers the image to the meters under the name that is answered, which has this release, and each of its
+    /// rows is live. The rows of all campaigns are looked through once for each meter.
     ///
     /// # Errors
     ///
@@ -136,17 +137,18 @@ impl Book {
         &mut self,
         alloc: Global,
         campaign: CampaignId,
+        release: u32,
         image: &[u8],
         meters: &[MeterId],
     ) -> Result<ImageName, BookError>
-        ensures opened { OnOk result (self.new ≡ opened self.old campaign.serial image.now meters.now) }
-        ensures name { IfOk result (λ name. name ≡ name_of campaign image.now) }
+        ensures opened { OnOk result (self.new ≡ opened self.old campaign.serial release image.now meters.now) }
+        ensures name { IfOk result (λ name. name ≡ name_of campaign release image.now) }
         ensures admitted { OnOk result (opening_refusal self.old campaign image.now meters.now ≡ None) }
         ensures refused { IfErr result (IsRefusal (opening_refusal self.old campaign image.now meters.now)) }
         ensures kept { OnErr result (self.new ≡ self.old) }
     {
         self.check_opening(campaign, image, meters)?;
-        let offer = Offer::new(alloc, image, live_rows(alloc, meters)?)?;
+        let offer = Offer::new(alloc, release, image, live_rows(alloc, meters)?)?;
         let name = offer.name(campaign);
         self.add(campaign.serial(), offer)?;
         Ok(name)
@@ -297,7 +299,7 @@ impl Book {
         Ok(())
     }
 
-    /// The bytes of the book: it has one spelling. Memory is taken for every book.
+    /// The bytes of the book, version 2: it has one spelling. Memory is taken for every book.
     ///
     /// # Errors
     ///
@@ -314,26 +316,31 @@ impl Book {
         Ok(bytes)
     }
 
-    /// The book that these bytes spell. They are judged whole before any memory is taken: for each live row, all rows of the
-    /// campaigns before its own are looked through.
+    /// The book that these bytes spell. The old spelling, version 1, is read too, with release 0 for each campaign. The bytes are
+    /// judged whole before any memory is taken: for each live row, all rows of the campaigns before its own are looked through.
     ///
     /// # Errors
     ///
-    /// `BadBook` where they spell none. Otherwise `OutOfMemory` alone, and only for a book that has a campaign.
+    /// `BadBook` where they spell none in either version. Otherwise `OutOfMemory` alone, and only for a book that has a campaign.
     pub fn read(alloc: Global, bytes: &[u8]) -> Result<Book, BookError>
-        ensures found { IfOk result (SpellsBook bytes.now) }
+        ensures found { IfOk result (IsReadAs bytes.now) }
 
         // Bytes that spell a book are read as that book.
-        ensures only { (book : Contents) → SpellsBook bytes.now book
+        ensures only { (book : Contents) → IsReadAs bytes.now book
             → MatchResult result (λ found. found ≡ book) (λ e. e ≡ BookError.OutOfMemory) }
         ensures refused { IfErr result (ReadRefused bytes.now) }
     {
-        let Some((head, mut rest)) = parts_of(bytes) else {
+        let Some((front, mut rest)) = parts_of(bytes) else {
             return Err(BookError::BadBook);
         };
-        let mut book = Book::new(alloc, head);
-        while let Some((entry, after)) = entry_at(rest) {
-            let offer = Offer::new(alloc, entry.image, rows_of(alloc, entry.rows)?)?;
+        let mut book = Book::new(alloc, front.head);
+        while let Some((entry, after)) = entry_at(front.version, rest) {
+            let offer = Offer::new(
+                alloc,
+                entry.release,
+                entry.image,
+                rows_of(alloc, entry.rows)?,
+            )?;
             book.add(entry.serial, offer)?;
             rest = after;
         }

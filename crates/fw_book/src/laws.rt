@@ -1,10 +1,15 @@
 //! Laws of a book, over the definitions alone.
 
-ghost use Rattle.fw_book.specs.Laws.{OneBook, ImagesStay, OpeningOffers, StatesFollowCalls, AdmittedOpens};
+ghost use Rattle.fw_book.specs.Laws.{OneBook, OneReading, ImagesStay, OpeningOffers, StatesFollowCalls, AdmittedOpens};
 
 /// A byte string spells at most one book.
 pub fn one_book()
     ensures { OneBook }
+{}
+
+/// A byte string is read as at most one book.
+pub fn one_reading()
+    ensures { OneReading }
 {}
 
 /// What a campaign offers it offers after every call: no image is changed or removed. Marks and cancelling leave the offered

@@ -9,6 +9,7 @@ mod offer;
 mod reading;
 mod row;
 mod search;
+mod version;
 mod writing;
 
 pub use book::{Book, Campaigns};

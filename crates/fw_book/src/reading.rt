@@ -3,23 +3,58 @@
 ghost use Rattle.std.specs.Prelude.{◌≡◌, ◌<◌, ◌≤◌, ◌^◌, ◌∷◌, ◌++◌, [], ℕ, List, length, IfSome, IfNone, MatchOption};
 ghost use Rattle.std.specs.Int.{w16, w32, to_be_bytes};
 ghost use Rattle.fw_book.specs.declared.row.Row.{Row};
-ghost use Rattle.fw_book.specs.Format.{image_bytes, row_bytes, rows_bytes, counted_bytes, entry_bytes, head_bytes};
-ghost use Rattle.fw_book.specs.Contents.{IsEntry};
-ghost use Rattle.fw_book.specs.Inside.{IsImage, IsRows, MetersFit, NoRows, NoCounted, NoEntry, SkimsRows, Skims, rows_in, entry_in};
+ghost use Rattle.fw_book.specs.declared.version.Version.{Version};
+ghost use Rattle.fw_book.specs.Format.{
+  image_bytes,
+  row_bytes,
+  rows_bytes,
+  counted_bytes,
+  numbers_bytes,
+  entry_bytes,
+  form_bytes,
+  head_bytes,
+};
+ghost use Rattle.fw_book.specs.Inside.{
+  AreNumbers,
+  IsImage,
+  IsRows,
+  IsEntryIn,
+  MetersFit,
+  NoNumbers,
+  NoRows,
+  NoCounted,
+  NoEntry,
+  SkimsRows,
+  Skims,
+  rows_in,
+  entry_in,
+};
 
 use crate::offer::{MAX_IMAGE_SIZE, MAX_METERS};
 use crate::row::{Row, RowState};
 use crate::search::repeats;
+use crate::version::Version;
 use fw_names::{HeadId, MeterId};
 
 /// The bytes of a row: four of its meter's number, and one of its state.
 pub(crate) const ROW_SIZE: usize = 5;
+
+/// What the bytes of a book begin with.
+#[derive(Clone, Copy)]
+pub(crate) struct Front {
+    /// The version in which the rest is spelled.
+    pub(crate) version: Version,
+    /// The head end whose book it is.
+    pub(crate) head: HeadId,
+}
 
 /// A campaign as it stands in the bytes of a book.
 #[derive(Clone, Copy)]
 pub(crate) struct Entry<'a> {
     /// Its serial number.
     pub(crate) serial: u32,
+    /// Its release.
+    pub(crate) release: u32,
     /// The bytes of its image.
     pub(crate) image: &'a [u8],
     /// Its rows, of five bytes each.
@@ -50,19 +85,44 @@ fn u32_at(bytes: &[u8]) -> Option<(u32, &[u8])>
     Some((u32::from_be_bytes([*a, *b, *c, *d]), rest))
 }
 
-/// The head end's number behind the form, version 1, and what follows it.
-pub(crate) fn head_at(bytes: &[u8]) -> Option<(HeadId, &[u8])>
-    ensures found { IfSome result (λ r. bytes.now ≡ head_bytes r.0 ++ r.1.now) }
-    ensures begins { IfSome result (λ r. 1 ≤ r.0) }
-    ensures fits { IfSome result (λ r. r.0 < 2 ^ 32) }
-    ensures none { IfNone result ((head : ℕ) (rest : List ℕ)
-        → 1 ≤ head → head < 2 ^ 32 → ¬ (bytes.now ≡ head_bytes head ++ rest)) }
+/// The version of the form, and what follows it.
+fn version_at(bytes: &[u8]) -> Option<(Version, &[u8])>
+    ensures found { IfSome result (λ r. bytes.now ≡ form_bytes r.0 ++ r.1.now) }
+    ensures none { IfNone result ((version : Version) (rest : List ℕ) → ¬ (bytes.now ≡ form_bytes version ++ rest)) }
 {
-    let [b'F', b'W', b'B', b'1', rest @ ..] = bytes else {
-        return None;
-    };
+    match bytes {
+        [b'F', b'W', b'B', b'1', rest @ ..] => Some((Version::First, rest)),
+        [b'F', b'W', b'B', b'2', rest @ ..] => Some((Version::Second, rest)),
+        _ => None,
+    }
+}
+
+/// The version of the form and the head end's number behind it, and what follows them.
+pub(crate) fn head_at(bytes: &[u8]) -> Option<(Front, &[u8])>
+    ensures found { IfSome result (λ r. bytes.now ≡ head_bytes r.0.version r.0.head ++ r.1.now) }
+    ensures begins { IfSome result (λ r. 1 ≤ r.0.head) }
+    ensures fits { IfSome result (λ r. r.0.head < 2 ^ 32) }
+    ensures none { IfNone result ((version : Version) (head : ℕ) (rest : List ℕ)
+        → 1 ≤ head → head < 2 ^ 32 → ¬ (bytes.now ≡ head_bytes version head ++ rest)) }
+{
+    let (version, rest) = version_at(bytes)?;
     let (head, rest) = u32_at(rest)?;
-    Some((HeadId::new(head)?, rest))
+    let head = HeadId::new(head)?;
+    Some((Front { version, head }, rest))
+}
+
+/// A campaign's serial number and its release, which is 0 where the version has none, and what follows them.
+fn numbers_at(version: Version, bytes: &[u8]) -> Option<(u32, u32, &[u8])>
+    ensures found { IfSome result (λ r. bytes.now ≡ numbers_bytes version r.0 r.1 ++ r.2.now) }
+    ensures fits { IfSome result (λ r. AreNumbers version r.0 r.1) }
+    ensures none { IfNone result (NoNumbers version bytes.now) }
+{
+    let (serial, rest) = u32_at(bytes)?;
+    let (release, rest) = match version {
+        Version::First => (0, rest),
+        Version::Second => u32_at(rest)?,
+    };
+    Some((serial, release, rest))
 }
 
 /// An image behind its size, and what follows it.
@@ -135,13 +195,14 @@ fn rows_at(bytes: &[u8]) -> Option<(&[u8], &[u8])>
 }
 
 /// A campaign, and what follows it.
-pub(crate) fn entry_at(bytes: &[u8]) -> Option<(Entry<'_>, &[u8])>
-    ensures found { IfSome result (λ r. bytes.now ≡ entry_bytes (entry_in r.0.serial r.0.image.now r.0.rows.now) ++ r.1.now) }
-    ensures fits { IfSome result (λ r. IsEntry (entry_in r.0.serial r.0.image.now r.0.rows.now)) }
+pub(crate) fn entry_at(version: Version, bytes: &[u8]) -> Option<(Entry<'_>, &[u8])>
+    ensures found { IfSome result (λ r. bytes.now
+        ≡ entry_bytes version (entry_in r.0.serial r.0.release r.0.image.now r.0.rows.now) ++ r.1.now) }
+    ensures fits { IfSome result (λ r. IsEntryIn version (entry_in r.0.serial r.0.release r.0.image.now r.0.rows.now)) }
     ensures shorter { IfSome result (λ r. length r.1.now < length bytes.now) }
-    ensures none { IfNone result (NoEntry bytes.now) }
+    ensures none { IfNone result (NoEntry version bytes.now) }
 {
-    let (serial, rest) = u32_at(bytes)?;
+    let (serial, release, rest) = numbers_at(version, bytes)?;
     if serial == 0 {
         return None;
     }
@@ -150,6 +211,7 @@ pub(crate) fn entry_at(bytes: &[u8]) -> Option<(Entry<'_>, &[u8])>
     Some((
         Entry {
             serial,
+            release,
             image,
             rows,
         },
@@ -172,17 +234,18 @@ fn skim_rows(bytes: &[u8]) -> Option<(&[u8], &[u8])>
 
 /// The campaign that the bytes begin with, where they begin with one, and what follows it. No row is looked at, so that a campaign
 /// is passed over at the same cost, however many rows it has.
-pub(crate) fn skim(bytes: &[u8]) -> Option<(Entry<'_>, &[u8])>
-    ensures found { IfSome result (λ r. Skims bytes.now r.0.serial r.0.image.now r.0.rows.now r.1.now) }
+pub(crate) fn skim(version: Version, bytes: &[u8]) -> Option<(Entry<'_>, &[u8])>
+    ensures found { IfSome result (λ r. Skims version bytes.now r.0.serial r.0.release r.0.image.now r.0.rows.now r.1.now) }
     ensures shorter { IfSome result (λ r. length r.1.now < length bytes.now) }
-    ensures none { IfNone result (NoEntry bytes.now) }
+    ensures none { IfNone result (NoEntry version bytes.now) }
 {
-    let (serial, rest) = u32_at(bytes)?;
+    let (serial, release, rest) = numbers_at(version, bytes)?;
     let (image, rest) = image_at(rest)?;
     let (rows, rest) = skim_rows(rest)?;
     Some((
         Entry {
             serial,
+            release,
             image,
             rows,
         },

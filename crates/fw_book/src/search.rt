@@ -7,9 +7,10 @@ ghost use Rattle.fw_book.specs.declared.row.Row.{Row};
 ghost use Rattle.fw_book.specs.Rows.{is_live_in, meters_of, repeats};
 ghost use Rattle.fw_book.specs.Contents.{Offered, Contents, is_busy};
 ghost use Rattle.fw_book.specs.Inside.{clashes, rows_in, AreEntries, Campaigns, NoCampaigns, Parts};
-ghost use Rattle.fw_book.specs.Format.{SpellsBook};
+ghost use Rattle.fw_book.specs.Format.{IsReadAs};
 
-use crate::reading::{entry_at, head_at, row_at, skim};
+use crate::reading::{Front, entry_at, head_at, row_at, skim};
+use crate::version::Version;
 use fw_names::{HeadId, MeterId};
 
 /// Whether a row in these bytes is the meter's.
@@ -56,12 +57,12 @@ fn is_live(rows: &[u8], meter: MeterId) -> bool
 }
 
 /// Whether a campaign in these bytes has the serial number.
-fn has_serial(entries: &[u8], serial: u32) -> bool
-    ensures { (list : List (ℕ × Offered)) → AreEntries entries.now list
+fn has_serial(version: Version, entries: &[u8], serial: u32) -> bool
+    ensures { (list : List (ℕ × Offered)) → AreEntries version entries.now list
         → result ≡ is_some (lookup (nat_eq serial) list) }
 {
     let mut rest = entries;
-    while let Some((entry, after)) = skim(rest) {
+    while let Some((entry, after)) = skim(version, rest) {
         if entry.serial == serial {
             return true;
         }
@@ -71,12 +72,12 @@ fn has_serial(entries: &[u8], serial: u32) -> bool
 }
 
 /// Whether the meter is live in a campaign in these bytes.
-fn is_busy(entries: &[u8], meter: MeterId) -> bool
-    ensures { (list : List (ℕ × Offered)) → AreEntries entries.now list
+fn is_busy(version: Version, entries: &[u8], meter: MeterId) -> bool
+    ensures { (list : List (ℕ × Offered)) → AreEntries version entries.now list
         → result ≡ is_busy list meter }
 {
     let mut rest = entries;
-    while let Some((entry, after)) = skim(rest) {
+    while let Some((entry, after)) = skim(version, rest) {
         if is_live(entry.rows, meter) {
             return true;
         }
@@ -86,13 +87,13 @@ fn is_busy(entries: &[u8], meter: MeterId) -> bool
 }
 
 /// Whether a meter that is live in the rows is live in a campaign in these bytes.
-fn clashes(entries: &[u8], rows: &[u8]) -> bool
-    ensures { (list : List (ℕ × Offered)) → AreEntries entries.now list
+fn clashes(version: Version, entries: &[u8], rows: &[u8]) -> bool
+    ensures { (list : List (ℕ × Offered)) → AreEntries version entries.now list
         → result ≡ clashes list (rows_in rows.now) }
 {
     let mut rest = rows;
     while let Some((row, after)) = row_at(rest) {
-        if row.state.is_live() && is_busy(entries, row.meter) {
+        if row.state.is_live() && is_busy(version, entries, row.meter) {
             return true;
         }
         rest = after;
@@ -101,18 +102,18 @@ fn clashes(entries: &[u8], rows: &[u8]) -> bool
 }
 
 /// Whether the bytes are those of the campaigns of a book of this head end. Each campaign is compared with those before it.
-fn are_campaigns(head: HeadId, entries: &[u8]) -> bool
+fn are_campaigns(version: Version, head: HeadId, entries: &[u8]) -> bool
     requires begins { 1 ≤ head }
     requires fits { head < 2 ^ 32 }
-    ensures { MatchBool result (Campaigns head entries.now) (NoCampaigns head entries.now) }
+    ensures { MatchBool result (Campaigns version head entries.now) (NoCampaigns version head entries.now) }
 {
     let mut rest = entries;
     while !rest.is_empty() {
-        let Some((entry, after)) = entry_at(rest) else {
+        let Some((entry, after)) = entry_at(version, rest) else {
             return false;
         };
         let (before, _) = entries.split_at(entries.len() - rest.len());
-        if has_serial(before, entry.serial) || clashes(before, entry.rows) {
+        if has_serial(version, before, entry.serial) || clashes(version, before, entry.rows) {
             return false;
         }
         rest = after;
@@ -120,16 +121,16 @@ fn are_campaigns(head: HeadId, entries: &[u8]) -> bool
     true
 }
 
-/// The head end whose book the bytes are, and the bytes of its campaigns.
-pub(crate) fn parts_of(bytes: &[u8]) -> Option<(HeadId, &[u8])>
-    ensures found { IfSome result (λ r. Parts bytes.now r.0 r.1.now) }
-    ensures none { IfNone result ((book : Contents) → ¬ SpellsBook bytes.now book) }
+/// What the bytes begin with, if they are a book's, and the bytes of its campaigns.
+pub(crate) fn parts_of(bytes: &[u8]) -> Option<(Front, &[u8])>
+    ensures found { IfSome result (λ r. Parts r.0.version bytes.now r.0.head r.1.now) }
+    ensures none { IfNone result ((book : Contents) → ¬ IsReadAs bytes.now book) }
 {
-    let Some((head, entries)) = head_at(bytes) else {
+    let Some((front, entries)) = head_at(bytes) else {
         return None;
     };
-    if !are_campaigns(head, entries) {
+    if !are_campaigns(front.version, front.head, entries) {
         return None;
     }
-    Some((head, entries))
+    Some((front, entries))
 }

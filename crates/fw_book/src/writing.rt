@@ -1,20 +1,29 @@
 //! How the parts of a book are written.
 
-ghost use Rattle.std.specs.Prelude.{◌≡◌, ◌++◌, OnOk, IfErr};
+ghost use Rattle.std.specs.Prelude.{◌≡◌, ◌≤◌, ◌++◌, length, OnOk, IfErr};
 ghost use Rattle.fw_book.specs.Contents.{IsEntry};
-ghost use Rattle.fw_book.specs.Format.{row_bytes, rows_bytes, entry_bytes, head_bytes};
+ghost use Rattle.fw_book.specs.Format.{
+  row_bytes,
+  rows_bytes,
+  counted_bytes,
+  image_bytes,
+  numbers_bytes,
+  entry_bytes,
+  head_bytes,
+};
+ghost use Rattle.fw_book.specs.declared.version.Version.TheVariants.{Second};
 
 use crate::error::BookError;
-use crate::offer::Offer;
+use crate::offer::{MAX_IMAGE_SIZE, MAX_METERS, Offer};
 use crate::row::Row;
 use fw_names::HeadId;
 
-/// The bytes that every book begins with: the form, version 1.
-const FORM: [u8; 4] = *b"FWB1";
+/// The bytes that every book begins with: the form, version 2.
+const FORM: [u8; 4] = *b"FWB2";
 
 /// Writes the form and the head end's number behind what is there.
 pub(crate) fn write_head(bytes: &mut Vec<u8>, head: HeadId) -> Result<(), BookError>
-    ensures ok { OnOk result (bytes.new.items ≡ bytes.old.items ++ head_bytes head) }
+    ensures ok { OnOk result (bytes.new.items ≡ bytes.old.items ++ head_bytes Second head) }
     ensures memory { IfErr result (λ e. e ≡ BookError.OutOfMemory) }
 {
     bytes.extend_from_slice(&FORM)?;
@@ -43,17 +52,44 @@ fn write_rows(bytes: &mut Vec<u8>, rows: &[Row]) -> Result<(), BookError>
     Ok(())
 }
 
+/// Writes rows and their number behind what is there.
+fn write_counted(bytes: &mut Vec<u8>, rows: &[Row]) -> Result<(), BookError>
+    requires { length rows.now ≤ MAX_METERS }
+    ensures ok { OnOk result (bytes.new.items ≡ bytes.old.items ++ counted_bytes rows.now) }
+    ensures memory { IfErr result (λ e. e ≡ BookError.OutOfMemory) }
+{
+    bytes.extend_from_slice(&(rows.len() as u16).to_be_bytes())?;
+    write_rows(bytes, rows)
+}
+
+/// Writes an image and its size behind what is there.
+fn write_image(bytes: &mut Vec<u8>, image: &[u8]) -> Result<(), BookError>
+    requires { length image.now ≤ MAX_IMAGE_SIZE }
+    ensures ok { OnOk result (bytes.new.items ≡ bytes.old.items ++ image_bytes image.now) }
+    ensures memory { IfErr result (λ e. e ≡ BookError.OutOfMemory) }
+{
+    bytes.extend_from_slice(&(image.len() as u32).to_be_bytes())?;
+    bytes.extend_from_slice(image)?;
+    Ok(())
+}
+
+/// Writes a campaign's serial number and release behind what is there.
+fn write_numbers(bytes: &mut Vec<u8>, serial: u32, release: u32) -> Result<(), BookError>
+    ensures ok { OnOk result (bytes.new.items ≡ bytes.old.items ++ numbers_bytes Second serial release) }
+    ensures memory { IfErr result (λ e. e ≡ BookError.OutOfMemory) }
+{
+    bytes.extend_from_slice(&serial.to_be_bytes())?;
+    bytes.extend_from_slice(&release.to_be_bytes())?;
+    Ok(())
+}
+
 /// Writes a campaign behind what is there.
 pub(crate) fn write_entry(bytes: &mut Vec<u8>, serial: u32, offer: &Offer) -> Result<(), BookError>
     requires { IsEntry (serial, offer.now) }
-    ensures ok { OnOk result (bytes.new.items ≡ bytes.old.items ++ entry_bytes (serial, offer.now)) }
+    ensures ok { OnOk result (bytes.new.items ≡ bytes.old.items ++ entry_bytes Second (serial, offer.now)) }
     ensures memory { IfErr result (λ e. e ≡ BookError.OutOfMemory) }
 {
-    let image = offer.image();
-    let rows = offer.rows();
-    bytes.extend_from_slice(&serial.to_be_bytes())?;
-    bytes.extend_from_slice(&(image.len() as u32).to_be_bytes())?;
-    bytes.extend_from_slice(image)?;
-    bytes.extend_from_slice(&(rows.len() as u16).to_be_bytes())?;
-    write_rows(bytes, rows)
+    write_numbers(bytes, serial, offer.release())?;
+    write_image(bytes, offer.image())?;
+    write_counted(bytes, offer.rows())
 }

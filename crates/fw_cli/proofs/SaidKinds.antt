@@ -1,11 +1,12 @@
 -- Which lines say a part of a setup, and which say events.
 use Rattle.std.proofs.Common.{◌≡◌, ℕ, List, [], ◌∷◌, Bool, true, false, Option, Some, None, ◌||◌, ◌<◌, ◌⊎◌, inl, inr, length, refl, subst, arith}
 use Rattle.std.specs.Prelude.{IsSome, option_and_then, if◌then◌else◌, bytes_eq, codes}
+use Rattle.fw_names.specs.Name.{Campaign}
 use Rattle.fw_world.specs.Step.{Event}
 use Rattle.fw_world.specs.Runs.{events_of}
 use Rattle.fw_world.specs.declared.event.Event.{Event as Given}
 use Rattle.fw_cli.specs.Words.{words_of, number_of, keyword, bytes_said, first_says, at_end, numbers_of}
-use Rattle.fw_cli.specs.Script.{Said, Head, Meter, from_one, byte_of, head_item, meter_item, events_item, head_line, meter_line, open_line, deliver_line, cancel_line, tick_line, stop_line, restart_meter_line, restart_head_line, turn_line, event_line, item_of, Script, before_all, with_item, with_line, is_skipped}
+use Rattle.fw_cli.specs.Script.{Said, Head, Meter, from_one, byte_of, head_item, meter_item, events_item, head_line, meter_line, opening, open_line, open_release_line, deliver_line, cancel_line, tick_line, stop_line, restart_meter_line, restart_head_line, turn_line, event_line, item_of, Script, before_all, with_item, with_line, is_skipped}
 use Rattle.fw_cli.specs.Inside.{names_setup}
 
 abbrev pub IsSetup : Said → Type 0
@@ -59,8 +60,14 @@ head_says words = reads IsSetup _ (first_says from_one words) λ a. reads IsSetu
 meter_says : (words : List (List ℕ)) → Holds IsSetup (meter_line words)
 meter_says words = reads IsSetup _ (first_says number_of words) λ a. reads IsSetup _ (first_says (keyword (codes "block")) a.1) λ b. reads IsSetup _ (first_says number_of b.1) λ c. reads IsSetup _ (first_says (keyword (codes "capacity")) c.1) λ d. reads IsSetup _ (first_says number_of d.1) λ e. reads IsSetup _ (first_says (keyword (codes "factory")) e.1) λ f. reads IsSetup _ (first_says bytes_said f.1) λ g. reads IsSetup _ (at_end g.1) λ e. a_meter _
 
+opening_says : (campaign : Campaign) (release : ℕ) (words : List (List ℕ)) → Holds IsEvents (opening campaign release words)
+opening_says campaign release words = reads IsEvents _ (first_says bytes_said words) λ a. reads IsEvents _ (numbers_of a.1) λ ns. an_event _
+
 open_says : (words : List (List ℕ)) → Holds IsEvents (open_line words)
-open_says words = reads IsEvents _ (first_says from_one words) λ a. reads IsEvents _ (first_says from_one a.1) λ b. reads IsEvents _ (first_says bytes_said b.1) λ c. reads IsEvents _ (numbers_of c.1) λ ns. an_event _
+open_says words = reads IsEvents _ (first_says from_one words) λ a. reads IsEvents _ (first_says from_one a.1) λ b. opening_says _ _ b.1
+
+open_release_says : (words : List (List ℕ)) → Holds IsEvents (open_release_line words)
+open_release_says words = reads IsEvents _ (first_says from_one words) λ a. reads IsEvents _ (first_says from_one a.1) λ b. reads IsEvents _ (first_says number_of b.1) λ c. opening_says _ _ c.1
 
 deliver_says : (words : List (List ℕ)) → Holds IsEvents (deliver_line words)
 deliver_says [] = nothing IsEvents
@@ -105,7 +112,9 @@ pub says_events : (words : List (List ℕ)) → names_setup words ≡ false → 
 says_events [] none = nothing IsEvents
 says_events (first ∷ words) none =
     others_say (bytes_eq first (codes "head")) (bytes_eq first (codes "meter")) (head_line words) (meter_line words) _ none (
-    either IsEvents (bytes_eq first (codes "open")) _ _ (open_says words) (either IsEvents (bytes_eq first (codes "deliver")) _ _ (deliver_says words) (event_says first words)))
+    either IsEvents (bytes_eq first (codes "open")) _ _ (open_says words) (
+    either IsEvents (bytes_eq first (codes "open-release")) _ _ (open_release_says words) (
+    either IsEvents (bytes_eq first (codes "deliver")) _ _ (deliver_says words) (event_says first words))))
 
 these_say : (a b : Bool) (x y z : Option Said) → (a || b) ≡ true → Holds IsSetup x → Holds IsSetup y → Holds IsSetup (if a then x else (if b then y else z))
 these_say true b x y z named first second = first

@@ -13,10 +13,16 @@ pub record ReadsImage (before after : Option (List ℕ)) (image : List ℕ) : Ty
   pub begins : 1 ≤ length image
   pub ends : length image ≤ max_image
 
--- An image was read, and its name in this campaign was written: the hexadecimal digits of the spelling in lower case, and a line feed.
-pub record WritesName (campaign : Campaign) (before after first last : Option (List ℕ)) : Type 0 where
+-- what a name tells of an image beside its digest: the campaign that offers it, and its release
+pub record Naming : Type 0 where
+  pub campaign : Campaign
+  pub release : ℕ
+
+-- An image was read, and its name in this campaign and of this release was written: the hexadecimal digits of the spelling in lower
+-- case, and a line feed.
+pub record WritesName (naming : Naming) (before after first last : Option (List ℕ)) : Type 0 where
   pub image : List ℕ
   pub spelling : List ℕ
   pub read : ReadsImage before after image
-  pub spelled : SpellsName spelling (name_of campaign image)
+  pub spelled : SpellsName spelling (name_of naming.campaign naming.release image)
   pub written : Appends first last (encode_lower spelling ++ codes "\n")

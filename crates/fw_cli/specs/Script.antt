@@ -1,5 +1,6 @@
 -- Public vocabulary: scripts. A script is lines, of which each is skipped, or says a part of a setup or what happens in the world.
 use Rattle.std.specs.Prelude.{◌≡◌, false, ℕ, ◌+◌, Bool, true, ◌==◌, if◌then◌else◌, List, [], ◌∷◌, ◌++◌, map, length, Option, Some, None, option_map, option_and_then, bytes_eq, codes}
+use Rattle.fw_names.specs.Name.{Campaign}
 use Rattle.fw_world.specs.Step.{Event, open_campaign, cancel_campaign, tick, deliver, stop, restart_meter, restart_head, turn}
 use Rattle.fw_world.specs.Runs.{events_of}
 use Rattle.fw_world.specs.declared.event.Event.{Event as Given}
@@ -51,10 +52,19 @@ meter_line = reading number_of λ meter. reading (keyword (codes "block")) λ _.
     reading (keyword (codes "factory")) λ _. reading bytes_said λ factory.
     ending (meter_item (record { number = meter; block_size = block_size; capacity = capacity; factory = factory }))
 
+-- HEX M M .., behind what tells the campaign and the release
+abbrev pub opening : Campaign → ℕ → List (List ℕ) → Option Said
+opening campaign release = reading bytes_said λ image. λ words.
+    option_map (λ meters. events_item (open_campaign campaign release image meters ∷ [])) (numbers_of words)
+
 -- open H S HEX M M ..
 abbrev pub open_line : List (List ℕ) → Option Said
-open_line = reading from_one λ head. reading from_one λ serial. reading bytes_said λ image. λ words.
-    option_map (λ meters. events_item (open_campaign (record { head = head; serial = serial }) image meters ∷ [])) (numbers_of words)
+open_line = reading from_one λ head. reading from_one λ serial. opening (record { head = head; serial = serial }) 0
+
+-- open-release H S R HEX M M ..
+abbrev pub open_release_line : List (List ℕ) → Option Said
+open_release_line = reading from_one λ head. reading from_one λ serial. reading number_of λ release.
+    opening (record { head = head; serial = serial }) release
 
 -- cancel H S
 abbrev pub cancel_line : List (List ℕ) → Option Said
@@ -104,6 +114,7 @@ item_of (first ∷ words) =
     if bytes_eq first (codes "head") then head_line words else
     if bytes_eq first (codes "meter") then meter_line words else
     if bytes_eq first (codes "open") then open_line words else
+    if bytes_eq first (codes "open-release") then open_release_line words else
     if bytes_eq first (codes "deliver") then deliver_line words else event_line first words
 
 -- an empty line is skipped, and so is one that begins with a number sign (35)

@@ -17,6 +17,7 @@ ghost use Rattle.std.specs.Prelude.{
   IsSome,
   MatchOption,
 };
+ghost use Rattle.fw_names.specs.Name.{Campaign};
 ghost use Rattle.fw_world.specs.Step.{deliver, open_campaign};
 ghost use Rattle.fw_world.specs.View.{event_of};
 ghost use Rattle.fw_world.specs.Runs.{events_of};
@@ -27,7 +28,9 @@ ghost use Rattle.fw_cli.specs.Script.{
   events_item,
   head_line,
   meter_line,
+  opening,
   open_line,
+  open_release_line,
   deliver_line,
   cancel_line,
   tick_line,
@@ -73,6 +76,9 @@ pub(crate) fn item_of(alloc: Global, line: &[u8]) -> Result<Option<Item>, AllocE
     }
     if is(first, b"open") {
         return Ok(open_line(alloc, rest)?.map(Item::Event));
+    }
+    if is(first, b"open-release") {
+        return Ok(open_release_line(alloc, rest)?.map(Item::Event));
     }
     if is(first, b"deliver") {
         return Ok(deliver_line(alloc, rest)?.map(Item::Deliveries));
@@ -156,33 +162,79 @@ fn open_line(alloc: Global, rest: &[u8]) -> Result<Option<Event>, AllocError>
     ensures ok { IfOk result (λ said. option_map (λ event. events_item (event_of event ∷ [])) said ≡ open_line (words_behind rest.now)) }
     ensures memory { OnErr result (IsSome (open_line (words_behind rest.now))) }
 {
-    let Some((head, serial, word, rest)) = open_words(rest) else {
+    let Some((campaign, rest)) = open_words(rest) else {
         return Ok(None);
     };
-    let campaign = campaign_id(head, serial);
+    opening(alloc, campaign, 0, rest)
+}
+
+/// `H S`, with the text behind it.
+fn open_words(rest: &[u8]) -> Option<(CampaignId, &[u8])>
+    ensures { MatchOption result (open_line (words_behind rest.now) ≡ None)
+        (λ r. open_line (words_behind rest.now) ≡ opening r.0 0 (words_behind r.1.now)) }
+{
+    let (head, rest) = from_one(rest)?;
+    let (serial, rest) = from_one(rest)?;
+    Some((campaign_id(head, serial), rest))
+}
+
+/// `open-release H S R HEX M M ..`.
+fn open_release_line(alloc: Global, rest: &[u8]) -> Result<Option<Event>, AllocError>
+    ensures ok { IfOk result (λ said. option_map (λ event. events_item (event_of event ∷ [])) said
+        ≡ open_release_line (words_behind rest.now)) }
+    ensures memory { OnErr result (IsSome (open_release_line (words_behind rest.now))) }
+{
+    let Some((campaign, release, rest)) = release_words(rest) else {
+        return Ok(None);
+    };
+    opening(alloc, campaign, release, rest)
+}
+
+/// `H S R`, with the text behind it.
+fn release_words(rest: &[u8]) -> Option<(CampaignId, u32, &[u8])>
+    ensures { MatchOption result (open_release_line (words_behind rest.now) ≡ None)
+        (λ r. open_release_line (words_behind rest.now) ≡ opening r.0 r.1 (words_behind r.2.now)) }
+{
+    let (head, rest) = from_one(rest)?;
+    let (serial, rest) = from_one(rest)?;
+    let (release, rest) = number(rest)?;
+    Some((campaign_id(head, serial), release, rest))
+}
+
+/// `HEX M M ..`, behind what tells the campaign and the release.
+fn opening(
+    alloc: Global,
+    campaign: CampaignId,
+    release: u32,
+    rest: &[u8],
+) -> Result<Option<Event>, AllocError>
+    ensures ok { IfOk result (λ said. option_map (λ event. events_item (event_of event ∷ [])) said
+        ≡ opening campaign release (words_behind rest.now)) }
+    ensures memory { OnErr result (IsSome (opening campaign release (words_behind rest.now))) }
+{
+    let Some((word, rest)) = image_words(rest) else {
+        return Ok(None);
+    };
     let image = bytes_said(alloc, word)?;
     let meters = meters_of(alloc, rest)?;
     Ok(Some(Event::OpenCampaign {
         campaign,
+        release,
         image,
         meters,
     }))
 }
 
-/// `H S HEX`, with the word of the image and the text behind it, which is numbers.
-fn open_words(rest: &[u8]) -> Option<(u32, u32, &[u8], &[u8])>
-    ensures said { MatchOption result (open_line (words_behind rest.now) ≡ None) (λ r.
-        (image : List ℕ) × (meters : List ℕ) × (bytes_said r.2.now ≡ Some image) × (numbers_of (words_behind r.3.now) ≡ Some meters)
-        × (open_line (words_behind rest.now)
-        ≡ Some (events_item (open_campaign (record { head = r.0; serial = r.1 }) image meters ∷ [])))) }
-    ensures head { IfSome result (λ r. 1 ≤ r.0) }
-    ensures serial { IfSome result (λ r. 1 ≤ r.1) }
+/// `HEX`, with its word and the text behind it, which is numbers.
+fn image_words(rest: &[u8]) -> Option<(&[u8], &[u8])>
+    ensures { MatchOption result ((campaign : Campaign) (release : ℕ) → opening campaign release (words_behind rest.now) ≡ None) (λ r.
+        (image : List ℕ) × (meters : List ℕ) × (bytes_said r.0.now ≡ Some image) × (numbers_of (words_behind r.1.now) ≡ Some meters)
+        × ((campaign : Campaign) (release : ℕ) → opening campaign release (words_behind rest.now)
+        ≡ Some (events_item (open_campaign campaign release image meters ∷ [])))) }
 {
-    let (head, rest) = from_one(rest)?;
-    let (serial, rest) = from_one(rest)?;
     let (word, rest) = bytes(rest)?;
     if are_numbers(rest) {
-        Some((head, serial, word, rest))
+        Some((word, rest))
     } else {
         None
     }

@@ -1,7 +1,24 @@
 //! The command `name`: the name under which a campaign offers an image.
 
-ghost use Rattle.std.specs.Prelude.{◌≡◌, ◌<◌, ◌≤◌, ◌⊎◌, ◌++◌, [], List, ℕ, length, IfOk, IfErr, OnOk, codes};
-ghost use Rattle.std.specs.Io.KnownBytes.{Keeps};
+ghost use Rattle.std.specs.Prelude.{
+  ◌≡◌,
+  ◌<◌,
+  ◌≤◌,
+  ◌⊎◌,
+  ◌+◌,
+  ◌*◌,
+  ◌++◌,
+  [],
+  List,
+  ℕ,
+  length,
+  take,
+  IfOk,
+  IfErr,
+  OnOk,
+  codes,
+};
+ghost use Rattle.std.specs.Io.KnownBytes.{Appends, Keeps};
 ghost use Rattle.hex.specs.Hex.{encode_lower};
 ghost use Rattle.fw_names.specs.Name.{SpellsName};
 ghost use Rattle.fw_book.specs.Contents.{max_image};
@@ -13,22 +30,39 @@ use crate::fault::Fault;
 use crate::input::read_input;
 use crate::reads::Reads;
 use fw_book::MAX_IMAGE_SIZE;
-use fw_names::{CampaignId, ImageName, NAME_SIZE, name_of};
+use fw_names::{CampaignId, ImageName, MAX_NAME_SIZE, name_of};
 use std::alloc::Global;
 use std::io::{Read, Write};
+use std::marker::Model;
 
-/// The hexadecimal digits of a name.
-const DIGITS: usize = 2 * NAME_SIZE;
+/// The most hexadecimal digits of a name.
+const DIGITS: usize = 2 * MAX_NAME_SIZE;
 
 /// The options of the command.
 #[derive(Clone, Copy, Debug)]
 pub struct NameOptions {
     /// The campaign that offers the image.
     pub campaign: CampaignId,
+    /// The image's release, and 0 where it has none; images that meters are made with have none.
+    pub release: u32,
 }
 
-/// The reader has the bytes of an image. The writer gets a line: the 82 digits of its name in the campaign, in lower-case
-/// hexadecimal.
+impl Model for NameOptions {
+    ghost use Rattle.std.specs.Prelude.{◌≡◌};
+    ghost use Rattle.fw_names.specs.Name.{factory};
+    ghost use Rattle.fw_cli.specs.Naming.{Naming};
+
+    ghost Value = { Naming };
+
+    ghost view = { λ n. record { campaign = n.campaign; release = n.release } };
+
+    ghost invariant = { λ n. n.campaign ≡ factory → n.release ≡ 0 };
+
+    ghost inverse = { λ n. record { campaign = n.campaign; release = n.release } };
+}
+
+/// The reader has the bytes of an image. The writer gets a line: the digits of its name in the campaign, in lower-case hexadecimal,
+/// of which there are 82, and 90 where the image has a release.
 ///
 /// All input is read before anything is written, and what is written is flushed.
 ///
@@ -45,7 +79,7 @@ pub fn run_name<R: Read, W: Write>(
     writer: &mut W,
     options: &NameOptions,
 ) -> Result<(), Fault>
-    ensures ok { OnOk result (WritesName options.now.campaign (R.remaining reader.old) (R.remaining reader.new)
+    ensures ok { OnOk result (WritesName options.now (R.remaining reader.old) (R.remaining reader.new)
         (W.contents writer.old) (W.contents writer.new)) }
 
     // Each input is refused by no other of these than its own.
@@ -64,8 +98,8 @@ pub fn run_name<R: Read, W: Write>(
     ensures only { IfErr result IsOfName }
 {
     let image = read_image(alloc, reader)?;
-    let line = line_of(&name_of(options.campaign, &image));
-    writer.write_all(&line).map_err(|_| Fault::Output)?;
+    let name = name_of(options.campaign, options.release, &image);
+    write_name(writer, &name)?;
     writer.flush().map_err(|_| Fault::Output)
 }
 
@@ -103,11 +137,27 @@ fn offered(image: Vec<u8>) -> Result<Vec<u8>, Fault>
     Ok(image)
 }
 
-/// The line that tells a name.
-fn line_of(name: &ImageName) -> [u8; DIGITS + 1]
-    ensures { (spelling : List ℕ) × SpellsName spelling name.now × (result ≡ encode_lower spelling ++ codes "\n") }
+/// Writes the line that tells a name.
+fn write_name<W: Write>(writer: &mut W, name: &ImageName) -> Result<(), Fault>
+    ensures ok { OnOk result ((spelling : List ℕ) × SpellsName spelling name.now
+        × Appends (W.contents writer.old) (W.contents writer.new) (encode_lower spelling ++ codes "\n")) }
+    ensures only { IfErr result (λ f. f ≡ Fault.Output) }
 {
-    let mut line = [b'\n'; DIGITS + 1];
-    let _ = hex::encode_to_slice(name.to_bytes(), &mut line[..DIGITS]);
+    let bytes = name.to_bytes();
+    let spelling = bytes.as_slice();
+    let line = line_of(spelling);
+    let end = 2 * spelling.len();
+    writer.write_all(&line[..=end]).map_err(|_| Fault::Output)
+}
+
+/// A line that begins with the digits of a spelling, and a line feed behind them.
+fn line_of(spelling: &[u8]) -> [u8; DIGITS + 1]
+    requires { length spelling.now ≤ MAX_NAME_SIZE }
+    ensures { take (2 * length spelling.now + 1) result ≡ encode_lower spelling.now ++ codes "\n" }
+{
+    let mut line = [0; DIGITS + 1];
+    let end = 2 * spelling.len();
+    let _ = hex::encode_to_slice(spelling, &mut line[..end]);
+    line[end] = b'\n';
     line
 }

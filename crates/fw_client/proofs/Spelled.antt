@@ -8,8 +8,13 @@ use Rattle.fw_apdu.specs.declared.error.ApduError.{ApduError}
 use Rattle.fw_apdu.specs.declared.error.ApduError.TheVariants.{Truncated, UnknownService, UnsupportedForm, BadData, Trailing, OutOfMemory}
 use Rattle.fw_apdu.specs.Fault.{IfFault, IsBadData}
 use Rattle.fw_apdu.specs.Request.{RequestContent, request_bytes, unwritable_request}
+use Rattle.fw_names.specs.Name.{Name, IsName, name_bytes}
 use Rattle.fw_client.specs.Ask.{Ask, block_size, first_missing, blocks, status, info, active_name, enable, initiate, block, verify, activate, request_of, Fits}
 use Rattle.fw_client.specs.Inside.{IsNamed}
+
+-- a name is spelled in 45 bytes at most
+most : (name : Name) → IsName name → length (name_bytes name) ≤ 45
+most name h = let digest : length name.digest ≡ 32 = h.digest_size in grind (arith, common_steps)
 
 writable : (a : Ask) → Fits a → IsNamed a → unwritable_request (request_of a) ≡ None
 writable block_size fits named = refl
@@ -19,7 +24,7 @@ writable status fits named = refl
 writable info fits named = refl
 writable active_name fits named = refl
 writable enable fits named = refl
-writable (initiate name size) fits named = let digest : length name.digest ≡ 32 = named.digest_size in grind (arith, common_steps)
+writable (initiate name size) fits named = let spelled = most name named in grind (arith, common_steps)
 writable (block number value) fits named = grind (arith, common_steps)
 writable verify fits named = refl
 writable activate fits named = refl
@@ -32,7 +37,7 @@ bytes_fit invoke status fits named = omega arith
 bytes_fit invoke info fits named = omega arith
 bytes_fit invoke active_name fits named = omega arith
 bytes_fit invoke enable fits named = omega arith
-bytes_fit invoke (initiate name size) fits named = let digest : length name.digest ≡ 32 = named.digest_size in grind (arith, common_steps)
+bytes_fit invoke (initiate name size) fits named = let spelled = most name named in grind (arith, common_steps)
 bytes_fit invoke (block number value) fits named = grind (arith, common_steps)
 bytes_fit invoke verify fits named = omega arith
 bytes_fit invoke activate fits named = omega arith

@@ -141,7 +141,7 @@ fn identified(alloc: Global, name: &ImageName, size: u32) -> Result<Data, AllocE
     ensures value { IfOk result (λ found. value_of found ≡ pair (octet_string (name_bytes name.now)) (double_long_unsigned size)) }
     ensures named { OnOk result (IsName name.now) }
 {
-    let identifier = octets(alloc, &name.to_bytes())?;
+    let identifier = octets(alloc, name.to_bytes().as_slice())?;
     structure(alloc, identifier, Data::DoubleLongUnsigned(size))
 }
 

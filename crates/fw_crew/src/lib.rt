@@ -2,6 +2,7 @@
 #![tactic(auto)]
 
 mod crew;
+mod deal;
 mod error;
 mod floor;
 mod gate;
@@ -10,6 +11,7 @@ mod stage;
 mod worker;
 
 pub use crew::{Hand, Task, work};
+pub use deal::dealt;
 pub use error::{RehearseError, Unaccounted};
 pub use floor::Floor;
 pub use gate::Gate;

@@ -13,6 +13,7 @@ use Rattle.fw_book.specs.Laws.{ImagesStay, StatesFollowCalls}
 use Rattle.fw_head.specs.Row.{Row}
 use Rattle.fw_head.specs.Head.{Rows, row_of, without_serial, IsHead}
 use Rattle.fw_head.proofs.LiveRows.{some_row}
+use Rattle.fw_head.proofs.Names.{cancel_name}
 use Rattle.fw_head.proofs.States.{cancelled_ends, elsewhere_stays, row_stays}
 
 -- ---- in the live rows
@@ -99,7 +100,8 @@ module _ (follow : StatesFollowCalls) (stay : ImagesStay) where
     of_book = λ m row at.
         let was = was_there serial m rows row is.once at in
         let apart : row.name.campaign.serial ≢ serial = λ same. false≢true (sym was.1 ∙ (Decides-eqb row.name.campaign.serial serial).1 same) in
-        row_stays book (cancelled book serial) m row (elsewhere_stays follow book serial row.name.campaign m apart) ((stay book row.name.campaign).at_cancelling serial) (is.of_book m row was.0);
+        row_stays book (cancelled book serial) m row (elsewhere_stays follow book serial row.name.campaign m apart) ((stay book row.name.campaign).at_cancelling serial)
+        (cancel_name book serial row.name.campaign) (is.of_book m row was.0);
     of_rows = λ c m live.
         let before = cancelled_ends follow book serial c m live in
         let was = is.of_rows c m before.1 in

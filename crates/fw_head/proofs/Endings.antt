@@ -14,6 +14,7 @@ use Rattle.fw_head.specs.Row.{Row}
 use Rattle.fw_head.specs.Head.{Rows, row_of, without_meter, IsHead}
 use Rattle.fw_head.proofs.LiveRows.{same_found}
 use Rattle.fw_head.proofs.Ended.{elsewhere, taken_out}
+use Rattle.fw_head.proofs.Names.{mark_name}
 use Rattle.fw_head.proofs.States.{state_stays, marked_ends, row_stays}
 
 none_some : (row : Row) → (let o : Option Row = None in o ≡ Some row) → ⊥
@@ -37,7 +38,8 @@ module _ (follow : StatesFollowCalls) (stay : ImagesStay) where
         absurd (none_some r (sym (taken_out meter rows) ∙ ap (λ n. row_of (without_meter meter rows) n) (sym same) ∙ at)))
         (λ other.
         let apart : ¬ (m ≡ meter) = λ same. false≢true (sym other ∙ (Decides-eqb m meter).1 same) in
-        row_stays book (marked book serial meter state) m r (state_stays follow book serial meter state r.name.campaign m apart) ((stay book r.name.campaign).at_mark serial meter state) (is.of_book m r (sym (elsewhere meter m rows apart) ∙ at)))
+        row_stays book (marked book serial meter state) m r (state_stays follow book serial meter state r.name.campaign m apart) ((stay book r.name.campaign).at_mark serial meter state)
+        (mark_name book serial meter state r.name.campaign) (is.of_book m r (sym (elsewhere meter m rows apart) ∙ at)))
         (cases_Bool (m == meter));
     of_rows = λ c m live.
         ⊎_elim

@@ -9,7 +9,7 @@ use Rattle.std.proofs.lemmas.Bool.Decides.{Decides-eqb}
 use Rattle.fw_names.specs.Name.{Campaign}
 use Rattle.fw_book.specs.declared.row.RowState.{RowState}
 use Rattle.fw_book.specs.declared.row.RowState.TheVariants as state
-use Rattle.fw_book.specs.Contents.{Contents, image_in, state_in}
+use Rattle.fw_book.specs.Contents.{Contents, image_in, name_in, state_in}
 use Rattle.fw_book.specs.Changes.{marked}
 use Rattle.fw_book.specs.Laws.{ImagesStay, StatesFollowCalls}
 use Rattle.fw_head.specs.declared.stage.Stage.{Stage}
@@ -21,6 +21,7 @@ use Rattle.fw_head.specs.Parts.{by_meter, AreLiveRows, still_live, with_end, wit
 use Rattle.fw_head.specs.Laws.{state_of_stage, EndsAreMarked}
 use Rattle.fw_head.specs.Inside.{IsOfBook}
 use Rattle.fw_head.proofs.LiveRows.{some_row}
+use Rattle.fw_head.proofs.Names.{mark_name}
 use Rattle.fw_head.proofs.States.{same_campaign, either_campaign, of_head, state_stays, marked_ends, row_stays}
 use Rattle.fw_head.proofs.ByMeter.{all_from, behind, once_from, own_meter, own_from, rows_from, has_each_from}
 
@@ -96,6 +97,11 @@ module _ (follow : StatesFollowCalls) (stay : ImagesStay) where
   end_image book serial meter Failed c = (stay book c).at_mark serial meter state.Failed
   end_image book serial meter stage c = refl
 
+  end_name : (book : Contents) (serial meter : ℕ) (stage : Stage) (c : Campaign) → name_in (with_end book serial meter stage) c ≡ name_in book c
+  end_name book serial meter (Done claim) c = mark_name book serial meter state.Done c
+  end_name book serial meter Failed c = mark_name book serial meter state.Failed c
+  end_name book serial meter stage c = refl
+
   end_elsewhere : (book : Contents) (serial meter : ℕ) (stage : Stage) (c : Campaign) (m : ℕ) → m ≢ meter → state_in (with_end book serial meter stage) c m ≡ state_in book c m
   end_elsewhere book serial meter (Done claim) c m apart = state_stays follow book serial meter state.Done c m apart
   end_elsewhere book serial meter Failed c m apart = state_stays follow book serial meter state.Failed c m apart
@@ -127,6 +133,12 @@ module _ (follow : StatesFollowCalls) (stay : ImagesStay) where
   ends_image book (row ∷ rows) c =
       ends_image (with_end book row.name.campaign.serial row.client.meter row.stage) rows c
       ∙ end_image book row.name.campaign.serial row.client.meter row.stage c
+
+  ends_name : (book : Contents) (rows : List Row) (c : Campaign) → name_in (with_ends book rows) c ≡ name_in book c
+  ends_name book [] c = refl
+  ends_name book (row ∷ rows) c =
+      ends_name (with_end book row.name.campaign.serial row.client.meter row.stage) rows c
+      ∙ end_name book row.name.campaign.serial row.client.meter row.stage c
 
   -- the state of a meter none of whose rows ended stays
   pub ends_elsewhere : (book : Contents) (rows : List Row) (c : Campaign) (m : ℕ) → AllByRecursion (λ (r : Row). r.client.meter ≡ m → has_ended r.stage ≡ false) rows → state_in (with_ends book rows) c m ≡ state_in book c m
@@ -170,8 +182,7 @@ module _ (follow : StatesFollowCalls) (stay : ImagesStay) where
       let here : row_of (by_meter rows) m ≡ Some r = ap (λ j. row_of (by_meter rows) j) (sym of ∙ own_meter rows k r at) ∙ at in
       ap (λ (x : Row). has_ended x.stage) (some_row r row (sym here ∙ found)) ∙ going) in
       let P : ℕ → Type 0 = λ k. state_in book row.name.campaign k ≡ Some state.Live in
-      let images = ends_image book rows row.name.campaign in
-      row_stays book (with_ends book rows) m row (ends_elsewhere book rows row.name.campaign m alone) images
+      row_stays book (with_ends book rows) m row (ends_elsewhere book rows row.name.campaign m alone) (ends_image book rows row.name.campaign) (ends_name book rows row.name.campaign)
       (record { asks = mine; live = subst P mine own.live; named = own.named; sized = own.sized; going = live_stage row.stage stays })
     where
       unended : (b : Bool) → not b ≡ true → b ≡ false
@@ -207,7 +218,8 @@ module _ (follow : StatesFollowCalls) (stay : ImagesStay) where
       let after : Contents = with_end book row.name.campaign.serial row.client.meter row.stage in (
         row_stays book after r.client.meter (new_row r.client.meter r.name r.size)
             (end_elsewhere book row.name.campaign.serial row.client.meter row.stage r.name.campaign r.client.meter (λ same. false≢true (sym apart.0 ∙ (Decides-eqb row.client.meter r.client.meter).1 (sym same))))
-            (end_image book row.name.campaign.serial row.client.meter row.stage r.name.campaign) of.0,
+            (end_image book row.name.campaign.serial row.client.meter row.stage r.name.campaign)
+            (end_name book row.name.campaign.serial row.client.meter row.stage r.name.campaign) of.0,
         still_of_book book row rows apart.1 of.1,
       )
 
@@ -299,6 +311,7 @@ module _ (follow : StatesFollowCalls) (stay : ImagesStay) where
   pub ends_are_marked : EndsAreMarked
   ends_are_marked book rows are = record {
     images = λ c. ends_image book rows c;
+    names = λ c. ends_name book rows c;
     own = λ m row found. ends_own book rows m row (rows_from book rows are) (once_from book rows are) found;
     others = λ c m none. ends_others book rows c m (rows_from book rows are) (once_from book rows are) none;
   }

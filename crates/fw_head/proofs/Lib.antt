@@ -6,6 +6,7 @@ pub mod LiveRows
 pub mod SameRows
 pub mod Offers
 pub mod Ended
+pub mod Names
 pub mod States
 pub mod Endings
 pub mod TakenOut

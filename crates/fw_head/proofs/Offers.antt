@@ -1,5 +1,5 @@
 -- What a book offers under the campaign of a row.
-use Rattle.std.proofs.Common.{◌≡◌, ℕ, List, [], Option, Some, None, option_map, unwrap_or, Result, Ok, Err, IfErr, IsOk, sym, ap, subst, ◌∙◌, rules}
+use Rattle.std.proofs.Common.{◌≡◌, ℕ, [], Option, Some, None, option_map, unwrap_or, Result, Ok, Err, IfErr, IsOk, sym, ap, subst, ◌∙◌, rules}
 use Rattle.fw_names.specs.Name.{Campaign, Name, name_of}
 use Rattle.fw_client.specs.Claim.{Claim}
 use Rattle.fw_book.specs.declared.error.BookError.{BookError}
@@ -19,7 +19,7 @@ some_or_none name e = cc
 
 pub unoffered : (book : Contents) (c campaign : Campaign) (name : Name) → c ≡ campaign → offered_in book c ≡ None → name_in book campaign ≡ Some name → ⊥
 unoffered book c campaign name same absent named =
-    let none : name_in book c ≡ None = ap (λ (o : Option Offered). option_map (λ (image : List ℕ). name_of c image) (option_map (λ (offer : Offered). offer.image) o)) absent in
+    let none : name_in book c ≡ None = ap (λ (o : Option Offered). option_map (λ (offer : Offered). name_of c offer.release offer.image) o) absent in
     some_or_none name (sym none ∙ ap (λ (x : Campaign). name_in book x) same ∙ named)
 
 pub image_found : (book : Contents) (c campaign : Campaign) (offer : Offered) → c ≡ campaign → offered_in book c ≡ Some offer → offer.image ≡ unwrap_or (image_in book campaign) []

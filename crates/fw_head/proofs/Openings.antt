@@ -18,6 +18,7 @@ use Rattle.fw_book.specs.Laws.{OpeningOffers, StatesFollowCalls}
 use Rattle.fw_head.specs.Row.{Row, new_row}
 use Rattle.fw_head.specs.Head.{Rows, row_of, new_rows, IsRowOf, IsHead}
 use Rattle.fw_head.proofs.LiveRows.{some_row}
+use Rattle.fw_head.proofs.Names.{old_name, new_name}
 use Rattle.fw_head.proofs.States.{either_campaign, row_stays}
 use Rattle.fw_head.proofs.NewRows.{flipped}
 
@@ -227,33 +228,34 @@ unknown book c m new = go (c.head == book.head) (lookup (nat_eq c.serial) book.c
     go false x h = refl
 
 module _ (follow : StatesFollowCalls) (offers : OpeningOffers) where
-  new_is : (book : Contents) (campaign : Campaign) (image meters : List ℕ) (m : ℕ) → Opens book campaign image meters → among meters m ≡ true → IsRowOf (opened book campaign.serial image meters) m (new_row m (name_of campaign image) (length image))
-  new_is book campaign image meters m o there =
-      let adds = offers book campaign image meters o.own o.serial_new in
-      let goes = (follow book campaign o.own).at_opening image meters o.serial_new in
+  new_is : (book : Contents) (campaign : Campaign) (release : ℕ) (image meters : List ℕ) (m : ℕ) → Opens book campaign image meters → among meters m ≡ true → IsRowOf (opened book campaign.serial release image meters) m (new_row m (name_of campaign release image) (length image))
+  new_is book campaign release image meters m o there =
+      let adds = offers book campaign release image meters o.own o.serial_new in
+      let goes = (follow book campaign o.own).at_opening release image meters o.serial_new in
       record {
         asks = refl;
         live = goes.own m ∙ cond-true (among meters m) (Some Live) None there;
-        named = ap (λ (x : Option (List ℕ)). option_map (λ (bytes : List ℕ). name_of campaign bytes) x) adds.own;
+        named = new_name book campaign release image meters o.own o.serial_new;
         sized = ap (λ (x : Option (List ℕ)). option_map length x) adds.own;
         going = tt;
       }
 
-  old_is : (book : Contents) (campaign : Campaign) (image meters : List ℕ) (m : ℕ) (row : Row) → Opens book campaign image meters → IsRowOf book m row → IsRowOf (opened book campaign.serial image meters) m row
-  old_is book campaign image meters m row o is =
+  old_is : (book : Contents) (campaign : Campaign) (release : ℕ) (image meters : List ℕ) (m : ℕ) (row : Row) → Opens book campaign image meters → IsRowOf book m row → IsRowOf (opened book campaign.serial release image meters) m row
+  old_is book campaign release image meters m row o is =
       let other : row.name.campaign ≢ campaign = λ same. none_state Live (sym (ap (λ c. state_in book c m) same ∙ unknown book campaign m o.serial_new) ∙ is.live) in
-      row_stays book (opened book campaign.serial image meters) m row
-      (((follow book campaign o.own).at_opening image meters o.serial_new).others row.name.campaign m other)
-      ((offers book campaign image meters o.own o.serial_new).others row.name.campaign other) is
+      row_stays book (opened book campaign.serial release image meters) m row
+      (((follow book campaign o.own).at_opening release image meters o.serial_new).others row.name.campaign m other)
+      ((offers book campaign release image meters o.own o.serial_new).others row.name.campaign other)
+      (old_name book campaign.serial release image meters row.name.campaign row.name is.named ∙ sym is.named) is
 
   -- a meter that is live then has a row
-  live_has_row : (book : Contents) (width : ℕ) (rows : Rows) (campaign : Campaign) (image meters : List ℕ) (c : Campaign) (m : ℕ) → Opens book campaign image meters → IsHead (record { book = book; width = width; rows = rows }) → state_in (opened book campaign.serial image meters) c m ≡ Some Live → (row : Row) × (row_of (rows ++ new_rows (name_of campaign image) (length image) meters) m ≡ Some row) × (row.name.campaign ≡ c)
-  live_has_row book width rows campaign image meters c m o is live =
-      let name = name_of campaign image in
-      let goes = (follow book campaign o.own).at_opening image meters o.serial_new in
+  live_has_row : (book : Contents) (width : ℕ) (rows : Rows) (campaign : Campaign) (release : ℕ) (image meters : List ℕ) (c : Campaign) (m : ℕ) → Opens book campaign image meters → IsHead (record { book = book; width = width; rows = rows }) → state_in (opened book campaign.serial release image meters) c m ≡ Some Live → (row : Row) × (row_of (rows ++ new_rows (name_of campaign release image) (length image) meters) m ≡ Some row) × (row.name.campaign ≡ c)
+  live_has_row book width rows campaign release image meters c m o is live =
+      let name = name_of campaign release image in
+      let goes = (follow book campaign o.own).at_opening release image meters o.serial_new in
       ⊎_elim
       (λ same.
-      let there : among meters m ≡ true = among_of meters m (sym (goes.own m) ∙ ap (λ x. state_in (opened book campaign.serial image meters) x m) (sym (same ∙ whole)) ∙ live) in
+      let there : among meters m ≡ true = among_of meters m (sym (goes.own m) ∙ ap (λ x. state_in (opened book campaign.serial release image meters) x m) (sym (same ∙ whole)) ∙ live) in
       let free : row_of rows m ≡ None = one_of (λ n. row_of rows n ≡ None) meters m (all_free book width rows meters is o.meters_free) there in
       (new_row m name (length image), found_behind m rows (new_rows name (length image) meters) free ∙ new_there name (length image) meters m there, sym (same ∙ whole)))
       (λ other.
@@ -271,29 +273,29 @@ module _ (follow : StatesFollowCalls) (offers : OpeningOffers) where
           go true is e = is
           go false is e = absurd (none_live e)
 
-  head_opened : (book : Contents) (width : ℕ) (rows : Rows) (campaign : Campaign) (image meters : List ℕ) → Opens book campaign image meters → IsHead (record { book = book; width = width; rows = rows }) → IsHead (record { book = opened book campaign.serial image meters; width = width; rows = rows ++ new_rows (name_of campaign image) (length image) meters })
-  head_opened book width rows campaign image meters o is =
-      let name = name_of campaign image in
+  head_opened : (book : Contents) (width : ℕ) (rows : Rows) (campaign : Campaign) (release : ℕ) (image meters : List ℕ) → Opens book campaign image meters → IsHead (record { book = book; width = width; rows = rows }) → IsHead (record { book = opened book campaign.serial release image meters; width = width; rows = rows ++ new_rows (name_of campaign release image) (length image) meters })
+  head_opened book width rows campaign release image meters o is =
+      let name = name_of campaign release image in
       let added = new_rows name (length image) meters in
-      let P : ℕ → Row → Type 0 = λ m r. IsRowOf (opened book campaign.serial image meters) m r in
+      let P : ℕ → Row → Type 0 = λ m r. IsRowOf (opened book campaign.serial release image meters) m r in
       let Q : List ℕ → Type 0 = λ ks. IsDistinct nat_eq ks in
       record {
         of_book = λ m r at.
             ⊎_elim
             (λ none.
             let found = new_found name (length image) meters m r (sym (found_behind m rows added none) ∙ at) in
-            subst (P m) (sym found.0) (new_is book campaign image meters m o found.1))
+            subst (P m) (sym found.0) (new_is book campaign release image meters m o found.1))
             (λ was.
             let same : was.0 ≡ r = some_row was.0 r (sym (found_before m rows added was.0 was.1) ∙ at) in
-            subst (P m) same (old_is book campaign image meters m was.0 o (is.of_book m was.0 was.1)))
+            subst (P m) same (old_is book campaign release image meters m was.0 o (is.of_book m was.0 was.1)))
             (either (row_of rows m));
-        of_rows = λ c m live. live_has_row book width rows campaign image meters c m o is live;
+        of_rows = λ c m live. live_has_row book width rows campaign release image meters c m o is live;
         once = subst Q (sym (map-append (λ (entry : ℕ × Row). entry.0) rows added ∙ ap (λ (ks : List ℕ). keys_of rows ++ ks) (keys_new name (length image) meters))) (all_once book width rows campaign image meters is o);
       }
 
   -- the same for a book and rows that equal these
-  pub head_opened_by : (book new : Contents) (width : ℕ) (rows all : Rows) (campaign : Campaign) (image meters : List ℕ) → Opens book campaign image meters → new ≡ opened book campaign.serial image meters → all ≡ rows ++ new_rows (name_of campaign image) (length image) meters → IsHead (record { book = book; width = width; rows = rows }) → IsHead (record { book = new; width = width; rows = all })
-  head_opened_by book new width rows all campaign image meters o entered add is =
+  pub head_opened_by : (book new : Contents) (width : ℕ) (rows all : Rows) (campaign : Campaign) (release : ℕ) (image meters : List ℕ) → Opens book campaign image meters → new ≡ opened book campaign.serial release image meters → all ≡ rows ++ new_rows (name_of campaign release image) (length image) meters → IsHead (record { book = book; width = width; rows = rows }) → IsHead (record { book = new; width = width; rows = all })
+  head_opened_by book new width rows all campaign release image meters o entered add is =
       let P : Contents → Type 0 = λ b. IsHead (record { book = b; width = width; rows = all }) in
-      let Q : Rows → Type 0 = λ rs. IsHead (record { book = opened book campaign.serial image meters; width = width; rows = rs }) in
-      subst P (sym entered) (subst Q (sym add) (head_opened book width rows campaign image meters o is))
+      let Q : Rows → Type 0 = λ rs. IsHead (record { book = opened book campaign.serial release image meters; width = width; rows = rs }) in
+      subst P (sym entered) (subst Q (sym add) (head_opened book width rows campaign release image meters o is))

@@ -4,11 +4,11 @@ use Rattle.std.specs.Map.{lookup}
 use Rattle.std.specs.Option.{option_and_then}
 use Rattle.std.proofs.lemmas.Bool.{cases_Bool, cond-true, cond-false, false_from_ne_true, false≢true}
 use Rattle.std.proofs.lemmas.Bool.Decides.{Decides-eqb}
-use Rattle.fw_names.specs.Name.{Campaign, name_of}
+use Rattle.fw_names.specs.Name.{Campaign}
 use Rattle.fw_book.specs.declared.row.RowState.{RowState}
 use Rattle.fw_book.specs.declared.row.RowState.TheVariants.{Live, Done, Failed, Cancelled}
 use Rattle.fw_book.specs.Rows.{is_live, state_of}
-use Rattle.fw_book.specs.Contents.{Contents, Offered, image_in, state_in}
+use Rattle.fw_book.specs.Contents.{Contents, Offered, image_in, name_in, state_in}
 use Rattle.fw_book.specs.Changes.{marked, cancelled}
 use Rattle.fw_book.specs.Laws.{StatesFollowCalls}
 use Rattle.fw_head.specs.Row.{Row}
@@ -111,12 +111,13 @@ module _ (follow : StatesFollowCalls) where
   elsewhere_stays book serial c m apart =
       (follow book (record { head = book.head; serial = serial }) refl).at_cancelling.others c m (λ is. apart (ap (λ (x : Campaign). x.serial) is))
 
--- a row's campaign has it live still, and offers what it offered
-pub row_stays : (before after : Contents) (m : ℕ) (row : Row) → state_in after row.name.campaign m ≡ state_in before row.name.campaign m → image_in after row.name.campaign ≡ image_in before row.name.campaign → IsRowOf before m row → IsRowOf after m row
-row_stays before after m row states images is = record {
+-- a row's campaign has it live still, and offers what it offered, under the same name
+pub row_stays : (before after : Contents) (m : ℕ) (row : Row) → state_in after row.name.campaign m ≡ state_in before row.name.campaign m → image_in after row.name.campaign ≡ image_in before row.name.campaign
+    → name_in after row.name.campaign ≡ name_in before row.name.campaign → IsRowOf before m row → IsRowOf after m row
+row_stays before after m row states images names is = record {
   asks = is.asks;
   live = states ∙ is.live;
-  named = ap (λ (o : Option (List ℕ)). option_map (λ (bytes : List ℕ). name_of row.name.campaign bytes) o) images ∙ is.named;
+  named = names ∙ is.named;
   sized = ap (λ (o : Option (List ℕ)). option_map length o) images ∙ is.sized;
   going = is.going;
 }

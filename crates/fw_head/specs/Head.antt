@@ -3,11 +3,11 @@ use Rattle.std.specs.Prelude.{◌≡◌, ℕ, ◌==◌, nat_eq, not, ◌⊎◌, 
 use Rattle.std.specs.List.{IsDistinct}
 use Rattle.std.specs.Map.{lookup, keys_of}
 use Rattle.std.specs.Option.{option_map, option_map_or}
-use Rattle.fw_names.specs.Name.{Name, Campaign, name_of}
+use Rattle.fw_names.specs.Name.{Name, Campaign, IsRelease, name_of}
 use Rattle.fw_client.specs.Claim.{Claim}
 use Rattle.fw_client.specs.Hearing.{IsClaimed}
 use Rattle.fw_book.specs.declared.row.RowState.TheVariants as state
-use Rattle.fw_book.specs.Contents.{Contents, image_in, name_in, state_in}
+use Rattle.fw_book.specs.Contents.{Contents, Offered, offered_in, image_in, name_in, state_in}
 use Rattle.fw_book.specs.Changes.{empty_book, opened, cancelled, marked}
 use Rattle.fw_head.specs.declared.news.News.{News}
 use Rattle.fw_head.specs.declared.news.News.TheVariants as news
@@ -73,11 +73,11 @@ abbrev pub campaign_at : Head → ℕ → Campaign
 campaign_at head serial = record { head = head.book.head; serial = serial }
 
 -- an opening adds the campaign to the book, and a new row for each of its meters
-abbrev pub opened_head : Head → ℕ → List ℕ → List ℕ → Head
-opened_head head serial image meters =
+abbrev pub opened_head : Head → ℕ → ℕ → List ℕ → List ℕ → Head
+opened_head head serial release image meters =
     record head {
-      book = opened head.book serial image meters;
-      rows = head.rows ++ new_rows (name_of (campaign_at head serial) image) (length image) meters;
+      book = opened head.book serial release image meters;
+      rows = head.rows ++ new_rows (name_of (campaign_at head serial) release image) (length image) meters;
     }
 
 abbrev pub cancelled_head : Head → ℕ → Head
@@ -161,10 +161,11 @@ pub record AreRowsOf (book : Contents) (rows : Rows) : Type 0 where
 abbrev pub IsHead : Head → Type 0
 IsHead head = AreRowsOf head.book head.rows
 
--- ---- what a head end may send: of an image that its book offers
+-- ---- what a head end may send: of an image that its book offers, under its name with the release that it is offered with
 
 pub record IsOfferedIn (book : Contents) (datagram : List ℕ) : Type 0 where
   pub campaign : Campaign
-  pub image : List ℕ
-  pub offered : image_in book campaign ≡ Some image
-  pub permitted : IsPermitted (name_of campaign image) image datagram
+  pub offer : Offered
+  pub offered : offered_in book campaign ≡ Some offer
+  pub is_release : IsRelease campaign offer.release
+  pub permitted : IsPermitted (name_of campaign offer.release offer.image) offer.image datagram

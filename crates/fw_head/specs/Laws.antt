@@ -6,7 +6,7 @@ use Rattle.fw_client.specs.Claim.{Claim}
 use Rattle.fw_client.specs.Hearing.{IsClaimed}
 use Rattle.fw_book.specs.declared.row.RowState.{RowState}
 use Rattle.fw_book.specs.declared.row.RowState.TheVariants as state
-use Rattle.fw_book.specs.Contents.{Contents, image_in, state_in}
+use Rattle.fw_book.specs.Contents.{Contents, image_in, name_in, state_in}
 use Rattle.fw_head.specs.declared.stage.Stage.{Stage}
 use Rattle.fw_head.specs.declared.stage.Stage.TheVariants.{Done, Failed}
 use Rattle.fw_head.specs.declared.phase.Phase.TheVariants as phase
@@ -71,10 +71,11 @@ state_of_stage (Done claim) = state.Done
 state_of_stage Failed = state.Failed
 state_of_stage stage = state.Live
 
--- What the ends of its live rows make of a book: no image changes, each of the rows has the state of its stage, and every state that
--- was not live is as it was.
+-- What the ends of its live rows make of a book: no image changes, and no name, each of the rows has the state of its stage, and every
+-- state that was not live is as it was.
 pub record MarksEnds (before after : Contents) (rows : List Row) : Type 0 where
   pub images : (campaign : Campaign) → image_in after campaign ≡ image_in before campaign
+  pub names : (campaign : Campaign) → name_in after campaign ≡ name_in before campaign
   pub own : (meter : ℕ) (row : Row) → row_of (by_meter rows) meter ≡ Some row → state_in after row.name.campaign meter ≡ Some (state_of_stage row.stage)
   pub others : (campaign : Campaign) (meter : ℕ) → ¬ (state_in before campaign meter ≡ Some state.Live) → state_in after campaign meter ≡ state_in before campaign meter
 

@@ -63,8 +63,8 @@ impl HeadCore {
         }
     }
 
-    /// Opens the campaign of this serial number: it offers the image to the meters under the name that is answered, and each of
-    /// them has a new row.
+    /// Opens the campaign of this serial number: it offers the image to the meters under the name that is answered, which has this
+    /// release, and each of them has a new row.
     ///
     /// # Errors
     ///
@@ -73,12 +73,13 @@ impl HeadCore {
         &mut self,
         alloc: Global,
         serial: u32,
+        release: u32,
         image: &[u8],
         meters: &[MeterId],
     ) -> Result<ImageName, BookError>
         requires { 1 ≤ serial }
-        ensures opened { OnOk result (self.new ≡ opened_head self.old serial image.now meters.now) }
-        ensures name { IfOk result (λ name. name ≡ name_of (campaign_at self.old serial) image.now) }
+        ensures opened { OnOk result (self.new ≡ opened_head self.old serial release image.now meters.now) }
+        ensures name { IfOk result (λ name. name ≡ name_of (campaign_at self.old serial) release image.now) }
         ensures admitted { OnOk result (opening_refusal self.old.book (campaign_at self.old serial) image.now meters.now ≡ None) }
         ensures refused { IfErr result (IsRefusal (opening_refusal self.old.book (campaign_at self.old serial) image.now meters.now)) }
         ensures same { OnErr result (self.new ≡ self.old) }
@@ -91,7 +92,9 @@ impl HeadCore {
             self.book.check_opening(campaign, image, meters)?;
             return Err(BookError::OutOfMemory);
         }
-        let name = self.book.open_campaign(alloc, campaign, image, meters)?;
+        let name = self
+            .book
+            .open_campaign(alloc, campaign, release, image, meters)?;
         self.rows.add(name, image.len() as u32, meters);
         Ok(name)
     }

@@ -32,8 +32,8 @@ pub fn put_back_in_order()
     ensures { PutBackInOrder }
 {}
 
-/// A head end that is put together marks the ends of its rows in the book, and nothing else: no image changes, and no state of a
-/// meter that was not live.
+/// A head end that is put together marks the ends of its rows in the book, and nothing else: no image changes, no name under which
+/// one is offered, and no state of a meter that was not live.
 pub fn ends_are_marked()
     ensures { EndsAreMarked }
 {

@@ -27,9 +27,9 @@ opened : (campaign : Campaign) → IsCampaign campaign → (campaign ≡ factory
 opened campaign (inl made) other = absurd (other made)
 opened campaign (inr is) other = is
 
-offer_of : (capacity block_size : ℕ) (goal : Goal) → GoalFieldsFit goal → IsGoal capacity block_size goal → IsOffer block_size capacity goal.name goal.size
-offer_of capacity block_size goal fields is =
-    record { opened = opened goal.name.campaign fields.name.is_campaign is.offered; fits = is.fits; limits = is.blocks }
+offer_of : (capacity block_size release : ℕ) (goal : Goal) → GoalFieldsFit goal → IsGoal capacity block_size release goal → IsOffer block_size capacity release goal.name goal.size
+offer_of capacity block_size release goal fields is =
+    record { opened = opened goal.name.campaign fields.name.is_campaign is.offered; risen = is.risen; fits = is.fits; limits = is.blocks }
 
 -- ---- its blocks have their lengths
 
@@ -48,7 +48,7 @@ fit_at sizes capacity h digesting d is sized = record {
   block_begins = is.block_size_begins;
   block_ends = is.block_size_ends;
   named = is.fields.running_name;
-  goal = λ goal e. offer_of capacity h.block_size goal (subst (λ (g : Option Goal). IfSome g GoalFieldsFit) (there goal e) is.fields.goal) (held goal e);
+  goal = λ goal e. offer_of capacity h.block_size h.running_name.release goal (subst (λ (g : Option Goal). IfSome g GoalFieldsFit) (there goal e) is.fields.goal) (held goal e);
   cells = λ goal e. subst (λ (g : Option Goal). CellsFit h.block_size goal.size (cells_of h.block_size h.marks (slot_bytes d (other h.running_slot)) g)) (sym (there goal e))
       (cells_fit sizes capacity h.block_size h.marks (slot_bytes d (other h.running_slot)) goal (sized (other h.running_slot)) (held goal e).fits);
 }
@@ -56,8 +56,8 @@ fit_at sizes capacity h digesting d is sized = record {
     there : (goal : Goal) → goal_of (phase_at digesting (phase_of h.status h.goal)) ≡ Some goal → h.goal ≡ Some goal
     there goal e = sym (goal_again h.status h.goal is.goal_by_status) ∙ sym (goal_at digesting (phase_of h.status h.goal)) ∙ e
 
-    held : (goal : Goal) → goal_of (phase_at digesting (phase_of h.status h.goal)) ≡ Some goal → IsGoal capacity h.block_size goal
-    held goal e = subst (λ (g : Option Goal). IfSome g (IsGoal capacity h.block_size)) (there goal e) is.goal
+    held : (goal : Goal) → goal_of (phase_at digesting (phase_of h.status h.goal)) ≡ Some goal → IsGoal capacity h.block_size h.running_name.release goal
+    held goal e = subst (λ (g : Option Goal). IfSome g (IsGoal capacity h.block_size h.running_name.release)) (there goal e) is.goal
 
 -- ---- together they have the image's size
 

@@ -15,7 +15,7 @@ with_bytes m bytes = record m { running = record m.running { bytes = bytes } }
 
 pub fresh_is_meter : FreshIsHeader → FreshIsMeter
 fresh_is_meter law block_size capacity factory setup =
-    let name : IsName (factory_name factory) = record { is_campaign = inl refl; digest_size = length-sha256 factory } in
+    let name : IsName (factory_name factory) = record { is_campaign = inl refl; is_release = record { fits = omega arith; none = λ made. refl }; digest_size = length-sha256 factory } in
     let room : capacity ≤ 4194304 = setup.room.room_in_range in
     let small : capacity < 2 ^ 32 = omega (arith, room) in (
       record {

@@ -43,12 +43,12 @@ marks_whole all n marks count within none =
     get_or-replicate (all - n) i false false here ∙ sym (get_or-drop n marks i false ∙ none (n + i) past)) in
     ap (λ (k : ℕ). take n marks ++ replicate (all - k) false) front ∙ ap (λ (l : List Bool). take n marks ++ l) rest ∙ take-append-drop n marks
 
-count_within : (capacity b : ℕ) (goal : Option Goal) → IfSome goal (IsGoal capacity b) → goal_count b goal ≤ max_blocks
-count_within capacity b None is = omega arith
-count_within capacity b (Some goal) is = is.blocks.few
+count_within : (capacity b release : ℕ) (goal : Option Goal) → IfSome goal (IsGoal capacity b release) → goal_count b goal ≤ max_blocks
+count_within capacity b release None is = omega arith
+count_within capacity b release (Some goal) is = is.blocks.few
 
 pub marks_shown : (capacity : ℕ) (h : Header) → IsHeader capacity h → all_marks (take (goal_count h.block_size h.goal) h.marks) ≡ h.marks
-marks_shown capacity h is = marks_whole max_blocks (goal_count h.block_size h.goal) h.marks is.fields.marks (count_within capacity h.block_size h.goal is.goal) is.unmarked
+marks_shown capacity h is = marks_whole max_blocks (goal_count h.block_size h.goal) h.marks is.fields.marks (count_within capacity h.block_size h.running_name.release h.goal is.goal) is.unmarked
 
 -- ---- one device is one meter
 

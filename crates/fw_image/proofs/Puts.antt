@@ -1,27 +1,32 @@
 -- Writes of a block are the steps of a meter.
-use Rattle.std.proofs.Common.{cond, ◌≡◌, ◌≢◌, ℕ, ◌+◌, ◌*◌, ◌<◌, ◌≤◌, ◌||◌, ◌==◌, Bool, true, false, IsTrue, List, length, take, drop, slice_range, Some, Option, ◌⊎◌, inl, inr, refl, sym, ap, subst, ◌∙◌, arith}
+use Rattle.std.proofs.Common.{cond, ◌≡◌, ◌≢◌, ℕ, ◌+◌, ◌*◌, ◌<◌, ◌≤◌, ◌||◌, ◌==◌, Bool, true, false, IsTrue, List, length, take, drop, slice_range, Some, None, Option, ◌⊎◌, inl, inr, refl, sym, ap, subst, ◌∙◌, arith}
 use Rattle.std.specs.Prelude.{IfSome, is_some}
 use Rattle.std.specs.FinMap.{insert, get}
 use Rattle.std.proofs.lemmas.List.{length-take-le}
+use Rattle.sha2.specs.Sha256.{sha256}
 use Rattle.fw_blocks.specs.Cuts.{cut, block_start, block_end, block_count, max_blocks}
 use Rattle.fw_blocks.specs.Members.{has}
 use Rattle.fw_blocks.specs.Laws.{OtherBlocksStay, BeginsWithin}
 use Rattle.fw_store.specs.Device.{Device, slot_bytes, written, splice, Torn}
+use Rattle.fw_store.specs.Faults.{Keeps}
+use Rattle.fw_store.specs.Layout.{header_bytes}
 use Rattle.fw_store.specs.StoreLaws.{SpliceStands}
 use Rattle.fw_store.specs.Slot.{other}
 use Rattle.fw_store.specs.Header.{IsHeader, IsGoal, FieldsFit, goal_count, is_verified}
 use Rattle.fw_store.specs.declared.header.StoredStatus.TheVariants as kept
-use Rattle.fw_image.specs.declared.status.TransferStatus.TheVariants.{Initiated}
+use Rattle.fw_image.specs.declared.status.TransferStatus.TheVariants.{Initiated, VerificationSuccessful}
 use Rattle.std.proofs.lemmas.Bool.Decides.{nat_tests}
 use Rattle.fw_store.specs.declared.slot.Slot.{Slot}
 use Rattle.fw_store.specs.declared.slot.Slot.TheVariants.{First, Second}
 use Rattle.fw_store.specs.declared.header.Header.{Header}
+use Rattle.fw_store.specs.declared.store.ImageStore.{Ghosts}
 use Rattle.fw_store.specs.declared.header.Goal.{Goal}
 use Rattle.fw_image.specs.Meter.{Meter, Phase, receiving, status_of}
 use Rattle.fw_image.specs.Calls.{calls_for}
 use Rattle.fw_image.specs.Shown.{shown_of}
 use Rattle.fw_image.specs.Step.{IsBlock, Admits, Serves, Leaves, Tears, block, with_cell}
-use Rattle.fw_image.specs.Stored.{phase_of, cells_of, blocks_below, meter_of, seen}
+use Rattle.fw_verify.specs.Progress.{Progress}
+use Rattle.fw_image.specs.Stored.{phase_of, cells_of, blocks_below, meter_of, seen, IsHeld, IsHolding}
 use Rattle.fw_image.specs.Moves.{IsPlace}
 use Rattle.fw_image.proofs.Blocks.{blocks_put, blocks_kept, get_marked, is_some-get, mark_again}
 use Rattle.fw_image.proofs.Meters.{SameSlots, shown_is, seen_real, status_kept}
@@ -72,7 +77,7 @@ cut_elsewhere stay law stand b size number start bytes value is k apart =
 pub record Put (capacity : ℕ) (h : Header) (spare : List ℕ) (goal : Goal) (number start : ℕ) (value : List ℕ) : Type 0 where
   pub valid : IsHeader capacity h
   pub there : h.goal ≡ Some goal
-  pub is_goal : IsGoal capacity h.block_size goal
+  pub is_goal : IsGoal capacity h.block_size h.running_name.release goal
   pub room : length spare ≡ capacity
   pub is_block : IsBlock h.block_size goal.size number value
   pub begins : start ≡ block_start h.block_size number
@@ -81,7 +86,7 @@ pub is_put : (capacity : ℕ) (h : Header) (spare : List ℕ) (number start : �
 is_put capacity h spare number start value valid room place = record {
   valid = valid;
   there = place.there;
-  is_goal = subst (λ (g : Option Goal). IfSome g (IsGoal capacity h.block_size)) place.there valid.goal;
+  is_goal = subst (λ (g : Option Goal). IfSome g (IsGoal capacity h.block_size h.running_name.release)) place.there valid.goal;
   room = room;
   is_block = place.is_block;
   begins = place.begins;
@@ -281,7 +286,7 @@ one_or_two false = omega arith
 
 pub marks_in : (capacity : ℕ) (h : Header) (number start : ℕ) (value : List ℕ) → IsHeader capacity h → IsPlace h number value start → number < length h.marks
 marks_in capacity h number start value valid place =
-    let is_goal : IsGoal capacity h.block_size place.goal = subst (λ (g : Option Goal). IfSome g (IsGoal capacity h.block_size)) place.there valid.goal in
+    let is_goal : IsGoal capacity h.block_size h.running_name.release place.goal = subst (λ (g : Option Goal). IfSome g (IsGoal capacity h.block_size h.running_name.release)) place.there valid.goal in
     let few : block_count h.block_size place.goal.size ≤ max_blocks = is_goal.blocks.few in
     let below : number < block_count h.block_size place.goal.size = place.is_block.below in
     let count : length h.marks ≡ max_blocks = valid.fields.marks in
@@ -307,3 +312,36 @@ valid_marked capacity h number start value marks valid status place marked fits 
       unmarked = λ k past. beyond k number (goal_count h.block_size h.goal) (has marks k) (has h.marks k) (marked k) below past (valid.unmarked k past);
       marked = λ verified. let not : is_verified h.status ≡ false = ap is_verified is in absurd cc;
     }
+
+-- ---- what is held
+
+written_head : (d : Device) (slot : Slot) (at : ℕ) (bytes : List ℕ) → (written d slot at bytes).head ≡ d.head
+written_head d First at bytes = refl
+written_head d Second at bytes = refl
+
+-- a write into a slot leaves the header
+pub wrote_head : (d d' : Device) (slot : Slot) (at : ℕ) (bytes : List ℕ) → d' ≡ written d slot at bytes → d'.head ≡ d.head
+wrote_head d d' slot at bytes e = ap (λ (x : Device). x.head) e ∙ written_head d slot at bytes
+
+not_verified : (p : Phase) → status_of p ≡ Initiated → status_of p ≡ VerificationSuccessful → ⊥
+not_verified p receives verified = let bad : Initiated ≡ VerificationSuccessful = sym receives ∙ verified in cc
+
+-- while blocks are received, what is held stays so, whatever stands in the spare slot
+pub holding_put : {S : Type 0} (t : Ghosts S) (s s' : S) (h : Header) (marks : List Bool) (digesting : Option Progress) → digesting ≡ None → status_of (phase_of h.status h.goal) ≡ Initiated
+    → Keeps t.honest t.sound t.capacity t.faults s s' → IsHeader (t.capacity s) (record h { marks = marks })
+    → (IsTrue (t.honest s) → header_bytes (record h { marks = marks }) ≡ (t.device s').head)
+    → (IsTrue (t.honest s) → slot_bytes (t.device s') h.running_slot ≡ slot_bytes (t.device s) h.running_slot)
+    → IsHeld t.honest t.capacity t.device s h → IsHolding t.honest t.capacity t.device s' (record h { marks = marks }) digesting
+holding_put t s s' h marks digesting none status kept valid stored same held =
+    let still : IsTrue (t.honest s') → IsTrue (t.honest s) = λ b. sym kept.honesty ∙ b in
+    rw none (record {
+      held = record {
+        valid = rw kept.size valid;
+        stored = λ b. stored (still b);
+        trusted = λ b. record {
+          running = ap (λ (bytes : List ℕ). sha256 (take h.running_size bytes)) (same (still b)) ∙ (held.trusted (still b)).running;
+          verified = λ verified. absurd (not_verified (phase_of h.status h.goal) status verified);
+        };
+      };
+      digested = tt;
+    })

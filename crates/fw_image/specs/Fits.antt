@@ -12,11 +12,11 @@ abbrev pub CellsFit : ℕ → ℕ → Cells → Type 0
 CellsFit block_size size cells =
     (number : ℕ) (cell : List ℕ) → get cells number ≡ Some cell → length cell ≡ block_end block_size size number - block_start block_size number
 
--- a block has 1 to 1,024 bytes, the name of the image that runs has a spelling, and a goal is one that can be initiated, whose blocks have
--- their lengths
+-- a block has 1 to 1,024 bytes, the name of the image that runs has a spelling, and a goal is one that can be initiated, so its release is
+-- not below that of the image that runs; its blocks have their lengths
 pub record IsFit (m : Meter) : Type 0 where
   pub block_begins : 1 ≤ m.block_size
   pub block_ends : m.block_size ≤ max_block_size
   pub named : IsName m.running.name
-  pub goal : (goal : Goal) → goal_of m.phase ≡ Some goal → IsOffer m.block_size m.capacity goal.name goal.size
+  pub goal : (goal : Goal) → goal_of m.phase ≡ Some goal → IsOffer m.block_size m.capacity m.running.name.release goal.name goal.size
   pub cells : (goal : Goal) → goal_of m.phase ≡ Some goal → CellsFit m.block_size goal.size m.cells

@@ -13,7 +13,8 @@ pub enum Refusal {
     /// Image transfer is disabled.
     #[error("Disabled")]
     Disabled,
-    /// The name is a factory's, or the size is 0, above the capacity, or of more than 4,096 blocks.
+    /// The name is a factory's, or its release below that of the image that runs, or the size is 0, above the capacity, or of more
+    /// than 4,096 blocks.
     #[error("BadInitiate")]
     BadInitiate,
     /// The image has no block of this number, or that block has another length.

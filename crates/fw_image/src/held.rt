@@ -116,7 +116,7 @@ impl<S: ImageStore> Held<S> {
         if !self.header.enabled {
             return Err(Refusal::Disabled);
         }
-        if !is_offer(self.header.block_size, self.store.capacity(), name, size) {
+        if !is_offer(&self.header, self.store.capacity(), name, size) {
             return Err(Refusal::BadInitiate);
         }
         let next = Header {
@@ -407,11 +407,11 @@ fn replace<S: ImageStore>(
     Ok(())
 }
 
-/// Whether an image of this name and size can be received.
-fn is_offer(block_size: u32, capacity: u32, name: ImageName, size: u32) -> bool
-    ensures { IsTrue result ↔ IsOffer block_size capacity name size }
+/// Whether an image of this name and size can be received. Its release may be that of the image that runs, or a higher one.
+fn is_offer(header: &Header, capacity: u32, name: ImageName, size: u32) -> bool
+    ensures { IsTrue result ↔ IsOffer header.now.block_size capacity header.now.running_name.release name size }
 {
-    Goal { name, size }.fits(capacity, block_size)
+    Goal { name, size }.fits(capacity, header.block_size, header.running_name.release)
 }
 
 /// Where in the image a block begins, if the goal has that block, and of just this length.

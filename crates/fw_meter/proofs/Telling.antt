@@ -1,12 +1,13 @@
--- Of all that a meter replies to a GET, an octet-string of 41 bytes spells the name of the image that runs.
-use Rattle.std.proofs.Common.{◌≡◌, ℕ, ◌<◌, ◌^◌, Bool, true, false, List, [], ◌∷◌, length, Some, None, inl, inr, refl, sym, ◌∙◌, ap, subst, arith, lt-ltb, if◌then◌else◌, nat_lt}
+-- Of all that a meter replies to a GET, an octet-string of 41 or 45 bytes spells the name of the image that runs.
+use Rattle.std.proofs.Common.{◌≡◌, ℕ, ◌<◌, ◌^◌, ◌⊎◌, Bool, true, false, List, [], ◌∷◌, length, Some, None, inl, inr, refl, sym, ◌∙◌, ap, subst, arith, lt-ltb, if◌then◌else◌, nat_lt}
 use Rattle.fw_axdr.specs.Value.{octet_string}
 use Rattle.fw_axdr.specs.Spelling.{IsData, max_depth, short}
 use Rattle.fw_axdr.specs.Fault.{counted}
 use Rattle.fw_axdr.specs.declared.error.AxdrError.TheVariants.{BadLength}
 use Rattle.fw_axdr.specs.Laws as axdr
 use Rattle.fw_wrapper.specs.Wrapper.{wrapped, behind_header}
-use Rattle.fw_names.specs.Name.{IsName, name_bytes}
+use Rattle.fw_names.specs.Name.{Name, IsName, name_bytes}
+use Rattle.fw_names.specs.Laws as names
 use Rattle.fw_apdu.specs.Request.{RequestContent, get_request, set_request, action_request, is_confirmed}
 use Rattle.fw_apdu.specs.Cosem.{image_transfer, active_firmware_identifier, active_firmware_signature}
 use Rattle.fw_apdu.specs.Response.{value, get_response, SpellsResponse, response_bytes}
@@ -56,29 +57,32 @@ one_string shorts spellings o bytes few h =
     let same : octet_string o ≡ octet_string bytes = (spellings max_depth spelled spelled [] [] (octet_string o) (octet_string bytes) refl own h).1 in
     cc
 
-shorter : axdr.ShortSpells → axdr.OneSpelling → (o bytes : List ℕ) → length o < 41 → IsData max_depth (short (octet_string o)) (octet_string bytes) → length bytes ≡ 41 → ⊥
+shorter : axdr.ShortSpells → axdr.OneSpelling → (o bytes : List ℕ) → length o < 41 → IsData max_depth (short (octet_string o)) (octet_string bytes)
+    → (length bytes ≡ 41) ⊎ (length bytes ≡ 45) → ⊥
 shorter shorts spellings o bytes few h size =
     let same : o ≡ bytes = one_string shorts spellings o bytes (omega arith) h in
     let lengths = ap length same in
-    omega arith
+    elim size [ inl unreleased ↦ omega arith | inr released ↦ omega arith ]
 
--- of what can be read of a meter, 41 bytes spell the name of the image that runs
-told_name : axdr.ShortSpells → axdr.OneSpelling → (m : Meter) (reading : Reading) (bytes : List ℕ) → IsName m.running.name
-    → IsData max_depth (short (value_of_answer (answer_of m reading))) (octet_string bytes) → length bytes ≡ 41 → name_bytes m.running.name ≡ bytes
-told_name shorts spellings m (LogicalName ImageTransfer) bytes named h size = absurd (shorter shorts spellings image_transfer bytes (omega arith) h size)
-told_name shorts spellings m (LogicalName ActiveIdentifier) bytes named h size = absurd (shorter shorts spellings active_firmware_identifier bytes (omega arith) h size)
-told_name shorts spellings m (LogicalName ActiveSignature) bytes named h size = absurd (shorter shorts spellings active_firmware_signature bytes (omega arith) h size)
-told_name shorts spellings m BlockSize bytes named h size = absurd (omega (arith, heads h.0.1))
-told_name shorts spellings m TransferredBlocks bytes named h size = absurd (omega (arith, heads h.0.1))
-told_name shorts spellings m FirstNotTransferred bytes named h size = absurd (omega (arith, heads h.0.1))
-told_name shorts spellings m TransferEnabled bytes named h size = absurd (omega (arith, heads h.0.1))
-told_name shorts spellings m TransferStatus bytes named h size = absurd (omega (arith, heads h.0.1))
-told_name shorts spellings m ToActivate bytes named h size = absurd (omega (arith, heads h.0.1))
-told_name shorts spellings m ActiveName bytes named h size =
-    let digest = named.digest_size in
-    let few : length (name_bytes m.running.name) < 128 = omega arith in
-    one_string shorts spellings (name_bytes m.running.name) bytes few h
-told_name shorts spellings m ActiveDigest bytes named h size =
+-- a name has at most 45 bytes
+name_fits : names.SpellingSize → (name : Name) → IsName name → length (name_bytes name) < 128
+name_fits sizes name named =
+    elim (sizes (name_bytes name) name (record { is_name = named; spelled = refl })) [ inl unreleased ↦ omega arith | inr released ↦ omega arith ]
+
+-- of what can be read of a meter, 41 or 45 bytes spell the name of the image that runs
+told_name : names.SpellingSize → axdr.ShortSpells → axdr.OneSpelling → (m : Meter) (reading : Reading) (bytes : List ℕ) → IsName m.running.name
+    → IsData max_depth (short (value_of_answer (answer_of m reading))) (octet_string bytes) → (length bytes ≡ 41) ⊎ (length bytes ≡ 45) → name_bytes m.running.name ≡ bytes
+told_name sizes shorts spellings m (LogicalName ImageTransfer) bytes named h size = absurd (shorter shorts spellings image_transfer bytes (omega arith) h size)
+told_name sizes shorts spellings m (LogicalName ActiveIdentifier) bytes named h size = absurd (shorter shorts spellings active_firmware_identifier bytes (omega arith) h size)
+told_name sizes shorts spellings m (LogicalName ActiveSignature) bytes named h size = absurd (shorter shorts spellings active_firmware_signature bytes (omega arith) h size)
+told_name sizes shorts spellings m BlockSize bytes named h size = absurd (omega (arith, heads h.0.1))
+told_name sizes shorts spellings m TransferredBlocks bytes named h size = absurd (omega (arith, heads h.0.1))
+told_name sizes shorts spellings m FirstNotTransferred bytes named h size = absurd (omega (arith, heads h.0.1))
+told_name sizes shorts spellings m TransferEnabled bytes named h size = absurd (omega (arith, heads h.0.1))
+told_name sizes shorts spellings m TransferStatus bytes named h size = absurd (omega (arith, heads h.0.1))
+told_name sizes shorts spellings m ToActivate bytes named h size = absurd (omega (arith, heads h.0.1))
+told_name sizes shorts spellings m ActiveName bytes named h size = one_string shorts spellings (name_bytes m.running.name) bytes (name_fits sizes m.running.name named) h
+told_name sizes shorts spellings m ActiveDigest bytes named h size =
     let digest = named.digest_size in
     absurd (shorter shorts spellings m.running.name.digest bytes (omega arith) h size)
 
@@ -104,9 +108,9 @@ is_written : (confirmed : Bool) (reply datagram : List ℕ) → Some reply ≡ (
 is_written true reply datagram e = cc
 is_written false reply datagram e = absurd cc
 
-pub tells_running : axdr.ShortSpells → axdr.OneSpelling → TellsRunning
-tells_running shorts spellings honest old new datagram reply bytes activated named (inr h) told size = absurd (cc (h.silent))
-tells_running shorts spellings honest old new datagram reply bytes activated named (inl h) told size =
+pub tells_running : names.SpellingSize → axdr.ShortSpells → axdr.OneSpelling → TellsRunning
+tells_running sizes shorts spellings honest old new datagram reply bytes activated named (inr h) told size = absurd (cc (h.silent))
+tells_running sizes shorts spellings honest old new datagram reply bytes activated named (inl h) told size =
     let result : MeterResult = h.responds.result in
     let written : List ℕ = response_bytes h.invoke (response_of (outcome_in h.content result)) in
     let sent : reply ≡ wrapped 1 h.source written = is_written (is_confirmed h.invoke) reply (wrapped 1 h.source written) h.responds.replies in
@@ -116,4 +120,4 @@ tells_running shorts spellings honest old new datagram reply bytes activated nam
     let answered = is_told h.invoke told.invoke h.content result bytes spells in
     let read = is_read honest old new (meaning_of h.content) answered.answer (subst (λ (r : MeterResult). MeterStep honest old (meaning_of h.content) r new) answered.is h.responds.steps) in
     let data_is = subst (λ (a : Answer). IsData max_depth (short (value_of_answer a)) (octet_string bytes)) read.is answered.spelled in
-    record { is_name = named; spelled = sym (told_name shorts spellings old read.reading bytes named data_is size) }
+    record { is_name = named; spelled = sym (told_name sizes shorts spellings old read.reading bytes named data_is size) }

@@ -73,10 +73,10 @@ pub record TellsString (datagram bytes : List ℕ) : Type 0 where
   pub wraps : Wraps datagram source dest apdu
   pub spells : SpellsResponse apdu invoke (get_response (value (octet_string bytes)))
 
--- Of all that a meter replies to a GET, an octet-string of 41 bytes spells the name of the image that runs, where that has a spelling. No
--- call of the store failed: behind one that did, no value is told. The store may be honest or not.
+-- Of all that a meter replies to a GET, an octet-string of 41 or 45 bytes spells the name of the image that runs, where that has a spelling.
+-- No call of the store failed: behind one that did, no value is told. The store may be honest or not.
 abbrev pub TellsRunning : Type 0
 TellsRunning =
     (honest : Bool) (old new : Meter) (datagram reply bytes : List ℕ) (activated : Option Name) → IsName old.running.name
-    → Handles honest IsTrue old datagram (Some reply) activated new → TellsString reply bytes → length bytes ≡ 41
-    → SpellsName bytes old.running.name
+    → Handles honest IsTrue old datagram (Some reply) activated new → TellsString reply bytes
+    → (length bytes ≡ 41) ⊎ (length bytes ≡ 45) → SpellsName bytes old.running.name

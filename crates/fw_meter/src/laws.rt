@@ -31,11 +31,12 @@ pub fn turn_fault_is_stop()
     ensures { TurnFaultIsStop }
 {}
 
-/// Of all that a meter replies to a GET, an octet-string of 41 bytes spells the name of the image that runs, over any store of
-/// which no call failed. That name has a spelling, as the clause `fits` of `MeterCore::view` says.
+/// Of all that a meter replies to a GET, an octet-string of 41 or 45 bytes spells the name of the image that runs, over any
+/// store of which no call failed. That name has a spelling, as the clause `fits` of `MeterCore::view` says.
 pub fn tells_running()
     ensures { TellsRunning }
 {
+    fw_names::laws::spelling_size();
     fw_axdr::laws::short_spells();
     fw_axdr::laws::one_spelling();
 }

@@ -1,5 +1,5 @@
--- Names of firmware images: a campaign, and the digest of the image.
-use Rattle.std.specs.Prelude.{◌≡◌, ℕ, ◌<◌, ◌≤◌, ◌^◌, ◌⊎◌, List, ◌∷◌, ◌++◌, length}
+-- Names of firmware images: a campaign, a release, and the digest of the image.
+use Rattle.std.specs.Prelude.{◌≡◌, ℕ, ◌<◌, ◌≤◌, ◌^◌, ◌⊎◌, ◌==◌, List, ◌∷◌, ◌++◌, length, cond}
 use Rattle.std.specs.Int.{w32, to_be_bytes}
 use Rattle.sha2.specs.Sha256.{sha256}
 
@@ -8,9 +8,11 @@ pub record Campaign : Type 0 where
   pub head : ℕ
   pub serial : ℕ
 
--- which campaign offers an image, and the image's SHA-256
+-- Which campaign offers an image, its release, and the image's SHA-256. Releases are numbers that rise as software goes on; 0 tells
+-- none.
 pub record Name : Type 0 where
   pub campaign : Campaign
+  pub release : ℕ
   pub digest : List ℕ
 
 -- the campaign of every image that a meter is made with
@@ -28,25 +30,37 @@ pub record IsOpened (c : Campaign) : Type 0 where
 abbrev pub IsCampaign : Campaign → Type 0
 IsCampaign c = (c ≡ factory) ⊎ IsOpened c
 
+-- a release that a name of this campaign can have: the factory's images have none
+pub record IsRelease (campaign : Campaign) (release : ℕ) : Type 0 where
+  pub fits : release < 2 ^ 32
+  pub none : campaign ≡ factory → release ≡ 0
+
 -- a name that has a spelling: its digest has 32 bytes
 pub record IsName (name : Name) : Type 0 where
   pub is_campaign : IsCampaign name.campaign
+  pub is_release : IsRelease name.campaign name.release
   pub digest_size : length name.digest ≡ 32
 
--- the one spelling of a name, of 41 bytes: 01, the two numbers in four bytes each, high byte first, and the digest
+-- the two numbers of a campaign in four bytes each, high byte first
+abbrev pub campaign_bytes : Campaign → List ℕ
+campaign_bytes campaign = to_be_bytes w32 campaign.head ++ to_be_bytes w32 campaign.serial
+
+-- The one spelling of a name. Without a release it has 41 bytes: 01, the campaign, and the digest. With one it has 45: 02, the
+-- campaign, the release in four bytes, high byte first, and the digest.
 abbrev pub name_bytes : Name → List ℕ
-name_bytes name =
-    1 ∷ (to_be_bytes w32 name.campaign.head ++ to_be_bytes w32 name.campaign.serial ++ name.digest)
+name_bytes name = cond (name.release == 0)
+    (1 ∷ (campaign_bytes name.campaign ++ name.digest))
+    (2 ∷ (campaign_bytes name.campaign ++ to_be_bytes w32 name.release ++ name.digest))
 
 -- the bytes are the spelling of this name
 pub record SpellsName (bytes : List ℕ) (name : Name) : Type 0 where
   pub is_name : IsName name
   pub spelled : bytes ≡ name_bytes name
 
--- the name under which a campaign offers an image
-abbrev pub name_of : Campaign → List ℕ → Name
-name_of campaign image = record { campaign = campaign; digest = sha256 image }
+-- the name under which a campaign offers an image of a release
+abbrev pub name_of : Campaign → ℕ → List ℕ → Name
+name_of campaign release image = record { campaign = campaign; release = release; digest = sha256 image }
 
 -- the name of an image that a meter is made with
 abbrev pub factory_name : List ℕ → Name
-factory_name image = name_of factory image
+factory_name image = name_of factory 0 image

@@ -12,7 +12,7 @@ pub fn spellings_differ()
     ensures { SpellingsDiffer }
 {}
 
-/// Every spelling has 41 bytes.
+/// Every spelling has 41 bytes, or 45.
 pub fn spelling_size()
     ensures { SpellingSize }
 {}

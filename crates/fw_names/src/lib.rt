@@ -2,13 +2,15 @@
 //! the numbers of head ends, campaigns and meters.
 #![tactic(auto)]
 
+mod bytes;
 mod campaign;
 mod head;
 pub mod laws;
 mod meter;
 mod name;
 
+pub use bytes::{MAX_NAME_SIZE, NameBytes};
 pub use campaign::CampaignId;
 pub use head::HeadId;
 pub use meter::MeterId;
-pub use name::{ImageName, NAME_SIZE, digest_of, factory_name, name_of};
+pub use name::{ImageName, digest_of, factory_name, name_of};

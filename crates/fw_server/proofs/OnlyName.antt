@@ -1,5 +1,5 @@
--- Only the active firmware identifier has an octet-string of 41 bytes.
-use Rattle.std.proofs.Common.{◌≡◌, ℕ, List, length, refl, arith}
+-- Only the active firmware identifier has an octet-string of 41 or 45 bytes.
+use Rattle.std.proofs.Common.{◌≡◌, ◌⊎◌, ℕ, List, length, refl, arith}
 use Rattle.fw_axdr.specs.Value.{octet_string}
 use Rattle.fw_names.specs.Name.{Name, name_bytes}
 use Rattle.fw_server.specs.Answer.{value_of_answer, HasSizes}
@@ -8,7 +8,7 @@ use Rattle.fw_server.specs.declared.outcome.Answer.TheVariants.{LogicalName, Blo
 use Rattle.fw_server.specs.Laws.{OnlyActiveName}
 use Rattle.fw_server.proofs.Sizes.{name_size}
 
-is_name : (a : Answer) (bytes : List ℕ) → HasSizes a → value_of_answer a ≡ octet_string bytes → length bytes ≡ 41 → (name : Name) × (a ≡ ActiveName name)
+is_name : (a : Answer) (bytes : List ℕ) → HasSizes a → value_of_answer a ≡ octet_string bytes → (length bytes ≡ 41) ⊎ (length bytes ≡ 45) → (name : Name) × (a ≡ ActiveName name)
 is_name (LogicalName own) bytes h same size = absurd (grind arith)
 is_name (BlockSize own) bytes h same size = absurd (grind arith)
 is_name (TransferredBlocks own) bytes h same size = absurd (grind arith)
@@ -19,16 +19,16 @@ is_name (ToActivate own) bytes h same size = absurd (grind arith)
 is_name (ActiveName own) bytes h same size = (own, refl)
 is_name (ActiveDigest own) bytes h same size = absurd (grind arith)
 
-has_41 : (a : Answer) (name : Name) → HasSizes a → a ≡ ActiveName name → (bytes : List ℕ) × (value_of_answer a ≡ octet_string bytes) × (length bytes ≡ 41)
-has_41 (ActiveName own) name h same = (name_bytes own, refl, name_size own h)
-has_41 (LogicalName own) name h same = absurd (grind arith)
-has_41 (BlockSize own) name h same = absurd (grind arith)
-has_41 (TransferredBlocks own) name h same = absurd (grind arith)
-has_41 (FirstNotTransferred own) name h same = absurd (grind arith)
-has_41 (TransferEnabled own) name h same = absurd (grind arith)
-has_41 (TransferStatus own) name h same = absurd (grind arith)
-has_41 (ToActivate own) name h same = absurd (grind arith)
-has_41 (ActiveDigest own) name h same = absurd (grind arith)
+has_size : (a : Answer) (name : Name) → HasSizes a → a ≡ ActiveName name → (bytes : List ℕ) × (value_of_answer a ≡ octet_string bytes) × ((length bytes ≡ 41) ⊎ (length bytes ≡ 45))
+has_size (ActiveName own) name h same = (name_bytes own, refl, name_size own h)
+has_size (LogicalName own) name h same = absurd (grind arith)
+has_size (BlockSize own) name h same = absurd (grind arith)
+has_size (TransferredBlocks own) name h same = absurd (grind arith)
+has_size (FirstNotTransferred own) name h same = absurd (grind arith)
+has_size (TransferEnabled own) name h same = absurd (grind arith)
+has_size (TransferStatus own) name h same = absurd (grind arith)
+has_size (ToActivate own) name h same = absurd (grind arith)
+has_size (ActiveDigest own) name h same = absurd (grind arith)
 
 pub only_active_name : OnlyActiveName
-only_active_name a h = (λ x. is_name a x.0 h x.1 x.2, λ x. has_41 a x.0 h x.1)
+only_active_name a h = (λ x. is_name a x.0 h x.1 x.2, λ x. has_size a x.0 h x.1)

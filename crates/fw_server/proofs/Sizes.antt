@@ -1,5 +1,5 @@
 -- Which outcomes can be spelled, and in how many bytes.
-use Rattle.std.proofs.Common.{◌≡◌, ℕ, ◌+◌, ◌<◌, ◌≤◌, ◌^◌, length, Option, Some, None, Result, Ok, Err, refl, subst, ap, ◌∙◌, arith}
+use Rattle.std.proofs.Common.{◌≡◌, ℕ, ◌+◌, ◌<◌, ◌≤◌, ◌^◌, ◌⊎◌, length, Option, Some, None, Result, Ok, Err, refl, subst, ap, ◌∙◌, ⊎_elim, arith}
 use Rattle.std.proofs.lemmas.Grind.{common_steps}
 use Rattle.std.specs.Prelude.{IfOk, IfErr}
 use Rattle.std.specs.Global.{Vec}
@@ -19,11 +19,15 @@ use Rattle.fw_server.specs.declared.outcome.Outcome.{Outcome}
 use Rattle.fw_server.specs.declared.outcome.Outcome.TheVariants.{Got, GetCode, SetCode, ActionCode}
 use Rattle.fw_server.proofs.Packing.{length_packed}
 
--- a name is spelled in 41 bytes
-pub name_size : (name : Name) → IsName name → length (name_bytes name) ≡ 41
+-- a name is spelled in 41 bytes, or in 45
+pub name_size : (name : Name) → IsName name → (length (name_bytes name) ≡ 41) ⊎ (length (name_bytes name) ≡ 45)
 name_size name h = let digest : length name.digest ≡ 32 = h.digest_size in grind (arith, common_steps)
 
-answer_size : (a : Answer) → HasSizes a → length (short (value_of_answer a)) ≤ 86 + bytes_for (bits_in_answer a)
+-- so in 45 at most
+most : (name : Name) → IsName name → length (name_bytes name) ≤ 45
+most name h = ⊎_elim (λ short. omega (arith, short)) (λ long. omega (arith, long)) (name_size name h)
+
+answer_size : (a : Answer) → HasSizes a → length (short (value_of_answer a)) ≤ 90 + bytes_for (bits_in_answer a)
 answer_size (LogicalName bytes) h = grind (arith, common_steps)
 answer_size (BlockSize bytes) h = grind (arith, common_steps)
 answer_size (TransferredBlocks marks) h = let size = length_packed marks in grind (arith, common_steps)
@@ -31,8 +35,8 @@ answer_size (FirstNotTransferred number) h = grind (arith, common_steps)
 answer_size (TransferEnabled enabled) h = grind (arith, common_steps)
 answer_size (TransferStatus status) h = grind (arith, common_steps)
 answer_size (ToActivate None) h = grind (arith, common_steps)
-answer_size (ToActivate (Some info)) h = let digest : length info.name.digest ≡ 32 = h.digest_size in grind (arith, common_steps)
-answer_size (ActiveName name) h = let digest : length name.digest ≡ 32 = h.digest_size in grind (arith, common_steps)
+answer_size (ToActivate (Some info)) h = let digest : length info.name.digest ≡ 32 = h.digest_size in let name = most info.name h in grind (arith, common_steps)
+answer_size (ActiveName name) h = let size = most name h in grind (arith, common_steps)
 answer_size (ActiveDigest digest) h = grind (arith, common_steps)
 
 answer_writable : (a : Answer) → HasSizes a → bits_in_answer a < 2 ^ 32 → unwritable (value_of_answer a) max_depth ≡ None
@@ -43,11 +47,11 @@ answer_writable (FirstNotTransferred number) h few = refl
 answer_writable (TransferEnabled enabled) h few = refl
 answer_writable (TransferStatus status) h few = refl
 answer_writable (ToActivate None) h few = refl
-answer_writable (ToActivate (Some info)) h few = let digest : length info.name.digest ≡ 32 = h.digest_size in grind (arith, common_steps)
-answer_writable (ActiveName name) h few = let digest : length name.digest ≡ 32 = h.digest_size in grind (arith, common_steps)
+answer_writable (ToActivate (Some info)) h few = let digest : length info.name.digest ≡ 32 = h.digest_size in let name = most info.name h in grind (arith, common_steps)
+answer_writable (ActiveName name) h few = let size = most name h in grind (arith, common_steps)
 answer_writable (ActiveDigest digest) h few = grind (arith, common_steps)
 
-outcome_size : (invoke : ℕ) (o : Outcome) → HasAnswerSizes o → length (response_bytes invoke (response_of o)) ≤ 90 + bytes_for (bits_in o)
+outcome_size : (invoke : ℕ) (o : Outcome) → HasAnswerSizes o → length (response_bytes invoke (response_of o)) ≤ 94 + bytes_for (bits_in o)
 outcome_size invoke (Got a) h = let size = answer_size a h in omega (arith, size)
 outcome_size invoke (GetCode c) h = omega arith
 outcome_size invoke (SetCode c) h = omega arith
@@ -62,11 +66,11 @@ outcome_writable (ActionCode c) h few = refl
 -- ---- of what was written
 
 pub written_size : (r : Result (Vec ℕ) ApduError) (invoke : ℕ) (k : ResponseContent) (o : Outcome) → HasAnswerSizes o → k ≡ response_of o
-    → IfOk r (λ v. v.items ≡ response_bytes invoke k) → IfOk r (λ v. length v.items ≤ 90 + bytes_for (bits_in o))
+    → IfOk r (λ v. v.items ≡ response_bytes invoke k) → IfOk r (λ v. length v.items ≤ 94 + bytes_for (bits_in o))
 written_size (Ok v) invoke k o h same written = rw (written, same) (outcome_size invoke o h)
 written_size (Err e) invoke k o h same written = tt
 
-pub size_fits : (r : Result (Vec ℕ) ApduError) (n : ℕ) → IfOk r (λ v. length v.items ≤ 90 + bytes_for n) → n ≤ 4096 → IfOk r (λ v. length v.items ≤ 1280)
+pub size_fits : (r : Result (Vec ℕ) ApduError) (n : ℕ) → IfOk r (λ v. length v.items ≤ 94 + bytes_for n) → n ≤ 4096 → IfOk r (λ v. length v.items ≤ 1280)
 size_fits (Ok v) n size few = omega (arith, size, few)
 size_fits (Err e) n size few = tt
 

@@ -1,5 +1,5 @@
--- Public vocabulary: the laws of what is read. The active firmware identifier alone shows a name of 41 bytes.
-use Rattle.std.specs.Prelude.{◌≡◌, ◌↔◌, ℕ, List, length}
+-- Public vocabulary: the laws of what is read. The active firmware identifier alone shows a name of 41 or 45 bytes.
+use Rattle.std.specs.Prelude.{◌≡◌, ◌⊎◌, ◌↔◌, ℕ, List, length}
 use Rattle.fw_axdr.specs.Value.{octet_string}
 use Rattle.fw_names.specs.Name.{Name}
 use Rattle.fw_apdu.specs.Cosem as cosem
@@ -11,11 +11,11 @@ use Rattle.fw_server.specs.declared.object.Reading.TheVariants as reading
 use Rattle.fw_server.specs.declared.outcome.Answer.{Answer}
 use Rattle.fw_server.specs.declared.outcome.Answer.TheVariants as answer
 
--- Of what can be read, the active name and nothing else has an octet-string of 41 bytes for its value.
+-- Of what can be read, the active name and nothing else has an octet-string of 41 or 45 bytes for its value.
 abbrev pub OnlyActiveName : Type 0
 OnlyActiveName =
     (a : Answer) → HasSizes a
-    → ((bytes : List ℕ) × (value_of_answer a ≡ octet_string bytes) × (length bytes ≡ 41)) ↔ ((name : Name) × (a ≡ answer.ActiveName name))
+    → ((bytes : List ℕ) × (value_of_answer a ≡ octet_string bytes) × ((length bytes ≡ 41) ⊎ (length bytes ≡ 45))) ↔ ((name : Name) × (a ≡ answer.ActiveName name))
 
 -- A GET reads it exactly where it is of attribute 2, value, of the active firmware identifier, a Data object.
 abbrev pub OnlyIdentifier : Type 0

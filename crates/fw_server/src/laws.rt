@@ -2,7 +2,7 @@
 
 ghost use Rattle.fw_server.specs.Laws.{OnlyActiveName, OnlyIdentifier};
 
-/// Of what can be read, the active name and nothing else has an octet-string of 41 bytes for its value.
+/// Of what can be read, the active name and nothing else has an octet-string of 41 or 45 bytes for its value.
 pub fn only_active_name()
     ensures { OnlyActiveName }
 {}

@@ -28,9 +28,9 @@ pub enum Answer {
     /// An enum.
     TransferStatus(u8),
     /// The image that is verified, if there is one: an array of a structure of the size, a double-long-unsigned, the name
-    /// and its digest, octet-strings of 41 and 32 bytes; or an empty array.
+    /// and its digest, octet-strings of 41 or 45 bytes and of 32; or an empty array.
     ToActivate(Option<ImageInfo>),
-    /// An octet-string of 41 bytes.
+    /// An octet-string of 41 bytes, or of 45 where the image has a release.
     ActiveName(ImageName),
     /// An octet-string of 32 bytes.
     ActiveDigest([u8; 32]),

@@ -28,7 +28,7 @@ pub fn answer(alloc: Global, invoke: &Invoke, outcome: &Outcome) -> Result<Vec<u
     ensures spelled { IfOk result (λ apdu. SpellsResponse apdu.items invoke.now.0 (response_of outcome.now)) }
     ensures sizes { OnOk result (HasAnswerSizes outcome.now) }
     // The size in bytes, beside the bits.
-    ensures size { IfOk result (λ apdu. length apdu.items ≤ 90 + bytes_for (bits_in outcome.now)) }
+    ensures size { IfOk result (λ apdu. length apdu.items ≤ 94 + bytes_for (bits_in outcome.now)) }
     // So the bits of 4,096 blocks fit one APDU.
     ensures fits { bits_in outcome.now ≤ 4096 → IfOk result (λ apdu. length apdu.items ≤ 1280) }
 
@@ -92,7 +92,7 @@ fn value(alloc: Global, answer: &Answer) -> Result<Data, AllocError>
         Answer::TransferEnabled(enabled) => Ok(Data::Boolean(*enabled)),
         Answer::TransferStatus(status) => Ok(Data::Enumerated(*status)),
         Answer::ToActivate(info) => infos(alloc, *info),
-        Answer::ActiveName(name) => octets(alloc, &name.to_bytes()),
+        Answer::ActiveName(name) => octets(alloc, name.to_bytes().as_slice()),
         Answer::ActiveDigest(digest) => octets(alloc, digest),
     }
 }
@@ -130,7 +130,7 @@ fn element(alloc: Global, info: ImageInfo) -> Result<Data, AllocError>
     ensures sizes { OnOk result (IsName info.name) }
 {
     let size = Data::DoubleLongUnsigned(info.size);
-    let name = octets(alloc, &info.name.to_bytes())?;
+    let name = octets(alloc, info.name.to_bytes().as_slice())?;
     let digest = octets(alloc, &info.name.digest)?;
     let fields = vec![in alloc; size, name, digest]?;
     Ok(Data::Structure(Items::from_vec(fields)))

@@ -1,5 +1,5 @@
 -- A store that is laid out on a device, part by part.
-use Rattle.std.proofs.Common.{◌≡◌, ℕ, ◌+◌, ◌-◌, ◌≤◌, List, [], ◌++◌, length, take, drop, replicate, refl, sym, ap, ◌∙◌, arith, append_assoc, length-append}
+use Rattle.std.proofs.Common.{◌≡◌, ℕ, ◌+◌, ◌*◌, ◌-◌, ◌≤◌, List, [], ◌++◌, length, take, drop, replicate, refl, sym, ap, ◌∙◌, arith, append_assoc, append-nil, length-append}
 use Rattle.std.proofs.lemmas.List.{length-replicate, replicate-append-replicate, take_at, drop_at, take_all}
 use Rattle.std.proofs.Math.Seq.{drop-append-add}
 use Rattle.fw_store.specs.Device.{splice, padded}
@@ -38,43 +38,72 @@ zeros n = replicate n 0
 
 -- the zeros of a store, parted by its fields
 parted : (capacity n : ℕ) → n ≤ capacity
-    → zeros (store_size capacity) ≡ (zeros 4 ++ zeros 614) ++ (zeros n ++ (zeros (capacity - n) ++ zeros capacity))
+    → zeros (store_size capacity) ≡ (zeros 4 ++ zeros 614) ++ (zeros n ++ ((zeros (capacity - n) ++ zeros capacity) ++ zeros 8))
 parted capacity n fits =
     let z : ℕ = 0 in
-    let total : store_size capacity ≡ 618 + (n + (capacity - n + capacity)) = omega arith in
+    let total : store_size capacity ≡ 618 + (n + (capacity - n + capacity + 8)) = omega arith in
     ap (λ (k : ℕ). replicate k z) total
-    ∙ sym (replicate-append-replicate 618 (n + (capacity - n + capacity)) z)
+    ∙ sym (replicate-append-replicate 618 (n + (capacity - n + capacity + 8)) z)
     ∙ ap (λ (l : List ℕ). replicate 618 z ++ l)
-    (sym (replicate-append-replicate n (capacity - n + capacity) z)
-    ∙ ap (λ (l : List ℕ). replicate n z ++ l) (sym (replicate-append-replicate (capacity - n) capacity z)))
-    ∙ ap (λ (l : List ℕ). l ++ (replicate n z ++ (replicate (capacity - n) z ++ replicate capacity z)))
+    (sym (replicate-append-replicate n (capacity - n + capacity + 8) z)
+    ∙ ap (λ (l : List ℕ). replicate n z ++ l)
+    (sym (replicate-append-replicate (capacity - n + capacity) 8 z)
+    ∙ ap (λ (l : List ℕ). l ++ replicate 8 z) (sym (replicate-append-replicate (capacity - n) capacity z))))
+    ∙ ap (λ (l : List ℕ). l ++ (replicate n z ++ ((replicate (capacity - n) z ++ replicate capacity z) ++ replicate 8 z)))
     (sym (replicate-append-replicate 4 614 z))
 
-pub laid : (capacity : ℕ) (blank slots headed whole number head image : List ℕ) → blank ≡ zeros (store_size capacity)
-    → slots ≡ splice blank 618 image → headed ≡ splice slots 4 head → whole ≡ splice headed 0 number
-    → length number ≡ 4 → length head ≡ 614 → length image ≤ capacity
-    → whole ≡ number ++ head ++ padded image capacity ++ zeros capacity
-laid capacity blank slots headed whole number head image empty s h w four long fits =
+-- bytes in place of the last ones
+splice_last : (front last : List ℕ) (at : ℕ) (xs : List ℕ) → length front ≡ at → length last ≡ length xs → splice (front ++ last) at xs ≡ front ++ xs
+splice_last front last at xs begins size =
+    ap (λ (l : List ℕ). splice (front ++ l) at xs) (sym (append-nil last))
+    ∙ splice_between front last [] at xs begins size
+    ∙ ap (λ (l : List ℕ). front ++ l) (append-nil xs)
+
+pub laid : (capacity : ℕ) (blank slots headed released whole number front releases image : List ℕ) → blank ≡ zeros (store_size capacity)
+    → slots ≡ splice blank 618 image → headed ≡ splice slots 4 front → released ≡ splice headed (618 + 2 * capacity) releases
+    → whole ≡ splice released 0 number
+    → length number ≡ 4 → length front ≡ 614 → length releases ≡ 8 → length image ≤ capacity
+    → whole ≡ number ++ front ++ padded image capacity ++ zeros capacity ++ releases
+laid capacity blank slots headed released whole number front releases image empty s h r w four long eight fits =
     let n : ℕ = length image in
     let z : ℕ = 0 in
     let Z4 = replicate 4 z in
     let Z614 = replicate 614 z in
+    let Z8 = replicate 8 z in
     let back = replicate (capacity - n) z ++ replicate capacity z in
     let l4 : length Z4 ≡ 4 = length-replicate 4 z in
     let l614 : length Z614 ≡ 614 = length-replicate 614 z in
+    let l8 : length Z8 ≡ 8 = length-replicate 8 z in
     let both : length (Z4 ++ Z614) ≡ 618 = omega (arith, length-append Z4 Z614) in
     let same_4 : length Z4 ≡ length number = omega arith in
-    let same_614 : length Z614 ≡ length head = omega arith in
-    let slots_are : slots ≡ Z4 ++ (Z614 ++ (image ++ back)) =
+    let same_614 : length Z614 ≡ length front = omega arith in
+    let same_8 : length Z8 ≡ length releases = omega arith in
+    let slots_are : slots ≡ Z4 ++ (Z614 ++ (image ++ (back ++ Z8))) =
     s ∙ ap (λ (l : List ℕ). splice l 618 image) (empty ∙ parted capacity n fits)
-    ∙ splice_between (Z4 ++ Z614) (replicate n z) back 618 image both (length-replicate n z)
-    ∙ append_assoc Z4 Z614 (image ++ back) in
-    let headed_is : headed ≡ Z4 ++ (head ++ (image ++ back)) =
-    h ∙ ap (λ (l : List ℕ). splice l 4 head) slots_are
-    ∙ splice_between Z4 Z614 (image ++ back) 4 head l4 same_614 in
-    let whole_is : whole ≡ number ++ (head ++ (image ++ back)) =
-    w ∙ ap (λ (l : List ℕ). splice l 0 number) headed_is
-    ∙ splice_between [] Z4 (head ++ (image ++ back)) 0 number refl same_4 in
+    ∙ splice_between (Z4 ++ Z614) (replicate n z) (back ++ Z8) 618 image both (length-replicate n z)
+    ∙ append_assoc Z4 Z614 (image ++ (back ++ Z8)) in
+    let headed_is : headed ≡ Z4 ++ (front ++ (image ++ (back ++ Z8))) =
+    h ∙ ap (λ (l : List ℕ). splice l 4 front) slots_are
+    ∙ splice_between Z4 Z614 (image ++ (back ++ Z8)) 4 front l4 same_614 in
+    let slotted = Z4 ++ (front ++ (image ++ back)) in
+    let ends : length slotted ≡ 618 + 2 * capacity =
+    omega (
+      arith,
+      length-append Z4 (front ++ (image ++ back)),
+      length-append front (image ++ back),
+      length-append image back,
+      length-append (replicate (capacity - n) z) (replicate capacity z),
+      length-replicate (capacity - n) z,
+      length-replicate capacity z,
+    ) in
+    let regrouped : Z4 ++ (front ++ (image ++ (back ++ Z8))) ≡ slotted ++ Z8 = simp append_assoc in
+    let released_is : released ≡ slotted ++ releases =
+    r ∙ ap (λ (l : List ℕ). splice l (618 + 2 * capacity) releases) (headed_is ∙ regrouped)
+    ∙ splice_last slotted Z8 (618 + 2 * capacity) releases ends same_8 in
+    let regrouped_again : slotted ++ releases ≡ Z4 ++ (front ++ (image ++ (back ++ releases))) = simp append_assoc in
+    let whole_is : whole ≡ number ++ (front ++ (image ++ (back ++ releases))) =
+    w ∙ ap (λ (l : List ℕ). splice l 0 number) (released_is ∙ regrouped_again)
+    ∙ splice_between [] Z4 (front ++ (image ++ (back ++ releases))) 0 number refl same_4 in
     whole_is ∙ simp append_assoc
 
 -- what is laid out so far has the size of a store

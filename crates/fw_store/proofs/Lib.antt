@@ -2,6 +2,7 @@ mod Splices
 mod SliceLemmas
 mod SlotLemmas
 mod Outcomes
+mod Soundness
 mod Laying
 mod StoreByteLemmas
 mod Parts

@@ -1,8 +1,9 @@
 -- Parts of a byte string, and what a write makes of them.
-use Rattle.std.proofs.Common.{◌≡◌, ℕ, ◌+◌, ◌-◌, ◌≤◌, List, ◌++◌, length, take, drop, slice_range, sym, ap, ◌∙◌, arith, append_assoc, length-append, length-drop}
-use Rattle.std.proofs.lemmas.List.{length-take, length-take-le, drop-drop, drop-append-le, take-append-le, take-take, drop-take, drop_at, take_at}
+use Rattle.std.proofs.Common.{◌≡◌, ℕ, ◌+◌, ◌-◌, ◌≤◌, List, ◌++◌, length, take, drop, slice_range, replicate, sym, ap, ◌∙◌, arith, append_assoc, append-nil, length-append, length-drop}
+use Rattle.std.proofs.lemmas.List.{length-take, length-take-le, drop-drop, drop-append-le, take-append-le, take-take, drop-take, drop_at, take_at, take_all, drop_all}
 use Rattle.std.proofs.Math.Seq.{take-append-add, drop-append-add}
 use Rattle.fw_store.specs.Device.{splice}
+use Rattle.fw_store.specs.Contents.{resized}
 
 pub length-slice_range : (xs : List ℕ) (from to : ℕ) → to ≤ length xs → length (slice_range xs from to) ≡ to - from
 length-slice_range xs from to within = omega (arith, length-take (to - from) (drop from xs), length-drop from xs)
@@ -10,6 +11,20 @@ length-slice_range xs from to within = omega (arith, length-take (to - from) (dr
 pub length-splice : (old : List ℕ) (at : ℕ) (xs : List ℕ) → at + length xs ≤ length old → length (splice old at xs) ≡ length old
 length-splice old at xs within =
     omega (arith, length-append (take at old ++ xs) (drop (at + length xs) old), length-append (take at old) xs, length-take-le at old (omega arith), length-drop (at + length xs) old)
+
+-- a write that ends at the end, or behind it
+pub length-splice_end : (old : List ℕ) (at : ℕ) (xs : List ℕ) → at ≤ length old → length old ≤ at + length xs → length (splice old at xs) ≡ at + length xs
+length-splice_end old at xs begins ends =
+    omega (arith, length-append (take at old ++ xs) (drop (at + length xs) old), length-append (take at old) xs, length-take-le at old begins, length-drop (at + length xs) old)
+
+-- bytes that are as many as there have to be
+pub resized_same : (xs : List ℕ) (n : ℕ) → length xs ≡ n → resized xs n ≡ xs
+resized_same xs n size =
+    let z : ℕ = 0 in
+    let none : n - length xs ≡ 0 = omega arith in
+    ap (λ (k : ℕ). take n xs ++ replicate k z) none
+    ∙ append-nil (take n xs)
+    ∙ take_all n xs (omega arith)
 
 -- dropping past the front
 pub drop_past : (front rest : List ℕ) (n m : ℕ) → n ≡ length front + m → drop n (front ++ rest) ≡ drop m rest
@@ -38,19 +53,28 @@ slice_of_take xs at from to order within =
     ∙ take-take (to - from) (at - from) (drop from xs) short
 
 -- what stands before a write
-pub take-splice : (old : List ℕ) (at : ℕ) (xs : List ℕ) (n : ℕ) → n ≤ at → at + length xs ≤ length old → take n (splice old at xs) ≡ take n old
+pub take-splice : (old : List ℕ) (at : ℕ) (xs : List ℕ) (n : ℕ) → n ≤ at → at ≤ length old → take n (splice old at xs) ≡ take n old
 take-splice old at xs n before within =
     let size = length-take-le at old (omega arith) in
     ap (take n) (append_assoc (take at old) xs (drop (at + length xs) old))
     ∙ take-append-le n (take at old) (xs ++ drop (at + length xs) old) (omega arith)
     ∙ take-take n at old before
 
-pub slice_before : (old : List ℕ) (at : ℕ) (xs : List ℕ) (from to : ℕ) → from ≤ to → to ≤ at → at + length xs ≤ length old → slice_range (splice old at xs) from to ≡ slice_range old from to
+pub slice_before : (old : List ℕ) (at : ℕ) (xs : List ℕ) (from to : ℕ) → from ≤ to → to ≤ at → at ≤ length old → slice_range (splice old at xs) from to ≡ slice_range old from to
 slice_before old at xs from to order before within =
     let within_front : at ≤ at = omega arith in
     sym (slice_of_take (splice old at xs) at from to order before)
     ∙ ap (λ (l : List ℕ). slice_range l from to) (take-splice old at xs at within_front within)
     ∙ slice_of_take old at from to order before
+
+-- what stands from it on, where it ends at the end, or behind it
+pub drop_there : (old : List ℕ) (at : ℕ) (xs : List ℕ) → at ≤ length old → length old ≤ at + length xs → drop at (splice old at xs) ≡ xs
+drop_there old at xs begins ends =
+    let size = length-take-le at old begins in
+    ap (drop at) (append_assoc (take at old) xs (drop (at + length xs) old))
+    ∙ drop_at (take at old) (xs ++ drop (at + length xs) old) at size
+    ∙ ap (λ (l : List ℕ). xs ++ l) (drop_all (at + length xs) old ends)
+    ∙ append-nil xs
 
 -- what stands behind it
 pub drop-splice : (old : List ℕ) (at : ℕ) (xs : List ℕ) (n : ℕ) → at + length xs ≤ n → at + length xs ≤ length old → drop n (splice old at xs) ≡ drop n old

@@ -1,5 +1,5 @@
 -- What is read of a slot after a write.
-use Rattle.std.proofs.Common.{◌≡◌, ◌≢◌, ℕ, ◌+◌, ◌≤◌, List, length, slice_range, refl, ◌⊎◌, inl, inr}
+use Rattle.std.proofs.Common.{◌≡◌, ◌≢◌, ℕ, ◌+◌, ◌≤◌, List, length, slice_range, refl, ◌⊎◌, inl, inr, arith}
 use Rattle.fw_store.specs.Device.{Device, slot_bytes, with_head, written, splice}
 use Rattle.fw_store.specs.declared.slot.Slot.{Slot}
 use Rattle.fw_store.specs.declared.slot.Slot.TheVariants.{First, Second}
@@ -12,7 +12,7 @@ written_is_read d Second at bytes fits = slice_there d.second at bytes (at + len
 
 elsewhere : (old : List ℕ) (at from to : ℕ) (bytes : List ℕ) → at + length bytes ≤ length old → (from ≤ to × to ≤ at) ⊎ (at + length bytes ≤ from)
     → slice_range (splice old at bytes) from to ≡ slice_range old from to
-elsewhere old at from to bytes fits (inl before) = slice_before old at bytes from to before.0 before.1 fits
+elsewhere old at from to bytes fits (inl before) = slice_before old at bytes from to before.0 before.1 (omega arith)
 elsewhere old at from to bytes fits (inr after) = slice_after old at bytes from to after fits
 
 pub others_are_read : (d : Device) (slot : Slot) (at from to : ℕ) (bytes : List ℕ) → at + length bytes ≤ length (slot_bytes d slot)

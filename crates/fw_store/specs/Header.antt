@@ -44,11 +44,13 @@ is_verified VerificationSuccessful = true
 is_verified VerificationFailed = true
 is_verified ActivationSuccessful = false
 
--- a goal of a store of so many bytes a slot: a head end's campaign offers it, it fits a slot, and its blocks are within the limits
-pub record IsGoal (capacity block_size : ℕ) (goal : Goal) : Type 0 where
+-- a goal of a store of so many bytes a slot, whose running image has this release: a head end's campaign offers it, it fits a slot, its
+-- blocks are within the limits, and its release isn't below that of the running image
+pub record IsGoal (capacity block_size release : ℕ) (goal : Goal) : Type 0 where
   pub offered : goal.name.campaign ≢ factory
   pub fits : goal.size ≤ capacity
   pub blocks : IsWithinLimits block_size goal.size
+  pub risen : release ≤ goal.name.release
 
 -- how many blocks the goal has, 0 where there is none
 abbrev pub goal_count : ℕ → Option Goal → ℕ
@@ -63,7 +65,7 @@ pub record IsHeader (capacity : ℕ) (h : Header) : Type 0 where
   pub running_size_begins : 1 ≤ h.running_size
   pub running_size_fits : h.running_size ≤ capacity
   pub goal_by_status : is_some h.goal ≡ has_goal h.status
-  pub goal : IfSome h.goal (IsGoal capacity h.block_size)
+  pub goal : IfSome h.goal (IsGoal capacity h.block_size h.running_name.release)
   -- no number at or above the count is marked, and so none at all where there is no goal
   pub unmarked : (i : ℕ) → goal_count h.block_size h.goal ≤ i → has h.marks i ≡ false
   -- a goal that was verified is there with all its blocks

@@ -11,9 +11,9 @@ use Rattle.fw_store.specs.Header.{FieldsFit, IsHeader, fresh_header, goal_count,
 abbrev pub OneHeader : Type 0
 OneHeader = (a b : Header) → FieldsFit a → FieldsFit b → header_bytes a ≡ header_bytes b → a ≡ b
 
--- every header has 614 bytes
+-- every header has 622 bytes
 abbrev pub HeaderSize : Type 0
-HeaderSize = (h : Header) → FieldsFit h → length (header_bytes h) ≡ 614
+HeaderSize = (h : Header) → FieldsFit h → length (header_bytes h) ≡ 622
 
 -- a new store can have its header, where block size and running size are within their limits
 abbrev pub FreshIsHeader : Type 0

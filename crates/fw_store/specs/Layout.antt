@@ -2,7 +2,7 @@
 use Rattle.std.specs.Prelude.{ℕ, List, [], ◌∷◌, ◌++◌, Bool, if◌then◌else◌, Option, Some, None, is_some, replicate}
 use Rattle.std.specs.Int.{w32, to_be_bytes}
 use Rattle.fw_axdr.specs.Bits.{packed}
-use Rattle.fw_names.specs.Name.{name_bytes}
+use Rattle.fw_names.specs.Name.{Name, campaign_bytes}
 use Rattle.fw_store.specs.declared.slot.Slot.{Slot}
 use Rattle.fw_store.specs.declared.slot.Slot.TheVariants.{First, Second}
 use Rattle.fw_store.specs.declared.header.StoredStatus.{StoredStatus}
@@ -31,20 +31,31 @@ status_number VerificationSuccessful = 3
 status_number VerificationFailed = 4
 status_number ActivationSuccessful = 6
 
+-- the 41 bytes of a name, whatever its release: 01, its campaign, and its digest
+abbrev pub stored_name_bytes : Name → List ℕ
+stored_name_bytes name = 1 ∷ (campaign_bytes name.campaign ++ name.digest)
+
 -- a goal: its size in four bytes, and its name in 41; zeros where there is none
 abbrev pub goal_bytes : Option Goal → List ℕ
 goal_bytes None = replicate 45 0
-goal_bytes (Some goal) = to_be_bytes w32 goal.size ++ name_bytes goal.name
+goal_bytes (Some goal) = to_be_bytes w32 goal.size ++ stored_name_bytes goal.name
 
--- the 614 bytes of a header: the form; whether transfer is enabled, the running slot, the status and whether there is a goal, a
--- byte each; the block size and the running size in four bytes each; the running name; the goal; and a bit for each block, number 0
--- first
+-- the release of a goal, 0 where there is none
+abbrev pub goal_release : Option Goal → ℕ
+goal_release None = 0
+goal_release (Some goal) = goal.name.release
+
+-- the 622 bytes of a header: the form; whether transfer is enabled, the running slot, the status and whether there is a goal, a
+-- byte each; the block size and the running size in four bytes each; the running name; the goal; a bit for each block, number 0
+-- first; and the releases of the running name and of the goal, in four bytes each
 unfoldable pub header_bytes : Header → List ℕ
 header_bytes h =
     form
     ++ (flag h.enabled ∷ slot_number h.running_slot ∷ status_number h.status ∷ flag (is_some h.goal) ∷ [])
     ++ to_be_bytes w32 h.block_size
     ++ to_be_bytes w32 h.running_size
-    ++ name_bytes h.running_name
+    ++ stored_name_bytes h.running_name
     ++ goal_bytes h.goal
     ++ packed h.marks
+    ++ to_be_bytes w32 h.running_name.release
+    ++ to_be_bytes w32 (goal_release h.goal)

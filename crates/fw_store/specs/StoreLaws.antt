@@ -2,7 +2,7 @@
 use Rattle.std.specs.Prelude.{◌≡◌, ◌≢◌, ◌⊎◌, ℕ, ◌+◌, ◌<◌, ◌≤◌, Bool, true, false, List, Option, length, take, drop, slice_range}
 use Rattle.fw_store.specs.Device.{Device, slot_bytes, with_head, splice, written}
 use Rattle.fw_store.specs.Faults.{most_faults, count_after, Spends}
-use Rattle.fw_store.specs.StoreBytes.{IsStore, store_bytes, device_at}
+use Rattle.fw_store.specs.StoreBytes.{IsStore, HoldsStore, device_at}
 use Rattle.fw_store.specs.declared.slot.Slot.{Slot}
 
 -- a byte string into which others were written at an offset
@@ -40,14 +40,14 @@ HeaderStays = (d : Device) (slot : Slot) (at : ℕ) (bytes : List ℕ) → (writ
 abbrev pub SlotsStay : Type 0
 SlotsStay = (d : Device) (slot : Slot) (head : List ℕ) → slot_bytes (with_head d head) slot ≡ slot_bytes d slot
 
--- a store's bytes are its fields, one behind the other
+-- a store's bytes are its fields, one behind the other, but for the releases of an old one
 abbrev pub FieldsJoin : Type 0
-FieldsJoin = (bytes : List ℕ) (capacity : ℕ) → IsStore bytes capacity → bytes ≡ store_bytes capacity (device_at capacity bytes)
+FieldsJoin = (bytes : List ℕ) (capacity : ℕ) → IsStore bytes capacity → HoldsStore bytes capacity (device_at capacity bytes)
 
 -- and from them the device is read back
 abbrev pub DeviceIsRead : Type 0
-DeviceIsRead = (d : Device) (capacity : ℕ) → length d.head ≡ 614 → length d.first ≡ capacity → length d.second ≡ capacity
-    → device_at capacity (store_bytes capacity d) ≡ d
+DeviceIsRead = (d : Device) (capacity : ℕ) (bytes : List ℕ) → length d.head ≡ 622 → length d.first ≡ capacity → length d.second ≡ capacity
+    → HoldsStore bytes capacity d → device_at capacity bytes ≡ d
 
 -- after a failure the count rose, or stood at its greatest number
 abbrev pub FaultsShow : Type 0

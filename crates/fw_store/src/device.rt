@@ -17,7 +17,7 @@ pub trait ByteDevice {
     /// Whether the device keeps what is written, as said below.
     ghost honest: { Self → Bool };
 
-    /// Whether no call fails, but for one that sets the length.
+    /// Whether no call fails, but for one that sets the length or adds bytes.
     ghost sound: { Self → Bool };
 
     /// The bytes of an honest device.
@@ -82,4 +82,26 @@ pub trait ByteDevice {
         ensures same { IsTrue (honest self.old) → OnErr result (contents self.new ≡ contents self.old) }
         ensures kept { KeepsDevice honest sound self.old self.new }
         ensures never { IsTrue (sound self.old) → IsOk result };
+
+    /// Writes bytes over those from `at` on, and others over those from `last_at` on, of which the last may be behind the end and are
+    /// added: all of them or none.
+    ///
+    /// # Errors
+    ///
+    /// `DeviceFault` where the device failed, or has no room for bytes that are added. The old bytes then stand.
+    fn replace_both(
+        &mut self,
+        at: u64,
+        bytes: &[u8],
+        last_at: u64,
+        last: &[u8],
+    ) -> Result<(), DeviceFault>
+        requires order { at + length bytes.now ≤ last_at }
+        requires begins { IsTrue (honest self.old) → last_at ≤ length (contents self.old) }
+        ensures done { IsTrue (honest self.old)
+            → OnOk result (contents self.new ≡ splice (splice (contents self.old) at bytes.now) last_at last.now) }
+        ensures same { IsTrue (honest self.old) → OnErr result (contents self.new ≡ contents self.old) }
+        ensures kept { KeepsDevice honest sound self.old self.new }
+        ensures never { IsTrue (sound self.old)
+            → (IsTrue (honest self.old) → last_at + length last.now ≤ length (contents self.old)) → IsOk result };
 }

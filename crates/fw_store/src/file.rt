@@ -55,6 +55,14 @@ impl FileDevice {
         }
         Ok(FileDevice { file })
     }
+
+    /// Adds zeros up to this length to a file that is shorter.
+    fn extend(&mut self, len: u64) -> Result<(), DeviceFault> {
+        if self.len()? < len {
+            self.set_len(len)?;
+        }
+        Ok(())
+    }
 }
 
 impl DeviceStore<FileDevice> {
@@ -88,7 +96,7 @@ impl DeviceStore<FileDevice> {
         DeviceStore::create_on(device, capacity, block_size, factory)
     }
 
-    /// The store in a file that is there.
+    /// The store in a file that is there. One without releases is of an older version: they are 0, and the next header write adds them.
     ///
     /// # Errors
     ///
@@ -136,6 +144,21 @@ impl ByteDevice for FileDevice {
     /// The disk has all that was written before these bytes when they are written, and has them when the call ends.
     fn replace_at(&mut self, at: u64, bytes: &[u8]) -> Result<(), DeviceFault> {
         self.file.sync_data().map_err(refused)?;
+        self.file.write_all_at(bytes, at).map_err(refused)?;
+        self.file.sync_data().map_err(refused)
+    }
+
+    /// As above. Where the file is too short it gets zeros first, so that it is never cut within the bytes that are added.
+    fn replace_both(
+        &mut self,
+        at: u64,
+        bytes: &[u8],
+        last_at: u64,
+        last: &[u8],
+    ) -> Result<(), DeviceFault> {
+        self.file.sync_data().map_err(refused)?;
+        self.extend(last_at.saturating_add(last.len() as u64))?;
+        self.file.write_all_at(last, last_at).map_err(refused)?;
         self.file.write_all_at(bytes, at).map_err(refused)?;
         self.file.sync_data().map_err(refused)
     }

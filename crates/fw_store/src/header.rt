@@ -4,12 +4,12 @@ ghost use Rattle.std.specs.Prelude.{◌≡◌, ◌≢◌, ◌+◌, ◌≤◌, �
 ghost use Rattle.std.specs.Int.{w32, from_be_bytes};
 ghost use Rattle.fw_blocks.specs.Cuts.{max_blocks};
 ghost use Rattle.fw_blocks.specs.Members.{has};
-ghost use Rattle.fw_names.specs.Name.{IsOpened};
+ghost use Rattle.fw_names.specs.Name.{Name, IsName, IsOpened};
 ghost use Rattle.fw_store.specs.declared.header.Goal.{Goal};
 ghost use Rattle.fw_store.specs.declared.header.Header.{Header};
 ghost use Rattle.fw_store.specs.declared.header.StoredStatus.{StoredStatus};
 ghost use Rattle.fw_store.specs.declared.slot.Slot.{Slot};
-ghost use Rattle.fw_store.specs.Layout.{status_number, slot_number, goal_bytes, header_bytes};
+ghost use Rattle.fw_store.specs.Layout.{status_number, slot_number, stored_name_bytes, goal_bytes, goal_release, header_bytes};
 ghost use Rattle.fw_store.specs.Header.{
   GoalFieldsFit,
   FieldsFit,
@@ -24,16 +24,19 @@ ghost use Rattle.fw_store.specs.Header.{
 
 use crate::slot::Slot;
 use fw_blocks::{Geometry, MARKS_SIZE, MAX_BLOCK_SIZE, MAX_BLOCKS, Pages};
-use fw_names::{ImageName, NAME_SIZE};
+use fw_names::{ImageName, NameBytes};
 
 /// The number of bytes of every header.
-pub const HEADER_SIZE: usize = 614;
+pub const HEADER_SIZE: usize = 622;
 
 /// The bytes that every header begins with: the form, version 1.
 const FORM: [u8; 4] = *b"FWH1";
 
+/// The bytes of a name in a header, which has its release elsewhere.
+const STORED_NAME_SIZE: usize = 41;
+
 /// The bytes of a goal: its size and its name.
-const GOAL_SIZE: usize = 4 + NAME_SIZE;
+const GOAL_SIZE: usize = 4 + STORED_NAME_SIZE;
 
 /// How far a transfer is, as a header keeps it: these of the values of image_transfer_status (IEC 62056-6-2, Image
 /// transfer).
@@ -61,14 +64,15 @@ pub struct Goal {
 }
 
 impl Goal {
-    /// Whether a store of this capacity, in bytes a slot, can receive it in blocks of this size: a campaign offers it, it
-    /// fits a slot, and its blocks are within their limits.
-    pub fn fits(&self, capacity: u32, block_size: u32) -> bool
-        ensures goal { IsTrue result ↔ IsGoal capacity block_size self.now }
+    /// Whether a store of this capacity, in bytes a slot, whose running image has this release can receive it in blocks of this
+    /// size: a campaign offers it, it fits a slot, its blocks are within their limits, and its release isn't below that one.
+    pub fn fits(&self, capacity: u32, block_size: u32, release: u32) -> bool
+        ensures goal { IsTrue result ↔ IsGoal capacity block_size release self.now }
         ensures opened { IsTrue result → IsOpened self.now.name.campaign }
     {
         !self.name.campaign.is_factory()
             && self.size <= capacity
+            && release <= self.name.release
             && Geometry::new(block_size, self.size).is_some()
     }
 }
@@ -181,9 +185,11 @@ impl Header {
         let at = put(&mut bytes, at, &flags);
         let at = put(&mut bytes, at, &self.block_size.to_be_bytes());
         let at = put(&mut bytes, at, &self.running_size.to_be_bytes());
-        let at = put(&mut bytes, at, &self.running_name.to_bytes());
+        let at = put(&mut bytes, at, stored_name(self.running_name).as_slice());
         let at = put(&mut bytes, at, &goal_to_bytes(self.goal));
-        put(&mut bytes, at, &self.marks.to_bytes());
+        let at = put(&mut bytes, at, &self.marks.to_bytes());
+        let at = put(&mut bytes, at, &self.running_name.release.to_be_bytes());
+        put(&mut bytes, at, &goal_release(self.goal).to_be_bytes());
         bytes
     }
 
@@ -217,7 +223,8 @@ impl Header {
         if self.goal.is_some() != self.status.has_goal() {
             return false;
         }
-        if !goal_fits(&self.goal, capacity, self.block_size) {
+        let release = self.running_name.release;
+        if !goal_fits(&self.goal, capacity, self.block_size, release) {
             return false;
         }
         let count = goal_count(self.goal, self.block_size);
@@ -228,13 +235,13 @@ impl Header {
     }
 }
 
-/// Whether the goal, if there is one, fits a store of this capacity.
-fn goal_fits(goal: &Option<Goal>, capacity: u32, block_size: u32) -> bool
-    ensures { IsTrue result ↔ IfSome goal.now (IsGoal capacity block_size) }
+/// Whether the goal, if there is one, fits a store of this capacity whose running image has this release.
+fn goal_fits(goal: &Option<Goal>, capacity: u32, block_size: u32, release: u32) -> bool
+    ensures { IsTrue result ↔ IfSome goal.now (IsGoal capacity block_size release) }
 {
     match goal {
         None => true,
-        Some(goal) => goal.fits(capacity, block_size),
+        Some(goal) => goal.fits(capacity, block_size, release),
     }
 }
 
@@ -267,6 +274,22 @@ fn slot_number(slot: Slot) -> u8
     }
 }
 
+/// The bytes of a name in a header, whatever its release.
+fn stored_name(name: ImageName) -> NameBytes
+    ensures value { result ≡ stored_name_bytes name }
+    ensures size { length result ≡ STORED_NAME_SIZE }
+    ensures is_name { IsName name }
+{
+    name.without_release().to_bytes()
+}
+
+/// The release of a goal, 0 where there is none.
+fn goal_release(goal: Option<Goal>) -> u32
+    ensures { result ≡ goal_release goal }
+{
+    goal.map_or(0, |goal| goal.name.release)
+}
+
 /// The bytes of a goal, zeros where there is none.
 fn goal_to_bytes(goal: Option<Goal>) -> [u8; GOAL_SIZE]
     ensures value { result ≡ goal_bytes goal }
@@ -275,7 +298,7 @@ fn goal_to_bytes(goal: Option<Goal>) -> [u8; GOAL_SIZE]
     let mut bytes = [0; GOAL_SIZE];
     if let Some(goal) = goal {
         bytes[..4].copy_from_slice(&goal.size.to_be_bytes());
-        bytes[4..].copy_from_slice(&goal.name.to_bytes());
+        bytes[4..].copy_from_slice(stored_name(goal.name).as_slice());
     }
     bytes
 }
@@ -300,9 +323,9 @@ fn read(bytes: &[u8; HEADER_SIZE]) -> Option<Header>
 {
     fw_axdr::laws::bits_packed();
     let mut marks = [0; MARKS_SIZE];
-    marks.copy_from_slice(&bytes[102..]);
+    marks.copy_from_slice(&bytes[102..614]);
     let goal = if bytes[7] == 1 {
-        Some(read_goal(&bytes[57..102])?)
+        Some(read_goal(&bytes[57..102], number_at(&bytes[618..622]))?)
     } else {
         None
     };
@@ -312,21 +335,29 @@ fn read(bytes: &[u8; HEADER_SIZE]) -> Option<Header>
         status: StoredStatus::from_number(bytes[6])?,
         block_size: number_at(&bytes[8..12]),
         running_size: number_at(&bytes[12..16]),
-        running_name: ImageName::from_bytes(&bytes[16..57])?,
+        running_name: read_name(&bytes[16..57], number_at(&bytes[614..618]))?,
         goal,
         marks: Pages::from_bytes(&marks),
     })
 }
 
-/// The goal that the bytes are read as.
-fn read_goal(bytes: &[u8]) -> Option<Goal>
+/// The name that the bytes and a release are read as.
+fn read_name(bytes: &[u8], release: u32) -> Option<ImageName>
+    ensures { (name : Name) → IsName name → stored_name_bytes name ≡ bytes.now →
+        name.release ≡ release → result ≡ Some name }
+{
+    ImageName::from_bytes(bytes)?.with_release(release)
+}
+
+/// The goal that the bytes and a release are read as.
+fn read_goal(bytes: &[u8], release: u32) -> Option<Goal>
     requires { length bytes.now ≡ GOAL_SIZE }
-    ensures { (goal : Goal) → GoalFieldsFit goal →
-        goal_bytes (Some goal) ≡ bytes.now → result ≡ Some goal }
+    ensures { (goal : Goal) → GoalFieldsFit goal → goal_bytes (Some goal) ≡ bytes.now →
+        goal.name.release ≡ release → result ≡ Some goal }
 {
     let (size, name) = bytes.split_at(4);
     Some(Goal {
-        name: ImageName::from_bytes(name)?,
+        name: read_name(name, release)?,
         size: number_at(size),
     })
 }

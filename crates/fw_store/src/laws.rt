@@ -24,7 +24,7 @@ pub fn one_header()
     fw_blocks::laws::one_set_for_bytes();
 }
 
-/// Every header has 614 bytes.
+/// Every header has 622 bytes.
 pub fn header_size()
     ensures { HeaderSize }
 {
@@ -73,7 +73,8 @@ pub fn slots_stay()
     ensures { SlotsStay }
 {}
 
-/// The bytes of a store are its capacity, its header and its slots, one behind the other.
+/// The bytes of a store are its capacity, its header but for the releases, its slots, and the releases, one behind the other. An old
+/// store has no releases there.
 pub fn fields_join()
     ensures { FieldsJoin }
 {}

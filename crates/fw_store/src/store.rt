@@ -9,7 +9,7 @@ use crate::error::StoreFault;
 use crate::header::HEADER_SIZE;
 use crate::slot::Slot;
 
-/// A device with a header of 614 bytes and two slots, which have as many bytes as the capacity. Its calls take no memory.
+/// A device with a header of 622 bytes and two slots, which have as many bytes as the capacity. Its calls take no memory.
 ///
 /// Of each call two things are said. What holds of every store: the count of faults rises by one where the call answers
 /// `StoreFault`, unless it stood at its greatest number, and is as before where it doesn't; and where it is known how many

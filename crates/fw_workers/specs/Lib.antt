@@ -1,6 +1,5 @@
 -- Public vocabulary: the words of public clauses, for callers and readers.
 pub use Rattle.fw_shared.specs.Seat
-pub use Rattle.fw_shared.specs.Acts
 pub use Rattle.fw_accounts.specs.Accounts
 pub use Rattle.fw_crew.specs.Refusals
-pub mod Wires
+pub use Rattle.fw_live.specs.Wires

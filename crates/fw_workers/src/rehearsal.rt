@@ -11,17 +11,19 @@ ghost use Rattle.fw_world.specs.Headline.{
   GoalsAreOffered,
   ActivationsAreSafe,
   ActivationsAreEqual,
+  ReleasesNeverFall,
 };
 ghost use Rattle.fw_world.specs.Runs.{events_of};
 ghost use Rattle.fw_world.specs.Setup.{IsSetup, opening_state};
 ghost use Rattle.fw_world.specs.State.{world_of};
 ghost use Rattle.fw_crew.specs.Refusals.{TellsOfEvent};
 
-use crate::deal::dealt;
 use crate::rollout::{Line, Rollout};
 use fw_accounts::Report;
 use fw_air::{Fate, Fates, links_of};
-use fw_crew::{Floor, Gate, Hand, Opening, RehearseError, Task, Unaccounted, Worker, begin, work};
+use fw_crew::{
+    Floor, Gate, Hand, Opening, RehearseError, Task, Unaccounted, Worker, begin, dealt, work,
+};
 use fw_world::{Event, Setup, World};
 use std::alloc::Global;
 use std::sync::Wait;
@@ -82,6 +84,7 @@ pub fn rehearse<R: Threads + Wait + Sync, G: Gate + Sync>(
     ensures goals { IfOk result (λ r. GoalsAreOffered (world_of r.world)) }
     ensures activations { IfOk result (λ r. ActivationsAreSafe (world_of r.world)) }
     ensures equal { IfOk result (λ r. ActivationsAreEqual (world_of r.world)) }
+    ensures releases { IfOk result (λ r. ReleasesNeverFall (world_of r.world)) }
     ensures workers { OnOk result ((1 ≤ workers) × (workers ≤ 8)) }
     ensures setup { OnOk result (IsSetup setup.now) }
     ensures bad_setup { IsErrOf result RehearseError.BadSetup → (1 ≤ workers) × (workers ≤ 8) → ¬ IsSetup setup.now }

@@ -2,7 +2,7 @@
 use Rattle.std.proofs.Common.{◌≡◌, ℕ, Bool, true, false, IsTrue, List, [], ◌++◌, Option, Some, None, inl, inr, refl, sym, ◌∙◌, ap, subst, if◌then◌else◌, All}
 use Rattle.std.proofs.lemmas.List.Elements.{All-nil, All-cons}
 use Rattle.fw_names.specs.Laws as names
-use Rattle.fw_names.specs.Name.{Campaign, Name, IsOpened, SpellsName}
+use Rattle.fw_names.specs.Name.{Name, SpellsName}
 use Rattle.fw_wrapper.specs.Wrapper.{wrapped}
 use Rattle.fw_apdu.specs.Request.{RequestContent, SpellsRequest, is_confirmed}
 use Rattle.fw_apdu.specs.Response.{response_bytes}
@@ -44,8 +44,8 @@ each_reply P d reply false bytes e p = subst (λ (r : Option (List ℕ)). All P 
 no_reply : (P : Datagram → Type 0) (d : Datagram) (reply : Option (List ℕ)) → reply ≡ None → All P (replies d reply)
 no_reply P d reply e = subst (λ (r : Option (List ℕ)). All P (replies d r)) (sym e) (All-nil P)
 
-module _ (sizes : JoinedSize) (one_name : names.OneName) (IsFirst : FirstNames) (offered : Offers) (campaigns : (campaign : Campaign) (image : List ℕ) → offered campaign ≡ Some image → IsOpened campaign)
-    (activations : List Activation) (d : Datagram) (asks : InitiatesOffered offered d) (old : Meter) (k : IsSafeMeter IsFirst offered activations d.meter old) where
+module _ (sizes : JoinedSize) (one_name : names.OneName) (IsFirst : FirstNames) (offered : Offers) (activations : List Activation) (d : Datagram) (asks : InitiatesOffered offered d) (old : Meter)
+    (k : IsSafeMeter IsFirst offered activations d.meter old) where
   abbrev After : Option Name → Meter → Type 0
   After name new = IsSafeAfter IsFirst offered activations d.meter name new
 
@@ -56,7 +56,7 @@ module _ (sizes : JoinedSize) (one_name : names.OneName) (IsFirst : FirstNames) 
       → IsOfOffers offered operation → Operates true old operation result new → After (activation_of asked result new) new
   operates_safe asked operation result new same of_offers (made, step, told) =
       subst (λ (n : Option Name). After n new) (sym (ap (λ (r : MeterResult). activation_of asked r new) told ∙ same made))
-      (step_safe IsFirst offered activations d.meter sizes campaigns old new k operation made of_offers step)
+      (step_safe IsFirst offered activations d.meter sizes old new k operation made of_offers step)
 
   -- what a request initiates is offered
   abbrev AsksOffered : Meaning → Type 0
@@ -70,7 +70,7 @@ module _ (sizes : JoinedSize) (one_name : names.OneName) (IsFirst : FirstNames) 
       let own = offers identifier size refl in
       let same : own.0 ≡ name = one_name identifier own.0 name own.1 spells in
       let offer : IsOffered offered name size = subst (λ (n : Name). IsOffered offered n size) same own.2 in
-      operates_safe (meaning.initiate identifier size) (image.initiate name size) result new (λ made. refl) offer h
+      operates_safe (meaning.initiate identifier size) (image.initiate name size) result new (λ made. refl) (spells.is_name, offer) h
   request_safe (meaning.initiate identifier size) result new offers (inr h) = still None new refl (subst (IsSafeMeter IsFirst offered activations d.meter) (sym h.2) k)
   request_safe (meaning.block number bytes) result new offers h = operates_safe (meaning.block number bytes) (image.block number bytes) result new (λ made. refl) tt h
   request_safe meaning.verify result new offers h = operates_safe meaning.verify image.verify result new (λ made. refl) tt h
@@ -104,7 +104,7 @@ module _ (sizes : JoinedSize) (one_name : names.OneName) (IsFirst : FirstNames) 
           let same : brings.apdu ≡ written = one_apdu source 1 1 h.source brings.apdu written (sym brings.wraps.bytes) in
           asks_nothing h.invoke invoke h.content content h.responds.result (subst (λ (s : List ℕ). SpellsRequest s invoke content) same brings.spells)
 
-  -- and what it tells of 41 bytes is a name of the meter's own
+  -- and what it tells of 41 or of 45 bytes is a name of the meter's own
   pub reply_is_own : TellsRunning → (more : List Activation) (reply : Option (List ℕ)) (name : Option Name) (new : Meter) → Handles true IsTrue old d.bytes reply name new
       → All (TellsOwn IsFirst (activations ++ more)) (replies d reply)
   reply_is_own tells more None name new h = All-nil (TellsOwn IsFirst (activations ++ more))

@@ -1,5 +1,5 @@
 -- What every step keeps, and so every run.
-use Rattle.std.proofs.Common.{◌≡◌, ℕ, inl, inr, List, [], ◌∷◌, Some, refl, sym, ◌∙◌, ap, subst, All}
+use Rattle.std.proofs.Common.{◌≡◌, ℕ, inl, inr, List, [], ◌∷◌, Some, refl, sym, ◌∙◌, ap, subst, arith, All, AllPairs, Contains}
 use Rattle.std.proofs.lemmas.List.Elements.{All-nil, All-contains}
 use Rattle.sha2.proofs.Facts256.{length-sha256}
 use Rattle.fw_names.specs.Laws as names
@@ -12,17 +12,17 @@ use Rattle.fw_image.specs.Meter.{Meter, reopened}
 use Rattle.fw_meter.specs.Laws.{TellsRunning}
 use Rattle.fw_world.specs.declared.datagram.Direction.{Direction}
 use Rattle.fw_world.specs.declared.datagram.Direction.TheVariants.{ToMeter, ToHead}
-use Rattle.fw_world.specs.World.{World}
+use Rattle.fw_world.specs.World.{Activation, World}
 use Rattle.fw_world.specs.Step.{Event, open_campaign, cancel_campaign, tick, deliver, stop, restart_meter, restart_head, turn, Delivers, WorldStep, IsOpening, Run}
-use Rattle.fw_world.specs.Headline.{FirstNames, IsFactoryName, IsFirstName, InitiatesOffered, TellsOwn, IsSafe, ActivationsAreEqual}
+use Rattle.fw_world.specs.Headline.{FirstNames, IsFactoryName, IsFirstName, InitiatesOffered, TellsOwn, IsSafe, NeverFalls, ActivationsAreEqual}
 use Rattle.fw_world.specs.Laws.{AfterEachRun, IsSafeWorld, EveryStepIsSafe}
-use Rattle.fw_world.proofs.SafeMeters.{IsSafeMeter, reopened_safe, turn_safe}
+use Rattle.fw_world.proofs.SafeMeters.{IsSafeMeter, none_held, reopened_safe, turn_safe}
 use Rattle.fw_world.proofs.Events.{at_number, world_of, meter_of, meter_safe, open_safe, tick_safe, serves_safe, stop_safe, marks_safe}
 
 module _ (sizes : JoinedSize) (one_name : names.OneName) (size : names.SpellingSize) (requests : apdu.OneRequest) (tells : TellsRunning) where
   module _ (IsFirst : FirstNames) (first : (number : ℕ) (name : Name) → IsFirst number name → name.campaign ≡ factory) where
     step_safe : (old new : World) (event : Event) → WorldStep old event new → IsSafeWorld IsFirst old → IsSafeWorld IsFirst new
-    step_safe old new (open_campaign campaign image meters) s k = subst (IsSafeWorld IsFirst) (sym s.2) (open_safe IsFirst old k campaign image s.0 s.1)
+    step_safe old new (open_campaign campaign release image meters) s k = subst (IsSafeWorld IsFirst) (sym s.2) (open_safe IsFirst old k campaign image s.0 s.1)
     step_safe old new (cancel_campaign campaign) s k = subst (IsSafeWorld IsFirst) (sym s) k
     step_safe old new (tick head meter) s k = subst (IsSafeWorld IsFirst) (sym s.2) (tick_safe IsFirst requests old k head meter s.0 s.1)
     step_safe old new (deliver number) s k = delivers s.0.direction refl s.2
@@ -50,15 +50,18 @@ module _ (sizes : JoinedSize) (one_name : names.OneName) (size : names.SpellingS
 
   -- ---- from the opening world on
 
-  fresh_safe : (opening : World) (number : ℕ) (meter : Meter) (block_size capacity : ℕ) (image : List ℕ) → opening.meters number ≡ Some meter → IsSetup block_size capacity image
+  fresh_safe : (opening : World) (number : ℕ) (meter : Meter) (block_size capacity : ℕ) (image : List ℕ) → opening.activations ≡ [] → opening.meters number ≡ Some meter → IsSetup block_size capacity image
       → meter ≡ fresh_meter block_size capacity image → IsSafeMeter (IsFirstName opening) opening.offered opening.activations number meter
-  fresh_safe opening number meter block_size capacity image there setup is =
+  fresh_safe opening number meter block_size capacity image none there setup is =
       subst (IsSafeMeter (IsFirstName opening) opening.offered opening.activations number) (sym is) (record {
         block_size = setup.some_block;
-        named = record { is_campaign = inl refl; digest_size = length-sha256 image };
+        named = record { is_campaign = inl refl; is_release = record { fits = omega arith; none = λ made. refl }; digest_size = length-sha256 image };
         own = inl (meter, there, ap (λ (m : Meter). m.running.name) (sym is));
         running = refl;
         goals = λ goal e. absurd cc;
+        aimed = λ goal e. absurd cc;
+        newest = λ a held mine. absurd (none_held a (subst (λ (l : List Activation). Contains l a) none held));
+        risen = λ goal e. absurd cc;
         cells = λ goal e. absurd cc;
         verified = λ e. absurd cc;
       })
@@ -66,11 +69,12 @@ module _ (sizes : JoinedSize) (one_name : names.OneName) (size : names.SpellingS
   opening_safe : (opening : World) → IsOpening opening → IsSafeWorld (IsFirstName opening) opening
   opening_safe opening o = world_of (IsFirstName opening) opening (record {
     campaigns = λ campaign image e. let none = o.offered campaign in absurd cc;
-    meters = λ number meter e. let m = o.meters number meter e in fresh_safe opening number meter m.0 m.1 m.2 e m.3 m.4;
+    meters = λ number meter e. let m = o.meters number meter e in fresh_safe opening number meter m.0 m.1 m.2 o.activations e m.3 m.4;
     initiates = subst (All (InitiatesOffered opening.offered)) (sym o.sent) (All-nil (InitiatesOffered opening.offered));
     told = subst (All (TellsOwn (IsFirstName opening) opening.activations)) (sym o.sent) (All-nil (TellsOwn (IsFirstName opening) opening.activations));
     activations = subst (All (IsSafe opening.offered)) (sym o.activations) (All-nil (IsSafe opening.offered));
     done = λ campaign meter e. let none = o.done campaign meter in absurd cc;
+    releases = subst (AllPairs NeverFalls) (sym o.activations) (λ earlier later a before within. absurd (omega arith));
   })
 
   -- a meter is made with a name of no campaign

@@ -3,14 +3,14 @@ use Rattle.std.proofs.Common.{◌≡◌, ℕ, List, Option, Some, None, ap, Bool
 use Rattle.fw_names.specs.Name.{Campaign}
 use Rattle.fw_world.specs.World.{put, same_campaign}
 
--- what is found is what was put there, or what was there
+-- what is found is what was put there, or elsewhere what was there
 pub put_cases : {A B : Type 0} (same : A → A → Bool) (values : A → B) (key other : A) (value found : B) → put same values key value other ≡ found
-    → ((same other key ≡ true) × (value ≡ found)) ⊎ (values other ≡ found)
+    → ((same other key ≡ true) × (value ≡ found)) ⊎ ((same other key ≡ false) × (values other ≡ found))
 put_cases same values key other value found e = go (same other key) refl e
   where
-    go : (b : Bool) → same other key ≡ b → (if b then value else values other) ≡ found → ((same other key ≡ true) × (value ≡ found)) ⊎ (values other ≡ found)
+    go : (b : Bool) → same other key ≡ b → (if b then value else values other) ≡ found → ((same other key ≡ true) × (value ≡ found)) ⊎ ((same other key ≡ false) × (values other ≡ found))
     go true is f = inl (is, f)
-    go false is f = inr f
+    go false is f = inr (is, f)
 
 both_true : (a b : Bool) → (a && b) ≡ true → (a ≡ true) × (b ≡ true)
 both_true true true e = (refl, refl)

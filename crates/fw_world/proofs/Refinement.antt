@@ -6,7 +6,7 @@ use Rattle.std.specs.Option.{option_and_then}
 use Rattle.std.proofs.lemmas.List.Elements.{All-nil, All-cons, All-head, All-tail}
 use Rattle.std.proofs.lemmas.Bool.{cases_Bool, cond-true, cond-false, false_from_ne_true, false≢true}
 use Rattle.std.proofs.lemmas.Bool.Decides.{Decides-eqb}
-use Rattle.fw_names.specs.Name.{Campaign, Name, name_of, SpellsName}
+use Rattle.fw_names.specs.Name.{Campaign, Name, IsRelease, name_of, SpellsName}
 use Rattle.fw_image.specs.Meter.{Meter, reopened}
 use Rattle.fw_client.specs.Ask.{Ask, block_size, first_missing, blocks, status, info, active_name, enable, initiate, block, verify, activate}
 use Rattle.fw_client.specs.Claim.{Claim}
@@ -14,7 +14,7 @@ use Rattle.fw_client.specs.State.{invoke_byte}
 use Rattle.fw_book.specs.declared.row.RowState.{RowState}
 use Rattle.fw_book.specs.declared.row.RowState.TheVariants as states
 use Rattle.fw_book.specs.Rows.{is_live, state_of}
-use Rattle.fw_book.specs.Contents.{Contents, Offered, image_in, state_in, has_serial}
+use Rattle.fw_book.specs.Contents.{Contents, Offered, offered_in, image_in, state_in, has_serial}
 use Rattle.fw_book.specs.Changes.{opened, marked, cancelled}
 use Rattle.fw_book.specs.Laws.{ImagesStay, OpeningOffers, StatesFollowCalls, AdmittedOpens}
 use Rattle.fw_head.specs.declared.news.RowNews.{RowNews}
@@ -185,9 +185,13 @@ unknown book c m new = go (nat_eq c.head book.head) (lookup (nat_eq c.serial) bo
     go true (Some offer) h = absurd (false≢true (sym h))
     go false x h = (refl, refl)
 
-named_image : (o : Option (List ℕ)) (c : Campaign) (name : Name) → option_map (λ (image : List ℕ). name_of c image) o ≡ Some name → (image : List ℕ) × (o ≡ Some image) × (name_of c image ≡ name)
-named_image None c name e = absurd (none_some name e)
-named_image (Some image) c name e = (image, refl, cc)
+named_offer : (o : Option Offered) (c : Campaign) (name : Name) → option_map (λ (offer : Offered). name_of c offer.release offer.image) o ≡ Some name
+    → (offer : Offered) × (o ≡ Some offer) × (name_of c offer.release offer.image ≡ name)
+named_offer None c name e = absurd (none_some name e)
+named_offer (Some offer) c name e = (offer, refl, cc)
+
+offer_image : (book : Contents) (c : Campaign) (offer : Offered) → offered_in book c ≡ Some offer → image_in book c ≡ Some offer.image
+offer_image book c offer offered = ap (λ (o : Option Offered). option_map (λ (x : Offered). x.image) o) offered
 
 -- ---- meters
 
@@ -199,26 +203,27 @@ meter_goes old number before after there =
 -- ---- each event
 
 module _ (stay : ImagesStay) (offers : OpeningOffers) (follow : StatesFollowCalls) (opens : AdmittedOpens) (keeps : RowKeepsGoal) where
-  opened_as : (old new : State) (campaign : Campaign) (image meters : List ℕ) → IsState old → OpensAt old campaign image meters new → WorldStep (world_of old) (open_campaign campaign image meters) (world_of new)
-  opened_as old new campaign image meters is o =
+  opened_as : (old new : State) (campaign : Campaign) (release : ℕ) (image meters : List ℕ) → IsState old → OpensAt old campaign release image meters new
+      → WorldStep (world_of old) (open_campaign campaign release image meters) (world_of new)
+  opened_as old new campaign release image meters is o =
       let book = o.head.book in
       let admits = (opens book campaign image meters).0 o.admitted in
-      let adds = offers book campaign image meters admits.own admits.serial_new in
-      let goes = (follow book campaign admits.own).at_opening image meters admits.serial_new in
+      let adds = offers book campaign release image meters admits.own admits.serial_new in
+      let goes = (follow book campaign admits.own).at_opening release image meters admits.serial_new in
       let before = unknown book campaign 0 admits.serial_new in
       let none : (world_of old).offered campaign ≡ None = ap (λ h. offered_at h campaign) o.there ∙ before.1 in
       let offered : Offers = put same_campaign (world_of old).offered campaign (Some image) in (
         o.is_opened,
         none,
-        ap world_of o.new_is ∙ heads_go old campaign.head o.head (opened_head o.head campaign.serial image meters) offered (world_of old).done o.there
+        ap world_of o.new_is ∙ heads_go old campaign.head o.head (opened_head o.head campaign.serial release image meters) offered (world_of old).done o.there
             (λ c at. ⊎_elim
-            (λ same. ap (λ x. image_in (opened book campaign.serial image meters) x) same ∙ adds.own ∙ sym (put_there (world_of old).offered campaign (Some image)) ∙ ap offered (sym same))
+            (λ same. ap (λ x. image_in (opened book campaign.serial release image meters) x) same ∙ adds.own ∙ sym (put_there (world_of old).offered campaign (Some image)) ∙ ap offered (sym same))
             (λ other. adds.others c other ∙ sym (ap (λ h. offered_at h c) (ap (λ n. head_at old n) at ∙ o.there)) ∙ sym (put_other (world_of old).offered campaign c (Some image) other))
             (same_or_not c campaign))
             (λ c away. sym (put_other (world_of old).offered campaign c (Some image) (λ same. away (ap (λ (x : Campaign). x.head) same))))
             (λ c m at. ⊎_elim
             (λ same.
-            ap (λ x. is_done (state_in (opened book campaign.serial image meters) x m)) same ∙ ap is_done (goes.own m) ∙ not_yet (list_any (λ other. nat_eq other m) meters)
+            ap (λ x. is_done (state_in (opened book campaign.serial release image meters) x m)) same ∙ ap is_done (goes.own m) ∙ not_yet (list_any (λ other. nat_eq other m) meters)
             ∙ sym (ap is_done (unknown book campaign m admits.serial_new).0) ∙ ap (λ x. is_done (state_in book x m)) (sym same) ∙ sym (was c m at))
             (λ other. ap is_done (goes.others c m other) ∙ sym (was c m at))
             (same_or_not c campaign))
@@ -254,31 +259,33 @@ module _ (stay : ImagesStay) (offers : OpeningOffers) (follow : StatesFollowCall
       over None = refl
       over (Some s) = ends s
 
-  may_ask : (offered : Offers) (head : ℕ) (campaign : Campaign) (image : List ℕ) → campaign.head ≡ head → offered campaign ≡ Some image → (asked : Ask) → MaySend (name_of campaign image) image asked → MayAsk offered head asked
-  may_ask offered head campaign image own offers block_size may = tt
-  may_ask offered head campaign image own offers first_missing may = tt
-  may_ask offered head campaign image own offers blocks may = tt
-  may_ask offered head campaign image own offers status may = tt
-  may_ask offered head campaign image own offers info may = tt
-  may_ask offered head campaign image own offers active_name may = tt
-  may_ask offered head campaign image own offers enable may = tt
-  may_ask offered head campaign image own offers (initiate name size) may = record { campaign = campaign; image = image; own = own; offers = offers; may = may }
-  may_ask offered head campaign image own offers (block number value) may = record { campaign = campaign; image = image; own = own; offers = offers; may = may }
-  may_ask offered head campaign image own offers verify may = tt
-  may_ask offered head campaign image own offers activate may = tt
+  may_ask : (offered : Offers) (head : ℕ) (campaign : Campaign) (release : ℕ) (image : List ℕ) → campaign.head ≡ head → IsRelease campaign release → offered campaign ≡ Some image → (asked : Ask)
+      → MaySend (name_of campaign release image) image asked → MayAsk offered head asked
+  may_ask offered head campaign release image own is offers block_size may = tt
+  may_ask offered head campaign release image own is offers first_missing may = tt
+  may_ask offered head campaign release image own is offers blocks may = tt
+  may_ask offered head campaign release image own is offers status may = tt
+  may_ask offered head campaign release image own is offers info may = tt
+  may_ask offered head campaign release image own is offers active_name may = tt
+  may_ask offered head campaign release image own is offers enable may = tt
+  may_ask offered head campaign release image own is offers (initiate name size) may = record { campaign = campaign; release = release; image = image; own = own; is_release = is; offers = offers; may = may }
+  may_ask offered head campaign release image own is offers (block number value) may = record { campaign = campaign; release = release; image = image; own = own; is_release = is; offers = offers; may = may }
+  may_ask offered head campaign release image own is offers verify may = tt
+  may_ask offered head campaign release image own is offers activate may = tt
 
   all_permitted : (old : State) (number meter : ℕ) (head : Head) → head_at old number ≡ Some head → head.book.head ≡ number → (datagrams : List (List ℕ)) → All (IsOfferedIn head.book) datagrams
       → All (Permits (world_of old).offered number meter) (sent_to number meter datagrams)
   all_permitted old number meter head there own [] may = All-nil (Permits (world_of old).offered number meter)
   all_permitted old number meter head there own (datagram ∷ datagrams) may =
       let offer = All-head (IsOfferedIn head.book) datagram datagrams may in
-      let at : offer.campaign.head ≡ number = image_of_head head.book offer.campaign offer.image offer.offered ∙ own in
-      let offers : (world_of old).offered offer.campaign ≡ Some offer.image = ap (λ h. offered_at h offer.campaign) (ap (λ n. head_at old n) at ∙ there) ∙ offer.offered in
+      let image : image_in head.book offer.campaign ≡ Some offer.offer.image = offer_image head.book offer.campaign offer.offer offer.offered in
+      let at : offer.campaign.head ≡ number = image_of_head head.book offer.campaign offer.offer.image image ∙ own in
+      let offers : (world_of old).offered offer.campaign ≡ Some offer.offer.image = ap (λ h. offered_at h offer.campaign) (ap (λ n. head_at old n) at ∙ there) ∙ image in
       All-cons (Permits (world_of old).offered number meter) (record { head = number; meter = meter; direction = ToMeter; bytes = datagram }) (sent_to number meter datagrams)
       (record {
         asked = offer.permitted.asked;
         invoke = invoke_byte offer.permitted.id;
-        may = may_ask (world_of old).offered number offer.campaign offer.image at offers offer.permitted.asked offer.permitted.may;
+        may = may_ask (world_of old).offered number offer.campaign offer.offer.release offer.offer.image at offer.is_release offers offer.permitted.asked offer.permitted.may;
         carries = offer.permitted.carries;
         link = refl;
       })
@@ -406,17 +413,18 @@ module _ (stay : ImagesStay) (offers : OpeningOffers) (follow : StatesFollowCall
       let campaign = takes.row.name.campaign in
       let told = takes.told_is ∙ ap (λ n. news_of campaign d.meter n) e in
       let by = ((o.done campaign d.meter).0 told).1 in
-      let image = named_image (image_in o.before.book campaign) campaign by.claim.name by.named in
+      let offer = named_offer (offered_in o.before.book campaign) campaign by.claim.name by.named in
       let g = goes old new d is o takes in
       inr (record {
         campaign = campaign;
-        image = image.0;
+        release = offer.0.release;
+        image = offer.0.image;
         invoke = invoke_byte by.claimed.id;
         bytes = by.claimed.bytes;
         own = g.at;
-        offers = ap (λ h. offered_at h campaign) (ap (λ n. head_at old n) g.at ∙ o.there) ∙ image.1;
+        offers = ap (λ h. offered_at h campaign) (ap (λ n. head_at old n) g.at ∙ o.there) ∙ offer_image o.before.book campaign offer.0 offer.1;
         carries = by.claimed.carries;
-        spells = subst (λ (n : Name). SpellsName by.claimed.bytes n) (sym image.2) by.claimed.spells;
+        spells = subst (λ (n : Name). SpellsName by.claimed.bytes n) (sym offer.2) by.claimed.spells;
         new_is = ap world_of o.new_is ∙ done_as old d o.before o.after takes.row takes.next claim o.there g (takes.new_is ∙ ap (λ n. went_on o.before d.meter takes.next n) e);
       })
 
@@ -432,7 +440,7 @@ module _ (stay : ImagesStay) (offers : OpeningOffers) (follow : StatesFollowCall
   delivered_as old new d ToHead is o = heard_as old new d is o
 
   pub state_steps : StateStepsAsWorld
-  state_steps old new (open_campaign campaign image meters) is o = opened_as old new campaign image meters is o
+  state_steps old new (open_campaign campaign release image meters) is o = opened_as old new campaign release image meters is o
   state_steps old new (cancel_campaign campaign) is o = cancelled_as old new campaign is o
   state_steps old new (tick head meter) is o = ticked_as old new head meter is o
   state_steps old new (deliver number) is o = (o.0, o.1, delivered_as old new o.0 o.0.direction is o.2)

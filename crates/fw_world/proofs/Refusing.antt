@@ -32,31 +32,31 @@ wants_memory r s event h none may = refused_by r OutOfMemory (IsRefused s event)
 pub own_campaign : (head : Head) (campaign : Campaign) (key serial : ℕ) → head.book.head ≡ key → key ≡ campaign.head → serial ≡ campaign.serial → campaign_at head serial ≡ campaign
 own_campaign head campaign key serial own same is i = record { head = (own ∙ same) i; serial = is i }
 
-module _ (s old : State) (is : s ≡ old) (campaign : Campaign) (key : ℕ) (same : key ≡ campaign.head) (head : Head) (found : lookup (nat_eq key) s.heads ≡ Some head) (image meters : List ℕ)
+module _ (s old : State) (is : s ≡ old) (campaign : Campaign) (key : ℕ) (same : key ≡ campaign.head) (head : Head) (found : lookup (nat_eq key) s.heads ≡ Some head) (release : ℕ) (image meters : List ℕ)
     (all : Bool) (are : all ≡ list_all (λ meter. is_some (lookup (nat_eq meter) s.meters)) meters) where
   abbrev opening_by : Bool → Option StepError
   opening_by b = if b then by_book (opening_refusal head.book campaign image meters) else Some NoSuchActor
 
-  refusal_is : refusal_of old (open_campaign campaign image meters) ≡ opening_by all
+  refusal_is : refusal_of old (open_campaign campaign release image meters) ≡ opening_by all
   refusal_is =
       ap (λ (o : Option Head). with_head o (λ head. if list_all (λ meter. is_some (meter_at old meter)) meters then by_book (opening_refusal head.book campaign image meters) else Some NoSuchActor))
       (head_found s old is key campaign.head same head found)
       ∙ ap opening_by (sym (are ∙ ap (λ (x : State). list_all (λ meter. is_some (meter_at x meter)) meters) is))
 
-  pub unknown_meters : all ≡ false → IsRefused old (open_campaign campaign image meters) NoSuchActor
+  pub unknown_meters : all ≡ false → IsRefused old (open_campaign campaign release image meters) NoSuchActor
   unknown_meters none = inl (refusal_is ∙ ap opening_by none)
 
   module _ (there : all ≡ true) (serial : ℕ) (own : campaign_at head serial ≡ campaign) where
-    by_books : refusal_of old (open_campaign campaign image meters) ≡ by_book (opening_refusal head.book (campaign_at head serial) image meters)
+    by_books : refusal_of old (open_campaign campaign release image meters) ≡ by_book (opening_refusal head.book (campaign_at head serial) image meters)
     by_books = refusal_is ∙ ap opening_by there ∙ ap (λ (c : Campaign). by_book (opening_refusal head.book c image meters)) (sym own)
 
-    pub opening_admitted : opening_refusal head.book (campaign_at head serial) image meters ≡ None → refusal_of old (open_campaign campaign image meters) ≡ None
+    pub opening_admitted : opening_refusal head.book (campaign_at head serial) image meters ≡ None → refusal_of old (open_campaign campaign release image meters) ≡ None
     opening_admitted none = by_books ∙ ap by_book none
 
-    pub opening_refused : (error : BookError) → IsRefusal (opening_refusal head.book (campaign_at head serial) image meters) error → IsRefused old (open_campaign campaign image meters) (of_book error)
+    pub opening_refused : (error : BookError) → IsRefusal (opening_refusal head.book (campaign_at head serial) image meters) error → IsRefused old (open_campaign campaign release image meters) (of_book error)
     opening_refused error refused = go (opening_refusal head.book (campaign_at head serial) image meters) refl refused
       where
-        go : (o : Option BookError) → opening_refusal head.book (campaign_at head serial) image meters ≡ o → IsRefusal o error → IsRefused old (open_campaign campaign image meters) (of_book error)
+        go : (o : Option BookError) → opening_refusal head.book (campaign_at head serial) image meters ≡ o → IsRefusal o error → IsRefused old (open_campaign campaign release image meters) (of_book error)
         go (Some refusal) e h = inl (by_books ∙ ap by_book e ∙ ap (λ (x : BookError). Some (of_book x)) (sym h))
         go None e h = inr (by_books ∙ ap by_book e, ap of_book h, tt)
 

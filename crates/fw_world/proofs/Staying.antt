@@ -48,7 +48,7 @@ delivery_stays old new d ToMeter o = meter_goes old new d.meter o.after (ap (λ 
 delivery_stays old new d ToHead o = head_goes old new d.head o.after old.sent o.new_is
 
 pub actors_stay : ActorsStay
-actors_stay old new (open_campaign campaign image meters) o = head_goes old new campaign.head _ old.sent o.new_is
+actors_stay old new (open_campaign campaign release image meters) o = head_goes old new campaign.head _ old.sent o.new_is
 actors_stay old new (cancel_campaign campaign) o = head_goes old new campaign.head _ old.sent o.new_is
 actors_stay old new (tick head meter) o = head_goes old new head _ _ o.new_is
 actors_stay old new (deliver number) o = delivery_stays old new o.0 o.0.direction o.2
@@ -90,7 +90,7 @@ pub sent_addressed : SentStaysAddressed
 sent_addressed old new event o addressed = go event o (actors_stay old new event o) (addressed_in old new (actors_stay old new event o) old.sent addressed)
   where
     go : (event : Event) → StateStep old event new → ((number : ℕ) → Stays old new number) → All (IsAddressed new) old.sent → AreAddressed new
-    go (open_campaign campaign image meters) o stays kept = none_sent old new (ap (λ (s : State). s.sent) o.new_is) kept
+    go (open_campaign campaign release image meters) o stays kept = none_sent old new (ap (λ (s : State). s.sent) o.new_is) kept
     go (cancel_campaign campaign) o stays kept = none_sent old new (ap (λ (s : State). s.sent) o.new_is) kept
     go (tick head meter) o stays kept =
         more_sent old new (sent_to head meter (sends_to o.head meter)) (ap (λ (s : State). s.sent) o.new_is) kept

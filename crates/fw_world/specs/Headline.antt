@@ -1,5 +1,5 @@
 -- Public vocabulary: what holds of every world that events lead to.
-use Rattle.std.specs.Prelude.{◌≡◌, ◌⊎◌, ℕ, ◌≤◌, true, List, length, Some, Contains, All}
+use Rattle.std.specs.Prelude.{◌≡◌, ◌⊎◌, ℕ, ◌≤◌, true, List, length, Some, Contains, All, AllPairs}
 use Rattle.sha2.specs.Sha256.{sha256}
 use Rattle.fw_axdr.specs.Value.{octet_string}
 use Rattle.fw_names.specs.Name.{Campaign, Name, IsOpened, IsName, SpellsName, name_of, factory}
@@ -43,17 +43,20 @@ IsOwn IsFirst activations meter name = IsFirst meter name ⊎ HasActivated activ
 
 -- ---- what the types of the parts say of each world
 
--- the block size is not 0, the name of the image that runs has a spelling, and each block that is there has its length
+-- the block size is not 0, the name of the image that runs has a spelling, and so has that of a goal, whose release is not below that of
+-- the image that runs; and each block that is there has its length
 pub record IsSoundMeter (meter : Meter) : Type 0 where
   pub block_size : 1 ≤ meter.block_size
   pub named : IsName meter.running.name
+  pub aimed : (goal : Goal) → goal_of meter.phase ≡ Some goal → IsName goal.name
+  pub risen : (goal : Goal) → goal_of meter.phase ≡ Some goal → meter.running.name.release ≤ goal.name.release
   pub cells : (goal : Goal) → goal_of meter.phase ≡ Some goal → CellsFit meter.block_size goal.size meter.cells
 
 pub record IsSound (w : World) : Type 0 where
   pub campaigns : (campaign : Campaign) (image : List ℕ) → w.offered campaign ≡ Some image → IsOpened campaign
   pub meters : (number : ℕ) (meter : Meter) → w.meters number ≡ Some meter → IsSoundMeter meter
 
--- ---- the headline, in four parts
+-- ---- the headline, in five parts
 
 -- what a datagram initiates has the name and the size of an offered image
 abbrev pub InitiatesOffered : Offers → Datagram → Type 0
@@ -65,11 +68,11 @@ InitiatesOffered offered d =
 abbrev pub InitiatesAreOffered : World → Type 0
 InitiatesAreOffered w = All (InitiatesOffered w.offered) w.sent
 
--- an octet-string of 41 bytes that a meter answered to a GET spells a name of its own
+-- an octet-string of 41 or of 45 bytes that a meter answered to a GET spells a name of its own
 abbrev pub TellsOwn : FirstNames → List Activation → Datagram → Type 0
 TellsOwn IsFirst activations d =
     (invoke : ℕ) (bytes : List ℕ) → d.direction ≡ ToHead → CarriesResponse d.bytes invoke (get_response (value (octet_string bytes)))
-    → length bytes ≡ 41 → (name : Name) × SpellsName bytes name × IsOwn IsFirst activations d.meter name
+    → (length bytes ≡ 41) ⊎ (length bytes ≡ 45) → (name : Name) × SpellsName bytes name × IsOwn IsFirst activations d.meter name
 
 -- the name of the image that a meter runs is its own, and so is each name that it ever told
 pub record NamesAreOwn (IsFirst : FirstNames) (w : World) : Type 0 where
@@ -89,15 +92,25 @@ pub record IsSafe (offered : Offers) (a : Activation) : Type 0 where
   pub digest : sha256 a.bytes ≡ a.name.digest
   pub named : sha256 image ≡ a.name.digest
 
--- a meter that is done in a campaign switched to the image that the campaign offers, under its name
+-- a meter that is done in a campaign switched to an image under the name of the one that the campaign offers, with some release
 pub record IsDoneSafely (w : World) (campaign : Campaign) (meter : ℕ) : Type 0 where
+  pub release : ℕ
   pub image : List ℕ
   pub offers : w.offered campaign ≡ Some image
-  pub activated : HasActivated w.activations meter (name_of campaign image)
+  pub activated : HasActivated w.activations meter (name_of campaign release image)
 
 pub record ActivationsAreSafe (w : World) : Type 0 where
   pub activations : All (IsSafe w.offered) w.activations
   pub done : (campaign : Campaign) (meter : ℕ) → w.done campaign meter ≡ true → IsDoneSafely w campaign meter
+
+-- of two activations of a meter, the later one has no lower release
+abbrev pub NeverFalls : Activation → Activation → Type 0
+NeverFalls earlier later = earlier.meter ≡ later.meter → earlier.name.release ≤ later.name.release
+
+-- along each meter's activations releases never fall, and the image that it runs has none that is lower than theirs
+pub record ReleasesNeverFall (w : World) : Type 0 where
+  pub activations : AllPairs NeverFalls w.activations
+  pub running : (a : Activation) (meter : Meter) → Contains w.activations a → w.meters a.meter ≡ Some meter → a.name.release ≤ meter.running.name.release
 
 -- no image that was switched to collides with an offered one
 abbrev pub NoCollision : World → Type 0

@@ -3,19 +3,20 @@ use Rattle.std.specs.Prelude.{◌≡◌, ℕ, List, [], ◌∷◌, ◌++◌, is_
 use Rattle.fw_world.specs.World.{World}
 use Rattle.fw_world.specs.State.{State, head_at, meter_at, AreAddressed, IsState, StateStep, StateRun, world_of}
 use Rattle.fw_world.specs.Step.{Event, IsOpening, WorldStep, Run}
-use Rattle.fw_world.specs.Headline.{FirstNames, IsFactoryName, IsSound, InitiatesAreOffered, NamesAreOwn, GoalsAreOffered, ActivationsAreSafe}
+use Rattle.fw_world.specs.Headline.{FirstNames, IsFactoryName, IsSound, InitiatesAreOffered, NamesAreOwn, GoalsAreOffered, ActivationsAreSafe, ReleasesNeverFall}
 
 -- what holds of each world that a run leads to, with the opening one
 abbrev pub AfterEachRun : (World → World → Type 0) → Type 0
 AfterEachRun P = (opening w : World) (events : List Event) → IsOpening opening → Run opening events w → P opening w
 
--- the four parts, and what the types of the parts say of each world
+-- the five parts, and what the types of the parts say of each world
 pub record IsSafeWorld (IsFirst : FirstNames) (w : World) : Type 0 where
   pub sound : IsSound w
   pub initiates : InitiatesAreOffered w
   pub names : NamesAreOwn IsFirst w
   pub goals : GoalsAreOffered w
   pub activations : ActivationsAreSafe w
+  pub releases : ReleasesNeverFall w
 
 -- each step keeps it
 abbrev pub EveryStepIsSafe : Type 0

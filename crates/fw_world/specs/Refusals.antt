@@ -47,7 +47,7 @@ no_stop s ToHead d = Some NoSuchActor
 
 -- the first refusal that applies; an opening is refused for its head end, then for its meters, and then by the book
 abbrev pub refusal_of : State → Event → Option StepError
-refusal_of s (open_campaign campaign image meters) = with_head (head_at s campaign.head) (λ head.
+refusal_of s (open_campaign campaign release image meters) = with_head (head_at s campaign.head) (λ head.
     if list_all (λ meter. is_some (meter_at s meter)) meters then by_book (opening_refusal head.book campaign image meters) else Some NoSuchActor)
 refusal_of s (cancel_campaign campaign) = with_head (head_at s campaign.head) (λ head. by_book (cancel_refusal head.book campaign))
 refusal_of s (tick head meter) = with_head (head_at s head) (λ head. with_meter (meter_at s meter))
@@ -64,7 +64,7 @@ AddresseeMayWant s ToHead d = (head : Head) × (head_at s d.head ≡ Some head) 
 
 -- an opening, a tick and a stop may want memory, and a delivery where its addressee may
 abbrev pub MayWantMemory : State → Event → Type 0
-MayWantMemory s (open_campaign campaign image meters) = Unit {0}
+MayWantMemory s (open_campaign campaign release image meters) = Unit {0}
 MayWantMemory s (tick head meter) = Unit {0}
 MayWantMemory s (deliver number) = (d : Datagram) × (slice_get s.sent number ≡ Some d) × AddresseeMayWant s d.direction d
 MayWantMemory s (stop number calls torn) = Unit {0}

@@ -70,12 +70,12 @@ world_of s = record {
 -- ---- what each event makes of it
 
 -- a head end opens a campaign, which nothing refuses
-pub record OpensAt (old : State) (campaign : Campaign) (image meters : List ℕ) (new : State) : Type 0 where
+pub record OpensAt (old : State) (campaign : Campaign) (release : ℕ) (image meters : List ℕ) (new : State) : Type 0 where
   pub is_opened : IsOpened campaign
   pub head : Head
   pub there : head_at old campaign.head ≡ Some head
   pub admitted : opening_refusal head.book campaign image meters ≡ None
-  pub new_is : new ≡ set_head old campaign.head (opened_head head campaign.serial image meters)
+  pub new_is : new ≡ set_head old campaign.head (opened_head head campaign.serial release image meters)
 
 pub record CancelsAt (old : State) (campaign : Campaign) (new : State) : Type 0 where
   pub head : Head
@@ -129,7 +129,7 @@ pub record StopsIn (old : State) (d : Datagram) (new : State) : Type 0 where
   pub new_is : new ≡ record (set_meter old d.meter (reopened after)) { activations = old.activations ++ activated d.meter name after }
 
 abbrev pub StateStep : State → Event → State → Type 0
-StateStep old (open_campaign campaign image meters) new = OpensAt old campaign image meters new
+StateStep old (open_campaign campaign release image meters) new = OpensAt old campaign release image meters new
 StateStep old (cancel_campaign campaign) new = CancelsAt old campaign new
 StateStep old (tick head meter) new = TicksAt old head meter new
 StateStep old (deliver number) new = (d : Datagram) × (slice_get old.sent number ≡ Some d) × DeliversAt d.direction old d new

@@ -1,7 +1,7 @@
 -- Public vocabulary: what may happen in the world, one event at a time.
 use Rattle.std.specs.Prelude.{◌≡◌, ℕ, true, false, IsTrue, ◌⊎◌, List, [], ◌∷◌, ◌++◌, Option, Some, None, slice_get, All}
 use Rattle.fw_axdr.specs.Value.{octet_string}
-use Rattle.fw_names.specs.Name.{Campaign, Name, IsOpened, SpellsName, name_of}
+use Rattle.fw_names.specs.Name.{Campaign, Name, IsOpened, IsRelease, SpellsName, name_of}
 use Rattle.fw_apdu.specs.Response.{value, get_response}
 use Rattle.fw_store.specs.Setup.{IsSetup}
 use Rattle.fw_image.specs.Meter.{Meter, reopened}
@@ -17,8 +17,8 @@ use Rattle.fw_world.specs.declared.datagram.Direction.TheVariants.{ToMeter, ToHe
 use Rattle.fw_world.specs.World.{Datagram, Activation, Offers, World, with_offer, with_meter, with_done}
 
 pub data Event : Type 0 where
-  -- a campaign offers an image, to these meters
-  open_campaign : Campaign → List ℕ → List ℕ → Event
+  -- a campaign offers an image of a release, to these meters
+  open_campaign : Campaign → ℕ → List ℕ → List ℕ → Event
   cancel_campaign : Campaign → Event
   -- a head end may send to a meter
   tick : ℕ → ℕ → Event
@@ -33,13 +33,15 @@ pub data Event : Type 0 where
 
 -- ---- sending
 
--- an ask of an image that a campaign of this head end offers
+-- an ask of an image that a campaign of this head end offers, under its name with any release that such a name can have
 pub record IsOfOffer (offered : Offers) (head : ℕ) (asked : Ask) : Type 0 where
   pub campaign : Campaign
+  pub release : ℕ
   pub image : List ℕ
   pub own : campaign.head ≡ head
+  pub is_release : IsRelease campaign release
   pub offers : offered campaign ≡ Some image
-  pub may : MaySend (name_of campaign image) image asked
+  pub may : MaySend (name_of campaign release image) image asked
 
 -- What a head end may ask of any meter at any time. An initiate has the name and the size of such an image, and a block is one of its
 -- blocks under some block size. All else is free: a set to true, a read, a verify, or an activate.
@@ -79,16 +81,17 @@ pub record Serves (old : World) (d : Datagram) (new : World) : Type 0 where
   pub new_is : new ≡ record (with_meter old d.meter after) { sent = old.sent ++ replies d reply; activations = old.activations ++ activated d.meter name after }
 
 -- A head end may mark a meter done in one of its campaigns on an answer of that meter to a GET: an octet-string that spells the name of
--- the image that the campaign offers.
+-- the image that the campaign offers, with some release.
 pub record Marks (old : World) (d : Datagram) (new : World) : Type 0 where
   pub campaign : Campaign
+  pub release : ℕ
   pub image : List ℕ
   pub invoke : ℕ
   pub bytes : List ℕ
   pub own : campaign.head ≡ d.head
   pub offers : old.offered campaign ≡ Some image
   pub carries : CarriesResponse d.bytes invoke (get_response (value (octet_string bytes)))
-  pub spells : SpellsName bytes (name_of campaign image)
+  pub spells : SpellsName bytes (name_of campaign release image)
   pub new_is : new ≡ with_done old campaign d.meter
 
 abbrev pub Delivers : Direction → World → Datagram → World → Type 0
@@ -110,7 +113,7 @@ pub record StopsAt (old : World) (d : Datagram) (new : World) : Type 0 where
 -- ---- the step
 
 abbrev pub WorldStep : World → Event → World → Type 0
-WorldStep old (open_campaign campaign image meters) new =
+WorldStep old (open_campaign campaign release image meters) new =
     IsOpened campaign × (old.offered campaign ≡ None) × (new ≡ with_offer old campaign image)
 WorldStep old (cancel_campaign campaign) new = new ≡ old
 WorldStep old (tick head meter) new =

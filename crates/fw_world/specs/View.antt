@@ -26,7 +26,7 @@ addressee d = goes_to d.direction d.head d.meter
 
 -- an event without where its lists lie in memory
 abbrev pub event_of : Given → Event
-event_of (given.OpenCampaign campaign image meters) = open_campaign campaign image.items meters.items
+event_of (given.OpenCampaign campaign release image meters) = open_campaign campaign release image.items meters.items
 event_of (given.CancelCampaign campaign) = cancel_campaign campaign
 event_of (given.Tick head meter) = tick head meter
 event_of (given.Deliver datagram) = deliver datagram

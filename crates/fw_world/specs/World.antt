@@ -18,7 +18,7 @@ pub record Activation : Type 0 where
   pub name : Name
   pub bytes : List ℕ
 
--- the images that campaigns offer
+-- the images that campaigns offer, whatever their releases
 abbrev pub Offers : Type 0
 Offers = Campaign → Option (List ℕ)
 

@@ -9,9 +9,10 @@ use std::alloc::AllocError;
 /// An event. Datagrams are named by their places in the list of all that were sent, from 0 on.
 #[derive(Debug, Drop)]
 pub enum Event {
-    /// A head end opens a campaign of its own: it offers the image to the meters.
+    /// A head end opens a campaign of its own: it offers the image of this release, 0 where it has none, to the meters.
     OpenCampaign {
         campaign: CampaignId,
+        release: u32,
         image: Vec<u8>,
         meters: Vec<MeterId>,
     },
@@ -43,10 +44,12 @@ impl Clone for Event {
         Ok(match self {
             Event::OpenCampaign {
                 campaign,
+                release,
                 image,
                 meters,
             } => Event::OpenCampaign {
                 campaign: *campaign,
+                release: *release,
                 image: Vec::from_slice(*image.allocator(), image)?,
                 meters: Vec::from_slice(*meters.allocator(), meters)?,
             },

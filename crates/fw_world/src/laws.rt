@@ -8,6 +8,7 @@ ghost use Rattle.fw_world.specs.Headline.{
   GoalsAreOffered,
   ActivationsAreSafe,
   ActivationsAreEqual,
+  ReleasesNeverFall,
 };
 
 /// Each step keeps what holds of a world that events led to.
@@ -47,13 +48,15 @@ pub fn run_goes_on()
     ensures { RunGoesOn }
 {}
 
-/// Over every run, what a meter switches to is what the campaign in its name offers, and a meter that is done switched to it.
+/// Over every run, what a meter switches to is what the campaign in its name offers, a meter that is done switched to it, and
+/// along the images that a meter switches to releases never fall.
 pub fn every_run_is_safe()
     ensures initiates { AfterEachRun (λ opening w. InitiatesAreOffered w) }
     ensures names { AfterEachRun (λ opening w. NamesAreOwn (IsFirstName opening) w) }
     ensures goals { AfterEachRun (λ opening w. GoalsAreOffered w) }
     ensures activations { AfterEachRun (λ opening w. ActivationsAreSafe w) }
     ensures equal { AfterEachRun (λ opening w. ActivationsAreEqual w) }
+    ensures releases { AfterEachRun (λ opening w. ReleasesNeverFall w) }
 {
     fw_names::laws::one_name();
     fw_names::laws::spelling_size();

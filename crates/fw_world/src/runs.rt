@@ -8,6 +8,7 @@ ghost use Rattle.fw_world.specs.Headline.{
   GoalsAreOffered,
   ActivationsAreSafe,
   ActivationsAreEqual,
+  ReleasesNeverFall,
 };
 ghost use Rattle.fw_world.specs.Runs.{EndsIn, IsStopped, IsUnmade, events_of};
 ghost use Rattle.fw_world.specs.Setup.{IsSetup, opening_state};
@@ -62,9 +63,10 @@ impl Error for RunError {}
 
 /// Makes a world, and all events in it, in their order, up to the first one that is refused.
 ///
-/// The clauses `initiates`, `names`, `goals`, `activations` and `equal` are what the product is for. They hold of the world at the
-/// end, and of that before the first event that is refused: whatever a meter switched to is the image that the campaign in its
-/// name offers, and a meter that is done switched to the image of that campaign.
+/// The clauses `initiates`, `names`, `goals`, `activations`, `equal` and `releases` are what the product is for. They hold of the
+/// world at the end, and of that before the first event that is refused: whatever a meter switched to is the image that the
+/// campaign in its name offers, its release is not below that of any image which the meter switched to before, and a meter that is
+/// done switched to the image of that campaign.
 ///
 /// # Errors
 ///
@@ -79,6 +81,7 @@ pub fn run(alloc: Global, setup: &Setup, events: &[Event]) -> Result<World, RunE
     ensures goals { EndsIn result (λ w. GoalsAreOffered (world_of w)) }
     ensures activations { EndsIn result (λ w. ActivationsAreSafe (world_of w)) }
     ensures equal { EndsIn result (λ w. ActivationsAreEqual (world_of w)) }
+    ensures releases { EndsIn result (λ w. ReleasesNeverFall (world_of w)) }
 {
     laws::every_run_is_safe();
     let mut world = match World::new(alloc, setup) {

@@ -126,9 +126,10 @@ impl World {
         match event {
             Event::OpenCampaign {
                 campaign,
+                release,
                 image,
                 meters,
-            } => self.open_campaign(alloc, *campaign, image, meters),
+            } => self.open_campaign(alloc, *campaign, *release, image, meters),
             Event::CancelCampaign(campaign) => self.cancel_campaign(*campaign),
             Event::Tick(head, meter) => self.tick(alloc, *head, *meter),
             Event::Deliver(datagram) => self.deliver(alloc, *datagram),
@@ -148,12 +149,13 @@ impl World {
         &mut self,
         alloc: Global,
         campaign: CampaignId,
+        release: u32,
         image: &[u8],
         meters: &[MeterId],
     ) -> Result<(), StepError>
-        ensures stepped { OnOk result (StateStep self.old (open_campaign campaign image.now meters.now) self.new) }
-        ensures admitted { OnOk result (refusal_of self.old (open_campaign campaign image.now meters.now) ≡ None) }
-        ensures refused { IfErr result (IsRefused self.old (open_campaign campaign image.now meters.now)) }
+        ensures stepped { OnOk result (StateStep self.old (open_campaign campaign release image.now meters.now) self.new) }
+        ensures admitted { OnOk result (refusal_of self.old (open_campaign campaign release image.now meters.now) ≡ None) }
+        ensures refused { IfErr result (IsRefused self.old (open_campaign campaign release image.now meters.now)) }
         ensures same { OnErr result (self.new ≡ self.old) }
     {
         let Some(head) = self.heads.get_mut(head_number(campaign)) else {
@@ -164,7 +166,7 @@ impl World {
         }
         // For its clauses alone: the number of a head end begins at 1, and so the campaign is one.
         let _view = head.view();
-        head.open_campaign(alloc, campaign.serial(), image, meters)?;
+        head.open_campaign(alloc, campaign.serial(), release, image, meters)?;
         Ok(())
     }
 

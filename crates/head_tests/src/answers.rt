@@ -91,6 +91,23 @@ const INFOS: &[(Answer, &str)] = &[
         ),
         "info 010000000700000001ba7816bf8f01cfea414140de5dae2223b00361a396177a9cb410ff61f20015ad",
     ),
+    // a name with a release, and 45 bytes with release 0
+    (
+        Answer(
+            1,
+            Wish::Info,
+            "000100010001005ec401c000010102030600000003092d02000000070000000100000005ba7816bf8f01cfea414140de5dae2223b00361a396177a9cb410ff61f20015ad0920ba7816bf8f01cfea414140de5dae2223b00361a396177a9cb410ff61f20015ad",
+        ),
+        "info 02000000070000000100000005ba7816bf8f01cfea414140de5dae2223b00361a396177a9cb410ff61f20015ad",
+    ),
+    (
+        Answer(
+            1,
+            Wish::Info,
+            "000100010001005ec401c000010102030600000003092d02000000070000000100000000ba7816bf8f01cfea414140de5dae2223b00361a396177a9cb410ff61f20015ad0920ba7816bf8f01cfea414140de5dae2223b00361a396177a9cb410ff61f20015ad",
+        ),
+        "Info(None)",
+    ),
     // another signature of 32 bytes
     (
         Answer(
@@ -109,7 +126,7 @@ const INFOS: &[(Answer, &str)] = &[
         ),
         "Info(None)",
     ),
-    // an identification that is no name, since it begins with 02
+    // an identification that is no name, since it begins with 02 and has no release
     (
         Answer(
             1,
@@ -205,6 +222,32 @@ const NAMES: &[(Answer, &str)] = &[
             "000100010001002fc401c0000929010000000000000000ba7816bf8f01cfea414140de5dae2223b00361a396177a9cb410ff61f20015ad",
         ),
         "active 1 010000000000000000ba7816bf8f01cfea414140de5dae2223b00361a396177a9cb410ff61f20015ad",
+    ),
+    // one with a release
+    (
+        Answer(
+            1,
+            Wish::ActiveName,
+            "0001000100010033c401c000092d02000000070000000100000005ba7816bf8f01cfea414140de5dae2223b00361a396177a9cb410ff61f20015ad",
+        ),
+        "active 1 02000000070000000100000005ba7816bf8f01cfea414140de5dae2223b00361a396177a9cb410ff61f20015ad",
+    ),
+    // 45 bytes with release 0, and with the factory's campaign
+    (
+        Answer(
+            1,
+            Wish::ActiveName,
+            "0001000100010033c401c000092d02000000070000000100000000ba7816bf8f01cfea414140de5dae2223b00361a396177a9cb410ff61f20015ad",
+        ),
+        "Stranger",
+    ),
+    (
+        Answer(
+            1,
+            Wish::ActiveName,
+            "0001000100010033c401c000092d02000000000000000000000005ba7816bf8f01cfea414140de5dae2223b00361a396177a9cb410ff61f20015ad",
+        ),
+        "Stranger",
     ),
     // a campaign without a serial number
     (

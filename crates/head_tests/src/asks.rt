@@ -60,7 +60,7 @@ const CHANGES: &[(Step, &str)] = &[
     ),
 ];
 
-/// Method 1: a structure of an octet-string of 41 bytes and a double-long-unsigned.
+/// Method 1: a structure of an octet-string of 41 bytes, or of 45, and a double-long-unsigned.
 const INITIATE: &[(Step, &str)] = &[
     (
         Step::Ask(Wish::Initiate(3)),
@@ -70,6 +70,14 @@ const INITIATE: &[(Step, &str)] = &[
     (
         Step::Hear("0001000100010005c701c00300"),
         "Code { asked: Initiate, code: 3 }",
+    ),
+    (
+        Step::Ask(Wish::InitiateRelease(5, 3)),
+        "0001000100010043c301c1001200002c0000ff01010202092d02000000070000000100000005ba7816bf8f01cfea414140de5dae2223b00361a396177a9cb410ff61f20015ad0600000003",
+    ),
+    (
+        Step::Ask(Wish::InitiateRelease(4_294_967_295, 3)),
+        "0001000100010043c301c2001200002c0000ff01010202092d020000000700000001ffffffffba7816bf8f01cfea414140de5dae2223b00361a396177a9cb410ff61f20015ad0600000003",
     ),
 ];
 

@@ -12,18 +12,26 @@ use std::test::Fail;
 pub(crate) enum Call {
     /// Opens a campaign of this head end with this serial number, for an image and meters.
     Open(u32, u32, &'static [u8], &'static [u32]),
+    /// The same with an image of this release.
+    OpenRelease(u32, u32, u32, &'static [u8], &'static [u32]),
     /// Cancels the campaign of this head end and this serial number.
     Cancel(u32, u32),
     /// Marks a meter of the campaign of this head end and this serial number as failed.
     Fail(u32, u32, u32),
     /// Marks done under the campaign of this head end and this serial number, by the claim that a client of a meter hears of the
-    /// answer below.
+    /// first answer below.
     Done(u32, u32, u32),
+    /// The same by the claim of the second answer.
+    DoneRelease(u32, u32, u32),
 }
 
 /// The answer, to a client's first ask, of a meter that runs `abc` of campaign (7, 1).
 const ANSWER: &str =
     "000100010001002fc401c0000929010000000700000001ba7816bf8f01cfea414140de5dae2223b00361a396177a9cb410ff61f20015ad";
+
+/// The same of release 5.
+const RELEASE_ANSWER: &str =
+    "0001000100010033c401c000092d02000000070000000100000005ba7816bf8f01cfea414140de5dae2223b00361a396177a9cb410ff61f20015ad";
 
 /// The campaign of these numbers.
 pub(crate) fn campaign(head: u32, serial: u32) -> Result<CampaignId, Fail> {
@@ -51,11 +59,11 @@ pub(crate) fn fresh(alloc: Global) -> Result<Kept<Book>, Fail> {
     Ok(Kept(Book::new(alloc, head)))
 }
 
-/// The claim that a client of a meter hears of the answer above.
-fn claim(alloc: Global, number: u32) -> Result<ActiveClaim, Fail> {
+/// The claim that a client of a meter hears of an answer.
+fn claim(alloc: Global, number: u32, answer: &str) -> Result<ActiveClaim, Fail> {
     let mut client = Client::new(meter(number)?);
     let _asked = client.ask(alloc, &Ask::ActiveName)?;
-    match client.hear(alloc, &hex::decode(alloc, ANSWER)?)? {
+    match client.hear(alloc, &hex::decode(alloc, answer)?)? {
         Heard::Active(claim) => Ok(claim),
         _ => Err("the answer is no claim".into()),
     }
@@ -65,10 +73,12 @@ fn claim(alloc: Global, number: u32) -> Result<ActiveClaim, Fail> {
 fn refusal(alloc: Global, book: &mut Book, call: &Call) -> Result<Option<BookError>, Fail> {
     let answer = match *call {
         Call::Open(head, serial, image, numbers) => {
-            let meters = meters(alloc, numbers)?;
             let campaign = campaign(head, serial)?;
-            let opened = book.open_campaign(alloc, campaign, image, &meters);
-            return Ok(opened.err());
+            return opening_refusal(alloc, book, campaign, 0, image, numbers);
+        }
+        Call::OpenRelease(head, serial, release, image, numbers) => {
+            let campaign = campaign(head, serial)?;
+            return opening_refusal(alloc, book, campaign, release, image, numbers);
         }
         Call::Cancel(head, serial) => book.cancel(campaign(head, serial)?),
         Call::Fail(head, serial, number) => book.mark_failed(
@@ -76,10 +86,28 @@ fn refusal(alloc: Global, book: &mut Book, call: &Call) -> Result<Option<BookErr
             meter(number)?,
         ),
         Call::Done(head, serial, number) => {
-            book.mark_done(campaign(head, serial)?, claim(alloc, number)?)
+            book.mark_done(campaign(head, serial)?, claim(alloc, number, ANSWER)?)
+        }
+        Call::DoneRelease(head, serial, number) => {
+            let claim = claim(alloc, number, RELEASE_ANSWER)?;
+            book.mark_done(campaign(head, serial)?, claim)
         }
     };
     Ok(answer.err())
+}
+
+/// What an opening is refused for.
+fn opening_refusal(
+    alloc: Global,
+    book: &mut Book,
+    campaign: CampaignId,
+    release: u32,
+    image: &[u8],
+    numbers: &[u32],
+) -> Result<Option<BookError>, Fail> {
+    let meters = meters(alloc, numbers)?;
+    let opened = book.open_campaign(alloc, campaign, release, image, &meters);
+    Ok(opened.err())
 }
 
 /// The book after calls, of which none is refused.

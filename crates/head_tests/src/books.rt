@@ -7,11 +7,11 @@ use fw_names::MeterId;
 use std::alloc::{AllocError, Global};
 use std::test::Fail;
 
-/// Campaigns stand in the order in which they were opened, and only live rows are cancelled.
+/// Campaigns stand in the order in which they were opened, each with its release, and only live rows are cancelled.
 const WRITTEN: &[(Written, &str)] = &[
     (
         Written(&[Call::Open(7, 1, b"abc", &[1])]),
-        "4657423100000007000000010000000361626300010000000100",
+        "465742320000000700000001000000000000000361626300010000000100",
     ),
     (
         Written(&[
@@ -19,7 +19,7 @@ const WRITTEN: &[(Written, &str)] = &[
             Call::Fail(7, 1, 1),
             Call::Open(7, 5, b"abd", &[1]),
         ]),
-        "46574231000000070000000100000003616263000200000001020000000200000000050000000361626400010000000100",
+        "465742320000000700000001000000000000000361626300020000000102000000020000000005000000000000000361626400010000000100",
     ),
     (
         Written(&[
@@ -27,7 +27,14 @@ const WRITTEN: &[(Written, &str)] = &[
             Call::Fail(7, 1, 1),
             Call::Cancel(7, 1),
         ]),
-        "46574231000000070000000100000003616263000200000001020000000203",
+        "4657423200000007000000010000000000000003616263000200000001020000000203",
+    ),
+    (
+        Written(&[
+            Call::OpenRelease(7, 1, 5, b"abc", &[1]),
+            Call::OpenRelease(7, 2, 4_294_967_295, b"abd", &[2]),
+        ]),
+        "46574232000000070000000100000005000000036162630001000000010000000002ffffffff0000000361626400010000000200",
     ),
 ];
 
@@ -51,36 +58,131 @@ impl Case for Read {
 /// Bytes of books.
 const GOOD: &[(Read, &str)] = &[
     // no campaign
-    (Read("4657423100000007"), "4657423100000007"),
+    (Read("4657423200000007"), "4657423200000007"),
     // one campaign
     (
-        Read("4657423100000007000000010000000361626300010000000100"),
-        "4657423100000007000000010000000361626300010000000100",
+        Read("465742320000000700000001000000000000000361626300010000000100"),
+        "465742320000000700000001000000000000000361626300010000000100",
     ),
-    // two campaigns, each state, and a meter that is live in one of them
+    // two campaigns, the second of a release, each state, and a meter that is live in one of them
+    (
+        Read(
+            "4657423200000007000000010000000000000003616263000100000001000000000200000005000000036162640003000000010100000002020000000303",
+        ),
+        "4657423200000007000000010000000000000003616263000100000001000000000200000005000000036162640003000000010100000002020000000303",
+    ),
+    // the greatest numbers
+    (
+        Read("46574232ffffffffffffffffffffffff000000010000020000000003ffffffff00"),
+        "46574232ffffffffffffffffffffffff000000010000020000000003ffffffff00",
+    ),
+];
+
+/// Bytes of books in the old form, which has no releases: they are 0.
+const OLD: &[(Read, &str)] = &[
+    (Read("4657423100000007"), "4657423200000007"),
+    (
+        Read("4657423100000007000000010000000361626300010000000100"),
+        "465742320000000700000001000000000000000361626300010000000100",
+    ),
     (
         Read(
             "465742310000000700000001000000036162630001000000010000000002000000036162640003000000010100000002020000000303",
         ),
-        "465742310000000700000001000000036162630001000000010000000002000000036162640003000000010100000002020000000303",
+        "4657423200000007000000010000000000000003616263000100000001000000000200000000000000036162640003000000010100000002020000000303",
     ),
-    // the greatest numbers
     (
         Read("46574231ffffffffffffffff000000010000020000000003ffffffff00"),
-        "46574231ffffffffffffffff000000010000020000000003ffffffff00",
+        "46574232ffffffffffffffff00000000000000010000020000000003ffffffff00",
     ),
 ];
 
 /// Bytes that are no book's.
 const BAD: &[(Read, &str)] = &[
     // another first byte
-    (Read("4757423100000007"), "BadBook"),
+    (Read("4757423200000007"), "BadBook"),
     // another second byte
-    (Read("4658423100000007"), "BadBook"),
+    (Read("4658423200000007"), "BadBook"),
     // another third byte
-    (Read("4657433100000007"), "BadBook"),
+    (Read("4657433200000007"), "BadBook"),
     // another fourth byte
-    (Read("4657423200000007"), "BadBook"),
+    (Read("4657423000000007"), "BadBook"),
+    (Read("4657423300000007"), "BadBook"),
+    // head end 0
+    (Read("4657423200000000"), "BadBook"),
+    // serial number 0
+    (
+        Read("465742320000000700000000000000000000000361626300010000000100"),
+        "BadBook",
+    ),
+    // an empty image
+    (
+        Read("465742320000000700000001000000000000000000010000000100"),
+        "BadBook",
+    ),
+    // no meters
+    (
+        Read("46574232000000070000000100000000000000036162630000"),
+        "BadBook",
+    ),
+    // state 4
+    (
+        Read("465742320000000700000001000000000000000361626300010000000104"),
+        "BadBook",
+    ),
+    // state 255
+    (
+        Read("4657423200000007000000010000000000000003616263000100000001ff"),
+        "BadBook",
+    ),
+    // a meter twice in a campaign
+    (
+        Read("4657423200000007000000010000000000000003616263000200000001010000000102"),
+        "BadBook",
+    ),
+    // a serial number twice, also with another release
+    (
+        Read(
+            "46574232000000070000000100000000000000036162630001000000010100000001000000000000000361626400010000000201",
+        ),
+        "BadBook",
+    ),
+    (
+        Read(
+            "46574232000000070000000100000000000000036162630001000000010100000001000000050000000361626400010000000201",
+        ),
+        "BadBook",
+    ),
+    // a meter live in two campaigns
+    (
+        Read(
+            "46574232000000070000000100000000000000036162630001000000010000000002000000000000000361626400010000000100",
+        ),
+        "BadBook",
+    ),
+    // a byte too many
+    (
+        Read("46574232000000070000000100000000000000036162630001000000010000"),
+        "BadBook",
+    ),
+    // a byte too few
+    (
+        Read("4657423200000007000000010000000000000003616263000100000001"),
+        "BadBook",
+    ),
+    // each form in place of the other
+    (
+        Read("4657423200000007000000010000000361626300010000000100"),
+        "BadBook",
+    ),
+    (
+        Read("465742310000000700000001000000000000000361626300010000000100"),
+        "BadBook",
+    ),
+];
+
+/// Bytes that are no book's in the old form either.
+const OLD_BAD: &[(Read, &str)] = &[
     // head end 0
     (Read("4657423100000000"), "BadBook"),
     // serial number 0
@@ -142,7 +244,9 @@ const BAD: &[(Read, &str)] = &[
 #[test]
 fn books_are_read_back(rt: HostRuntime) -> Result<(), Fail> {
     each(rt.alloc(), GOOD)?;
-    each(rt.alloc(), BAD)
+    each(rt.alloc(), OLD)?;
+    each(rt.alloc(), BAD)?;
+    each(rt.alloc(), OLD_BAD)
 }
 
 /// How many of the first bytes are a book's. Each other number of them is refused as no book's.
@@ -169,8 +273,19 @@ fn is_book(alloc: Global, bytes: &[u8]) -> Result<bool, Fail> {
     }
 }
 
-/// A book ends behind a campaign: 8 bytes, 23 of the first campaign, 18 of the second; 8 bytes, and 18 of the only campaign.
+/// A book ends behind a campaign: 8 bytes, 27 of the first campaign, 22 of the second; 8 bytes, and 22 of the only campaign. In the
+/// old form each campaign has four bytes less.
 const PREFIXES: &[(Prefixes, &str)] = &[
+    (
+        Prefixes(
+            "465742320000000700000001000000000000000361626300020000000102000000020000000005000000000000000361626400010000000100",
+        ),
+        "[8, 35, 57]",
+    ),
+    (
+        Prefixes("465742320000000700000001000000000000000361626300010000000100"),
+        "[8, 30]",
+    ),
     (
         Prefixes(
             "46574231000000070000000100000003616263000200000001020000000200000000050000000361626400010000000100",
@@ -201,8 +316,8 @@ impl Case for Ended {
     }
 }
 
-/// The form, head end 7, and serial 1.
-const FRONT: &[u8] = &[0x46, 0x57, 0x42, 0x31, 0, 0, 0, 7, 0, 0, 0, 1];
+/// The form, head end 7, serial 1, and release 0.
+const FRONT: &[u8] = &[0x46, 0x57, 0x42, 0x32, 0, 0, 0, 7, 0, 0, 0, 1, 0, 0, 0, 0];
 
 /// Rows of so many meters that were cancelled.
 fn ended_rows(alloc: Global, meters: u16) -> Result<Vec<u8>, AllocError> {
@@ -230,8 +345,8 @@ const LIMITS: &[(Ended, &str)] = &[
     (Ended(1, 257), "false"),
 ];
 
-/// A book after it opened a campaign with an image of so many bytes for so many meters: how many bytes are written, and whether the
-/// book that they are read as is written so too and offers the image.
+/// A book after it opened a campaign of release 5 with an image of so many bytes for so many meters: how many bytes are written, and
+/// whether the book that they are read as is written so too and offers the image.
 struct ReadBack(u32, u32);
 
 impl Case for ReadBack {
@@ -248,7 +363,7 @@ fn written(alloc: Global, image: &[u8], count: u32) -> Result<Vec<u8>, Fail> {
     let mut book = fresh(alloc)?;
     let _name = book
         .0
-        .open_campaign(alloc, campaign(7, 1)?, image, &meters)?;
+        .open_campaign(alloc, campaign(7, 1)?, 5, image, &meters)?;
     Ok(book.0.write(alloc)?)
 }
 
@@ -282,13 +397,13 @@ fn first_meters(alloc: Global, count: u32) -> Result<Vec<MeterId>, Fail> {
     Ok(meters)
 }
 
-/// 18 bytes, those of the image, and 5 a meter, round the largest size that 16 bits tell, and above it.
+/// 22 bytes, those of the image, and 5 a meter, round the largest size that 16 bits tell, and above it.
 const READ_BACK: &[(ReadBack, &str)] = &[
-    (ReadBack(65_535, 1), "65558 bytes, true, true"),
-    (ReadBack(65_536, 1), "65559 bytes, true, true"),
-    (ReadBack(131_072, 256), "132370 bytes, true, true"),
+    (ReadBack(65_535, 1), "65562 bytes, true, true"),
+    (ReadBack(65_536, 1), "65563 bytes, true, true"),
+    (ReadBack(131_072, 256), "132374 bytes, true, true"),
     // the largest of all
-    (ReadBack(4_194_304, 256), "4195602 bytes, true, true"),
+    (ReadBack(4_194_304, 256), "4195606 bytes, true, true"),
 ];
 
 #[test]

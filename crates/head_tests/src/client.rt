@@ -22,12 +22,22 @@ pub(crate) enum Wish {
     Enable,
     /// An image of this size in bytes under the name of `abc`, which campaign 1 of head end 7 offers.
     Initiate(u32),
+    /// The same of this release.
+    InitiateRelease(u32, u32),
     Block(u32, &'static [u8]),
     Verify,
     Activate,
 }
 
 impl Wish {
+    /// The release of the image that is initiated.
+    fn release(&self) -> u32 {
+        match self {
+            Wish::InitiateRelease(release, _) => *release,
+            _ => 0,
+        }
+    }
+
     fn ask(&self, name: ImageName) -> Ask<'_> {
         match self {
             Wish::BlockSize => Ask::BlockSize,
@@ -37,7 +47,9 @@ impl Wish {
             Wish::Info => Ask::Info,
             Wish::ActiveName => Ask::ActiveName,
             Wish::Enable => Ask::Enable,
-            Wish::Initiate(size) => Ask::Initiate { name, size: *size },
+            Wish::Initiate(size) | Wish::InitiateRelease(_, size) => {
+                Ask::Initiate { name, size: *size }
+            }
             Wish::Block(number, value) => Ask::Block {
                 number: *number,
                 value,
@@ -93,7 +105,7 @@ fn fits(ask: &Ask<'_>) -> bool
 }
 
 fn asked(alloc: Global, client: &mut Client, wish: &Wish) -> Result<String, Fail> {
-    let ask = wish.ask(abc_name().ok_or("a name")?);
+    let ask = wish.ask(abc_name(wish.release()).ok_or("a name")?);
     if !fits(&ask) {
         return Err("too long a block".into());
     }
@@ -112,20 +124,20 @@ fn largest(alloc: Global, client: &mut Client, number: u32) -> Result<String, Fa
     Ok(format!(in alloc; "{} {front} {last:02x}", bytes.len())?)
 }
 
-/// The name of `abc` in campaign 1 of head end 7.
-pub(crate) fn abc_name() -> Option<ImageName> {
-    Some(name_of(CampaignId::new(HeadId::new(7)?, 1)?, b"abc"))
+/// The name of `abc` in campaign 1 of head end 7, of this release.
+pub(crate) fn abc_name(release: u32) -> Option<ImageName> {
+    Some(name_of(CampaignId::new(HeadId::new(7)?, 1)?, release, b"abc"))
 }
 
 /// What is heard, as `Debug` gives it, but for names, which are spelled.
 fn heard_text(alloc: Global, heard: &Heard) -> Result<String, Fail> {
     Ok(match heard {
         Heard::Active(claim) => {
-            let name = hex::encode(alloc, claim.name().to_bytes())?;
+            let name = hex::encode(alloc, claim.name().to_bytes().as_slice())?;
             format!(in alloc; "active {} {name}", claim.meter().number())?
         }
         Heard::Info(Some(name)) => {
-            let name = hex::encode(alloc, name.to_bytes())?;
+            let name = hex::encode(alloc, name.to_bytes().as_slice())?;
             format!(in alloc; "info {name}")?
         }
         other => format!(in alloc; "{other:?}")?,

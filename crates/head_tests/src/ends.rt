@@ -68,8 +68,8 @@ fn ends_are_refused_in_order(rt: HostRuntime) -> Result<(), Fail> {
     each(rt.alloc(), REFUSED)
 }
 
-/// A claim of `abc` in campaign (7, 1) marks its row done once. What it claims is judged after whether there is such a row, and
-/// before whether that is live.
+/// A claim of `abc` in campaign (7, 1) marks its row done once, under its release. What it claims is judged after whether there is
+/// such a row, and before whether that is live.
 const CLAIMED: &[(Last, &str)] = &[
     (
         Last(&[Call::Open(7, 1, b"abc", &[1]), Call::Done(7, 2, 1)]),
@@ -142,17 +142,50 @@ const CLAIMED: &[(Last, &str)] = &[
         Last(&[Call::Open(7, 1, b"abd", &[1]), Call::Done(7, 1, 1)]),
         "WrongCampaign",
     ),
+    // the claim is of the release that is offered, and of another one
+    (
+        Last(&[
+            Call::OpenRelease(7, 1, 5, b"abc", &[1]),
+            Call::DoneRelease(7, 1, 1),
+        ]),
+        "done",
+    ),
+    (
+        Last(&[
+            Call::OpenRelease(7, 1, 5, b"abc", &[1]),
+            Call::Done(7, 1, 1),
+        ]),
+        "WrongCampaign",
+    ),
+    (
+        Last(&[
+            Call::OpenRelease(7, 1, 4, b"abc", &[1]),
+            Call::DoneRelease(7, 1, 1),
+        ]),
+        "WrongCampaign",
+    ),
+    (
+        Last(&[Call::Open(7, 1, b"abc", &[1]), Call::DoneRelease(7, 1, 1)]),
+        "WrongCampaign",
+    ),
 ];
 
 /// The book once the row is live, and once it is done.
 const MARKED: &[(Written, &str)] = &[
     (
         Written(&[Call::Open(7, 1, b"abd", &[1])]),
-        "4657423100000007000000010000000361626400010000000100",
+        "465742320000000700000001000000000000000361626400010000000100",
     ),
     (
         Written(&[Call::Open(7, 1, b"abc", &[1]), Call::Done(7, 1, 1)]),
-        "4657423100000007000000010000000361626300010000000101",
+        "465742320000000700000001000000000000000361626300010000000101",
+    ),
+    (
+        Written(&[
+            Call::OpenRelease(7, 1, 5, b"abc", &[1]),
+            Call::DoneRelease(7, 1, 1),
+        ]),
+        "465742320000000700000001000000050000000361626300010000000101",
     ),
 ];
 

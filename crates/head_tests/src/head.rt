@@ -13,6 +13,8 @@ use std::test::Fail;
 pub(crate) enum Step {
     /// It opens the campaign of this serial number for meter 1: the spelling of the name that is answered.
     Open(u32, &'static [u8]),
+    /// The same with an image of this release.
+    OpenRelease(u32, u32, &'static [u8]),
     /// The APDUs that a tick sends to meter 1.
     Tick,
     /// It is given this APDU of meter 1: the news, and the phase of the row, if it is live.
@@ -28,7 +30,8 @@ pub(crate) enum Step {
 impl Takes<Step> for HeadCore {
     fn take(&mut self, alloc: Global, step: &Step) -> Result<String, Fail> {
         match *step {
-            Step::Open(serial, image) => open(alloc, self, serial, image),
+            Step::Open(serial, image) => open(alloc, self, serial, 0, image),
+            Step::OpenRelease(serial, release, image) => open(alloc, self, serial, release, image),
             Step::Tick => apdus_text(alloc, &self.tick(alloc, meter()?)?),
             Step::Hear(apdu) => hear(alloc, self, apdu),
             Step::Restart => {
@@ -61,12 +64,18 @@ pub(crate) fn meter() -> Result<MeterId, Fail> {
     Ok(MeterId::new(1).ok_or("every number is a meter's")?)
 }
 
-fn open(alloc: Global, head: &mut HeadCore, serial: u32, image: &[u8]) -> Result<String, Fail> {
+fn open(
+    alloc: Global,
+    head: &mut HeadCore,
+    serial: u32,
+    release: u32,
+    image: &[u8],
+) -> Result<String, Fail> {
     if serial == 0 {
         return Err("a serial number begins at 1".into());
     }
-    let name = head.open_campaign(alloc, serial, image, &[meter()?])?;
-    Ok(hex::encode(alloc, name.to_bytes())?)
+    let name = head.open_campaign(alloc, serial, release, image, &[meter()?])?;
+    Ok(hex::encode(alloc, name.to_bytes().as_slice())?)
 }
 
 fn cancel(alloc: Global, head: &mut HeadCore, serial: u32) -> Result<String, Fail> {

@@ -121,7 +121,9 @@ fn numbers(alloc: Global, count: u32, round: u32) -> Result<Vec<u32>, AllocError
 fn refusal(alloc: Global, image: &[u8], numbers: &[u32]) -> Result<Option<BookError>, Fail> {
     let meters = meters(alloc, numbers)?;
     let mut book = fresh(alloc)?;
-    let opened = book.0.open_campaign(alloc, campaign(7, 1)?, image, &meters);
+    let opened = book
+        .0
+        .open_campaign(alloc, campaign(7, 1)?, 0, image, &meters);
     Ok(opened.err())
 }
 
@@ -140,8 +142,9 @@ fn limits_of_an_opening(rt: HostRuntime) -> Result<(), Fail> {
     each(rt.alloc(), LIMITS)
 }
 
-/// Serial 1 of head end 7 is opened with `abc` for meter 1: the name that is answered, and the one of this campaign in the book.
-struct Name(u32, u32);
+/// Serial 1 of head end 7 is opened with `abc` of this release for meter 1: the name that is answered, and the one of this campaign in
+/// the book.
+struct Name(u32, u32, u32);
 
 impl Case for Name {
     fn told(&self, alloc: Global) -> Result<String, Fail> {
@@ -152,11 +155,11 @@ impl Case for Name {
 
 fn names_text(alloc: Global, book: &mut Book, name: &Name) -> Result<String, Fail> {
     let meters = meters(alloc, &[1])?;
-    let answered = book.open_campaign(alloc, campaign(7, 1)?, b"abc", &meters)?;
-    let answered = hex::encode(alloc, answered.to_bytes())?;
-    Ok(match book.name(campaign(name.0, name.1)?) {
+    let answered = book.open_campaign(alloc, campaign(7, 1)?, name.0, b"abc", &meters)?;
+    let answered = hex::encode(alloc, answered.to_bytes().as_slice())?;
+    Ok(match book.name(campaign(name.1, name.2)?) {
         Some(name) => {
-            let name = hex::encode(alloc, name.to_bytes())?;
+            let name = hex::encode(alloc, name.to_bytes().as_slice())?;
             format!(in alloc; "{answered}, {name}")?
         }
         None => format!(in alloc; "{answered}, none")?,
@@ -165,16 +168,24 @@ fn names_text(alloc: Global, book: &mut Book, name: &Name) -> Result<String, Fai
 
 const NAMES: &[(Name, &str)] = &[
     (
-        Name(7, 1),
+        Name(0, 7, 1),
         "010000000700000001ba7816bf8f01cfea414140de5dae2223b00361a396177a9cb410ff61f20015ad, 010000000700000001ba7816bf8f01cfea414140de5dae2223b00361a396177a9cb410ff61f20015ad",
     ),
     (
-        Name(7, 2),
+        Name(0, 7, 2),
         "010000000700000001ba7816bf8f01cfea414140de5dae2223b00361a396177a9cb410ff61f20015ad, none",
     ),
     (
-        Name(8, 1),
+        Name(0, 8, 1),
         "010000000700000001ba7816bf8f01cfea414140de5dae2223b00361a396177a9cb410ff61f20015ad, none",
+    ),
+    (
+        Name(5, 7, 1),
+        "02000000070000000100000005ba7816bf8f01cfea414140de5dae2223b00361a396177a9cb410ff61f20015ad, 02000000070000000100000005ba7816bf8f01cfea414140de5dae2223b00361a396177a9cb410ff61f20015ad",
+    ),
+    (
+        Name(4_294_967_295, 7, 2),
+        "020000000700000001ffffffffba7816bf8f01cfea414140de5dae2223b00361a396177a9cb410ff61f20015ad, none",
     ),
 ];
 

@@ -8,7 +8,7 @@ use crate::support::{Case, Kept, each, session};
 use crate::transfers::{CLAIM, TO_CONFIRM};
 use fw_blocks::Width;
 use fw_head::{HeadCore, HeadParts, RowCore};
-use fw_names::{HeadId, ImageName};
+use fw_names::{HeadId, name_of};
 use std::alloc::Global;
 use std::test::Fail;
 
@@ -24,6 +24,8 @@ enum Last {
     Replaced(u32, u32, u32),
     /// A new row stands beside it.
     Doubled(u32, u32, u32),
+    /// A new row of the same meter and campaign stands in its place, with an image of this release.
+    Released(u32),
     /// Its meter answers the first ask by this APDU.
     Hears(&'static str),
 }
@@ -56,6 +58,10 @@ impl Last {
                 rows.push(new_row(serial, meter, size)?)?;
             }
             Last::Doubled(serial, meter, size) => rows.push(new_row(serial, meter, size)?)?,
+            Last::Released(release) => {
+                let _last = rows.pop();
+                rows.push(RowCore::new(meter(4)?, abc_name(release).ok_or("a name")?, 3))?;
+            }
             Last::Hears(apdu) => {
                 let mut last = rows.pop().ok_or("four rows")?;
                 let _asked = last.tick(alloc, b"abc", Width::new(4).ok_or("a width")?)?;
@@ -101,14 +107,13 @@ fn fresh(alloc: Global) -> Result<Kept<HeadCore>, Fail> {
 fn opened(alloc: Global) -> Result<Kept<HeadCore>, Fail> {
     let mut head = fresh(alloc)?;
     let meters = meters(alloc, &[1, 2, 3, 4])?;
-    let _name = head.0.open_campaign(alloc, 1, b"abc", &meters)?;
+    let _name = head.0.open_campaign(alloc, 1, 0, b"abc", &meters)?;
     Ok(head)
 }
 
 fn new_row(serial: u32, number: u32, size: u32) -> Result<RowCore, Fail> {
-    let name = abc_name().ok_or("a name")?;
-    let campaign = campaign(7, serial)?;
-    Ok(RowCore::new(meter(number)?, ImageName { campaign, ..name }, size))
+    let name = name_of(campaign(7, serial)?, 0, b"abc");
+    Ok(RowCore::new(meter(number)?, name, size))
 }
 
 /// The bytes of the book, and each live row with its phase.
@@ -125,17 +130,17 @@ fn shown(alloc: Global, head: Kept<HeadCore>) -> Result<String, Fail> {
 const PUT: &[(Last, &str)] = &[
     (
         Last::Kept,
-        "4657423100000007000000010000000361626300040000000100000000020000000003000000000400 [(1, Size), (2, Size), (3, Size), (4, Size)]",
+        "465742320000000700000001000000000000000361626300040000000100000000020000000003000000000400 [(1, Size), (2, Size), (3, Size), (4, Size)]",
     ),
     (
         Last::Reversed,
-        "4657423100000007000000010000000361626300040000000100000000020000000003000000000400 [(4, Size), (3, Size), (2, Size), (1, Size)]",
+        "465742320000000700000001000000000000000361626300040000000100000000020000000003000000000400 [(4, Size), (3, Size), (2, Size), (1, Size)]",
     ),
     (Last::LeftOut, "WrongRows"),
     // a row that was made anew is the meter's row
     (
         Last::Replaced(1, 4, 3),
-        "4657423100000007000000010000000361626300040000000100000000020000000003000000000400 [(1, Size), (2, Size), (3, Size), (4, Size)]",
+        "465742320000000700000001000000000000000361626300040000000100000000020000000003000000000400 [(1, Size), (2, Size), (3, Size), (4, Size)]",
     ),
     // another meter, another campaign, another size, and a meter that stands twice
     (Last::Replaced(1, 5, 3), "WrongRows"),
@@ -144,14 +149,16 @@ const PUT: &[(Last, &str)] = &[
     (Last::Replaced(1, 3, 3), "WrongRows"),
     (Last::Doubled(1, 4, 3), "WrongRows"),
     (Last::Doubled(1, 5, 3), "WrongRows"),
+    // another release
+    (Last::Released(5), "WrongRows"),
     // the row went on, and it was given up
     (
         Last::Hears("c401c0000600000002"),
-        "4657423100000007000000010000000361626300040000000100000000020000000003000000000400 [(1, Size), (2, Size), (3, Size), (4, Enable)]",
+        "465742320000000700000001000000000000000361626300040000000100000000020000000003000000000400 [(1, Size), (2, Size), (3, Size), (4, Enable)]",
     ),
     (
         Last::Hears("c401c00103"),
-        "4657423100000007000000010000000361626300040000000100000000020000000003000000000402 [(1, Size), (2, Size), (3, Size)]",
+        "465742320000000700000001000000000000000361626300040000000100000000020000000003000000000402 [(1, Size), (2, Size), (3, Size)]",
     ),
 ];
 
@@ -163,16 +170,16 @@ fn parts_are_put_together(rt: HostRuntime) -> Result<(), Fail> {
 const CONFIRMED: &[(Confirm, &str)] = &[
     (
         Confirm(&[]),
-        "[None] 4657423100000007000000010000000361626300010000000100 [(1, Confirm)]",
+        "[None] 465742320000000700000001000000000000000361626300010000000100 [(1, Confirm)]",
     ),
     (
         Confirm(&[CLAIM]),
-        "[Some(1)] 4657423100000007000000010000000361626300010000000101 []",
+        "[Some(1)] 465742320000000700000001000000000000000361626300010000000101 []",
     ),
     // an ended row hears nothing more
     (
         Confirm(&[CLAIM, CLAIM]),
-        "[Some(1)] 4657423100000007000000010000000361626300010000000101 []",
+        "[Some(1)] 465742320000000700000001000000000000000361626300010000000101 []",
     ),
 ];
 

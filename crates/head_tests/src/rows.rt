@@ -1,5 +1,5 @@
-//! A row of meter 1 takes steps: image `abc` of campaign (7, 1), for a meter with blocks of 2 bytes. APDUs stand in hexadecimal, and
-//! each is carried from and to wPort 1.
+//! A row of meter 1 takes steps: image `abc` of campaign (7, 1), in some of them of release 5, for a meter with blocks of 2 bytes. APDUs
+//! stand in hexadecimal, and each is carried from and to wPort 1.
 
 use crate::client::abc_name;
 use crate::head::{apdus_text, carried, meter};
@@ -42,7 +42,7 @@ fn row_text(alloc: Global, news: &RowNews, row: &RowCore) -> Result<String, Fail
     let (phase, returns) = (row.phase(), row.returns());
     Ok(match news {
         RowNews::Done(claim) => {
-            let name = hex::encode(alloc, claim.name().to_bytes())?;
+            let name = hex::encode(alloc, claim.name().to_bytes().as_slice())?;
             let meter = claim.meter().number();
             format!(in alloc; "{meter} runs {name}, {phase:?}, {returns}")?
         }
@@ -52,7 +52,12 @@ fn row_text(alloc: Global, news: &RowNews, row: &RowCore) -> Result<String, Fail
 
 /// A new row takes the steps of all parts.
 fn row_session(alloc: Global, parts: &[&[(Step, &str)]]) -> Result<(), Fail> {
-    let mut row = RowCore::new(meter()?, abc_name().ok_or("a name")?, 3);
+    release_session(alloc, 0, parts)
+}
+
+/// A new row of an image of this release takes the steps of all parts.
+fn release_session(alloc: Global, release: u32, parts: &[&[(Step, &str)]]) -> Result<(), Fail> {
+    let mut row = RowCore::new(meter()?, abc_name(release).ok_or("a name")?, 3);
     for part in parts {
         session(alloc, &mut row, part)?;
     }
@@ -188,5 +193,87 @@ fn what_leads_a_row_back(rt: HostRuntime) -> Result<(), Fail> {
     row_session(
         rt.alloc(),
         &[TO_ENABLE, TO_BLOCKS, TO_CHECK, TO_VERIFY, POLLED],
+    )
+}
+
+/// Up to the initiate of the image of release 5.
+const TO_START: &[(Step, &str)] = &[
+    (Step::Hear("c501c100"), "Moved, Start, 0"),
+    (
+        Step::Tick,
+        "c301c2001200002c0000ff01010202092d02000000070000000100000005ba7816bf8f01cfea414140de5dae2223b00361a396177a9cb410ff61f20015ad0600000003",
+    ),
+];
+
+/// The meter runs a higher release.
+const TOO_LOW: &[(Step, &str)] = &[(Step::Hear("c701c2fa00"), "Failed, Failed, 0")];
+
+/// From there up to the ask which image is verified.
+const TO_INFO: &[(Step, &str)] = &[
+    (Step::Hear("c701c20000"), "Moved, Blocks, 0"),
+    (
+        Step::Tick,
+        "c301c3001200002c0000ff02010202060000000009026162 \
+         c301c4001200002c0000ff020102020600000001090163",
+    ),
+    (Step::Hear("c701c30000"), "Moved, Blocks, 0"),
+    (Step::Hear("c701c40000"), "Moved, Check, 0"),
+    (Step::Tick, "c001c5001200002c0000ff0400"),
+    (Step::Hear("c401c5000600000002"), "Moved, Verify, 0"),
+    (Step::Tick, "c301c6001200002c0000ff03010f00"),
+    (Step::Hear("c701c60000"), "Moved, Info, 0"),
+    (Step::Tick, "c001c7001200002c0000ff0700"),
+];
+
+/// The same image without a release is another one.
+const OTHER_INFO: &[(Step, &str)] = &[(
+    Step::Hear(
+        "c401c7000101020306000000030929010000000700000001ba7816bf8f01cfea414140de5dae2223b00361a396177a9cb410ff61f20015ad0920ba7816bf8f01cfea414140de5dae2223b00361a396177a9cb410ff61f20015ad",
+    ),
+    "Moved, Start, 1",
+)];
+
+/// Up to the ask what the meter runs.
+const TO_CLAIM: &[(Step, &str)] = &[
+    (
+        Step::Hear(
+            "c401c700010102030600000003092d02000000070000000100000005ba7816bf8f01cfea414140de5dae2223b00361a396177a9cb410ff61f20015ad0920ba7816bf8f01cfea414140de5dae2223b00361a396177a9cb410ff61f20015ad",
+        ),
+        "Moved, Activate, 0",
+    ),
+    (Step::Tick, "c301c8001200002c0000ff04010f00"),
+    (Step::Hear("c701c80000"), "Moved, Confirm, 0"),
+    (Step::Tick, "c001c900010100000200ff0200"),
+];
+
+/// It runs the image under its name, or without the release.
+const OWN_CLAIM: &[(Step, &str)] = &[(
+    Step::Hear(
+        "c401c900092d02000000070000000100000005ba7816bf8f01cfea414140de5dae2223b00361a396177a9cb410ff61f20015ad",
+    ),
+    "1 runs 02000000070000000100000005ba7816bf8f01cfea414140de5dae2223b00361a396177a9cb410ff61f20015ad, Done, 0",
+)];
+
+const OTHER_CLAIM: &[(Step, &str)] = &[(
+    Step::Hear(
+        "c401c9000929010000000700000001ba7816bf8f01cfea414140de5dae2223b00361a396177a9cb410ff61f20015ad",
+    ),
+    "Moved, Start, 1",
+)];
+
+#[test]
+fn a_row_with_a_release(rt: HostRuntime) -> Result<(), Fail> {
+    let alloc = rt.alloc();
+    release_session(alloc, 5, &[TO_ENABLE, TO_START, TOO_LOW])?;
+    release_session(alloc, 5, &[TO_ENABLE, TO_START, TO_INFO, OTHER_INFO])?;
+    release_session(
+        alloc,
+        5,
+        &[TO_ENABLE, TO_START, TO_INFO, TO_CLAIM, OWN_CLAIM],
+    )?;
+    release_session(
+        alloc,
+        5,
+        &[TO_ENABLE, TO_START, TO_INFO, TO_CLAIM, OTHER_CLAIM],
     )
 }

@@ -129,6 +129,24 @@ const ANOTHER_CAMPAIGN: &[(Step, &str)] = &[
     (Step::Returns, "1"),
 ];
 
+/// An image with a release, of which the meter runs a higher one.
+const TOO_LOW: &[(Step, &str)] = &[
+    (
+        Step::OpenRelease(1, 5, b"abc"),
+        "02000000070000000100000005ba7816bf8f01cfea414140de5dae2223b00361a396177a9cb410ff61f20015ad",
+    ),
+    (Step::Tick, "c001c0001200002c0000ff0200"),
+    (Step::Hear("c401c0000600000002"), "Moved, Some(Enable)"),
+    (Step::Tick, "c101c1001200002c0000ff05000301"),
+    (Step::Hear("c501c100"), "Moved, Some(Start)"),
+    (
+        Step::Tick,
+        "c301c2001200002c0000ff01010202092d02000000070000000100000005ba7816bf8f01cfea414140de5dae2223b00361a396177a9cb410ff61f20015ad0600000003",
+    ),
+    (Step::Hear("c701c2fa00"), "Failed 7 1 1, None"),
+    (Step::Tick, ""),
+];
+
 #[test]
 fn what_ends_a_row(rt: HostRuntime) -> Result<(), Fail> {
     head_session(rt.alloc(), 4, &[TO_CONFIRM, DONE])?;
@@ -139,7 +157,8 @@ fn what_ends_a_row(rt: HostRuntime) -> Result<(), Fail> {
         rt.alloc(),
         4,
         &[TO_CONFIRM, AGAIN_TO_CONFIRM, ANOTHER_CAMPAIGN],
-    )
+    )?;
+    head_session(rt.alloc(), 4, &[TOO_LOW])
 }
 
 /// Image `abcdefghijkl` of campaign (7, 1) for a meter with blocks of 2 bytes and windows of three, up to the ask which blocks the

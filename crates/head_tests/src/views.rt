@@ -6,18 +6,18 @@ use fw_book::{Book, BookError};
 use std::alloc::Global;
 use std::test::Fail;
 
-/// Two campaigns: in the first, meter 1 failed, and meter 2 is live.
+/// Two campaigns, the second of release 5: in the first, meter 1 failed, and meter 2 is live.
 const CALLS: &[Call] = &[
     Call::Open(7, 5, b"abc", &[2, 1]),
     Call::Fail(7, 5, 1),
-    Call::Open(7, 3, b"abd", &[1]),
+    Call::OpenRelease(7, 3, 5, b"abd", &[1]),
 ];
 
 /// What is shown of the book after these calls.
 enum Shown {
     /// The head end, and then each row in order: its campaign's serial number, its meter's number and its state.
     Rows,
-    /// The image of a campaign, and the name under which it is offered.
+    /// The image of a campaign, its release, and the name under which it is offered.
     Offer(u32, u32),
     /// The state of a meter in campaign (7, 5), whether it is live there, and whether it is live in any campaign.
     Meter(u32),
@@ -53,8 +53,8 @@ fn offer_text(alloc: Global, book: &Book, head: u32, serial: u32) -> Result<Stri
         return Ok(String::from_str(alloc, "none")?);
     };
     let image = hex::encode(alloc, offer.image())?;
-    let name = hex::encode(alloc, offer.name(campaign).to_bytes())?;
-    Ok(format!(in alloc; "{image} {name}")?)
+    let name = hex::encode(alloc, offer.name(campaign).to_bytes().as_slice())?;
+    Ok(format!(in alloc; "{image} {} {name}", offer.release())?)
 }
 
 fn meter_text(alloc: Global, book: &Book, number: u32) -> Result<String, Fail> {
@@ -84,7 +84,11 @@ const SHOWN: &[(Shown, &str)] = &[
     ),
     (
         Shown::Offer(7, 5),
-        "616263 010000000700000005ba7816bf8f01cfea414140de5dae2223b00361a396177a9cb410ff61f20015ad",
+        "616263 0 010000000700000005ba7816bf8f01cfea414140de5dae2223b00361a396177a9cb410ff61f20015ad",
+    ),
+    (
+        Shown::Offer(7, 3),
+        "616264 5 02000000070000000300000005a52d159f262b2c6ddb724a61840befc36eb30c88877a4030b65cbe86298449c9",
     ),
     (Shown::Offer(7, 4), "none"),
     (Shown::Offer(8, 5), "none"),

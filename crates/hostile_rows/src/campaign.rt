@@ -75,6 +75,7 @@ fn opening(alloc: Global, actors: Actors) -> Result<Event, Refused> {
     meters.push(actors.meter)?;
     Ok(Event::OpenCampaign {
         campaign: actors.campaign,
+        release: 0,
         image: b"abc".to_vec(alloc)?,
         meters,
     })
@@ -116,7 +117,7 @@ pub(crate) fn row(rt: &HostRuntime) -> Result<(), Ending> {
     let name = view.active.to_bytes();
     println!(rt;
         "campaign: {row:?} status {status} active {} activations {activations}",
-        Hex(&name)
+        Hex(name.as_slice())
     )?;
     Ok(())
 }

@@ -29,7 +29,7 @@ fn opened(alloc: Global, actors: Actors) -> Result<Book, Ending> {
         &mut book,
         |book: &Book| -> Option<RowState> { state(actors, book) },
         |book: &mut Book| {
-            book.open_campaign(alloc, actors.campaign, b"abc", &[actors.meter])
+            book.open_campaign(alloc, actors.campaign, 0, b"abc", &[actors.meter])
                 .told()
         },
     )?

@@ -34,7 +34,9 @@ fn opened(alloc: Global, actors: Actors) -> Result<HeadCore, Ending> {
     retried(
         &mut head,
         |head: &HeadCore| -> Sight { sight(actors.meter, head) },
-        |head: &mut HeadCore| head.open_campaign(alloc, 1, b"abc", &[actors.meter]).told(),
+        |head: &mut HeadCore| head
+            .open_campaign(alloc, 1, 0, b"abc", &[actors.meter])
+            .told(),
     )?
     .map_err(|_| Ending::Unexpected)?;
     Ok(head)

@@ -65,7 +65,7 @@ fn had(alloc: Global, core: &mut HeadCore, world: &World, event: &Event) -> Resu
 /// A head end that sends so many blocks at a time, and offers this image to the meter.
 fn opened(alloc: Global, width: u8, image: &[u8]) -> Result<HeadCore, Fail> {
     let mut core = HeadCore::new(alloc, head()?, Width::new(width).ok_or("a width")?);
-    core.open_campaign(alloc, 1, image, &[meter()?])?;
+    core.open_campaign(alloc, 1, 0, image, &[meter()?])?;
     Ok(core)
 }
 

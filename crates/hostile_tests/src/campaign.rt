@@ -53,6 +53,7 @@ pub(crate) fn events(alloc: Global, count: usize) -> Result<Vec<Event>, Fail> {
     let mut events = Vec::new(alloc);
     events.push(Event::OpenCampaign {
         campaign: CampaignId::new(head()?, 1).ok_or("a serial number begins at 1")?,
+        release: 0,
         image: b"abc".to_vec(alloc)?,
         meters,
     })?;

@@ -11,12 +11,14 @@ use std::test::Fail;
 /// Sets image_transfer_enabled to true.
 const ENABLE: &str = "000100010001000fc101c1001200002c0000ff05000301";
 
-/// A GET of the active firmware identifier; and the SET above, an initiate for `abc`, its two blocks, verify, and a GET of
-/// image_to_activate_info. They have 21, 23, 71, 32, 31, 23 and 21 bytes, 222 together, 8 of which are the header of the wrapper.
+/// A GET of the active firmware identifier; and the SET above, an initiate for `abc`, the same of release 5, its two blocks, verify, and a
+/// GET of image_to_activate_info. They have 21, 23, 71, 75, 32, 31, 23 and 21 bytes, 297 together, 8 of which are the header of the
+/// wrapper.
 const DATAGRAMS: &[&str] = &[
     "000100010001000dc001c100010100000200ff0200",
     ENABLE,
     "000100010001003fc301c1001200002c0000ff010102020929010000000700000001ba7816bf8f01cfea414140de5dae2223b00361a396177a9cb410ff61f20015ad0600000003",
+    "0001000100010043c301c1001200002c0000ff01010202092d02000000070000000100000005ba7816bf8f01cfea414140de5dae2223b00361a396177a9cb410ff61f20015ad0600000003",
     "0001000100010018c301c1001200002c0000ff02010202060000000009026162",
     "0001000100010017c301c1001200002c0000ff020102020600000001090163",
     "000100010001000fc301c1001200002c0000ff03010f00",
@@ -65,7 +67,7 @@ fn each_byte_turned(rt: HostRuntime) -> Result<(), Fail> {
         let datagram = hex::decode(alloc, *text)?;
         tried = tried.saturating_add(turned(alloc, &datagram)?);
     }
-    expect_tried(alloc, tried, 222 * 256)
+    expect_tried(alloc, tried, 297 * 256)
 }
 
 /// A new meter replies nothing.
@@ -97,5 +99,5 @@ fn each_beginning(rt: HostRuntime) -> Result<(), Fail> {
         let datagram = hex::decode(alloc, *text)?;
         tried = tried.saturating_add(cut(alloc, &datagram)?);
     }
-    expect_tried(alloc, tried, 222 + 166)
+    expect_tried(alloc, tried, 297 + 233)
 }

@@ -66,6 +66,26 @@ impl File {
         Ok(())
     }
 
+    /// Writes bytes over those from `at` on, and others over those from `last_at` on, which are added where the file ends before: all of
+    /// them or none.
+    fn put_both(
+        &mut self,
+        at: u64,
+        bytes: &[u8],
+        last_at: u64,
+        last: &[u8],
+    ) -> Result<(), DeviceFault> {
+        if !self.has_room(bytes.len().saturating_add(last.len())) {
+            return Err(DeviceFault);
+        }
+        let end = last_at.saturating_add(last.len() as u64);
+        if (self.bytes.len() as u64) < end {
+            self.set_len(end)?;
+        }
+        self.put(at, bytes)?;
+        self.put(last_at, last)
+    }
+
     /// Writes as many of these bytes over those from `at` on as the disk takes, and fails where they aren't all.
     fn put(&mut self, at: u64, bytes: &[u8]) -> Result<(), DeviceFault> {
         let start = at as usize;
@@ -183,6 +203,19 @@ impl ByteDevice for OpenFile {
         match self.file.try_borrow_mut() {
             Ok(mut file) if file.has_room(bytes.len()) => file.put(at, bytes),
             _ => Err(DeviceFault),
+        }
+    }
+
+    fn replace_both(
+        &mut self,
+        at: u64,
+        bytes: &[u8],
+        last_at: u64,
+        last: &[u8],
+    ) -> Result<(), DeviceFault> {
+        match self.file.try_borrow_mut() {
+            Ok(mut file) => file.put_both(at, bytes, last_at, last),
+            Err(_) => Err(DeviceFault),
         }
     }
 }

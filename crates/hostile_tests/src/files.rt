@@ -5,6 +5,7 @@ use crate::disk::Disk;
 use crate::support::{expect_tried, failed, opened, replies};
 use fw_image::{MeterView, OpenError};
 use fw_meter::MeterCore;
+use fw_names::ImageName;
 use fw_store::{DeviceStore, FileStoreError, HEADER_SIZE};
 use std::alloc::Global;
 use std::test::Fail;
@@ -12,35 +13,69 @@ use std::test::Fail;
 /// Where the header of a file begins: behind the capacity.
 const HEADER_AT: usize = 4;
 
-/// The header in the bytes of a file.
+/// How many bytes of it stand there. The last eight, which are releases, stand behind the slots.
+const FRONT_SIZE: usize = 614;
+
+/// Where the first slot begins.
+const SLOTS_AT: usize = HEADER_AT + FRONT_SIZE;
+
+/// Where the slots of a file end.
+fn slots_end(bytes: &[u8]) -> Result<usize, Fail> {
+    let [a, b, c, d, ..] = bytes else {
+        return Err("a capacity".into());
+    };
+    let capacity = u32::from_be_bytes([*a, *b, *c, *d]) as usize;
+    Ok(SLOTS_AT.saturating_add(capacity.saturating_mul(2)))
+}
+
+/// The header in the bytes of a file. In an old one its releases are 0.
 fn header_of(bytes: &[u8]) -> Result<[u8; HEADER_SIZE], Fail> {
+    let front = bytes.get(HEADER_AT..SLOTS_AT).ok_or("a header")?;
+    let releases = bytes.get(slots_end(bytes)?..).ok_or("two slots")?;
     let mut header = [0; HEADER_SIZE];
-    let part = bytes
-        .get(HEADER_AT..HEADER_AT + HEADER_SIZE)
-        .ok_or("a header")?;
-    header.copy_from_slice(part);
+    for (to, byte) in header.iter_mut().zip(front.iter().chain(releases)) {
+        *to = *byte;
+    }
     Ok(header)
 }
 
-/// The bytes of the goal of a header that shows this.
-fn goal_bytes(view: &MeterView) -> [u8; 45] {
+/// The 41 bytes of a name in a header, and its release there.
+fn name_bytes(name: ImageName) -> ([u8; 41], [u8; 4]) {
+    let mut bytes = [0; 41];
+    let head = name.campaign.head().map_or(0, |head| head.number());
+    bytes[0] = 1;
+    bytes[1..5].copy_from_slice(&head.to_be_bytes());
+    bytes[5..9].copy_from_slice(&name.campaign.serial().to_be_bytes());
+    bytes[9..].copy_from_slice(&name.digest);
+    (bytes, name.release.to_be_bytes())
+}
+
+/// The bytes of the goal of a header that shows this, and its release.
+fn goal_bytes(view: &MeterView) -> ([u8; 45], [u8; 4]) {
     let mut bytes = [0; 45];
+    let mut release = [0; 4];
     if let Some(goal) = view.goal {
+        let (name, number) = name_bytes(goal.name);
         bytes[..4].copy_from_slice(&goal.size.to_be_bytes());
-        bytes[4..].copy_from_slice(&goal.name.to_bytes());
+        bytes[4..].copy_from_slice(&name);
+        release = number;
     }
-    bytes
+    (bytes, release)
 }
 
 /// What a meter shows is what the header has in its fields.
 fn shows(view: &MeterView, header: &[u8; HEADER_SIZE]) -> bool {
+    let (active, active_release) = name_bytes(view.active);
+    let (goal, goal_release) = goal_bytes(view);
     u8::from(view.enabled) == header[4]
         && view.status.number() == header[6]
         && u8::from(view.goal.is_some()) == header[7]
         && view.active_size.to_be_bytes().as_slice() == &header[12..16]
-        && view.active.to_bytes().as_slice() == &header[16..57]
-        && goal_bytes(view).as_slice() == &header[57..102]
-        && view.marked.as_slice() == &header[102..]
+        && active.as_slice() == &header[16..57]
+        && goal.as_slice() == &header[57..102]
+        && view.marked.as_slice() == &header[102..614]
+        && active_release.as_slice() == &header[614..618]
+        && goal_release.as_slice() == &header[618..]
 }
 
 /// What comes of a file.
@@ -81,7 +116,7 @@ fn new_file(alloc: Global, capacity: u32) -> Result<Disk, Fail> {
 }
 
 /// The file of a store of this capacity at each length: no byte, and so on up to one byte more than it has. It is a store at its own
-/// length alone.
+/// length, and an old one at that without the releases.
 fn each_length(alloc: Global, capacity: u32, size: usize) -> Result<usize, Fail> {
     let mut bytes = new_file(alloc, capacity)?.bytes(alloc)?;
     bytes.push(0)?;
@@ -90,8 +125,8 @@ fn each_length(alloc: Global, capacity: u32, size: usize) -> Result<usize, Fail>
         let cut = bytes.get(..len).ok_or("as many bytes")?;
         let disk = Disk::with(alloc, cut)?;
         let is_right = match judged(alloc, &disk)? {
-            Outcome::Opened => len == size,
-            Outcome::BadFile => len != size,
+            Outcome::Opened => len == size || len.saturating_add(8) == size,
+            Outcome::BadFile => len != size && len.saturating_add(8) != size,
             Outcome::BadHeader | Outcome::BadImage => false,
         };
         if !is_right || !disk.holds(cut) {
@@ -102,13 +137,13 @@ fn each_length(alloc: Global, capacity: u32, size: usize) -> Result<usize, Fail>
     Ok(tried)
 }
 
-/// A file has 4 bytes, a header of 614, and two slots: with slots of one byte 620 in all, and with slots of eight 634. So there are 622
-/// lengths, and 636.
+/// A file has 4 bytes, a header of 622, and two slots: with slots of one byte 628 in all, and with slots of eight 642. So there are 630
+/// lengths, and 644.
 #[test]
 fn cut_at_each_length(rt: HostRuntime) -> Result<(), Fail> {
     let alloc = rt.alloc();
-    let tried = each_length(alloc, 1, 620)?.saturating_add(each_length(alloc, 8, 634)?);
-    expect_tried(alloc, tried, 622 + 636)
+    let tried = each_length(alloc, 1, 628)?.saturating_add(each_length(alloc, 8, 642)?);
+    expect_tried(alloc, tried, 630 + 644)
 }
 
 /// How many files a meter was opened from, and how many were refused.
@@ -172,23 +207,24 @@ fn receiving(alloc: Global) -> Result<Disk, Fail> {
     Ok(disk)
 }
 
-/// Of each of the 618 bytes the value that it has opens the meter. Beside these a store can have: not enabled; a block size of 1; a goal
-/// of 4 to 8 bytes, which has a second block too; a goal in another campaign, whose two numbers are any but 0, with another digest, and
-/// with each other choice of its two marks. The image that runs isn't the name's in the other slot, with 2 to 8 bytes, or under another
-/// digest. With another capacity the file has another length than its store.
+/// Of each of the 626 bytes that are none of the slots the value that it has opens the meter. Beside these a store can have: not enabled;
+/// a block size of 1; a goal of 4 to 8 bytes, which has a second block too; a goal in another campaign, whose two numbers are any but 0,
+/// with another digest, of any release, and with each other choice of its two marks. The image that runs isn't the name's in the other
+/// slot, with 2 to 8 bytes, or under another digest. With another capacity the file has another length than its store; with twelve bytes
+/// a slot it is an old one.
 #[test]
 fn each_byte_turned(rt: HostRuntime) -> Result<(), Fail> {
     let alloc = rt.alloc();
     let disk = receiving(alloc)?;
     let mut count = Count::NONE;
-    for at in 0..HEADER_AT + HEADER_SIZE {
+    for at in (0..SLOTS_AT).chain(634..642) {
         turned(alloc, &disk, at, &mut count)?;
     }
-    expect_tried(alloc, count.all(), 618 * 256)?;
+    expect_tried(alloc, count.all(), 626 * 256)?;
     let want = Count {
-        opened: 618 + 1 + 1 + 5 + 2 * (3 * 255 + 254) + 32 * 255 + 3,
-        bad_file: 4 * 255,
-        bad_header: 618 * 256 - 10_826 - 1_020 - 8_168,
+        opened: 626 + 1 + 1 + 5 + 2 * (3 * 255 + 254) + 32 * 255 + 4 * 255 + 3 + 1,
+        bad_file: 4 * 255 - 1,
+        bad_header: 626 * 256 - 11_855 - 1_019 - 8_168,
         bad_image: 1 + 7 + 32 * 255,
     };
     if count != want {

@@ -16,6 +16,16 @@ const TO_VERIFIED: &[&str] = &[
     "000100010001000fc301c1001200002c0000ff03010f00",
 ];
 
+/// The same with `abc` of release 5, up to where it runs.
+const TO_RUNNING: &[&str] = &[
+    "000100010001000fc101c1001200002c0000ff05000301",
+    "0001000100010043c301c1001200002c0000ff01010202092d02000000070000000100000005ba7816bf8f01cfea414140de5dae2223b00361a396177a9cb410ff61f20015ad0600000003",
+    "0001000100010018c301c1001200002c0000ff02010202060000000009026162",
+    "0001000100010017c301c1001200002c0000ff020102020600000001090163",
+    "000100010001000fc301c1001200002c0000ff03010f00",
+    "000100010001000fc301c1001200002c0000ff04010f00",
+];
+
 /// How many headers a meter was opened with, and how many were refused, as such and for an image.
 #[derive(Clone, Copy, Debug, PartialEq, Eq)]
 struct Count {
@@ -118,7 +128,7 @@ fn expect(alloc: Global, store: MemoryStore, want: Count) -> Result<(), Fail> {
     Ok(())
 }
 
-/// A new store of 64 bytes a slot, with blocks of two bytes and the image `abc`. Each of the 614 bytes has the value that it has, and
+/// A new store of 64 bytes a slot, with blocks of two bytes and the image `abc`. Each of the 622 bytes has the value that it has, and
 /// beside them are headers that a store can have: enabled; status 6; a block size of 258, 514 or 770, and any of 1 to 255. The image
 /// isn't the name's where it is in the other slot, has another size of 1 to 64, or the name another digest.
 #[test]
@@ -126,25 +136,41 @@ fn of_a_new_store(rt: HostRuntime) -> Result<(), Fail> {
     let alloc = rt.alloc();
     let store = MemoryStore::new(alloc, 64, 2, b"abc")?;
     let want = Count {
-        opened: 614 + 1 + 1 + 3 + 254,
-        bad_header: 614 * 256 - 873 - 8_224,
+        opened: 622 + 1 + 1 + 3 + 254,
+        bad_header: 622 * 256 - 881 - 8_224,
         bad_image: 1 + 63 + 32 * 255,
     };
     expect(alloc, store, want)
 }
 
 /// A store that runs `x`, in which `abc` was verified. Beside its own header it can have these: not enabled; statuses 1 and 4; a name of
-/// another campaign, whose numbers are any but 0. The image that runs isn't its name's in the other slot, with another size, or under
-/// another digest, and the verified one isn't with four bytes, or under another digest.
+/// another campaign, whose numbers are any but 0, or of any release. The image that runs isn't its name's in the other slot, with another
+/// size, or under another digest, and the verified one isn't with four bytes, or under another digest.
 #[test]
 fn of_a_verified_image(rt: HostRuntime) -> Result<(), Fail> {
     let alloc = rt.alloc();
     let mut meter = opened(MemoryStore::new(alloc, 64, 2, b"x")?)?;
     replies(alloc, &mut meter, TO_VERIFIED)?;
     let want = Count {
-        opened: 614 + 1 + 2 + 2 * (3 * 255 + 254),
-        bad_header: 614 * 256 - 2_655 - 16_385,
+        opened: 622 + 1 + 2 + 2 * (3 * 255 + 254) + 4 * 255,
+        bad_header: 622 * 256 - 3_683 - 16_385,
         bad_image: 1 + 63 + 32 * 255 + 1 + 32 * 255,
+    };
+    expect(alloc, store_of(meter)?, want)
+}
+
+/// A store that runs `abc` of release 5. Beside its own header it can have these: not enabled; status 0; each other block size as above; a
+/// name of another campaign, whose numbers are any but 0, or of any release. The image isn't the name's in the other slot, with another
+/// size, or under another digest.
+#[test]
+fn of_an_image_with_a_release(rt: HostRuntime) -> Result<(), Fail> {
+    let alloc = rt.alloc();
+    let mut meter = opened(MemoryStore::new(alloc, 64, 2, b"x")?)?;
+    replies(alloc, &mut meter, TO_RUNNING)?;
+    let want = Count {
+        opened: 622 + 1 + 1 + 3 + 254 + 2 * (3 * 255 + 254) + 4 * 255,
+        bad_header: 622 * 256 - 3_939 - 8_224,
+        bad_image: 1 + 63 + 32 * 255,
     };
     expect(alloc, store_of(meter)?, want)
 }

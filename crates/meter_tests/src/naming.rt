@@ -8,11 +8,11 @@ use std::alloc::Global;
 use std::io::Read;
 use std::test::Fail;
 
-/// The options of a campaign.
-fn options(head: u32, serial: u32) -> Result<NameOptions, Fail> {
+/// The options of a campaign and a release.
+fn options(head: u32, serial: u32, release: u32) -> Result<NameOptions, Fail> {
     let head = HeadId::new(head).ok_or("a head end of number 0")?;
     let campaign = CampaignId::new(head, serial).ok_or("a campaign of serial number 0")?;
-    Ok(NameOptions { campaign })
+    Ok(NameOptions { campaign, release })
 }
 
 /// What is written of what a reader has, and behind it the fault, if there is one.
@@ -26,31 +26,49 @@ fn named<R: Read>(alloc: Global, reader: &mut R, options: &NameOptions) -> Resul
     Ok(text)
 }
 
-/// An image of a campaign: its head end and its serial number there.
-struct Image(u32, u32, &'static str);
+/// An image of a campaign: its head end and its serial number there, and the image's release.
+struct Image(u32, u32, u32, &'static str);
 
 impl Case for Image {
     fn told(&self, alloc: Global) -> Result<String, Fail> {
-        named(alloc, &mut self.2.as_bytes(), &options(self.0, self.1)?)
+        named(
+            alloc,
+            &mut self.3.as_bytes(),
+            &options(self.0, self.1, self.2)?,
+        )
     }
 }
 
 const IMAGES: &[(Image, &str)] = &[
     (
-        Image(7, 1, "abc"),
+        Image(7, 1, 0, "abc"),
         "010000000700000001ba7816bf8f01cfea414140de5dae2223b00361a396177a9cb410ff61f20015ad\n",
     ),
     // the greatest numbers
     (
-        Image(4_294_967_295, 4_294_967_295, "abc"),
+        Image(4_294_967_295, 4_294_967_295, 0, "abc"),
         "01ffffffffffffffffba7816bf8f01cfea414140de5dae2223b00361a396177a9cb410ff61f20015ad\n",
     ),
     // a line feed is a byte of the image as any other
     (
-        Image(258, 772, "\n"),
+        Image(258, 772, 0, "\n"),
         "01000001020000030401ba4719c80b6fe911b091a7c05124b64eeece964e09c058ef8f9805daca546b\n",
     ),
-    (Image(7, 1, ""), "EmptyImage"),
+    (Image(7, 1, 0, ""), "EmptyImage"),
+    // with a release, also the least and the greatest one
+    (
+        Image(7, 1, 5, "abc"),
+        "02000000070000000100000005ba7816bf8f01cfea414140de5dae2223b00361a396177a9cb410ff61f20015ad\n",
+    ),
+    (
+        Image(7, 1, 1, "abc"),
+        "02000000070000000100000001ba7816bf8f01cfea414140de5dae2223b00361a396177a9cb410ff61f20015ad\n",
+    ),
+    (
+        Image(4_294_967_295, 4_294_967_295, 4_294_967_295, "abc"),
+        "02ffffffffffffffffffffffffba7816bf8f01cfea414140de5dae2223b00361a396177a9cb410ff61f20015ad\n",
+    ),
+    (Image(7, 1, 5, ""), "EmptyImage"),
 ];
 
 /// An image of so many zeros.
@@ -60,7 +78,7 @@ impl Case for Zeros {
     fn told(&self, alloc: Global) -> Result<String, Fail> {
         let mut image = Vec::new(alloc);
         image.resize(self.0, 0)?;
-        named(alloc, &mut image.as_slice(), &options(7, 1)?)
+        named(alloc, &mut image.as_slice(), &options(7, 1, 0)?)
     }
 }
 
@@ -82,7 +100,7 @@ fn images_are_named(rt: HostRuntime) -> Result<(), Fail> {
 #[test]
 fn readers_of_images_that_fail(rt: HostRuntime) -> Result<(), Fail> {
     let alloc = rt.alloc();
-    let options = options(7, 1)?;
+    let options = options(7, 1, 0)?;
     let mut broken = BrokenReader {
         interrupted: false,
         left: b"abc",
@@ -93,22 +111,26 @@ fn readers_of_images_that_fail(rt: HostRuntime) -> Result<(), Fail> {
     expect(alloc, "endless", found.as_str(), "TooMuchInput")
 }
 
-/// A writer with room for so many bytes.
-struct Room(usize);
+/// A writer with room for so many bytes, and the release of the image that is named.
+struct Room(usize, u32);
 
 impl Case for Room {
     fn told(&self, alloc: Global) -> Result<String, Fail> {
         let mut writer = FullWriter { room: self.0 };
-        let result = run_name(alloc, &mut "abc".as_bytes(), &mut writer, &options(7, 1)?);
+        let options = options(7, 1, self.1)?;
+        let result = run_name(alloc, &mut "abc".as_bytes(), &mut writer, &options);
         Ok(format!(in alloc; "{result:?}")?)
     }
 }
 
-/// A line has 83 bytes.
+/// A line has 83 bytes, and 91 with a release.
 const ROOMS: &[(Room, &str)] = &[
-    (Room(0), "Err(Output)"),
-    (Room(82), "Err(Output)"),
-    (Room(83), "Ok(())"),
+    (Room(0, 0), "Err(Output)"),
+    (Room(82, 0), "Err(Output)"),
+    (Room(83, 0), "Ok(())"),
+    (Room(83, 5), "Err(Output)"),
+    (Room(90, 5), "Err(Output)"),
+    (Room(91, 5), "Ok(())"),
 ];
 
 #[test]

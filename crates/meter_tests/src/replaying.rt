@@ -69,6 +69,9 @@ meter 1 block 2 capacity 64 factory 78
 
 const OPEN: &str = "open 7 1 616263 1\n";
 
+/// The same image of release 5.
+const OPEN_5: &str = "open-release 7 1 5 616263 1\n";
+
 /// Up to where the image is there.
 const UP_TO_BLOCKS: &str = "\
 tick 7 1
@@ -126,6 +129,16 @@ tick 7 1
 deliver 19
 ";
 
+/// Behind a second opening, up to where the meter answered whether it takes the image.
+const UP_TO_START: &str = "\
+tick 7 1
+deliver 20 21
+tick 7 1
+deliver 22 23
+tick 7 1
+deliver 24 25
+";
+
 /// Two head ends compete for a meter, and a late block of one lands behind a block of the other.
 const MIXED: &str = "\
 head 1 width 4
@@ -166,6 +179,13 @@ open 7 1 616263 1 2 3 4
 
 const DONE: &str = "\
 row 7 1 1 done
+meter 1 status 6 active 7 1 size 3
+activations 1
+";
+
+const OLDER_FAILED: &str = "\
+row 7 1 1 done
+row 7 2 1 failed
 meter 1 status 6 active 7 1 size 3
 activations 1
 ";
@@ -264,6 +284,72 @@ meter 1 status 4 active 0 0 size 1
 activations 0
 ",
     ),
+    // a meter that runs release 5 takes none below it, and takes an equal one
+    (
+        Script(
+            &[
+                SETUP,
+                OPEN_5,
+                UP_TO_BLOCKS,
+                UP_TO_VERIFY,
+                UP_TO_ACTIVATE,
+                UP_TO_DONE,
+                "open 7 2 616263 1\n",
+                UP_TO_START,
+            ],
+            ALONE,
+        ),
+        OLDER_FAILED,
+    ),
+    (
+        Script(
+            &[
+                SETUP,
+                OPEN_5,
+                UP_TO_BLOCKS,
+                UP_TO_VERIFY,
+                UP_TO_ACTIVATE,
+                UP_TO_DONE,
+                "open-release 7 2 4 616264 1\n",
+                UP_TO_START,
+            ],
+            ALONE,
+        ),
+        OLDER_FAILED,
+    ),
+    (
+        Script(
+            &[
+                SETUP,
+                OPEN_5,
+                UP_TO_BLOCKS,
+                UP_TO_VERIFY,
+                UP_TO_ACTIVATE,
+                UP_TO_DONE,
+                "open-release 7 2 5 616264 1\n",
+                UP_TO_START,
+            ],
+            ALONE,
+        ),
+        "\
+row 7 1 1 done
+row 7 2 1 live
+meter 1 status 1 active 7 1 size 3
+activations 1
+",
+    ),
+    // release 0 is none
+    (
+        Script(&[SETUP, "open-release 7 1 0 616263 1\n"], Some((9, "d"))),
+        DONE,
+    ),
+    (
+        Script(
+            &[SETUP, "open-release 7 1 4294967295 616263 1\n"],
+            Some((9, "d")),
+        ),
+        DONE,
+    ),
     // nine rounds in which all comes
     (Script(&[SETUP, OPEN], Some((9, "d"))), DONE),
     // a cancelled row, and a line feed that lacks
@@ -321,7 +407,38 @@ const TRACES: &[(Traced, &str)] = &[
             UP_TO_ACTIVATE,
             UP_TO_DONE,
         ]),
+        TRACE,
+    ),
+    // a name is told by its campaign, whatever its release
+    (
+        Traced(&[
+            SETUP,
+            OPEN_5,
+            UP_TO_BLOCKS,
+            UP_TO_VERIFY,
+            UP_TO_ACTIVATE,
+            UP_TO_DONE,
+        ]),
+        TRACE,
+    ),
+    (
+        Traced(&[SETUP]),
+        "meter 1 status 0 active 0 0 size 1\nactivations 0\n",
+    ),
+    (
+        Traced(&[SETUP, OPEN, "tick 7 1\ndeliver 0 2\n"]),
         "\
+0 head 7 -> meter 1  get block size
+1 meter 1 -> head 7  get 2
+row 7 1 1 live
+meter 1 status 0 active 0 0 size 1
+activations 0
+refused 3 NoSuchDatagram
+status 1",
+    ),
+];
+
+const TRACE: &str = "\
 0 head 7 -> meter 1  get block size
 1 meter 1 -> head 7  get 2
 2 head 7 -> meter 1  enable
@@ -345,24 +462,7 @@ const TRACES: &[(Traced, &str)] = &[
 row 7 1 1 done
 meter 1 status 6 active 7 1 size 3
 activations 1
-",
-    ),
-    (
-        Traced(&[SETUP]),
-        "meter 1 status 0 active 0 0 size 1\nactivations 0\n",
-    ),
-    (
-        Traced(&[SETUP, OPEN, "tick 7 1\ndeliver 0 2\n"]),
-        "\
-0 head 7 -> meter 1  get block size
-1 meter 1 -> head 7  get 2
-row 7 1 1 live
-meter 1 status 0 active 0 0 size 1
-activations 0
-refused 3 NoSuchDatagram
-status 1",
-    ),
-];
+";
 
 #[test]
 fn traces(rt: HostRuntime) -> Result<(), Fail> {
@@ -460,6 +560,26 @@ const REFUSED: &[(Script, &str)] = &[
     (Script(&[SETUP, "tick 1 1\n"], ALONE), REFUSED_ACTOR),
     (Script(&[SETUP, "open 7 1 - 2\n"], ALONE), REFUSED_ACTOR),
     (
+        Script(&[SETUP, "open-release 7 1 5 - 2\n"], ALONE),
+        REFUSED_ACTOR,
+    ),
+    (
+        Script(&[SETUP, "open-release 8 1 5 61 1\n"], ALONE),
+        REFUSED_ACTOR,
+    ),
+    (
+        Script(&[SETUP, "open-release 7 1 5 - 1\n"], ALONE),
+        "meter 1 status 0 active 0 0 size 1\nactivations 0\nrefused 0 EmptyImage\nstatus 1",
+    ),
+    (
+        Script(&[SETUP, "open-release 7 1 5 61\n"], ALONE),
+        "meter 1 status 0 active 0 0 size 1\nactivations 0\nrefused 0 NoMeters\nstatus 1",
+    ),
+    (
+        Script(&[SETUP, OPEN_5, "open 7 1 616263 1\n"], ALONE),
+        "row 7 1 1 live\nmeter 1 status 0 active 0 0 size 1\nactivations 0\nrefused 1 SerialUsed\nstatus 1",
+    ),
+    (
         Script(&[SETUP, "open 7 1 - 1\n"], ALONE),
         "meter 1 status 0 active 0 0 size 1\nactivations 0\nrefused 0 EmptyImage\nstatus 1",
     ),
@@ -504,6 +624,37 @@ const BAD: &[(Script, &str)] = &[
     (Script(&[SETUP, "stop 0 0 256\n"], ALONE), "BadLine 3"),
     (Script(&[SETUP, "open 7 0 61 1\n"], ALONE), "BadLine 3"),
     (Script(&[SETUP, "open 7 1 6 1\n"], ALONE), "BadLine 3"),
+    (Script(&[SETUP, OPEN_5, SETUP], ALONE), "BadLine 4"),
+    // no head end, no campaign, no release, and one that is too great; digits that are no image, and no word for it
+    (
+        Script(&[SETUP, "open-release 0 1 5 61 1\n"], ALONE),
+        "BadLine 3",
+    ),
+    (
+        Script(&[SETUP, "open-release 7 0 5 61 1\n"], ALONE),
+        "BadLine 3",
+    ),
+    (
+        Script(&[SETUP, "open-release 7 1 - 61 1\n"], ALONE),
+        "BadLine 3",
+    ),
+    (
+        Script(&[SETUP, "open-release 7 1 4294967296 61 1\n"], ALONE),
+        "BadLine 3",
+    ),
+    (
+        Script(&[SETUP, "open-release 7 1 616263 1\n"], ALONE),
+        "BadLine 3",
+    ),
+    (Script(&[SETUP, "open-release 7 1 5\n"], ALONE), "BadLine 3"),
+    (
+        Script(&[SETUP, "open-release 7 1 5 61 x\n"], ALONE),
+        "BadLine 3",
+    ),
+    (
+        Script(&[SETUP, "open-releases 7 1 5 61 1\n"], ALONE),
+        "BadLine 3",
+    ),
     (
         Script(
             &["head 7 width 16\nmeter 1 block 2 capacity 64 factory 78\n"],

@@ -109,6 +109,18 @@ const SECOND_IMAGE: &[Part] = &[
     ),
 ];
 
+/// The release of the image that runs, and that of the one that is received.
+const RELEASES: &[Part] = &[
+    Part::Says(RELEASE_5),
+    Part::Restarts,
+    Part::Says(LOWER_RELEASES),
+    Part::Says(&[(GET_NAME, RELEASE_5_NAME), (INITIATE_RELEASE_6, DONE)]),
+    Part::Restarts,
+    Part::Shows(
+        "runs 616263 of 7 1 release 5 ba7816bf, enabled true, Initiated, goal 3 of 7 1 release 6 ba7816bf, marks, switched to 7 1 release 5 ba7816bf",
+    ),
+];
+
 /// Before the one call of the store that an activate makes, and after it. No reply is looked for.
 const STOPS: &[Part] = &[
     Part::Says(TWO_BLOCKS),
@@ -136,5 +148,6 @@ fn each_session(rt: HostRuntime) -> Result<(), Fail> {
     session(rt.alloc(), DIFFERENT)?;
     session(rt.alloc(), DISABLED)?;
     session(rt.alloc(), SECOND_IMAGE)?;
+    session(rt.alloc(), RELEASES)?;
     session(rt.alloc(), STOPS)
 }

@@ -170,3 +170,33 @@ pub(crate) const WHOLE_TRANSFER: &[Exchange] = &[
     (GET_NAME, ABC_NAME),
     (GET_DIGEST, ABC_DIGEST),
 ];
+
+/// `abc` of release 5 is received and switched to.
+pub(crate) const RELEASE_5: &[Exchange] = &[
+    (ENABLE, SET_DONE),
+    (INITIATE_RELEASE_5, DONE),
+    (AB_AT_0, DONE),
+    (C_AT_1, DONE),
+    (VERIFY, DONE),
+    (GET_TO_ACTIVATE, RELEASE_5_TO_ACTIVATE),
+    (ACTIVATE, DONE),
+    (GET_NAME, RELEASE_5_NAME),
+    (GET_DIGEST, ABC_DIGEST),
+];
+
+/// A meter that runs it refuses the same image without a release, and of a lower one.
+pub(crate) const LOWER_RELEASES: &[Exchange] = &[
+    (INITIATE_ABC, OTHER_REASON),
+    (INITIATE_RELEASE_4, OTHER_REASON),
+    (GET_STATUS, ACTIVATED),
+];
+
+/// It takes an equal release, and a higher one. A lower one is refused then, too.
+pub(crate) const OTHER_RELEASES: &[Exchange] = &[
+    (INITIATE_RELEASE_5, DONE),
+    (GET_STATUS, INITIATED),
+    (INITIATE_RELEASE_6, DONE),
+    (INITIATE_RELEASE_4, OTHER_REASON),
+    (INITIATE_RELEASE_5, DONE),
+    (GET_STATUS, INITIATED),
+];

@@ -232,7 +232,54 @@ const SWITCHED: &[(Step, &str)] = &[
         Step::Says(NO_METER, &[&[(GET_BLOCK_SIZE, "c401c1000600000002")]]),
         "",
     ),
+    (Step::Len, "754"),
+    (Step::Remove, ""),
+];
+
+/// `abc` of release 5 is switched to, and in the next run a lower release is refused.
+const RELEASED: &[(Step, &str)] = &[
+    (Step::Says(DEFAULTS, &[RELEASE_5]), ""),
+    (
+        Step::Says(
+            DEFAULTS,
+            &[
+                &[(GET_NAME, RELEASE_5_NAME)],
+                LOWER_RELEASES,
+                OTHER_RELEASES,
+            ],
+        ),
+        "",
+    ),
+    (Step::Remove, ""),
+];
+
+/// A file as it was before names had releases, 8 bytes shorter, goes on with release 0. A look at it leaves it so, and what is written
+/// of its header makes it as long as a new one.
+const OLD_FILE: &[(Step, &str)] = &[
+    (Step::Says(DEFAULTS, &[LATE_BLOCK]), ""),
+    (Step::Len, "754"),
+    (Step::SetLen(746), ""),
+    (Step::Ends(DEFAULTS), "BadLine 1"),
+    (
+        Step::Says(
+            DEFAULTS,
+            &[&[(GET_STATUS, VERIFIED), (GET_NAME, FACTORY_NAME)]],
+        ),
+        "",
+    ),
     (Step::Len, "746"),
+    (
+        Step::Says(DEFAULTS, &[&[(ACTIVATE, DONE), (GET_NAME, BBBB_NAME)]]),
+        "",
+    ),
+    (Step::Len, "754"),
+    (
+        Step::Says(
+            DEFAULTS,
+            &[&[(GET_NAME, BBBB_NAME), (INITIATE_RELEASE_5, DONE)]],
+        ),
+        "",
+    ),
     (Step::Remove, ""),
 ];
 
@@ -292,13 +339,15 @@ const OTHER_METER: &[(Step, &str)] = &[
         Step::Says(OTHER, &[&[(GET_BLOCK_SIZE, "c401c1000600000004")]]),
         "",
     ),
-    (Step::Len, "634"),
+    (Step::Len, "642"),
     (Step::Remove, ""),
 ];
 
 #[test]
 fn a_meter_stays_in_its_file(rt: HostRuntime) -> Result<(), Fail> {
     steps(&rt, "fw_cli_switched", SWITCHED)?;
+    steps(&rt, "fw_cli_released", RELEASED)?;
+    steps(&rt, "fw_cli_old", OLD_FILE)?;
     steps(&rt, "fw_cli_continued", CONTINUED)?;
     steps(&rt, "fw_cli_sessions", SESSIONS)?;
     steps(&rt, "fw_cli_other", OTHER_METER)
@@ -312,9 +361,13 @@ const SPOILT_FILES: &[(Step, &str)] = &[
     (Step::Ends(NO_METER), "BadFile"),
     (Step::SetLen(747), ""),
     (Step::Ends(DEFAULTS), "BadFile"),
-    (Step::SetLen(746), ""),
+    (Step::SetLen(753), ""),
+    (Step::Ends(DEFAULTS), "BadFile"),
+    (Step::SetLen(755), ""),
+    (Step::Ends(DEFAULTS), "BadFile"),
+    (Step::SetLen(754), ""),
     (Step::Ends(DEFAULTS), "BadLine 1"),
-    // the first byte of the header, of the running image, and of the verified one
+    // the first byte of the header, of the running image, of the verified one, and of the running image's release
     (Step::Spoils(4), ""),
     (Step::Ends(DEFAULTS), "BadHeader"),
     (Step::Spoils(4), ""),
@@ -324,6 +377,9 @@ const SPOILT_FILES: &[(Step, &str)] = &[
     (Step::Spoils(682), ""),
     (Step::Ends(DEFAULTS), "BadImage"),
     (Step::Spoils(682), ""),
+    (Step::Spoils(746), ""),
+    (Step::Ends(DEFAULTS), "BadHeader"),
+    (Step::Spoils(746), ""),
     (Step::Says(DEFAULTS, &[&[(GET_STATUS, VERIFIED)]]), ""),
     (Step::SetLen(0), ""),
     (Step::Ends(DEFAULTS), "BadFile"),

@@ -74,6 +74,19 @@ const WHOLE: &[Part] = &[
     ),
 ];
 
+/// An image with a release, and images behind it.
+const RELEASES: &[Part] = &[
+    Part::Says(RELEASE_5),
+    Part::SaysInVain(LOWER_RELEASES),
+    Part::Shows(
+        "runs 616263 of 7 1 release 5 ba7816bf, enabled true, ActivationSuccessful, no goal, marks, switched to 7 1 release 5 ba7816bf",
+    ),
+    Part::Says(OTHER_RELEASES),
+    Part::Shows(
+        "runs 616263 of 7 1 release 5 ba7816bf, enabled true, Initiated, goal 3 of 7 1 release 5 ba7816bf, marks, switched to 7 1 release 5 ba7816bf",
+    ),
+];
+
 /// An image whose bytes aren't those that its name stands for never runs. The same name can be offered again.
 const MIXED: &[Part] = &[
     Part::Says(MIXED_BLOCKS),
@@ -97,5 +110,6 @@ fn each_session(rt: HostRuntime) -> Result<(), Fail> {
     session(rt.alloc(), ANOTHER)?;
     session(rt.alloc(), WAITS)?;
     session(rt.alloc(), WHOLE)?;
-    session(rt.alloc(), MIXED)
+    session(rt.alloc(), MIXED)?;
+    session(rt.alloc(), RELEASES)
 }

@@ -262,13 +262,16 @@ fn goal_text(alloc: Global, goal: Option<Goal>) -> Result<String, AllocError> {
     }
 }
 
-/// The numbers of the head end and the campaign, and the first four bytes of the digest.
+/// The numbers of the head end and the campaign, the release, if there is one, and the first four bytes of the digest.
 fn name_text(alloc: Global, name: ImageName) -> Result<String, AllocError> {
     let head = name.campaign.head().map_or(0, |head| head.number());
     let serial = name.campaign.serial();
     let [a, b, c, d, ..] = name.digest;
     let digest = u32::from_be_bytes([a, b, c, d]);
-    format!(in alloc; "{head} {serial} {digest:08x}")
+    match name.release {
+        0 => format!(in alloc; "{head} {serial} {digest:08x}"),
+        release => format!(in alloc; "{head} {serial} release {release} {digest:08x}"),
+    }
 }
 
 /// The numbers of the blocks that are marked: block i by bit i, the first bit the top bit of the first byte.

@@ -22,11 +22,13 @@ enum Told {
     /// So many blocks, and the bytes of their bits.
     Blocks(&'static [u8], usize),
     NothingToActivate,
-    /// Of 3 bytes, from campaign 1 of head end 7.
-    AbcToActivate,
+    /// Of 3 bytes, from campaign 1 of head end 7, of this release.
+    AbcToActivate(u32),
     /// The name of `abc` as a factory image, and its digest.
     AbcName,
     AbcDigest,
+    /// Its name in that campaign, of this release.
+    AbcOffered(u32),
     GetCode(u8),
     SetCode(u8),
     ActionCode(u8),
@@ -64,10 +66,11 @@ fn got(alloc: Global, told: &Told) -> Result<Answer, Fail> {
         Told::Status(status) => Answer::TransferStatus(status),
         Told::Blocks(bytes, len) => Answer::TransferredBlocks(bits(alloc, bytes, len)?),
         Told::NothingToActivate => Answer::ToActivate(None),
-        Told::AbcToActivate => Answer::ToActivate(abc_name().map(|name| ImageInfo {
+        Told::AbcToActivate(release) => Answer::ToActivate(Some(ImageInfo {
             size: 3,
-            name,
+            name: abc_name(release).ok_or("no name")?,
         })),
+        Told::AbcOffered(release) => Answer::ActiveName(abc_name(release).ok_or("no name")?),
         Told::AbcName => Answer::ActiveName(factory_name(b"abc")),
         Told::AbcDigest => Answer::ActiveDigest(factory_name(b"abc").digest),
         _ => return Err("a code is told".into()),
@@ -82,8 +85,8 @@ fn bits(alloc: Global, bytes: &[u8], len: usize) -> Result<Bits, Fail> {
     Ok(Bits::from_vec(bytes.to_vec(alloc)?, len))
 }
 
-fn abc_name() -> Option<ImageName> {
-    Some(name_of(CampaignId::new(HeadId::new(7)?, 1)?, b"abc"))
+fn abc_name(release: u32) -> Option<ImageName> {
+    Some(name_of(CampaignId::new(HeadId::new(7)?, 1)?, release, b"abc"))
 }
 
 const TOLD: &[(Told, &str)] = &[
@@ -119,8 +122,16 @@ const TOLD: &[(Told, &str)] = &[
     // an empty array, and an array of one structure of the size, the name and its digest
     (Told::NothingToActivate, "c401c1000100"),
     (
-        Told::AbcToActivate,
+        Told::AbcToActivate(0),
         "c401c1000101020306000000030929010000000700000001ba7816bf8f01cfea414140de5dae2223b00361a396177a9cb410ff61f20015ad0920ba7816bf8f01cfea414140de5dae2223b00361a396177a9cb410ff61f20015ad",
+    ),
+    (
+        Told::AbcToActivate(5),
+        "c401c100010102030600000003092d02000000070000000100000005ba7816bf8f01cfea414140de5dae2223b00361a396177a9cb410ff61f20015ad0920ba7816bf8f01cfea414140de5dae2223b00361a396177a9cb410ff61f20015ad",
+    ),
+    (
+        Told::AbcOffered(5),
+        "c401c100092d02000000070000000100000005ba7816bf8f01cfea414140de5dae2223b00361a396177a9cb410ff61f20015ad",
     ),
     (
         Told::AbcName,

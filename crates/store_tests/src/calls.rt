@@ -1,7 +1,7 @@
 //! Calls of a store, one after another. Expected bytes are worked out by hand from the format, and the SHA-256 of `abc` is the
 //! published one.
 
-use crate::headers::padded;
+use crate::headers::{padded, with_releases};
 use crate::support::Takes;
 use crate::test_device::TestDevice;
 use fw_store::{DeviceStore, FileStore, HEADER_SIZE, ImageStore, MemoryStore, Slot, StoreFault};
@@ -15,6 +15,8 @@ pub(crate) enum Call {
     Header,
     /// A header that begins with these bytes, and has zeros behind them.
     WriteHeader(&'static [u8]),
+    /// The same with these bytes as its last, which are its releases.
+    WriteReleases(&'static [u8], [u8; 8]),
     /// So many bytes of a slot, from a place on.
     Read(Slot, u32, u32),
     Write(Slot, u32, &'static [u8]),
@@ -34,6 +36,10 @@ pub(crate) fn called<S: ImageStore>(
             let bytes = padded(begin).ok_or("it is too long")?;
             Ok(done_text(alloc, store.write_header(&bytes))?)
         }
+        Call::WriteReleases(begin, releases) => {
+            let bytes = with_releases(begin, &releases).ok_or("it is too long")?;
+            Ok(done_text(alloc, store.write_header(&bytes))?)
+        }
         Call::Read(slot, at, count) => read_text(alloc, store, slot, at, count),
         Call::Write(slot, at, bytes) => write_text(alloc, store, slot, at, bytes),
         Call::Capacity => Ok(number_text(alloc, u64::from(store.capacity()))?),
@@ -50,9 +56,20 @@ fn header_text(
     header: Result<[u8; HEADER_SIZE], StoreFault>,
 ) -> Result<String, Fail> {
     Ok(match header {
-        Ok(bytes) => trimmed_text(alloc, bytes.as_slice())?,
+        Ok(bytes) => bytes_text(alloc, &bytes)?,
         Err(fault) => fault.to_string(alloc)?,
     })
+}
+
+/// The bytes of a header as far as they aren't zeros, and the releases, where one isn't 0.
+pub(crate) fn bytes_text(alloc: Global, bytes: &[u8; HEADER_SIZE]) -> Result<String, AllocError> {
+    let (front, releases) = bytes.split_at(614);
+    let front = trimmed_text(alloc, front)?;
+    if releases.iter().all(|byte| *byte == 0) {
+        return Ok(front);
+    }
+    let releases = hex::encode(alloc, releases)?;
+    format!(in alloc; "{front} {releases}")
 }
 
 /// Bytes in hexadecimal, without the zeros at their end.
@@ -150,18 +167,23 @@ pub(crate) const KEPT: &[(Call, &str)] = &[
     (Call::Read(Slot::Second, 5, 3), "707172"),
 ];
 
-/// The bytes of a store with 8 bytes a slot: how many there are, the capacity, the header as far as it isn't zeros, and both slots.
+/// The bytes of a store with 8 bytes a slot: how many there are, the capacity, the header as far as it isn't zeros, both slots, and the
+/// releases, which an old store hasn't.
 pub(crate) fn stored_text(alloc: Global, bytes: &[u8]) -> Result<String, Fail> {
     let len = bytes.len();
-    if len != 634 {
+    if len != 634 && len != 642 {
         return Ok(format!(in alloc; "{len} bytes")?);
     }
     let capacity = hex::encode(alloc, &bytes[..4])?;
     let header = trimmed_text(alloc, &bytes[4..618])?;
-    let slots = hex::encode(alloc, &bytes[618..])?;
-    Ok(format!(in alloc; "{len} bytes: {capacity} {header} {slots}")?)
+    let slots = hex::encode(alloc, &bytes[618..634])?;
+    if len == 634 {
+        return Ok(format!(in alloc; "{len} bytes: {capacity} {header} {slots}")?);
+    }
+    let releases = hex::encode(alloc, &bytes[634..])?;
+    Ok(format!(in alloc; "{len} bytes: {capacity} {header} {slots} {releases}")?)
 }
 
 /// Those of a new one.
 pub(crate) const FRESH_BYTES: &str =
-    "634 bytes: 00000008 46574831000000000000000200000003010000000000000000ba7816bf8f01cfea414140de5dae2223b00361a396177a9cb410ff61f20015ad 61626300000000000000000000000000";
+    "642 bytes: 00000008 46574831000000000000000200000003010000000000000000ba7816bf8f01cfea414140de5dae2223b00361a396177a9cb410ff61f20015ad 61626300000000000000000000000000 0000000000000000";

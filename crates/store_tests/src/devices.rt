@@ -28,7 +28,50 @@ const STORED: &[(Stored, &str)] = &[
     (Stored(FRESH), FRESH_BYTES),
     (
         Stored(WRITES),
-        "634 bytes: 00000008 0102030405 61787900000000000000000000707172",
+        "642 bytes: 00000008 0102030405 61787900000000000000000000707172 0000000000000000",
+    ),
+    (
+        Stored(RELEASES),
+        "642 bytes: 00000008 07 61626300000000000000000000000000 0000000500000006",
+    ),
+];
+
+/// The last eight bytes of a header stand behind the second slot.
+const RELEASES: &[(Call, &str)] = &[
+    (Call::WriteReleases(&[7], [0, 0, 0, 5, 0, 0, 0, 6]), "done"),
+    (Call::Header, "07 0000000500000006"),
+];
+
+/// Calls of a store on a device that holds an old one, without releases: the bytes of the device then.
+struct Old(&'static [(Call, &'static str)]);
+
+impl Case for Old {
+    fn told(&self, alloc: Global) -> Result<String, Fail> {
+        let mut device = fresh(alloc)?.into_device();
+        device.bytes.truncate(634);
+        let mut store = DeviceStore::reopen_on(device)?;
+        session(alloc, &mut store, self.0)?;
+        stored_text(alloc, store.into_device().bytes.as_slice())
+    }
+}
+
+/// Its releases are 0. The next write of its header adds them, and no other call does.
+const OLD: &[(Old, &str)] = &[
+    (
+        Old(FRESH),
+        "634 bytes: 00000008 46574831000000000000000200000003010000000000000000ba7816bf8f01cfea414140de5dae2223b00361a396177a9cb410ff61f20015ad 61626300000000000000000000000000",
+    ),
+    (
+        Old(&[(Call::Write(Slot::Second, 5, b"pqr"), "done")]),
+        "634 bytes: 00000008 46574831000000000000000200000003010000000000000000ba7816bf8f01cfea414140de5dae2223b00361a396177a9cb410ff61f20015ad 61626300000000000000000000707172",
+    ),
+    (
+        Old(WRITES),
+        "642 bytes: 00000008 0102030405 61787900000000000000000000707172 0000000000000000",
+    ),
+    (
+        Old(RELEASES),
+        "642 bytes: 00000008 07 61626300000000000000000000000000 0000000500000006",
     ),
 ];
 
@@ -49,6 +92,7 @@ impl Case for Over {
 #[test]
 fn the_bytes_of_a_store(rt: HostRuntime) -> Result<(), Fail> {
     each(rt.alloc(), STORED)?;
+    each(rt.alloc(), OLD)?;
     each(rt.alloc(), &[(Over(1000), FRESH_BYTES)])
 }
 
@@ -86,22 +130,32 @@ fn device(alloc: Global, opened: &Opened) -> Result<TestDevice, AllocError> {
     })
 }
 
-/// The capacity in the first four bytes, and the length of all.
+/// The capacity in the first four bytes, and the length of all, which in an old store is less by eight.
 const OPENED: &[(Opened, &str)] = &[
+    (Opened(&[0, 0, 0, 8], 641), "BadFile"),
+    (Opened(&[0, 0, 0, 8], 643), "BadFile"),
+    (Opened(&[0, 0, 0, 7], 642), "BadFile"),
+    (Opened(&[0, 0, 0, 9], 642), "BadFile"),
     (Opened(&[0, 0, 0, 8], 633), "BadFile"),
     (Opened(&[0, 0, 0, 8], 635), "BadFile"),
     (Opened(&[0, 0, 0, 7], 634), "BadFile"),
     (Opened(&[0, 0, 0, 9], 634), "BadFile"),
+    (Opened(&[0, 0, 0, 0], 626), "BadFile"),
     (Opened(&[0, 0, 0, 0], 618), "BadFile"),
     (Opened(&[0, 0, 0, 0], 4), "BadFile"),
     (Opened(&[0, 0, 0, 1], 618), "BadFile"),
     // 4,194,305 bytes a slot
+    (Opened(&[0, 0x40, 0, 1], 8_389_236), "BadFile"),
     (Opened(&[0, 0x40, 0, 1], 8_389_228), "BadFile"),
+    (Opened(&[0xff, 0xff, 0xff, 0xff], 624), "BadFile"),
     (Opened(&[0xff, 0xff, 0xff, 0xff], 616), "BadFile"),
-    (Opened(&[8, 0, 0, 0], 634), "BadFile"),
+    (Opened(&[8, 0, 0, 0], 642), "BadFile"),
     // no byte
     (Opened(&[], 0), "BadFile"),
     // the limits
+    (Opened(&[0, 0, 0, 1], 628), "1"),
+    (Opened(&[0, 0x40, 0, 0], 8_389_234), "4194304"),
+    // those of old stores
     (Opened(&[0, 0, 0, 1], 620), "1"),
     (Opened(&[0, 0x40, 0, 0], 8_389_226), "4194304"),
 ];
@@ -159,15 +213,18 @@ impl Case for Failing {
     }
 }
 
-/// A store is made by five calls of its device, and opened by two.
+/// A store is made by six calls of its device, and opened by two.
 const FAILING: &[(Failing, &str)] = &[
     (Failing::Made(0), "Some(StoreFault)"),
     (Failing::Made(1), "Some(StoreFault)"),
     (Failing::Made(2), "Some(StoreFault)"),
     (Failing::Made(3), "Some(StoreFault)"),
     (Failing::Made(4), "Some(StoreFault)"),
+    (Failing::Made(5), "Some(StoreFault)"),
+    (Failing::Made(6), "None"),
     (Failing::Opened(0), "Some(StoreFault)"),
     (Failing::Opened(1), "Some(StoreFault)"),
+    (Failing::Opened(2), "None"),
 ];
 
 /// Calls of a store whose device fails as soon as it is opened. Each failure is counted.
@@ -197,7 +254,7 @@ impl Case for Left {
 
 const LEFT: &[(Left, &str)] = &[(
     Left(FAULTS),
-    "true 634 bytes: 00000008 46574831000000000000000200000003010000000000000000ba7816bf8f01cfea414140de5dae2223b00361a396177a9cb410ff61f20015ad eeeeeeee000000000000000000000000",
+    "true 642 bytes: 00000008 46574831000000000000000200000003010000000000000000ba7816bf8f01cfea414140de5dae2223b00361a396177a9cb410ff61f20015ad eeeeeeee000000000000000000000000 0000000000000000",
 )];
 
 impl Case for FileStoreError {

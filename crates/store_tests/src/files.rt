@@ -199,7 +199,7 @@ const STORED: &[(Step, &str)] = &[
     (Step::Drop, ""),
     (
         Step::Stored,
-        "634 bytes: 00000008 0707 61626300000000000000000000000000",
+        "642 bytes: 00000008 0707 61626300000000000000000000000000 0000000000000000",
     ),
     (Step::Remove, ""),
     (Step::Create(8, 2), "a store"),
@@ -210,7 +210,7 @@ const STORED: &[(Step, &str)] = &[
     (Step::Drop, ""),
     (
         Step::Stored,
-        "634 bytes: 00000008 46574831000000000000000200000003010000000000000000ba7816bf8f01cfea414140de5dae2223b00361a396177a9cb410ff61f20015ad 61626364656667680000000000000000",
+        "642 bytes: 00000008 46574831000000000000000200000003010000000000000000ba7816bf8f01cfea414140de5dae2223b00361a396177a9cb410ff61f20015ad 61626364656667680000000000000000 0000000000000000",
     ),
     (Step::Remove, ""),
     (Step::Create(8, 2), "a store"),
@@ -225,7 +225,7 @@ const STORED: &[(Step, &str)] = &[
     (Step::Drop, ""),
     (
         Step::Stored,
-        "634 bytes: 00000008 0707 6162636465666768696a000000000000",
+        "642 bytes: 00000008 0707 6162636465666768696a000000000000 0000000000000000",
     ),
     (Step::Remove, ""),
 ];
@@ -241,10 +241,47 @@ const REOPENED: &[(Step, &str)] = &[
     (Step::Remove, ""),
 ];
 
+/// A file as it was before names had releases, 8 bytes shorter. A look at it leaves it, and so does a write to a slot. What is written
+/// of the header adds the releases.
+const OLD: &[(Step, &str)] = &[
+    (Step::Create(8, 2), "a store"),
+    (Step::Drop, ""),
+    (Step::SetLen(634), ""),
+    (Step::Look, "a store"),
+    (Step::Calls(FRESH), ""),
+    (
+        Step::Calls(&[(Call::Write(Slot::First, 3, b"defgh"), "done")]),
+        "",
+    ),
+    (Step::Drop, ""),
+    (
+        Step::Stored,
+        "634 bytes: 00000008 46574831000000000000000200000003010000000000000000ba7816bf8f01cfea414140de5dae2223b00361a396177a9cb410ff61f20015ad 61626364656667680000000000000000",
+    ),
+    (Step::Reopen, "a store"),
+    (
+        Step::Calls(&[
+            (Call::WriteReleases(&[7], [0, 0, 0, 5, 0, 0, 0, 6]), "done"),
+            (Call::Header, "07 0000000500000006"),
+            (Call::Read(Slot::First, 0, 8), "6162636465666768"),
+        ]),
+        "",
+    ),
+    (Step::Drop, ""),
+    (
+        Step::Stored,
+        "642 bytes: 00000008 07 61626364656667680000000000000000 0000000500000006",
+    ),
+    (Step::Reopen, "a store"),
+    (Step::Calls(&[(Call::Header, "07 0000000500000006")]), ""),
+    (Step::Remove, ""),
+];
+
 #[test]
 fn the_bytes_of_the_file(rt: HostRuntime) -> Result<(), Fail> {
     steps(&rt, "fw_store_bytes", STORED)?;
-    steps(&rt, "fw_store_reopened", REOPENED)
+    steps(&rt, "fw_store_reopened", REOPENED)?;
+    steps(&rt, "fw_store_old", OLD)
 }
 
 /// A file that is there is never overwritten.
@@ -294,14 +331,22 @@ fn a_file_that_is_there_is_left(rt: HostRuntime) -> Result<(), Fail> {
 }
 
 /// Files that begin as that of a new store and have another length, and others: no bytes a slot, and 4,194,305, which are one too many.
+/// The length of an old store is that of one, too.
 const NO_STORES: &[(Step, &str)] = &[
     (Step::Create(8, 2), "a store"),
     (Step::Drop, ""),
+    (Step::SetLen(642), ""),
+    (Step::Look, "a store"),
+    (Step::Drop, ""),
+    (Step::SetLen(643), ""),
+    (Step::Look, "BadFile"),
+    (Step::SetLen(641), ""),
+    (Step::Look, "BadFile"),
+    (Step::SetLen(635), ""),
+    (Step::Look, "BadFile"),
     (Step::SetLen(634), ""),
     (Step::Look, "a store"),
     (Step::Drop, ""),
-    (Step::SetLen(635), ""),
-    (Step::Look, "BadFile"),
     (Step::SetLen(633), ""),
     (Step::Look, "BadFile"),
     (Step::SetLen(3), ""),
@@ -309,9 +354,13 @@ const NO_STORES: &[(Step, &str)] = &[
     (Step::SetLen(0), ""),
     (Step::Look, "BadFile"),
     (Step::Write(&[0, 0, 0, 0]), ""),
+    (Step::SetLen(626), ""),
+    (Step::Look, "BadFile"),
     (Step::SetLen(618), ""),
     (Step::Look, "BadFile"),
     (Step::Write(&[0, 0x40, 0, 1]), ""),
+    (Step::SetLen(8_389_236), ""),
+    (Step::Look, "BadFile"),
     (Step::SetLen(8_389_228), ""),
     (Step::Look, "BadFile"),
     (Step::Remove, ""),

@@ -29,6 +29,11 @@ pub(crate) fn padded(begin: &[u8]) -> Option<Bytes> {
     with_patch(&[0; HEADER_SIZE], 0, begin)
 }
 
+/// The same with these bytes as the last.
+pub(crate) fn with_releases(begin: &[u8], releases: &[u8; 8]) -> Option<Bytes> {
+    with_patch(&padded(begin)?, RELEASES_AT, releases)
+}
+
 /// A new store with blocks of two bytes and the factory image `abc`.
 const NEW: &str = concat!(
     "46574831", // FWH1
@@ -71,18 +76,47 @@ const VERIFIED: &str = concat!(
     "c0",
 );
 
+/// A store that runs `abc` of campaign 1 of head end 7.
+const RUNNING: &str = concat!(
+    "4657483101000600",
+    "0000000200000003",
+    "010000000700000001",
+    "ba7816bf8f01cfea414140de5dae2223b00361a396177a9cb410ff61f20015ad",
+);
+
+/// That store after campaign 2 of the same head end has initiated `abc`.
+const RENEWED: &str = concat!(
+    "4657483101000101",
+    "0000000200000003",
+    "010000000700000001",
+    "ba7816bf8f01cfea414140de5dae2223b00361a396177a9cb410ff61f20015ad",
+    "00000003",
+    "010000000700000002",
+    "ba7816bf8f01cfea414140de5dae2223b00361a396177a9cb410ff61f20015ad",
+);
+
 /// The digits of a header, a change of its bytes (an offset and the digits from there on), and the capacity of the store: whether that
 /// is a header's, and then written so.
 struct Patched(&'static str, usize, &'static str, u32);
 
 impl Case for Patched {
     fn told(&self, alloc: Global) -> Result<String, Fail> {
-        let begin = hex::decode(alloc, self.0)?;
-        let patch = hex::decode(alloc, self.2)?;
-        let whole = padded(&begin).ok_or("it is too long")?;
-        let bytes = with_patch(&whole, self.1, &patch).ok_or("it is too long")?;
-        Ok(String::from_str(alloc, read_text(self.3, &bytes))?)
+        patched_text(alloc, self.0, self.1, self.2, self.3)
     }
+}
+
+fn patched_text(
+    alloc: Global,
+    digits: &str,
+    at: usize,
+    patch: &str,
+    capacity: u32,
+) -> Result<String, Fail> {
+    let begin = hex::decode(alloc, digits)?;
+    let patch = hex::decode(alloc, patch)?;
+    let whole = padded(&begin).ok_or("it is too long")?;
+    let bytes = with_patch(&whole, at, &patch).ok_or("it is too long")?;
+    Ok(String::from_str(alloc, read_text(capacity, &bytes))?)
 }
 
 fn read_text(capacity: u32, bytes: &Bytes) -> &'static str {
@@ -182,10 +216,57 @@ const REFUSED: &[(Patched, &str)] = &[
     (Patched(RECEIVING, 6, "04", 64), "none"),
 ];
 
+/// Behind the marks stand the releases of the running image and of the goal: the digits of a header, and theirs.
+struct Released(&'static str, &'static str);
+
+impl Case for Released {
+    fn told(&self, alloc: Global) -> Result<String, Fail> {
+        patched_text(alloc, self.0, RELEASES_AT, self.1, 64)
+    }
+}
+
+/// Where they stand.
+const RELEASES_AT: usize = 614;
+
+const RELEASES: &[(Released, &str)] = &[
+    // without a goal, the least release and the greatest
+    (Released(RUNNING, "0000000100000000"), "read"),
+    (Released(RUNNING, "ffffffff00000000"), "read"),
+    // the goal's release is the running one's, or above it
+    (Released(RENEWED, "0000000000000000"), "read"),
+    (Released(RENEWED, "0000000000000001"), "read"),
+    (Released(RENEWED, "0000000500000005"), "read"),
+    (Released(RENEWED, "0000000500000006"), "read"),
+    (Released(RENEWED, "000000ff00000100"), "read"),
+    (Released(RENEWED, "ffffffffffffffff"), "read"),
+    // it is below
+    (Released(RENEWED, "0000000100000000"), "none"),
+    (Released(RENEWED, "0000000500000004"), "none"),
+    (Released(RENEWED, "00000100000000ff"), "none"),
+    (Released(RENEWED, "ffffffff00000000"), "none"),
+    // a goal that isn't there has none
+    (Released(RUNNING, "0000000000000001"), "none"),
+    (Released(RUNNING, "0000000500000005"), "none"),
+    (Released(NEW, "0000000000000001"), "none"),
+    // the image that the meter was made with has none, and a goal behind it may have one
+    (Released(NEW, "0000000100000000"), "none"),
+    (Released(RECEIVING, "0000000100000001"), "none"),
+    (Released(RECEIVING, "0000000000000005"), "read"),
+    (Released(VERIFIED, "00000000ffffffff"), "read"),
+];
+
+/// The 41 bytes of a name in a header begin with 01, whatever its release.
+const NAMES: &[(Patched, &str)] = &[
+    (Patched(RUNNING, 16, "02", 64), "none"),
+    (Patched(RENEWED, 61, "02", 64), "none"),
+];
+
 #[test]
 fn headers_are_read_and_others_refused(rt: HostRuntime) -> Result<(), Fail> {
     each(rt.alloc(), HEADERS)?;
-    each(rt.alloc(), REFUSED)
+    each(rt.alloc(), REFUSED)?;
+    each(rt.alloc(), RELEASES)?;
+    each(rt.alloc(), NAMES)
 }
 
 /// A header: whether it is written by these digits, and whether it is what they are read as.
@@ -198,6 +279,10 @@ enum Written {
     Fewer(&'static str),
     /// After activation the slots have changed roles, and the goal is dropped.
     Switched(&'static str),
+    /// Of one that runs release 5 and receives release 6, with the digits of the releases.
+    Renewed(&'static str, &'static str),
+    /// And after that activation.
+    SwitchedAgain(&'static str, &'static str),
 }
 
 impl Case for Written {
@@ -208,26 +293,42 @@ impl Case for Written {
                     alloc,
                     Some(Header::fresh(2, 3, factory_name(b"abc"))),
                     digits,
+                    "",
                 )
             }
-            Written::Receiving(digits) => written_text(alloc, receiving(), digits),
-            Written::Fewer(digits) => written_text(alloc, counting_fewer(), digits),
-            Written::Switched(digits) => written_text(alloc, switched(), digits),
+            Written::Receiving(digits) => written_text(alloc, receiving(), digits, ""),
+            Written::Fewer(digits) => written_text(alloc, counting_fewer(), digits, ""),
+            Written::Switched(digits) => {
+                written_text(alloc, receiving().and_then(switched), digits, "")
+            }
+            Written::Renewed(digits, releases) => {
+                written_text(alloc, renewed(), digits, releases)
+            }
+            Written::SwitchedAgain(digits, releases) => {
+                written_text(alloc, renewed().and_then(switched), digits, releases)
+            }
         }
     }
 }
 
-fn written_text(alloc: Global, header: Option<Header>, digits: &str) -> Result<String, Fail> {
+fn written_text(
+    alloc: Global,
+    header: Option<Header>,
+    digits: &str,
+    releases: &str,
+) -> Result<String, Fail> {
     let begin = hex::decode(alloc, digits)?;
-    let bytes = padded(&begin).ok_or("it is too long")?;
+    let last = hex::decode(alloc, releases)?;
+    let front = padded(&begin).ok_or("it is too long")?;
+    let bytes = with_patch(&front, RELEASES_AT, &last).ok_or("it is too long")?;
     let written = header.as_ref().map(|header| header.to_bytes()) == Some(bytes);
     let read = header.is_some() && Header::from_bytes(64, &bytes) == header;
     Ok(format!(in alloc; "{written} {read}")?)
 }
 
-/// The name under which campaign 1 of head end 7 offers `abc`.
-fn abc_name() -> Option<ImageName> {
-    Some(name_of(CampaignId::new(HeadId::new(7)?, 1)?, b"abc"))
+/// The name under which a campaign of head end 7 offers `abc` of this release.
+fn abc_name(serial: u32, release: u32) -> Option<ImageName> {
+    Some(name_of(CampaignId::new(HeadId::new(7)?, serial)?, release, b"abc"))
 }
 
 /// The marks with these numbers besides.
@@ -241,7 +342,7 @@ pub(crate) fn marked(mut marks: Pages, numbers: &[u32]) -> Pages {
 }
 
 fn receiving() -> Option<Header> {
-    let name = abc_name()?;
+    let name = abc_name(1, 0)?;
     Some(Header {
         enabled: true,
         running_slot: Slot::First,
@@ -261,8 +362,23 @@ fn counting_fewer() -> Option<Header> {
     })
 }
 
-fn switched() -> Option<Header> {
-    let before = receiving()?;
+fn renewed() -> Option<Header> {
+    Some(Header {
+        enabled: true,
+        running_slot: Slot::First,
+        status: StoredStatus::Initiated,
+        block_size: 2,
+        running_size: 3,
+        running_name: abc_name(1, 5)?,
+        goal: Some(Goal {
+            name: abc_name(2, 6)?,
+            size: 3,
+        }),
+        marks: Pages::none(),
+    })
+}
+
+fn switched(before: Header) -> Option<Header> {
     let goal = before.goal?;
     Some(Header {
         running_slot: before.running_slot.other(),
@@ -282,6 +398,14 @@ const WRITTEN: &[(Written, &str)] = &[
     (
         Written::Switched(
             "46574831010106000000000200000003010000000700000001ba7816bf8f01cfea414140de5dae2223b00361a396177a9cb410ff61f20015ad",
+        ),
+        "true true",
+    ),
+    (Written::Renewed(RENEWED, "0000000500000006"), "true true"),
+    (
+        Written::SwitchedAgain(
+            "46574831010106000000000200000003010000000700000002ba7816bf8f01cfea414140de5dae2223b00361a396177a9cb410ff61f20015ad",
+            "0000000600000000",
         ),
         "true true",
     ),

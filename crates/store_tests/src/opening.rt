@@ -1,11 +1,11 @@
 //! Which stores are opened: each condition once, met and not met.
 
 use crate::headers::marked;
-use crate::session::bbbb;
+use crate::session::{bbbb, named};
 use crate::support::{Case, each};
 use fw_blocks::Pages;
 use fw_image::{OpenError, open_store};
-use fw_names::factory_name;
+use fw_names::{ImageName, factory_name};
 use fw_store::{Goal, HEADER_SIZE, Header, ImageStore, MemoryStore, Slot, StoredStatus};
 use std::alloc::Global;
 use std::test::Fail;
@@ -21,6 +21,8 @@ enum Head {
     In(StoredStatus),
     /// It runs `abc` under the name of these bytes.
     Runs(&'static [u8]),
+    /// It runs `abc` of release 5, and the goal has this release.
+    Aims(u32),
     /// The form's first byte is another.
     OtherForm,
     /// It has zeros alone.
@@ -30,10 +32,18 @@ enum Head {
 /// The headers above, as a store has them.
 fn bytes_of(head: &Head) -> Result<[u8; HEADER_SIZE], Fail> {
     match head {
-        Head::In(status) => spelled(*status, b"abc"),
-        Head::Runs(image) => spelled(StoredStatus::Initiated, image),
+        Head::In(status) => Ok(spelled(*status, factory_name(b"abc"), bbbb()?)),
+        Head::Runs(image) => Ok(spelled(StoredStatus::Initiated, factory_name(image), bbbb()?)),
+        Head::Aims(release) => {
+            let goal = named(b"bbbb", *release)?;
+            Ok(spelled(StoredStatus::Initiated, named(b"abc", 5)?, goal))
+        }
         Head::OtherForm => {
-            let mut bytes = spelled(StoredStatus::VerificationSuccessful, b"abc")?;
+            let mut bytes = spelled(
+                StoredStatus::VerificationSuccessful,
+                factory_name(b"abc"),
+                bbbb()?,
+            );
             bytes[0] = 0x47;
             Ok(bytes)
         }
@@ -41,21 +51,21 @@ fn bytes_of(head: &Head) -> Result<[u8; HEADER_SIZE], Fail> {
     }
 }
 
-fn spelled(status: StoredStatus, image: &[u8]) -> Result<[u8; HEADER_SIZE], Fail> {
+fn spelled(status: StoredStatus, running: ImageName, goal: ImageName) -> [u8; HEADER_SIZE] {
     let header = Header {
         enabled: true,
         running_slot: Slot::First,
         status,
         block_size: 2,
         running_size: 3,
-        running_name: factory_name(image),
+        running_name: running,
         goal: Some(Goal {
-            name: bbbb()?,
+            name: goal,
             size: 4,
         }),
         marks: marked(Pages::none(), &[0, 1]),
     };
-    Ok(header.to_bytes())
+    header.to_bytes()
 }
 
 impl Case for Stored {
@@ -108,6 +118,9 @@ const STORED: &[(Stored, &str)] = &[
     // the image that runs
     (Stored(Head::Runs(b"abc"), b"bbbb", None), "None"),
     (Stored(Head::Runs(b"abd"), b"bbbb", None), "Some(BadImage)"),
+    // a goal of a lower release than that of the image that runs
+    (Stored(Head::Aims(4), b"bbbb", None), "Some(BadHeader)"),
+    (Stored(Head::Aims(5), b"bbbb", None), "None"),
     // zeros, and a header of another form over an image that isn't genuine either
     (Stored(Head::Zeros, b"bbbb", None), "Some(BadHeader)"),
     (Stored(Head::OtherForm, b"bbaa", None), "Some(BadHeader)"),

@@ -47,6 +47,17 @@ const VAIN: &[(Vain, &str)] = &[
     (Vain(ENABLED_NOW, Call::Initiate(0)), "BadInitiate"),
     (Vain(ENABLED_NOW, Call::Initiate(10_001)), "BadInitiate"),
     (Vain(ENABLED_NOW, Call::Initiate(8_193)), "BadInitiate"),
+    // a release below that of the image that runs, also where another one is received; and transfer is disabled
+    (Vain(RELEASE_5, Call::Initiate(4)), "BadInitiate"),
+    (Vain(RELEASE_5, Call::InitiateRelease(4, 4)), "BadInitiate"),
+    (
+        Vain(RELEASE_5_RECEIVING, Call::InitiateRelease(4, 4)),
+        "BadInitiate",
+    ),
+    (
+        Vain(RELEASE_5_DISABLED, Call::InitiateRelease(4, 4)),
+        "Disabled",
+    ),
     // a block behind the last, one that is too short, too long, empty, and a last one that is too long
     (Vain(RECEIVING, Call::Block(3, b"bb")), "BadBlock"),
     (Vain(RECEIVING, Call::Block(0, b"b")), "BadBlock"),
@@ -62,6 +73,37 @@ const VAIN: &[(Vain, &str)] = &[
 ];
 
 const ENABLED_NOW: &[Call] = &[Call::Enable(true)];
+
+/// `bbbb` of release 5 runs; then release 7 is received; or transfer is disabled.
+const RELEASE_5: &[Call] = &[
+    Call::Enable(true),
+    Call::InitiateRelease(5, 4),
+    Call::Block(0, b"bb"),
+    Call::Block(1, b"bb"),
+    Call::Verify,
+    Call::Activate,
+];
+
+const RELEASE_5_RECEIVING: &[Call] = &[
+    Call::Enable(true),
+    Call::InitiateRelease(5, 4),
+    Call::Block(0, b"bb"),
+    Call::Block(1, b"bb"),
+    Call::Verify,
+    Call::Activate,
+    Call::InitiateRelease(7, 4),
+    Call::Block(0, b"bb"),
+];
+
+const RELEASE_5_DISABLED: &[Call] = &[
+    Call::Enable(true),
+    Call::InitiateRelease(5, 4),
+    Call::Block(0, b"bb"),
+    Call::Block(1, b"bb"),
+    Call::Verify,
+    Call::Activate,
+    Call::Enable(false),
+];
 
 /// Block 1 of three came, of which the last has one byte.
 const RECEIVING: &[Call] = &[Call::Enable(true), Call::Initiate(5), Call::Block(1, b"bb")];
@@ -126,8 +168,21 @@ impl Case for Done {
     }
 }
 
-/// 8,192 bytes in 4,096 blocks are no refusal.
-const DONE: &[(Done, &str)] = &[(Done(ENABLED_NOW, Call::Initiate(8_192)), "done")];
+/// 8,192 bytes in 4,096 blocks are no refusal, nor is an equal release or a higher one. What is received and doesn't run yet keeps no
+/// release away.
+const DONE: &[(Done, &str)] = &[
+    (Done(ENABLED_NOW, Call::Initiate(8_192)), "done"),
+    (Done(RELEASE_5, Call::InitiateRelease(5, 4)), "done"),
+    (Done(RELEASE_5, Call::InitiateRelease(6, 4)), "done"),
+    (
+        Done(RELEASE_5, Call::InitiateRelease(4_294_967_295, 4)),
+        "done",
+    ),
+    (
+        Done(RELEASE_5_RECEIVING, Call::InitiateRelease(5, 4)),
+        "done",
+    ),
+];
 
 impl Case for Refusal {
     fn told(&self, alloc: Global) -> Result<String, Fail> {

@@ -1,6 +1,6 @@
 //! Sessions with a meter over a store in memory.
 
-use crate::calls::trimmed_text;
+use crate::calls::bytes_text;
 use crate::fresh::new_meter;
 use crate::support::expect;
 use fw_image::{MeterView, NotVerified, Phase, Receiving, Refusal, TransferStatus, open_store};
@@ -18,6 +18,8 @@ pub(crate) enum Call {
     Enable(bool),
     /// An image of so many bytes under the name of `bbbb`, from campaign 1 of head end 2.
     Initiate(u32),
+    /// The same of this release.
+    InitiateRelease(u32, u32),
     /// The same under a factory's name.
     InitiateFactory(u32),
     Block(u32, &'static [u8]),
@@ -39,7 +41,7 @@ pub(crate) enum Call {
     Verified(u32),
     /// A slot begins with these bytes.
     Holds(Slot, &'static [u8]),
-    /// The header begins with these digits, and has zeros behind them.
+    /// The header begins with these digits, and has zeros behind them, up to the releases where one isn't 0.
     Headed(&'static str),
 }
 
@@ -217,6 +219,7 @@ impl Trial {
         match call {
             Call::Enable(enabled) => self.enable(*enabled),
             Call::Initiate(size) => self.initiate(bbbb()?, *size),
+            Call::InitiateRelease(release, size) => self.initiate(named(b"bbbb", *release)?, *size),
             Call::InitiateFactory(size) => self.initiate(factory_name(b"bbbb"), *size),
             Call::Block(number, value) => self.block(*number, value),
             Call::InitiateOwn(size) => self.initiate(own_name(alloc, *size)?, *size),
@@ -379,7 +382,7 @@ fn has_bytes(
 }
 
 fn has_header(alloc: Global, store: &mut MemoryStore, digits: &str) -> Result<(), Fail> {
-    let header = trimmed_text(alloc, store.header()?.as_slice())?;
+    let header = bytes_text(alloc, &store.header()?)?;
     if header.as_str() == digits {
         Ok(())
     } else {
@@ -412,18 +415,20 @@ fn looked(alloc: Global, meter: &mut Meter, look: &Call) -> Result<(), Fail> {
 
 /// The name of `bbbb` in campaign 1 of head end 2.
 pub(crate) fn bbbb() -> Result<ImageName, Fail> {
-    Ok(name_of(campaign()?, b"bbbb"))
+    named(b"bbbb", 0)
+}
+
+/// The name of an image of this release there.
+pub(crate) fn named(image: &[u8], release: u32) -> Result<ImageName, Fail> {
+    let head = HeadId::new(2).ok_or("no head end")?;
+    let campaign = CampaignId::new(head, 1).ok_or("no campaign")?;
+    Ok(name_of(campaign, release, image))
 }
 
 /// That of so many bytes `a`.
 fn own_name(alloc: Global, size: u32) -> Result<ImageName, Fail> {
     let image = vec![in alloc; b'a'; size as usize]?;
-    Ok(name_of(campaign()?, &image))
-}
-
-fn campaign() -> Result<CampaignId, Fail> {
-    let head = HeadId::new(2).ok_or("no head end")?;
-    Ok(CampaignId::new(head, 1).ok_or("no campaign")?)
+    named(&image, 0)
 }
 
 fn runs(alloc: Global, meter: &mut Meter, wanted: &[u8]) -> Result<(), Fail> {
@@ -482,13 +487,16 @@ pub(crate) fn sight(alloc: Global, view: &MeterView) -> Result<String, AllocErro
     format!(in alloc; "{enabled}, {status:?}, {goal}, marks{marks}, runs {active_size} of {active}")
 }
 
-/// The numbers of the head end and the campaign, and the first four bytes of the digest.
+/// The numbers of the head end and the campaign, the release, if there is one, and the first four bytes of the digest.
 fn name_text(alloc: Global, name: ImageName) -> Result<String, AllocError> {
     let head = name.campaign.head().map_or(0, |head| head.number());
     let serial = name.campaign.serial();
     let [a, b, c, d, ..] = name.digest;
     let digest = u32::from_be_bytes([a, b, c, d]);
-    format!(in alloc; "{head} {serial} {digest:08x}")
+    match name.release {
+        0 => format!(in alloc; "{head} {serial} {digest:08x}"),
+        release => format!(in alloc; "{head} {serial} release {release} {digest:08x}"),
+    }
 }
 
 /// The numbers of the blocks that are marked: block i by bit i, the first bit the top bit of the first byte.

@@ -1,6 +1,7 @@
 //! A device of bytes in memory, which can be made to fail.
 
-ghost use Rattle.std.specs.Prelude.{true, is_none, IsTrue, IsOk};
+ghost use Rattle.std.specs.Prelude.{◌≡◌, ◌+◌, ◌≤◌, true, is_none, length, IsTrue, IsOk};
+ghost use Rattle.fw_store.specs.Device.{splice};
 
 use fw_store::{ByteDevice, DeviceFault};
 use std::alloc::Global;
@@ -37,6 +38,14 @@ fn spend(calls_left: &mut Option<u64>) -> Result<(), DeviceFault>
     Ok(())
 }
 
+/// Puts bytes in the place of those from `at` on.
+fn put(bytes: &mut Vec<u8>, at: usize, part: &[u8])
+    requires { at + length part.now ≤ length bytes.old.items }
+    ensures { bytes.new.items ≡ splice bytes.old.items at part.now }
+{
+    bytes[at..at + part.len()].copy_from_slice(part);
+}
+
 impl ByteDevice for TestDevice {
     ghost honest = { λ _. true };
 
@@ -67,14 +76,31 @@ impl ByteDevice for TestDevice {
             self.bytes[at..at + bytes.len()].fill(0xee);
             return Err(DeviceFault);
         }
-        self.bytes[at..at + bytes.len()].copy_from_slice(bytes);
+        put(&mut self.bytes, at, bytes);
         Ok(())
     }
 
     fn replace_at(&mut self, at: u64, bytes: &[u8]) -> Result<(), DeviceFault> {
         spend(&mut self.calls_left)?;
-        let at = at as usize;
-        self.bytes[at..at + bytes.len()].copy_from_slice(bytes);
+        put(&mut self.bytes, at as usize, bytes);
+        Ok(())
+    }
+
+    fn replace_both(
+        &mut self,
+        at: u64,
+        bytes: &[u8],
+        last_at: u64,
+        last: &[u8],
+    ) -> Result<(), DeviceFault> {
+        spend(&mut self.calls_left)?;
+        let (at, last_at) = (at as usize, last_at as usize);
+        let end = last_at + last.len();
+        if self.bytes.len() < end {
+            self.bytes.resize(end, 0).map_err(|_| DeviceFault)?;
+        }
+        put(&mut self.bytes, at, bytes);
+        put(&mut self.bytes, last_at, last);
         Ok(())
     }
 }

@@ -58,6 +58,79 @@ const STORED: &[Row] = &[
     (Call::Holds(Slot::Second, b"bbbb\0"), None, SWITCHED),
 ];
 
+/// Behind the marks the header has the release of the image that runs, and that of the goal. Its names have none.
+const RELEASES: &[Row] = &[
+    (Call::Enable(true), None, ENABLED),
+    (Call::InitiateRelease(5, 4), None, RELEASE_5),
+    (Call::Headed(RELEASE_5_HEADER), None, RELEASE_5),
+    (Call::Block(0, b"bb"), None, RELEASE_5_BLOCK_0),
+    (Call::Block(1, b"bb"), None, RELEASE_5_BLOCKS),
+    (Call::Verify, None, RELEASE_5_VERIFIED),
+    (Call::Activate, None, RELEASE_5_RUNS),
+    (Call::Headed(RELEASE_5_RUNS_HEADER), None, RELEASE_5_RUNS),
+    (
+        Call::InitiateRelease(4, 4),
+        Some(Refusal::BadInitiate),
+        RELEASE_5_RUNS,
+    ),
+    (Call::InitiateRelease(6, 4), None, RELEASE_6),
+    (Call::Headed(RELEASE_6_HEADER), None, RELEASE_6),
+];
+
+const RELEASE_5: &str =
+    "true, Initiated, goal 4 of 2 1 release 5 81cc5b17, marks, runs 3 of 0 0 ba7816bf";
+
+const RELEASE_5_BLOCK_0: &str =
+    "true, Initiated, goal 4 of 2 1 release 5 81cc5b17, marks 0, runs 3 of 0 0 ba7816bf";
+
+const RELEASE_5_BLOCKS: &str =
+    "true, Initiated, goal 4 of 2 1 release 5 81cc5b17, marks 0 1, runs 3 of 0 0 ba7816bf";
+
+const RELEASE_5_VERIFIED: &str =
+    "true, VerificationSuccessful, goal 4 of 2 1 release 5 81cc5b17, marks 0 1, runs 3 of 0 0 ba7816bf";
+
+const RELEASE_5_RUNS: &str =
+    "true, ActivationSuccessful, no goal, marks, runs 4 of 2 1 release 5 81cc5b17";
+
+const RELEASE_6: &str =
+    "true, Initiated, goal 4 of 2 1 release 6 81cc5b17, marks, runs 4 of 2 1 release 5 81cc5b17";
+
+const RELEASE_5_HEADER: &str = concat!(
+    "46574831",
+    "01000101",
+    "00000002",
+    "00000003",
+    "010000000000000000",
+    "ba7816bf8f01cfea414140de5dae2223b00361a396177a9cb410ff61f20015ad",
+    "00000004",
+    "010000000200000001",
+    "81cc5b17018674b401b42f35ba07bb79e211239c23bffe658da1577e3e646877",
+    " 0000000000000005",
+);
+
+const RELEASE_5_RUNS_HEADER: &str = concat!(
+    "46574831",
+    "01010600",
+    "00000002",
+    "00000004",
+    "010000000200000001",
+    "81cc5b17018674b401b42f35ba07bb79e211239c23bffe658da1577e3e646877",
+    " 0000000500000000",
+);
+
+const RELEASE_6_HEADER: &str = concat!(
+    "46574831",
+    "01010101",
+    "00000002",
+    "00000004",
+    "010000000200000001",
+    "81cc5b17018674b401b42f35ba07bb79e211239c23bffe658da1577e3e646877",
+    "00000004",
+    "010000000200000001",
+    "81cc5b17018674b401b42f35ba07bb79e211239c23bffe658da1577e3e646877",
+    " 0000000500000006",
+);
+
 /// A block of another image is among the blocks.
 const LATE_BLOCK: &[Row] = &[
     (Call::Enable(true), None, ENABLED),
@@ -159,10 +232,12 @@ fn each_transfer(rt: HostRuntime) -> Result<(), Fail> {
         &[AGAIN],
         &[BLOCKS],
         &[TO_VERIFIED, BEGUN_AGAIN],
+        &[RELEASES],
     ];
     for parts in sessions {
         session(rt.alloc(), false, parts)?;
     }
     session(rt.alloc(), true, &[TRANSFER])?;
-    session(rt.alloc(), true, &[LATE_BLOCK])
+    session(rt.alloc(), true, &[LATE_BLOCK])?;
+    session(rt.alloc(), true, &[RELEASES])
 }

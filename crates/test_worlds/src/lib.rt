@@ -7,7 +7,7 @@ mod telling;
 
 pub use expected::expect;
 pub use script::{
-    DONE, FOUR, Given, LARGE, Line, NO_HEAD, OPENED, OPENED_BY_TWO, OPENED_FOR_FOUR,
+    DONE, FOUR, Given, LARGE, Line, NO_HEAD, OLDER, OPENED, OPENED_BY_TWO, OPENED_FOR_FOUR,
     OPENED_FOR_SOME, OPENED_LARGE, OPENED_TWO_LARGE, SMALL, TWO_HEADS, TWO_LARGE, events_of, head,
     meter, setup_of,
 };

@@ -15,7 +15,9 @@ pub struct Given(
 pub enum Line {
     /// A head end opens the campaign of this serial number, of an image for meters.
     Open(u32, u32, &'static [u8], &'static [u32]),
-    /// The same of an image of so many bytes `a`.
+    /// The same of an image of this release.
+    OpenRelease(u32, u32, u32, &'static [u8], &'static [u32]),
+    /// The same of an image of so many bytes `a`, without a release.
     OpenLong(u32, u32, usize, &'static [u32]),
     /// The same of the image `abc`, for one meter so many times.
     OpenOften(u32, u32, u32, usize),
@@ -82,19 +84,20 @@ fn push_line(alloc: Global, events: &mut Vec<Event>, line: &Line) -> Result<(), 
 fn event(alloc: Global, line: &Line) -> Result<Event, Fail> {
     Ok(match *line {
         Line::Open(head, serial, image, numbers) => {
-            opening(head, serial, image.to_vec(alloc)?, meters(alloc, numbers)?)?
+            let meters = meters(alloc, numbers)?;
+            opening(head, serial, 0, image.to_vec(alloc)?, meters)?
+        }
+        Line::OpenRelease(head, serial, release, image, numbers) => {
+            let meters = meters(alloc, numbers)?;
+            opening(head, serial, release, image.to_vec(alloc)?, meters)?
         }
         Line::OpenLong(head, serial, size, numbers) => {
-            opening(
-                head,
-                serial,
-                vec![in alloc; b'a'; size]?,
-                meters(alloc, numbers)?,
-            )?
+            let meters = meters(alloc, numbers)?;
+            opening(head, serial, 0, vec![in alloc; b'a'; size]?, meters)?
         }
         Line::OpenOften(head, serial, number, times) => {
             let meters = vec![in alloc; meter(number)?; times]?;
-            opening(head, serial, b"abc".to_vec(alloc)?, meters)?
+            opening(head, serial, 0, b"abc".to_vec(alloc)?, meters)?
         }
         Line::Cancel(head, serial) => Event::CancelCampaign(campaign(head, serial)?),
         Line::Tick(number, other) => Event::Tick(head(number)?, meter(other)?),
@@ -110,9 +113,16 @@ fn event(alloc: Global, line: &Line) -> Result<Event, Fail> {
     })
 }
 
-fn opening(head: u32, serial: u32, image: Vec<u8>, meters: Vec<MeterId>) -> Result<Event, Fail> {
+fn opening(
+    head: u32,
+    serial: u32,
+    release: u32,
+    image: Vec<u8>,
+    meters: Vec<MeterId>,
+) -> Result<Event, Fail> {
     Ok(Event::OpenCampaign {
         campaign: campaign(head, serial)?,
+        release,
         image,
         meters,
     })
@@ -171,6 +181,30 @@ pub const DONE: &[Line] = &[
     Line::Deliver(&[16, 17]),
     Line::Tick(7, 1),
     Line::Deliver(&[18, 19]),
+];
+
+/// The same campaign of an image of release 5, and behind its end one of an image without a release for the same meter.
+pub const OLDER: &[Line] = &[
+    Line::OpenRelease(7, 1, 5, b"abc", &[1]),
+    Line::Tick(7, 1),
+    Line::Deliver(&[0, 1]),
+    Line::Tick(7, 1),
+    Line::Deliver(&[2, 3]),
+    Line::Tick(7, 1),
+    Line::Deliver(&[4, 5]),
+    Line::Tick(7, 1),
+    Line::Deliver(&[6, 7, 8, 9]),
+    Line::Tick(7, 1),
+    Line::Deliver(&[10, 11]),
+    Line::Tick(7, 1),
+    Line::Deliver(&[12, 13]),
+    Line::Tick(7, 1),
+    Line::Deliver(&[14, 15]),
+    Line::Tick(7, 1),
+    Line::Deliver(&[16, 17]),
+    Line::Tick(7, 1),
+    Line::Deliver(&[18, 19]),
+    Line::Open(7, 2, b"abc", &[1]),
 ];
 
 /// Four meters of one head end.

@@ -6,12 +6,6 @@ mod audits;
 #[cfg(test)]
 mod board;
 #[cfg(test)]
-mod links;
-#[cfg(test)]
-mod log;
-#[cfg(test)]
 mod sharing;
 #[cfg(test)]
 mod support;
-#[cfg(test)]
-mod wires;

@@ -101,6 +101,40 @@ meter 1 block 2 capacity 64 factory 78
 open 7 1 616263 1
 ";
 
+/// A campaign of release 5 that is done, and behind it one without a release for the same meter.
+const OLDER: &str = "\
+head 7 width 4
+meter 1 block 2 capacity 64 factory 78
+open-release 7 1 5 616263 1
+tick 7 1
+deliver 0 1
+tick 7 1
+deliver 2 3
+tick 7 1
+deliver 4 5
+tick 7 1
+deliver 6 7 8 9
+tick 7 1
+deliver 10 11
+tick 7 1
+deliver 12 13
+tick 7 1
+deliver 14 15
+tick 7 1
+deliver 16 17
+tick 7 1
+deliver 18 19
+open 7 2 616263 1
+";
+
+const OLDER_FAILED: &str = "\
+row 7 1 1 done
+row 7 2 1 failed
+meter 1 status 6 active 7 1 size 3
+activations 1
+board 1
+";
+
 pub(crate) const TWICE: &str = "\
 head 7 width 4
 meter 1 block 2 capacity 64 factory 78
@@ -125,6 +159,8 @@ const REPORTS: &[(Rehearsal, &str)] = &[
     (Rehearsal(FOUR, 9, 8, "d"), FOUR_DONE),
     // each datagram is lost
     (Rehearsal(FOUR, 9, 2, "x"), NONE_DONE),
+    // the meter runs a higher release
+    (Rehearsal(OLDER, 3, 1, "d"), OLDER_FAILED),
     // no link
     (
         Rehearsal(

@@ -1,11 +1,11 @@
-//! A crew whose hands are of the test's own: links on which all that is sent comes at once. What is expected was worked out by hand
-//! from the head end's and the meter's documents.
+//! A crew whose hands are of the test's own: links on which all that is sent comes at once; and how links are dealt. What is expected
+//! was worked out by hand, from the head end's and the meter's documents.
 
 ghost use Rattle.std.specs.Prelude.{◌≡◌};
 
 use crate::gates::Open;
 use fw_air::Sent;
-use fw_crew::{Floor, Gate, Hand, RehearseError, Task, Unaccounted, Worker, begin, work};
+use fw_crew::{Floor, Gate, Hand, RehearseError, Task, Unaccounted, Worker, begin, dealt, work};
 use fw_names::{HeadId, MeterId};
 use std::alloc::Global;
 use std::sync::Wait;
@@ -109,6 +109,38 @@ const HANDS: &[((u32, u32), &str)] = &[
 fn hands_of_its_own(rt: HostRuntime) -> Result<(), Fail> {
     for (at, (numbers, want)) in HANDS.iter().enumerate() {
         let told = told(&rt, rt.alloc(), *numbers)?;
+        expect(rt.alloc(), at, told.as_str(), want)?;
+    }
+    Ok(())
+}
+
+/// Which of these links each of so many workers is dealt.
+fn dealt_to(alloc: Global, links: &[u32], workers: u32) -> Result<String, Fail> {
+    if workers == 0 {
+        return Err("no workers".into());
+    }
+    let mut text = String::new(alloc);
+    for hand in dealt(alloc, links.to_vec(alloc)?, workers)? {
+        push(
+            &mut text,
+            format!(in alloc; "{:?}", hand.as_slice())?.as_str(),
+        )?;
+    }
+    Ok(text)
+}
+
+/// Links, the number of workers, and what is told of them.
+const DEALT: &[(&[u32], u32, &str)] = &[
+    (&[7, 8, 9, 7, 6], 2, "[7, 9, 6]; [8, 7]"),
+    (&[7, 8], 3, "[7]; [8]; []"),
+    (&[7, 8], 1, "[7, 8]"),
+    (&[], 2, "[]; []"),
+];
+
+#[test]
+fn links_are_dealt_in_turn(rt: HostRuntime) -> Result<(), Fail> {
+    for (at, (links, workers, want)) in DEALT.iter().enumerate() {
+        let told = dealt_to(rt.alloc(), links, *workers)?;
         expect(rt.alloc(), at, told.as_str(), want)?;
     }
     Ok(())

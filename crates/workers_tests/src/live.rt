@@ -12,8 +12,8 @@ use std::sync::Wait;
 use std::test::Fail;
 use std::thread::Threads;
 use test_worlds::{
-    FOUR, Given, LARGE, Line, NO_HEAD, OPENED, OPENED_FOR_FOUR, OPENED_LARGE, SMALL, done_rows,
-    events_of, expect, push, report, setup_of,
+    FOUR, Given, LARGE, Line, NO_HEAD, OLDER, OPENED, OPENED_FOR_FOUR, OPENED_LARGE, SMALL,
+    done_rows, events_of, expect, push, report, setup_of,
 };
 
 /// Which calls of an end of a wire go wrong, counted from 1 on.
@@ -188,6 +188,11 @@ const ROLLOUTS: &[(Rollout, &str)] = &[
     (
         Rollout(SMALL, OPENED, 0, 2, 1, Air::Good),
         "row 7 1 1 live; meter 1 status 0 active 0 0 size 1; activations 0; sent 0; board 0",
+    ),
+    // its meter runs release 5, and refuses an image without a release
+    (
+        Rollout(SMALL, OLDER, 3, 1, 1, Air::Good),
+        "row 7 1 1 done; row 7 2 1 failed; meter 1 status 6 active 7 1 size 3; activations 1; sent 26; board 1",
     ),
     // its meter takes two turns
     (

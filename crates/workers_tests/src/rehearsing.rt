@@ -4,14 +4,14 @@
 use crate::gates::{Below, Counts, Held, Meet, Open};
 use fw_air::{CoreEvent, Fate, Fates, schedule};
 use fw_workers::{Gate, Receipt, RehearseError, Report, rehearse};
-use fw_world::Event;
+use fw_world::{Activation, Event};
 use std::alloc::Global;
 use std::sync::Wait;
 use std::test::Fail;
 use std::thread::Threads;
 use test_worlds::{
-    DONE, FOUR, Given, LARGE, Line, NO_HEAD, OPENED, OPENED_BY_TWO, OPENED_FOR_FOUR, OPENED_LARGE,
-    SMALL, TWO_HEADS, done_rows, events_of, expect, numbered, push, report, setup_of,
+    DONE, FOUR, Given, LARGE, Line, NO_HEAD, OLDER, OPENED, OPENED_BY_TWO, OPENED_FOR_FOUR,
+    OPENED_LARGE, SMALL, TWO_HEADS, done_rows, events_of, expect, numbered, push, report, setup_of,
 };
 
 /// Some events, and behind them so many rounds by so many workers, in which datagrams have these fates.
@@ -131,6 +131,30 @@ fn two_heads(rt: HostRuntime) -> Result<(), Fail> {
     Ok(())
 }
 
+/// The same with a release of each head end: no meter goes back to a lower one.
+const RELEASES_BY_THREE: Rehearsal = Rehearsal(TWO_HEADS, RELEASES_OF_TWO, 40, 3, GOOD_AIR);
+
+const RELEASES_OF_TWO: &[Line] = &[
+    Line::OpenRelease(7, 1, 5, b"abc", &[1, 2, 3, 4]),
+    Line::OpenRelease(8, 1, 4, b"def", &[1, 2, 3, 4]),
+];
+
+#[test]
+fn releases_of_two_heads(rt: HostRuntime) -> Result<(), Fail> {
+    let report = RELEASES_BY_THREE.ended(&rt, rt.alloc(), &Open)??;
+    assert!(rt; !report.world.activations().is_empty());
+    assert!(rt; never_falls(report.world.activations()));
+    Ok(())
+}
+
+/// Whether no meter switches to a lower release than one to which it switched before.
+fn never_falls(activations: &[Activation]) -> bool {
+    activations.iter().enumerate().all(|(at, later)| {
+        activations.iter().take(at).all(|before| before.meter != later.meter
+            || before.name.release <= later.name.release)
+    })
+}
+
 const REHEARSALS: &[(Rehearsal, &str)] = &[
     (Rehearsal(FOUR, OPENED_FOR_FOUR, 40, 1, BAD_AIR), FOUR_DONE),
     (Rehearsal(FOUR, OPENED_FOR_FOUR, 40, 4, BAD_AIR), FOUR_DONE),
@@ -143,6 +167,15 @@ const REHEARSALS: &[(Rehearsal, &str)] = &[
         "row 7 1 1 live; meter 1 status 0 active 0 0 size 1; activations 0; sent 0; board 0",
     ),
     (Rehearsal(SMALL, DONE, 3, 2, GOOD_AIR), ONE_DONE),
+    // its meter runs release 5, and refuses an image without a release in the third round
+    (
+        Rehearsal(SMALL, OLDER, 2, 1, GOOD_AIR),
+        "row 7 1 1 done; row 7 2 1 live; meter 1 status 6 active 7 1 size 3; activations 1; sent 24; board 1",
+    ),
+    (
+        Rehearsal(SMALL, OLDER, 3, 2, GOOD_AIR),
+        "row 7 1 1 done; row 7 2 1 failed; meter 1 status 6 active 7 1 size 3; activations 1; sent 26; board 1",
+    ),
     // its meter takes two turns, at the ends of the eighth and the ninth round
     (
         Rehearsal(LARGE, OPENED_LARGE, 12, 1, GOOD_AIR),

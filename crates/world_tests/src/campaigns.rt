@@ -179,6 +179,135 @@ fn an_old_claim(rt: HostRuntime) -> Result<(), Fail> {
     each(rt.alloc(), OLD_CLAIMS)
 }
 
+/// An image of release 5, up to where it is there.
+const RELEASE_5: &[Line] = &[
+    Line::OpenRelease(7, 1, 5, b"abc", &[1]),
+    Line::Tick(7, 1),
+    Line::Deliver(&[0, 1]),
+    Line::Tick(7, 1),
+    Line::Deliver(&[2, 3]),
+    Line::Tick(7, 1),
+    Line::Deliver(&[4, 5]),
+    Line::Tick(7, 1),
+    Line::Deliver(&[6, 7, 8, 9]),
+];
+
+/// Behind its claim and a second opening, up to where the meter answered whether it takes the image.
+const UP_TO_START: &[Line] = &[
+    Line::Tick(7, 1),
+    Line::Deliver(&[20, 21]),
+    Line::Tick(7, 1),
+    Line::Deliver(&[22, 23]),
+    Line::Tick(7, 1),
+    Line::Deliver(&[24, 25]),
+];
+
+/// A meter takes no release below that of the image that it runs. An equal one it takes, and a higher one.
+const RELEASES: &[(Script, &str)] = &[
+    (
+        Script(
+            SMALL,
+            &[
+                RELEASE_5,
+                UP_TO_VERIFY,
+                UP_TO_ACTIVATE,
+                UP_TO_DONE,
+                &[Line::Open(7, 2, b"abc", &[1])],
+                UP_TO_START,
+            ],
+        ),
+        "row 7 1 1 done; row 7 2 1 failed; meter 1 status 6 active 7 1 size 3; activations 1; sent 26",
+    ),
+    (
+        Script(
+            SMALL,
+            &[
+                RELEASE_5,
+                UP_TO_VERIFY,
+                UP_TO_ACTIVATE,
+                UP_TO_DONE,
+                &[Line::OpenRelease(7, 2, 4, b"abd", &[1])],
+                UP_TO_START,
+            ],
+        ),
+        "row 7 1 1 done; row 7 2 1 failed; meter 1 status 6 active 7 1 size 3; activations 1; sent 26",
+    ),
+    (
+        Script(
+            SMALL,
+            &[
+                RELEASE_5,
+                UP_TO_VERIFY,
+                UP_TO_ACTIVATE,
+                UP_TO_DONE,
+                &[Line::OpenRelease(7, 2, 5, b"abd", &[1])],
+                UP_TO_START,
+            ],
+        ),
+        "row 7 1 1 done; row 7 2 1 live; meter 1 status 1 active 7 1 size 3; activations 1; sent 26",
+    ),
+    (
+        Script(
+            SMALL,
+            &[
+                RELEASE_5,
+                UP_TO_VERIFY,
+                UP_TO_ACTIVATE,
+                UP_TO_DONE,
+                &[Line::OpenRelease(7, 2, 4_294_967_295, b"abd", &[1])],
+                UP_TO_START,
+            ],
+        ),
+        "row 7 1 1 done; row 7 2 1 live; meter 1 status 1 active 7 1 size 3; activations 1; sent 26",
+    ),
+    // the release outlives a restart
+    (
+        Script(
+            SMALL,
+            &[
+                RELEASE_5,
+                UP_TO_VERIFY,
+                UP_TO_ACTIVATE,
+                UP_TO_DONE,
+                &[
+                    Line::RestartMeter(1),
+                    Line::OpenRelease(7, 2, 4, b"abd", &[1]),
+                ],
+                UP_TO_START,
+            ],
+        ),
+        "row 7 1 1 done; row 7 2 1 failed; meter 1 status 6 active 7 1 size 3; activations 1; sent 26",
+    ),
+    // an image that is received, and doesn't run yet, keeps no lower release away
+    (
+        Script(TWO_HEADS, &[LOWER]),
+        "row 1 1 1 live; row 2 1 1 live; meter 1 status 1 active 0 0 size 1; activations 0; sent 12",
+    ),
+];
+
+/// Two head ends have their images initiated, the second one of a lower release.
+const LOWER: &[Line] = &[
+    Line::OpenRelease(1, 1, 5, b"aaaa", &[1]),
+    Line::OpenRelease(2, 1, 3, b"bbbb", &[1]),
+    Line::Tick(1, 1),
+    Line::Deliver(&[0, 1]),
+    Line::Tick(1, 1),
+    Line::Deliver(&[2, 3]),
+    Line::Tick(1, 1),
+    Line::Deliver(&[4, 5]),
+    Line::Tick(2, 1),
+    Line::Deliver(&[6, 7]),
+    Line::Tick(2, 1),
+    Line::Deliver(&[8, 9]),
+    Line::Tick(2, 1),
+    Line::Deliver(&[10, 11]),
+];
+
+#[test]
+fn releases(rt: HostRuntime) -> Result<(), Fail> {
+    each(rt.alloc(), RELEASES)
+}
+
 /// Two head ends, and one meter.
 const TWO_HEADS: &Given = &Given(&[(1, 4), (2, 4)], &[(1, 2, 64, b"x")]);
 

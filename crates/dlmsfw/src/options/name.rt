@@ -13,8 +13,9 @@ what a meter that runs the image answers as its active firmware identifier.
 
 Standard input has the bytes of the image, 1 to 4194304. Standard output gets one line, the 82
 digits of the name in lower-case hexadecimal: 01, the number of the head end and the serial number
-of its campaign in 8 digits each, and the SHA-256 of the image. All input is read before anything
-is written.
+of its campaign in 8 digits each, and the SHA-256 of the image. A name with a release of at least 1
+has 90 digits: 02 in place of 01, and the release in 8 digits before the SHA-256. All input is read
+before anything is written.
 
 Example, the image `abc` in campaign 1 of head end 7:
 
@@ -55,12 +56,20 @@ pub(super) fn command<'a>(alloc: Global) -> Result<Command<'a>, AllocError> {
                 .required(true)
                 .help("The serial number of its campaign, 1 to 4294967295")
                 .value_parser(clap::value_parser!(u32).range(1..)),
+        )?
+        .arg(
+            option(alloc, "release", "N")
+                .default_value("0")
+                .help("The release of the image, 0 to 4294967295; 0 is none")
+                .value_parser(clap::value_parser!(u32)),
         )
 }
 
-/// The command with the options that were given. The parser lets no number pass that is none of a head end or a campaign.
+/// The command with the options that were given. The parser lets no number pass that is none of a head end, a campaign or a release,
+/// which has a default.
 pub(super) fn invoked<'a>(given: &ArgMatches<'a>) -> Option<Invocation<'a>> {
     let head = HeadId::new(given.get_one("head")?)?;
     let campaign = CampaignId::new(head, given.get_one("serial")?)?;
-    Some(Invocation::Name(NameOptions { campaign }))
+    let release = given.get_one("release")?;
+    Some(Invocation::Name(NameOptions { campaign, release }))
 }

@@ -17,6 +17,8 @@ all others:
                                             up to C bytes, 1 to 4194304, and runs the image HEX
   open H S HEX M M ..                       head end H opens campaign S, from 1 on: the image HEX for
                                             these meters
+  open-release H S R HEX M M ..             the same, with R as the release of the image, which is 0
+                                            with `open`; a meter takes no lower one than it runs
   cancel H S                                it cancels that campaign
   tick H M                                  it sends what it has for meter M now
   deliver K K ..                            these datagrams come, one after another

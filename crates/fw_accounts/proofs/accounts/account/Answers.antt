@@ -38,4 +38,5 @@ returns c =
       goals = c.in_ok-world.ensures.goals;
       activations = c.in_ok-world.ensures.activations;
       equal = c.in_ok-world.ensures.equal;
+      releases = c.in_ok-world.ensures.releases;
     }

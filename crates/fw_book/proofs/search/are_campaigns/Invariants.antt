@@ -1,6 +1,7 @@
 use Rattle.std.proofs.Common.{◌≡◌, ◌++◌, ℕ, List, length}
 use Rattle.fw_book.specs.Contents.{Offered, IsBook}
 use Rattle.fw_book.specs.Format.{entries_bytes}
+use Rattle.fw_book.specs.Inside.{TellsAll}
 use Rattle.fw_book.proofs.search.are_campaigns.Given as goal
 
 -- campaigns of a book stand before the rest
@@ -9,7 +10,8 @@ invariant-loop-rest l =
     record {
       campaigns : List (ℕ × Offered);
       is_book : IsBook (record { head = l.fn.head; campaigns = campaigns });
-      before : l.entries ≡ entries_bytes campaigns ++ l.rest;
+      tells : TellsAll l.fn.version campaigns;
+      before : l.entries ≡ entries_bytes l.fn.version campaigns ++ l.rest;
     }
 
 abbrev pub decreases-loop-rest : goal.decreases-loop-rest

@@ -9,7 +9,7 @@ stands old at bytes within =
     let end : at + length bytes ≤ at + length bytes = omega arith in
     record {
       size = length-splice old at bytes within;
-      before = take-splice old at bytes at here within;
+      before = take-splice old at bytes at here (omega arith);
       there = slice_there old at bytes (at + length bytes) refl within;
       behind = drop-splice old at bytes (at + length bytes) end within;
       front = λ n inside fits. take_of_splice old at bytes n inside fits;

@@ -10,4 +10,5 @@ returns c =
       goals = λ opening w events o run. (safe opening w events o run).goals;
       activations = λ opening w events o run. (safe opening w events o run).activations;
       equal = kept.every_run_is_equal c.joined_size.ensures c.one_name.ensures c.spelling_size.ensures c.one_request.ensures c.tells_running.ensures;
+      releases = λ opening w events o run. (safe opening w events o run).releases;
     }

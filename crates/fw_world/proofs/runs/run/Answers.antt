@@ -77,6 +77,17 @@ returns-in-Err-step-clause-equal c =
     let run = subst (λ (w : State). Run opening so_far (world_of w)) (sym c.in-Err-step.ensures.same) c.loop-at.invariant.2 in
     c.every_run_is_safe.ensures.equal opening (world_of c.step.new.self) so_far (is_opening c.args.setup.now c.loop-at.invariant.0) run
 
+pub returns-clause-releases : goal.returns-clause-releases
+returns-clause-releases c =
+    c.every_run_is_safe.ensures.releases (world_of (opening_state c.args.setup.now)) (world_of c.loop-at.world) (events_of (take c.loop-at.at c.args.events.now)) (is_opening c.args.setup.now c.loop-at.invariant.0) c.loop-at.invariant.2
+
+pub returns-in-Err-step-clause-releases : goal.returns-in-Err-step-clause-releases
+returns-in-Err-step-clause-releases c =
+    let opening = world_of (opening_state c.args.setup.now) in
+    let so_far = events_of (take c.loop-at.at c.args.events.now) in
+    let run = subst (λ (w : State). Run opening so_far (world_of w)) (sym c.in-Err-step.ensures.same) c.loop-at.invariant.2 in
+    c.every_run_is_safe.ensures.releases opening (world_of c.step.new.self) so_far (is_opening c.args.setup.now c.loop-at.invariant.0) run
+
 pub returns-in-Err-step-clause-stopped : goal.returns-in-Err-step-clause-stopped
 returns-in-Err-step-clause-stopped c =
     let events = c.args.events.now in

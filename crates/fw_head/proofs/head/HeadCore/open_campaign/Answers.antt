@@ -26,4 +26,4 @@ invariant_of-self-2 c =
     let added = c.add.ensures
     ∙ ap (λ (rs : Rows). rs ++ new_rows c.in_ok-name.name (length image) meters) c.reserve.ensures.same
     ∙ ap (λ (n : Name). rows ++ new_rows n (length image) meters) c.in_ok-name.ensures.name in
-    head_opened_by c.states_follow.ensures c.opening_offers.ensures book c.open_campaign.new.self c.self.inside.width rows c.add.new.self.rows.entries campaign image meters o c.in_ok-name.ensures.opened added c.self.invariant
+    head_opened_by c.states_follow.ensures c.opening_offers.ensures book c.open_campaign.new.self c.self.inside.width rows c.add.new.self.rows.entries campaign c.args.release image meters o c.in_ok-name.ensures.opened added c.self.invariant

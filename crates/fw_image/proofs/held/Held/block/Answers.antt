@@ -1,6 +1,6 @@
-use Rattle.std.proofs.Common.{◌≡◌, None, IsTrue, true, false, cond, length, refl, sym, ◌∙◌}
+use Rattle.std.proofs.Common.{◌≡◌, None, IsTrue, true, false, cond, length, refl, sym, ap, ◌∙◌}
 use Rattle.fw_blocks.specs.Members.{has}
-use Rattle.fw_store.specs.Device.{slot_bytes, Torn}
+use Rattle.fw_store.specs.Device.{Device, slot_bytes, written, Torn}
 use Rattle.fw_store.specs.declared.slot.Slot.{Slot}
 use Rattle.fw_image.specs.declared.status.TransferStatus.TheVariants.{Initiated}
 use Rattle.fw_image.specs.Meter.{status_of}
@@ -10,7 +10,7 @@ use Rattle.fw_image.specs.declared.error.Refusal.TheVariants.{Fault}
 use Rattle.fw_image.proofs.Blocks.{mark_more, mark_again}
 use Rattle.fw_image.proofs.Meters.{seen_size, headed, none_digested}
 use Rattle.fw_image.proofs.Moves.{makes_served, keeps_twice, fault_told, is_receiving, counted_after}
-use Rattle.fw_image.proofs.Puts.{leaves_put, tears_put, calls_put, one_or_two, served_block, marks_in, valid_marked, wrote, wrote_then}
+use Rattle.fw_image.proofs.Puts.{leaves_put, tears_put, calls_put, one_or_two, served_block, marks_in, valid_marked, wrote, wrote_then, wrote_head, holding_put}
 use Rattle.fw_image.proofs.held.Held.block.Goals as goal
 
 pub returns-in_err-write-clause-makes : goal.returns-in_err-write-clause-makes
@@ -120,3 +120,74 @@ returns-clause-makes g c =
     (leaves_put c.other_blocks_stay.ensures c.begins_within.ensures c.splice_stands.ensures (s.honest store) (s.capacity store) h (s.device store) (s.device c.replace.new.store) c.args.number c.in-Some.start c.args.value.now c.mark.new.self
     valid valid' sized sized' place marked (λ honest.
     wrote_then h c.in-Some.start c.args.value.now (s.device store) (s.device c.write.new.self) (s.device c.replace.new.store) (wrote h c.other-spare.result c.in-Some.start c.args.value.now (s.device store) (s.device c.write.new.self) c.other-spare.ensures (first.done honest)) (headed (s.device c.write.new.self) (s.device c.replace.new.store) _ (told.written (still honest))))))
+
+-- the spare slot may have any bytes after a write that failed
+pub invariant_of-self : goal.invariant_of-self
+invariant_of-self g c =
+    let s = g.S.ImageStore in
+    let store = c.self.inside.store in
+    let h = c.self.inside.header in
+    let held = c.self.invariant.held in
+    let at : status_of (phase_at c.self.inside.digesting (phase_of h.status h.goal)) ≡ Initiated = rw (← c.self.view_is) at c.requires in
+    let none_digests = none_digested s.honest s.device store h c.self.inside.digesting c.self.invariant.digested Initiated at (λ e. cc) in
+    let status : status_of (phase_of h.status h.goal) ≡ Initiated = rw none_digests at at in
+    let told = c.in_err-write.ensures in
+    holding_put s store c.write.new.self h h.marks c.self.inside.digesting none_digests status told.kept held.valid
+    (λ honest. held.stored honest ∙ sym (wrote_head (s.device store) (s.device c.write.new.self) c.other-spare.result c.in-Some.start (told.torn honest).left (told.torn honest).stands))
+    (λ honest. (wrote h c.other-spare.result c.in-Some.start (told.torn honest).left (s.device store) (s.device c.write.new.self) c.other-spare.ensures (told.torn honest).stands).running)
+    held
+
+pub invariant_of-self-then-has : goal.invariant_of-self-then-has
+invariant_of-self-then-has g c =
+    let s = g.S.ImageStore in
+    let store = c.self.inside.store in
+    let h = c.self.inside.header in
+    let held = c.self.invariant.held in
+    let at : status_of (phase_at c.self.inside.digesting (phase_of h.status h.goal)) ≡ Initiated = rw (← c.self.view_is) at c.requires in
+    let none_digests = none_digested s.honest s.device store h c.self.inside.digesting c.self.invariant.digested Initiated at (λ e. cc) in
+    let status : status_of (phase_of h.status h.goal) ≡ Initiated = rw none_digests at at in
+    let told = c.in_ok-write.ensures in
+    holding_put s store c.write.new.self h h.marks c.self.inside.digesting none_digests status told.kept held.valid
+    (λ honest. held.stored honest ∙ sym (wrote_head (s.device store) (s.device c.write.new.self) c.other-spare.result c.in-Some.start c.args.value.now (told.done honest)))
+    (λ honest. (wrote h c.other-spare.result c.in-Some.start c.args.value.now (s.device store) (s.device c.write.new.self) c.other-spare.ensures (told.done honest)).running)
+    held
+
+pub invariant_of-self-in_err-replace : goal.invariant_of-self-in_err-replace
+invariant_of-self-in_err-replace g c =
+    let s = g.S.ImageStore in
+    let store = c.self.inside.store in
+    let h = c.self.inside.header in
+    let held = c.self.invariant.held in
+    let at : status_of (phase_at c.self.inside.digesting (phase_of h.status h.goal)) ≡ Initiated = rw (← c.self.view_is) at c.requires in
+    let none_digests = none_digested s.honest s.device store h c.self.inside.digesting c.self.invariant.digested Initiated at (λ e. cc) in
+    let status : status_of (phase_of h.status h.goal) ≡ Initiated = rw none_digests at at in
+    let first = c.in_ok-write.ensures in
+    let told = c.in_err-replace.ensures in
+    let still : IsTrue (s.honest store) → IsTrue (s.honest c.write.new.self) = λ honest. first.kept.honesty ∙ honest in
+    let done : IsTrue (s.honest store) → s.device c.replace.new.store ≡ written (s.device store) c.other-spare.result c.in-Some.start c.args.value.now = λ honest. told.same (still honest) ∙ first.done honest in
+    rw told.failed (holding_put s store c.replace.new.store h h.marks c.self.inside.digesting none_digests status (keeps_twice s store c.write.new.self c.replace.new.store first.kept told.kept) held.valid
+    (λ honest. held.stored honest ∙ sym (wrote_head (s.device store) (s.device c.replace.new.store) c.other-spare.result c.in-Some.start c.args.value.now (done honest)))
+    (λ honest. (wrote h c.other-spare.result c.in-Some.start c.args.value.now (s.device store) (s.device c.replace.new.store) c.other-spare.ensures (done honest)).running)
+    held)
+
+pub invariant_of-self-2 : goal.invariant_of-self-2
+invariant_of-self-2 g c =
+    let s = g.S.ImageStore in
+    let store = c.self.inside.store in
+    let h = c.self.inside.header in
+    let held = c.self.invariant.held in
+    let at : status_of (phase_at c.self.inside.digesting (phase_of h.status h.goal)) ≡ Initiated = rw (← c.self.view_is) at c.requires in
+    let none_digests = none_digested s.honest s.device store h c.self.inside.digesting c.self.invariant.digested Initiated at (λ e. cc) in
+    let status : status_of (phase_of h.status h.goal) ≡ Initiated = rw none_digests at at in
+    let place = c.in-Some.ensures.found in
+    let first = c.in_ok-write.ensures in
+    let told = c.in_ok-replace.ensures in
+    let still : IsTrue (s.honest store) → IsTrue (s.honest c.write.new.self) = λ honest. first.kept.honesty ∙ honest in
+    let marked = mark_more h.marks c.mark.new.self c.args.number (marks_in _ h c.args.number c.in-Some.start c.args.value.now held.valid place) c.mark.ensures in
+    let valid = valid_marked _ h c.args.number c.in-Some.start c.args.value.now c.mark.new.self held.valid status place marked told.fits in
+    rw told.done (holding_put s store c.replace.new.store h c.mark.new.self c.self.inside.digesting none_digests status (keeps_twice s store c.write.new.self c.replace.new.store first.kept told.kept) valid
+    (λ honest. sym (ap (λ (d : Device). d.head) (told.written (still honest))))
+    (λ honest.
+    headed (s.device c.write.new.self) (s.device c.replace.new.store) _ (told.written (still honest)) h.running_slot
+    ∙ (wrote h c.other-spare.result c.in-Some.start c.args.value.now (s.device store) (s.device c.write.new.self) c.other-spare.ensures (first.done honest)).running)
+    held)

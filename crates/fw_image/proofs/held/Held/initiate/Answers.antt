@@ -10,7 +10,7 @@ invariant_of-self-2 g c =
     let told = c.in_ok-replace.ensures in
     let none = none_has 4096 c.none.result c.none.ensures in
     let offer = rw c.capacity.ensures at (c.if-not-is_offer.ensures.0 refl) in
-    let valid = valid_begun _ h c.args.name c.args.size c.none.result none c.self.invariant.held.valid told.fits (goal_of_offer _ _ c.args.name c.args.size offer) in
+    let valid = valid_begun _ h c.args.name c.args.size c.none.result none c.self.invariant.held.valid told.fits (goal_of_offer _ _ _ c.args.name c.args.size offer) in
     rw told.done (record {
       held = held_written g.S.ImageStore c.self.inside.store c.replace.new.store h _ (g.met.S.ImageStore.sized c.self.inside.store) told.kept told.written c.self.invariant.held valid
           (λ d d' views honest trusted. rw (meter_of-begun _ h d d' c.args.name c.args.size c.none.result none views.same) (trusted_begun _ c.args.name c.args.size trusted));

@@ -1,5 +1,9 @@
-use Rattle.fw_store.proofs.StoreByteLemmas.{bytes_are}
+use Rattle.fw_store.proofs.SlotLemmas.{is_store}
+use Rattle.fw_store.proofs.StoreByteLemmas.{holds}
 use Rattle.fw_store.proofs.device_store.DeviceStore.into_device.Goals as goal
 
 pub returns-clause-store : goal.returns-clause-store
-returns-clause-store g c h = bytes_are c.args.self.capacity (g.D.ByteDevice.contents c.args.self.device) (c.args.self.laid_out h)
+returns-clause-store g c h =
+    let s = c.args.self in
+    let bytes = g.D.ByteDevice.contents s.device in
+    holds s.capacity bytes (is_store s.has_releases s.capacity bytes (s.laid_out h))

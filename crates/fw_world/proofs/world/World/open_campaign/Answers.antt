@@ -15,7 +15,7 @@ pub returns-then-not-all_there-clause-refused : goal.returns-then-not-all_there-
 returns-then-not-all_there-clause-refused c =
     let key = c.head_number.result in
     let found : lookup (nat_eq key) c.self.inside.heads ≡ Some c.in-Some.head.now = sym c.get_mut.ensures.value ∙ ap option_copied_mut c.in-Some.is in
-    unknown_meters _ _ c.self.view_is c.args.campaign key c.head_number.ensures.value c.in-Some.head.now found c.args.image.now c.args.meters.now c.all_there.result c.all_there.ensures c.if-not-all_there.true
+    unknown_meters _ _ c.self.view_is c.args.campaign key c.head_number.ensures.value c.in-Some.head.now found c.args.release c.args.image.now c.args.meters.now c.all_there.result c.all_there.ensures c.if-not-all_there.true
 
 pub returns-then-not-all_there-clause-same : goal.returns-then-not-all_there-clause-same
 returns-then-not-all_there-clause-same c =
@@ -43,8 +43,8 @@ returns-in_err-open_campaign-clause-refused c =
     let found : lookup (nat_eq key) c.self.inside.heads ≡ Some head = sym c.get_mut.ensures.value ∙ ap option_copied_mut c.in-Some.is in
     let own = own_campaign head campaign key c.serial.result (c.self.invariant.state.own key head found) c.head_number.ensures.value c.serial.ensures in
     let refusal = c.in_err-open_campaign.field-0.0 in
-    refused_by c.from_residual.result (of_book refusal) (IsRefused c.args.self.now (open_campaign campaign c.args.image.now c.args.meters.now)) c.from_residual.ensures.1
-    (opening_refused _ _ c.self.view_is campaign key c.head_number.ensures.value head found c.args.image.now c.args.meters.now c.all_there.result c.all_there.ensures c.if-not-all_there.false c.serial.result own
+    refused_by c.from_residual.result (of_book refusal) (IsRefused c.args.self.now (open_campaign campaign c.args.release c.args.image.now c.args.meters.now)) c.from_residual.ensures.1
+    (opening_refused _ _ c.self.view_is campaign key c.head_number.ensures.value head found c.args.release c.args.image.now c.args.meters.now c.all_there.result c.all_there.ensures c.if-not-all_there.false c.serial.result own
     refusal c.in_err-open_campaign.ensures.refused)
 
 pub returns-clause-admitted : goal.returns-clause-admitted
@@ -54,7 +54,7 @@ returns-clause-admitted c =
     let head = c.in-Some.head.now in
     let found : lookup (nat_eq key) c.self.inside.heads ≡ Some head = sym c.get_mut.ensures.value ∙ ap option_copied_mut c.in-Some.is in
     let own = own_campaign head campaign key c.serial.result (c.self.invariant.state.own key head found) c.head_number.ensures.value c.serial.ensures in
-    opening_admitted _ _ c.self.view_is campaign key c.head_number.ensures.value head found c.args.image.now c.args.meters.now c.all_there.result c.all_there.ensures c.if-not-all_there.false c.serial.result own
+    opening_admitted _ _ c.self.view_is campaign key c.head_number.ensures.value head found c.args.release c.args.image.now c.args.meters.now c.all_there.result c.all_there.ensures c.if-not-all_there.false c.serial.result own
     c.in_ok-open_campaign.ensures.admitted
 
 pub invariant_of-self-2 : goal.invariant_of-self-2
@@ -78,7 +78,7 @@ returns-clause-stepped c =
       there = head_found _ _ c.self.view_is key campaign.head c.head_number.ensures.value head found;
       admitted = subst (λ (x : Campaign). opening_refusal head.book x c.args.image.now c.args.meters.now ≡ None) own c.in_ok-open_campaign.ensures.admitted;
       new_is = head_set _ _ c.self.view_is key campaign.head c.head_number.ensures.value _ _ _ set
-          (c.in_ok-open_campaign.ensures.opened ∙ ap (λ (serial : ℕ). opened_head head serial c.args.image.now c.args.meters.now) c.serial.ensures);
+          (c.in_ok-open_campaign.ensures.opened ∙ ap (λ (serial : ℕ). opened_head head serial c.args.release c.args.image.now c.args.meters.now) c.serial.ensures);
     }
 
 pub invariant_of-self-then-not-all_there : goal.invariant_of-self-then-not-all_there
