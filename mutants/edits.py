@@ -11,25 +11,41 @@ class Unfit(Exception):
     """Why an edit can't be applied."""
 
 
+# The line of an edit that says what refused it when it was last tried.
+REFUSED_BY = "refused-by"
+
+
 class Edit:
-    """One edit: its name, its text, the test that it names, if it names one, and the pairs of it by file."""
+    """One edit: its name, its file, its text without the line of what refused it, that line, the test that it names, if it
+    names one, and the pairs of it by file."""
 
     def __init__(self, name, path):
-        self.name, self.test, self.pairs = name, None, []
+        self.name, self.path, self.test, self.refused_by, self.pairs = name, path, None, None, []
         with open(path, encoding="utf-8") as it:
-            self.text = it.read()
+            lines = it.read().split("\n")
+        self.text = "\n".join(line for line in lines if not line.startswith(f"{REFUSED_BY}:"))
         file = old = None
-        for line in self.text.split("\n"):
+        for line in lines:
             word, _, rest = line.partition(":")
             rest = rest[1:] if rest.startswith(" ") else rest
             if word == "test":
                 self.test = rest.strip()
+            elif word == REFUSED_BY:
+                self.refused_by = rest.strip()
             elif word == "file":
                 file = rest.strip()
             elif word == "old":
                 old = rest
             elif word == "new":
                 self.pairs.append((file, old, rest))
+
+    def note(self, refused_by):
+        """Writes into the file what refused the edit, or takes that line out of it."""
+        if refused_by == self.refused_by:
+            return
+        self.refused_by = refused_by
+        line = f"{REFUSED_BY}: {refused_by}\n" if refused_by else ""
+        write(self.path, (line + self.text).encode())
 
     def applied(self, texts):
         """The texts of the files with this edit in them, of those that it changes, and each place by file and line.

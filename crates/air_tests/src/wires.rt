@@ -79,3 +79,27 @@ fn udp_wires(rt: HostRuntime) -> Result<(), Fail> {
     assert!(rt; head.receive(&mut buffer) == Ok(None));
     Ok(())
 }
+
+/// How many bytes a datagram has that goes over sockets, and how many of them a pass gives. One that is longer than any of this profile
+/// is cut.
+const SIZES: &[(usize, usize)] = &[
+    (1, 1),
+    (1_289, 1_289),
+    (2_312, 2_312),
+    (2_313, 2_313),
+    (2_314, 2_313),
+    (4_096, 2_313),
+];
+
+#[test]
+fn long_datagrams(rt: HostRuntime) -> Result<(), Fail> {
+    let (mut head, mut meter) = UdpWire::pair(&rt)?;
+    let mut buffer = [0; MAX_RECEIVED];
+    for (size, came) in SIZES {
+        let sent = vec![in rt.alloc(); b'a'; *size]?;
+        let mut pass = Pass::new();
+        assert!(rt; head.send(&sent) == Ok(*size));
+        assert!(rt; pass.next(&mut meter, &mut buffer) == Some(*came));
+    }
+    Ok(())
+}

@@ -30,19 +30,22 @@ const GEOMETRIES: &[(Lies, &str)] = &[
     (Lies(1024, 1, 0), "1024 1 1 Some((0, 1))"),
     // the longest image
     (
-        Lies(MAX_BLOCK_SIZE, 4_194_304, 4095),
-        "1024 4194304 4096 Some((4193280, 4194304))",
+        Lies(MAX_BLOCK_SIZE, 16_777_216, 16383),
+        "1024 16777216 16384 Some((16776192, 16777216))",
     ),
     (
-        Lies(MAX_BLOCK_SIZE, 4_194_304, MAX_BLOCKS),
-        "1024 4194304 4096 None",
+        Lies(MAX_BLOCK_SIZE, 16_777_216, MAX_BLOCKS),
+        "1024 16777216 16384 None",
     ),
+    // more blocks than 4,096, and the most
+    (Lies(1, 4097, 4096), "1 4097 4097 Some((4096, 4097))"),
+    (Lies(1, 16384, 16383), "1 16384 16384 Some((16383, 16384))"),
     // outside the limits
     (Lies(0, 5, 0), "none"),
     (Lies(5, 0, 0), "none"),
     (Lies(1025, 5, 0), "none"),
-    (Lies(1, 4097, 0), "none"),
-    (Lies(1024, 4_194_305, 0), "none"),
+    (Lies(1, 16385, 0), "none"),
+    (Lies(1024, 16_777_217, 0), "none"),
 ];
 
 /// The bytes that aren't zero, each behind its place.
@@ -141,7 +144,7 @@ impl Case for EveryOther {
     fn told(&self, alloc: Global) -> Result<String, Fail> {
         let mut set = BlockSet::empty(alloc, self.0)?;
         for half in 0..self.0 {
-            if half < 2048 && 2 * half < set.count() {
+            if half < 8192 && 2 * half < set.count() {
                 set.mark(2 * half);
             }
         }
@@ -161,6 +164,17 @@ impl Case for EveryOther {
         )?)
     }
 }
+
+const EVERY_OTHER: &[(EveryOther, &str)] = &[
+    (
+        EveryOther(4096),
+        "4096 bits, 512 bytes, true, 1 [1, 3, 5], 2048 runs",
+    ),
+    (
+        EveryOther(16384),
+        "16384 bits, 2048 bytes, true, 1 [1, 3, 5], 8192 runs",
+    ),
+];
 
 /// The runs of the set below a count with these numbers.
 struct Runs(u32, &'static [u32]);
@@ -184,19 +198,26 @@ const RUNS: &[(Runs, &str)] = &[
     (Runs(6, &[5, 3, 4, 0]), "(0, 1)(3, 6)"),
 ];
 
-/// Pages of so many numbers, of which these are marked in this order.
+/// Pages of so many numbers, of which these are marked in this order, and `None` for too many.
+fn pages_of(count: u32, numbers: &[u32]) -> Option<Pages> {
+    let mut pages = Pages::new(count)?;
+    for number in numbers {
+        if *number < pages.count() {
+            pages.mark(*number);
+        }
+    }
+    Some(pages)
+}
+
+/// Such pages: their count, the first number that is missing, those of the numbers below that are there, and the same of the
+/// count when they are cleared.
 struct Paged(u32, &'static [u32]);
 
 impl Case for Paged {
     fn told(&self, alloc: Global) -> Result<String, Fail> {
-        let Some(mut pages) = Pages::new(self.0) else {
+        let Some(mut pages) = pages_of(self.0, self.1) else {
             return Ok(String::from_str(alloc, "none")?);
         };
-        for number in self.1 {
-            if *number < pages.count() {
-                pages.mark(*number);
-            }
-        }
         let (count, first) = (pages.count(), pages.first_missing());
         let mut there = String::new(alloc);
         for number in ASKED {
@@ -218,10 +239,10 @@ const PAGED: &[(Paged, &str)] = &[
     ),
     (Paged(0, &[]), "0 0 ............. (0, 0, false)"),
     (
-        Paged(4096, &[4095, 0]),
-        "4096 1 x.........x.. (4096, 0, false)",
+        Paged(16384, &[16383, 0]),
+        "16384 1 x.........x.. (16384, 0, false)",
     ),
-    (Paged(4097, &[]), "none"),
+    (Paged(16385, &[]), "none"),
 ];
 
 /// Pages of so many numbers, of which all are marked, from the highest down: the first that is missing before the last of them
@@ -250,7 +271,7 @@ const ALL_PAGED: &[(AllPaged, &str)] = &[
     (AllPaged(63), "0, 63"),
     (AllPaged(64), "0, 64"),
     (AllPaged(65), "0, 65"),
-    (AllPaged(4096), "0, 4096"),
+    (AllPaged(16384), "0, 16384"),
 ];
 
 /// The marks with these numbers, marked in this order.
@@ -265,7 +286,21 @@ fn marks_of(numbers: &[u32]) -> Pages {
 }
 
 /// Numbers round the ends of bytes and of all marks.
-const ASKED: &[u32] = &[0, 1, 2, 3, 7, 8, 9, 15, 16, 4094, 4095, 4096, 4_294_967_295];
+const ASKED: &[u32] = &[
+    0,
+    1,
+    2,
+    3,
+    7,
+    8,
+    9,
+    15,
+    16,
+    16382,
+    16383,
+    16384,
+    4_294_967_295,
+];
 
 /// The first number that is missing, those of the numbers above that are there, and the bytes.
 fn marks_text(alloc: Global, marks: &Pages) -> Result<String, AllocError> {
@@ -300,21 +335,22 @@ const MARKED: &[(Marked, &str)] = &[
         Marked(&[8, 7, 6, 5, 4, 3, 2, 1, 0]),
         "9 xxxxxx......., 0:ff 1:80",
     ),
-    (Marked(&[4095]), "0 ..........x.., 511:01"),
+    (Marked(&[4095, 4096]), "0 ............., 511:01 512:80"),
+    (Marked(&[16383]), "0 ..........x.., 2047:01"),
     (
-        Marked(&[4095, 8, 7, 1, 1]),
-        "0 .x..xx....x.., 0:41 1:80 511:01",
+        Marked(&[16383, 8, 7, 1, 1]),
+        "0 .x..xx....x.., 0:41 1:80 2047:01",
     ),
 ];
 
-/// All are marked, and then a number again: the first that is missing, whether 4,095 and 4,096 are there, and whether each byte is
-/// ff.
+/// All are marked, and then a number again: the first that is missing, whether 16,383 and 16,384 are there, and whether each byte
+/// is ff.
 struct AllMarked(u32);
 
 impl Case for AllMarked {
     fn told(&self, alloc: Global) -> Result<String, Fail> {
         let mut marks = Pages::from_bytes(&[0xff; MARKS_SIZE]);
-        let told = (marks.first_missing(), marks.has(4095), marks.has(4096));
+        let told = (marks.first_missing(), marks.has(16383), marks.has(16384));
         if self.0 < marks.count() {
             marks.mark(self.0);
         }
@@ -350,10 +386,10 @@ const BELOW: &[(Below, &str)] = &[
     (Below(&[0, 7, 8], 9), "1, 9 bits, 2 bytes, 0:81 1:80"),
     // the highest number of all, below the greatest count and below the one before it
     (
-        Below(&[0, 4095], 4096),
-        "1, 4096 bits, 512 bytes, 0:80 511:01",
+        Below(&[0, 16383], 16384),
+        "1, 16384 bits, 2048 bytes, 0:80 2047:01",
     ),
-    (Below(&[0, 4095], 4095), "1, 4095 bits, 512 bytes, 0:80"),
+    (Below(&[0, 16383], 16383), "1, 16383 bits, 2048 bytes, 0:80"),
 ];
 
 /// Pages of so many numbers, with these marked, below a count: the first that is missing, and the bits that are shown; then the
@@ -362,14 +398,9 @@ struct PagedBelow(u32, &'static [u32], u32);
 
 impl Case for PagedBelow {
     fn told(&self, alloc: Global) -> Result<String, Fail> {
-        let Some(mut pages) = Pages::new(self.0) else {
+        let Some(pages) = pages_of(self.0, self.1) else {
             return Ok(String::from_str(alloc, "none")?);
         };
-        for number in self.1 {
-            if *number < pages.count() {
-                pages.mark(*number);
-            }
-        }
         let bits = pages.to_bits(alloc, self.2)?;
         let shown = nonzero(alloc, bits.as_bytes())?;
         let all = nonzero(alloc, pages.to_bytes().as_slice())?;
@@ -380,17 +411,52 @@ impl Case for PagedBelow {
 }
 
 const PAGED_BELOW: &[(PagedBelow, &str)] = &[
-    (PagedBelow(6, &[0, 2], 4), "1, 4 bits, 0:a0; 0:a0 4096"),
+    (PagedBelow(6, &[0, 2], 4), "1, 4 bits, 0:a0; 0:a0 16384"),
     // no number at or above the pages' own count is shown
     (
         PagedBelow(6, &[0, 1, 2, 3, 4, 5], 10),
-        "6, 6 bits, 0:fc; 0:fc 4096",
+        "6, 6 bits, 0:fc; 0:fc 16384",
     ),
     (
         PagedBelow(100, &[64, 99], 4_294_967_295),
-        "0, 100 bits, 8:80 12:10; 8:80 12:10 4096",
+        "0, 100 bits, 8:80 12:10; 8:80 12:10 16384",
     ),
-    (PagedBelow(0, &[], 8), "0, 0 bits,; 4096"),
+    (PagedBelow(0, &[], 8), "0, 0 bits,; 16384"),
+];
+
+/// Pages of so many numbers, with these marked, with another count: that count, the first number that is missing, and the bytes.
+struct Resized(u32, &'static [u32], u32);
+
+impl Case for Resized {
+    fn told(&self, alloc: Global) -> Result<String, Fail> {
+        let Some(pages) = pages_of(self.0, self.1) else {
+            return Ok(String::from_str(alloc, "none")?);
+        };
+        if MAX_BLOCKS < self.2 {
+            return Err("too great a count".into());
+        }
+        let resized = pages.resized(self.2);
+        let shown = nonzero(alloc, resized.to_bytes().as_slice())?;
+        let (count, first) = (resized.count(), resized.first_missing());
+        Ok(format!(in alloc; "{count} {first},{shown}")?)
+    }
+}
+
+const RESIZED: &[(Resized, &str)] = &[
+    // the same count
+    (Resized(6, &[0, 2], 6), "6 1, 0:a0"),
+    (Resized(0, &[], 0), "0 0,"),
+    // a greater one, of which no number is there that wasn't
+    (Resized(3, &[0, 1, 2], 6), "6 3, 0:e0"),
+    (Resized(4096, &[0, 4095], 16384), "16384 1, 0:80 511:01"),
+    // a lower one, and what is above it is lost
+    (Resized(6, &[0, 1, 3, 5], 4), "4 2, 0:d0"),
+    (Resized(6, &[0, 1, 2, 5], 3), "3 3, 0:e0"),
+    (
+        Resized(16384, &[0, 4095, 4096, 16383], 4096),
+        "4096 1, 0:80 511:01",
+    ),
+    (Resized(6, &[0, 5], 0), "0 0,"),
 ];
 
 /// The set below a count with these numbers: the lowest that aren't there, as many as a window of this width has.
@@ -416,7 +482,7 @@ const WINDOWS: &[(Lowest, &str)] = &[
     (Lowest(6, &[0, 1, 2, 3, 4, 5], 15), "15: []"),
     // the widest, and none
     (
-        Lowest(4096, &[0, 3], 15),
+        Lowest(16384, &[0, 3], 15),
         "15: [1, 2, 4, 5, 6, 7, 8, 9, 10, 11, 12, 13, 14, 15, 16]",
     ),
     (Lowest(6, &[], 0), "no width"),
@@ -428,13 +494,7 @@ fn blocks_and_sets(rt: HostRuntime) -> Result<(), Fail> {
     each(rt.alloc(), GEOMETRIES)?;
     each(rt.alloc(), SETS)?;
     each(rt.alloc(), SHOWN)?;
-    each(
-        rt.alloc(),
-        &[(
-            EveryOther(4096),
-            "4096 bits, 512 bytes, true, 1 [1, 3, 5], 2048 runs",
-        )],
-    )?;
+    each(rt.alloc(), EVERY_OTHER)?;
     each(rt.alloc(), RUNS)?;
     each(rt.alloc(), PAGED)?;
     each(rt.alloc(), ALL_PAGED)
@@ -443,8 +503,9 @@ fn blocks_and_sets(rt: HostRuntime) -> Result<(), Fail> {
 #[test]
 fn marks_and_windows(rt: HostRuntime) -> Result<(), Fail> {
     each(rt.alloc(), MARKED)?;
-    each(rt.alloc(), &[(AllMarked(17), "(4096, true, false) true")])?;
+    each(rt.alloc(), &[(AllMarked(17), "(16384, true, false) true")])?;
     each(rt.alloc(), BELOW)?;
     each(rt.alloc(), PAGED_BELOW)?;
+    each(rt.alloc(), RESIZED)?;
     each(rt.alloc(), WINDOWS)
 }

@@ -59,10 +59,10 @@ impl Case for Field {
 
 const LENGTHS: &[(Field, &str)] = &[
     (Field(0, 0), "None"),
-    (Field(1280, 1280), "None"),
-    (Field(1281, 1281), "Some(TooLong)"),
-    (Field(1280, 1281), "Some(Length)"),
-    (Field(1281, 1280), "Some(Length)"),
+    (Field(2304, 2304), "None"),
+    (Field(2305, 2305), "Some(TooLong)"),
+    (Field(2304, 2305), "Some(Length)"),
+    (Field(2305, 2304), "Some(Length)"),
     (Field(0, 65536), "Some(Length)"),
 ];
 
@@ -83,8 +83,8 @@ impl Case for Carried {
 }
 
 const CARRIED: &[(Carried, &str)] = &[
-    (Carried(1280), "fffe 0100 true"),
-    (Carried(1281), "TooLong"),
+    (Carried(2304), "fffe 0100 true"),
+    (Carried(2305), "TooLong"),
 ];
 
 #[test]

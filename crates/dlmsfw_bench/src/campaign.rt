@@ -22,6 +22,7 @@ pub fn setup_of(alloc: Global, meters: u32, size: u32, width: u32) -> Result<Set
             block_size: BLOCK_SIZE,
             capacity: size,
             factory: b"a".to_vec(alloc)?,
+            old: false,
         })?;
     }
     let mut heads = Vec::new(alloc);

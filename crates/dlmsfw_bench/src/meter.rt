@@ -6,8 +6,8 @@ use fw_store::{FileStore, ImageStore, MemoryStore};
 use std::alloc::{AllocError, Global};
 use std::fs;
 
-/// Room for the longest image.
-pub const CAPACITY: u32 = 4_194_304;
+/// Room for the longest image of a load.
+pub const CAPACITY: u32 = 16_777_216;
 
 /// The image that a meter runs at first.
 pub const FACTORY: &[u8] = b"abc";

@@ -11,7 +11,8 @@ use Rattle.fw_head.specs.Head.{Head, HeadHears, opened_head, cancelled_head, res
 use Rattle.fw_head.specs.Laws.{OneRow}
 use Rattle.fw_head.specs.Row.{RowHears}
 use Rattle.fw_image.specs.Laws.{OneTurn}
-use Rattle.fw_image.specs.Meter.{Meter, reopened}
+use Rattle.fw_image.specs.Meter as image
+use Rattle.fw_image.specs.Meter.{Meter}
 use Rattle.fw_image.specs.Step.{Turn}
 use Rattle.fw_meter.specs.Handling.{Handles}
 use Rattle.fw_meter.specs.Laws.{OneAnswer}
@@ -23,8 +24,8 @@ use Rattle.fw_world.specs.declared.setup.Setup.{Setup}
 use Rattle.fw_world.specs.Refusals.{IsRefused, refusal_of}
 use Rattle.fw_world.specs.Runs.{events_of}
 use Rattle.fw_world.specs.Setup.{opening_state}
-use Rattle.fw_world.specs.State.{State, DeliversAt, StateRun, StateStep, head_at, meter_at, sent_to, set_head, set_meter}
-use Rattle.fw_world.specs.Step.{Event, activated, cancel_campaign, deliver, open_campaign, replies, restart_head, restart_meter, stop, tick, turn}
+use Rattle.fw_world.specs.State.{State, DeliversAt, StateRun, StateStep, head_at, meter_at, restarted_within, sent_to, set_head, set_meter}
+use Rattle.fw_world.specs.Step.{Event, activated, cancel_campaign, deliver, open_campaign, replies, restart_head, restart_meter, stop, stop_restart, tick, turn}
 use Rattle.fw_world.specs.View.{event_of}
 use Rattle.fw_world.specs.World.{Datagram}
 use Rattle.fw_air.specs.Laws.{NoneRefused, OneWorld, is_stop}
@@ -79,7 +80,10 @@ module _ (one_row : OneRow) (one_turn : OneTurn) (one_answer : OneAnswer) where
   step_once old new other (stop number calls torn) none a b = absurd cc
   step_once old new other (restart_meter number) none a b =
       let meter = same_found (meter_at old number) a.0 b.0 a.1 b.1 in
-      a.2 ∙ ap (λ m. set_meter old number (reopened m)) meter ∙ sym b.2
+      a.2 ∙ ap (λ m. set_meter old number (image.restarted m)) meter ∙ sym b.2
+  step_once old new other (stop_restart number calls torn) none a b =
+      let meter = same_found (meter_at old number) a.0 b.0 a.1 b.1 in
+      a.2 ∙ ap (λ m. set_meter old number (restarted_within calls m)) meter ∙ sym b.2
   step_once old new other (restart_head number) none a b =
       let head = same_found (head_at old number) a.0 b.0 a.1 b.1 in
       a.2 ∙ ap (λ h. set_head old number (restarted h)) head ∙ sym b.2

@@ -11,7 +11,7 @@ use Rattle.fw_world.specs.declared.error.StepError.{StepError}
 use Rattle.fw_world.specs.Laws.{ActorsStay, SentStaysAddressed}
 use Rattle.fw_world.specs.Refusals.{refusal_of, with_head, with_meter, with_datagram, no_addressee}
 use Rattle.fw_world.specs.State.{State, IsAddressed, AreAddressed, StateStep, DeliversAt, head_at, meter_at}
-use Rattle.fw_world.specs.Step.{Event, open_campaign, cancel_campaign, tick, deliver, stop, restart_meter, restart_head, turn}
+use Rattle.fw_world.specs.Step.{Event, open_campaign, cancel_campaign, tick, deliver, stop, restart_meter, stop_restart, restart_head, turn}
 use Rattle.fw_world.specs.World.{Datagram}
 use Rattle.fw_world.specs.declared.setup.Setup.{Setup}
 use Rattle.fw_world.specs.Setup.{opening_state}
@@ -65,6 +65,7 @@ sent_grows old new (deliver number) s = by s.0.direction s.2
     by ToHead hears = as_long old new (ap (λ (w : State). w.sent) hears.new_is)
 sent_grows old new (stop number calls torn) s = as_long old new (ap (λ (w : State). w.sent) s.3.new_is)
 sent_grows old new (restart_meter number) s = as_long old new (ap (λ (w : State). w.sent) s.2)
+sent_grows old new (stop_restart number calls torn) s = as_long old new (ap (λ (w : State). w.sent) s.2)
 sent_grows old new (restart_head number) s = as_long old new (ap (λ (w : State). w.sent) s.2)
 sent_grows old new (turn number) s = as_long old new (ap (λ (w : State). w.sent) s.4)
 

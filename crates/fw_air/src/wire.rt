@@ -6,7 +6,7 @@ use thiserror::Error;
 
 /// The most bytes of a datagram that is looked up: one more than a datagram of this profile can have, so a longer one is cut to bytes
 /// that nobody sent.
-pub const MAX_RECEIVED: usize = 1289;
+pub const MAX_RECEIVED: usize = 2313;
 
 /// The most datagrams that one pass reads from a wire.
 pub const MAX_PASSED: u32 = 64;
@@ -46,7 +46,7 @@ impl Pass {
     pub fn next<W: Wire>(&mut self, wire: &mut W, buffer: &mut [u8; MAX_RECEIVED]) -> Option<usize>
         ensures one { IfSome result (λ _. self.new.left + 1 ≡ self.old.left) }
         ensures over { IfNone result (self.new.left ≡ 0) }
-        ensures bound { IfSome result (λ count. count ≤ 1289) }
+        ensures bound { IfSome result (λ count. count ≤ 2313) }
     {
         if self.left == 0 {
             return None;

@@ -114,9 +114,9 @@ first_missing_complete bs none i below = first_missing-before bs i (omega arith)
 
 -- ---- a set that is filled with bits, the first ones first
 
-fill_next : (bits : List Bool) (n count : ℕ) → length bits ≡ count → n < length bits
+fill_next : (bits : List Bool) (n count : ℕ) → n < count → n < length bits
     → set (take n bits ++ replicate (count - n) false) n (get_or bits n false) ≡ take (n + 1) bits ++ replicate (count - (n + 1)) false
-fill_next bits n count size below =
+fill_next bits n count within below =
     let one_less : count - n ≡ suc (count - (n + 1)) = omega arith in
     let bit = get_or bits n false in
     let rest : List Bool = replicate (count - (n + 1)) false in
@@ -125,17 +125,17 @@ fill_next bits n count size below =
     ∙ sym (append_assoc (take n bits) (bit ∷ []) rest)
     ∙ ap (λ (front : List Bool). front ++ rest) (sym (take_more bits n false below))
 
-pub fill_member : (bits : List Bool) (n count : ℕ) → length bits ≡ count → n < length bits → get_or bits n false ≡ true
+pub fill_member : (bits : List Bool) (n count : ℕ) → n < count → n < length bits → get_or bits n false ≡ true
     → set (take n bits ++ replicate (count - n) false) n true ≡ take (n + 1) bits ++ replicate (count - (n + 1)) false
-fill_member bits n count size below bit =
-    ap (set (take n bits ++ replicate (count - n) false) n) (sym bit) ∙ fill_next bits n count size below
+fill_member bits n count within below bit =
+    ap (set (take n bits ++ replicate (count - n) false) n) (sym bit) ∙ fill_next bits n count within below
 
-pub fill_absent : (bits : List Bool) (n count : ℕ) → length bits ≡ count → n < length bits → get_or bits n false ≡ false
+pub fill_absent : (bits : List Bool) (n count : ℕ) → n < count → n < length bits → get_or bits n false ≡ false
     → take n bits ++ replicate (count - n) false ≡ take (n + 1) bits ++ replicate (count - (n + 1)) false
-fill_absent bits n count size below bit =
+fill_absent bits n count within below bit =
     let one_less : count - n ≡ suc (count - (n + 1)) = omega arith in
     let there : get_or (take n bits ++ replicate (count - n) false) n false ≡ false =
     ap (λ (k : ℕ). get_or (take n bits ++ replicate k false) n false) one_less
     ∙ get_or_at (take n bits) false (replicate (count - (n + 1)) false) false n (length-take-le n bits (omega arith)) in
     sym (set-get_or (take n bits ++ replicate (count - n) false) n false)
-    ∙ ap (set (take n bits ++ replicate (count - n) false) n) (there ∙ sym bit) ∙ fill_next bits n count size below
+    ∙ ap (set (take n bits ++ replicate (count - n) false) n) (there ∙ sym bit) ∙ fill_next bits n count within below

@@ -14,7 +14,7 @@ use Rattle.std.specs.List.{All, flat_map}
 use Rattle.fw_axdr.specs.Bits.{byte_bits, bits, packed}
 use Rattle.fw_axdr.specs.Laws.{BytesPacked}
 use Rattle.fw_blocks.specs.Cuts.{max_blocks}
-use Rattle.fw_blocks.specs.Inside.{is_marked, marks_of, word_of, ones_of, page_of, words_of, counts_of, HoldsPages}
+use Rattle.fw_blocks.specs.Inside.{page_count, is_marked, marks_of, word_of, ones_of, page_of, words_of, counts_of, HoldsPages}
 use Rattle.fw_blocks.specs.Members.{has, IsFirstMissing, all_marks}
 use Rattle.fw_blocks.proofs.BitLemmas.{length-bits, get_or-bits}
 use lib.Count.{ones_step, ones-le}
@@ -148,7 +148,7 @@ count_ones-word (suc n) w small =
 
 -- ---- the words of pages
 
-past_pages : (words : List ℕ) (i : ℕ) → length words ≡ 64 → max_blocks ≤ i → is_marked words i ≡ false
+past_pages : (words : List ℕ) (i : ℕ) → length words ≡ page_count → max_blocks ≤ i → is_marked words i ≡ false
 past_pages words i size past =
     let none : get_or words (i / 64) 0 ≡ 0 = get_or_past words (i / 64) 0 (omega arith) in
     ap (λ (w : ℕ). eqb (bit_at w (63 - i % 64)) 1) none ∙ ap (λ (q : ℕ). eqb q 1) (bit_at-zero (63 - i % 64))
@@ -164,7 +164,7 @@ marked_in words page i h =
 
 -- what holds of words that are no marks past the count
 
-module _ (count : ℕ) (words : List ℕ) (size : length words ≡ 64) (past : (i : ℕ) → count ≤ i → is_marked words i ≡ false) where
+module _ (count : ℕ) (words : List ℕ) (size : length words ≡ page_count) (past : (i : ℕ) → count ≤ i → is_marked words i ≡ false) where
   has_is : (i : ℕ) → has (marks_of count words) i ≡ is_marked words i
   has_is i =
       elim (cases_lt i count) [
@@ -175,33 +175,33 @@ module _ (count : ℕ) (words : List ℕ) (size : length words ≡ 64) (past : (
   page_is : (page i : ℕ) → i < 64 → page_of (marks_of count words) page i ≡ bit_from_top (get_or words page 0) 64 i
   page_is page i h = has_is (64 * page + i) ∙ marked_in words page i h
 
-  words_are : ((page : ℕ) → page < 64 → get_or words page 0 < 2 ^ 64) → words_of (marks_of count words) ≡ words
+  words_are : ((page : ℕ) → page < page_count → get_or words page 0 < 2 ^ 64) → words_of (marks_of count words) ≡ words
   unfolding words_of
   words_are small =
       let marks = marks_of count words in
-      ext_get_or 0 (words_of marks) words (length-map-range_with_len (λ page. word_of (page_of marks page) 64) 0 64 ∙ sym size) (λ page h.
-      let below : page < 64 = omega (arith, length-map-range_with_len (λ page. word_of (page_of marks page) 64) 0 64) in
-      get_or-map-range_with_len (λ page. word_of (page_of marks page) 64) 0 64 page page 0 below (omega arith)
+      ext_get_or 0 (words_of marks) words (length-map-range_with_len (λ page. word_of (page_of marks page) 64) 0 page_count ∙ sym size) (λ page h.
+      let below : page < page_count = omega (arith, length-map-range_with_len (λ page. word_of (page_of marks page) 64) 0 page_count) in
+      get_or-map-range_with_len (λ page. word_of (page_of marks page) 64) 0 page_count page page 0 below (omega arith)
       ∙ word_of-same (page_of marks page) (bit_from_top (get_or words page 0) 64) 64 (page_is page)
       ∙ word_of-bits (get_or words page 0) 64 64 (small page below) (omega arith) ∙ omega arith)
 
-  counts_are : (counts : List ℕ) → length counts ≡ 64 → ((page : ℕ) → page < 64 → get_or counts page 0 ≡ ones_of (bit_from_top (get_or words page 0) 64) 64)
+  counts_are : (counts : List ℕ) → length counts ≡ page_count → ((page : ℕ) → page < page_count → get_or counts page 0 ≡ ones_of (bit_from_top (get_or words page 0) 64) 64)
       → counts_of (marks_of count words) ≡ counts
   unfolding counts_of
   counts_are counts many each =
       let marks = marks_of count words in
-      ext_get_or 0 (counts_of marks) counts (length-map-range_with_len (λ page. ones_of (page_of marks page) 64) 0 64 ∙ sym many) (λ page h.
-      let below : page < 64 = omega (arith, length-map-range_with_len (λ page. ones_of (page_of marks page) 64) 0 64) in
-      get_or-map-range_with_len (λ page. ones_of (page_of marks page) 64) 0 64 page page 0 below (omega arith)
+      ext_get_or 0 (counts_of marks) counts (length-map-range_with_len (λ page. ones_of (page_of marks page) 64) 0 page_count ∙ sym many) (λ page h.
+      let below : page < page_count = omega (arith, length-map-range_with_len (λ page. ones_of (page_of marks page) 64) 0 page_count) in
+      get_or-map-range_with_len (λ page. ones_of (page_of marks page) 64) 0 page_count page page 0 below (omega arith)
       ∙ ones_of-same (page_of marks page) (bit_from_top (get_or words page 0) 64) 64 (page_is page) ∙ sym (each page below))
 
 -- so far as the words are those of marks, they are
 
 pub record AreWords (count : ℕ) (words counts : List ℕ) : Type 0 where
-  pub words_size : length words ≡ 64
-  pub counts_size : length counts ≡ 64
-  pub small : (page : ℕ) → page < 64 → get_or words page 0 < 2 ^ 64
-  pub each : (page : ℕ) → page < 64 → get_or counts page 0 ≡ ones_of (bit_from_top (get_or words page 0) 64) 64
+  pub words_size : length words ≡ page_count
+  pub counts_size : length counts ≡ page_count
+  pub small : (page : ℕ) → page < page_count → get_or words page 0 < 2 ^ 64
+  pub each : (page : ℕ) → page < page_count → get_or counts page 0 ≡ ones_of (bit_from_top (get_or words page 0) 64) 64
   pub past : (i : ℕ) → count ≤ i → is_marked words i ≡ false
 
 pub holds : (count : ℕ) (words counts : List ℕ) → count ≤ max_blocks → AreWords count words counts → HoldsPages words counts count
@@ -217,30 +217,30 @@ unfolding words_of
 marks_in_words marks i h =
     let page : ℕ = i / 64 in
     let whole : 64 * (i / 64) + i % 64 ≡ i = omega arith in
-    ap (λ (w : ℕ). eqb (bit_at w (63 - i % 64)) 1) (get_or-map-range_with_len (λ page. word_of (page_of marks page) 64) 0 64 page page 0 (omega arith) (omega arith))
+    ap (λ (w : ℕ). eqb (bit_at w (63 - i % 64)) 1) (get_or-map-range_with_len (λ page. word_of (page_of marks page) 64) 0 page_count page page 0 (omega arith) (omega arith))
     ∙ bit-word_of (page_of marks page) 64 (i % 64) (omega arith)
     ∙ ap (has marks) whole
 
-length-words_of : (marks : List Bool) → length (words_of marks) ≡ 64
+length-words_of : (marks : List Bool) → length (words_of marks) ≡ page_count
 unfolding words_of
-length-words_of marks = length-map-range_with_len (λ page. word_of (page_of marks page) 64) 0 64
+length-words_of marks = length-map-range_with_len (λ page. word_of (page_of marks page) 64) 0 page_count
 
-length-counts_of : (marks : List Bool) → length (counts_of marks) ≡ 64
+length-counts_of : (marks : List Bool) → length (counts_of marks) ≡ page_count
 unfolding counts_of
-length-counts_of marks = length-map-range_with_len (λ page. ones_of (page_of marks page) 64) 0 64
+length-counts_of marks = length-map-range_with_len (λ page. ones_of (page_of marks page) 64) 0 page_count
 
-word_small : (marks : List Bool) (page : ℕ) → page < 64 → get_or (words_of marks) page 0 < 2 ^ 64
+word_small : (marks : List Bool) (page : ℕ) → page < page_count → get_or (words_of marks) page 0 < 2 ^ 64
 unfolding words_of
 word_small marks page h =
     let P : ℕ → Type 0 = λ w. w < 2 ^ 64 in
-    subst P (sym (get_or-map-range_with_len (λ page. word_of (page_of marks page) 64) 0 64 page page 0 h (omega arith))) (word_of-lt (page_of marks page) 64)
+    subst P (sym (get_or-map-range_with_len (λ page. word_of (page_of marks page) 64) 0 page_count page page 0 h (omega arith))) (word_of-lt (page_of marks page) 64)
 
-count_in : (marks : List Bool) (page : ℕ) → page < 64 → get_or (counts_of marks) page 0 ≡ ones_of (page_of marks page) 64
+count_in : (marks : List Bool) (page : ℕ) → page < page_count → get_or (counts_of marks) page 0 ≡ ones_of (page_of marks page) 64
 unfolding counts_of
-count_in marks page h = get_or-map-range_with_len (λ page. ones_of (page_of marks page) 64) 0 64 page page 0 h (omega arith)
+count_in marks page h = get_or-map-range_with_len (λ page. ones_of (page_of marks page) 64) 0 page_count page page 0 h (omega arith)
 
 module _ (count : ℕ) (words counts : List ℕ) (h : HoldsPages words counts count) where
-  held_size : length words ≡ 64
+  held_size : length words ≡ page_count
   held_size = sym (ap length h.words_again) ∙ length-words_of (marks_of count words)
 
   held_past : (i : ℕ) → count ≤ i → is_marked words i ≡ false
@@ -256,12 +256,12 @@ module _ (count : ℕ) (words counts : List ℕ) (h : HoldsPages words counts co
   pub held_has : (i : ℕ) → has (marks_of count words) i ≡ is_marked words i
   held_has i = has_is count words held_size held_past i
 
-  held_small : (page : ℕ) → page < 64 → get_or words page 0 < 2 ^ 64
+  held_small : (page : ℕ) → page < page_count → get_or words page 0 < 2 ^ 64
   held_small page below =
       let P : List ℕ → Type 0 = λ ws. get_or ws page 0 < 2 ^ 64 in
       subst P h.words_again (word_small (marks_of count words) page below)
 
-  held_each : (page : ℕ) → page < 64 → get_or counts page 0 ≡ ones_of (bit_from_top (get_or words page 0) 64) 64
+  held_each : (page : ℕ) → page < page_count → get_or counts page 0 ≡ ones_of (bit_from_top (get_or words page 0) 64) 64
   held_each page below =
       let marks = marks_of count words in
       sym (ap (λ (cs : List ℕ). get_or cs page 0) h.counts_again) ∙ count_in marks page below
@@ -279,13 +279,13 @@ module _ (count : ℕ) (words counts : List ℕ) (h : HoldsPages words counts co
 -- ---- no mark
 
 abbrev zeros : List ℕ
-zeros = replicate 64 0
+zeros = replicate page_count 0
 
 zero_bit : (page i : ℕ) → get_or zeros page 0 ≡ 0 → eqb (bit_at (get_or zeros page 0) (63 - i % 64)) 1 ≡ false
 zero_bit page i e = ap (λ (w : ℕ). eqb (bit_at w (63 - i % 64)) 1) e ∙ ap (λ (q : ℕ). eqb q 1) (bit_at-zero (63 - i % 64))
 
-zero_in : (page : ℕ) → page < 64 → get_or zeros page 0 ≡ 0
-zero_in page h = get_or-replicate {A = ℕ} 64 page 0 0 h
+zero_in : (page : ℕ) → page < page_count → get_or zeros page 0 ≡ 0
+zero_in page h = get_or-replicate {A = ℕ} page_count page 0 0 h
 
 no_ones : (n : ℕ) → ones_of (bit_from_top 0 64) n ≡ 0
 unfolding ones_of
@@ -294,15 +294,15 @@ no_ones (suc n) = rw (no_ones n, bit_at-zero (64 - 1 - n)) refl
 
 unmarked : (i : ℕ) → is_marked zeros i ≡ false
 unmarked i =
-    elim (cases_lt (i / 64) 64) [
+    elim (cases_lt (i / 64) page_count) [
       | inl below ↦ zero_bit (i / 64) i (zero_in (i / 64) below)
       | inr past ↦ zero_bit (i / 64) i (get_or_past zeros (i / 64) 0 past)
     ]
 
-pub none_words : (count : ℕ) → AreWords count (replicate 64 0) (replicate 64 0)
+pub none_words : (count : ℕ) → AreWords count (replicate page_count 0) (replicate page_count 0)
 none_words count = record {
-  words_size = refl;
-  counts_size = refl;
+  words_size = length-replicate {A = ℕ} page_count 0;
+  counts_size = length-replicate {A = ℕ} page_count 0;
   small = λ page below.
       let P : ℕ → Type 0 = λ w. w < 2 ^ 64 in
       let few : 0 < 2 ^ 64 = omega arith in
@@ -311,11 +311,11 @@ none_words count = record {
   past = λ i h. unmarked i;
 }
 
-pub none_marks : (count : ℕ) → marks_of count (replicate 64 0) ≡ replicate count false
+pub none_marks : (count : ℕ) → marks_of count (replicate page_count 0) ≡ replicate count false
 none_marks count =
     let size = length-marks_of count zeros in
     ext_get_or false (marks_of count zeros) (replicate count false) (omega (arith, length-replicate count false)) (λ i h.
-    has_is count zeros refl (λ j above. unmarked j) i ∙ unmarked i ∙ sym (get_or-replicate count i false false (omega arith)))
+    has_is count zeros (length-replicate {A = ℕ} page_count 0) (λ j above. unmarked j) i ∙ unmarked i ∙ sym (get_or-replicate count i false false (omega arith)))
 
 -- ---- one mark more
 
@@ -346,7 +346,7 @@ abbrev with_mark : ℕ → ℕ → ℕ
 with_mark w k = bit_or w (1 * 2 ^ k % 2 ^ 64)
 
 -- the word with one bit set, in its place
-pub marked_set : (words : List ℕ) (n : ℕ) → length words ≡ 64 → n < max_blocks → (i : ℕ)
+pub marked_set : (words : List ℕ) (n : ℕ) → length words ≡ page_count → n < max_blocks → (i : ℕ)
     → is_marked (set words (n / 64) (with_mark (get_or words (n / 64) 0) (63 - n % 64))) i ≡ (eqb i n || is_marked words i)
 marked_set words n size below i =
     let w : ℕ = get_or words (n / 64) 0 in
@@ -425,7 +425,7 @@ words_more count n w words counts below few are unset small more =
 contradicts : {b : Bool} → b ≡ true → b ≡ false → ⊥
 contradicts h other = cc
 
-pub pages_full : (count : ℕ) (words counts : List ℕ) → AreWords count words counts → (pages : ℕ) → pages ≤ 64
+pub pages_full : (count : ℕ) (words counts : List ℕ) → AreWords count words counts → (pages : ℕ) → pages ≤ page_count
     → ((page : ℕ) → page < pages → 64 ≤ get_or counts page 0) → (i : ℕ) → i < 64 * pages → is_marked words i ≡ true
 pages_full count words counts are pages few full i h =
     let page : ℕ = i / 64 in
@@ -447,7 +447,7 @@ first_of_pages count words counts h n before here =
       absent = λ below. record { below = below; absent = has_all n ∙ here };
     }
 
-pub marked_below : (words : List ℕ) (i : ℕ) → length words ≡ 64 → is_marked words i ≡ true → i < max_blocks
+pub marked_below : (words : List ℕ) (i : ℕ) → length words ≡ page_count → is_marked words i ≡ true → i < max_blocks
 marked_below words i size there =
     elim (cases_lt i max_blocks) [
       | inl below ↦ below
@@ -503,7 +503,7 @@ length-words_bytes : (words : List ℕ) → length (flat_map (to_be_bytes w64) w
 length-words_bytes [] = refl
 length-words_bytes (w ∷ ws) = omega (arith, length-append (to_be_bytes w64 w) (flat_map (to_be_bytes w64) ws), length-words_bytes ws)
 
-pub marks_bits : (words : List ℕ) → length words ≡ 64 → marks_of max_blocks words ≡ bits (flat_map (to_be_bytes w64) words)
+pub marks_bits : (words : List ℕ) → length words ≡ page_count → marks_of max_blocks words ≡ bits (flat_map (to_be_bytes w64) words)
 marks_bits words size =
     let bytes = flat_map (to_be_bytes w64) words in
     let many = length-marks_of max_blocks words in
@@ -518,22 +518,22 @@ one_word words page w below =
     ap (flat_map (to_be_bytes w64)) (take_more_set words page w below) ∙ flat_map-append (to_be_bytes w64) (take page words) (w ∷ [])
 
 pub record ReadTo (bytes : List ℕ) (page : ℕ) (words counts : List ℕ) : Type 0 where
-  pub words_size : length words ≡ 64
-  pub counts_size : length counts ≡ 64
+  pub words_size : length words ≡ page_count
+  pub counts_size : length counts ≡ page_count
   pub read : flat_map (to_be_bytes w64) (take page words) ≡ take (8 * page) bytes
-  pub small : (k : ℕ) → k < 64 → get_or words k 0 < 2 ^ 64
+  pub small : (k : ℕ) → k < page_count → get_or words k 0 < 2 ^ 64
   pub each : (k : ℕ) → k < page → get_or counts k 0 ≡ count_ones (get_or words k 0)
 
-pub read_none : (bytes : List ℕ) → ReadTo bytes 0 (replicate 64 0) (replicate 64 0)
+pub read_none : (bytes : List ℕ) → ReadTo bytes 0 (replicate page_count 0) (replicate page_count 0)
 read_none bytes = record {
-  words_size = refl;
-  counts_size = refl;
+  words_size = length-replicate {A = ℕ} page_count 0;
+  counts_size = length-replicate {A = ℕ} page_count 0;
   read = refl;
   small = (none_words 0).small;
   each = λ k h. absurd (omega arith);
 }
 
-pub read_next : (bytes : List ℕ) (page w : ℕ) (words counts : List ℕ) → ReadTo bytes page words counts → page < 64 → w < 2 ^ 64
+pub read_next : (bytes : List ℕ) (page w : ℕ) (words counts : List ℕ) → ReadTo bytes page words counts → page < page_count → w < 2 ^ 64
     → to_be_bytes w64 w ≡ slice_range bytes (8 * page) (8 * page + 8) → ReadTo bytes (page + 1) (set words page w) (set counts page (count_ones w))
 read_next bytes page w words counts r below small is = record {
   words_size = length-set words page w ∙ r.words_size;
@@ -562,13 +562,13 @@ read_next bytes page w words counts r below small is = record {
   ];
 }
 
-read_words : (bytes : List ℕ) (words counts : List ℕ) → length bytes ≡ 512 → ReadTo bytes 64 words counts → flat_map (to_be_bytes w64) words ≡ bytes
+read_words : (bytes : List ℕ) (words counts : List ℕ) → length bytes ≡ 8 * page_count → ReadTo bytes page_count words counts → flat_map (to_be_bytes w64) words ≡ bytes
 read_words bytes words counts size r =
-    let all : take 64 words ≡ words = take_all 64 words (omega (arith, r.words_size)) in
-    let whole : take (8 * 64) bytes ≡ bytes = take_all (8 * 64) bytes (omega arith) in
+    let all : take page_count words ≡ words = take_all page_count words (omega (arith, r.words_size)) in
+    let whole : take (8 * page_count) bytes ≡ bytes = take_all (8 * page_count) bytes (omega arith) in
     ap (flat_map (to_be_bytes w64)) (sym all) ∙ r.read ∙ whole
 
-pub read_all : (bytes : List ℕ) (words counts : List ℕ) → ReadTo bytes 64 words counts → AreWords max_blocks words counts
+pub read_all : (bytes : List ℕ) (words counts : List ℕ) → ReadTo bytes page_count words counts → AreWords max_blocks words counts
 read_all bytes words counts r = record {
   words_size = r.words_size;
   counts_size = r.counts_size;
@@ -577,7 +577,7 @@ read_all bytes words counts r = record {
   past = λ i h. past_pages words i r.words_size h;
 }
 
-pub read_marks : (bytes : List ℕ) (words counts : List ℕ) → length bytes ≡ 512 → ReadTo bytes 64 words counts → marks_of max_blocks words ≡ bits bytes
+pub read_marks : (bytes : List ℕ) (words counts : List ℕ) → length bytes ≡ 8 * page_count → ReadTo bytes page_count words counts → marks_of max_blocks words ≡ bits bytes
 read_marks bytes words counts size r = marks_bits words r.words_size ∙ ap bits (read_words bytes words counts size r)
 
 pub written_next : (bytes bytes' words : List ℕ) (page : ℕ) → page < length words → take (8 * page) bytes ≡ flat_map (to_be_bytes w64) (take page words)
@@ -609,35 +609,47 @@ length-all_marks marks few =
     let rest = replicate (max_blocks - length marks) false in
     omega (arith, length-append marks rest, length-replicate (max_blocks - length marks) false)
 
--- with no others, the marks are those of all pages
-all_of_pages : (count : ℕ) (words : List ℕ) → count ≤ max_blocks → ((i : ℕ) → count ≤ i → is_marked words i ≡ false) → all_marks (marks_of count words) ≡ marks_of max_blocks words
-all_of_pages count words few past =
+-- with no others, the marks are those below a greater count
+pub marks_grown : (count more : ℕ) (words : List ℕ) → count ≤ more → ((i : ℕ) → count ≤ i → is_marked words i ≡ false)
+    → marks_of count words ++ replicate (more - length (marks_of count words)) false ≡ marks_of more words
+marks_grown count more words few past =
     let marks = marks_of count words in
-    let rest = replicate (max_blocks - length marks) false in
+    let rest = replicate (more - length marks) false in
     let size = length-marks_of count words in
-    let many = length-marks_of max_blocks words in
-    let all = length-all_marks marks (omega (arith, size)) in
-    ext_get_or false (all_marks marks) (marks_of max_blocks words) (omega (arith, many, all)) (λ i h.
-    let below : i < max_blocks = omega (arith, all, h) in
+    let many = length-marks_of more words in
+    let all = length-append marks rest in
+    let others = length-replicate (more - length marks) false in
+    ext_get_or false (marks ++ rest) (marks_of more words) (omega (arith, size, many, all, others)) (λ i h.
+    let below : i < more = omega (arith, size, all, others, h) in
     elim (cases_lt i count) [
       | inl here ↦
           get_or_append_left marks rest false i (omega (arith, size)) ∙ get_or-map-range_with_len (is_marked words) 0 count i i false (omega arith) (omega arith)
-          ∙ sym (get_or-map-range_with_len (is_marked words) 0 max_blocks i i false (omega arith) (omega arith))
+          ∙ sym (get_or-map-range_with_len (is_marked words) 0 more i i false (omega arith) (omega arith))
       | inr later ↦
-          get_or-append_right marks rest count i false size later ∙ get_or-replicate (max_blocks - length marks) (i - count) false false (omega (arith, size))
-          ∙ sym (past i later) ∙ sym (get_or-map-range_with_len (is_marked words) 0 max_blocks i i false (omega arith) (omega arith))
+          get_or-append_right marks rest count i false size later ∙ get_or-replicate (more - length marks) (i - count) false false (omega (arith, size))
+          ∙ sym (past i later) ∙ sym (get_or-map-range_with_len (is_marked words) 0 more i i false (omega arith) (omega arith))
     ])
+
+-- so below a greater count they are still those of the words
+pub grown : (count more : ℕ) (words counts : List ℕ) → count ≤ more → AreWords count words counts → AreWords more words counts
+grown count more words counts few are = record {
+  words_size = are.words_size;
+  counts_size = are.counts_size;
+  small = are.small;
+  each = are.each;
+  past = λ i above. are.past i (omega arith);
+}
 
 pub all_again : (marks : List Bool) → length marks ≡ max_blocks → all_marks marks ≡ marks
 all_again marks size =
     let none : max_blocks - length marks ≡ 0 = omega arith in
     ap (λ (n : ℕ). marks ++ replicate n false) none ∙ append-nil marks
 
-pub written_all : (count : ℕ) (bytes words counts : List ℕ) → count ≤ max_blocks → AreWords count words counts → length bytes ≡ 512 → BytesPacked
-    → take (8 * 64) bytes ≡ flat_map (to_be_bytes w64) (take 64 words) → bytes ≡ packed (all_marks (marks_of count words))
+pub written_all : (count : ℕ) (bytes words counts : List ℕ) → count ≤ max_blocks → AreWords count words counts → length bytes ≡ 8 * page_count → BytesPacked
+    → take (8 * page_count) bytes ≡ flat_map (to_be_bytes w64) (take page_count words) → bytes ≡ packed (all_marks (marks_of count words))
 written_all count bytes words counts few are long comes_back written =
-    let all : take 64 words ≡ words = take_all 64 words (omega (arith, are.words_size)) in
-    let every : take (8 * 64) bytes ≡ bytes = take_all (8 * 64) bytes (omega arith) in
+    let all : take page_count words ≡ words = take_all page_count words (omega (arith, are.words_size)) in
+    let every : take (8 * page_count) bytes ≡ bytes = take_all (8 * page_count) bytes (omega arith) in
     let spelled : bytes ≡ flat_map (to_be_bytes w64) words = sym every ∙ written ∙ ap (flat_map (to_be_bytes w64)) all in
     spelled ∙ sym (comes_back (flat_map (to_be_bytes w64) words) (small_bytes words))
-    ∙ ap packed (sym (marks_bits words are.words_size) ∙ sym (all_of_pages count words few are.past))
+    ∙ ap packed (sym (marks_bits words are.words_size) ∙ sym (marks_grown count max_blocks words few are.past))

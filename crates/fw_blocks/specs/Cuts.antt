@@ -31,9 +31,9 @@ abbrev pub max_block_size : ℕ
 max_block_size = 1024
 
 abbrev pub max_blocks : ℕ
-max_blocks = 4096
+max_blocks = 16384
 
--- blocks of 1 to 1,024 bytes, and 1 to 4,096 of them
+-- blocks of 1 to 1,024 bytes, and 1 to 16,384 of them
 pub record IsWithinLimits (block_size size : ℕ) : Type 0 where
   pub block_begins : 1 ≤ block_size
   pub block_ends : block_size ≤ max_block_size

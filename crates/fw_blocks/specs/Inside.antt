@@ -27,6 +27,10 @@ pub record Puts (number : ℕ) (old new : List Run) : Type 0 where
 abbrev pub page_size : ℕ
 page_size = 64
 
+-- how many pages there are
+abbrev pub page_count : ℕ
+page_count = 256
+
 -- whether a number is marked in the words of pages: the first mark of a page is the top bit of its word
 abbrev pub is_marked : List ℕ → ℕ → Bool
 is_marked words i = bit_at (slice_index words (i / page_size)) (63 - i % page_size) == 1
@@ -51,10 +55,10 @@ page_of marks page i = has marks (page_size * page + i)
 
 -- the words of the pages that have these marks, and how many are set in each
 unfoldable pub words_of : List Bool → List ℕ
-words_of marks = map (λ page. word_of (page_of marks page) page_size) (range_with_len 0 64)
+words_of marks = map (λ page. word_of (page_of marks page) page_size) (range_with_len 0 page_count)
 
 unfoldable pub counts_of : List Bool → List ℕ
-counts_of marks = map (λ page. ones_of (page_of marks page) page_size) (range_with_len 0 64)
+counts_of marks = map (λ page. ones_of (page_of marks page) page_size) (range_with_len 0 page_count)
 
 -- pages: no more marks than an image has blocks, and the words and the numbers beside them are those of the marks
 pub record HoldsPages (words counts : List ℕ) (count : ℕ) : Type 0 where

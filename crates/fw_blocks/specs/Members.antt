@@ -38,3 +38,7 @@ window set width = take width (absent_numbers set)
 -- marks, and no others up to the most that there can be
 abbrev pub all_marks : List Bool → List Bool
 all_marks marked = marked ++ replicate (max_blocks - length marked) false
+
+-- a set with another count: numbers below both counts stay, others aren't in it
+abbrev pub resized_marks : ℕ → List Bool → List Bool
+resized_marks count set = take count set ++ replicate (count - length set) false

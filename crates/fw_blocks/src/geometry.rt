@@ -10,7 +10,7 @@ use std::marker::Model;
 pub const MAX_BLOCK_SIZE: u32 = 1024;
 
 /// The most blocks that an image has.
-pub const MAX_BLOCKS: u32 = 4096;
+pub const MAX_BLOCKS: u32 = 16384;
 
 /// The size of an image in bytes and the size of the blocks that it is cut into, both within the
 /// limits (IEC 62056-6-2, Image transfer: image_block_size).
@@ -34,7 +34,7 @@ impl Model for Geometry {
 
 impl Geometry {
     /// An image of `size` bytes in blocks of `block_size` bytes. `None` for blocks of 0 or more than
-    /// 1,024 bytes, for an image of 0 bytes, and for more than 4,096 blocks.
+    /// 1,024 bytes, for an image of 0 bytes, and for more than 16,384 blocks.
     pub fn new(block_size: u32, size: u32) -> Option<Geometry>
         ensures value { SomeIff result (IsWithinLimits block_size size) (record { block_size = block_size; size = size }) }
     {
@@ -55,7 +55,7 @@ impl Geometry {
         self.block_size
     }
 
-    /// The bytes of the image: 1 to 4,194,304.
+    /// The bytes of the image: 1 to 16,777,216.
     pub fn size(self) -> u32
         ensures value { result ≡ self.size }
         ensures limits { IsWithinLimits self.block_size self.size }
@@ -63,7 +63,7 @@ impl Geometry {
         self.size
     }
 
-    /// How many blocks the image has: 1 to 4,096. They are numbered from 0.
+    /// How many blocks the image has: 1 to 16,384. They are numbered from 0.
     pub fn count(self) -> u32
         ensures value { result ≡ block_count self.block_size self.size }
         ensures some { 1 ≤ result }

@@ -3,7 +3,7 @@
 //! An image is cut into blocks of one size, numbered from 0, of which only the last may be shorter
 //! (specs/Cuts.antt). Sets of their numbers are those of specs/Members.antt.
 //!
-//! Own limits of this profile: a block has 1 to 1,024 bytes, an image 1 to 4,096 blocks, and a window
+//! Own limits of this profile: a block has 1 to 1,024 bytes, an image 1 to 16,384 blocks, and a window
 //! 1 to 15 numbers.
 #![tactic(auto)]
 

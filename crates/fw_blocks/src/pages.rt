@@ -28,7 +28,7 @@ ghost use Rattle.std.specs.Int.{w64, to_be_bytes};
 ghost use Rattle.fw_axdr.specs.Bits.{bits, packed};
 ghost use Rattle.fw_blocks.specs.Cuts.{max_blocks};
 ghost use Rattle.fw_blocks.specs.Inside.{is_marked, page_size};
-ghost use Rattle.fw_blocks.specs.Members.{has, first_missing, IsFirstMissing, all_marks};
+ghost use Rattle.fw_blocks.specs.Members.{has, first_missing, IsFirstMissing, all_marks, resized_marks};
 
 use crate::geometry::MAX_BLOCKS;
 use fw_axdr::{Bits, laws};
@@ -36,13 +36,13 @@ use std::alloc::{AllocError, Global};
 use std::marker::Model;
 
 /// The pages of a set.
-const PAGES: usize = 64;
+const PAGES: usize = 256;
 
 /// The marks of a page.
 const PAGE_SIZE: u8 = 64;
 
 /// The bytes of all pages: eight marks each.
-pub const MARKS_SIZE: usize = 512;
+pub const MARKS_SIZE: usize = 2048;
 
 /// The blocks that are there, of at most so many as an image has: a set of numbers below a count (own form of what
 /// IEC 62056-6-2 calls image_transferred_blocks_status). It has room for all of them in itself, and takes no
@@ -77,7 +77,7 @@ impl Model for Pages {
 }
 
 impl Pages {
-    /// No number is marked, of so many. `None` above 4,096.
+    /// No number is marked, of `count`. `None` above 16,384.
     pub fn new(count: u32) -> Option<Pages>
         ensures { SomeIff result (count ≤ max_blocks) (replicate count false) }
     {
@@ -94,7 +94,7 @@ impl Pages {
         Pages::unmarked(MAX_BLOCKS)
     }
 
-    /// No number is marked, of so many.
+    /// No number is marked, of `count`.
     fn unmarked(count: u32) -> Pages
         requires { count ≤ max_blocks }
         ensures { result ≡ replicate count false }
@@ -146,6 +146,37 @@ impl Pages {
         ensures { self.new ≡ replicate (length self.old) false }
     {
         *self = Pages::unmarked(self.count);
+    }
+
+    /// The set with another count, which takes no memory: numbers that are marked and below it stay so, and no others are
+    /// marked. A lower count takes a look at each number below it, any other count none.
+    pub fn resized(self, count: u32) -> Pages
+        requires { count ≤ max_blocks }
+        ensures { result ≡ resized_marks count self }
+    {
+        if count < self.count {
+            return self.below(count);
+        }
+        Pages {
+            words: self.words,
+            counts: self.counts,
+            count,
+        }
+    }
+
+    /// The marks of the numbers below a count that is no greater, as a set of these numbers.
+    fn below(&self, count: u32) -> Pages
+        requires few { count ≤ max_blocks }
+        requires within { count ≤ length self.now }
+        ensures { result ≡ take count self.now }
+    {
+        let mut set = Pages::unmarked(count);
+        for number in 0..count {
+            if self.has(number) {
+                set.mark(number);
+            }
+        }
+        set
     }
 
     /// The least number below a count that is not marked, or the count where all below it are.

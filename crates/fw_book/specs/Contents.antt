@@ -21,7 +21,7 @@ pub record Contents : Type 0 where
 
 -- the most bytes that an image can have (own limit)
 abbrev pub max_image : ℕ
-max_image = 4194304
+max_image = 16777216
 
 -- the most meters that a campaign can have (own limit)
 abbrev pub max_meters : ℕ
@@ -53,7 +53,7 @@ has_serial book serial = is_some (lookup (nat_eq serial) book.campaigns)
 abbrev pub is_busy : List (ℕ × Offered) → ℕ → Bool
 is_busy campaigns meter = list_any (λ (offer : Offered). is_live_in offer.rows meter) (values_of campaigns)
 
--- a campaign that a book can have: its serial number begins at 1, its release has four bytes, its image has 1 to 4,194,304 bytes, and
+-- a campaign that a book can have: its serial number begins at 1, its release has four bytes, its image has 1 to 16,777,216 bytes, and
 -- it has 1 to 256 meters, each once
 pub record IsEntry (entry : ℕ × Offered) : Type 0 where
   pub serial_begins : 1 ≤ entry.0

@@ -59,7 +59,7 @@ pub record IsEntryIn (version : Version) (entry : ℕ × Offered) : Type 0 where
 abbrev pub TellsAll : Version → List (ℕ × Offered) → Type 0
 TellsAll version entries = AllByRecursion (λ (entry : ℕ × Offered). Tells version entry.1.release) entries
 
--- 1 to 4,194,304 bytes
+-- 1 to 16,777,216 bytes
 pub record IsImage (image : List ℕ) : Type 0 where
   pub begins : 1 ≤ length image
   pub ends : length image ≤ max_image

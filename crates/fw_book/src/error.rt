@@ -19,7 +19,7 @@ pub enum BookError {
     /// The image has no byte.
     #[error("EmptyImage")]
     EmptyImage,
-    /// The image has more than 4,194,304 bytes.
+    /// The image has more than 16,777,216 bytes.
     #[error("ImageTooLong")]
     ImageTooLong,
     /// No meter is named.

@@ -11,7 +11,7 @@ use std::alloc::Global;
 use std::marker::Model;
 
 /// The most bytes that an image can have (own limit of this profile).
-pub const MAX_IMAGE_SIZE: usize = 4_194_304;
+pub const MAX_IMAGE_SIZE: usize = 16_777_216;
 
 /// The most meters that a campaign can have (own limit of this profile).
 pub const MAX_METERS: usize = 256;

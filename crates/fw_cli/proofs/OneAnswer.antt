@@ -5,6 +5,7 @@ use Rattle.hex.specs.declared.error.FromHexError.{FromHexError}
 use Rattle.hex.specs.Hex.{decode_of}
 use Rattle.fw_image.specs.Meter.{Meter}
 use Rattle.fw_image.specs.Fresh.{fresh_meter}
+use Rattle.fw_store.specs.declared.version.HeaderVersion.TheVariants.{Two}
 use Rattle.fw_cli.specs.declared.answer.AnswerOptions.{AnswerOptions}
 use Rattle.fw_cli.specs.Options.{Describes}
 use Rattle.fw_cli.specs.Session.{AnswersLine, AnswersLines, EndsAt, line_for}
@@ -15,7 +16,7 @@ use Rattle.fw_cli.specs.Laws.{OneAnswer}
 one_meter : (options : AnswerOptions) (meter second : Meter) → Describes options meter → Describes options second → meter ≡ second
 one_meter options meter second a b =
     let same : a.factory ≡ b.factory = cc (a.spelled, b.spelled) in
-    a.fresh ∙ ap (fresh_meter options.block_size options.capacity) same ∙ sym b.fresh
+    a.fresh ∙ ap (fresh_meter Two options.block_size options.capacity) same ∙ sym b.fresh
 
 -- what is spelled is no error
 not_both : (r : Result (List ℕ) FromHexError) (bytes : List ℕ) → r ≡ Ok bytes → IsErr r → ⊥

@@ -6,7 +6,7 @@ use Rattle.fw_world.specs.Step.{Event}
 use Rattle.fw_world.specs.Runs.{events_of}
 use Rattle.fw_world.specs.declared.event.Event.{Event as Given}
 use Rattle.fw_cli.specs.Words.{words_of, number_of, keyword, bytes_said, first_says, at_end, numbers_of}
-use Rattle.fw_cli.specs.Script.{Said, Head, Meter, from_one, byte_of, head_item, meter_item, events_item, head_line, meter_line, opening, open_line, open_release_line, deliver_line, cancel_line, tick_line, stop_line, restart_meter_line, restart_head_line, turn_line, event_line, item_of, Script, before_all, with_item, with_line, is_skipped}
+use Rattle.fw_cli.specs.Script.{Said, Head, Meter, from_one, byte_of, head_item, meter_item, events_item, head_line, old_said, meter_line, opening, open_line, open_release_line, deliver_line, cancel_line, tick_line, stop_line, restart_meter_line, stop_restart_line, restart_head_line, turn_line, event_line, item_of, Script, before_all, with_item, with_line, is_skipped}
 use Rattle.fw_cli.specs.Inside.{names_setup}
 
 abbrev pub IsSetup : Said → Type 0
@@ -58,7 +58,7 @@ head_says : (words : List (List ℕ)) → Holds IsSetup (head_line words)
 head_says words = reads IsSetup _ (first_says from_one words) λ a. reads IsSetup _ (first_says (keyword (codes "width")) a.1) λ b. reads IsSetup _ (first_says number_of b.1) λ c. reads IsSetup _ (at_end c.1) λ e. a_head _
 
 meter_says : (words : List (List ℕ)) → Holds IsSetup (meter_line words)
-meter_says words = reads IsSetup _ (first_says number_of words) λ a. reads IsSetup _ (first_says (keyword (codes "block")) a.1) λ b. reads IsSetup _ (first_says number_of b.1) λ c. reads IsSetup _ (first_says (keyword (codes "capacity")) c.1) λ d. reads IsSetup _ (first_says number_of d.1) λ e. reads IsSetup _ (first_says (keyword (codes "factory")) e.1) λ f. reads IsSetup _ (first_says bytes_said f.1) λ g. reads IsSetup _ (at_end g.1) λ e. a_meter _
+meter_says words = reads IsSetup _ (first_says number_of words) λ a. reads IsSetup _ (first_says (keyword (codes "block")) a.1) λ b. reads IsSetup _ (first_says number_of b.1) λ c. reads IsSetup _ (first_says (keyword (codes "capacity")) c.1) λ d. reads IsSetup _ (first_says number_of d.1) λ e. reads IsSetup _ (first_says (keyword (codes "factory")) e.1) λ f. reads IsSetup _ (first_says bytes_said f.1) λ g. reads IsSetup _ (old_said g.1) λ old. a_meter _
 
 opening_says : (campaign : Campaign) (release : ℕ) (words : List (List ℕ)) → Holds IsEvents (opening campaign release words)
 opening_says campaign release words = reads IsEvents _ (first_says bytes_said words) λ a. reads IsEvents _ (numbers_of a.1) λ ns. an_event _
@@ -85,6 +85,9 @@ stop_says words = reads IsEvents _ (first_says number_of words) λ a. reads IsEv
 restart_meter_says : (words : List (List ℕ)) → Holds IsEvents (restart_meter_line words)
 restart_meter_says words = reads IsEvents _ (first_says number_of words) λ a. reads IsEvents _ (at_end a.1) λ e. an_event _
 
+stop_restart_says : (words : List (List ℕ)) → Holds IsEvents (stop_restart_line words)
+stop_restart_says words = reads IsEvents _ (first_says number_of words) λ a. reads IsEvents _ (first_says number_of a.1) λ b. reads IsEvents _ (first_says byte_of b.1) λ c. reads IsEvents _ (at_end c.1) λ e. an_event _
+
 restart_head_says : (words : List (List ℕ)) → Holds IsEvents (restart_head_line words)
 restart_head_says words = reads IsEvents _ (first_says from_one words) λ a. reads IsEvents _ (at_end a.1) λ e. an_event _
 
@@ -97,8 +100,9 @@ event_says first words =
     either IsEvents (bytes_eq first (codes "tick")) _ _ (tick_says words) (
     either IsEvents (bytes_eq first (codes "stop")) _ _ (stop_says words) (
     either IsEvents (bytes_eq first (codes "restart-meter")) _ _ (restart_meter_says words) (
+    either IsEvents (bytes_eq first (codes "stop-restart")) _ _ (stop_restart_says words) (
     either IsEvents (bytes_eq first (codes "restart-head")) _ _ (restart_head_says words) (
-    either IsEvents (bytes_eq first (codes "turn")) _ _ (turn_says words) (nothing IsEvents))))))
+    either IsEvents (bytes_eq first (codes "turn")) _ _ (turn_says words) (nothing IsEvents)))))))
 
 -- ---- the script with one line more
 

@@ -1,6 +1,7 @@
 -- A session as far as it has come, one line after another.
 use Rattle.std.proofs.Common.{◌≡◌, ℕ, ◌+◌, List, [], ◌∷◌, ◌++◌, length, None, Some, refl, sym, ap, subst, ◌∙◌, append_assoc, append-nil, arith, length-append}
-use Rattle.std.specs.Prelude.{IsErr, IsOk, OnErr, OnOk, Result, Ok, Err}
+use Rattle.std.specs.Prelude.{IsErr, IsOk, OnErr, OnOk, Result, Ok, Err, Bool, true, false}
+use Rattle.std.specs.Bool.{OnTrue, OnFalse}
 use Rattle.hex.specs.Hex.{decode_of}
 use Rattle.fw_image.specs.State.{State}
 use Rattle.fw_cli.specs.Lines.{lines_of}
@@ -76,3 +77,12 @@ on_err (Err e) P h = h
 pub on_ok : {A B : Type 0} (r : Result A B) (P Q : Type 0) → (P → Q) → OnOk r P → OnOk r Q
 on_ok (Ok x) P Q told h = told h
 on_ok (Err x) P Q told h = h
+
+-- what holds where a test is passed, or where it isn't
+pub on_true : (test : Bool) (P : Type 0) → OnTrue test P → test ≡ true → P
+on_true true P holds passed = holds
+on_true false P holds passed = cc passed
+
+pub on_false : (test : Bool) (P : Type 0) → OnFalse test P → test ≡ false → P
+on_false true P holds failed = cc failed
+on_false false P holds failed = holds

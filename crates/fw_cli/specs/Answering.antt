@@ -2,7 +2,7 @@
 -- has left before and after, and what the writer holds at first and at last.
 use Rattle.std.specs.Prelude.{◌≡◌, ℕ, List, Option}
 use Rattle.std.specs.Io.KnownBytes.{Appends}
-use Rattle.fw_image.specs.Meter.{Meter, reopened}
+use Rattle.fw_image.specs.Meter.{Meter, restarted}
 use Rattle.fw_image.specs.State.{State}
 use Rattle.fw_cli.specs.declared.answer.AnswerOptions.{AnswerOptions}
 use Rattle.fw_cli.specs.Options.{Describes}
@@ -22,9 +22,10 @@ abbrev pub Answers : AnswerOptions → Option ℕ → Option (List ℕ) → Opti
 Answers options bad_line before after first last =
     (meter : Meter) × Describes options meter × WritesSession AnswersLine meter bad_line before after first last
 
--- the same by a meter that was opened from a store: no verification goes on in it at first, and no call of the store failed
+-- the same by a meter that was opened from a store: at first no verification goes on in it, its header is one of version 2, and no call
+-- of the store failed
 pub record AnswersOpened (bad_line : Option ℕ) (before after first last : Option (List ℕ)) : Type 0 where
   pub meter : State
-  pub begins : reopened meter.meter ≡ meter.meter
+  pub begins : restarted meter.meter ≡ meter.meter
   pub faultless : meter.faults ≡ 0
   pub writes : WritesSession AnswersLineOver meter bad_line before after first last

@@ -1,7 +1,7 @@
 -- Public vocabulary: scripts. A script is lines, of which each is skipped, or says a part of a setup or what happens in the world.
 use Rattle.std.specs.Prelude.{◌≡◌, false, ℕ, ◌+◌, Bool, true, ◌==◌, if◌then◌else◌, List, [], ◌∷◌, ◌++◌, map, length, Option, Some, None, option_map, option_and_then, bytes_eq, codes}
 use Rattle.fw_names.specs.Name.{Campaign}
-use Rattle.fw_world.specs.Step.{Event, open_campaign, cancel_campaign, tick, deliver, stop, restart_meter, restart_head, turn}
+use Rattle.fw_world.specs.Step.{Event, open_campaign, cancel_campaign, tick, deliver, stop, restart_meter, stop_restart, restart_head, turn}
 use Rattle.fw_world.specs.Runs.{events_of}
 use Rattle.fw_world.specs.declared.event.Event.{Event as Given}
 use Rattle.fw_world.specs.declared.setup.HeadSetup.{HeadSetup}
@@ -15,12 +15,13 @@ pub record Head : Type 0 where
   pub number : ℕ
   pub width : ℕ
 
--- a meter of a setup: its number, the limits of its store, and the image that it is made with
+-- a meter of a setup: its number, the limits of its store, the image that it is made with, and whether its store is an old one
 pub record Meter : Type 0 where
   pub number : ℕ
   pub block_size : ℕ
   pub capacity : ℕ
   pub factory : List ℕ
+  pub old : Bool
 
 -- what a line says
 pub data Said : Type 0 where
@@ -45,12 +46,18 @@ abbrev pub head_line : List (List ℕ) → Option Said
 head_line = reading from_one λ head. reading (keyword (codes "width")) λ _. reading number_of λ width.
     ending (head_item (record { number = head; width = width }))
 
--- meter M block B capacity C factory HEX
+-- nothing more, or the word `old` and nothing more: whether that word is there
+abbrev pub old_said : List (List ℕ) → Option Bool
+old_said [] = Some false
+old_said (word ∷ words) = reading (keyword (codes "old")) (λ _. ending true) (word ∷ words)
+
+-- meter M block B capacity C factory HEX, or the same and old
 abbrev pub meter_line : List (List ℕ) → Option Said
 meter_line = reading number_of λ meter. reading (keyword (codes "block")) λ _. reading number_of λ block_size.
     reading (keyword (codes "capacity")) λ _. reading number_of λ capacity.
-    reading (keyword (codes "factory")) λ _. reading bytes_said λ factory.
-    ending (meter_item (record { number = meter; block_size = block_size; capacity = capacity; factory = factory }))
+    reading (keyword (codes "factory")) λ _. reading bytes_said λ factory. λ words.
+    option_map (λ old. meter_item (record { number = meter; block_size = block_size; capacity = capacity; factory = factory; old = old }))
+    (old_said words)
 
 -- HEX M M .., behind what tells the campaign and the release
 abbrev pub opening : Campaign → ℕ → List (List ℕ) → Option Said
@@ -87,6 +94,10 @@ stop_line = reading number_of λ datagram. reading number_of λ calls. reading b
 abbrev pub restart_meter_line : List (List ℕ) → Option Said
 restart_meter_line = reading number_of λ meter. event (restart_meter meter)
 
+-- stop-restart M CALLS TORN
+abbrev pub stop_restart_line : List (List ℕ) → Option Said
+stop_restart_line = reading number_of λ meter. reading number_of λ calls. reading byte_of λ torn. event (stop_restart meter calls torn)
+
 -- restart-head H
 abbrev pub restart_head_line : List (List ℕ) → Option Said
 restart_head_line = reading from_one λ head. event (restart_head head)
@@ -104,6 +115,7 @@ event_line first words =
     if bytes_eq first (codes "tick") then tick_line words else
     if bytes_eq first (codes "stop") then stop_line words else
     if bytes_eq first (codes "restart-meter") then restart_meter_line words else
+    if bytes_eq first (codes "stop-restart") then stop_restart_line words else
     if bytes_eq first (codes "restart-head") then restart_head_line words else
     if bytes_eq first (codes "turn") then turn_line words else None
 
@@ -132,7 +144,13 @@ abbrev pub head_of : HeadSetup → Head
 head_of head = record { number = head.head; width = head.width }
 
 abbrev pub meter_of : MeterSetup → Meter
-meter_of meter = record { number = meter.meter; block_size = meter.block_size; capacity = meter.capacity; factory = meter.factory.items }
+meter_of meter = record {
+  number = meter.meter;
+  block_size = meter.block_size;
+  capacity = meter.capacity;
+  factory = meter.factory.items;
+  old = meter.old;
+}
 
 -- a setup and events, without where their lists lie in memory
 abbrev pub script_of : Setup → List Given → Script

@@ -4,6 +4,7 @@ ghost use Rattle.std.specs.Prelude.{◌≡◌, ◌<◌, ◌≤◌, ◌⊎◌, �
 ghost use Rattle.std.specs.Io.KnownBytes.{Keeps};
 ghost use Rattle.hex.specs.Hex.{decode_of};
 ghost use Rattle.fw_store.specs.Setup.{IsSetup};
+ghost use Rattle.fw_store.specs.declared.version.HeaderVersion.TheVariants.{Two};
 ghost use Rattle.fw_cli.specs.Options.{Describes, DescribesOne, DescribesNone};
 ghost use Rattle.fw_cli.specs.Reading.{ReadsUntil};
 ghost use Rattle.fw_cli.specs.Faults.{ComesBeforeOutput, IsOfAnswer};
@@ -23,7 +24,7 @@ use std::io::{Read, Write};
 pub struct AnswerOptions<'a> {
     /// Bytes per block of an image transfer, 1 to 1,024.
     pub block_size: u64,
-    /// Bytes of the longest image, at most 4,194,304.
+    /// Bytes of the longest image, at most 16,777,216.
     pub capacity: u64,
     /// The image that a new meter runs, in hexadecimal: 1 byte to the capacity.
     pub factory: &'a str,
@@ -148,9 +149,9 @@ pub(crate) fn describes_one(options: &AnswerOptions<'_>) -> bool
         )
 }
 
-/// Whether a store can be made with these, and an image of so many bytes.
+/// Whether a store with a header of version 2 can be made with these, and an image of so many bytes.
 fn is_setup(block_size: u64, capacity: u64, size: usize) -> bool
-    ensures { (bytes : List ℕ) → length bytes ≡ size → IsTrue result ↔ IsSetup block_size capacity bytes }
+    ensures { (bytes : List ℕ) → length bytes ≡ size → IsTrue result ↔ IsSetup Two block_size capacity bytes }
 {
     let block_fits = (1..=u64::from(MAX_BLOCK_SIZE)).contains(&block_size);
     let room_fits = (1..=u64::from(MAX_CAPACITY)).contains(&capacity);

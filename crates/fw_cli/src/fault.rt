@@ -46,7 +46,7 @@ pub enum Fault {
     /// The reader had no byte, and an image has at least one.
     #[error("EmptyImage")]
     EmptyImage,
-    /// The reader had more bytes than an image can have, 4,194,304.
+    /// The reader had more bytes than an image can have, 16,777,216.
     #[error("ImageTooLong")]
     ImageTooLong,
     /// An event of the script that is rehearsed was refused, for another cause than memory.

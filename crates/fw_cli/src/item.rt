@@ -27,6 +27,7 @@ ghost use Rattle.fw_cli.specs.Script.{
   meter_item,
   events_item,
   head_line,
+  old_said,
   meter_line,
   opening,
   open_line,
@@ -36,6 +37,7 @@ ghost use Rattle.fw_cli.specs.Script.{
   tick_line,
   stop_line,
   restart_meter_line,
+  stop_restart_line,
   restart_head_line,
   turn_line,
   item_of,
@@ -46,7 +48,7 @@ ghost use Rattle.fw_cli.specs.Script.{
 ghost use Rattle.fw_cli.specs.Inside.{item_read, words_behind};
 
 use crate::words::{
-    are_numbers, byte, bytes, bytes_said, first_word, from_one, is, keyword, number,
+    are_numbers, byte, bytes, bytes_said, first_word, from_one, is, keyword, next_word, number,
 };
 use fw_names::{CampaignId, HeadId, MeterId};
 use fw_world::{Event, HeadSetup, MeterSetup};
@@ -102,6 +104,9 @@ fn event_line(first: &[u8], rest: &[u8]) -> Option<Event>
     if is(first, b"restart-meter") {
         return restart_meter_line(rest);
     }
+    if is(first, b"stop-restart") {
+        return stop_restart_line(rest);
+    }
     if is(first, b"restart-head") {
         return restart_head_line(rest);
     }
@@ -123,12 +128,12 @@ fn head_line(rest: &[u8]) -> Option<HeadSetup>
     Some(HeadSetup { head, width })
 }
 
-/// `meter M block B capacity C factory HEX`.
+/// `meter M block B capacity C factory HEX`, and `old` behind it or not.
 fn meter_line(alloc: Global, rest: &[u8]) -> Result<Option<MeterSetup>, AllocError>
     ensures ok { IfOk result (λ said. option_map (λ meter. meter_item (meter_of meter)) said ≡ meter_line (words_behind rest.now)) }
     ensures memory { OnErr result (IsSome (meter_line (words_behind rest.now))) }
 {
-    let Some((meter, block_size, capacity, word)) = meter_words(rest) else {
+    let Some((meter, block_size, capacity, word, old)) = meter_words(rest) else {
         return Ok(None);
     };
     let factory = bytes_said(alloc, word)?;
@@ -137,14 +142,15 @@ fn meter_line(alloc: Global, rest: &[u8]) -> Result<Option<MeterSetup>, AllocErr
         block_size,
         capacity,
         factory,
+        old,
     }))
 }
 
-/// `M block B capacity C factory HEX`, with the word of the factory image.
-fn meter_words(rest: &[u8]) -> Option<(u32, u32, u32, &[u8])>
+/// `M block B capacity C factory HEX`, with the word of the factory image, and whether `old` stands behind it.
+fn meter_words(rest: &[u8]) -> Option<(u32, u32, u32, &[u8], bool)>
     ensures { MatchOption result (meter_line (words_behind rest.now) ≡ None) (λ r. (factory : List ℕ) × (bytes_said r.3.now ≡ Some factory)
         × (meter_line (words_behind rest.now)
-        ≡ Some (meter_item (record { number = r.0; block_size = r.1; capacity = r.2; factory = factory })))) }
+        ≡ Some (meter_item (record { number = r.0; block_size = r.1; capacity = r.2; factory = factory; old = r.4 })))) }
 {
     let (meter, rest) = number(rest)?;
     let rest = keyword(rest, b"block")?;
@@ -153,8 +159,23 @@ fn meter_words(rest: &[u8]) -> Option<(u32, u32, u32, &[u8])>
     let (capacity, rest) = number(rest)?;
     let rest = keyword(rest, b"factory")?;
     let (word, rest) = bytes(rest)?;
-    ends(rest)?;
-    Some((meter, block_size, capacity, word))
+    let old = is_old(rest)?;
+    Some((meter, block_size, capacity, word, old))
+}
+
+/// Whether the word `old` is left, and nothing else is.
+fn is_old(rest: &[u8]) -> Option<bool>
+    ensures { result ≡ old_said (words_behind rest.now) }
+{
+    let Some((word, rest)) = next_word(rest) else {
+        return Some(false);
+    };
+    if is(word, b"old") {
+        ends(rest)?;
+        Some(true)
+    } else {
+        None
+    }
 }
 
 /// `open H S HEX M M ..`.
@@ -322,6 +343,19 @@ fn restart_meter_line(rest: &[u8]) -> Option<Event>
     let (meter, rest) = number(rest)?;
     ends(rest)?;
     Some(Event::RestartMeter(meter_id(meter)))
+}
+
+/// `stop-restart M CALLS TORN`.
+fn stop_restart_line(rest: &[u8]) -> Option<Event>
+    ensures { option_map (λ event. events_item (event_of event ∷ [])) result ≡ stop_restart_line (words_behind rest.now) }
+{
+    let (meter, rest) = number(rest)?;
+    let (calls, rest) = number(rest)?;
+    let (torn, rest) = byte(rest)?;
+    ends(rest)?;
+    let meter = meter_id(meter);
+    let calls = u64::from(calls);
+    Some(Event::StopRestart { meter, calls, torn })
 }
 
 /// `restart-head H`.

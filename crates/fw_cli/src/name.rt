@@ -70,7 +70,7 @@ impl Model for NameOptions {
 ///
 /// - `Input` or `TooMuchInput`, whichever the reading meets first.
 /// - `EmptyImage`: the reader had no byte.
-/// - `ImageTooLong`: the reader had more than 4,194,304 bytes.
+/// - `ImageTooLong`: the reader had more than 16,777,216 bytes.
 /// - `Output`: the writer failed. What it holds then is open.
 /// - `OutOfMemory`: nothing was written, and 1 byte to 64 MiB were read.
 pub fn run_name<R: Read, W: Write>(

@@ -1,6 +1,7 @@
 //! A meter answers datagrams, one a line, over any store.
 
-ghost use Rattle.std.specs.Prelude.{◌≡◌, ◌<◌, ◌≤◌, ◌++◌, ℕ, List, None, Some, length, IfOk, IfErr, OnOk, OnErr};
+ghost use Rattle.std.specs.Prelude.{◌≡◌, ◌+◌, ◌*◌, ◌^◌, ◌<◌, ◌≤◌, ◌++◌, ℕ, List, None, Some, length, codes, IfOk, IfErr, IfSome, OnOk, OnErr};
+ghost use Rattle.hex.specs.Hex.{encode_lower};
 ghost use Rattle.std.specs.Io.KnownBytes.{Keeps};
 ghost use Rattle.fw_meter.specs.Handling.{reply_bytes};
 ghost use Rattle.fw_cli.specs.Session.{AnswersLineOver, BeginsWell, Session, line_for};
@@ -9,7 +10,7 @@ ghost use Rattle.fw_cli.specs.Faults.{ComesBeforeInput, ComesBeforeOutput, IsOfA
 ghost use Rattle.fw_cli.specs.Answering.{WritesSession};
 
 use crate::fault::Fault;
-use crate::hexadecimal::bytes_of;
+use crate::hexadecimal::put_bytes;
 use crate::input::read_input;
 use crate::lines::first_line;
 use crate::reads::Reads;
@@ -70,17 +71,18 @@ fn answer_lines<S: ImageStore + Drop>(
     ensures memory { OnErr result (BeginsWell input.now) }
 {
     let mut text = Vec::new(alloc);
+    let mut datagram = Vec::new(alloc);
     let mut rest = input;
     let mut number = 1u64;
     while let Some((line, after)) = first_line(rest) {
-        let Some(datagram) = bytes_of(alloc, line)? else {
+        if !put_bytes(&mut datagram, line)? {
             return Ok(Transcript {
                 text,
                 bad_line: Some(number),
             });
-        };
+        }
         let handled = meter.handle(alloc, &datagram)?;
-        append_line(alloc, &mut text, &handled.reply)?;
+        append_line(&mut text, &handled.reply)?;
         rest = after;
         number += 1;
     }
@@ -91,15 +93,36 @@ fn answer_lines<S: ImageStore + Drop>(
 }
 
 /// Appends the line that tells a reply.
-fn append_line(alloc: Global, text: &mut Vec<u8>, reply: &Option<Vec<u8>>) -> Result<(), AllocError>
+fn append_line(text: &mut Vec<u8>, reply: &Option<Vec<u8>>) -> Result<(), AllocError>
     ensures { OnOk result (text.new.items ≡ text.old.items ++ line_for (reply_bytes reply.now)) }
 {
     match reply {
         None => text.extend_from_slice(b"-\n"),
-        Some(reply) => {
-            let digits = hex::encode(alloc, reply.as_slice())?;
-            text.extend_from_slice(digits.as_bytes())?;
-            text.extend_from_slice(b"\n")
-        }
+        Some(reply) => append_digits(text, reply),
     }
+}
+
+/// Appends the digits of these bytes and a line feed. The text grows once, and each digit is written where it stays.
+fn append_digits(text: &mut Vec<u8>, bytes: &[u8]) -> Result<(), AllocError>
+    ensures { OnOk result (text.new.items ≡ text.old.items ++ (encode_lower bytes.now ++ codes "\n")) }
+{
+    let start = text.len();
+    let Some(end) = end_of_digits(start, bytes.len()) else {
+        return Err(AllocError);
+    };
+    text.resize(end + 1, b'\n')?;
+    match hex::encode_to_slice(bytes, &mut text[start..end]) {
+        Ok(()) => Ok(()),
+        Err(_) => unreachable!(),
+    }
+}
+
+/// Where the digits of so many bytes end that begin here, if a line feed has room there.
+fn end_of_digits(start: usize, count: usize) -> Option<usize>
+    ensures { IfSome result (λ end. (end ≡ start + 2 * count) × (end + 1 < 2 ^ 64)) }
+{
+    let size = count.checked_mul(2)?;
+    let end = start.checked_add(size)?;
+    end.checked_add(1)?;
+    Some(end)
 }

@@ -2,8 +2,8 @@
 
 ghost use Rattle.std.specs.Prelude.{◌≡◌, ◌<◌, ◌≤◌, ◌⊎◌, ℕ, List, Some, None, IfOk, IfErr, OnOk};
 ghost use Rattle.std.specs.Io.KnownBytes.{Keeps};
-ghost use Rattle.fw_image.specs.Meter.{reopened};
-ghost use Rattle.fw_image.specs.Stored.{Holds, Refused};
+ghost use Rattle.fw_image.specs.Meter.{restarted};
+ghost use Rattle.fw_image.specs.Stored.{Opens, Refused};
 ghost use Rattle.fw_image.specs.declared.error.OpenError.{OpenError};
 ghost use Rattle.fw_cli.specs.Options.{DescribesOne, DescribesNone};
 ghost use Rattle.fw_cli.specs.Reading.{Gives, ReadsUntil, max_input};
@@ -31,13 +31,13 @@ pub struct StoredOptions<'a> {
 }
 
 /// The meter in a file answers each line that the reader has, as a new one does in `run_answer`. Where no file is there, it
-/// is made, with a new meter. One that is there is never emptied or made anew. Of the file's contents nothing is known
-/// here, so the replies are those of some meter.
+/// is made, with a new meter. One that is there is never emptied or made anew; a header of version 1 in it is written in
+/// version 2 before anything is read. Of the file's contents nothing is known here, so the replies are those of some meter.
 ///
 /// # Errors
 ///
 /// - `StoreFault`: the file can't be made or opened, or another store has it open.
-/// - `Device`, which prints `Fault`: the file can't be read.
+/// - `Device`, which prints `Fault`: the file can't be read, or its header not be written in version 2.
 /// - `BadFile`, `BadHeader` or `BadImage`: the file holds no meter. It is left as it is.
 /// - `BadSetup`: no file is there, and the options describe no meter. No file was made.
 /// - `Input` or `TooMuchInput`, whichever the reading meets first.
@@ -78,13 +78,13 @@ pub fn run_answer_stored<F: Files<File = File>, R: Read, W: Write>(
     serve(alloc, meter, reader, writer)
 }
 
-/// The meter in the file.
+/// The meter in the file, whose header is one of version 2 from then on.
 fn set_up<F: Files<File = File>>(
     rt: &F,
     alloc: Global,
     options: &StoredOptions<'_>,
 ) -> Result<MeterCore<FileStore>, Fault>
-    ensures begins { IfOk result (λ meter. reopened meter.meter ≡ meter.meter) }
+    ensures begins { IfOk result (λ meter. restarted meter.meter ≡ meter.meter) }
     ensures faultless { IfOk result (λ meter. meter.faults ≡ 0) }
     ensures bad_setup { result ≡ Err Fault.BadSetup → DescribesNone options.now.fresh }
     ensures memory { result ≡ Err Fault.OutOfMemory → DescribesOne options.now.fresh }
@@ -94,10 +94,10 @@ fn set_up<F: Files<File = File>>(
     opened(store)
 }
 
-/// The meter that a store holds.
+/// The meter that a store holds, whose header is one of version 2 from then on.
 fn opened<S: ImageStore + Drop>(store: S) -> Result<MeterCore<S>, Fault>
-    ensures opened { IfOk result (λ meter. Holds S.honest S.capacity S.device store meter) }
-    ensures begins { IfOk result (λ meter. reopened meter.meter ≡ meter.meter) }
+    ensures opened { IfOk result (λ meter. Opens S.honest S.capacity S.calls_left S.device store meter) }
+    ensures begins { IfOk result (λ meter. restarted meter.meter ≡ meter.meter) }
     ensures faultless { IfOk result (λ meter. meter.faults ≡ S.faults store) }
     ensures refused { IfErr result (λ f. (error : OpenError) × (f ≡ fault_of_opening error) × (back : S)
         × Refused S.honest S.sound S.capacity S.faults S.calls_left S.device store error back) }

@@ -9,6 +9,7 @@ use Rattle.fw_apdu.specs.declared.error.ApduError.TheVariants.{Truncated, Unknow
 use Rattle.fw_apdu.specs.Fault.{IfFault, IsBadData}
 use Rattle.fw_apdu.specs.Request.{RequestContent, request_bytes, unwritable_request}
 use Rattle.fw_names.specs.Name.{Name, IsName, name_bytes}
+use Rattle.fw_wrapper.specs.Wrapper.{max_apdu}
 use Rattle.fw_client.specs.Ask.{Ask, block_size, first_missing, blocks, status, info, active_name, enable, initiate, block, verify, activate, request_of, Fits}
 use Rattle.fw_client.specs.Inside.{IsNamed}
 
@@ -29,7 +30,7 @@ writable (block number value) fits named = grind (arith, common_steps)
 writable verify fits named = refl
 writable activate fits named = refl
 
-bytes_fit : (invoke : ℕ) (a : Ask) → Fits a → IsNamed a → length (request_bytes invoke (request_of a)) ≤ 1280
+bytes_fit : (invoke : ℕ) (a : Ask) → Fits a → IsNamed a → length (request_bytes invoke (request_of a)) ≤ max_apdu
 bytes_fit invoke block_size fits named = omega arith
 bytes_fit invoke first_missing fits named = omega arith
 bytes_fit invoke blocks fits named = omega arith
@@ -60,7 +61,7 @@ only_memory e k a fits named same h = no_fault e (ap unwritable_request same ∙
 -- ---- of what was written
 
 pub written_size : (r : Result (Vec ℕ) ApduError) (invoke : ℕ) (k : RequestContent) (a : Ask) → Fits a → IsNamed a → k ≡ request_of a
-    → IfOk r (λ v. v.items ≡ request_bytes invoke k) → IfOk r (λ v. length v.items ≤ 1280)
+    → IfOk r (λ v. v.items ≡ request_bytes invoke k) → IfOk r (λ v. length v.items ≤ max_apdu)
 written_size (Ok v) invoke k a fits named same written = rw (written, same) (bytes_fit invoke a fits named)
 written_size (Err e) invoke k a fits named same written = tt
 

@@ -10,6 +10,7 @@ use Rattle.fw_blocks.specs.Laws.{CutSize}
 use Rattle.fw_store.specs.Device.{Device, slot_bytes}
 use Rattle.fw_store.specs.Slot.{other}
 use Rattle.fw_store.specs.Header.{IsHeader, IsGoal, GoalFieldsFit}
+use Rattle.fw_store.specs.Versions.{block_limit}
 use Rattle.fw_store.specs.declared.slot.Slot.{Slot}
 use Rattle.fw_store.specs.declared.header.Header.{Header}
 use Rattle.fw_store.specs.declared.header.Goal.{Goal}
@@ -27,9 +28,9 @@ opened : (campaign : Campaign) → IsCampaign campaign → (campaign ≡ factory
 opened campaign (inl made) other = absurd (other made)
 opened campaign (inr is) other = is
 
-offer_of : (capacity block_size release : ℕ) (goal : Goal) → GoalFieldsFit goal → IsGoal capacity block_size release goal → IsOffer block_size capacity release goal.name goal.size
-offer_of capacity block_size release goal fields is =
-    record { opened = opened goal.name.campaign fields.name.is_campaign is.offered; risen = is.risen; fits = is.fits; limits = is.blocks }
+offer_of : (limit capacity block_size release : ℕ) (goal : Goal) → GoalFieldsFit goal → IsGoal limit capacity block_size release goal → IsOffer limit block_size capacity release goal.name goal.size
+offer_of limit capacity block_size release goal fields is =
+    record { opened = opened goal.name.campaign fields.name.is_campaign is.offered; risen = is.risen; fits = is.fits; limits = is.blocks; few = is.few }
 
 -- ---- its blocks have their lengths
 
@@ -47,8 +48,10 @@ pub fit_at : CutSize → (capacity : ℕ) (h : Header) (digesting : Option Progr
 fit_at sizes capacity h digesting d is sized = record {
   block_begins = is.block_size_begins;
   block_ends = is.block_size_ends;
+  version = h.version;
+  limited = refl;
   named = is.fields.running_name;
-  goal = λ goal e. offer_of capacity h.block_size h.running_name.release goal (subst (λ (g : Option Goal). IfSome g GoalFieldsFit) (there goal e) is.fields.goal) (held goal e);
+  goal = λ goal e. offer_of (block_limit h.version) capacity h.block_size h.running_name.release goal (subst (λ (g : Option Goal). IfSome g GoalFieldsFit) (there goal e) is.fields.goal) (held goal e);
   cells = λ goal e. subst (λ (g : Option Goal). CellsFit h.block_size goal.size (cells_of h.block_size h.marks (slot_bytes d (other h.running_slot)) g)) (sym (there goal e))
       (cells_fit sizes capacity h.block_size h.marks (slot_bytes d (other h.running_slot)) goal (sized (other h.running_slot)) (held goal e).fits);
 }
@@ -56,8 +59,8 @@ fit_at sizes capacity h digesting d is sized = record {
     there : (goal : Goal) → goal_of (phase_at digesting (phase_of h.status h.goal)) ≡ Some goal → h.goal ≡ Some goal
     there goal e = sym (goal_again h.status h.goal is.goal_by_status) ∙ sym (goal_at digesting (phase_of h.status h.goal)) ∙ e
 
-    held : (goal : Goal) → goal_of (phase_at digesting (phase_of h.status h.goal)) ≡ Some goal → IsGoal capacity h.block_size h.running_name.release goal
-    held goal e = subst (λ (g : Option Goal). IfSome g (IsGoal capacity h.block_size h.running_name.release)) (there goal e) is.goal
+    held : (goal : Goal) → goal_of (phase_at digesting (phase_of h.status h.goal)) ≡ Some goal → IsGoal (block_limit h.version) capacity h.block_size h.running_name.release goal
+    held goal e = subst (λ (g : Option Goal). IfSome g (IsGoal (block_limit h.version) capacity h.block_size h.running_name.release)) (there goal e) is.goal
 
 -- ---- together they have the image's size
 

@@ -14,15 +14,15 @@ abbrev with_bytes : Meter → List ℕ → Meter
 with_bytes m bytes = record m { running = record m.running { bytes = bytes } }
 
 pub fresh_is_meter : FreshIsHeader → FreshIsMeter
-fresh_is_meter law block_size capacity factory setup =
+fresh_is_meter law version block_size capacity factory setup =
     let name : IsName (factory_name factory) = record { is_campaign = inl refl; is_release = record { fits = omega arith; none = λ made. refl }; digest_size = length-sha256 factory } in
-    let room : capacity ≤ 4194304 = setup.room.room_in_range in
+    let room : capacity ≤ 16777216 = setup.room.room_in_range in
     let small : capacity < 2 ^ 32 = omega (arith, room) in (
       record {
-        header = fresh_header block_size (length factory) (factory_name factory);
-        valid = law capacity block_size (length factory) (factory_name factory) small setup.some_block setup.block_in_range setup.some_bytes setup.fits name;
+        header = fresh_header version block_size (length factory) (factory_name factory);
+        valid = law version capacity block_size (length factory) (factory_name factory) small setup.some_block setup.block_in_range setup.some_bytes setup.fits name;
         spelled = refl;
-        means = ap (with_bytes (fresh_meter block_size capacity factory)) (sym (take-append_seam factory (replicate (capacity - length factory) 0)));
+        means = ap (with_bytes (fresh_meter version block_size capacity factory)) (sym (take-append_seam factory (replicate (capacity - length factory) 0)));
       },
       record { running = refl; verified = λ e. absurd cc },
     )

@@ -10,6 +10,7 @@ use Rattle.fw_store.specs.Faults.{Keeps, count_after, Spends}
 use Rattle.fw_store.specs.Slot.{other}
 use Rattle.fw_store.specs.Layout.{header_bytes}
 use Rattle.fw_store.specs.Header.{IsHeader, IsGoal, FieldsFit, goal_count, has_goal}
+use Rattle.fw_store.specs.Versions.{block_limit}
 use Rattle.fw_store.specs.declared.slot.Slot.{Slot}
 use Rattle.fw_store.specs.declared.store.ImageStore.{Ghosts}
 use Rattle.fw_store.specs.declared.header.Header.{Header}
@@ -45,7 +46,7 @@ goal_there capacity h is status = find h.goal refl
 
 pub some_bytes : (capacity : ℕ) (h : Header) (goal : Goal) → IsHeader capacity h → h.goal ≡ Some goal → 1 ≤ goal.size
 some_bytes capacity h goal is there =
-    let goal_is : IsGoal capacity h.block_size h.running_name.release goal = subst (λ (g : Option Goal). IfSome g (IsGoal capacity h.block_size h.running_name.release)) there is.goal in
+    let goal_is : IsGoal (block_limit h.version) capacity h.block_size h.running_name.release goal = subst (λ (g : Option Goal). IfSome g (IsGoal (block_limit h.version) capacity h.block_size h.running_name.release)) there is.goal in
     goal_is.blocks.begins
 
 -- it is received, or verified

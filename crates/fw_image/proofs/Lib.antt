@@ -5,5 +5,6 @@ mod Moves
 mod Judging
 mod Puts
 mod Openings
+mod Migrating
 mod Fresh
 mod OneStep

@@ -2,12 +2,13 @@
 use Rattle.std.proofs.Common.{◌≡◌, ℕ, ◌<◌, ◌≤◌, Bool, true, false, IsTrue, List, length, take, Some, None, Option, refl, sym, ap, subst, ◌∙◌, arith}
 use Rattle.std.specs.Prelude.{is_some, IfSome}
 use Rattle.std.proofs.lemmas.List.{length-take-le, length-replicate}
-use Rattle.fw_blocks.specs.Cuts.{block_count, max_blocks}
+use Rattle.fw_blocks.specs.Cuts.{block_count}
 use Rattle.fw_blocks.specs.Members.{has}
 use Rattle.fw_blocks.specs.Laws.{CutsJoin}
 use Rattle.fw_store.specs.Device.{Device, slot_bytes, with_head}
 use Rattle.fw_store.specs.Slot.{other}
 use Rattle.fw_store.specs.Header.{IsHeader, IsGoal, has_goal, goal_count}
+use Rattle.fw_store.specs.Versions.{block_limit}
 use Rattle.fw_store.specs.declared.slot.Slot.{Slot}
 use Rattle.fw_store.specs.declared.slot.Slot.TheVariants.{First, Second}
 use Rattle.fw_store.specs.declared.header.Header.{Header}
@@ -149,17 +150,18 @@ seen_size false capacity d sized Second = length-replicate capacity 0
 
 -- ---- what is shown is known from the header
 
-marks_are : (capacity b release : ℕ) (marks : List Bool) (spare : List ℕ) (goal : Option Goal) → length marks ≡ max_blocks → IfSome goal (IsGoal capacity b release)
+marks_are : (limit capacity b release : ℕ) (marks : List Bool) (spare : List ℕ) (goal : Option Goal) → length marks ≡ limit → IfSome goal (IsGoal limit capacity b release)
     → marks_of (cells_of b marks spare goal) (goal_count b goal) ≡ take (goal_count b goal) marks
-marks_are capacity b release marks spare None count is = refl
-marks_are capacity b release marks spare (Some goal) count is =
-    let few : block_count b goal.size ≤ max_blocks = is.blocks.few in
+marks_are limit capacity b release marks spare None count is = refl
+marks_are limit capacity b release marks spare (Some goal) count is =
+    let few : block_count b goal.size ≤ limit = is.few in
     marks_again b marks (take goal.size spare) (block_count b goal.size) (omega arith)
 
 abbrev pub shown_by : ℕ → Header → Shown
 shown_by capacity h = record {
   block_size = h.block_size;
   capacity = capacity;
+  limit = block_limit h.version;
   enabled = h.enabled;
   phase = phase_of h.status h.goal;
   active = h.running_name;
@@ -175,10 +177,11 @@ shown_is capacity h d is sized =
     let spare = slot_bytes d (other h.running_slot) in
     let marked : marks_of (cells_of h.block_size h.marks spare h.goal) (goal_count h.block_size (goal_of (phase_of h.status h.goal))) ≡ take (goal_count h.block_size h.goal) h.marks =
     ap (λ (goal : Option Goal). marks_of (cells_of h.block_size h.marks spare h.goal) (goal_count h.block_size goal)) (goal_again h.status h.goal is.goal_by_status)
-    ∙ marks_are capacity h.block_size h.running_name.release h.marks spare h.goal is.fields.marks is.goal in
+    ∙ marks_are (block_limit h.version) capacity h.block_size h.running_name.release h.marks spare h.goal is.fields.marks is.goal in
     λ i. record {
       block_size = h.block_size;
       capacity = capacity;
+      limit = block_limit h.version;
       enabled = h.enabled;
       phase = phase_of h.status h.goal;
       active = h.running_name;
@@ -210,7 +213,7 @@ pub whole_bytes : CutsJoin → (capacity : ℕ) (h : Header) (d : Device) (goal 
 whole_bytes cuts capacity h d goal is sized has complete =
     let spare = slot_bytes d (other h.running_slot) in
     let room : length spare ≡ capacity = sized (other h.running_slot) in
-    let goal_is : IsGoal capacity h.block_size h.running_name.release goal = subst (λ (g : Option Goal). IfSome g (IsGoal capacity h.block_size h.running_name.release)) has is.goal in
+    let goal_is : IsGoal (block_limit h.version) capacity h.block_size h.running_name.release goal = subst (λ (g : Option Goal). IfSome g (IsGoal (block_limit h.version) capacity h.block_size h.running_name.release)) has is.goal in
     let fits : goal.size ≤ capacity = goal_is.fits in
     let size : length (take goal.size spare) ≡ goal.size = length-take-le goal.size spare (omega arith) in
     bytes_with capacity h d goal is has

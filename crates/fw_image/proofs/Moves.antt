@@ -11,6 +11,7 @@ use Rattle.fw_store.specs.Faults.{Keeps, count_after, Spends}
 use Rattle.fw_store.specs.Slot.{other}
 use Rattle.fw_store.specs.Layout.{header_bytes}
 use Rattle.fw_store.specs.Header.{IsHeader, IsGoal, FieldsFit, goal_count, is_verified}
+use Rattle.fw_store.specs.Versions.{block_limit}
 use Rattle.fw_store.specs.declared.slot.Slot.{Slot}
 use Rattle.fw_store.specs.declared.store.ImageStore.{Ghosts}
 use Rattle.fw_store.specs.declared.header.Header.{Header}
@@ -221,16 +222,18 @@ meter_of-begun capacity h d d' name size marks none same =
 pub trusted_begun : (m : Meter) (name : Name) (size : ℕ) → IsTrusted m → IsTrusted (begun m name size)
 trusted_begun m name size is = record { running = is.running; verified = λ e. absurd cc }
 
-pub goal_of_offer : (block_size capacity release : ℕ) (name : Name) (size : ℕ) → IsOffer block_size capacity release name size → IsGoal capacity block_size release (record { name = name; size = size })
-goal_of_offer block_size capacity release name size is = record {
+pub goal_of_offer : (limit block_size capacity release : ℕ) (name : Name) (size : ℕ) → IsOffer limit block_size capacity release name size
+    → IsGoal limit capacity block_size release (record { name = name; size = size })
+goal_of_offer limit block_size capacity release name size is = record {
   offered = λ e. let begins = is.opened.head_begins in let none = ap (λ (c : Campaign). c.head) e in absurd (omega arith);
   risen = is.risen;
   fits = is.fits;
   blocks = is.limits;
+  few = is.few;
 }
 
 pub valid_begun : (capacity : ℕ) (h : Header) (name : Name) (size : ℕ) (marks : List Bool) → ((i : ℕ) → has marks i ≡ false)
-    → IsHeader capacity h → FieldsFit (header_begun h name size marks) → IsGoal capacity h.block_size h.running_name.release (record { name = name; size = size }) → IsHeader capacity (header_begun h name size marks)
+    → IsHeader capacity h → FieldsFit (header_begun h name size marks) → IsGoal (block_limit h.version) capacity h.block_size h.running_name.release (record { name = name; size = size }) → IsHeader capacity (header_begun h name size marks)
 valid_begun capacity h name size marks none is fits goal_is = record {
   fields = fits;
   block_size_begins = is.block_size_begins;
@@ -311,7 +314,7 @@ trusted_switched m goal bytes phase whole is =
 pub valid_switched : (capacity : ℕ) (h : Header) (slot : Slot) (goal : Goal) (marks : List Bool) → ((i : ℕ) → has marks i ≡ false) → h.goal ≡ Some goal
     → IsHeader capacity h → FieldsFit (header_switched h slot goal marks) → IsHeader capacity (header_switched h slot goal marks)
 valid_switched capacity h slot goal marks none there is fits =
-    let goal_is : IsGoal capacity h.block_size h.running_name.release goal = subst (λ (g : Option Goal). IfSome g (IsGoal capacity h.block_size h.running_name.release)) there is.goal in
+    let goal_is : IsGoal (block_limit h.version) capacity h.block_size h.running_name.release goal = subst (λ (g : Option Goal). IfSome g (IsGoal (block_limit h.version) capacity h.block_size h.running_name.release)) there is.goal in
     record {
       fields = fits;
       block_size_begins = is.block_size_begins;

@@ -1,18 +1,21 @@
 -- What a store is opened as, and what is shown of it.
 use Rattle.std.proofs.Common.{◌≡◌, ℕ, ◌+◌, ◌-◌, ◌<◌, ◌≤◌, ◌↔◌, Bool, true, false, IsTrue, List, ◌++◌, length, take, drop, replicate, Some, None, Option, refl, sym, ap, subst, ◌∙◌, arith, ◌⊎◌}
-use Rattle.std.proofs.lemmas.List.{length-take-le, length-drop, length-replicate, take-append-drop, ext_get_or, get_or-drop, get_or-replicate}
+use Rattle.std.proofs.lemmas.List.{length-take-le, length-drop, length-replicate, take-append-drop, ext_get_or, get_or-drop, get_or-replicate, append_assoc, replicate-append-replicate}
 use Rattle.sha2.specs.Sha256.{sha256}
 use Rattle.fw_blocks.specs.Cuts.{max_blocks}
 use Rattle.fw_blocks.specs.Members.{has, all_marks}
 use Rattle.fw_blocks.specs.Laws.{CutsJoin}
-use Rattle.std.specs.Prelude.{IfSome, IfErr, IsErrAnd, Result, Ok, Err}
+use Rattle.std.specs.Prelude.{IfSome, IfErr, OnErr, IsErrAnd, Result, Ok, Err}
 use Rattle.fw_store.specs.Device.{Device, slot_bytes}
 use Rattle.fw_store.specs.Faults.{Keeps, Spends, count_after}
 use Rattle.fw_store.specs.Slot.{other}
 use Rattle.fw_store.specs.Layout.{header_bytes}
 use Rattle.fw_store.specs.Header.{IsHeader, IsGoal, goal_count}
 use Rattle.fw_store.specs.Laws.{OneHeader}
+use Rattle.fw_store.specs.Versions.{block_limit}
 use Rattle.fw_store.specs.declared.slot.Slot.{Slot}
+use Rattle.fw_store.specs.declared.version.HeaderVersion.{HeaderVersion}
+use Rattle.fw_store.specs.declared.version.HeaderVersion.TheVariants.{One, Two}
 use Rattle.fw_store.specs.declared.store.ImageStore.{Ghosts}
 use Rattle.fw_store.specs.declared.header.Header.{Header}
 use Rattle.fw_store.specs.declared.header.Goal.{Goal}
@@ -22,9 +25,9 @@ use Rattle.fw_verify.specs.Progress.{Progress}
 use Rattle.fw_image.specs.declared.status.TransferStatus.TheVariants.{VerificationSuccessful}
 use Rattle.fw_image.specs.Status.{shown_status}
 use Rattle.fw_image.specs.Meter.{Meter, verifying, IsTrusted, status_of, goal_of, goal_bytes}
-use Rattle.fw_image.specs.Calls.{opening_calls}
+use Rattle.fw_image.specs.Calls.{verified_size, opening_calls}
 use Rattle.fw_verify.specs.Slices.{slice_count}
-use Rattle.fw_image.specs.Stored.{phase_of, phase_at, meter_of, seen, IsHeld, IsVerifying, IsDigested, IsMeterOf, Refused}
+use Rattle.fw_image.specs.Stored.{phase_of, phase_at, meter_of, seen, IsHeld, IsVerifying, IsDigested, IsMeterOf, Refused, is_opening_faultless}
 use Rattle.fw_image.specs.Moves.{IsVerifiedGenuine, digested_of}
 use Rattle.fw_image.specs.declared.error.OpenError.{OpenError}
 use Rattle.fw_image.specs.declared.error.OpenError.TheVariants.{Fault, BadHeader, BadImage}
@@ -43,12 +46,30 @@ marks_whole all n marks count within none =
     get_or-replicate (all - n) i false false here ∙ sym (get_or-drop n marks i false ∙ none (n + i) past)) in
     ap (λ (k : ℕ). take n marks ++ replicate (all - k) false) front ∙ ap (λ (l : List Bool). take n marks ++ l) rest ∙ take-append-drop n marks
 
-count_within : (capacity b release : ℕ) (goal : Option Goal) → IfSome goal (IsGoal capacity b release) → goal_count b goal ≤ max_blocks
-count_within capacity b release None is = omega arith
-count_within capacity b release (Some goal) is = is.blocks.few
+-- and so it is with no others up to the most that there can be
+marks_filled : (all most n : ℕ) (marks : List Bool) → length marks ≡ all → n ≤ all → all ≤ most → ((i : ℕ) → n ≤ i → has marks i ≡ false)
+    → take n marks ++ replicate (most - length (take n marks)) false ≡ marks ++ replicate (most - length marks) false
+marks_filled all most n marks count within fits none =
+    let front : length (take n marks) ≡ n = length-take-le n marks (omega arith) in
+    let sum : most - length (take n marks) ≡ (all - length (take n marks)) + (most - length marks) = omega arith in
+    ap (λ (k : ℕ). take n marks ++ replicate k false) sum
+    ∙ ap (λ (l : List Bool). take n marks ++ l) (sym (replicate-append-replicate (all - length (take n marks)) (most - length marks) false))
+    ∙ sym (append_assoc (take n marks) (replicate (all - length (take n marks)) false) (replicate (most - length marks) false))
+    ∙ ap (λ (l : List Bool). l ++ replicate (most - length marks) false) (marks_whole all n marks count within none)
 
-pub marks_shown : (capacity : ℕ) (h : Header) → IsHeader capacity h → all_marks (take (goal_count h.block_size h.goal) h.marks) ≡ h.marks
-marks_shown capacity h is = marks_whole max_blocks (goal_count h.block_size h.goal) h.marks is.fields.marks (count_within capacity h.block_size h.running_name.release h.goal is.goal) is.unmarked
+count_within : (limit capacity b release : ℕ) (goal : Option Goal) → IfSome goal (IsGoal limit capacity b release) → goal_count b goal ≤ limit
+count_within limit capacity b release None is = omega arith
+count_within limit capacity b release (Some goal) is = is.few
+
+-- no version has more marks than there can be blocks
+pub limit_within : (version : HeaderVersion) → block_limit version ≤ max_blocks
+limit_within One = omega arith
+limit_within Two = omega arith
+
+pub marks_shown : (capacity : ℕ) (h : Header) → IsHeader capacity h → all_marks (take (goal_count h.block_size h.goal) h.marks) ≡ all_marks h.marks
+marks_shown capacity h is =
+    marks_filled (block_limit h.version) max_blocks (goal_count h.block_size h.goal) h.marks is.fields.marks
+    (count_within (block_limit h.version) capacity h.block_size h.running_name.release h.goal is.goal) (limit_within h.version) is.unmarked
 
 -- ---- one device is one meter
 
@@ -153,11 +174,47 @@ opened_again t s s' h meter law kept same held was honest =
     ∙ same_meter law (t.capacity s') (t.capacity s) h was.header (t.device s') (t.device s) held.valid was.valid (held.stored still) was.spelled kept.size (same honest)
     ∙ sym was.means
 
-pub not_refused : {S : Type 0} (t : Ghosts S) (s s' : S) (error : OpenError) (meter : Meter) → OneHeader → Refused t.honest t.sound t.capacity t.faults t.calls_left t.device s error s'
-    → IsMeterOf (t.capacity s) (t.device s) meter → IsTrusted meter → IsTrue (t.honest s) → IsTrue (t.sound s) → ⊥
-not_refused t s s' Fault meter law refused is trusted honest sound = let bad : false ≡ true = refused.never sound in cc
-not_refused t s s' BadHeader meter law refused is trusted honest sound = refused.reason honest meter is
-not_refused t s s' BadImage meter law refused is trusted honest sound =
+-- of a store that holds one only a fault is reported
+pub told_fault : {S : Type 0} (t : Ghosts S) (s s' : S) (error : OpenError) (meter : Meter) → OneHeader → Refused t.honest t.sound t.capacity t.faults t.calls_left t.device s error s'
+    → IsMeterOf (t.capacity s) (t.device s) meter → IsTrusted meter → IsTrue (t.honest s) → error ≡ Fault
+told_fault t s s' Fault meter law refused is trusted honest = refl
+told_fault t s s' BadHeader meter law refused is trusted honest = absurd (refused.reason honest meter is)
+told_fault t s s' BadImage meter law refused is trusted honest =
     let reason = refused.reason honest in
     let same : meter ≡ reason.0 = one_meter law (t.capacity s) (t.device s) meter reason.0 is reason.1 in
-    reason.2 (subst IsTrusted same trusted)
+    absurd (reason.2 (subst IsTrusted same trusted))
+
+pub not_refused : {S : Type 0} (t : Ghosts S) (s s' : S) (error : OpenError) (meter : Meter) → OneHeader → Refused t.honest t.sound t.capacity t.faults t.calls_left t.device s error s'
+    → IsMeterOf (t.capacity s) (t.device s) meter → IsTrusted meter → IsTrue (t.honest s) → IsTrue (t.sound s) → ⊥
+not_refused t s s' error meter law refused is trusted honest sound =
+    let fault = told_fault t s s' error meter law refused is trusted honest in
+    let bad : false ≡ true = sym (ap is_opening_faultless fault) ∙ refused.never sound in
+    cc
+
+-- ---- how many calls an opening makes
+
+-- those of the meter are those of its header
+pub calls_of_header : OneHeader → (capacity : ℕ) (h : Header) (d : Device) (m : Meter) → IsHeader capacity h → header_bytes h ≡ d.head → ((slot : Slot) → length (slot_bytes d slot) ≡ capacity)
+    → IsMeterOf capacity d m → opening_calls m ≡ 1 + slice_count h.running_size + slice_count (verified_size (phase_of h.status h.goal))
+calls_of_header law capacity h d m valid spelled sized is =
+    let same : m ≡ meter_of capacity h d = is.means ∙ same_meter law capacity capacity is.header h d d is.valid valid is.spelled spelled refl refl in
+    ap opening_calls same ∙ ap (λ (n : ℕ). 1 + slice_count n + slice_count (verified_size (phase_of h.status h.goal))) (length-running capacity h d valid sized)
+
+-- one at least
+pub some_calls : (m : Meter) → 1 ≤ opening_calls m
+some_calls m = omega arith
+
+-- one of the calls failed of each meter that the store may hold
+abbrev pub IsCut : {S : Type 0} → Ghosts S → S → S → Type 0
+IsCut t s s' =
+    (meter : Meter) → IsMeterOf (t.capacity s) (t.device s) meter → IsTrusted meter → IsTrue (t.honest s) → Spends (opening_calls meter) (t.calls_left s) (t.calls_left s') false
+
+pub cut_told : {S : Type 0} {T : Type 0} (t : Ghosts S) (s s' : S) (r : Result T OpenError) → IsCut t s s' → OnErr r (IsCut t s s')
+cut_told t s s' (Ok x) cut = tt
+cut_told t s s' (Err e) cut = cut
+
+-- none did where the image isn't genuine
+pub image_not_cut : {S : Type 0} (t : Ghosts S) (s s' : S) → OneHeader → Refused t.honest t.sound t.capacity t.faults t.calls_left t.device s BadImage s' → IsCut t s s'
+image_not_cut t s s' law refused meter is trusted honest =
+    let bad : BadImage ≡ Fault = told_fault t s s' BadImage meter law refused is trusted honest in
+    absurd cc

@@ -4,7 +4,7 @@ use Rattle.std.specs.Prelude.{IfSome, is_some}
 use Rattle.std.specs.FinMap.{insert, get}
 use Rattle.std.proofs.lemmas.List.{length-take-le}
 use Rattle.sha2.specs.Sha256.{sha256}
-use Rattle.fw_blocks.specs.Cuts.{cut, block_start, block_end, block_count, max_blocks}
+use Rattle.fw_blocks.specs.Cuts.{cut, block_start, block_end, block_count}
 use Rattle.fw_blocks.specs.Members.{has}
 use Rattle.fw_blocks.specs.Laws.{OtherBlocksStay, BeginsWithin}
 use Rattle.fw_store.specs.Device.{Device, slot_bytes, written, splice, Torn}
@@ -13,6 +13,7 @@ use Rattle.fw_store.specs.Layout.{header_bytes}
 use Rattle.fw_store.specs.StoreLaws.{SpliceStands}
 use Rattle.fw_store.specs.Slot.{other}
 use Rattle.fw_store.specs.Header.{IsHeader, IsGoal, FieldsFit, goal_count, is_verified}
+use Rattle.fw_store.specs.Versions.{block_limit}
 use Rattle.fw_store.specs.declared.header.StoredStatus.TheVariants as kept
 use Rattle.fw_image.specs.declared.status.TransferStatus.TheVariants.{Initiated, VerificationSuccessful}
 use Rattle.std.proofs.lemmas.Bool.Decides.{nat_tests}
@@ -77,7 +78,7 @@ cut_elsewhere stay law stand b size number start bytes value is k apart =
 pub record Put (capacity : ℕ) (h : Header) (spare : List ℕ) (goal : Goal) (number start : ℕ) (value : List ℕ) : Type 0 where
   pub valid : IsHeader capacity h
   pub there : h.goal ≡ Some goal
-  pub is_goal : IsGoal capacity h.block_size h.running_name.release goal
+  pub is_goal : IsGoal (block_limit h.version) capacity h.block_size h.running_name.release goal
   pub room : length spare ≡ capacity
   pub is_block : IsBlock h.block_size goal.size number value
   pub begins : start ≡ block_start h.block_size number
@@ -86,7 +87,7 @@ pub is_put : (capacity : ℕ) (h : Header) (spare : List ℕ) (number start : �
 is_put capacity h spare number start value valid room place = record {
   valid = valid;
   there = place.there;
-  is_goal = subst (λ (g : Option Goal). IfSome g (IsGoal capacity h.block_size h.running_name.release)) place.there valid.goal;
+  is_goal = subst (λ (g : Option Goal). IfSome g (IsGoal (block_limit h.version) capacity h.block_size h.running_name.release)) place.there valid.goal;
   room = room;
   is_block = place.is_block;
   begins = place.begins;
@@ -159,6 +160,7 @@ abbrev meter_with : (capacity : ℕ) → Header → Meter → List ℕ → Optio
 meter_with capacity h m running goal marks spare = record {
   block_size = h.block_size;
   capacity = capacity;
+  limit = block_limit h.version;
   enabled = h.enabled;
   phase = phase_of h.status h.goal;
   cells = cells_of h.block_size marks spare goal;
@@ -178,6 +180,7 @@ meter_put stay law stand capacity h d d' goal number start value marks put marke
     λ i. record {
       block_size = h.block_size;
       capacity = capacity;
+      limit = block_limit h.version;
       enabled = h.enabled;
       phase = phase_of h.status h.goal;
       cells = cells i;
@@ -197,6 +200,7 @@ meter_kept stay law stand capacity h d d' goal number start value put unmarked i
     λ i. record {
       block_size = h.block_size;
       capacity = capacity;
+      limit = block_limit h.version;
       enabled = h.enabled;
       phase = phase_of h.status h.goal;
       cells = cells i;
@@ -286,10 +290,10 @@ one_or_two false = omega arith
 
 pub marks_in : (capacity : ℕ) (h : Header) (number start : ℕ) (value : List ℕ) → IsHeader capacity h → IsPlace h number value start → number < length h.marks
 marks_in capacity h number start value valid place =
-    let is_goal : IsGoal capacity h.block_size h.running_name.release place.goal = subst (λ (g : Option Goal). IfSome g (IsGoal capacity h.block_size h.running_name.release)) place.there valid.goal in
-    let few : block_count h.block_size place.goal.size ≤ max_blocks = is_goal.blocks.few in
+    let is_goal : IsGoal (block_limit h.version) capacity h.block_size h.running_name.release place.goal = subst (λ (g : Option Goal). IfSome g (IsGoal (block_limit h.version) capacity h.block_size h.running_name.release)) place.there valid.goal in
+    let few : block_count h.block_size place.goal.size ≤ block_limit h.version = is_goal.few in
     let below : number < block_count h.block_size place.goal.size = place.is_block.below in
-    let count : length h.marks ≡ max_blocks = valid.fields.marks in
+    let count : length h.marks ≡ block_limit h.version = valid.fields.marks in
     omega arith
 
 beyond : (k number count : ℕ) (mark was : Bool) → mark ≡ ((k == number) || was) → number < count → count ≤ k → was ≡ false → mark ≡ false

@@ -1,6 +1,7 @@
 -- Public vocabulary: how many calls of its store an operation makes.
-use Rattle.std.specs.Prelude.{ℕ, ◌+◌, nat_lt, nat_le, if◌then◌else◌, length, is_some}
+use Rattle.std.specs.Prelude.{ℕ, ◌+◌, ◌==◌, nat_lt, nat_le, if◌then◌else◌, length, is_some}
 use Rattle.std.specs.FinMap.{get}
+use Rattle.fw_blocks.specs.Cuts.{max_blocks}
 use Rattle.fw_verify.specs.Slices.{slice_size, slice_count}
 use Rattle.fw_image.specs.Meter.{Meter, Phase, verifying, sealed, goal_of, goal_size}
 use Rattle.fw_image.specs.Step.{Operation, enable, initiate, block, verify, activate}
@@ -24,6 +25,14 @@ abbrev pub verified_size : Phase → ℕ
 verified_size (sealed goal) = goal.size
 verified_size phase = 0
 
--- an opening: the header is read, and the image that runs, and the goal where it was verified
+-- an opening that keeps the header: it is read, and the image that runs, and the goal where it was verified
 abbrev pub opening_calls : Meter → ℕ
 opening_calls m = 1 + slice_count (length m.running.bytes) + slice_count (verified_size m.phase)
+
+-- the calls that make a header one of version 2: a write of it, where it is not
+abbrev pub migration_calls : Meter → ℕ
+migration_calls m = if m.limit == max_blocks then 0 else 1
+
+-- an opening that does so after its checks
+abbrev pub restart_calls : Meter → ℕ
+restart_calls m = opening_calls m + migration_calls m

@@ -4,6 +4,7 @@ use Rattle.fw_blocks.specs.Cuts.{block_count}
 use Rattle.fw_store.specs.Device.{Device}
 use Rattle.fw_store.specs.Fresh.{fresh_device}
 use Rattle.fw_store.specs.Setup.{IsSetup}
+use Rattle.fw_store.specs.declared.version.HeaderVersion.{HeaderVersion}
 use Rattle.fw_image.specs.Fresh.{fresh_meter}
 use Rattle.fw_image.specs.Meter.{Meter, Cells, joined, IsTrusted}
 use Rattle.fw_image.specs.Fits.{CellsFit}
@@ -17,9 +18,9 @@ OneMeter = (capacity : ℕ) (d : Device) (a b : Meter) → IsMeterOf capacity d 
 
 -- a new store holds a new meter, whose image has the digest of its name
 abbrev pub FreshIsMeter : Type 0
-FreshIsMeter = (block_size capacity : ℕ) (factory : List ℕ) → IsSetup block_size capacity factory
-    → IsMeterOf capacity (fresh_device block_size capacity factory) (fresh_meter block_size capacity factory)
-    × IsTrusted (fresh_meter block_size capacity factory)
+FreshIsMeter = (version : HeaderVersion) (block_size capacity : ℕ) (factory : List ℕ) → IsSetup version block_size capacity factory
+    → IsMeterOf capacity (fresh_device version block_size capacity factory) (fresh_meter version block_size capacity factory)
+    × IsTrusted (fresh_meter version block_size capacity factory)
 
 -- over an honest store, where no call of it failed, a meter and an operation determine what is told and the meter afterwards
 abbrev pub OneStep : Type 0

@@ -5,6 +5,7 @@ use Rattle.std.specs.FinMap.{FinMap, get, code}
 use Rattle.std.specs.Coded.{Coded, coded_ℕ, coded_list}
 use Rattle.sha2.specs.Sha256.{sha256}
 use Rattle.fw_names.specs.Name.{Name}
+use Rattle.fw_blocks.specs.Cuts.{max_blocks}
 use Rattle.fw_store.specs.Header.{goal_count}
 use Rattle.fw_store.specs.declared.header.Goal.{Goal}
 use Rattle.fw_image.specs.declared.status.TransferStatus.{TransferStatus}
@@ -37,6 +38,8 @@ pub record Meter : Type 0 where
   -- fixed
   pub block_size : ℕ
   pub capacity : ℕ
+  -- how many blocks an image may have: what the header's version has marks for, which an opening may raise
+  pub limit : ℕ
   -- changing
   pub enabled : Bool
   pub phase : Phase
@@ -107,3 +110,11 @@ reopened_phase phase = phase
 
 abbrev pub reopened : Meter → Meter
 reopened m = record m { phase = reopened_phase m.phase }
+
+-- the meter once its header is one of version 2
+abbrev pub migrated : Meter → Meter
+migrated m = record m { limit = max_blocks }
+
+-- a restart does both
+abbrev pub restarted : Meter → Meter
+restarted m = migrated (reopened m)

@@ -1,7 +1,8 @@
 -- For private members alone: no public clause cites it.
-use Rattle.std.specs.Prelude.{◌≡◌, ℕ, ◌<◌, ◌⊎◌, Bool, true, false, List, Result, Ok, Err, Some}
-use Rattle.fw_blocks.specs.Cuts.{block_start, block_count}
+use Rattle.std.specs.Prelude.{◌≡◌, ℕ, ◌==◌, ◌<◌, ◌⊎◌, Bool, true, false, if◌then◌else◌, List, Result, Ok, Err, Some}
+use Rattle.fw_blocks.specs.Cuts.{block_start, block_count, max_blocks}
 use Rattle.fw_blocks.specs.Members.{has}
+use Rattle.fw_store.specs.Versions.{block_limit}
 use Rattle.fw_store.specs.declared.header.Header.{Header}
 use Rattle.fw_store.specs.declared.header.Goal.{Goal}
 use Rattle.fw_store.specs.declared.header.StoredStatus.{StoredStatus}
@@ -52,3 +53,7 @@ pub record LacksBlock (h : Header) (goal : Goal) : Type 0 where
 -- the goal's bytes, where it was verified, have the digest of its name
 abbrev pub IsVerifiedGenuine : Meter → Type 0
 IsVerifiedGenuine m = status_of m.phase ≡ VerificationSuccessful → IsGenuine (goal_of m.phase) (goal_bytes m)
+
+-- how many writes make a header one of version 2
+abbrev pub migrating_writes : Header → ℕ
+migrating_writes h = if block_limit h.version == max_blocks then 0 else 1

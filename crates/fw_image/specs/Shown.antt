@@ -10,6 +10,7 @@ use Rattle.fw_image.specs.declared.view.MeterView.{MeterView}
 pub record Shown : Type 0 where
   pub block_size : ℕ
   pub capacity : ℕ
+  pub limit : ℕ
   pub enabled : Bool
   pub phase : Phase
   pub active : Name
@@ -20,6 +21,7 @@ abbrev pub shown_of : Meter → Shown
 shown_of m = record {
   block_size = m.block_size;
   capacity = m.capacity;
+  limit = m.limit;
   enabled = m.enabled;
   phase = m.phase;
   active = m.running.name;
@@ -29,6 +31,7 @@ shown_of m = record {
 
 -- the view has what a meter shows
 pub record IsView (view : MeterView) (shown : Shown) : Type 0 where
+  pub limit : view.limit ≡ shown.limit
   pub enabled : view.enabled ≡ shown.enabled
   pub status : view.status ≡ status_of shown.phase
   pub active : view.active ≡ shown.active

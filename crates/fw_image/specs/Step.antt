@@ -30,13 +30,14 @@ is_operation_faultless outcome = true
 
 -- ---- the lines before any call of the store
 
--- What can be initiated, where an image of this release runs: an image that a campaign offers, of a release that is not below, and of a
--- size within the limits.
-pub record IsOffer (block_size capacity release : ℕ) (name : Name) (size : ℕ) : Type 0 where
+-- What can be initiated, where an image of this release runs: an image that a campaign offers, of a release that is not below, of a size
+-- within the limits, and of no more blocks than the meter has marks for.
+pub record IsOffer (limit block_size capacity release : ℕ) (name : Name) (size : ℕ) : Type 0 where
   pub opened : IsOpened name.campaign
   pub risen : release ≤ name.release
   pub fits : size ≤ capacity
   pub limits : IsWithinLimits block_size size
+  pub few : block_count block_size size ≤ limit
 
 -- a block of an image of so many bytes: its number, and just its length
 pub record IsBlock (block_size size number : ℕ) (value : List ℕ) : Type 0 where
@@ -46,7 +47,7 @@ pub record IsBlock (block_size size number : ℕ) (value : List ℕ) : Type 0 wh
 -- What a phase admits: an initiate in each, a block and a verify while blocks are received, an activate of a verified image.
 abbrev pub Admits : Meter → Phase → Operation → Type 0
 Admits m phase (enable b) = Unit {0}
-Admits m phase (initiate name size) = IsOffer m.block_size m.capacity m.running.name.release name size
+Admits m phase (initiate name size) = IsOffer m.limit m.block_size m.capacity m.running.name.release name size
 Admits m (receiving goal) (block i value) = IsBlock m.block_size goal.size i value
 Admits m phase (block i value) = ⊥
 Admits m (receiving goal) verify = (bytes : List ℕ) × (goal_bytes m ≡ Some bytes)

@@ -1,21 +1,23 @@
 -- Public vocabulary: the meter that a header and two slots are.
 use Rattle.std.specs.Prelude.{◌≡◌, ℕ, zero, suc, Bool, true, false, IsTrue, if◌then◌else◌, ◌+◌, ◌<◌, ◌≤◌, ◌⊎◌, List, [], length, take, replicate, Option, Some, None}
 use Rattle.std.specs.FinMap.{insert, empty}
-use Rattle.fw_blocks.specs.Cuts.{cut, block_count}
+use Rattle.fw_blocks.specs.Cuts.{cut, block_count, max_blocks}
 use Rattle.fw_blocks.specs.Members.{has}
 use Rattle.fw_store.specs.Device.{Device, slot_bytes}
 use Rattle.fw_store.specs.Faults.{Keeps, count_after, Spends}
 use Rattle.fw_store.specs.Slot.{other}
+use Rattle.fw_store.specs.declared.slot.Slot.{Slot}
 use Rattle.fw_store.specs.Layout.{header_bytes}
 use Rattle.fw_store.specs.Header.{IsHeader}
+use Rattle.fw_store.specs.Versions.{block_limit}
 use Rattle.fw_store.specs.declared.header.Header.{Header}
 use Rattle.fw_store.specs.declared.header.Goal.{Goal}
 use Rattle.fw_store.specs.declared.header.StoredStatus.{StoredStatus}
 use Rattle.fw_store.specs.declared.header.StoredStatus.TheVariants.{NotInitiated, Initiated, VerificationSuccessful, VerificationFailed, ActivationSuccessful}
-use Rattle.fw_image.specs.Meter.{Meter, Phase, idle, receiving, sealed, spoilt, switched, Cells, IsTrusted}
+use Rattle.fw_image.specs.Meter.{Meter, Phase, idle, receiving, sealed, spoilt, switched, Cells, IsTrusted, migrated}
 use Rattle.fw_image.specs.Step.{digested_phase}
 use Rattle.fw_image.specs.State.{State}
-use Rattle.fw_image.specs.Calls.{opening_calls}
+use Rattle.fw_image.specs.Calls.{opening_calls, restart_calls}
 use Rattle.fw_verify.specs.Slices.{slice_size, slice_count}
 use Rattle.fw_verify.specs.Progress.{Progress, IsDigesting}
 use Rattle.fw_image.specs.declared.error.OpenError.{OpenError}
@@ -47,6 +49,7 @@ abbrev pub meter_of : ℕ → Header → Device → Meter
 meter_of capacity h d = record {
   block_size = h.block_size;
   capacity = capacity;
+  limit = block_limit h.version;
   enabled = h.enabled;
   phase = phase_of h.status h.goal;
   cells = cells_of h.block_size h.marks (slot_bytes d (other h.running_slot)) h.goal;
@@ -122,6 +125,20 @@ pub record Holds {S : Type 0} (honest : S → Bool) (capacity : S → ℕ) (devi
   pub contents : IsTrue (honest store) → state.device ≡ device store
   pub means : IsTrue (honest store) → IsMeterOf (capacity store) (device store) state.meter
   pub trusted : IsTrue (honest store) → IsTrusted state.meter
+
+-- A store is opened, and its header is one of version 2 from then on: the meter that it was goes on with all else kept, and so does the
+-- device where that was so before. No call of the store failed.
+pub record Opens {S : Type 0} (honest : S → Bool) (capacity : S → ℕ) (calls_left : S → Option ℕ) (device : S → Device) (store : S) (state : State) : Type 0 where
+  pub honesty : state.honest ≡ honest store
+  pub was : Meter
+  pub held : IsTrue (honest store) → IsMeterOf (capacity store) (device store) was
+  pub trusted : IsTrue (honest store) → IsTrusted was
+  pub goes_on : state.meter ≡ migrated was
+  pub size : was.capacity ≡ capacity store
+  pub holds : IsTrue (honest store) → IsMeterOf (capacity store) state.device state.meter
+  pub slots : IsTrue (honest store) → (slot : Slot) → slot_bytes state.device slot ≡ slot_bytes (device store) slot
+  pub kept : IsTrue (honest store) → was.limit ≡ max_blocks → state.device ≡ device store
+  pub spends : Spends (restart_calls was) (calls_left store) state.calls_left true
 
 -- Why a store was not opened. Where it is honest: its header is none that it can have, or it is a meter, and an image has not the digest
 -- of its name.

@@ -14,7 +14,7 @@ pub enum Refusal {
     #[error("Disabled")]
     Disabled,
     /// The name is a factory's, or its release below that of the image that runs, or the size is 0, above the capacity, or of more
-    /// than 4,096 blocks.
+    /// blocks than the meter has marks for: 4,096 or 16,384.
     #[error("BadInitiate")]
     BadInitiate,
     /// The image has no block of this number, or that block has another length.

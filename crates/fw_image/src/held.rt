@@ -28,22 +28,24 @@ ghost use Rattle.sha2.specs.Sha256.{sha256};
 ghost use Rattle.fw_blocks.specs.Cuts.{IsWithinLimits, block_count, max_blocks};
 ghost use Rattle.fw_store.specs.Device.{with_head, slot_bytes};
 ghost use Rattle.fw_store.specs.Faults.{Keeps, HasCause, Spends};
-ghost use Rattle.fw_store.specs.Header.{FieldsFit, IsHeader};
+ghost use Rattle.fw_store.specs.Header.{FieldsFit, IsHeader, migrated as header_migrated};
 ghost use Rattle.fw_store.specs.Layout.{header_bytes};
+ghost use Rattle.fw_store.specs.Versions.{block_limit};
 ghost use Rattle.fw_store.specs.declared.header.Goal.{Goal};
 ghost use Rattle.fw_verify.specs.Progress.{IsDigesting};
 ghost use Rattle.fw_verify.specs.Slices.{slice_count};
-ghost use Rattle.fw_image.specs.Calls.{verified_size, opening_calls};
-ghost use Rattle.fw_image.specs.Meter.{Meter, status_of, count_of, marks_of, reopened, IsTrusted};
+ghost use Rattle.fw_image.specs.Calls.{verified_size, opening_calls, restart_calls};
+ghost use Rattle.fw_image.specs.Meter.{Meter, status_of, count_of, marks_of, reopened, migrated, IsTrusted};
 ghost use Rattle.fw_image.specs.Shown.{shown_of, IsView};
 ghost use Rattle.fw_image.specs.Fits.{IsFit};
 ghost use Rattle.fw_image.specs.Step.{enable, initiate, block, verify, activate, IsOffer, IsBlock};
 ghost use Rattle.fw_image.specs.State.{Makes, Turns, Follows, IsOver, stored, outcome_of};
-ghost use Rattle.fw_image.specs.Stored.{meter_of, phase_of, IsHeld, IsMeterOf, Holds, Refused, IsSame};
+ghost use Rattle.fw_image.specs.Stored.{meter_of, phase_of, state_of, IsHeld, IsMeterOf, Holds, Opens, Refused, IsSame};
 ghost use Rattle.fw_image.specs.Moves.{
   verify_outcome,
   judged,
   digested_of,
+  migrating_writes,
   IsVerifiedPhase,
   IsPlace,
   IsWholeGoal,
@@ -63,7 +65,8 @@ use crate::view::MeterView;
 use fw_blocks::{Geometry, Pages, laws};
 use fw_names::ImageName;
 use fw_store::{
-    Goal, Header, ImageStore, MemoryStore, Slot, StoreFault, StoredStatus, laws as store_laws,
+    Goal, Header, HeaderVersion, ImageStore, MemoryStore, Slot, StoreFault, StoredStatus,
+    laws as store_laws,
 };
 use fw_verify::{Digesting, digest};
 use std::marker::Model;
@@ -122,7 +125,7 @@ impl<S: ImageStore> Held<S> {
         let next = Header {
             status: StoredStatus::Initiated,
             goal: Some(Goal { name, size }),
-            marks: Pages::none(),
+            marks: self.header.version.no_marks(),
             ..self.header
         };
         replace(&mut self.store, &mut self.header, next)?;
@@ -229,14 +232,14 @@ impl<S: ImageStore> Held<S> {
             running_size: goal.size,
             running_name: goal.name,
             goal: None,
-            marks: Pages::none(),
+            marks: self.header.version.no_marks(),
             ..self.header
         };
         replace(&mut self.store, &mut self.header, next)?;
         Ok(())
     }
 
-    /// Opens a store. A store that is refused is handed back, and its device is as it was.
+    /// Opens a store, whose header stays as it is. A store that is refused is handed back, and its device is as it was.
     pub(crate) fn open(mut store: S) -> Result<Held<S>, (OpenError, S)>
         ensures opened { IfOk result (λ next. Holds S.honest S.capacity S.device store next) }
         ensures begins { IfOk result (λ next. reopened next.meter ≡ next.meter) }
@@ -246,15 +249,52 @@ impl<S: ImageStore> Held<S> {
         ensures refused { IfErr result (λ e. Refused S.honest S.sound S.capacity S.faults S.calls_left S.device store e.0 e.1) }
         ensures again { (meter : Meter) → IsMeterOf (S.capacity store) (S.device store) meter → IsTrusted meter
             → IsTrue (S.honest store) → IsTrue (S.sound store) → IsOkAnd result (λ next. next.meter ≡ meter) }
+        ensures cut { (meter : Meter) → IsMeterOf (S.capacity store) (S.device store) meter → IsTrusted meter
+            → IsTrue (S.honest store) → IfErr result (λ e. Spends (opening_calls meter) (S.calls_left store) (S.calls_left e.1) false) }
     {
         store_laws::one_header();
         match examine(&mut store) {
-            Ok(header) => Ok(Held {
-                store,
-                header,
-                digesting: None,
-            }),
+            Ok(header) => Ok(Held::of(store, header)),
             Err(error) => Err((error, store)),
+        }
+    }
+
+    /// Opens a store, and then writes its header in version 2 where it is one of version 1. A store that is refused is handed back,
+    /// and its device is as it was.
+    pub(crate) fn open_migrated(mut store: S) -> Result<Held<S>, (OpenError, S)>
+        ensures opened { IfOk result (λ next. Opens S.honest S.capacity S.calls_left S.device store next) }
+        ensures begins { IfOk result (λ next. reopened next.meter ≡ next.meter) }
+        ensures sound { IfOk result (λ next. IsTrue (S.sound store) → IsTrue next.sound) }
+        ensures faultless { IfOk result (λ next. next.faults ≡ S.faults store) }
+        ensures refused { IfErr result (λ e. Refused S.honest S.sound S.capacity S.faults S.calls_left S.device store e.0 e.1) }
+        ensures again { (meter : Meter) → IsMeterOf (S.capacity store) (S.device store) meter → IsTrusted meter
+            → IsTrue (S.honest store) → IsTrue (S.sound store) → IsOkAnd result (λ next. next.meter ≡ migrated meter) }
+        ensures cut { (meter : Meter) → IsMeterOf (S.capacity store) (S.device store) meter → IsTrusted meter
+            → IsTrue (S.honest store) → IfErr result (λ e. Spends (restart_calls meter) (S.calls_left store) (S.calls_left e.1) false) }
+    {
+        store_laws::one_header();
+        store_laws::migrated_is_header();
+        store_laws::calls_add();
+        store_laws::calls_end();
+        match examine(&mut store) {
+            Ok(mut header) => match migrate(&mut store, &mut header) {
+                Ok(()) => Ok(Held::of(store, header)),
+                Err(fault) => Err((OpenError::from(fault), store)),
+            },
+            Err(error) => Err((error, store)),
+        }
+    }
+
+    /// A store and the header that it holds. Nothing is digested.
+    fn of(store: S, header: Header) -> Held<S>
+        requires { IsHeld S.honest S.capacity S.device store header }
+        ensures { result
+            ≡ state_of S.honest S.sound S.capacity S.faults S.calls_left S.device store header None }
+    {
+        Held {
+            store,
+            header,
+            digesting: None,
         }
     }
 
@@ -326,6 +366,7 @@ impl<S: ImageStore> Held<S> {
         laws::cut_size();
         let header = &self.header;
         MeterView {
+            limit: header.version.block_limit(),
             enabled: header.enabled,
             status: self.status(),
             active: header.running_name,
@@ -391,7 +432,7 @@ fn replace<S: ImageStore>(
     header: &mut Header,
     next: Header,
 ) -> Result<(), StoreFault>
-    requires { length next.marks ≡ max_blocks }
+    requires { length next.marks ≡ block_limit next.version }
     ensures done { OnOk result (header.new ≡ next) }
     ensures failed { OnErr result (header.new ≡ header.old) }
     ensures written { IsTrue (S.honest store.old)
@@ -407,11 +448,15 @@ fn replace<S: ImageStore>(
     Ok(())
 }
 
-/// Whether an image of this name and size can be received. Its release may be that of the image that runs, or a higher one.
+/// Whether an image of this name and size can be received. Its release may be that of the image that runs, or a higher one, and
+/// the header has a mark for each of its blocks.
 fn is_offer(header: &Header, capacity: u32, name: ImageName, size: u32) -> bool
-    ensures { IsTrue result ↔ IsOffer header.now.block_size capacity header.now.running_name.release name size }
+    ensures { IsTrue result
+        ↔ IsOffer (block_limit header.now.version) header.now.block_size capacity header.now.running_name.release name size }
 {
-    Goal { name, size }.fits(capacity, header.block_size, header.running_name.release)
+    let limit = header.version.block_limit();
+    let release = header.running_name.release;
+    Goal { name, size }.fits(limit, capacity, header.block_size, release)
 }
 
 /// Where in the image a block begins, if the goal has that block, and of just this length.
@@ -471,7 +516,7 @@ fn judge<S: ImageStore>(
     digesting: Digesting,
 ) -> Result<bool, StoreFault>
     requires taken { digesting.taken ≡ digesting.size }
-    requires marks { length header.old.marks ≡ max_blocks }
+    requires marks { length header.old.marks ≡ block_limit header.old.version }
     ensures digest { (contents : List ℕ) → IsDigesting digesting contents
         → IfOk result (λ same. IsTrue same ↔ (sha256 (take digesting.size contents) ≡ name.digest)) }
     ensures done { IfOk result (λ same. header.new ≡ record header.old { status = judged same }) }
@@ -504,6 +549,26 @@ fn judged(genuine: bool) -> StoredStatus
     }
 }
 
+/// Writes a header that is held in version 2, where it is one of version 1, and keeps it where that succeeded.
+fn migrate<S: ImageStore>(store: &mut S, header: &mut Header) -> Result<(), StoreFault>
+    requires { IsHeld S.honest S.capacity S.device store.old header.old }
+    ensures done { OnOk result (header.new ≡ header_migrated header.old) }
+    ensures written { IsTrue (S.honest store.old)
+        → OnOk result (S.device store.new ≡ with_head (S.device store.old) (header_bytes (header_migrated header.old))) }
+    ensures same { IsTrue (S.honest store.old) → OnErr result (S.device store.new ≡ S.device store.old) }
+    ensures kept { Keeps S.honest S.sound S.capacity S.faults store.old store.new }
+    ensures cause { HasCause (S.sound store.old) (S.faults store.old) (S.faults store.new) result }
+    ensures spends { Spends (migrating_writes header.old) (S.calls_left store.old) (S.calls_left store.new) (is_ok result) }
+{
+    match header.version {
+        HeaderVersion::One => {
+            let next = header.migrated();
+            replace(store, header, next)
+        }
+        HeaderVersion::Two => Ok(()),
+    }
+}
+
 /// Reads the header of a store, and checks it and the images.
 fn examine<S: ImageStore>(store: &mut S) -> Result<Header, OpenError>
     ensures held { IfOk result (IsHeld S.honest S.capacity S.device store.new) }
@@ -514,8 +579,12 @@ fn examine<S: ImageStore>(store: &mut S) -> Result<Header, OpenError>
         Spends (1 + slice_count header.running_size + slice_count (verified_size (phase_of header.status header.goal)))
         (S.calls_left store.old) (S.calls_left store.new) true) }
     ensures refused { IfErr result (λ e. Refused S.honest S.sound S.capacity S.faults S.calls_left S.device store.old e store.new) }
+    ensures cut { OnErr result ((meter : Meter) → IsMeterOf (S.capacity store.old) (S.device store.old) meter → IsTrusted meter
+        → IsTrue (S.honest store.old) → Spends (opening_calls meter) (S.calls_left store.old) (S.calls_left store.new) false) }
 {
+    store_laws::one_header();
     store_laws::calls_add();
+    store_laws::calls_end();
     let bytes = store.header()?;
     let Some(header) = Header::from_bytes(store.capacity(), &bytes) else {
         return Err(OpenError::BadHeader);

@@ -10,7 +10,7 @@ mod transfer;
 mod view;
 
 pub use error::{OpenError, Refusal};
-pub use phase::{Phase, open_store};
+pub use phase::{Phase, open_kept, open_store};
 pub use status::TransferStatus;
 pub use transfer::{Idle, NotVerified, Receiving, Spoilt, Switched, Transfer, Verified, Verifying};
 pub use view::MeterView;

@@ -19,14 +19,14 @@ ghost use Rattle.std.specs.Prelude.{
 };
 ghost use Rattle.fw_blocks.specs.Cuts.{max_blocks};
 ghost use Rattle.fw_store.specs.Faults.{HasCause, Spends};
-ghost use Rattle.fw_image.specs.Calls.{verified_size, opening_calls};
-ghost use Rattle.fw_image.specs.Meter.{Meter, status_of, count_of, marks_of, reopened, IsTrusted};
+ghost use Rattle.fw_image.specs.Calls.{verified_size, opening_calls, restart_calls};
+ghost use Rattle.fw_image.specs.Meter.{Meter, status_of, count_of, marks_of, reopened, migrated, IsTrusted};
 ghost use Rattle.fw_image.specs.Phases.{state_in, IsInPhase, left_in, left_begun};
 ghost use Rattle.fw_image.specs.Shown.{shown_of, IsView};
 ghost use Rattle.fw_image.specs.Fits.{IsFit};
 ghost use Rattle.fw_image.specs.State.{Makes, Turns, Follows, IsOver, stored, told};
 ghost use Rattle.fw_image.specs.Step.{enable, initiate};
-ghost use Rattle.fw_image.specs.Stored.{IsMeterOf, Holds, Refused, IsSame};
+ghost use Rattle.fw_image.specs.Stored.{IsMeterOf, Holds, Opens, Refused, IsSame};
 ghost use Rattle.fw_image.specs.declared.status.TransferStatus.TheVariants as status;
 
 use crate::error::{OpenError, Refusal};
@@ -50,12 +50,41 @@ pub enum Phase<S: ImageStore> {
 }
 
 /// Opens a store: reads its header and checks it, and checks that the image that runs has the digest of its name, and so
-/// has the goal where it was verified.
+/// has the goal where it was verified. Then the header is written in version 2, with all else kept, where it is one of
+/// version 1. No memory is taken.
 ///
 /// # Errors
 ///
 /// `Fault`, `BadHeader` or `BadImage`, with the store, whose device is as it was.
 pub fn open_store<S: ImageStore>(store: S) -> Result<Phase<S>, (OpenError, S)>
+    ensures opened { IfOk result (λ phase. Opens S.honest S.capacity S.calls_left S.device store (state_in phase)) }
+    ensures phase { IfOk result IsInPhase }
+
+    // No verification goes on.
+    ensures begins { IfOk result (λ phase. reopened (state_in phase).meter ≡ (state_in phase).meter) }
+    ensures sound { IfOk result (λ phase. IsTrue (S.sound store) → IsTrue (state_in phase).sound) }
+    ensures faultless { IfOk result (λ phase. (state_in phase).faults ≡ S.faults store) }
+    ensures refused { IfErr result (λ e. Refused S.honest S.sound S.capacity S.faults S.calls_left S.device store e.0 e.1) }
+
+    // An honest, sound store that holds a meter, whose images have their names' digests, is opened as that meter, with a header
+    // of version 2.
+    ensures again { (meter : Meter) → IsMeterOf (S.capacity store) (S.device store) meter → IsTrusted meter
+        → IsTrue (S.honest store) → IsTrue (S.sound store) → IsOkAnd result (λ phase. (state_in phase).meter ≡ migrated meter) }
+
+    // One that is honest alone is refused only where one of these calls fails.
+    ensures cut { (meter : Meter) → IsMeterOf (S.capacity store) (S.device store) meter → IsTrusted meter
+        → IsTrue (S.honest store) → IfErr result (λ e. Spends (restart_calls meter) (S.calls_left store) (S.calls_left e.1) false) }
+{
+    Ok(Phase::of(Held::open_migrated(store)?))
+}
+
+/// Opens a store as `open_store` does, but leaves its header as it is. While it has version 1, the transfer writes headers of
+/// that version, and admits no image of more blocks than that has marks for, which are 4,096. No memory is taken.
+///
+/// # Errors
+///
+/// As for `open_store`.
+pub fn open_kept<S: ImageStore>(store: S) -> Result<Phase<S>, (OpenError, S)>
     ensures opened { IfOk result (λ phase. Holds S.honest S.capacity S.device store (state_in phase)) }
     ensures phase { IfOk result IsInPhase }
 
@@ -70,6 +99,10 @@ pub fn open_store<S: ImageStore>(store: S) -> Result<Phase<S>, (OpenError, S)>
     // An honest, sound store that holds a meter, whose images have their names' digests, is opened as that meter.
     ensures again { (meter : Meter) → IsMeterOf (S.capacity store) (S.device store) meter → IsTrusted meter
         → IsTrue (S.honest store) → IsTrue (S.sound store) → IsOkAnd result (λ phase. (state_in phase).meter ≡ meter) }
+
+    // One that is honest alone is refused only where one of these calls fails.
+    ensures cut { (meter : Meter) → IsMeterOf (S.capacity store) (S.device store) meter → IsTrusted meter
+        → IsTrue (S.honest store) → IfErr result (λ e. Spends (opening_calls meter) (S.calls_left store) (S.calls_left e.1) false) }
 {
     Ok(Phase::of(Held::open(store)?))
 }
@@ -214,7 +247,7 @@ impl<S: ImageStore> Phase<S> {
         self.held().view()
     }
 
-    /// The store, from which `open_store` gives the transfer again. A verification that goes on is not kept: the image is
+    /// The store, from which `open_kept` gives the transfer again. A verification that goes on is not kept: the image is
     /// then received, with all its blocks.
     pub fn into_store(self) -> S
         ensures held { Holds S.honest S.capacity S.device result (stored (state_in self)) }

@@ -157,7 +157,7 @@ impl<S: ImageStore, P: Status> Transfer<S, P> {
         self.held.read_running(out)
     }
 
-    /// The store, from which `open_store` gives the transfer again. A verification that goes on is not kept: the image is
+    /// The store, from which `open_kept` gives the transfer again. A verification that goes on is not kept: the image is
     /// then received, with all its blocks.
     pub fn into_store(self) -> S
         ensures held { Holds S.honest S.capacity S.device result (stored self) }

@@ -8,6 +8,8 @@ use fw_store::Goal;
 /// What a meter shows of its images.
 #[derive(Clone, Copy, Debug, PartialEq, Eq)]
 pub struct MeterView {
+    /// The most blocks that an image may have: 4,096 or 16,384.
+    pub limit: u32,
     /// Whether image transfer is enabled (image_transfer_enabled).
     pub enabled: bool,
     /// How far the transfer is (image_transfer_status).

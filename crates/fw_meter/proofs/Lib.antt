@@ -4,4 +4,5 @@ mod OneAnswer
 mod Stops
 mod Faultless
 mod Telling
+mod Restarts
 pub mod Coding

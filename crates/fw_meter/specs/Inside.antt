@@ -74,7 +74,7 @@ IsThere (Some phase) = IsInPhase phase
 -- what stands for the state while the phase is out, which no clause sees
 abbrev pub no_state : State
 no_state = record {
-  meter = record { block_size = 0; capacity = 0; enabled = false; phase = idle; cells = empty; running = record { name = record { campaign = factory; release = 0; digest = [] }; bytes = [] } };
+  meter = record { block_size = 0; capacity = 0; limit = 0; enabled = false; phase = idle; cells = empty; running = record { name = record { campaign = factory; release = 0; digest = [] }; bytes = [] } };
   device = record { head = []; first = []; second = [] };
   honest = false;
   sound = false;

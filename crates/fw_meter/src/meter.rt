@@ -26,12 +26,12 @@ ghost use Rattle.fw_meter.specs.Inside.{code_number, Steps};
 ghost use Rattle.fw_meter.specs.Step.{got, answer_of, activation_of, coded};
 ghost use Rattle.fw_apdu.specs.Request.{is_confirmed};
 ghost use Rattle.fw_apdu.specs.View.{request_content, request_invoke};
-ghost use Rattle.fw_image.specs.Calls.{verified_size, opening_calls};
-ghost use Rattle.fw_image.specs.Meter.{Meter, reopened, IsTrusted};
+ghost use Rattle.fw_image.specs.Calls.{verified_size, opening_calls, restart_calls};
+ghost use Rattle.fw_image.specs.Meter.{Meter, reopened, migrated, restarted, IsTrusted};
 ghost use Rattle.fw_image.specs.Shown.{shown_of, IsView};
 ghost use Rattle.fw_image.specs.Fits.{IsFit};
 ghost use Rattle.fw_image.specs.State.{Follows, Counts, Turns, IsOver, stored};
-ghost use Rattle.fw_image.specs.Stored.{Holds, IsMeterOf, Refused, IsSame, is_opening_faultless};
+ghost use Rattle.fw_image.specs.Stored.{Holds, IsMeterOf, Opens, Refused, IsSame, is_opening_faultless};
 ghost use Rattle.fw_image.specs.declared.error.OpenError.TheVariants as not_opened;
 ghost use Rattle.fw_meter.specs.Handling.{Handles, Responds, MayWantMemory, reply_to, reply_bytes};
 
@@ -80,7 +80,8 @@ pub struct Handled {
 }
 
 impl<S: ImageStore + Drop> MeterCore<S> {
-    /// A meter in the state that a store has.
+    /// A meter in the state that a store has. Its header is then written in version 2, with all else kept, where it is one of
+    /// version 1.
     ///
     /// # Errors
     ///
@@ -88,6 +89,31 @@ impl<S: ImageStore + Drop> MeterCore<S> {
     /// that runs, or a verified one, hasn't the digest of its name, in this order. The store is handed back, and holds what
     /// it held.
     pub fn open_store(store: S) -> Result<MeterCore<S>, (OpenError, S)>
+        ensures opened { IfOk result (λ meter. Opens S.honest S.capacity S.calls_left S.device store meter) }
+
+        // No verification goes on.
+        ensures begins { IfOk result (λ meter. reopened meter.meter ≡ meter.meter) }
+        ensures sound { IfOk result (λ meter. IsTrue (S.sound store) → IsTrue meter.sound) }
+        ensures faultless { IfOk result (λ meter. meter.faults ≡ S.faults store) }
+        ensures again { (meter : Meter) → IsMeterOf (S.capacity store) (S.device store) meter → IsTrusted meter
+            → IsTrue (S.honest store) → IsTrue (S.sound store) → IsOkAnd result (λ opened. opened.meter ≡ migrated meter) }
+
+        // An honest store that holds such a meter is refused only where one of these calls fails.
+        ensures cut { (meter : Meter) → IsMeterOf (S.capacity store) (S.device store) meter → IsTrusted meter
+            → IsTrue (S.honest store) → IfErr result (λ e. Spends (restart_calls meter) (S.calls_left store) (S.calls_left e.1) false) }
+        ensures refused { IfErr result (λ e. Refused S.honest S.sound S.capacity S.faults S.calls_left S.device store e.0 e.1) }
+    {
+        let phase = fw_image::open_store(store)?;
+        Ok(MeterCore { phase: Some(phase) })
+    }
+
+    /// A meter in the state that a store has, whose header stays as it is. While it has version 1, the meter writes headers of
+    /// that version, and refuses an image of more blocks than that has marks for, which are 4,096.
+    ///
+    /// # Errors
+    ///
+    /// As for `open_store`.
+    pub fn open_kept(store: S) -> Result<MeterCore<S>, (OpenError, S)>
         ensures opened { IfOk result (λ meter. Holds S.honest S.capacity S.device store meter) }
 
         // No verification goes on.
@@ -97,26 +123,38 @@ impl<S: ImageStore + Drop> MeterCore<S> {
         ensures spends { IfOk result (λ meter. Spends (opening_calls meter.meter) (S.calls_left store) meter.calls_left true) }
         ensures again { (meter : Meter) → IsMeterOf (S.capacity store) (S.device store) meter → IsTrusted meter
             → IsTrue (S.honest store) → IsTrue (S.sound store) → IsOkAnd result (λ opened. opened.meter ≡ meter) }
+
+        // An honest store that holds such a meter is refused only where one of these calls fails.
+        ensures cut { (meter : Meter) → IsMeterOf (S.capacity store) (S.device store) meter → IsTrusted meter
+            → IsTrue (S.honest store) → IfErr result (λ e. Spends (opening_calls meter) (S.calls_left store) (S.calls_left e.1) false) }
         ensures refused { IfErr result (λ e. Refused S.honest S.sound S.capacity S.faults S.calls_left S.device store e.0 e.1) }
     {
-        let phase = fw_image::open_store(store)?;
+        let phase = fw_image::open_kept(store)?;
         Ok(MeterCore { phase: Some(phase) })
     }
 
-    /// The meter as it is after a restart: its store is opened again. Of a verification that goes on the goal is left, which
-    /// is received, with all its blocks.
+    /// The meter as it is after a restart: its store is opened again, and has a header of version 2 from then on. Of a
+    /// verification that goes on the goal is left, which is received, with all its blocks.
     ///
     /// # Errors
     ///
-    /// As for `open_store`. An honest store is refused only where it fails.
+    /// As for `open_store`. An honest store is refused only where it fails. The meter is what `open_kept` gives of it then.
     pub fn restart(self) -> Result<MeterCore<S>, (OpenError, S)>
-        ensures same { IsTrue self.honest → IfOk result (λ meter. meter.meter ≡ reopened self.meter) }
+        ensures same { IsTrue self.honest → IfOk result (λ meter. meter.meter ≡ restarted self.meter) }
         ensures begins { IfOk result (λ meter. reopened meter.meter ≡ meter.meter) }
         ensures follows { IfOk result (λ meter. Follows self meter) }
-        ensures again { IsTrue self.honest → IsTrue self.sound → IsOkAnd result (λ meter. meter.meter ≡ reopened self.meter) }
+        ensures again { IsTrue self.honest → IsTrue self.sound → IsOkAnd result (λ meter. meter.meter ≡ restarted self.meter) }
         ensures fault { IsTrue self.honest → IfErr result (λ e. e.0 ≡ not_opened.Fault) }
         ensures faultless { IfOk result (λ meter. meter.faults ≡ self.faults) }
-        ensures spends { IfOk result (λ meter. Spends (opening_calls meter.meter) self.calls_left meter.calls_left true) }
+
+        // Over any store it makes the calls of the meter that is found there, and over an honest one those of this meter.
+        ensures spends { IfOk result (λ meter. (was : Meter) × (meter.meter ≡ migrated was)
+            × (IsTrue self.honest → restart_calls was ≡ restart_calls self.meter)
+            × Spends (restart_calls was) self.calls_left meter.calls_left true) }
+
+        // An honest store is refused only where one of these calls fails.
+        ensures cut { IsTrue self.honest
+            → IfErr result (λ e. Spends (restart_calls self.meter) self.calls_left (S.calls_left e.1) false) }
         ensures counted { IfErr result (λ e. S.faults e.1 ≡ count_after (is_opening_faultless e.0) self.faults) }
         ensures never { IsTrue self.sound → IfErr result (λ e. IsTrue (is_opening_faultless e.0)) }
         ensures back { IfErr result (λ e. Holds S.honest S.capacity S.device e.1 (stored self)) }

@@ -70,7 +70,7 @@ pub written_size : (r : Result (Vec ℕ) ApduError) (invoke : ℕ) (k : Response
 written_size (Ok v) invoke k o h same written = rw (written, same) (outcome_size invoke o h)
 written_size (Err e) invoke k o h same written = tt
 
-pub size_fits : (r : Result (Vec ℕ) ApduError) (n : ℕ) → IfOk r (λ v. length v.items ≤ 94 + bytes_for n) → n ≤ 4096 → IfOk r (λ v. length v.items ≤ 1280)
+pub size_fits : (r : Result (Vec ℕ) ApduError) (n : ℕ) → IfOk r (λ v. length v.items ≤ 94 + bytes_for n) → n ≤ 16384 → IfOk r (λ v. length v.items ≤ 2304)
 size_fits (Ok v) n size few = omega (arith, size, few)
 size_fits (Err e) n size few = tt
 

@@ -29,8 +29,8 @@ pub fn answer(alloc: Global, invoke: &Invoke, outcome: &Outcome) -> Result<Vec<u
     ensures sizes { OnOk result (HasAnswerSizes outcome.now) }
     // The size in bytes, beside the bits.
     ensures size { IfOk result (λ apdu. length apdu.items ≤ 94 + bytes_for (bits_in outcome.now)) }
-    // So the bits of 4,096 blocks fit one APDU.
-    ensures fits { bits_in outcome.now ≤ 4096 → IfOk result (λ apdu. length apdu.items ≤ 1280) }
+    // So the bits of 16,384 blocks fit one APDU.
+    ensures fits { bits_in outcome.now ≤ 16384 → IfOk result (λ apdu. length apdu.items ≤ 2304) }
 
     ensures memory { bits_in outcome.now < 2 ^ 32 → IfErr result (λ e. e ≡ error.OutOfMemory) }
     ensures too_long { 2 ^ 32 ≤ bits_in outcome.now → result ≡ Err (error.BadData BadLength) }

@@ -4,7 +4,7 @@ use Rattle.std.proofs.lemmas.List.{length-replicate, replicate-append-replicate,
 use Rattle.std.proofs.Math.Seq.{drop-append-add}
 use Rattle.fw_store.specs.Device.{splice, padded}
 use Rattle.fw_store.specs.Contents.{resized}
-use Rattle.fw_store.specs.StoreBytes.{store_size}
+use Rattle.fw_store.specs.StoreBytes.{old_store_size}
 use Rattle.fw_store.proofs.SliceLemmas.{length-splice}
 
 -- bytes in place of as many others
@@ -37,19 +37,19 @@ abbrev zeros : ℕ → List ℕ
 zeros n = replicate n 0
 
 -- the zeros of a store, parted by its fields
-parted : (capacity n : ℕ) → n ≤ capacity
-    → zeros (store_size capacity) ≡ (zeros 4 ++ zeros 614) ++ (zeros n ++ ((zeros (capacity - n) ++ zeros capacity) ++ zeros 8))
-parted capacity n fits =
+parted : (capacity n last size : ℕ) → n ≤ capacity → size ≡ old_store_size capacity + last
+    → zeros size ≡ (zeros 4 ++ zeros 614) ++ (zeros n ++ ((zeros (capacity - n) ++ zeros capacity) ++ zeros last))
+parted capacity n last size fits e =
     let z : ℕ = 0 in
-    let total : store_size capacity ≡ 618 + (n + (capacity - n + capacity + 8)) = omega arith in
+    let total : size ≡ 618 + (n + (capacity - n + capacity + last)) = omega arith in
     ap (λ (k : ℕ). replicate k z) total
-    ∙ sym (replicate-append-replicate 618 (n + (capacity - n + capacity + 8)) z)
+    ∙ sym (replicate-append-replicate 618 (n + (capacity - n + capacity + last)) z)
     ∙ ap (λ (l : List ℕ). replicate 618 z ++ l)
-    (sym (replicate-append-replicate n (capacity - n + capacity + 8) z)
+    (sym (replicate-append-replicate n (capacity - n + capacity + last) z)
     ∙ ap (λ (l : List ℕ). replicate n z ++ l)
-    (sym (replicate-append-replicate (capacity - n + capacity) 8 z)
-    ∙ ap (λ (l : List ℕ). l ++ replicate 8 z) (sym (replicate-append-replicate (capacity - n) capacity z))))
-    ∙ ap (λ (l : List ℕ). l ++ (replicate n z ++ ((replicate (capacity - n) z ++ replicate capacity z) ++ replicate 8 z)))
+    (sym (replicate-append-replicate (capacity - n + capacity) last z)
+    ∙ ap (λ (l : List ℕ). l ++ replicate last z) (sym (replicate-append-replicate (capacity - n) capacity z))))
+    ∙ ap (λ (l : List ℕ). l ++ (replicate n z ++ ((replicate (capacity - n) z ++ replicate capacity z) ++ replicate last z)))
     (sym (replicate-append-replicate 4 614 z))
 
 -- bytes in place of the last ones
@@ -59,32 +59,31 @@ splice_last front last at xs begins size =
     ∙ splice_between front last [] at xs begins size
     ∙ ap (λ (l : List ℕ). front ++ l) (append-nil xs)
 
-pub laid : (capacity : ℕ) (blank slots headed released whole number front releases image : List ℕ) → blank ≡ zeros (store_size capacity)
-    → slots ≡ splice blank 618 image → headed ≡ splice slots 4 front → released ≡ splice headed (618 + 2 * capacity) releases
-    → whole ≡ splice released 0 number
-    → length number ≡ 4 → length front ≡ 614 → length releases ≡ 8 → length image ≤ capacity
-    → whole ≡ number ++ front ++ padded image capacity ++ zeros capacity ++ releases
-laid capacity blank slots headed released whole number front releases image empty s h r w four long eight fits =
+pub laid : (capacity size : ℕ) (blank slots headed ended whole number front last image : List ℕ) → blank ≡ zeros size → size ≡ old_store_size capacity + length last
+    → slots ≡ splice blank 618 image → headed ≡ splice slots 4 front → ended ≡ splice headed (618 + 2 * capacity) last
+    → whole ≡ splice ended 0 number
+    → length number ≡ 4 → length front ≡ 614 → length image ≤ capacity
+    → whole ≡ number ++ front ++ padded image capacity ++ zeros capacity ++ last
+laid capacity size blank slots headed ended whole number front last image empty many s h r w four long fits =
     let n : ℕ = length image in
     let z : ℕ = 0 in
     let Z4 = replicate 4 z in
     let Z614 = replicate 614 z in
-    let Z8 = replicate 8 z in
+    let Zlast = replicate (length last) z in
     let back = replicate (capacity - n) z ++ replicate capacity z in
     let l4 : length Z4 ≡ 4 = length-replicate 4 z in
     let l614 : length Z614 ≡ 614 = length-replicate 614 z in
-    let l8 : length Z8 ≡ 8 = length-replicate 8 z in
+    let same_last : length Zlast ≡ length last = length-replicate (length last) z in
     let both : length (Z4 ++ Z614) ≡ 618 = omega (arith, length-append Z4 Z614) in
     let same_4 : length Z4 ≡ length number = omega arith in
     let same_614 : length Z614 ≡ length front = omega arith in
-    let same_8 : length Z8 ≡ length releases = omega arith in
-    let slots_are : slots ≡ Z4 ++ (Z614 ++ (image ++ (back ++ Z8))) =
-    s ∙ ap (λ (l : List ℕ). splice l 618 image) (empty ∙ parted capacity n fits)
-    ∙ splice_between (Z4 ++ Z614) (replicate n z) (back ++ Z8) 618 image both (length-replicate n z)
-    ∙ append_assoc Z4 Z614 (image ++ (back ++ Z8)) in
-    let headed_is : headed ≡ Z4 ++ (front ++ (image ++ (back ++ Z8))) =
+    let slots_are : slots ≡ Z4 ++ (Z614 ++ (image ++ (back ++ Zlast))) =
+    s ∙ ap (λ (l : List ℕ). splice l 618 image) (empty ∙ parted capacity n (length last) size fits many)
+    ∙ splice_between (Z4 ++ Z614) (replicate n z) (back ++ Zlast) 618 image both (length-replicate n z)
+    ∙ append_assoc Z4 Z614 (image ++ (back ++ Zlast)) in
+    let headed_is : headed ≡ Z4 ++ (front ++ (image ++ (back ++ Zlast))) =
     h ∙ ap (λ (l : List ℕ). splice l 4 front) slots_are
-    ∙ splice_between Z4 Z614 (image ++ (back ++ Z8)) 4 front l4 same_614 in
+    ∙ splice_between Z4 Z614 (image ++ (back ++ Zlast)) 4 front l4 same_614 in
     let slotted = Z4 ++ (front ++ (image ++ back)) in
     let ends : length slotted ≡ 618 + 2 * capacity =
     omega (
@@ -96,20 +95,20 @@ laid capacity blank slots headed released whole number front releases image empt
       length-replicate (capacity - n) z,
       length-replicate capacity z,
     ) in
-    let regrouped : Z4 ++ (front ++ (image ++ (back ++ Z8))) ≡ slotted ++ Z8 = simp append_assoc in
-    let released_is : released ≡ slotted ++ releases =
-    r ∙ ap (λ (l : List ℕ). splice l (618 + 2 * capacity) releases) (headed_is ∙ regrouped)
-    ∙ splice_last slotted Z8 (618 + 2 * capacity) releases ends same_8 in
-    let regrouped_again : slotted ++ releases ≡ Z4 ++ (front ++ (image ++ (back ++ releases))) = simp append_assoc in
-    let whole_is : whole ≡ number ++ (front ++ (image ++ (back ++ releases))) =
-    w ∙ ap (λ (l : List ℕ). splice l 0 number) (released_is ∙ regrouped_again)
-    ∙ splice_between [] Z4 (front ++ (image ++ (back ++ releases))) 0 number refl same_4 in
+    let regrouped : Z4 ++ (front ++ (image ++ (back ++ Zlast))) ≡ slotted ++ Zlast = simp append_assoc in
+    let ended_is : ended ≡ slotted ++ last =
+    r ∙ ap (λ (l : List ℕ). splice l (618 + 2 * capacity) last) (headed_is ∙ regrouped)
+    ∙ splice_last slotted Zlast (618 + 2 * capacity) last ends same_last in
+    let regrouped_again : slotted ++ last ≡ Z4 ++ (front ++ (image ++ (back ++ last))) = simp append_assoc in
+    let whole_is : whole ≡ number ++ (front ++ (image ++ (back ++ last))) =
+    w ∙ ap (λ (l : List ℕ). splice l 0 number) (ended_is ∙ regrouped_again)
+    ∙ splice_between [] Z4 (front ++ (image ++ (back ++ last))) 0 number refl same_4 in
     whole_is ∙ simp append_assoc
 
 -- what is laid out so far has the size of a store
-pub slots_size : (capacity : ℕ) (blank image : List ℕ) → blank ≡ zeros (store_size capacity) → length image ≤ capacity
-    → length (splice blank 618 image) ≡ store_size capacity
-slots_size capacity blank image empty fits =
+pub slots_size : (capacity size : ℕ) (blank image : List ℕ) → blank ≡ zeros size → old_store_size capacity ≤ size → length image ≤ capacity
+    → length (splice blank 618 image) ≡ size
+slots_size capacity size blank image empty many fits =
     let z : ℕ = 0 in
-    let size : length blank ≡ store_size capacity = ap length empty ∙ length-replicate (store_size capacity) z in
-    length-splice blank 618 image (omega arith) ∙ size
+    let all : length blank ≡ size = ap length empty ∙ length-replicate size z in
+    length-splice blank 618 image (omega arith) ∙ all

@@ -5,5 +5,6 @@ mod Outcomes
 mod Soundness
 mod Laying
 mod StoreByteLemmas
+mod MarkLemmas
 mod Parts
 mod SlotLaws

@@ -6,6 +6,10 @@ on_ok_too (Ok a) (Ok b) same f p = f p
 on_ok_too (Ok a) (Err b) same f p = cc
 on_ok_too (Err a) s same f p = tt
 
+pub on_ok : {A E : Type 0} {P : Type 0} (r : Result A E) → P → OnOk r P
+on_ok (Ok a) p = p
+on_ok (Err e) p = tt
+
 pub on_err_too : {A B E F : Type 0} {P Q : Type 0} (r : Result A E) (s : Result B F) → is_ok r ≡ is_ok s → (P → Q) → OnErr s P → OnErr r Q
 on_err_too (Ok a) s same f p = tt
 on_err_too (Err a) (Ok b) same f p = cc

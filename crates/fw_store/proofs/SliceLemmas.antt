@@ -1,9 +1,8 @@
 -- Parts of a byte string, and what a write makes of them.
-use Rattle.std.proofs.Common.{◌≡◌, ℕ, ◌+◌, ◌-◌, ◌≤◌, List, ◌++◌, length, take, drop, slice_range, replicate, sym, ap, ◌∙◌, arith, append_assoc, append-nil, length-append, length-drop}
-use Rattle.std.proofs.lemmas.List.{length-take, length-take-le, drop-drop, drop-append-le, take-append-le, take-take, drop-take, drop_at, take_at, take_all, drop_all}
+use Rattle.std.proofs.Common.{◌≡◌, ℕ, ◌+◌, ◌-◌, ◌≤◌, List, ◌++◌, length, take, drop, slice_range, refl, sym, ap, ◌∙◌, arith, append_assoc, length-append, length-drop}
+use Rattle.std.proofs.lemmas.List.{length-take, length-take-le, drop-drop, drop-append-le, take-append-le, take-take, drop-take, drop_at, take_at}
 use Rattle.std.proofs.Math.Seq.{take-append-add, drop-append-add}
 use Rattle.fw_store.specs.Device.{splice}
-use Rattle.fw_store.specs.Contents.{resized}
 
 pub length-slice_range : (xs : List ℕ) (from to : ℕ) → to ≤ length xs → length (slice_range xs from to) ≡ to - from
 length-slice_range xs from to within = omega (arith, length-take (to - from) (drop from xs), length-drop from xs)
@@ -11,20 +10,6 @@ length-slice_range xs from to within = omega (arith, length-take (to - from) (dr
 pub length-splice : (old : List ℕ) (at : ℕ) (xs : List ℕ) → at + length xs ≤ length old → length (splice old at xs) ≡ length old
 length-splice old at xs within =
     omega (arith, length-append (take at old ++ xs) (drop (at + length xs) old), length-append (take at old) xs, length-take-le at old (omega arith), length-drop (at + length xs) old)
-
--- a write that ends at the end, or behind it
-pub length-splice_end : (old : List ℕ) (at : ℕ) (xs : List ℕ) → at ≤ length old → length old ≤ at + length xs → length (splice old at xs) ≡ at + length xs
-length-splice_end old at xs begins ends =
-    omega (arith, length-append (take at old ++ xs) (drop (at + length xs) old), length-append (take at old) xs, length-take-le at old begins, length-drop (at + length xs) old)
-
--- bytes that are as many as there have to be
-pub resized_same : (xs : List ℕ) (n : ℕ) → length xs ≡ n → resized xs n ≡ xs
-resized_same xs n size =
-    let z : ℕ = 0 in
-    let none : n - length xs ≡ 0 = omega arith in
-    ap (λ (k : ℕ). take n xs ++ replicate k z) none
-    ∙ append-nil (take n xs)
-    ∙ take_all n xs (omega arith)
 
 -- dropping past the front
 pub drop_past : (front rest : List ℕ) (n m : ℕ) → n ≡ length front + m → drop n (front ++ rest) ≡ drop m rest
@@ -44,13 +29,20 @@ slice_of_slice xs from to a b order within =
     ∙ ap (λ (n : ℕ). take n (drop (from + a) xs)) count
 
 -- a part of the front is that of the whole
-slice_of_take : (xs : List ℕ) (at from to : ℕ) → from ≤ to → to ≤ at → slice_range (take at xs) from to ≡ slice_range xs from to
+pub slice_of_take : (xs : List ℕ) (at from to : ℕ) → from ≤ to → to ≤ at → slice_range (take at xs) from to ≡ slice_range xs from to
 slice_of_take xs at from to order within =
     let split : at ≡ from + (at - from) = omega arith in
     let short : to - from ≤ at - from = omega arith in
     ap (λ (n : ℕ). take (to - from) (drop from (take n xs))) split
     ∙ ap (take (to - from)) (drop-take from (at - from) xs)
     ∙ take-take (to - from) (at - from) (drop from xs) short
+
+-- and of bytes that others stand after
+pub slice_front : (front back : List ℕ) (from to : ℕ) → from ≤ to → to ≤ length front → slice_range (front ++ back) from to ≡ slice_range front from to
+slice_front front back from to order within =
+    let all : length front ≡ length front = refl in
+    sym (slice_of_take (front ++ back) (length front) from to order within)
+    ∙ ap (λ (l : List ℕ). slice_range l from to) (take_at front back (length front) all)
 
 -- what stands before a write
 pub take-splice : (old : List ℕ) (at : ℕ) (xs : List ℕ) (n : ℕ) → n ≤ at → at ≤ length old → take n (splice old at xs) ≡ take n old
@@ -66,15 +58,6 @@ slice_before old at xs from to order before within =
     sym (slice_of_take (splice old at xs) at from to order before)
     ∙ ap (λ (l : List ℕ). slice_range l from to) (take-splice old at xs at within_front within)
     ∙ slice_of_take old at from to order before
-
--- what stands from it on, where it ends at the end, or behind it
-pub drop_there : (old : List ℕ) (at : ℕ) (xs : List ℕ) → at ≤ length old → length old ≤ at + length xs → drop at (splice old at xs) ≡ xs
-drop_there old at xs begins ends =
-    let size = length-take-le at old begins in
-    ap (drop at) (append_assoc (take at old) xs (drop (at + length xs) old))
-    ∙ drop_at (take at old) (xs ++ drop (at + length xs) old) at size
-    ∙ ap (λ (l : List ℕ). xs ++ l) (drop_all (at + length xs) old ends)
-    ∙ append-nil xs
 
 -- what stands behind it
 pub drop-splice : (old : List ℕ) (at : ℕ) (xs : List ℕ) (n : ℕ) → at + length xs ≤ n → at + length xs ≤ length old → drop n (splice old at xs) ≡ drop n old

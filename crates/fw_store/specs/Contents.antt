@@ -13,6 +13,7 @@ pub record TornAt (old : List ℕ) (at count : ℕ) (new : List ℕ) : Type 0 wh
   pub stands : new ≡ splice old at left
 
 -- what each call on a device keeps, whatever it answers and whether the device is honest or not
-pub record KeepsDevice {D : Type 0} (honest sound : D → Bool) (old new : D) : Type 0 where
+pub record KeepsDevice {D : Type 0} (honest sound : D → Bool) (room : D → ℕ) (old new : D) : Type 0 where
   pub honesty : honest new ≡ honest old
   pub soundness : IsTrue (sound old) → IsTrue (sound new)
+  pub size : room new ≡ room old

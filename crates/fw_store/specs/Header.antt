@@ -1,15 +1,19 @@
 -- Public vocabulary: which headers a store can have (own rules), and the header of a new store.
 use Rattle.std.specs.Prelude.{◌≡◌, ◌≢◌, ℕ, ◌<◌, ◌≤◌, ◌^◌, length, Bool, true, false, Option, Some, None, is_some, IsTrue, IfSome, replicate}
-use Rattle.fw_blocks.specs.Cuts.{IsWithinLimits, block_count, max_block_size, max_blocks}
-use Rattle.fw_blocks.specs.Members.{has, all_marks}
+use Rattle.fw_blocks.specs.Cuts.{IsWithinLimits, block_count, max_block_size}
+use Rattle.fw_blocks.specs.Members.{has, resized_marks}
 use Rattle.fw_names.specs.Name.{Name, IsName, factory}
+use Rattle.fw_store.specs.Versions.{block_limit}
 use Rattle.fw_store.specs.declared.slot.Slot.TheVariants.{First}
+use Rattle.fw_store.specs.declared.version.HeaderVersion.{HeaderVersion}
+use Rattle.fw_store.specs.declared.version.HeaderVersion.TheVariants.{Two}
 use Rattle.fw_store.specs.declared.header.StoredStatus.{StoredStatus}
 use Rattle.fw_store.specs.declared.header.StoredStatus.TheVariants.{NotInitiated, Initiated, VerificationSuccessful, VerificationFailed, ActivationSuccessful}
 use Rattle.fw_store.specs.declared.header.Goal.{Goal}
 use Rattle.fw_store.specs.declared.header.Header.{Header}
 
--- ---- what the fields of every header in the code hold: names that have a spelling, numbers of four bytes, and 4,096 marks
+-- ---- what the fields of every header in the code hold: names that have a spelling, numbers of four bytes, and a mark for each
+-- block that its version has one for
 
 pub record GoalFieldsFit (goal : Goal) : Type 0 where
   pub name : IsName goal.name
@@ -20,11 +24,11 @@ pub record FieldsFit (h : Header) : Type 0 where
   pub running_size : h.running_size < 2 ^ 32
   pub running_name : IsName h.running_name
   pub goal : IfSome h.goal GoalFieldsFit
-  pub marks : length h.marks ≡ max_blocks
+  pub marks : length h.marks ≡ block_limit h.version
 
--- a header with a mark for each of these 4,096 numbers: those that its marks don't count aren't marked
+-- a header with a mark for each of these blocks, and no other: those that its marks don't count aren't marked
 abbrev pub with_all_marks : Header → Header
-with_all_marks h = record h { marks = all_marks h.marks }
+with_all_marks h = record h { marks = resized_marks (block_limit h.version) h.marks }
 
 -- ---- what a store can have
 
@@ -44,12 +48,14 @@ is_verified VerificationSuccessful = true
 is_verified VerificationFailed = true
 is_verified ActivationSuccessful = false
 
--- a goal of a store of so many bytes a slot, whose running image has this release: a head end's campaign offers it, it fits a slot, its
--- blocks are within the limits, and its release isn't below that of the running image
-pub record IsGoal (capacity block_size release : ℕ) (goal : Goal) : Type 0 where
+-- a goal of a store of `capacity` bytes a slot, with a header for `limit` blocks, whose running image has this release: a head end's
+-- campaign offers it, it fits a slot, its blocks are within the limits and no more than those, and its release isn't below that of the
+-- running image
+pub record IsGoal (limit capacity block_size release : ℕ) (goal : Goal) : Type 0 where
   pub offered : goal.name.campaign ≢ factory
   pub fits : goal.size ≤ capacity
   pub blocks : IsWithinLimits block_size goal.size
+  pub few : block_count block_size goal.size ≤ limit
   pub risen : release ≤ goal.name.release
 
 -- how many blocks the goal has, 0 where there is none
@@ -65,15 +71,16 @@ pub record IsHeader (capacity : ℕ) (h : Header) : Type 0 where
   pub running_size_begins : 1 ≤ h.running_size
   pub running_size_fits : h.running_size ≤ capacity
   pub goal_by_status : is_some h.goal ≡ has_goal h.status
-  pub goal : IfSome h.goal (IsGoal capacity h.block_size h.running_name.release)
+  pub goal : IfSome h.goal (IsGoal (block_limit h.version) capacity h.block_size h.running_name.release)
   -- no number at or above the count is marked, and so none at all where there is no goal
   pub unmarked : (i : ℕ) → goal_count h.block_size h.goal ≤ i → has h.marks i ≡ false
   -- a goal that was verified is there with all its blocks
   pub marked : IsTrue (is_verified h.status) → (i : ℕ) → i < goal_count h.block_size h.goal → has h.marks i ≡ true
 
--- the header of a new store, whose first slot has an image of this size and name
-abbrev pub fresh_header : ℕ → ℕ → Name → Header
-fresh_header block_size running_size running_name = record {
+-- the header of this version of a new store, whose first slot has an image of this size and name
+abbrev pub fresh_header : HeaderVersion → ℕ → ℕ → Name → Header
+fresh_header version block_size running_size running_name = record {
+  version = version;
   enabled = false;
   running_slot = First;
   status = NotInitiated;
@@ -81,5 +88,11 @@ fresh_header block_size running_size running_name = record {
   running_size = running_size;
   running_name = running_name;
   goal = None;
-  marks = replicate max_blocks false;
+  marks = replicate (block_limit version) false;
 }
+
+-- ---- from one version to the other
+
+-- a header in version 2, with all else kept: no further block is there
+abbrev pub migrated : Header → Header
+migrated h = record h { version = Two; marks = resized_marks (block_limit Two) h.marks }

@@ -1,5 +1,6 @@
 -- Public vocabulary: the words of public clauses, for callers and readers.
 pub mod Slot
+pub mod Versions
 pub mod Layout
 pub mod Header
 pub mod Laws
@@ -15,3 +16,4 @@ pub mod Refusals
 pub mod StoreLaws
 -- For private members alone: no public clause cites it.
 pub mod Sizes
+pub mod Fronts

@@ -1,6 +1,7 @@
 -- Public vocabulary: a store in memory as a value.
 use Rattle.std.specs.Prelude.{◌≡◌, ℕ, length, Bool, Option, is_none}
 use Rattle.fw_store.specs.Device.{Device, slot_bytes}
+use Rattle.fw_store.specs.Versions.{bytes_of}
 use Rattle.fw_store.specs.Fuse.{lets_through, burnt, calls_in}
 use Rattle.fw_store.specs.declared.fuse.Fuse.{Fuse}
 use Rattle.fw_store.specs.declared.slot.Slot.{Slot}
@@ -9,7 +10,7 @@ use Rattle.fw_store.specs.declared.memory.MemoryStore.{MemoryStore}
 
 -- its header and slots
 abbrev pub device_of : MemoryStore → Device
-device_of m = record { head = m.head.value; first = m.first.items; second = m.second.items }
+device_of m = record { head = bytes_of m.head.value; first = m.first.items; second = m.second.items }
 
 -- the size of each slot
 abbrev pub capacity_of : MemoryStore → ℕ

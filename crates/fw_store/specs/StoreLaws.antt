@@ -3,7 +3,9 @@ use Rattle.std.specs.Prelude.{◌≡◌, ◌≢◌, ◌⊎◌, ℕ, ◌+◌, ◌
 use Rattle.fw_store.specs.Device.{Device, slot_bytes, with_head, splice, written}
 use Rattle.fw_store.specs.Faults.{most_faults, count_after, Spends}
 use Rattle.fw_store.specs.StoreBytes.{IsStore, HoldsStore, device_at}
+use Rattle.fw_store.specs.Versions.{header_size}
 use Rattle.fw_store.specs.declared.slot.Slot.{Slot}
+use Rattle.fw_store.specs.declared.version.HeaderVersion.{HeaderVersion}
 
 -- a byte string into which others were written at an offset
 pub record StandsIn (old : List ℕ) (at : ℕ) (bytes new : List ℕ) : Type 0 where
@@ -46,7 +48,7 @@ FieldsJoin = (bytes : List ℕ) (capacity : ℕ) → IsStore bytes capacity → 
 
 -- and from them the device is read back
 abbrev pub DeviceIsRead : Type 0
-DeviceIsRead = (d : Device) (capacity : ℕ) (bytes : List ℕ) → length d.head ≡ 622 → length d.first ≡ capacity → length d.second ≡ capacity
+DeviceIsRead = (d : Device) (version : HeaderVersion) (capacity : ℕ) (bytes : List ℕ) → length d.head ≡ header_size version → length d.first ≡ capacity → length d.second ≡ capacity
     → HoldsStore bytes capacity d → device_at capacity bytes ≡ d
 
 -- after a failure the count rose, or stood at its greatest number

@@ -1,6 +1,22 @@
 //! What a device of bytes is.
 
-ghost use Rattle.std.specs.Prelude.{◌≡◌, ◌+◌, ◌≤◌, ℕ, Bool, List, IsTrue, IsOk, IfOk, OnOk, OnErr, length, slice_range};
+ghost use Rattle.std.specs.Prelude.{
+  ◌≡◌,
+  ◌+◌,
+  ◌≤◌,
+  ◌++◌,
+  ℕ,
+  Bool,
+  List,
+  IsTrue,
+  IsOk,
+  IfOk,
+  OnOk,
+  OnErr,
+  length,
+  slice_range,
+  take,
+};
 ghost use Rattle.fw_store.specs.Device.{splice};
 ghost use Rattle.fw_store.specs.Contents.{resized, TornAt, KeepsDevice};
 
@@ -17,8 +33,11 @@ pub trait ByteDevice {
     /// Whether the device keeps what is written, as said below.
     ghost honest: { Self → Bool };
 
-    /// Whether no call fails, but for one that sets the length or adds bytes.
+    /// Whether no call fails, except one that makes more bytes than there is room for.
     ghost sound: { Self → Bool };
+
+    /// How many bytes the device has room for, as far as it is known.
+    ghost room: { Self → ℕ };
 
     /// The bytes of an honest device.
     ghost contents: { Self → List ℕ };
@@ -31,17 +50,19 @@ pub trait ByteDevice {
     fn len(&mut self) -> Result<u64, DeviceFault>
         ensures done { IsTrue (honest self.old) → IfOk result (λ n. n ≡ length (contents self.old)) }
         ensures same { IsTrue (honest self.old) → contents self.new ≡ contents self.old }
-        ensures kept { KeepsDevice honest sound self.old self.new }
+        ensures kept { KeepsDevice honest sound room self.old self.new }
         ensures never { IsTrue (sound self.old) → IsOk result };
 
-    /// Cuts the bytes to this length, or adds zeros up to it.
+    /// Cuts the bytes to this length, or adds zeros up to it. A sound device does it just where it has room for so many.
     ///
     /// # Errors
     ///
     /// `DeviceFault` where the device failed, or has no room. It may then have any bytes.
     fn set_len(&mut self, len: u64) -> Result<(), DeviceFault>
         ensures done { IsTrue (honest self.old) → OnOk result (contents self.new ≡ resized (contents self.old) len) }
-        ensures kept { KeepsDevice honest sound self.old self.new };
+        ensures kept { KeepsDevice honest sound room self.old self.new }
+        ensures never { IsTrue (sound self.old) → len ≤ room self.old → IsOk result }
+        ensures within { IsTrue (sound self.old) → OnOk result (len ≤ room self.old) };
 
     /// Fills `out` with the bytes from `at` on.
     ///
@@ -53,7 +74,7 @@ pub trait ByteDevice {
         ensures done { IsTrue (honest self.old)
             → OnOk result (out.new ≡ slice_range (contents self.old) at (at + length out.old)) }
         ensures same { IsTrue (honest self.old) → contents self.new ≡ contents self.old }
-        ensures kept { KeepsDevice honest sound self.old self.new }
+        ensures kept { KeepsDevice honest sound room self.old self.new }
         ensures never { IsTrue (sound self.old) → IsOk result };
 
     /// Writes bytes over those from `at` on.
@@ -67,7 +88,7 @@ pub trait ByteDevice {
             → OnOk result (contents self.new ≡ splice (contents self.old) at bytes.now) }
         ensures torn { IsTrue (honest self.old)
             → OnErr result (TornAt (contents self.old) at (length bytes.now) (contents self.new)) }
-        ensures kept { KeepsDevice honest sound self.old self.new }
+        ensures kept { KeepsDevice honest sound room self.old self.new }
         ensures never { IsTrue (sound self.old) → IsOk result };
 
     /// Writes bytes over those from `at` on, all of them or none.
@@ -80,15 +101,15 @@ pub trait ByteDevice {
         ensures done { IsTrue (honest self.old)
             → OnOk result (contents self.new ≡ splice (contents self.old) at bytes.now) }
         ensures same { IsTrue (honest self.old) → OnErr result (contents self.new ≡ contents self.old) }
-        ensures kept { KeepsDevice honest sound self.old self.new }
+        ensures kept { KeepsDevice honest sound room self.old self.new }
         ensures never { IsTrue (sound self.old) → IsOk result };
 
-    /// Writes bytes over those from `at` on, and others over those from `last_at` on, of which the last may be behind the end and are
-    /// added: all of them or none.
+    /// Writes bytes over those from `at` on, and others in place of all that stand from `last_at` on: all of them or none. So the
+    /// bytes end with `last` then, and may be more than they were, or fewer.
     ///
     /// # Errors
     ///
-    /// `DeviceFault` where the device failed, or has no room for bytes that are added. The old bytes then stand.
+    /// `DeviceFault` where the device failed, or has no room for N bytes. The old bytes then stand.
     fn replace_both(
         &mut self,
         at: u64,
@@ -99,9 +120,8 @@ pub trait ByteDevice {
         requires order { at + length bytes.now ≤ last_at }
         requires begins { IsTrue (honest self.old) → last_at ≤ length (contents self.old) }
         ensures done { IsTrue (honest self.old)
-            → OnOk result (contents self.new ≡ splice (splice (contents self.old) at bytes.now) last_at last.now) }
+            → OnOk result (contents self.new ≡ take last_at (splice (contents self.old) at bytes.now) ++ last.now) }
         ensures same { IsTrue (honest self.old) → OnErr result (contents self.new ≡ contents self.old) }
-        ensures kept { KeepsDevice honest sound self.old self.new }
-        ensures never { IsTrue (sound self.old)
-            → (IsTrue (honest self.old) → last_at + length last.now ≤ length (contents self.old)) → IsOk result };
+        ensures kept { KeepsDevice honest sound room self.old self.new }
+        ensures never { IsTrue (sound self.old) → last_at + length last.now ≤ room self.old → IsOk result };
 }

@@ -2,8 +2,11 @@
 
 ghost use Rattle.std.specs.Prelude.{
   ◌≡◌,
+  ◌≢◌,
   ◌+◌,
+  ◌-◌,
   ◌≤◌,
+  ◌++◌,
   ℕ,
   IsTrue,
   IsOk,
@@ -13,9 +16,11 @@ ghost use Rattle.std.specs.Prelude.{
   IfSome,
   IfNone,
   OnOk,
+  OnErr,
   is_ok,
   length,
   replicate,
+  slice_range,
 };
 ghost use Rattle.std.specs.Int.{w32, to_be_bytes};
 ghost use Rattle.fw_store.specs.Faults.{count_after};
@@ -25,63 +30,73 @@ ghost use Rattle.fw_store.specs.Refusals.{IsCreateRefusal, IsReopenRefusal};
 ghost use Rattle.fw_store.specs.StoreBytes.{
   IsStore,
   HoldsStore,
-  adds_no_bytes,
   device_at,
+  has_room,
   old_store_size,
   slot_start,
   store_bytes,
   store_size,
 };
-ghost use Rattle.fw_store.specs.Sizes.{IsLaidOut};
-ghost use Rattle.fw_store.specs.Device.{padded};
+ghost use Rattle.fw_store.specs.Sizes.{IsLaidOut, stored_size, tail_of};
+ghost use Rattle.fw_store.specs.Device.{padded, with_head};
 ghost use Rattle.fw_store.specs.Fresh.{fresh_device};
+ghost use Rattle.fw_store.specs.Versions.{bytes_of, version_of};
+ghost use Rattle.fw_store.specs.declared.tail.Tail.{Tail};
 
 use crate::device::{ByteDevice, DeviceFault};
 use crate::error::{FileStoreError, StoreFault};
-use crate::header::HEADER_SIZE;
 use crate::setup::{fresh_bytes, is_capacity, is_setup};
 use crate::slot::Slot;
 use crate::store::ImageStore;
+use crate::tail::{FRONT_SIZE, SLOTS_AT, Tail, store_size, tail_at};
+use crate::version::{HeaderBytes, HeaderVersion, VERSION_ONE_SIZE, VERSION_TWO_SIZE};
 
 /// Where the header begins: behind the capacity.
 const HEADER_AT: u64 = 4;
 
-/// How many bytes of the header stand there. The others are the releases.
-const FRONT_SIZE: usize = 614;
-
-/// Where the first slot begins: behind these.
-const SLOTS_AT: u64 = 618;
-
-/// How many bytes the releases have, which stand behind the second slot.
-const RELEASES_SIZE: u64 = 8;
-
 /// A store that a device of bytes holds: its capacity in four bytes, high byte first, the first 614 bytes of the header, the first slot
-/// and the second one, and the last eight bytes of the header, which are the releases. An old store has no releases there: they are 0,
-/// and the next header write adds them. The store is honest where the device is. It is sound where the device is, but for an old one:
-/// the device may have no room for its releases.
+/// and the second one, and the other bytes of the header: the releases, and in version 2 the marks of the blocks from 4,096 on. A store
+/// that ends with its slots has a header of version 1, whose releases are 0. A header write gives the store the length of the version
+/// that it writes. The store is honest where the device is, and sound where the device is and has room for a header of version 2.
 #[derive(Drop)]
 pub struct DeviceStore<D: ByteDevice> {
     device: D,
     capacity: u32,
-    /// Whether the releases are there.
-    has_releases: bool,
+    /// What stands after the slots.
+    tail: Tail,
     fault_count: u64,
-    ghost laid_out: { IsTrue (D.honest device) → IsLaidOut has_releases capacity (D.contents device) },
+    ghost laid_out: { IsTrue (D.honest device) → IsLaidOut tail capacity (D.contents device) },
 }
 
-/// What the bytes of a device are: a store of this capacity, with its releases or without.
+/// What the bytes of a device are: a store of this capacity, with this after its slots.
 #[derive(Clone, Copy)]
 struct Found {
     capacity: u32,
-    has_releases: bool,
+    tail: Tail,
+}
+
+impl Found {
+    /// What `len` bytes are that begin with this capacity, if they are a store.
+    fn of(capacity: u32, len: u64) -> Option<Found>
+        ensures capacity { IfSome result (λ found. found.capacity ≡ capacity) }
+        ensures room { IfSome result (λ found. IsCapacity found.capacity) }
+        ensures size { IfSome result (λ found. len ≡ stored_size found.tail found.capacity) }
+        ensures none { IfNone result (IsCapacity capacity → (tail : Tail) → len ≢ stored_size tail capacity) }
+    {
+        if !is_capacity(capacity) {
+            return None;
+        }
+        let tail = Tail::of_len(len, capacity)?;
+        Some(Found { capacity, tail })
+    }
 }
 
 impl<D: ByteDevice + Drop> DeviceStore<D> {
     ghost use Rattle.std.specs.Prelude.{◌&&◌};
 
-    /// A new store on a device, in place of what it holds: the factory image is in its first slot, with zeros behind it and
-    /// in the other one. `capacity` is the size of a slot in bytes, 1 to 4,194,304, and `block_size` that of a block, 1 to
-    /// 1,024. The image has 1 to `capacity` bytes.
+    /// A new store on a device, in place of what it holds, with a header of version 2: the factory image is in its first slot, with
+    /// zeros after it and in the other one. `capacity` is the size of a slot in bytes, 1 to 16,777,216, and `block_size` that of a
+    /// block, 1 to 1,024. The image has 1 to `capacity` bytes.
     ///
     /// # Errors
     ///
@@ -94,43 +109,40 @@ impl<D: ByteDevice + Drop> DeviceStore<D> {
         factory: &[u8],
     ) -> Result<DeviceStore<D>, FileStoreError>
         ensures fresh { IsTrue (D.honest device) → IfOk result (λ store. ⟦<DeviceStore<D> as ImageStore>⟧.device store
-            ≡ fresh_device block_size capacity factory.now) }
+            ≡ fresh_device HeaderVersion.Two block_size capacity factory.now) }
         ensures size { IfOk result (λ store. ⟦<DeviceStore<D> as ImageStore>⟧.capacity store ≡ capacity) }
         ensures honesty { IfOk result (λ store. ⟦<DeviceStore<D> as ImageStore>⟧.honest store ≡ D.honest device) }
         ensures soundness { IsTrue (D.sound device)
             → IfOk result (λ store. IsTrue (⟦<DeviceStore<D> as ImageStore>⟧.sound store)) }
         ensures faultless { IfOk result (λ store. ⟦<DeviceStore<D> as ImageStore>⟧.faults store ≡ 0) }
-        ensures setup { OnOk result (IsSetup block_size capacity factory.now) }
-        ensures bad_setup { IsErrOf result FileStoreError.BadSetup → ¬ IsSetup block_size capacity factory.now }
-        ensures fault { IsErrOf result FileStoreError.StoreFault → IsSetup block_size capacity factory.now }
+        ensures setup { OnOk result (IsSetup HeaderVersion.Two block_size capacity factory.now) }
+        ensures bad_setup { IsErrOf result FileStoreError.BadSetup → ¬ IsSetup HeaderVersion.Two block_size capacity factory.now }
+        ensures fault { IsErrOf result FileStoreError.StoreFault → IsSetup HeaderVersion.Two block_size capacity factory.now }
         ensures refusals { IfErr result IsCreateRefusal }
 
-        // The releases are there.
+        // All of the header is there.
         ensures whole { IsTrue (D.honest device) → IfOk result (λ store. D.contents store.device
-            ≡ store_bytes capacity (fresh_device block_size capacity factory.now)) }
+            ≡ store_bytes capacity (fresh_device HeaderVersion.Two block_size capacity factory.now)) }
     {
-        if !is_setup(capacity, block_size, factory) {
+        let version = HeaderVersion::Two;
+        if !is_setup(version, capacity, block_size, factory) {
             return Err(FileStoreError::BadSetup);
         }
-        lay_out(
-            &mut device,
-            capacity,
-            &fresh_bytes(block_size, factory),
-            factory,
-        )?;
+        let head = fresh_bytes(version, block_size, factory);
+        lay_out(&mut device, capacity, &head, factory)?;
         Ok(DeviceStore {
             device,
             capacity,
-            has_releases: true,
+            tail: Tail::of_version(version),
             fault_count: 0,
         })
     }
 
-    /// The store that a device holds, with its releases or without.
+    /// The store that a device holds, with a header of either version, or of version 1 without releases. Its length says which.
     ///
     /// # Errors
     ///
-    /// `StoreFault` where the device failed, and `BadFile` where its bytes don't begin with a capacity of 1 to 4,194,304,
+    /// `StoreFault` where the device failed, and `BadFile` where its bytes don't begin with a capacity of 1 to 16,777,216,
     /// or aren't as many as those of a store of that capacity.
     pub fn reopen_on(mut device: D) -> Result<DeviceStore<D>, FileStoreError>
         ensures store { IsTrue (D.honest device)
@@ -141,7 +153,7 @@ impl<D: ByteDevice + Drop> DeviceStore<D> {
         ensures size { IfOk result (λ store. IsCapacity (⟦<DeviceStore<D> as ImageStore>⟧.capacity store)) }
         ensures honesty { IfOk result (λ store. ⟦<DeviceStore<D> as ImageStore>⟧.honest store ≡ D.honest device) }
         ensures soundness { IsTrue (D.sound device) → IfOk result (λ store. ⟦<DeviceStore<D> as ImageStore>⟧.sound store
-            ≡ adds_no_bytes (D.honest device) (⟦<DeviceStore<D> as ImageStore>⟧.capacity store) (D.contents device)) }
+            ≡ has_room (D.room device) (⟦<DeviceStore<D> as ImageStore>⟧.capacity store)) }
         ensures faultless { IfOk result (λ store. ⟦<DeviceStore<D> as ImageStore>⟧.faults store ≡ 0) }
 
         // It is refused exactly where these bytes are no store, or where the device failed.
@@ -156,7 +168,7 @@ impl<D: ByteDevice + Drop> DeviceStore<D> {
         Ok(DeviceStore {
             device,
             capacity: found.capacity,
-            has_releases: found.has_releases,
+            tail: found.tail,
             fault_count: 0,
         })
     }
@@ -167,12 +179,12 @@ impl<D: ByteDevice + Drop> DeviceStore<D> {
             (⟦<DeviceStore<D> as ImageStore>⟧.capacity self) (⟦<DeviceStore<D> as ImageStore>⟧.device self) }
         ensures honesty { D.honest result ≡ ⟦<DeviceStore<D> as ImageStore>⟧.honest self }
         ensures soundness { ⟦<DeviceStore<D> as ImageStore>⟧.sound self ≡ (D.sound result
-            && adds_no_bytes (D.honest result) (⟦<DeviceStore<D> as ImageStore>⟧.capacity self) (D.contents result)) }
+            && has_room (D.room result) (⟦<DeviceStore<D> as ImageStore>⟧.capacity self)) }
     {
         let DeviceStore {
             device,
             capacity: _,
-            has_releases: _,
+            tail: _,
             fault_count: _,
         } = self;
         device
@@ -180,16 +192,19 @@ impl<D: ByteDevice + Drop> DeviceStore<D> {
 }
 
 /// The store's answer to a call of its device. A refusal is counted.
-fn answer(outcome: Result<(), DeviceFault>, faults: &mut u64) -> Result<(), StoreFault>
+fn answer<T>(outcome: Result<T, DeviceFault>, faults: &mut u64) -> Result<T, StoreFault>
     ensures through { is_ok result ≡ is_ok outcome }
+    ensures same { IfOk result (λ value. outcome ≡ Ok value) }
     ensures counts { faults.new ≡ count_after (is_ok result) faults.old }
     ensures later { faults.old ≤ faults.new }
 {
-    if outcome.is_err() {
-        *faults = faults.saturating_add(1);
-        return Err(StoreFault);
+    match outcome {
+        Ok(value) => Ok(value),
+        Err(_) => {
+            *faults = faults.saturating_add(1);
+            Err(StoreFault)
+        }
     }
-    Ok(())
 }
 
 /// Where a place in a slot is on the device.
@@ -207,11 +222,11 @@ fn place(capacity: u32, slot: Slot, at: u32) -> u64
 fn find<D: ByteDevice>(device: &mut D) -> Result<Option<Found>, DeviceFault>
     ensures found { IfOk result (λ answer. IfSome answer (λ found. IsCapacity found.capacity)) }
     ensures store { IsTrue (D.honest device.old) → IfOk result (λ answer.
-        IfSome answer (λ found. IsLaidOut found.has_releases found.capacity (D.contents device.old))) }
+        IfSome answer (λ found. IsLaidOut found.tail found.capacity (D.contents device.old))) }
     ensures none { IsTrue (D.honest device.old)
         → IfOk result (λ answer. IfNone answer ((capacity : ℕ) → ¬ IsStore (D.contents device.old) capacity)) }
     ensures same { IsTrue (D.honest device.old) → D.contents device.new ≡ D.contents device.old }
-    ensures kept { KeepsDevice D.honest D.sound device.old device.new }
+    ensures kept { KeepsDevice D.honest D.sound D.room device.old device.new }
     ensures never { IsTrue (D.sound device.old) → IsOk result }
 {
     let len = device.len()?;
@@ -221,16 +236,7 @@ fn find<D: ByteDevice>(device: &mut D) -> Result<Option<Found>, DeviceFault>
     let mut bytes = [0; 4];
     device.read_at(0, &mut bytes)?;
     let capacity = number(bytes);
-    let has_releases = len == store_size(capacity);
-    if is_capacity(capacity) && (has_releases || len == releases_at(capacity)) {
-        let found = Found {
-            capacity,
-            has_releases,
-        };
-        Ok(Some(found))
-    } else {
-        Ok(None)
-    }
+    Ok(Found::of(capacity, len))
 }
 
 /// The number whose bytes these are, high byte first.
@@ -240,83 +246,120 @@ fn number(bytes: [u8; 4]) -> u32
     u32::from_be_bytes(bytes)
 }
 
-/// Where the releases of a store begin: behind its slots, where an old store ends.
-fn releases_at(capacity: u32) -> u64
-    ensures { result ≡ old_store_size capacity }
-{
-    SLOTS_AT + 2 * u64::from(capacity)
-}
-
-/// How many bytes a store has.
-fn store_size(capacity: u32) -> u64
-    ensures { result ≡ store_size capacity }
-{
-    releases_at(capacity) + RELEASES_SIZE
-}
-
 /// Leaves so many zeros on a device, and nothing else.
 fn clear<D: ByteDevice>(device: &mut D, len: u64) -> Result<(), DeviceFault>
     ensures done { IsTrue (D.honest device.old) → OnOk result (D.contents device.new ≡ replicate len 0) }
-    ensures kept { KeepsDevice D.honest D.sound device.old device.new }
+    ensures kept { KeepsDevice D.honest D.sound D.room device.old device.new }
+    ensures within { IsTrue (D.sound device.old) → OnOk result (len ≤ D.room device.old) }
 {
     device.set_len(0)?;
     device.set_len(len)
 }
 
 /// Lays out a store on a device, in place of what it holds: this header, the image in the first slot, and zeros behind it
-/// and in the other slot, with the releases. The capacity comes last, behind all else, so that what is cut short is no store.
+/// and in the other slot. The capacity comes last, after all else, so that what is cut short is no store.
 fn lay_out<D: ByteDevice>(
     device: &mut D,
     capacity: u32,
-    head: &[u8; HEADER_SIZE],
+    head: &HeaderBytes,
     image: &[u8],
 ) -> Result<(), DeviceFault>
     requires { length image.now ≤ capacity }
     ensures done { IsTrue (D.honest device.old) → OnOk result (D.contents device.new
-        ≡ store_bytes capacity (record { head = head.now; first = padded image.now capacity; second = replicate capacity 0 })) }
-    ensures kept { KeepsDevice D.honest D.sound device.old device.new }
+        ≡ store_bytes capacity (record { head = bytes_of head.now; first = padded image.now capacity; second = replicate capacity 0 })) }
+    ensures kept { KeepsDevice D.honest D.sound D.room device.old device.new }
+    ensures within { IsTrue (D.sound device.old)
+        → OnOk result (store_size (version_of head.now) capacity ≤ D.room device.old) }
 {
-    clear(device, store_size(capacity))?;
+    clear(device, store_size(head.version(), capacity))?;
     device.write_at(SLOTS_AT, image)?;
-    let (front, releases) = head.split_at(FRONT_SIZE);
+    let (front, last) = head.as_slice().split_at(FRONT_SIZE);
     device.write_at(HEADER_AT, front)?;
-    device.write_at(releases_at(capacity), releases)?;
+    device.write_at(tail_at(capacity), last)?;
     device.replace_at(0, &capacity.to_be_bytes())
 }
 
-/// Reads the header of a store on a device. Its releases are 0 where they are not there.
+/// Reads the header of a store on a device.
 fn read_header<D: ByteDevice>(
     device: &mut D,
     capacity: u32,
-    has_releases: bool,
-    out: &mut [u8; HEADER_SIZE],
-) -> Result<(), DeviceFault>
-    requires { IsTrue (D.honest device.old) → IsLaidOut has_releases capacity (D.contents device.old) }
+    tail: Tail,
+) -> Result<HeaderBytes, DeviceFault>
+    requires { IsTrue (D.honest device.old) → IsLaidOut tail capacity (D.contents device.old) }
     ensures done { IsTrue (D.honest device.old)
-        → OnOk result (out.new ≡ (device_at capacity (D.contents device.old)).head) }
+        → IfOk result (λ bytes. bytes_of bytes ≡ (device_at capacity (D.contents device.old)).head) }
     ensures same { IsTrue (D.honest device.old) → D.contents device.new ≡ D.contents device.old }
-    ensures kept { KeepsDevice D.honest D.sound device.old device.new }
+    ensures kept { KeepsDevice D.honest D.sound D.room device.old device.new }
     ensures never { IsTrue (D.sound device.old) → IsOk result }
 {
-    let (front, releases) = out.split_at_mut(FRONT_SIZE);
-    device.read_at(HEADER_AT, front)?;
-    if has_releases {
-        return device.read_at(releases_at(capacity), releases);
+    let mut one = [0; VERSION_ONE_SIZE];
+    match tail {
+        Tail::Empty => {
+            device.read_at(HEADER_AT, &mut one[..FRONT_SIZE])?;
+            Ok(HeaderBytes::One(one))
+        }
+        Tail::Releases => {
+            read_parts(device, capacity, &mut one)?;
+            Ok(HeaderBytes::One(one))
+        }
+        Tail::Marks => {
+            let mut two = [0; VERSION_TWO_SIZE];
+            read_parts(device, capacity, &mut two)?;
+            Ok(HeaderBytes::Two(two))
+        }
     }
-    releases.fill(0);
-    Ok(())
+}
+
+/// Reads what stands before the slots of a store on a device, except the capacity, and what stands after them.
+fn read_parts<D: ByteDevice>(
+    device: &mut D,
+    capacity: u32,
+    out: &mut [u8],
+) -> Result<(), DeviceFault>
+    requires front { FRONT_SIZE ≤ length out.old }
+    requires there { IsTrue (D.honest device.old)
+        → old_store_size capacity + (length out.old - FRONT_SIZE) ≤ length (D.contents device.old) }
+    ensures done { IsTrue (D.honest device.old) → OnOk result (out.new
+        ≡ slice_range (D.contents device.old) HEADER_AT SLOTS_AT
+        ++ slice_range (D.contents device.old) (old_store_size capacity) (old_store_size capacity + (length out.old - FRONT_SIZE))) }
+    ensures same { IsTrue (D.honest device.old) → D.contents device.new ≡ D.contents device.old }
+    ensures kept { KeepsDevice D.honest D.sound D.room device.old device.new }
+    ensures never { IsTrue (D.sound device.old) → IsOk result }
+{
+    let (front, last) = out.split_at_mut(FRONT_SIZE);
+    device.read_at(HEADER_AT, front)?;
+    device.read_at(tail_at(capacity), last)
+}
+
+/// Replaces the header of a store on a device by one of either version.
+fn replace_header<D: ByteDevice>(
+    device: &mut D,
+    capacity: u32,
+    bytes: &HeaderBytes,
+) -> Result<(), DeviceFault>
+    requires { IsTrue (D.honest device.old) → IsStore (D.contents device.old) capacity }
+    ensures done { IsTrue (D.honest device.old) → OnOk result (device_at capacity (D.contents device.new)
+        ≡ with_head (device_at capacity (D.contents device.old)) (bytes_of bytes.now)) }
+    ensures laid_out { IsTrue (D.honest device.old)
+        → OnOk result (IsLaidOut (tail_of (version_of bytes.now)) capacity (D.contents device.new)) }
+    ensures same { IsTrue (D.honest device.old) → OnErr result (D.contents device.new ≡ D.contents device.old) }
+    ensures kept { KeepsDevice D.honest D.sound D.room device.old device.new }
+    ensures never { IsTrue (D.sound device.old)
+        → store_size (version_of bytes.now) capacity ≤ D.room device.old → IsOk result }
+{
+    let (front, last) = bytes.as_slice().split_at(FRONT_SIZE);
+    device.replace_both(HEADER_AT, front, tail_at(capacity), last)
 }
 
 // How many calls a device has left is not known.
 impl<D: ByteDevice> ImageStore for DeviceStore<D> {
-    ghost use Rattle.std.specs.Prelude.{◌&&◌, None, OnErr};
-    ghost use Rattle.fw_store.specs.Device.{with_head};
+    ghost use Rattle.std.specs.Prelude.{◌&&◌, None};
     ghost use Rattle.fw_store.specs.Faults.{Keeps, HasCause, Spends};
     ghost use Rattle.fw_store.specs.Sizes.{slot_size};
 
     ghost honest = { λ s. D.honest s.device };
 
-    ghost sound = { λ s. D.sound s.device && adds_no_bytes (D.honest s.device) s.capacity (D.contents s.device) };
+    ghost sound = { λ s. D.sound s.device && has_room (D.room s.device) s.capacity };
 
     ghost device = { λ s. device_at s.capacity (D.contents s.device) };
 
@@ -326,7 +369,7 @@ impl<D: ByteDevice> ImageStore for DeviceStore<D> {
 
     ghost calls_left = { λ _. None };
 
-    ghost sized = { λ s slot h. slot_size s.has_releases s.capacity (D.contents s.device) (s.laid_out h) slot };
+    ghost sized = { λ s slot h. slot_size s.tail s.capacity (D.contents s.device) (s.laid_out h) slot };
 
     fn capacity(&self) -> u32 {
         self.capacity
@@ -336,38 +379,29 @@ impl<D: ByteDevice> ImageStore for DeviceStore<D> {
         self.fault_count
     }
 
-    fn header(&mut self) -> Result<[u8; HEADER_SIZE], StoreFault> {
-        let mut bytes = [0; HEADER_SIZE];
-        let (capacity, has_releases) = (self.capacity, self.has_releases);
-        let outcome = read_header(&mut self.device, capacity, has_releases, &mut bytes);
-        answer(outcome, &mut self.fault_count)?;
-        Ok(bytes)
+    fn header(&mut self) -> Result<HeaderBytes, StoreFault> {
+        let outcome = read_header(&mut self.device, self.capacity, self.tail);
+        answer(outcome, &mut self.fault_count)
     }
 
-    fn write_header(&mut self, bytes: &[u8; HEADER_SIZE]) -> Result<(), StoreFault>
+    fn write_header(&mut self, bytes: &HeaderBytes) -> Result<(), StoreFault>
         ensures done { IsTrue (D.honest self.old.device) → OnOk result (device_at self.new.capacity (D.contents self.new.device)
-            ≡ with_head (device_at self.old.capacity (D.contents self.old.device)) bytes.now) }
+            ≡ with_head (device_at self.old.capacity (D.contents self.old.device)) (bytes_of bytes.now)) }
         ensures same { IsTrue (D.honest self.old.device) → OnErr result (device_at self.new.capacity (D.contents self.new.device)
             ≡ device_at self.old.capacity (D.contents self.old.device)) }
-        ensures kept { Keeps (λ s. D.honest s.device)
-            (λ s. D.sound s.device && adds_no_bytes (D.honest s.device) s.capacity (D.contents s.device))
+        ensures kept { Keeps (λ s. D.honest s.device) (λ s. D.sound s.device && has_room (D.room s.device) s.capacity)
             (λ s. s.capacity) (λ s. s.fault_count) self.old self.new }
-        ensures cause { HasCause
-            (D.sound self.old.device && adds_no_bytes (D.honest self.old.device) self.old.capacity (D.contents self.old.device))
+        ensures cause { HasCause (D.sound self.old.device && has_room (D.room self.old.device) self.old.capacity)
             self.old.fault_count self.new.fault_count result }
         ensures spends { Spends 1 None None (is_ok result) }
 
-        // The releases are there then, also those of an old store.
+        // All of the header is there then, and nothing after it.
         ensures whole { IsTrue (D.honest self.old.device) → OnOk result (D.contents self.new.device
             ≡ store_bytes self.new.capacity (device_at self.new.capacity (D.contents self.new.device))) }
     {
-        let (front, releases) = bytes.split_at(FRONT_SIZE);
-        let last_at = releases_at(self.capacity);
-        let outcome = self
-            .device
-            .replace_both(HEADER_AT, front, last_at, releases);
+        let outcome = replace_header(&mut self.device, self.capacity, bytes);
         answer(outcome, &mut self.fault_count)?;
-        self.has_releases = true;
+        self.tail = Tail::of_version(bytes.version());
         Ok(())
     }
 

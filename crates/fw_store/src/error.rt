@@ -44,7 +44,7 @@ pub enum FileStoreError {
     /// Memory was refused. The calls of this crate take none, and never answer it.
     #[error("OutOfMemory")]
     OutOfMemory,
-    /// The bytes don't begin with a capacity of 1 to 4,194,304, or aren't as many as those of a store of that capacity.
+    /// The bytes don't begin with a capacity of 1 to 16,777,216, or aren't as many as those of a store of that capacity.
     #[error("BadFile")]
     BadFile,
 }

@@ -9,6 +9,7 @@ use crate::device_store::DeviceStore;
 use crate::error::FileStoreError;
 use crate::setup::is_setup;
 use crate::store::ImageStore;
+use crate::version::HeaderVersion;
 use std::fs::{File, OpenOptions};
 use std::io;
 use std::os::unix::fs::FileExt;
@@ -20,6 +21,8 @@ use std::rt::Files;
 #[derive(Drop)]
 pub struct FileDevice {
     file: File,
+    /// How many bytes it had when it was opened, or when its length was last set.
+    size: u64,
 }
 
 /// A store in a file.
@@ -53,12 +56,13 @@ impl FileDevice {
         if file.try_lock().is_err() {
             return Err(DeviceFault);
         }
-        Ok(FileDevice { file })
+        let size = file.metadata().map_err(refused)?.len();
+        Ok(FileDevice { file, size })
     }
 
-    /// Adds zeros up to this length to a file that is shorter.
-    fn extend(&mut self, len: u64) -> Result<(), DeviceFault> {
-        if self.len()? < len {
+    /// Cuts a file to this length, or adds zeros up to it, where it has another.
+    fn fit(&mut self, len: u64) -> Result<(), DeviceFault> {
+        if self.size != len {
             self.set_len(len)?;
         }
         Ok(())
@@ -66,8 +70,8 @@ impl FileDevice {
 }
 
 impl DeviceStore<FileDevice> {
-    /// A new store in a new file: the factory image is in its first slot, with zeros behind it and in the other one.
-    /// `capacity` is the size of a slot in bytes, 1 to 4,194,304, and `block_size` that of a block, 1 to 1,024. The image
+    /// A new store in a new file, with a header of version 2: the factory image is in its first slot, with zeros after it and in the
+    /// other one. `capacity` is the size of a slot in bytes, 1 to 16,777,216, and `block_size` that of a block, 1 to 1,024. The image
     /// has 1 to `capacity` bytes.
     ///
     /// # Errors
@@ -84,24 +88,25 @@ impl DeviceStore<FileDevice> {
     ) -> Result<FileStore, FileStoreError>
         ensures size { IfOk result (λ store. ⟦<DeviceStore<FileDevice> as ImageStore>⟧.capacity store ≡ capacity) }
         ensures faultless { IfOk result (λ store. ⟦<DeviceStore<FileDevice> as ImageStore>⟧.faults store ≡ 0) }
-        ensures setup { OnOk result (IsSetup block_size capacity factory.now) }
-        ensures bad_setup { IsErrOf result FileStoreError.BadSetup → ¬ IsSetup block_size capacity factory.now }
-        ensures fault { IsErrOf result FileStoreError.StoreFault → IsSetup block_size capacity factory.now }
+        ensures setup { OnOk result (IsSetup HeaderVersion.Two block_size capacity factory.now) }
+        ensures bad_setup { IsErrOf result FileStoreError.BadSetup → ¬ IsSetup HeaderVersion.Two block_size capacity factory.now }
+        ensures fault { IsErrOf result FileStoreError.StoreFault → IsSetup HeaderVersion.Two block_size capacity factory.now }
         ensures refusals { IfErr result IsCreateRefusal }
     {
-        if !is_setup(capacity, block_size, factory) {
+        if !is_setup(HeaderVersion::Two, capacity, block_size, factory) {
             return Err(FileStoreError::BadSetup);
         }
         let device = FileDevice::create(rt, path)?;
         DeviceStore::create_on(device, capacity, block_size, factory)
     }
 
-    /// The store in a file that is there. One without releases is of an older version: they are 0, and the next header write adds them.
+    /// The store in a file that is there, with a header of either version, or of version 1 without releases: they are 0. The next
+    /// header write gives the file the length of the version that it writes.
     ///
     /// # Errors
     ///
-    /// `StoreFault` where the file can't be opened or read, or another store has it open, and `BadFile` where its bytes don't begin with a capacity of 1
-    /// to 4,194,304, or aren't as many as those of a store of that capacity.
+    /// `StoreFault` where the file can't be opened or read, or another store has it open, and `BadFile` where its bytes don't begin
+    /// with a capacity of 1 to 16,777,216, or aren't as many as those of a store of that capacity.
     pub fn reopen<R: Files<File = File>, P: AsPath>(
         rt: &R,
         path: P,
@@ -122,6 +127,8 @@ impl ByteDevice for FileDevice {
 
     ghost sound = { λ _. false };
 
+    ghost room = { λ _. 0 };
+
     ghost contents = { λ _. [] };
 
     fn len(&mut self) -> Result<u64, DeviceFault> {
@@ -130,7 +137,9 @@ impl ByteDevice for FileDevice {
     }
 
     fn set_len(&mut self, len: u64) -> Result<(), DeviceFault> {
-        self.file.set_len(len).map_err(refused)
+        self.file.set_len(len).map_err(refused)?;
+        self.size = len;
+        Ok(())
     }
 
     fn read_at(&mut self, at: u64, out: &mut [u8]) -> Result<(), DeviceFault> {
@@ -148,7 +157,7 @@ impl ByteDevice for FileDevice {
         self.file.sync_data().map_err(refused)
     }
 
-    /// As above. Where the file is too short it gets zeros first, so that it is never cut within the bytes that are added.
+    /// As above. The file gets its length first, so that it is never cut within the bytes that are added.
     fn replace_both(
         &mut self,
         at: u64,
@@ -157,8 +166,13 @@ impl ByteDevice for FileDevice {
         last: &[u8],
     ) -> Result<(), DeviceFault> {
         self.file.sync_data().map_err(refused)?;
-        self.extend(last_at.saturating_add(last.len() as u64))?;
-        self.file.write_all_at(last, last_at).map_err(refused)?;
+        let size = self.size;
+        self.fit(last_at.saturating_add(last.len() as u64))?;
+        if self.file.write_all_at(last, last_at).is_err() {
+            // The header that is there stays, and the file's length says its version.
+            let _ = self.set_len(size);
+            return Err(DeviceFault);
+        }
         self.file.write_all_at(bytes, at).map_err(refused)?;
         self.file.sync_data().map_err(refused)
     }

@@ -1,7 +1,29 @@
 //! The header of a store, and its bytes.
 
-ghost use Rattle.std.specs.Prelude.{◌≡◌, ◌≢◌, ◌+◌, ◌≤◌, ◌++◌, ◌↔◌, ℕ, Some, false, length, take, IsTrue, IfSome, IfNone};
-ghost use Rattle.std.specs.Int.{w32, from_be_bytes};
+ghost use Rattle.std.specs.Prelude.{
+  ◌≡◌,
+  ◌≢◌,
+  ◌+◌,
+  ◌≤◌,
+  ◌<◌,
+  ◌^◌,
+  ◌++◌,
+  ◌↔◌,
+  ℕ,
+  Bool,
+  List,
+  Some,
+  false,
+  length,
+  take,
+  drop,
+  slice_range,
+  IsTrue,
+  IfSome,
+  IfNone,
+};
+ghost use Rattle.std.specs.Int.{w32, from_be_bytes, to_be_bytes};
+ghost use Rattle.fw_axdr.specs.Bits.{packed};
 ghost use Rattle.fw_blocks.specs.Cuts.{max_blocks};
 ghost use Rattle.fw_blocks.specs.Members.{has};
 ghost use Rattle.fw_names.specs.Name.{Name, IsName, IsOpened};
@@ -9,7 +31,16 @@ ghost use Rattle.fw_store.specs.declared.header.Goal.{Goal};
 ghost use Rattle.fw_store.specs.declared.header.Header.{Header};
 ghost use Rattle.fw_store.specs.declared.header.StoredStatus.{StoredStatus};
 ghost use Rattle.fw_store.specs.declared.slot.Slot.{Slot};
-ghost use Rattle.fw_store.specs.Layout.{status_number, slot_number, stored_name_bytes, goal_bytes, goal_release, header_bytes};
+ghost use Rattle.fw_store.specs.Versions.{block_limit, bytes_of, first_limit, header_size, version_of};
+ghost use Rattle.fw_store.specs.Layout.{
+  status_number,
+  slot_number,
+  stored_name_bytes,
+  goal_bytes,
+  goal_release,
+  header_bytes,
+};
+ghost use Rattle.fw_store.specs.Fronts.{front_of};
 ghost use Rattle.fw_store.specs.Header.{
   GoalFieldsFit,
   FieldsFit,
@@ -20,17 +51,24 @@ ghost use Rattle.fw_store.specs.Header.{
   goal_count,
   has_goal,
   is_verified,
+  migrated,
 };
 
 use crate::slot::Slot;
-use fw_blocks::{Geometry, MARKS_SIZE, MAX_BLOCK_SIZE, MAX_BLOCKS, Pages};
+use crate::version::{HeaderBytes, HeaderVersion, VERSION_ONE_SIZE, VERSION_TWO_SIZE};
+use fw_blocks::{Geometry, MARKS_SIZE, MAX_BLOCK_SIZE, Pages};
 use fw_names::{ImageName, NameBytes};
 
-/// The number of bytes of every header.
-pub const HEADER_SIZE: usize = 622;
+/// Where the marks of the first 4,096 blocks stand, and the releases after them.
+const MARKS_AT: usize = 102;
 
-/// The bytes that every header begins with: the form, version 1.
-const FORM: [u8; 4] = *b"FWH1";
+const RELEASES_AT: usize = 614;
+
+/// The bytes of these marks.
+const FIRST_MARKS_SIZE: usize = 512;
+
+/// The bytes of the marks of the other blocks.
+const LAST_MARKS_SIZE: usize = MARKS_SIZE - FIRST_MARKS_SIZE;
 
 /// The bytes of a name in a header, which has its release elsewhere.
 const STORED_NAME_SIZE: usize = 41;
@@ -64,22 +102,26 @@ pub struct Goal {
 }
 
 impl Goal {
-    /// Whether a store of this capacity, in bytes a slot, whose running image has this release can receive it in blocks of this
-    /// size: a campaign offers it, it fits a slot, its blocks are within their limits, and its release isn't below that one.
-    pub fn fits(&self, capacity: u32, block_size: u32, release: u32) -> bool
-        ensures goal { IsTrue result ↔ IsGoal capacity block_size release self.now }
+    /// Whether a store of this capacity, in bytes a slot, whose header has marks for `limit` blocks and whose running image has
+    /// this release can receive it in blocks of this size: a campaign offers it, it fits a slot, its blocks are within their limits
+    /// and no more than those, and its release isn't below that one.
+    pub fn fits(&self, limit: u32, capacity: u32, block_size: u32, release: u32) -> bool
+        ensures goal { IsTrue result ↔ IsGoal limit capacity block_size release self.now }
         ensures opened { IsTrue result → IsOpened self.now.name.campaign }
     {
         !self.name.campaign.is_factory()
             && self.size <= capacity
             && release <= self.name.release
             && Geometry::new(block_size, self.size).is_some()
+            && self.size.div_ceil(block_size) <= limit
     }
 }
 
 /// What a store keeps beside its two slots: the state of Image transfer, and which image runs.
 #[derive(Clone, Copy, Debug, PartialEq, Eq)]
 pub struct Header {
+    /// Which of the two forms its bytes have.
+    pub version: HeaderVersion,
     /// Whether image transfer is enabled (image_transfer_enabled).
     pub enabled: bool,
     /// The slot of the image that runs. The other is the spare one.
@@ -94,8 +136,8 @@ pub struct Header {
     pub running_name: ImageName,
     /// The image that is to be received, or was received and is not yet activated.
     pub goal: Option<Goal>,
-    /// Which blocks of the goal are there (image_transferred_blocks_status). Those of a store's header count 4,096
-    /// numbers.
+    /// Which blocks of the goal are there (image_transferred_blocks_status). Those of a store's header count as many
+    /// numbers as its version has marks for.
     pub marks: Pages,
 }
 
@@ -147,12 +189,18 @@ impl StoredStatus {
 }
 
 impl Header {
-    /// The header of a new store of this block size, in bytes, with an image of this size and name in its first
+    /// The header of this version of a new store of this block size, in bytes, with an image of this size and name in its first
     /// slot: image transfer is disabled, and nothing was initiated.
-    pub fn fresh(block_size: u32, running_size: u32, running_name: ImageName) -> Header
-        ensures { result ≡ fresh_header block_size running_size running_name }
+    pub fn fresh(
+        version: HeaderVersion,
+        block_size: u32,
+        running_size: u32,
+        running_name: ImageName,
+    ) -> Header
+        ensures { result ≡ fresh_header version block_size running_size running_name }
     {
         Header {
+            version,
             enabled: false,
             running_slot: Slot::First,
             status: StoredStatus::NotInitiated,
@@ -160,22 +208,60 @@ impl Header {
             running_size,
             running_name,
             goal: None,
-            marks: Pages::none(),
+            marks: version.no_marks(),
         }
     }
 
-    /// The header's bytes, whether a store can have it or not. They have a mark for each number that a block can have:
-    /// those that the header's marks don't count aren't marked.
-    #[tactic(auto, unfolding(crate::specs::Layout::header_bytes))]
-    pub fn to_bytes(&self) -> [u8; HEADER_SIZE]
-        ensures value { result ≡ header_bytes (with_all_marks self.now) }
+    /// The header in version 2, with all else kept: no further block is there.
+    pub fn migrated(self) -> Header
+        ensures { result ≡ migrated self }
+    {
+        Header {
+            version: HeaderVersion::Two,
+            marks: self.marks.resized(HeaderVersion::Two.block_limit()),
+            ..self
+        }
+    }
+
+    /// The header's bytes in its version, whether a store can have it or not. They have a mark for each block that the version has
+    /// one for: those that the header's marks don't count aren't marked.
+    pub fn to_bytes(&self) -> HeaderBytes
+        ensures value { bytes_of result ≡ header_bytes (with_all_marks self.now) }
+        ensures version { version_of result ≡ self.now.version }
+        ensures size { length (bytes_of result) ≡ header_size self.now.version }
         ensures fields { FieldsFit (with_all_marks self.now) }
 
         // Where the header's marks count all these numbers, it is the header itself.
-        ensures whole { length self.now.marks ≡ max_blocks → with_all_marks self.now ≡ self.now }
+        ensures whole { length self.now.marks ≡ block_limit self.now.version → with_all_marks self.now ≡ self.now }
     {
-        let mut bytes = [0; HEADER_SIZE];
-        let at = put(&mut bytes, 0, &FORM);
+        let header = self.with_all_marks();
+        match header.version {
+            HeaderVersion::One => HeaderBytes::One(header.front()),
+            HeaderVersion::Two => HeaderBytes::Two(header.whole()),
+        }
+    }
+
+    /// The header with a mark for each block that its version has one for, and no other.
+    fn with_all_marks(&self) -> Header
+        ensures value { result ≡ with_all_marks self.now }
+        ensures size { length result.marks ≡ block_limit result.version }
+        ensures whole { length self.now.marks ≡ block_limit self.now.version → with_all_marks self.now ≡ self.now }
+    {
+        Header {
+            marks: self.marks.resized(self.version.block_limit()),
+            ..*self
+        }
+    }
+
+    /// The first 622 bytes.
+    #[tactic(auto, unfolding(crate::specs::Fronts::front_of))]
+    fn front(&self) -> [u8; VERSION_ONE_SIZE]
+        requires { length self.now.marks ≡ block_limit self.now.version }
+        ensures value { result ≡ front_of self.now }
+        ensures fields { FieldsFit self.now }
+    {
+        let mut bytes = [0; VERSION_ONE_SIZE];
+        let at = put(&mut bytes, 0, &self.version.form());
         let flags = [
             u8::from(self.enabled),
             slot_number(self.running_slot),
@@ -183,26 +269,40 @@ impl Header {
             u8::from(self.goal.is_some()),
         ];
         let at = put(&mut bytes, at, &flags);
-        let at = put(&mut bytes, at, &self.block_size.to_be_bytes());
-        let at = put(&mut bytes, at, &self.running_size.to_be_bytes());
+        let at = put(&mut bytes, at, &number_bytes(self.block_size));
+        let at = put(&mut bytes, at, &number_bytes(self.running_size));
         let at = put(&mut bytes, at, stored_name(self.running_name).as_slice());
         let at = put(&mut bytes, at, &goal_to_bytes(self.goal));
-        let at = put(&mut bytes, at, &self.marks.to_bytes());
+        let at = put(&mut bytes, at, &first_marks(&self.marks));
         let at = put(&mut bytes, at, &self.running_name.release.to_be_bytes());
         put(&mut bytes, at, &goal_release(self.goal).to_be_bytes());
         bytes
     }
 
+    /// Those of version 2: the first 622, and the marks of the blocks from 4,096 on.
+    fn whole(&self) -> [u8; VERSION_TWO_SIZE]
+        requires version { self.now.version ≡ HeaderVersion.Two }
+        requires marks { length self.now.marks ≡ block_limit self.now.version }
+        ensures value { result ≡ front_of self.now ++ packed (drop first_limit self.now.marks) }
+        ensures fields { FieldsFit self.now }
+    {
+        let mut bytes = [0; VERSION_TWO_SIZE];
+        let at = put(&mut bytes, 0, &self.front());
+        put(&mut bytes, at, &last_marks(&self.marks));
+        bytes
+    }
+
     /// The header that has these bytes, and `None` where there is none that a store with this capacity, in bytes a
-    /// slot, can have.
-    pub fn from_bytes(capacity: u32, bytes: &[u8; HEADER_SIZE]) -> Option<Header>
+    /// slot, can have: so there is none where the form is that of the other version.
+    pub fn from_bytes(capacity: u32, bytes: &HeaderBytes) -> Option<Header>
         ensures some { IfSome result (λ header.
-            IsHeader capacity header × (header_bytes header ≡ bytes.now)) }
+            IsHeader capacity header × (header_bytes header ≡ bytes_of bytes.now)) }
         ensures none { IfNone result ((header : Header) →
-            IsHeader capacity header → header_bytes header ≢ bytes.now) }
+            IsHeader capacity header → header_bytes header ≢ bytes_of bytes.now) }
+        ensures version { IfSome result (λ header. header.version ≡ version_of bytes.now) }
     {
         let header = read(bytes)?;
-        if header.to_bytes() == *bytes && header.is_for(capacity) {
+        if header.to_bytes().as_slice() == bytes.as_slice() && header.is_for(capacity) {
             Some(header)
         } else {
             None
@@ -224,7 +324,8 @@ impl Header {
             return false;
         }
         let release = self.running_name.release;
-        if !goal_fits(&self.goal, capacity, self.block_size, release) {
+        let limit = self.version.block_limit();
+        if !goal_fits(&self.goal, limit, capacity, self.block_size, release) {
             return false;
         }
         let count = goal_count(self.goal, self.block_size);
@@ -235,13 +336,14 @@ impl Header {
     }
 }
 
-/// Whether the goal, if there is one, fits a store of this capacity whose running image has this release.
-fn goal_fits(goal: &Option<Goal>, capacity: u32, block_size: u32, release: u32) -> bool
-    ensures { IsTrue result ↔ IfSome goal.now (IsGoal capacity block_size release) }
+/// Whether the goal, if there is one, fits a store of this capacity whose header has marks for `limit` blocks and whose running image
+/// has this release.
+fn goal_fits(goal: &Option<Goal>, limit: u32, capacity: u32, block_size: u32, release: u32) -> bool
+    ensures { IsTrue result ↔ IfSome goal.now (IsGoal limit capacity block_size release) }
 {
     match goal {
         None => true,
-        Some(goal) => goal.fits(capacity, block_size, release),
+        Some(goal) => goal.fits(limit, capacity, block_size, release),
     }
 }
 
@@ -258,10 +360,9 @@ fn goal_count(goal: Option<Goal>, block_size: u32) -> u32
 
 /// Whether no number from this one on is marked.
 fn is_unmarked_from(marks: &Pages, first: u32) -> bool
-    requires { length marks.now ≡ MAX_BLOCKS }
     ensures { IsTrue result ↔ ((i : ℕ) → first ≤ i → has marks.now i ≡ false) }
 {
-    (first..MAX_BLOCKS).all(|number| !marks.has(number))
+    (first..marks.count()).all(|number| !marks.has(number))
 }
 
 /// The byte of a slot.
@@ -272,6 +373,14 @@ fn slot_number(slot: Slot) -> u8
         Slot::First => 0,
         Slot::Second => 1,
     }
+}
+
+/// The bytes of a number, high byte first.
+fn number_bytes(number: u32) -> [u8; 4]
+    ensures value { result ≡ to_be_bytes w32 number }
+    ensures fits { number < 2 ^ 32 }
+{
+    number.to_be_bytes()
 }
 
 /// The bytes of a name in a header, whatever its release.
@@ -303,9 +412,31 @@ fn goal_to_bytes(goal: Option<Goal>) -> [u8; GOAL_SIZE]
     bytes
 }
 
-/// Writes a part of a header behind those that are there, and answers where it ends.
-fn put(bytes: &mut [u8; HEADER_SIZE], at: usize, part: &[u8]) -> usize
-    requires { at + length part.now ≤ HEADER_SIZE }
+/// The bytes of the marks of the first 4,096 blocks.
+fn first_marks(marks: &Pages) -> [u8; FIRST_MARKS_SIZE]
+    requires { first_limit ≤ length marks.now }
+    ensures { result ≡ packed (take first_limit marks.now) }
+{
+    let all = marks.to_bytes();
+    let mut bytes = [0; FIRST_MARKS_SIZE];
+    bytes.copy_from_slice(&all[..FIRST_MARKS_SIZE]);
+    bytes
+}
+
+/// Those of the marks of the others.
+fn last_marks(marks: &Pages) -> [u8; LAST_MARKS_SIZE]
+    requires { length marks.now ≡ max_blocks }
+    ensures { result ≡ packed (drop first_limit marks.now) }
+{
+    let all = marks.to_bytes();
+    let mut bytes = [0; LAST_MARKS_SIZE];
+    bytes.copy_from_slice(&all[FIRST_MARKS_SIZE..]);
+    bytes
+}
+
+/// Writes a part after those that are there, and answers where it ends.
+fn put(bytes: &mut [u8], at: usize, part: &[u8]) -> usize
+    requires { at + length part.now ≤ length bytes.old }
     ensures next { result ≡ at + length part.now }
     ensures front { take result bytes.new ≡ take at bytes.old ++ part.now }
 {
@@ -316,29 +447,53 @@ fn put(bytes: &mut [u8; HEADER_SIZE], at: usize, part: &[u8]) -> usize
 
 /// What the bytes are read as. A header's bytes are read as that header; others may be read as some header too, which
 /// has other bytes.
-fn read(bytes: &[u8; HEADER_SIZE]) -> Option<Header>
+fn read(bytes: &HeaderBytes) -> Option<Header>
     ensures only { (header : Header) → FieldsFit header →
-        header_bytes header ≡ bytes.now → result ≡ Some header }
-    ensures marks { IfSome result (λ header. length header.marks ≡ max_blocks) }
+        header_bytes header ≡ bytes_of bytes.now → result ≡ Some header }
+    ensures marks { IfSome result (λ header. length header.marks ≡ block_limit header.version) }
+    ensures version { IfSome result (λ header. header.version ≡ version_of bytes.now) }
 {
     fw_axdr::laws::bits_packed();
-    let mut marks = [0; MARKS_SIZE];
-    marks.copy_from_slice(&bytes[102..614]);
-    let goal = if bytes[7] == 1 {
-        Some(read_goal(&bytes[57..102], number_at(&bytes[618..622]))?)
+    let front = bytes.front();
+    let goal = if front[7] == 1 {
+        Some(read_goal(&front[57..102], number_at(&front[618..622]))?)
     } else {
         None
     };
     Some(Header {
-        enabled: bytes[4] == 1,
-        running_slot: slot_at(bytes[5]),
-        status: StoredStatus::from_number(bytes[6])?,
-        block_size: number_at(&bytes[8..12]),
-        running_size: number_at(&bytes[12..16]),
-        running_name: read_name(&bytes[16..57], number_at(&bytes[614..618]))?,
+        version: bytes.version(),
+        enabled: front[4] == 1,
+        running_slot: slot_at(front[5]),
+        status: StoredStatus::from_number(front[6])?,
+        block_size: number_at(&front[8..12]),
+        running_size: number_at(&front[12..16]),
+        running_name: read_name(&front[16..57], number_at(&front[614..618]))?,
         goal,
-        marks: Pages::from_bytes(&marks),
+        marks: read_marks(bytes),
     })
+}
+
+/// The marks that a header's bytes are read as: those of the first 4,096 blocks, and in version 2 of the others.
+fn read_marks(bytes: &HeaderBytes) -> Pages
+    ensures only { (marks : List Bool) → length marks ≡ block_limit (version_of bytes.now) →
+        packed (take first_limit marks) ≡ slice_range (take VERSION_ONE_SIZE (bytes_of bytes.now)) MARKS_AT RELEASES_AT →
+        packed (drop first_limit marks) ≡ drop VERSION_ONE_SIZE (bytes_of bytes.now) → result ≡ marks }
+    ensures size { length result ≡ block_limit (version_of bytes.now) }
+{
+    fw_axdr::laws::bits_packed();
+    Pages::from_bytes(&mark_bytes(bytes)).resized(bytes.version().block_limit())
+}
+
+/// The bytes of the marks, and zeros after them.
+fn mark_bytes(bytes: &HeaderBytes) -> [u8; MARKS_SIZE]
+    ensures { take (FIRST_MARKS_SIZE + length (drop VERSION_ONE_SIZE (bytes_of bytes.now))) result
+        ≡ slice_range (take VERSION_ONE_SIZE (bytes_of bytes.now)) MARKS_AT RELEASES_AT
+        ++ drop VERSION_ONE_SIZE (bytes_of bytes.now) }
+{
+    let mut marks = [0; MARKS_SIZE];
+    let at = put(&mut marks, 0, &bytes.front()[MARKS_AT..RELEASES_AT]);
+    put(&mut marks, at, bytes.rest());
+    marks
 }
 
 /// The name that the bytes and a release are read as.

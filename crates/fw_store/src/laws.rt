@@ -1,6 +1,6 @@
 //! Laws of headers, of what stores hold and of faults, over the definitions alone.
 
-ghost use Rattle.fw_store.specs.Laws.{OneHeader, HeaderSize, FreshIsHeader, VerifiedIsComplete};
+ghost use Rattle.fw_store.specs.Laws.{OneHeader, HeaderSize, FreshIsHeader, VerifiedIsComplete, MigratedIsHeader};
 ghost use Rattle.fw_store.specs.StoreLaws.{
   SpliceStands,
   WrittenIsRead,
@@ -24,7 +24,7 @@ pub fn one_header()
     fw_blocks::laws::one_set_for_bytes();
 }
 
-/// Every header has 622 bytes.
+/// Every header has 622 bytes in version 1, and 2,158 in version 2.
 pub fn header_size()
     ensures { HeaderSize }
 {
@@ -42,6 +42,11 @@ pub fn verified_is_complete()
 {
     fw_blocks::laws::one_first_missing();
 }
+
+/// What a store can have in version 1, it can have in version 2.
+pub fn migrated_is_header()
+    ensures { MigratedIsHeader }
+{}
 
 /// What a write into a byte string leaves of it, and what it makes of it.
 pub fn splice_stands()
@@ -73,8 +78,8 @@ pub fn slots_stay()
     ensures { SlotsStay }
 {}
 
-/// The bytes of a store are its capacity, its header but for the releases, its slots, and the releases, one behind the other. An old
-/// store has no releases there.
+/// The bytes of a store are its capacity, the first 614 bytes of its header, its slots, and the other bytes of its header, one after
+/// the other. A store without releases ends with its slots.
 pub fn fields_join()
     ensures { FieldsJoin }
 {}

@@ -4,13 +4,14 @@ ghost use Rattle.std.specs.Prelude.{◌≡◌, ◌+◌, ◌≤◌, length, IfOk,
 ghost use Rattle.fw_store.specs.Device.{slot_bytes, with_head, written, Torn};
 ghost use Rattle.fw_store.specs.Faults.{Keeps, HasCause, Spends};
 ghost use Rattle.fw_store.specs.Fuse.{torn_of, half_torn};
+ghost use Rattle.fw_store.specs.Versions.{bytes_of};
 
 use crate::error::{SetupError, StoreFault};
 use crate::fuse::{Fuse, burn, overwrite, tear, torn_byte};
-use crate::header::HEADER_SIZE;
 use crate::setup::{fresh_bytes, is_setup};
 use crate::slot::Slot;
 use crate::store::ImageStore;
+use crate::version::{HeaderBytes, HeaderVersion};
 use std::alloc::{AllocError, Global};
 
 /// A store in memory. It fails only where a fuse makes it fail, and takes no memory but when it is made.
@@ -18,7 +19,7 @@ use std::alloc::{AllocError, Global};
 pub struct MemoryStore {
     capacity: u32,
     /// Behind a pointer, so that the store moves in few words.
-    head: Box<[u8; HEADER_SIZE]>,
+    head: Box<HeaderBytes>,
     first: Vec<u8>,
     second: Vec<u8>,
     fault_count: u64,
@@ -33,9 +34,9 @@ impl MemoryStore {
     ghost use Rattle.fw_store.specs.Fresh.{fresh_device};
     ghost use Rattle.fw_store.specs.Memory.{device_of, capacity_of, faults_of, fuse_of, KeepsAllButFuse, IsSame};
 
-    /// A new store: the factory image is in its first slot, with zeros behind it and in the other one. `capacity` is the
-    /// size of a slot in bytes, 1 to 4,194,304, and `block_size` that of a block, 1 to 1,024. The image has 1 to `capacity`
-    /// bytes. No fuse is set.
+    /// A new store, with a header of version 2: the factory image is in its first slot, with zeros after it and in the other one.
+    /// `capacity` is the size of a slot in bytes, 1 to 16,777,216, and `block_size` that of a block, 1 to 1,024. The image has 1 to
+    /// `capacity` bytes. No fuse is set.
     ///
     /// # Errors
     ///
@@ -46,18 +47,61 @@ impl MemoryStore {
         block_size: u32,
         factory: &[u8],
     ) -> Result<MemoryStore, SetupError>
-        ensures fresh { IfOk result (λ m. device_of m ≡ fresh_device block_size capacity factory.now) }
+        ensures fresh { IfOk result (λ m. device_of m ≡ fresh_device HeaderVersion.Two block_size capacity factory.now) }
         ensures size { IfOk result (λ m. capacity_of m ≡ capacity) }
         ensures unfused { IfOk result (λ m. fuse_of m ≡ None) }
         ensures faultless { IfOk result (λ m. faults_of m ≡ 0) }
-        ensures setup { OnOk result (IsSetup block_size capacity factory.now) }
-        ensures bad_setup { IsErrOf result SetupError.BadSetup → ¬ IsSetup block_size capacity factory.now }
-        ensures memory { IsErrOf result SetupError.OutOfMemory → IsSetup block_size capacity factory.now }
+        ensures setup { OnOk result (IsSetup HeaderVersion.Two block_size capacity factory.now) }
+        ensures bad_setup { IsErrOf result SetupError.BadSetup → ¬ IsSetup HeaderVersion.Two block_size capacity factory.now }
+        ensures memory { IsErrOf result SetupError.OutOfMemory → IsSetup HeaderVersion.Two block_size capacity factory.now }
     {
-        if !is_setup(capacity, block_size, factory) {
+        MemoryStore::with_header(HeaderVersion::Two, alloc, capacity, block_size, factory)
+    }
+
+    /// A new old store, as one was made before there was version 2: its header is of version 1, and `capacity` is 1 to 4,194,304. All
+    /// else is as with `new`.
+    ///
+    /// # Errors
+    ///
+    /// `BadSetup` where one of these doesn't hold, and otherwise `OutOfMemory` alone.
+    pub fn new_old(
+        alloc: Global,
+        capacity: u32,
+        block_size: u32,
+        factory: &[u8],
+    ) -> Result<MemoryStore, SetupError>
+        ensures fresh { IfOk result (λ m. device_of m ≡ fresh_device HeaderVersion.One block_size capacity factory.now) }
+        ensures size { IfOk result (λ m. capacity_of m ≡ capacity) }
+        ensures unfused { IfOk result (λ m. fuse_of m ≡ None) }
+        ensures faultless { IfOk result (λ m. faults_of m ≡ 0) }
+        ensures setup { OnOk result (IsSetup HeaderVersion.One block_size capacity factory.now) }
+        ensures bad_setup { IsErrOf result SetupError.BadSetup → ¬ IsSetup HeaderVersion.One block_size capacity factory.now }
+        ensures memory { IsErrOf result SetupError.OutOfMemory → IsSetup HeaderVersion.One block_size capacity factory.now }
+    {
+        MemoryStore::with_header(HeaderVersion::One, alloc, capacity, block_size, factory)
+    }
+
+    /// A new store with a header of this version.
+    fn with_header(
+        version: HeaderVersion,
+        alloc: Global,
+        capacity: u32,
+        block_size: u32,
+        factory: &[u8],
+    ) -> Result<MemoryStore, SetupError>
+        ensures fresh { IfOk result (λ m. device_of m ≡ fresh_device version block_size capacity factory.now) }
+        ensures size { IfOk result (λ m. capacity_of m ≡ capacity) }
+        ensures unfused { IfOk result (λ m. fuse_of m ≡ None) }
+        ensures faultless { IfOk result (λ m. faults_of m ≡ 0) }
+        ensures setup { OnOk result (IsSetup version block_size capacity factory.now) }
+        ensures bad_setup { IsErrOf result SetupError.BadSetup → ¬ IsSetup version block_size capacity factory.now }
+        ensures memory { IsErrOf result SetupError.OutOfMemory → IsSetup version block_size capacity factory.now }
+    {
+        if !is_setup(version, capacity, block_size, factory) {
             return Err(SetupError::BadSetup);
         }
-        let head = Box::new(alloc, fresh_bytes(block_size, factory)).map_err(AllocError::from)?;
+        let bytes = fresh_bytes(version, block_size, factory);
+        let head = Box::new(alloc, bytes).map_err(AllocError::from)?;
         let mut first = factory.to_vec(alloc)?;
         first.resize(capacity as usize, 0)?;
         let second = vec![in alloc; 0; capacity as usize]?;
@@ -94,7 +138,7 @@ impl MemoryStore {
         ensures { IsTrue result ↔ IsSame self.now other.now }
     {
         self.capacity == other.capacity
-            && *self.head == *other.head
+            && self.head.as_slice() == other.head.as_slice()
             && self.first == other.first
             && self.second == other.second
     }
@@ -137,8 +181,8 @@ impl ImageStore for MemoryStore {
         self.fault_count
     }
 
-    fn header(&mut self) -> Result<[u8; HEADER_SIZE], StoreFault>
-        ensures done { IfOk result (λ bytes. bytes ≡ (device_of self.old).head) }
+    fn header(&mut self) -> Result<HeaderBytes, StoreFault>
+        ensures done { IfOk result (λ bytes. bytes_of bytes ≡ (device_of self.old).head) }
         ensures same { device_of self.new ≡ device_of self.old }
         ensures kept { Keeps (λ _. true) is_sound capacity_of faults_of self.old self.new }
         ensures cause { HasCause (is_sound self.old) (faults_of self.old) (faults_of self.new) result }
@@ -149,8 +193,8 @@ impl ImageStore for MemoryStore {
         Ok(*self.head)
     }
 
-    fn write_header(&mut self, bytes: &[u8; HEADER_SIZE]) -> Result<(), StoreFault>
-        ensures done { OnOk result (device_of self.new ≡ with_head (device_of self.old) bytes.now) }
+    fn write_header(&mut self, bytes: &HeaderBytes) -> Result<(), StoreFault>
+        ensures done { OnOk result (device_of self.new ≡ with_head (device_of self.old) (bytes_of bytes.now)) }
         ensures same { OnErr result (device_of self.new ≡ device_of self.old) }
         ensures kept { Keeps (λ _. true) is_sound capacity_of faults_of self.old self.new }
         ensures cause { HasCause (is_sound self.old) (faults_of self.old) (faults_of self.new) result }
@@ -158,7 +202,7 @@ impl ImageStore for MemoryStore {
         ensures fused { IsFused self.old self.new (is_ok result) }
     {
         burn(&mut self.fuse, &mut self.fault_count)?;
-        self.head.copy_from_slice(bytes);
+        *self.head = *bytes;
         Ok(())
     }
 

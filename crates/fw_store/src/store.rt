@@ -3,13 +3,15 @@
 ghost use Rattle.std.specs.Prelude.{◌≡◌, ◌+◌, ◌≤◌, ℕ, Bool, Option, IsTrue, IfOk, OnOk, OnErr, is_ok, length, slice_range};
 ghost use Rattle.fw_store.specs.Device.{Device, slot_bytes, with_head, written, Torn};
 ghost use Rattle.fw_store.specs.Faults.{Keeps, HasCause, Spends};
+ghost use Rattle.fw_store.specs.Versions.{bytes_of};
 ghost use Rattle.fw_store.specs.declared.slot.Slot.{Slot};
 
 use crate::error::StoreFault;
-use crate::header::HEADER_SIZE;
 use crate::slot::Slot;
+use crate::version::HeaderBytes;
 
-/// A device with a header of 622 bytes and two slots, which have as many bytes as the capacity. Its calls take no memory.
+/// A device with a header, of as many bytes as version 1 has or version 2, and two slots, which have as many bytes as the capacity.
+/// Its calls take no memory.
 ///
 /// Of each call two things are said. What holds of every store: the count of faults rises by one where the call answers
 /// `StoreFault`, unless it stood at its greatest number, and is as before where it doesn't; and where it is known how many
@@ -41,25 +43,26 @@ pub trait ImageStore {
     fn faults(&self) -> u64
         ensures { result ≡ faults self.now };
 
-    /// The header.
+    /// The header, in the version that was written last.
     ///
     /// # Errors
     ///
     /// `StoreFault` where the device failed.
-    fn header(&mut self) -> Result<[u8; HEADER_SIZE], StoreFault>
-        ensures done { IsTrue (honest self.old) → IfOk result (λ bytes. bytes ≡ (device self.old).head) }
+    fn header(&mut self) -> Result<HeaderBytes, StoreFault>
+        ensures done { IsTrue (honest self.old) → IfOk result (λ bytes. bytes_of bytes ≡ (device self.old).head) }
         ensures same { IsTrue (honest self.old) → device self.new ≡ device self.old }
         ensures kept { Keeps honest sound capacity faults self.old self.new }
         ensures cause { HasCause (sound self.old) (faults self.old) (faults self.new) result }
         ensures spends { Spends 1 (calls_left self.old) (calls_left self.new) (is_ok result) };
 
-    /// Replaces the header.
+    /// Replaces the header, of either version, by one of either.
     ///
     /// # Errors
     ///
     /// `StoreFault` where the device failed. The old header then stands.
-    fn write_header(&mut self, bytes: &[u8; HEADER_SIZE]) -> Result<(), StoreFault>
-        ensures done { IsTrue (honest self.old) → OnOk result (device self.new ≡ with_head (device self.old) bytes.now) }
+    fn write_header(&mut self, bytes: &HeaderBytes) -> Result<(), StoreFault>
+        ensures done { IsTrue (honest self.old)
+            → OnOk result (device self.new ≡ with_head (device self.old) (bytes_of bytes.now)) }
         ensures same { IsTrue (honest self.old) → OnErr result (device self.new ≡ device self.old) }
         ensures kept { Keeps honest sound capacity faults self.old self.new }
         ensures cause { HasCause (sound self.old) (faults self.old) (faults self.new) result }

@@ -9,7 +9,7 @@ use Rattle.fw_apdu.specs.Laws as apdu
 use Rattle.fw_client.specs.Ask.{initiate, request_of}
 use Rattle.fw_server.specs.Meaning.{meaning_of}
 use Rattle.fw_image.specs.Laws.{JoinedSize}
-use Rattle.fw_image.specs.Meter.{reopened, Meter}
+use Rattle.fw_image.specs.Meter.{restarted, Meter}
 use Rattle.fw_meter.specs.Laws.{TellsRunning}
 use Rattle.fw_world.specs.declared.datagram.Direction.TheVariants.{ToHead}
 use Rattle.fw_world.specs.World.{Datagram, Activation, Offers, World, put, same_campaign, with_offer, with_meter, with_done}
@@ -18,7 +18,7 @@ use Rattle.fw_world.specs.Headline.{IsOffered, HasActivated, FirstNames, IsOwn, 
 use Rattle.fw_world.specs.Laws.{IsSafeWorld}
 use Rattle.fw_world.proofs.Maps.{put_cases, put_keeps, same_campaign_is}
 use Rattle.fw_world.proofs.Spelled.{one_brought, is_initiate}
-use Rattle.fw_world.proofs.SafeMeters.{IsSafeMeter, IsSafeAfter, quiet, reopened_safe, OffersGrow, offered_grows, own_grows, offers_grow, activations_grow, none_held, offered_name}
+use Rattle.fw_world.proofs.SafeMeters.{IsSafeMeter, IsSafeAfter, quiet, restarted_safe, OffersGrow, offered_grows, own_grows, offers_grow, activations_grow, none_held, offered_name}
 use Rattle.fw_world.proofs.Handled.{handles_safe, stops_safe, reply_asks, reply_is_own}
 
 pub at_number : {X : Type 0} (P : X → Type 0) (xs : List X) (number : ℕ) (x : X) → All P xs → slice_get xs number ≡ Some x → P x
@@ -215,24 +215,24 @@ module _ (IsFirst : FirstNames) where
   pub stop_safe : JoinedSize → names.OneName → (old : World) → IsSafeWorld IsFirst old → (d : Datagram) → InitiatesOffered old.offered d → (new : World) → StopsAt old d new → IsSafeWorld IsFirst new
   stop_safe sizes one_name old k d asks new s =
       subst (IsSafeWorld IsFirst) (sym (s.new_is ∙ noted s.name))
-      (moves_safe old k d.meter s.name (reopened s.after)
+      (moves_safe old k d.meter s.name (restarted s.after)
       (reopens s.name (stops_safe sizes one_name IsFirst old.offered old.activations d asks s.before (meter_of IsFirst old k d.meter s.before s.there) s.name s.after s.stops))
       old.sent k.initiates
       (All-weaker (TellsOwn IsFirst old.activations) (TellsOwn IsFirst (old.activations ++ more)) (told_grows IsFirst old.activations more) old.sent k.names.told))
     where
       more : List Activation
-      more = activated d.meter s.name (reopened s.after)
+      more = activated d.meter s.name (restarted s.after)
 
       -- a restart leaves the image that runs
-      noted : (name : Option Name) → (let w : World = record (with_meter old d.meter (reopened s.after)) { activations = old.activations ++ activated d.meter name s.after } in w)
-          ≡ record (with_meter old d.meter (reopened s.after)) { activations = old.activations ++ activated d.meter name (reopened s.after) }
+      noted : (name : Option Name) → (let w : World = record (with_meter old d.meter (restarted s.after)) { activations = old.activations ++ activated d.meter name s.after } in w)
+          ≡ record (with_meter old d.meter (restarted s.after)) { activations = old.activations ++ activated d.meter name (restarted s.after) }
       noted None = refl
       noted (Some name) = refl
 
-      reopens : (name : Option Name) → IsSafeAfter IsFirst old.offered old.activations d.meter name s.after → IsSafeAfter IsFirst old.offered old.activations d.meter name (reopened s.after)
-      reopens None safe = record { meter = reopened_safe IsFirst old.offered (old.activations ++ []) d.meter s.after safe.meter; runs = safe.runs; activation = safe.activation }
+      reopens : (name : Option Name) → IsSafeAfter IsFirst old.offered old.activations d.meter name s.after → IsSafeAfter IsFirst old.offered old.activations d.meter name (restarted s.after)
+      reopens None safe = record { meter = restarted_safe IsFirst old.offered (old.activations ++ []) d.meter s.after safe.meter; runs = safe.runs; activation = safe.activation }
       reopens (Some name) safe = record {
-        meter = reopened_safe IsFirst old.offered (old.activations ++ activated d.meter (Some name) s.after) d.meter s.after safe.meter;
+        meter = restarted_safe IsFirst old.offered (old.activations ++ activated d.meter (Some name) s.after) d.meter s.after safe.meter;
         runs = safe.runs;
         activation = safe.activation;
       }

@@ -6,17 +6,18 @@ use Rattle.fw_names.specs.Laws as names
 use Rattle.fw_names.specs.Name.{Name, factory}
 use Rattle.fw_apdu.specs.Laws as apdu
 use Rattle.fw_store.specs.Setup.{IsSetup}
+use Rattle.fw_store.specs.declared.version.HeaderVersion.{HeaderVersion}
 use Rattle.fw_image.specs.Fresh.{fresh_meter}
 use Rattle.fw_image.specs.Laws.{JoinedSize}
-use Rattle.fw_image.specs.Meter.{Meter, reopened}
+use Rattle.fw_image.specs.Meter.{Meter, reopened, restarted}
 use Rattle.fw_meter.specs.Laws.{TellsRunning}
 use Rattle.fw_world.specs.declared.datagram.Direction.{Direction}
 use Rattle.fw_world.specs.declared.datagram.Direction.TheVariants.{ToMeter, ToHead}
 use Rattle.fw_world.specs.World.{Activation, World}
-use Rattle.fw_world.specs.Step.{Event, open_campaign, cancel_campaign, tick, deliver, stop, restart_meter, restart_head, turn, Delivers, WorldStep, IsOpening, Run}
+use Rattle.fw_world.specs.Step.{Event, open_campaign, cancel_campaign, tick, deliver, stop, restart_meter, stop_restart, restart_head, turn, Delivers, WorldStep, IsOpening, Run}
 use Rattle.fw_world.specs.Headline.{FirstNames, IsFactoryName, IsFirstName, InitiatesOffered, TellsOwn, IsSafe, NeverFalls, ActivationsAreEqual}
 use Rattle.fw_world.specs.Laws.{AfterEachRun, IsSafeWorld, EveryStepIsSafe}
-use Rattle.fw_world.proofs.SafeMeters.{IsSafeMeter, none_held, reopened_safe, turn_safe}
+use Rattle.fw_world.proofs.SafeMeters.{IsSafeMeter, none_held, reopened_safe, restarted_safe, turn_safe}
 use Rattle.fw_world.proofs.Events.{at_number, world_of, meter_of, meter_safe, open_safe, tick_safe, serves_safe, stop_safe, marks_safe}
 
 module _ (sizes : JoinedSize) (one_name : names.OneName) (size : names.SpellingSize) (requests : apdu.OneRequest) (tells : TellsRunning) where
@@ -36,7 +37,13 @@ module _ (sizes : JoinedSize) (one_name : names.OneName) (size : names.SpellingS
     step_safe old new (stop number calls torn) s k =
         stop_safe IsFirst sizes one_name old k s.0 (at_number (InitiatesOffered old.offered) old.sent number s.0 k.initiates s.1) new s.3
     step_safe old new (restart_meter number) s k =
-        subst (IsSafeWorld IsFirst) (sym s.2) (meter_safe IsFirst old k number (reopened s.0) (reopened_safe IsFirst old.offered old.activations number s.0 (meter_of IsFirst old k number s.0 s.1)))
+        subst (IsSafeWorld IsFirst) (sym s.2) (meter_safe IsFirst old k number (restarted s.0) (restarted_safe IsFirst old.offered old.activations number s.0 (meter_of IsFirst old k number s.0 s.1)))
+    step_safe old new (stop_restart number calls torn) s k =
+        let safe = meter_of IsFirst old k number s.0 s.1 in
+        elim s.2 [
+          | inl whole ↦ subst (IsSafeWorld IsFirst) (sym whole) (meter_safe IsFirst old k number (restarted s.0) (restarted_safe IsFirst old.offered old.activations number s.0 safe))
+          | inr cut ↦ subst (IsSafeWorld IsFirst) (sym cut) (meter_safe IsFirst old k number (reopened s.0) (reopened_safe IsFirst old.offered old.activations number s.0 safe))
+        ]
     step_safe old new (restart_head head) s k = subst (IsSafeWorld IsFirst) (sym s) k
     step_safe old new (turn number) s k =
         subst (IsSafeWorld IsFirst) (sym s.4) (meter_safe IsFirst old k number s.1 (turn_safe IsFirst old.offered old.activations number s.0 s.1 (meter_of IsFirst old k number s.0 s.2) s.3))
@@ -50,9 +57,9 @@ module _ (sizes : JoinedSize) (one_name : names.OneName) (size : names.SpellingS
 
   -- ---- from the opening world on
 
-  fresh_safe : (opening : World) (number : ℕ) (meter : Meter) (block_size capacity : ℕ) (image : List ℕ) → opening.activations ≡ [] → opening.meters number ≡ Some meter → IsSetup block_size capacity image
-      → meter ≡ fresh_meter block_size capacity image → IsSafeMeter (IsFirstName opening) opening.offered opening.activations number meter
-  fresh_safe opening number meter block_size capacity image none there setup is =
+  fresh_safe : (opening : World) (number : ℕ) (meter : Meter) (version : HeaderVersion) (block_size capacity : ℕ) (image : List ℕ) → opening.activations ≡ [] → opening.meters number ≡ Some meter
+      → IsSetup version block_size capacity image → meter ≡ fresh_meter version block_size capacity image → IsSafeMeter (IsFirstName opening) opening.offered opening.activations number meter
+  fresh_safe opening number meter version block_size capacity image none there setup is =
       subst (IsSafeMeter (IsFirstName opening) opening.offered opening.activations number) (sym is) (record {
         block_size = setup.some_block;
         named = record { is_campaign = inl refl; is_release = record { fits = omega arith; none = λ made. refl }; digest_size = length-sha256 image };
@@ -69,7 +76,7 @@ module _ (sizes : JoinedSize) (one_name : names.OneName) (size : names.SpellingS
   opening_safe : (opening : World) → IsOpening opening → IsSafeWorld (IsFirstName opening) opening
   opening_safe opening o = world_of (IsFirstName opening) opening (record {
     campaigns = λ campaign image e. let none = o.offered campaign in absurd cc;
-    meters = λ number meter e. let m = o.meters number meter e in fresh_safe opening number meter m.0 m.1 m.2 o.activations e m.3 m.4;
+    meters = λ number meter e. let m = o.meters number meter e in fresh_safe opening number meter m.0 m.1 m.2 m.3 o.activations e m.4 m.5;
     initiates = subst (All (InitiatesOffered opening.offered)) (sym o.sent) (All-nil (InitiatesOffered opening.offered));
     told = subst (All (TellsOwn (IsFirstName opening) opening.activations)) (sym o.sent) (All-nil (TellsOwn (IsFirstName opening) opening.activations));
     activations = subst (All (IsSafe opening.offered)) (sym o.activations) (All-nil (IsSafe opening.offered));
@@ -81,7 +88,7 @@ module _ (sizes : JoinedSize) (one_name : names.OneName) (size : names.SpellingS
   first_is_factory : (opening : World) → IsOpening opening → (number : ℕ) (name : Name) → IsFirstName opening number name → name.campaign ≡ factory
   first_is_factory opening o number name f =
       let m = o.meters number f.0 f.1 in
-      ap (λ (n : Name). n.campaign) (f.2 ∙ ap (λ (x : Meter). x.running.name) m.4)
+      ap (λ (n : Name). n.campaign) (f.2 ∙ ap (λ (x : Meter). x.running.name) m.5)
 
   pub every_run_is_safe : AfterEachRun (λ opening w. IsSafeWorld (IsFirstName opening) w)
   every_run_is_safe opening w events o r = run_safe (IsFirstName opening) (first_is_factory opening o) opening w events r (opening_safe opening o)

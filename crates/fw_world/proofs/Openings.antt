@@ -12,15 +12,17 @@ use Rattle.fw_book.specs.Changes.{empty_book}
 use Rattle.fw_book.specs.Rows.{state_of}
 use Rattle.fw_head.specs.Head.{Head}
 use Rattle.fw_world.specs.declared.setup.HeadSetup.{HeadSetup}
+use Rattle.fw_store.specs.declared.version.HeaderVersion.{HeaderVersion}
 use Rattle.fw_world.specs.declared.setup.MeterSetup.{MeterSetup}
 use Rattle.fw_world.specs.declared.setup.Setup.{Setup}
 use Rattle.fw_world.specs.Step.{IsOpening}
 use Rattle.fw_world.specs.State.{State, IsState, is_done, world_of}
 use Rattle.fw_world.specs.Parts.{head_behind}
-use Rattle.fw_world.specs.Setup.{IsSetup, IsStored, head_of, head_entry, meter_of, meter_entry, opening_state}
+use Rattle.fw_world.specs.Setup.{IsSetup, IsStored, head_of, head_entry, meter_of, meter_entry, opening_state, version_of}
 
 abbrev IsNew : Meter → Type 0
-IsNew meter = (block_size capacity : ℕ) × (factory : List ℕ) × store.IsSetup block_size capacity factory × (meter ≡ fresh_meter block_size capacity factory)
+IsNew meter =
+    (version : HeaderVersion) × (block_size capacity : ℕ) × (factory : List ℕ) × store.IsSetup version block_size capacity factory × (meter ≡ fresh_meter version block_size capacity factory)
 
 -- what is found behind a number is what one of them is made to
 found_first : {V : Type 0} (b : Bool) (first found : V) (rest : Option V) → cond b (Some first) rest ≡ Some found → (P : V → Type 0) → (b ≡ true → P first) → (rest ≡ Some found → P found) → P found
@@ -78,7 +80,7 @@ new_meter : (meters : List MeterSetup) (number : ℕ) (meter : Meter) → All Is
 new_meter [] number meter stored e = absurd cc
 new_meter (first ∷ others) number meter stored e =
     found_first (nat_eq number first.meter) (meter_of first) meter (lookup (nat_eq number) (map meter_entry others)) e IsNew
-    (λ same. (first.block_size, first.capacity, first.factory.items, All-head IsStored first others stored, refl))
+    (λ same. (version_of first, first.block_size, first.capacity, first.factory.items, All-head IsStored first others stored, refl))
     (new_meter others number meter (All-tail IsStored first others stored))
 
 pub is_opening : (setup : Setup) → IsSetup setup → IsOpening (world_of (opening_state setup))

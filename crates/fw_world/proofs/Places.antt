@@ -3,7 +3,7 @@ use Rattle.std.proofs.Common.{◌≡◌, ℕ, nat_eq, List, [], ◌∷◌, ◌++
 use Rattle.std.specs.Prelude.{IfOk, IfErr}
 use Rattle.std.specs.Map.{lookup, set_value}
 use Rattle.std.proofs.lemmas.Map.Steps.{set_value_same}
-use Rattle.fw_image.specs.Meter.{Image, Meter, reopened}
+use Rattle.fw_image.specs.Meter.{Image, Meter, restarted}
 use Rattle.fw_head.specs.Head.{Head}
 use Rattle.fw_world.specs.World.{Datagram, Activation}
 use Rattle.fw_head.specs.declared.news.RowNews.{RowNews}
@@ -92,7 +92,7 @@ pub moved_own : (s : State) → IsState s → (key : ℕ) (new : List (ℕ × He
     → written.book.head ≡ found.book.head → IsState (record s { heads = new })
 moved_own s is key new found written there set keeps = subst (λ (hs : List (ℕ × Head)). IsState (record s { heads = hs })) (sym set) (record {
   own = λ number head e. elim (head_cases s key found written there number) [
-    | inl at ↦ ap (λ (h : Head). h.book.head) (some_head head written (sym e ∙ at.then)) ∙ keeps ∙ is.own key found there ∙ sym at.is
+    | inl at ↦ ap (λ (h : Head). h.book.head) (some_head head written (sym e ∙ at.becomes)) ∙ keeps ∙ is.own key found there ∙ sym at.is
     | inr other ↦ is.own number head (sym other.1 ∙ e)
   ];
 })
@@ -122,9 +122,9 @@ noted_is meter number (Some image) after same runs =
     (λ i. record { meter = same i; name = image.name; bytes = (runs i).bytes } ∷ [])
 
 -- so it is where the meter started again behind that
-pub noted_as : (meter number : ℕ) (switched : Option Image) (new after : Meter) → meter ≡ number → new ≡ reopened after → IsRunning switched new → noted meter switched ≡ activated number (switched_name switched) after
+pub noted_as : (meter number : ℕ) (switched : Option Image) (new after : Meter) → meter ≡ number → new ≡ restarted after → IsRunning switched new → noted meter switched ≡ activated number (switched_name switched) after
 noted_as meter number switched new after same is runs = noted_is meter number switched after same (as_before switched (subst (IsRunning switched) is runs))
   where
-    as_before : (s : Option Image) → IsRunning s (reopened after) → IsRunning s after
+    as_before : (s : Option Image) → IsRunning s (restarted after) → IsRunning s after
     as_before None r = tt
     as_before (Some image) r = r

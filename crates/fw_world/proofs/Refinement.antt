@@ -1,5 +1,5 @@
 -- What is kept makes the steps of the world that it is.
-use Rattle.std.proofs.Common.{◌≡◌, ◌≢◌, ℕ, nat_eq, Bool, true, false, ◌&&◌, cond, ◌⊎◌, inl, inr, List, [], ◌∷◌, ◌++◌, is_some, Option, Some, None, option_map, refl, sym, ap, subst, ◌∙◌, ⊎_elim, All}
+use Rattle.std.proofs.Common.{◌≡◌, ◌≢◌, ℕ, nat_eq, nat_le, if◌then◌else◌, Bool, true, false, ◌&&◌, cond, ◌⊎◌, inl, inr, List, [], ◌∷◌, ◌++◌, is_some, Option, Some, None, option_map, refl, sym, ap, subst, ◌∙◌, ⊎_elim, All}
 use Rattle.std.specs.List.{list_any}
 use Rattle.std.specs.Map.{lookup, set_value}
 use Rattle.std.specs.Option.{option_and_then}
@@ -7,7 +7,9 @@ use Rattle.std.proofs.lemmas.List.Elements.{All-nil, All-cons, All-head, All-tai
 use Rattle.std.proofs.lemmas.Bool.{cases_Bool, cond-true, cond-false, false_from_ne_true, false≢true}
 use Rattle.std.proofs.lemmas.Bool.Decides.{Decides-eqb}
 use Rattle.fw_names.specs.Name.{Campaign, Name, IsRelease, name_of, SpellsName}
+use Rattle.fw_image.specs.Meter as image
 use Rattle.fw_image.specs.Meter.{Meter, reopened}
+use Rattle.fw_image.specs.Calls.{restart_calls}
 use Rattle.fw_client.specs.Ask.{Ask, block_size, first_missing, blocks, status, info, active_name, enable, initiate, block, verify, activate}
 use Rattle.fw_client.specs.Claim.{Claim}
 use Rattle.fw_client.specs.State.{invoke_byte}
@@ -25,7 +27,7 @@ use Rattle.fw_head.specs.Laws.{RowKeepsGoal}
 use Rattle.fw_world.specs.declared.datagram.Direction.{Direction}
 use Rattle.fw_world.specs.declared.datagram.Direction.TheVariants.{ToMeter, ToHead}
 use Rattle.fw_world.specs.World.{Datagram, Offers, World, put, same_campaign, with_meter, with_done}
-use Rattle.fw_world.specs.Step.{open_campaign, cancel_campaign, tick, deliver, stop, restart_meter, restart_head, turn, replies, activated, MayAsk, Permits, Serves, Marks, Delivers, StopsAt, WorldStep}
+use Rattle.fw_world.specs.Step.{open_campaign, cancel_campaign, tick, deliver, stop, restart_meter, stop_restart, restart_head, turn, replies, activated, MayAsk, Permits, Serves, Marks, Delivers, StopsAt, WorldStep}
 use Rattle.fw_world.specs.State.{State, head_at, meter_at, set_head, set_meter, IsState, is_done, world_of, OpensAt, CancelsAt, sent_to, TicksAt, ServesAt, HearsAt, DeliversAt, StopsIn}
 use Rattle.fw_world.specs.Laws.{StateStepsAsWorld}
 use Rattle.fw_world.proofs.Maps.{same_campaign_is}
@@ -71,7 +73,7 @@ found_set k q v w (entry ∷ entries) there =
 -- the head end of a number, once one is changed: that one, or what was there
 pub record HeadAt (old : State) (number : ℕ) (before after : Head) (q : ℕ) : Type 0 where
   pub is : q ≡ number
-  pub then : head_at (set_head old number after) q ≡ Some after
+  pub becomes : head_at (set_head old number after) q ≡ Some after
   pub was : head_at old q ≡ Some before
 
 pub head_cases : (old : State) (number : ℕ) (before after : Head) → head_at old number ≡ Some before → (q : ℕ)
@@ -81,7 +83,7 @@ head_cases old number before after there q =
     ⊎_elim
     (λ here.
     let is : q ≡ number = (Decides-eqb q number).0 here in
-    inl (record { is = is; then = found ∙ cond-true (nat_eq q number) (Some after) (lookup (nat_eq q) old.heads) here; was = ap (λ n. head_at old n) is ∙ there }))
+    inl (record { is = is; becomes = found ∙ cond-true (nat_eq q number) (Some after) (lookup (nat_eq q) old.heads) here; was = ap (λ n. head_at old n) is ∙ there }))
     (λ away. inr (λ is. false≢true (sym away ∙ (Decides-eqb q number).1 is), found ∙ cond-false (nat_eq q number) (Some after) (lookup (nat_eq q) old.heads) away))
     (cases_Bool (nat_eq q number))
 
@@ -102,11 +104,11 @@ heads_go old number before after offered done there images others states elsewhe
     (funext _ done (λ c. funext _ (done c) (λ m. state c m (head_cases old number before after there c.head))))
   where
     image : (c : Campaign) → HeadAt old number before after c.head ⊎ ((c.head ≢ number) × (head_at (set_head old number after) c.head ≡ head_at old c.head)) → offered_at (head_at (set_head old number after) c.head) c ≡ offered c
-    image c (inl at) = ap (λ o. offered_at o c) at.then ∙ images c at.is
+    image c (inl at) = ap (λ o. offered_at o c) at.becomes ∙ images c at.is
     image c (inr away) = ap (λ o. offered_at o c) away.1 ∙ others c away.0
 
     state : (c : Campaign) (m : ℕ) → HeadAt old number before after c.head ⊎ ((c.head ≢ number) × (head_at (set_head old number after) c.head ≡ head_at old c.head)) → done_at (head_at (set_head old number after) c.head) c m ≡ done c m
-    state c m (inl at) = ap (λ o. done_at o c m) at.then ∙ states c m at.is
+    state c m (inl at) = ap (λ o. done_at o c m) at.becomes ∙ states c m at.is
     state c m (inr away) = ap (λ o. done_at o c m) away.1 ∙ elsewhere c m away.0
 
 -- a change that keeps both keeps the world
@@ -317,7 +319,7 @@ module _ (stay : ImagesStay) (offers : OpeningOffers) (follow : StatesFollowCall
     name = o.name;
     there = o.there;
     stops = o.stops;
-    new_is = ap world_of o.new_is ∙ ap (λ (w : World). (let x : World = record w { activations = old.activations ++ activated d.meter o.name o.after } in x)) (meter_goes old d.meter o.before (reopened o.after) o.there);
+    new_is = ap world_of o.new_is ∙ ap (λ (w : World). (let x : World = record w { activations = old.activations ++ activated d.meter o.name o.after } in x)) (meter_goes old d.meter o.before (image.restarted o.after) o.there);
   }
 
   -- a mark of a live row: the state of its meter in its campaign, and every other as it was
@@ -439,12 +441,20 @@ module _ (stay : ImagesStay) (offers : OpeningOffers) (follow : StatesFollowCall
   delivered_as old new d ToMeter is o = served_as old new d o
   delivered_as old new d ToHead is o = heard_as old new d is o
 
+  within_as : (old new : State) (number : ℕ) (meter : Meter) → meter_at old number ≡ Some meter → (whole : Bool)
+      → new ≡ set_meter old number (if whole then image.restarted meter else reopened meter)
+      → (world_of new ≡ with_meter (world_of old) number (image.restarted meter)) ⊎ (world_of new ≡ with_meter (world_of old) number (reopened meter))
+  within_as old new number meter there true is = inl (ap world_of is ∙ meter_goes old number meter (image.restarted meter) there)
+  within_as old new number meter there false is = inr (ap world_of is ∙ meter_goes old number meter (reopened meter) there)
+
   pub state_steps : StateStepsAsWorld
   state_steps old new (open_campaign campaign release image meters) is o = opened_as old new campaign release image meters is o
   state_steps old new (cancel_campaign campaign) is o = cancelled_as old new campaign is o
   state_steps old new (tick head meter) is o = ticked_as old new head meter is o
   state_steps old new (deliver number) is o = (o.0, o.1, delivered_as old new o.0 o.0.direction is o.2)
   state_steps old new (stop number calls torn) is o = (o.0, o.1, o.2, stopped_as old new o.0 o.3)
-  state_steps old new (restart_meter number) is o = (o.0, o.1, ap world_of o.2 ∙ meter_goes old number o.0 (reopened o.0) o.1)
+  state_steps old new (restart_meter number) is o = (o.0, o.1, ap world_of o.2 ∙ meter_goes old number o.0 (image.restarted o.0) o.1)
+  state_steps old new (stop_restart number calls torn) is o =
+      (o.0, o.1, within_as old new number o.0 o.1 (nat_le (restart_calls o.0) calls) o.2)
   state_steps old new (restart_head number) is o = ap world_of o.2 ∙ rows_change old number o.0 (restarted o.0) o.1 refl
   state_steps old new (turn number) is o = (o.0, o.1, o.2, o.3, ap world_of o.4 ∙ meter_goes old number o.0 o.1 o.2)

@@ -11,7 +11,7 @@ use Rattle.fw_verify.specs.Slices.{slice_size}
 use Rattle.fw_image.specs.declared.status.TransferStatus.TheVariants.{VerificationSuccessful}
 use Rattle.fw_image.specs.Fits.{CellsFit}
 use Rattle.fw_image.specs.Laws.{JoinedSize}
-use Rattle.fw_image.specs.Meter.{Meter, Phase, idle, receiving, verifying, sealed, spoilt, switched, status_of, goal_of, joined, goal_bytes, IsGenuine, reopened, reopened_phase}
+use Rattle.fw_image.specs.Meter.{Meter, Phase, idle, receiving, verifying, sealed, spoilt, switched, status_of, goal_of, joined, goal_bytes, IsGenuine, reopened, reopened_phase, restarted}
 use Rattle.fw_image.specs.Step.{Operation, enable, initiate, block, verify, activate, OperationOutcome, done, refused, verification_initiated, IsOffer, IsBlock, Admits, Serves, begun, with_cell, digested_phase, sealed_phase, spoilt_phase, switched_to, Judges, Does, Step, Turn, TurnsIn}
 use Rattle.fw_image.specs.declared.error.Refusal.{Refusal}
 use Rattle.fw_image.specs.declared.error.Refusal.TheVariants.{Fault, Differs}
@@ -102,7 +102,7 @@ admits_block m (spoilt goal) number value h = elim h [ ]
 admits_block m switched number value h = elim h [ ]
 
 -- each admits just the offers of the meter
-admits_initiate : (m : Meter) (phase : Phase) (name : Name) (size : ℕ) → Admits m phase (initiate name size) → IsOffer m.block_size m.capacity m.running.name.release name size
+admits_initiate : (m : Meter) (phase : Phase) (name : Name) (size : ℕ) → Admits m phase (initiate name size) → IsOffer m.limit m.block_size m.capacity m.running.name.release name size
 admits_initiate m idle name size h = h
 admits_initiate m (receiving goal) name size h = h
 admits_initiate m (verifying goal taken) name size h = h
@@ -277,6 +277,22 @@ module _ (IsFirst : FirstNames) (offered : Offers) (activations : List Activatio
   -- a restart ends a verification that goes on
   pub reopened_safe : (old : Meter) → IsSafeMeter IsFirst offered activations number old → IsSafeMeter IsFirst offered activations number (reopened old)
   reopened_safe old k = phase_safe old (reopened_phase old.phase) (reopened_goal old.phase) (λ e. k.verified (reopened_status old.phase e)) k
+
+  -- and leaves all else but how many blocks an image may have
+  pub restarted_safe : (old : Meter) → IsSafeMeter IsFirst offered activations number old → IsSafeMeter IsFirst offered activations number (restarted old)
+  restarted_safe old k =
+      let kept = reopened_safe old k in record {
+        block_size = kept.block_size;
+        named = kept.named;
+        own = kept.own;
+        running = kept.running;
+        goals = kept.goals;
+        aimed = kept.aimed;
+        newest = kept.newest;
+        risen = kept.risen;
+        cells = kept.cells;
+        verified = kept.verified;
+      }
 
   -- the goal's bytes are judged
   judges_safe : (old new : Meter) (genuine : Bool) → Judges true old genuine new → IsSafeMeter IsFirst offered activations number old → IsSafeMeter IsFirst offered activations number new

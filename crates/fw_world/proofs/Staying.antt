@@ -7,7 +7,7 @@ use Rattle.fw_head.specs.Head.{Head, sends_to}
 use Rattle.fw_world.specs.declared.datagram.Direction.{Direction}
 use Rattle.fw_world.specs.declared.datagram.Direction.TheVariants.{ToMeter, ToHead}
 use Rattle.fw_world.specs.World.{Datagram, Activation}
-use Rattle.fw_world.specs.Step.{Event, open_campaign, cancel_campaign, tick, deliver, stop, restart_meter, restart_head, turn, replies}
+use Rattle.fw_world.specs.Step.{Event, open_campaign, cancel_campaign, tick, deliver, stop, restart_meter, stop_restart, restart_head, turn, replies}
 use Rattle.fw_world.specs.State.{State, head_at, meter_at, set_head, IsAddressed, AreAddressed, sent_to, StateStep, DeliversAt}
 use Rattle.fw_world.specs.Laws.{ActorsStay, SentStaysAddressed}
 use Rattle.fw_world.proofs.Events.{at_number}
@@ -55,6 +55,7 @@ actors_stay old new (deliver number) o = delivery_stays old new o.0 o.0.directio
 actors_stay old new (stop number calls torn) o =
     let s = o.3 in meter_goes old new o.0.meter _ (ap (λ (s : State). s.heads) s.new_is) (ap (λ (s : State). s.meters) s.new_is)
 actors_stay old new (restart_meter number) o = meter_goes old new number _ (ap (λ (s : State). s.heads) o.2) (ap (λ (s : State). s.meters) o.2)
+actors_stay old new (stop_restart number calls torn) o = meter_goes old new number _ (ap (λ (s : State). s.heads) o.2) (ap (λ (s : State). s.meters) o.2)
 actors_stay old new (restart_head number) o = head_goes old new number _ old.sent o.2
 actors_stay old new (turn number) o = meter_goes old new number _ (ap (λ (s : State). s.heads) o.4) (ap (λ (s : State). s.meters) o.4)
 
@@ -98,5 +99,6 @@ sent_addressed old new event o addressed = go event o (actors_stay old new event
     go (deliver number) o stays kept = delivery_addressed old new o.0 o.0.direction o.2 kept (at_number (IsAddressed new) old.sent number o.0 kept o.1)
     go (stop number calls torn) o stays kept = let s = o.3 in none_sent old new (ap (λ (s : State). s.sent) s.new_is) kept
     go (restart_meter number) o stays kept = none_sent old new (ap (λ (s : State). s.sent) o.2) kept
+    go (stop_restart number calls torn) o stays kept = none_sent old new (ap (λ (s : State). s.sent) o.2) kept
     go (restart_head number) o stays kept = none_sent old new (ap (λ (s : State). s.sent) o.2) kept
     go (turn number) o stays kept = none_sent old new (ap (λ (s : State). s.sent) o.4) kept

@@ -11,7 +11,7 @@ use Rattle.fw_world.specs.declared.datagram.Direction.TheVariants.{ToMeter, ToHe
 use Rattle.fw_world.specs.declared.error.StepError.{StepError}
 use Rattle.fw_world.specs.declared.error.StepError.TheVariants.{NoSuchDatagram, NoSuchActor, Book, OutOfMemory}
 use Rattle.fw_world.specs.World.{Datagram}
-use Rattle.fw_world.specs.Step.{Event, open_campaign, cancel_campaign, tick, deliver, stop, restart_meter, restart_head, turn}
+use Rattle.fw_world.specs.Step.{Event, open_campaign, cancel_campaign, tick, deliver, stop, restart_meter, stop_restart, restart_head, turn}
 use Rattle.fw_world.specs.State.{State, head_at, meter_at}
 
 -- what an event is refused for that a book refuses
@@ -54,6 +54,7 @@ refusal_of s (tick head meter) = with_head (head_at s head) (λ head. with_meter
 refusal_of s (deliver number) = with_datagram (slice_get s.sent number) (λ d. no_addressee s d.direction d)
 refusal_of s (stop number calls torn) = with_datagram (slice_get s.sent number) (λ d. no_stop s d.direction d)
 refusal_of s (restart_meter number) = with_meter (meter_at s number)
+refusal_of s (stop_restart number calls torn) = with_meter (meter_at s number)
 refusal_of s (restart_head number) = with_head (head_at s number) (λ head. None)
 refusal_of s (turn number) = with_meter (meter_at s number)
 

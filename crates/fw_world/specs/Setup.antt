@@ -1,8 +1,10 @@
 -- Public vocabulary: what a world can be made with, and the world that it then is.
-use Rattle.std.specs.Prelude.{◌≡◌, ℕ, ◌≤◌, Bool, false, ◌==◌, ◌||◌, List, [], ◌∷◌, map, length, All}
+use Rattle.std.specs.Prelude.{◌≡◌, ℕ, ◌≤◌, Bool, false, if◌then◌else◌, ◌==◌, ◌||◌, List, [], ◌∷◌, map, length, All}
 use Rattle.std.specs.List.{list_any}
 use Rattle.fw_blocks.specs.Width.{IsWidth}
 use Rattle.fw_store.specs.Setup as store
+use Rattle.fw_store.specs.declared.version.HeaderVersion.{HeaderVersion}
+use Rattle.fw_store.specs.declared.version.HeaderVersion.TheVariants.{One, Two}
 use Rattle.fw_image.specs.Fresh.{fresh_meter}
 use Rattle.fw_head.specs.Head.{Head, new_head}
 use Rattle.fw_image.specs.Meter.{Meter}
@@ -33,9 +35,13 @@ max_meters = 256
 abbrev pub HasWidth : HeadSetup → Type 0
 HasWidth head = IsWidth head.width
 
+-- the version of the header that the meter's store is made with: an old one has version 1
+abbrev pub version_of : MeterSetup → HeaderVersion
+version_of meter = if meter.old then One else Two
+
 -- a store can be made for the meter
 abbrev pub IsStored : MeterSetup → Type 0
-IsStored meter = store.IsSetup meter.block_size meter.capacity meter.factory.items
+IsStored meter = store.IsSetup (version_of meter) meter.block_size meter.capacity meter.factory.items
 
 -- what a world can be made with
 pub record IsSetup (setup : Setup) : Type 0 where
@@ -54,7 +60,7 @@ abbrev pub head_of : HeadSetup → Head
 head_of head = new_head head.head head.width
 
 abbrev pub meter_of : MeterSetup → Meter
-meter_of meter = fresh_meter meter.block_size meter.capacity meter.factory.items
+meter_of meter = fresh_meter (version_of meter) meter.block_size meter.capacity meter.factory.items
 
 -- each behind its number
 abbrev pub head_entry : HeadSetup → ℕ × Head

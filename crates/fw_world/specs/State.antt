@@ -1,9 +1,11 @@
 -- Public vocabulary: the world as it is kept, with the head ends and their rows, and what each event makes of it.
-use Rattle.std.specs.Prelude.{◌≡◌, ◌↔◌, ℕ, nat_eq, true, false, Bool, IsTrue, List, ◌++◌, map, is_some, Option, Some, None, slice_get, All}
+use Rattle.std.specs.Prelude.{◌≡◌, ◌↔◌, ℕ, nat_eq, nat_le, if◌then◌else◌, true, false, Bool, IsTrue, List, ◌++◌, map, is_some, Option, Some, None, slice_get, All}
 use Rattle.std.specs.Map.{lookup, set_value}
 use Rattle.std.specs.Option.{option_and_then}
 use Rattle.fw_names.specs.Name.{Campaign, Name, IsOpened}
+use Rattle.fw_image.specs.Meter as image
 use Rattle.fw_image.specs.Meter.{Meter, reopened}
+use Rattle.fw_image.specs.Calls.{restart_calls}
 use Rattle.fw_image.specs.Step.{Turn}
 use Rattle.fw_book.specs.declared.row.RowState.{RowState}
 use Rattle.fw_book.specs.declared.row.RowState.TheVariants as states
@@ -17,7 +19,7 @@ use Rattle.fw_meter.specs.Laws.{Stops}
 use Rattle.fw_world.specs.declared.datagram.Direction.{Direction}
 use Rattle.fw_world.specs.declared.datagram.Direction.TheVariants.{ToMeter, ToHead}
 use Rattle.fw_world.specs.World.{Datagram, Activation, World}
-use Rattle.fw_world.specs.Step.{Event, open_campaign, cancel_campaign, tick, deliver, stop, restart_meter, restart_head, turn, replies, activated, RunBy}
+use Rattle.fw_world.specs.Step.{Event, open_campaign, cancel_campaign, tick, deliver, stop, restart_meter, stop_restart, restart_head, turn, replies, activated, RunBy}
 
 pub record State : Type 0 where
   -- each head end behind its number, and each meter behind its own, in the order of the setup
@@ -126,7 +128,11 @@ pub record StopsIn (old : State) (d : Datagram) (new : State) : Type 0 where
   pub name : Option Name
   pub there : meter_at old d.meter ≡ Some before
   pub stops : Stops before d.bytes name after
-  pub new_is : new ≡ record (set_meter old d.meter (reopened after)) { activations = old.activations ++ activated d.meter name after }
+  pub new_is : new ≡ record (set_meter old d.meter (image.restarted after)) { activations = old.activations ++ activated d.meter name after }
+
+-- a meter that stops after `calls` calls of its store while it restarts, and is opened with the header that is there
+abbrev pub restarted_within : ℕ → Meter → Meter
+restarted_within calls m = if nat_le (restart_calls m) calls then image.restarted m else reopened m
 
 abbrev pub StateStep : State → Event → State → Type 0
 StateStep old (open_campaign campaign release image meters) new = OpensAt old campaign release image meters new
@@ -134,7 +140,9 @@ StateStep old (cancel_campaign campaign) new = CancelsAt old campaign new
 StateStep old (tick head meter) new = TicksAt old head meter new
 StateStep old (deliver number) new = (d : Datagram) × (slice_get old.sent number ≡ Some d) × DeliversAt d.direction old d new
 StateStep old (stop number calls torn) new = (d : Datagram) × (slice_get old.sent number ≡ Some d) × (d.direction ≡ ToMeter) × StopsIn old d new
-StateStep old (restart_meter number) new = (meter : Meter) × (meter_at old number ≡ Some meter) × (new ≡ set_meter old number (reopened meter))
+StateStep old (restart_meter number) new = (meter : Meter) × (meter_at old number ≡ Some meter) × (new ≡ set_meter old number (image.restarted meter))
+StateStep old (stop_restart number calls torn) new =
+    (meter : Meter) × (meter_at old number ≡ Some meter) × (new ≡ set_meter old number (restarted_within calls meter))
 StateStep old (restart_head number) new = (head : Head) × (head_at old number ≡ Some head) × (new ≡ set_head old number (restarted head))
 StateStep old (turn number) new =
     (before : Meter) × (after : Meter) × (meter_at old number ≡ Some before) × Turn true before true after × (new ≡ set_meter old number after)

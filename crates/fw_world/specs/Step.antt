@@ -4,7 +4,8 @@ use Rattle.fw_axdr.specs.Value.{octet_string}
 use Rattle.fw_names.specs.Name.{Campaign, Name, IsOpened, IsRelease, SpellsName, name_of}
 use Rattle.fw_apdu.specs.Response.{value, get_response}
 use Rattle.fw_store.specs.Setup.{IsSetup}
-use Rattle.fw_image.specs.Meter.{Meter, reopened}
+use Rattle.fw_store.specs.declared.version.HeaderVersion.{HeaderVersion}
+use Rattle.fw_image.specs.Meter.{Meter, reopened, restarted}
 use Rattle.fw_image.specs.Step.{Turn}
 use Rattle.fw_image.specs.Fresh.{fresh_meter}
 use Rattle.fw_client.specs.Ask.{Ask, initiate, block, request_of, CarriesRequest}
@@ -27,6 +28,8 @@ pub data Event : Type 0 where
   -- and the meter stops after so many calls of its store, with this byte in what it was writing, and restarts
   stop : ℕ → ℕ → ℕ → Event
   restart_meter : ℕ → Event
+  -- a meter restarts and stops in it after so many calls of its store, and is opened again with the header that is there
+  stop_restart : ℕ → ℕ → ℕ → Event
   restart_head : ℕ → Event
   -- a meter goes on with what it verifies
   turn : ℕ → Event
@@ -101,14 +104,14 @@ Delivers ToHead old d new = (new ≡ old) ⊎ Marks old d new
 -- ---- stops
 
 -- A meter stops while it handles a datagram, and restarts: its reply is lost. What a stop leaves is the meter as it was, or as it was but
--- for a block that was being written, or as it is without the stop; and no verification goes on. An image that it switched to is noted.
+-- for a block that was being written, or as it is without the stop; then it restarts. An image that it switched to is noted.
 pub record StopsAt (old : World) (d : Datagram) (new : World) : Type 0 where
   pub before : Meter
   pub after : Meter
   pub name : Option Name
   pub there : old.meters d.meter ≡ Some before
   pub stops : Stops before d.bytes name after
-  pub new_is : new ≡ record (with_meter old d.meter (reopened after)) { activations = old.activations ++ activated d.meter name after }
+  pub new_is : new ≡ record (with_meter old d.meter (restarted after)) { activations = old.activations ++ activated d.meter name after }
 
 -- ---- the step
 
@@ -120,7 +123,9 @@ WorldStep old (tick head meter) new =
     (sends : List Datagram) × All (Permits old.offered head meter) sends × (new ≡ record old { sent = old.sent ++ sends })
 WorldStep old (deliver number) new = (d : Datagram) × (slice_get old.sent number ≡ Some d) × Delivers d.direction old d new
 WorldStep old (stop number calls torn) new = (d : Datagram) × (slice_get old.sent number ≡ Some d) × (d.direction ≡ ToMeter) × StopsAt old d new
-WorldStep old (restart_meter number) new = (meter : Meter) × (old.meters number ≡ Some meter) × (new ≡ with_meter old number (reopened meter))
+WorldStep old (restart_meter number) new = (meter : Meter) × (old.meters number ≡ Some meter) × (new ≡ with_meter old number (restarted meter))
+WorldStep old (stop_restart number calls torn) new =
+    (meter : Meter) × (old.meters number ≡ Some meter) × ((new ≡ with_meter old number (restarted meter)) ⊎ (new ≡ with_meter old number (reopened meter)))
 WorldStep old (restart_head head) new = new ≡ old
 WorldStep old (turn number) new =
     (before : Meter) × (after : Meter) × (old.meters number ≡ Some before) × Turn true before true after × (new ≡ with_meter old number after)
@@ -132,7 +137,8 @@ pub record IsOpening (w : World) : Type 0 where
   pub offered : (campaign : Campaign) → w.offered campaign ≡ None
   pub sent : w.sent ≡ []
   pub meters : (number : ℕ) (meter : Meter) → w.meters number ≡ Some meter
-      → (block_size capacity : ℕ) × (factory : List ℕ) × IsSetup block_size capacity factory × (meter ≡ fresh_meter block_size capacity factory)
+      → (version : HeaderVersion) × (block_size capacity : ℕ) × (factory : List ℕ) × IsSetup version block_size capacity factory
+      × (meter ≡ fresh_meter version block_size capacity factory)
   pub activations : w.activations ≡ []
   pub done : (campaign : Campaign) (meter : ℕ) → w.done campaign meter ≡ false
 

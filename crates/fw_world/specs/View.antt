@@ -7,7 +7,7 @@ use Rattle.fw_world.specs.declared.datagram.Direction.TheVariants.{ToMeter, ToHe
 use Rattle.fw_world.specs.declared.event.Event.{Event as Given}
 use Rattle.fw_world.specs.declared.event.Event.TheVariants as given
 use Rattle.fw_world.specs.World.{Datagram}
-use Rattle.fw_world.specs.Step.{Event, open_campaign, cancel_campaign, tick, deliver, stop, restart_meter, restart_head, turn}
+use Rattle.fw_world.specs.Step.{Event, open_campaign, cancel_campaign, tick, deliver, stop, restart_meter, stop_restart, restart_head, turn}
 
 -- a datagram goes from the one end of its link to the other
 abbrev pub sent_by : Direction → ℕ → ℕ → Actor
@@ -32,5 +32,6 @@ event_of (given.Tick head meter) = tick head meter
 event_of (given.Deliver datagram) = deliver datagram
 event_of (given.Stop datagram calls torn) = stop datagram calls torn
 event_of (given.RestartMeter meter) = restart_meter meter
+event_of (given.StopRestart meter calls torn) = stop_restart meter calls torn
 event_of (given.RestartHead head) = restart_head head
 event_of (given.Turn meter) = turn meter

@@ -31,6 +31,12 @@ pub enum Event {
     },
     /// A meter starts again.
     RestartMeter(MeterId),
+    /// A meter starts again and stops in it after `calls` calls of its store; then it is opened with the header that is there.
+    StopRestart {
+        meter: MeterId,
+        calls: u64,
+        torn: u8,
+    },
     /// A head end starts again.
     RestartHead(HeadId),
     /// A meter goes on with what it verifies.
@@ -66,6 +72,11 @@ impl Clone for Event {
                 torn: *torn,
             },
             Event::RestartMeter(meter) => Event::RestartMeter(*meter),
+            Event::StopRestart { meter, calls, torn } => Event::StopRestart {
+                meter: *meter,
+                calls: *calls,
+                torn: *torn,
+            },
             Event::RestartHead(head) => Event::RestartHead(*head),
             Event::Turn(meter) => Event::Turn(*meter),
         })

@@ -39,7 +39,13 @@ pub(crate) fn meters_of(alloc: Global, meters: &[MeterSetup]) -> Result<Meters, 
 {
     let mut made = Vec::with_capacity(alloc, meters.len())?;
     for meter in meters {
-        let seat = Seat::new(alloc, meter.block_size, meter.capacity, &meter.factory)?;
+        let seat = Seat::new(
+            alloc,
+            meter.version(),
+            meter.block_size,
+            meter.capacity,
+            &meter.factory,
+        )?;
         if made.push(NumberedMeter::seated(meter.meter, seat)).is_err() {
             return Err(SetupError::OutOfMemory);
         }

@@ -1,19 +1,23 @@
 //! The meters of a world, which stop and start again.
 
-ghost use Rattle.std.specs.Prelude.{◌≡◌, true, IsTrue, IsErrOf, IfSome, IfOk, OnOk, OnErr, length};
+ghost use Rattle.std.specs.Prelude.{◌≡◌, true, None, IsTrue, IsErrOf, IfSome, IfOk, OnOk, OnErr, length};
 ghost use Rattle.fw_image.specs.Fits.{IsFit};
 ghost use Rattle.fw_image.specs.Fresh.{fresh_meter};
-ghost use Rattle.fw_image.specs.Meter.{Meter, reopened, IsTrusted};
+ghost use Rattle.fw_image.specs.Meter.{Meter, restarted, IsTrusted};
 ghost use Rattle.fw_image.specs.Step.{Turn};
+ghost use Rattle.fw_store.specs.Fresh.{fresh_device};
+ghost use Rattle.fw_store.specs.Memory.{device_of, capacity_of, fuse_of};
 ghost use Rattle.fw_store.specs.Setup.{IsSetup};
+ghost use Rattle.fw_store.specs.declared.error.SetupError.TheVariants as not_made;
 ghost use Rattle.fw_meter.specs.Handling.{Handles, reply_bytes};
 ghost use Rattle.fw_meter.specs.Laws.{Stops};
+ghost use Rattle.fw_world.specs.State.{restarted_within};
 ghost use Rattle.fw_world.specs.Inside.{IsSound, HasRoom, IsRunning, switched_name};
 
 use crate::error::SetupError;
 use fw_meter::{MeterCore, OutOfMemory};
 use fw_names::ImageName;
-use fw_store::MemoryStore;
+use fw_store::{HeaderVersion, MemoryStore};
 use std::alloc::Global;
 use std::marker::Model;
 
@@ -63,24 +67,25 @@ impl Model for Seat {
 }
 
 impl Seat {
-    /// A new meter, which runs its factory image.
+    /// A new meter, which runs its factory image, over a store with a header of this version, which is kept.
     pub(crate) fn new(
         alloc: Global,
+        version: HeaderVersion,
         block_size: u32,
         capacity: u32,
         factory: &[u8],
     ) -> Result<Seat, SetupError>
-        ensures fresh { IfOk result (λ meter. meter ≡ fresh_meter block_size capacity factory.now) }
-        ensures setup { OnOk result (IsSetup block_size capacity factory.now) }
-        ensures bad_setup { IsErrOf result SetupError.BadSetup → ¬ IsSetup block_size capacity factory.now }
+        ensures fresh { IfOk result (λ meter. meter ≡ fresh_meter version block_size capacity factory.now) }
+        ensures setup { OnOk result (IsSetup version block_size capacity factory.now) }
+        ensures bad_setup { IsErrOf result SetupError.BadSetup → ¬ IsSetup version block_size capacity factory.now }
     {
         fw_image::laws::fresh_is_meter();
-        let store = match MemoryStore::new(alloc, capacity, block_size, factory) {
+        let store = match new_store(alloc, version, capacity, block_size, factory) {
             Ok(store) => store,
             Err(fw_store::SetupError::BadSetup) => return Err(SetupError::BadSetup),
             Err(fw_store::SetupError::OutOfMemory) => return Err(SetupError::OutOfMemory),
         };
-        match MeterCore::open_store(store) {
+        match MeterCore::open_kept(store) {
             Ok(core) => Ok(Seat { core: Some(core) }),
             Err(_) => unreachable!(),
         }
@@ -151,7 +156,7 @@ impl Seat {
 
     /// Starts again.
     pub(crate) fn restart(&mut self)
-        ensures { self.new ≡ reopened self.old }
+        ensures { self.new ≡ restarted self.old }
     {
         let Some(core) = self.core.take() else {
             unreachable!()
@@ -159,6 +164,30 @@ impl Seat {
         match core.restart() {
             Ok(core) => self.core = Some(core),
             Err(_) => unreachable!(),
+        }
+    }
+
+    /// Starts again and stops in it, once its store was called so often, and is opened with the header that is there.
+    pub(crate) fn stop_restart(&mut self, calls: u64, torn: u8)
+        ensures { self.new ≡ restarted_within calls self.old }
+    {
+        fw_image::laws::one_meter();
+        let Some(mut core) = self.core.take() else {
+            unreachable!()
+        };
+        core.fuse(calls, torn);
+        match core.restart() {
+            Ok(mut core) => {
+                core.unfuse();
+                self.core = Some(core);
+            }
+            Err((_, mut store)) => {
+                store.unfuse();
+                match MeterCore::open_kept(store) {
+                    Ok(core) => self.core = Some(core),
+                    Err(_) => unreachable!(),
+                }
+            }
         }
     }
 
@@ -172,7 +201,7 @@ impl Seat {
         torn: u8,
     ) -> Result<Option<Switched>, OutOfMemory>
         ensures stopped { IfOk result (λ switched. (after : Meter) × Stops self.old datagram.now (switched_name switched) after
-            × (self.new ≡ reopened after)) }
+            × (self.new ≡ restarted after)) }
         ensures switched { IfOk result (λ switched. IsRunning switched self.new) }
         ensures same { OnErr result (self.new ≡ self.old) }
     {
@@ -205,6 +234,26 @@ impl Seat {
             }
             None => unreachable!(),
         }
+    }
+}
+
+/// A new store with a header of this version.
+fn new_store(
+    alloc: Global,
+    version: HeaderVersion,
+    capacity: u32,
+    block_size: u32,
+    factory: &[u8],
+) -> Result<MemoryStore, fw_store::SetupError>
+    ensures fresh { IfOk result (λ m. device_of m ≡ fresh_device version block_size capacity factory.now) }
+    ensures size { IfOk result (λ m. capacity_of m ≡ capacity) }
+    ensures unfused { IfOk result (λ m. fuse_of m ≡ None) }
+    ensures setup { OnOk result (IsSetup version block_size capacity factory.now) }
+    ensures bad_setup { IsErrOf result not_made.BadSetup → ¬ IsSetup version block_size capacity factory.now }
+{
+    match version {
+        HeaderVersion::One => MemoryStore::new_old(alloc, capacity, block_size, factory),
+        HeaderVersion::Two => MemoryStore::new(alloc, capacity, block_size, factory),
     }
 }
 

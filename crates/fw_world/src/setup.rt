@@ -3,11 +3,11 @@
 ghost use Rattle.std.specs.Prelude.{◌≡◌, ◌↔◌, ◌==◌, IsTrue, SomeIff};
 ghost use Rattle.std.specs.List.{list_any};
 ghost use Rattle.fw_blocks.specs.Width.{IsWidth};
-ghost use Rattle.fw_world.specs.Setup.{IsSetup, number_of_head, number_of_meter, repeats};
+ghost use Rattle.fw_world.specs.Setup.{IsSetup, IsStored, number_of_head, number_of_meter, repeats, version_of};
 
 use fw_blocks::Width;
 use fw_names::{HeadId, MeterId};
-use fw_store::is_setup;
+use fw_store::{HeaderVersion, is_setup};
 
 /// The most head ends of a world.
 pub const MAX_HEADS: usize = 16;
@@ -31,10 +31,37 @@ pub struct MeterSetup {
     pub meter: MeterId,
     /// The bytes of a block, 1 to 1,024.
     pub block_size: u32,
-    /// The bytes of a slot of its store, 1 to 4,194,304.
+    /// The bytes of a slot of its store, 1 to 16,777,216, and of an old one 1 to 4,194,304.
     pub capacity: u32,
     /// The image that it is made with, of 1 to `capacity` bytes.
     pub factory: Vec<u8>,
+    /// Whether its store is an old one, with a header of version 1, until it starts again.
+    pub old: bool,
+}
+
+impl MeterSetup {
+    /// The version of the header that its store is made with.
+    pub(crate) fn version(&self) -> HeaderVersion
+        ensures { result ≡ version_of self.now }
+    {
+        if self.old {
+            HeaderVersion::One
+        } else {
+            HeaderVersion::Two
+        }
+    }
+
+    /// Whether a store can be made for it.
+    fn is_stored(&self) -> bool
+        ensures { IsTrue result ↔ IsStored self.now }
+    {
+        is_setup(
+            self.version(),
+            self.capacity,
+            self.block_size,
+            &self.factory,
+        )
+    }
 }
 
 /// What a world is made with: 1 to 16 head ends and 1 to 256 meters, in their order. The numbers of the head ends are distinct,
@@ -57,7 +84,7 @@ impl Setup {
             && heads.iter().all(|head| width_of(head.width).is_some())
             && !heads_repeat(heads)
             && !meters_repeat(meters)
-            && meters.iter().all(|meter| is_setup(meter.capacity, meter.block_size, &meter.factory))
+            && meters.iter().all(|meter| meter.is_stored())
     }
 }
 

@@ -65,6 +65,7 @@ impl World {
       deliver,
       stop,
       restart_meter,
+      stop_restart,
       restart_head,
       turn,
     };
@@ -139,6 +140,7 @@ impl World {
                 torn,
             } => self.stop(alloc, *datagram, *calls, *torn),
             Event::RestartMeter(meter) => self.restart_meter(*meter),
+            Event::StopRestart { meter, calls, torn } => self.stop_restart(*meter, *calls, *torn),
             Event::RestartHead(head) => self.restart_head(*head),
             Event::Turn(meter) => self.turn(*meter),
         }
@@ -301,6 +303,20 @@ impl World {
             return Err(StepError::NoSuchActor);
         };
         seat.restart();
+        Ok(())
+    }
+
+    /// A meter starts again and stops in it.
+    fn stop_restart(&mut self, meter: MeterId, calls: u64, torn: u8) -> Result<(), StepError>
+        ensures stepped { OnOk result (StateStep self.old (stop_restart meter calls torn) self.new) }
+        ensures admitted { OnOk result (refusal_of self.old (stop_restart meter calls torn) ≡ None) }
+        ensures refused { IfErr result (IsRefused self.old (stop_restart meter calls torn)) }
+        ensures same { OnErr result (self.new ≡ self.old) }
+    {
+        let Some(seat) = self.meters.get_mut(meter.number()) else {
+            return Err(StepError::NoSuchActor);
+        };
+        seat.stop_restart(calls, torn);
         Ok(())
     }
 

@@ -8,7 +8,7 @@ use Rattle.fw_wrapper.specs.declared.error.WrapError.TheVariants.{Short, Version
 
 -- the longest APDU that either end takes, in bytes
 abbrev pub max_apdu : ℕ
-max_apdu = 1280
+max_apdu = 2304
 
 -- the datagram that carries an APDU between two wPorts
 abbrev pub wrapped : ℕ → ℕ → List ℕ → List ℕ

@@ -8,10 +8,13 @@ use crate::error::WrapError;
 use std::alloc::Global;
 
 /// The longest APDU that either end takes, in bytes.
-pub const MAX_APDU: usize = 1280;
+pub const MAX_APDU: usize = 2304;
 
 /// The version that every header has.
 const VERSION: u16 = 1;
+
+/// The bytes of a header.
+const HEADER_SIZE: usize = 8;
 
 /// What a datagram carries: an APDU, and the wPorts that it goes between.
 #[derive(Clone, Copy, Debug)]
@@ -68,7 +71,7 @@ pub fn join(alloc: Global, source: u16, dest: u16, apdu: &[u8]) -> Result<Vec<u8
     if apdu.len() > MAX_APDU {
         return Err(WrapError::TooLong);
     }
-    let mut datagram = Vec::new(alloc);
+    let mut datagram = Vec::with_capacity(alloc, HEADER_SIZE + apdu.len())?;
     datagram.extend_from_slice(&VERSION.to_be_bytes())?;
     datagram.extend_from_slice(&source.to_be_bytes())?;
     datagram.extend_from_slice(&dest.to_be_bytes())?;

@@ -57,6 +57,19 @@ const BLOCKS: &[(Step, &str)] = &[
         Step::Hear("0001000100010007c401c20004037f"),
         "BitSet(Bits { bytes: [96], len: 3 })",
     ),
+    (
+        Step::Ask(Wish::Blocks),
+        "000100010001000dc001c3001200002c0000ff0300",
+    ),
+    // those of 16,384 blocks, the most; and a byte of them is missing
+    (
+        Step::HearMost("0001000100010808c401c30004824008"),
+        "Stranger",
+    ),
+    (
+        Step::HearMost("0001000100010808c401c30004824000"),
+        "16384 bits, 2048 bytes, true",
+    ),
 ];
 
 const STATUS: &[(Step, &str)] = &[

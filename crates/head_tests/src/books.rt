@@ -338,10 +338,10 @@ fn joined(alloc: Global, parts: &[&[u8]]) -> Result<Vec<u8>, AllocError> {
     Ok(bytes)
 }
 
-/// The most bytes of an image, and the most meters.
+/// A long image and the most meters, a byte more than an image can have, and a meter more.
 const LIMITS: &[(Ended, &str)] = &[
-    (Ended(4_194_304, 256), "true"),
-    (Ended(4_194_305, 1), "false"),
+    (Ended(4_194_305, 256), "true"),
+    (Ended(16_777_217, 1), "false"),
     (Ended(1, 257), "false"),
 ];
 
@@ -402,8 +402,7 @@ const READ_BACK: &[(ReadBack, &str)] = &[
     (ReadBack(65_535, 1), "65562 bytes, true, true"),
     (ReadBack(65_536, 1), "65563 bytes, true, true"),
     (ReadBack(131_072, 256), "132374 bytes, true, true"),
-    // the largest of all
-    (ReadBack(4_194_304, 256), "4195606 bytes, true, true"),
+    (ReadBack(4_194_305, 256), "4195607 bytes, true, true"),
 ];
 
 #[test]

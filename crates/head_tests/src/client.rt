@@ -70,6 +70,9 @@ pub(crate) enum Step {
     Largest(u32),
     /// It hears a datagram: what is heard.
     Hear(&'static str),
+    /// It hears a datagram that begins so, and has 2,048 bytes 5a after that: how many bits are heard, in how many bytes, and whether
+    /// each of these is 5a.
+    HearMost(&'static str),
     /// It drops what is outstanding.
     Forget,
     /// Whose client it is: the meter's number.
@@ -85,6 +88,7 @@ impl Takes<Step> for Client {
                 let heard = self.hear(alloc, &hex::decode(alloc, datagram)?)?;
                 heard_text(alloc, &heard)
             }
+            Step::HearMost(begin) => most(alloc, self, begin),
             Step::Forget => {
                 self.forget();
                 Ok(String::new(alloc))
@@ -122,6 +126,19 @@ fn largest(alloc: Global, client: &mut Client, number: u32) -> Result<String, Fa
     let front = hex::encode(alloc, bytes.get(..33).unwrap_or(&[]))?;
     let last = bytes.last().copied().unwrap_or(0);
     Ok(format!(in alloc; "{} {front} {last:02x}", bytes.len())?)
+}
+
+fn most(alloc: Global, client: &mut Client, begin: &str) -> Result<String, Fail> {
+    let mut datagram = hex::decode(alloc, begin)?;
+    datagram.extend_from_slice(&[0x5a; 2048])?;
+    Ok(match client.hear(alloc, &datagram)? {
+        Heard::BitSet(bits) => {
+            let bytes = bits.as_bytes();
+            let all = bytes.iter().all(|byte| *byte == 0x5a);
+            format!(in alloc; "{} bits, {} bytes, {all}", bits.len(), bytes.len())?
+        }
+        other => heard_text(alloc, &other)?,
+    })
 }
 
 /// The name of `abc` in campaign 1 of head end 7, of this release.

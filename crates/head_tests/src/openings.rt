@@ -128,9 +128,11 @@ fn refusal(alloc: Global, image: &[u8], numbers: &[u32]) -> Result<Option<BookEr
 }
 
 const LIMITS: &[(Sized, &str)] = &[
-    (Sized(4_194_304, 256, 256), "None"),
-    (Sized(4_194_305, 1, 1), "Some(ImageTooLong)"),
-    (Sized(4_194_305, 0, 1), "Some(ImageTooLong)"),
+    (Sized(4_194_305, 256, 256), "None"),
+    // the longest image isn't too long
+    (Sized(16_777_216, 257, 257), "Some(TooManyMeters)"),
+    (Sized(16_777_217, 1, 1), "Some(ImageTooLong)"),
+    (Sized(16_777_217, 0, 1), "Some(ImageTooLong)"),
     (Sized(1, 257, 257), "Some(TooManyMeters)"),
     // too many meters is told before that one of them is named twice
     (Sized(1, 257, 1), "Some(TooManyMeters)"),

@@ -66,6 +66,7 @@ fn setup(alloc: Global, actors: Actors) -> Result<Setup, Refused> {
         block_size: 2,
         capacity: 64,
         factory: b"x".to_vec(alloc)?,
+        old: false,
     })?;
     Ok(Setup { heads, meters })
 }

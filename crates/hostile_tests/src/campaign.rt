@@ -31,6 +31,16 @@ pub(crate) fn meter() -> Result<MeterId, Fail> {
 
 /// What the world is made with.
 pub(crate) fn setup(alloc: Global) -> Result<Setup, Fail> {
+    setup_with(alloc, false)
+}
+
+/// The same with an old meter.
+pub(crate) fn old_setup(alloc: Global) -> Result<Setup, Fail> {
+    setup_with(alloc, true)
+}
+
+/// The same with a meter that is an old one or not.
+fn setup_with(alloc: Global, old: bool) -> Result<Setup, Fail> {
     let mut heads = Vec::new(alloc);
     heads.push(HeadSetup {
         head: head()?,
@@ -42,6 +52,7 @@ pub(crate) fn setup(alloc: Global) -> Result<Setup, Fail> {
         block_size: 2,
         capacity: 64,
         factory: b"x".to_vec(alloc)?,
+        old,
     })?;
     Ok(Setup { heads, meters })
 }

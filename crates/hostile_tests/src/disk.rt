@@ -66,8 +66,8 @@ impl File {
         Ok(())
     }
 
-    /// Writes bytes over those from `at` on, and others over those from `last_at` on, which are added where the file ends before: all of
-    /// them or none.
+    /// Writes bytes over those from `at` on, and others in place of all from `last_at` on, with which the file ends then: all of them or
+    /// none.
     fn put_both(
         &mut self,
         at: u64,
@@ -78,10 +78,7 @@ impl File {
         if !self.has_room(bytes.len().saturating_add(last.len())) {
             return Err(DeviceFault);
         }
-        let end = last_at.saturating_add(last.len() as u64);
-        if (self.bytes.len() as u64) < end {
-            self.set_len(end)?;
-        }
+        self.set_len(last_at.saturating_add(last.len() as u64))?;
         self.put(at, bytes)?;
         self.put(last_at, last)
     }
@@ -168,6 +165,8 @@ impl ByteDevice for OpenFile {
     ghost honest = { λ _. false };
 
     ghost sound = { λ _. false };
+
+    ghost room = { λ _. 0 };
 
     ghost contents = { λ _. [] };
 

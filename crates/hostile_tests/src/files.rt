@@ -1,19 +1,20 @@
-//! Files of stores, cut at each length, and with each byte of what a file begins with turned to each value: such a file is refused by a
-//! name, or the meter is opened as its header says.
+//! Files of stores with a header of either version, cut at each length, and with each byte of what a file begins with turned to each
+//! value: such a file is refused by a name, or the meter is opened as its header says, which is one of version 2 then.
 
 use crate::disk::Disk;
 use crate::support::{expect_tried, failed, opened, replies};
 use fw_image::{MeterView, OpenError};
 use fw_meter::MeterCore;
 use fw_names::ImageName;
-use fw_store::{DeviceStore, FileStoreError, HEADER_SIZE};
+use fw_store::{DeviceStore, FileStoreError, VERSION_TWO_SIZE};
 use std::alloc::Global;
 use std::test::Fail;
 
 /// Where the header of a file begins: behind the capacity.
 const HEADER_AT: usize = 4;
 
-/// How many bytes of it stand there. The last eight, which are releases, stand behind the slots.
+/// How many bytes of it stand there. The others stand behind the slots: eight of releases, and in version 2 the marks of the blocks from
+/// 4,096 on.
 const FRONT_SIZE: usize = 614;
 
 /// Where the first slot begins.
@@ -28,12 +29,15 @@ fn slots_end(bytes: &[u8]) -> Result<usize, Fail> {
     Ok(SLOTS_AT.saturating_add(capacity.saturating_mul(2)))
 }
 
-/// The header in the bytes of a file. In an old one its releases are 0.
-fn header_of(bytes: &[u8]) -> Result<[u8; HEADER_SIZE], Fail> {
+/// The header of version 2 in the bytes of a file.
+fn header_of(bytes: &[u8]) -> Result<[u8; VERSION_TWO_SIZE], Fail> {
     let front = bytes.get(HEADER_AT..SLOTS_AT).ok_or("a header")?;
-    let releases = bytes.get(slots_end(bytes)?..).ok_or("two slots")?;
-    let mut header = [0; HEADER_SIZE];
-    for (to, byte) in header.iter_mut().zip(front.iter().chain(releases)) {
+    let last = bytes.get(slots_end(bytes)?..).ok_or("two slots")?;
+    if FRONT_SIZE.saturating_add(last.len()) != VERSION_TWO_SIZE {
+        return Err("the header of an open meter isn't of version 2".into());
+    }
+    let mut header = [0; VERSION_TWO_SIZE];
+    for (to, byte) in header.iter_mut().zip(front.iter().chain(last)) {
         *to = *byte;
     }
     Ok(header)
@@ -64,18 +68,22 @@ fn goal_bytes(view: &MeterView) -> ([u8; 45], [u8; 4]) {
 }
 
 /// What a meter shows is what the header has in its fields.
-fn shows(view: &MeterView, header: &[u8; HEADER_SIZE]) -> bool {
+fn shows(view: &MeterView, header: &[u8; VERSION_TWO_SIZE]) -> bool {
     let (active, active_release) = name_bytes(view.active);
     let (goal, goal_release) = goal_bytes(view);
-    u8::from(view.enabled) == header[4]
+    let (marked, more_marked) = view.marked.as_slice().split_at(512);
+    &header[..4] == b"FWH2".as_slice()
+        && view.limit == 16_384
+        && u8::from(view.enabled) == header[4]
         && view.status.number() == header[6]
         && u8::from(view.goal.is_some()) == header[7]
         && view.active_size.to_be_bytes().as_slice() == &header[12..16]
         && active.as_slice() == &header[16..57]
         && goal.as_slice() == &header[57..102]
-        && view.marked.as_slice() == &header[102..614]
+        && marked == &header[102..614]
         && active_release.as_slice() == &header[614..618]
-        && goal_release.as_slice() == &header[618..]
+        && goal_release.as_slice() == &header[618..622]
+        && more_marked == &header[622..]
 }
 
 /// What comes of a file.
@@ -115,21 +123,49 @@ fn new_file(alloc: Global, capacity: u32) -> Result<Disk, Fail> {
     Ok(disk)
 }
 
-/// The file of a store of this capacity at each length: no byte, and so on up to one byte more than it has. It is a store at its own
-/// length, and an old one at that without the releases.
-fn each_length(alloc: Global, capacity: u32, size: usize) -> Result<usize, Fail> {
-    let mut bytes = new_file(alloc, capacity)?.bytes(alloc)?;
+/// How much shorter a file is with a header of version 1, and with one that has no releases.
+const SHORTER: &[usize] = &[1_536, 1_544];
+
+/// The first four bytes of the header of a file are made those of version 1.
+fn make_old(bytes: &mut Vec<u8>) {
+    if let Some(byte) = bytes.get_mut(7) {
+        *byte = b'1';
+    }
+}
+
+/// Whether so many bytes of a file are taken for what they are. One of version 2 is a store at its own length, and one of version 1 at
+/// those without what version 2 has more; at the lengths of the other one it begins otherwise.
+fn is_right(outcome: Outcome, old: bool, len: usize, size: usize) -> bool {
+    let is_whole = len == size;
+    let is_shorter = SHORTER.iter().any(|less| len.saturating_add(*less) == size);
+    match outcome {
+        Outcome::Opened => if old { is_shorter } else { is_whole },
+        Outcome::BadHeader => if old { is_whole } else { is_shorter },
+        Outcome::BadFile => !is_whole && !is_shorter,
+        Outcome::BadImage => false,
+    }
+}
+
+/// The file of a store of this capacity at each length: no byte, and so on up to one byte more than it has; once it is a new one, and once
+/// its header begins as one of version 1. What isn't opened stays as it is, and what is, is the file of a new store then.
+fn each_length(alloc: Global, capacity: u32, size: usize, old: bool) -> Result<usize, Fail> {
+    let new = new_file(alloc, capacity)?.bytes(alloc)?;
+    let mut bytes = new.as_slice().to_vec(alloc)?;
     bytes.push(0)?;
+    if old {
+        make_old(&mut bytes);
+    }
     let mut tried = 0usize;
     for len in 0..=size.saturating_add(1) {
         let cut = bytes.get(..len).ok_or("as many bytes")?;
         let disk = Disk::with(alloc, cut)?;
-        let is_right = match judged(alloc, &disk)? {
-            Outcome::Opened => len == size || len.saturating_add(8) == size,
-            Outcome::BadFile => len != size && len.saturating_add(8) != size,
-            Outcome::BadHeader | Outcome::BadImage => false,
+        let outcome = judged(alloc, &disk)?;
+        let left = if matches!(outcome, Outcome::Opened) {
+            new.as_slice()
+        } else {
+            cut
         };
-        if !is_right || !disk.holds(cut) {
+        if !is_right(outcome, old, len, size) || !disk.holds(left) {
             failed(alloc, "the file isn't taken for what it is", len)?;
         }
         tried = tried.saturating_add(1);
@@ -137,13 +173,17 @@ fn each_length(alloc: Global, capacity: u32, size: usize) -> Result<usize, Fail>
     Ok(tried)
 }
 
-/// A file has 4 bytes, a header of 622, and two slots: with slots of one byte 628 in all, and with slots of eight 642. So there are 630
-/// lengths, and 644.
+/// A file has 4 bytes, a header of 2,158, and two slots: with slots of one byte 2,164 in all, and with slots of eight 2,178. So there are
+/// 2,166 lengths, and 2,180.
 #[test]
 fn cut_at_each_length(rt: HostRuntime) -> Result<(), Fail> {
     let alloc = rt.alloc();
-    let tried = each_length(alloc, 1, 628)?.saturating_add(each_length(alloc, 8, 642)?);
-    expect_tried(alloc, tried, 630 + 644)
+    for old in [false, true] {
+        let small = each_length(alloc, 1, 2_164, old)?;
+        let tried = small.saturating_add(each_length(alloc, 8, 2_178, old)?);
+        expect_tried(alloc, tried, 2_166 + 2_180)?;
+    }
+    Ok(())
 }
 
 /// How many files a meter was opened from, and how many were refused.
@@ -181,14 +221,33 @@ impl Count {
     }
 }
 
-/// What comes of the file with one byte turned to each value.
-fn turned(alloc: Global, disk: &Disk, at: usize, count: &mut Count) -> Result<(), Fail> {
-    let whole = *disk.bytes(alloc)?.get(at).ok_or("a byte of the file")?;
+/// What comes of a file with one byte turned to each value.
+fn turned(alloc: Global, file: &[u8], at: usize, count: &mut Count) -> Result<(), Fail> {
     for value in 0..=255u8 {
+        let disk = Disk::with(alloc, file)?;
         disk.set(at, value);
-        count.note(judged(alloc, disk)?);
+        count.note(judged(alloc, &disk)?);
     }
-    disk.set(at, whole);
+    Ok(())
+}
+
+/// What comes of a file with one bit of a byte turned.
+fn bits_turned(alloc: Global, file: &[u8], at: usize, count: &mut Count) -> Result<(), Fail> {
+    let whole = *file.get(at).ok_or("a byte of the file")?;
+    for bit in 0..8u32 {
+        let disk = Disk::with(alloc, file)?;
+        disk.set(at, whole ^ (1 << bit));
+        count.note(judged(alloc, &disk)?);
+    }
+    Ok(())
+}
+
+fn expect(alloc: Global, count: Count, want: Count) -> Result<(), Fail> {
+    expect_tried(alloc, count.all(), want.all())?;
+    if count != want {
+        let told = format!(in alloc; "{count:?} in place of {want:?}")?;
+        return Err(Fail::from(told));
+    }
     Ok(())
 }
 
@@ -200,36 +259,67 @@ const TO_RECEIVING: &[&str] = &[
 ];
 
 /// The file of a meter that runs `x` and receives `abc`, of which the second block is there, with eight bytes a slot.
-fn receiving(alloc: Global) -> Result<Disk, Fail> {
+fn receiving(alloc: Global) -> Result<Vec<u8>, Fail> {
     let disk = new_file(alloc, 8)?;
     let mut meter = opened(DeviceStore::reopen_on(disk.open()?)?)?;
     replies(alloc, &mut meter, TO_RECEIVING)?;
-    Ok(disk)
+    disk.bytes(alloc)
 }
 
-/// Of each of the 626 bytes that are none of the slots the value that it has opens the meter. Beside these a store can have: not enabled;
-/// a block size of 1; a goal of 4 to 8 bytes, which has a second block too; a goal in another campaign, whose two numbers are any but 0,
-/// with another digest, of any release, and with each other choice of its two marks. The image that runs isn't the name's in the other
-/// slot, with 2 to 8 bytes, or under another digest. With another capacity the file has another length than its store; with twelve bytes
-/// a slot it is an old one.
+/// Of each of the 626 bytes that stand before the slots or are releases the value that it has opens the meter. Beside these a store can
+/// have: not enabled; a block size of 1; a goal of 4 to 8 bytes, which has a second block too; a goal in another campaign, whose two
+/// numbers are any but 0, with another digest, of any release, and with each other choice of its two marks. The image that runs isn't the
+/// name's in the other slot, with 2 to 8 bytes, or under another digest. With another capacity the file has another length than its store;
+/// with 776 bytes a slot it has that of one of version 1, as which it doesn't begin.
 #[test]
 fn each_byte_turned(rt: HostRuntime) -> Result<(), Fail> {
     let alloc = rt.alloc();
-    let disk = receiving(alloc)?;
+    let file = receiving(alloc)?;
     let mut count = Count::NONE;
     for at in (0..SLOTS_AT).chain(634..642) {
-        turned(alloc, &disk, at, &mut count)?;
+        turned(alloc, &file, at, &mut count)?;
     }
-    expect_tried(alloc, count.all(), 626 * 256)?;
+    let want = Count {
+        opened: 626 + 1 + 1 + 5 + 2 * (3 * 255 + 254) + 32 * 255 + 4 * 255 + 3,
+        bad_file: 4 * 255 - 1,
+        bad_header: 626 * 256 - 11_854 - 1_019 - 8_168,
+        bad_image: 1 + 7 + 32 * 255,
+    };
+    expect(alloc, count, want)
+}
+
+/// The 1,536 bytes after the releases are marks of blocks that the goal hasn't.
+#[test]
+fn each_bit_of_the_further_marks_turned(rt: HostRuntime) -> Result<(), Fail> {
+    let alloc = rt.alloc();
+    let file = receiving(alloc)?;
+    let mut count = Count::NONE;
+    for at in 642..file.len() {
+        bits_turned(alloc, &file, at, &mut count)?;
+    }
+    let want = Count {
+        bad_header: 1_536 * 8,
+        ..Count::NONE
+    };
+    expect(alloc, count, want)
+}
+
+/// The same file with a header of version 1, as the first one here. With twelve bytes a slot it is one without releases.
+#[test]
+fn each_byte_of_an_old_file_turned(rt: HostRuntime) -> Result<(), Fail> {
+    let alloc = rt.alloc();
+    let mut file = receiving(alloc)?;
+    file.truncate(642);
+    make_old(&mut file);
+    let mut count = Count::NONE;
+    for at in (0..SLOTS_AT).chain(634..642) {
+        turned(alloc, &file, at, &mut count)?;
+    }
     let want = Count {
         opened: 626 + 1 + 1 + 5 + 2 * (3 * 255 + 254) + 32 * 255 + 4 * 255 + 3 + 1,
         bad_file: 4 * 255 - 1,
         bad_header: 626 * 256 - 11_855 - 1_019 - 8_168,
         bad_image: 1 + 7 + 32 * 255,
     };
-    if count != want {
-        let told = format!(in alloc; "{count:?} in place of {want:?}")?;
-        return Err(Fail::from(told));
-    }
-    Ok(())
+    expect(alloc, count, want)
 }

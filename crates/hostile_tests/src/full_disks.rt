@@ -4,6 +4,8 @@
 
 use crate::disk::{Disk, Takes};
 use crate::support::{self, expect_tried, failed, opened};
+use fw_image::OpenError;
+use fw_meter::MeterCore;
 use fw_store::{DeviceStore, FileStoreError};
 use std::alloc::Global;
 use std::ops::Range;
@@ -17,7 +19,7 @@ struct Operation {
     done: &'static str,
     /// Where in the file the block is that it writes.
     block: Range<usize>,
-    /// How many bytes it writes: those of the block, and the 622 of a header.
+    /// How many bytes it writes: those of the block, and the 2,158 of a header.
     writes: usize,
 }
 
@@ -38,21 +40,21 @@ const CAMPAIGN: &[Operation] = &[
         fault: SET_FAULT,
         done: SET_DONE,
         block: 0..0,
-        writes: 622,
+        writes: 2_158,
     },
     Operation {
         asks: "000100010001003fc301c1001200002c0000ff010102020929010000000700000001ba7816bf8f01cfea414140de5dae2223b00361a396177a9cb410ff61f20015ad0600000003",
         fault: FAULT,
         done: DONE,
         block: 0..0,
-        writes: 622,
+        writes: 2_158,
     },
     Operation {
         asks: "0001000100010018c301c1001200002c0000ff02010202060000000009027a7a",
         fault: FAULT,
         done: DONE,
         block: 626..628,
-        writes: 624,
+        writes: 2_160,
     },
     Operation {
         asks: "0001000100010018c301c1001200002c0000ff02010202060000000009026162",
@@ -66,21 +68,21 @@ const CAMPAIGN: &[Operation] = &[
         fault: FAULT,
         done: DONE,
         block: 628..629,
-        writes: 623,
+        writes: 2_159,
     },
     Operation {
         asks: "000100010001000fc301c1001200002c0000ff03010f00",
         fault: FAULT,
         done: DONE,
         block: 0..0,
-        writes: 622,
+        writes: 2_158,
     },
     Operation {
         asks: "000100010001000fc301c1001200002c0000ff04010f00",
         fault: FAULT,
         done: DONE,
         block: 0..0,
-        writes: 622,
+        writes: 2_158,
     },
 ];
 
@@ -190,7 +192,8 @@ fn on_full_disks(
     Ok(tried)
 }
 
-/// The operations write 622, 622, 624, 2, 623, 622 and 622 bytes, 3,737 in all. Each is tried with room for none and so on up to all.
+/// The operations write 2,158, 2,158, 2,160, 2, 2,159, 2,158 and 2,158 bytes, 12,953 in all. Each is tried with room for none and so on up
+/// to all.
 #[test]
 fn a_disk_that_is_full(rt: HostRuntime) -> Result<(), Fail> {
     let alloc = rt.alloc();
@@ -202,24 +205,91 @@ fn a_disk_that_is_full(rt: HostRuntime) -> Result<(), Fail> {
     {
         tried = tried.saturating_add(on_full_disks(alloc, operation, before, after)?);
     }
-    expect_tried(alloc, tried, 3_737 + 7)
+    expect_tried(alloc, tried, 12_953 + 7)
 }
 
-/// The first operation on a store as it was before names had releases, which its header write adds: where there is no room for all of it
-/// the file is as before, and behind it that of a new store.
+/// How many bytes the file of the same store has with a header of version 1: without releases, and with them.
+const OLD_SIZES: &[usize] = &[634, 642];
+
+/// What such a file has of this one, whose goal has no block from 4,096 on. Its header begins as one of version 1.
+fn old_file(alloc: Global, file: &[u8], size: usize) -> Result<Vec<u8>, Fail> {
+    let mut old = file.get(..size).ok_or("an old file")?.to_vec(alloc)?;
+    if let Some(byte) = old.get_mut(7) {
+        *byte = b'1';
+    }
+    Ok(old)
+}
+
+/// The meter in the file is opened on a disk that takes so much: whether it is.
+fn is_opened(disk: &Disk, takes: Takes) -> Result<bool, Fail> {
+    let store = DeviceStore::reopen_on(disk.open()?)?;
+    disk.takes(takes);
+    match MeterCore::open_store(store) {
+        Ok(_meter) => Ok(true),
+        Err((OpenError::Fault, _store)) => Ok(false),
+        Err((error, _store)) => Err(error.into()),
+    }
+}
+
+/// The meter in an old file is opened with room for each number of bytes up to those of a header of version 2. With less than these it
+/// isn't, and the file is as before; with these the file is the new one.
+fn opened_on_full_disks(alloc: Global, old: &[u8], new: &[u8]) -> Result<usize, Fail> {
+    let mut tried = 0usize;
+    for room in 0..=2_158 {
+        let disk = Disk::with(alloc, old)?;
+        let is_done = room == 2_158;
+        let want = if is_done { new } else { old };
+        if is_opened(&disk, Takes::Only(room))? != is_done || !disk.holds(want) {
+            failed(alloc, "another file", room)?;
+        }
+        tried = tried.saturating_add(1);
+    }
+    Ok(tried)
+}
+
+/// The file of a new meter, and the one after each operation, with a header of version 1. All releases are 0.
 #[test]
 fn an_old_store_on_a_full_disk(rt: HostRuntime) -> Result<(), Fail> {
     let alloc = rt.alloc();
-    let files = files(alloc)?;
-    let operation = CAMPAIGN.first().ok_or("an operation")?;
-    let [new, after, ..] = files.as_slice() else {
-        return Err("two files".into());
-    };
-    let old = new.get(..634).ok_or("an old file")?;
-    let tried = on_full_disks(alloc, operation, old, after)?;
-    expect_tried(alloc, tried, 623)?;
-    let tried = on_read_only_disk(alloc, operation, old)?;
-    expect_tried(alloc, tried, 1 + 7)
+    let mut tried = 0usize;
+    for new in &files(alloc)? {
+        for size in OLD_SIZES {
+            let old = old_file(alloc, new, *size)?;
+            tried = tried.saturating_add(opened_on_full_disks(alloc, &old, new)?);
+        }
+    }
+    expect_tried(alloc, tried, 8 * 2 * 2_159)
+}
+
+/// On a disk that is only read the meter isn't opened, and the file is as before. Where its header is kept it is, and answers the reads as
+/// the one in the new file.
+#[test]
+fn an_old_store_on_a_disk_that_is_only_read(rt: HostRuntime) -> Result<(), Fail> {
+    let alloc = rt.alloc();
+    let mut tried = 0usize;
+    for new in &files(alloc)? {
+        let want = reads_of(alloc, new)?;
+        for size in OLD_SIZES {
+            let old = old_file(alloc, new, *size)?;
+            let disk = Disk::with(alloc, &old)?;
+            if is_opened(&disk, Takes::Nothing)? {
+                failed(alloc, "it is opened", *size)?;
+            }
+            if kept_reads(alloc, &disk)? != want || !disk.holds(&old) {
+                failed(alloc, "another meter", *size)?;
+            }
+            tried = tried.saturating_add(1);
+        }
+    }
+    expect_tried(alloc, tried, 8 * 2)
+}
+
+/// The replies to the reads of the meter in the file on a disk, whose header is kept.
+fn kept_reads(alloc: Global, disk: &Disk) -> Result<Vec<Vec<u8>>, Fail> {
+    match MeterCore::open_kept(DeviceStore::reopen_on(disk.open()?)?) {
+        Ok(mut meter) => support::replies(alloc, &mut meter, READS),
+        Err((error, _store)) => Err(error.into()),
+    }
 }
 
 /// A store is made on a disk that takes so much, over the file of another one: whether it is, and is opened then.
@@ -234,14 +304,14 @@ fn is_made(disk: &Disk, takes: Takes) -> Result<bool, Fail> {
     Ok(made)
 }
 
-/// What is made in part is no store: the capacity, which is written last, isn't there. The image has one byte, the header 622 and the
+/// What is made in part is no store: the capacity, which is written last, isn't there. The image has one byte, the header 2,158 and the
 /// capacity 4.
 #[test]
 fn a_store_on_a_full_disk(rt: HostRuntime) -> Result<(), Fail> {
     let alloc = rt.alloc();
     let files = files(alloc)?;
     let mut tried = 0usize;
-    for room in 0..=627 {
+    for room in 0..=2_163 {
         let disk = Disk::with(alloc, files.last().ok_or("a file")?)?;
         let made = is_made(&disk, Takes::Only(room))?;
         let opened = match DeviceStore::reopen_on(disk.open()?) {
@@ -249,12 +319,12 @@ fn a_store_on_a_full_disk(rt: HostRuntime) -> Result<(), Fail> {
             Err(FileStoreError::BadFile) => false,
             Err(refusal) => return Err(refusal.into()),
         };
-        if made != (room == 627) || opened != made {
+        if made != (room == 2_163) || opened != made {
             failed(alloc, "a store that isn't whole", room)?;
         }
         tried = tried.saturating_add(1);
     }
-    expect_tried(alloc, tried, 628)
+    expect_tried(alloc, tried, 2_164)
 }
 
 /// An operation on a disk that is only read, and then the reads: these are answered as on any other disk.

@@ -1,9 +1,12 @@
-//! Stores whose header has one byte turned. It is one that a store can have and the meter is opened as it says, or it is refused.
+//! Stores whose header, of either version, has one byte turned. It is one that a store can have and the meter is opened as it says, or it is
+//! refused.
 
-use crate::support::{expect_tried, opened, replies};
+use crate::support::{expect_tried, replies};
 use fw_image::OpenError;
 use fw_meter::MeterCore;
-use fw_store::{HEADER_SIZE, ImageStore, MemoryStore};
+use fw_store::{
+    HeaderBytes, HeaderVersion, ImageStore, MemoryStore, VERSION_ONE_SIZE, VERSION_TWO_SIZE,
+};
 use std::alloc::Global;
 use std::test::Fail;
 
@@ -35,6 +38,18 @@ struct Count {
 }
 
 impl Count {
+    const NONE: Count = Count {
+        opened: 0,
+        bad_header: 0,
+        bad_image: 0,
+    };
+
+    fn all(self) -> usize {
+        self.opened
+            .saturating_add(self.bad_header)
+            .saturating_add(self.bad_image)
+    }
+
     fn note(self, outcome: Outcome) -> Count {
         match outcome {
             Outcome::Opened => Count {
@@ -61,6 +76,25 @@ enum Outcome {
     BadImage,
 }
 
+/// A new store that runs this image, of 64 bytes a slot and with blocks of two bytes, and a header of this version.
+fn new_store(alloc: Global, version: HeaderVersion, factory: &[u8]) -> Result<MemoryStore, Fail> {
+    Ok(match version {
+        HeaderVersion::One => MemoryStore::new_old(alloc, 64, 2, factory)?,
+        HeaderVersion::Two => MemoryStore::new(alloc, 64, 2, factory)?,
+    })
+}
+
+/// What is left of such a store of a meter that these datagrams came to. Its header keeps its version.
+fn store_after(alloc: Global, version: HeaderVersion, asks: &[&str]) -> Result<MemoryStore, Fail> {
+    match MeterCore::open_kept(new_store(alloc, version, b"x")?) {
+        Ok(mut meter) => {
+            replies(alloc, &mut meter, asks)?;
+            store_of(meter)
+        }
+        Err((error, _store)) => Err(error.into()),
+    }
+}
+
 /// The store of a meter: a restart hands it back where a call of it fails.
 fn store_of(mut meter: MeterCore<MemoryStore>) -> Result<MemoryStore, Fail> {
     meter.fuse(0, 0);
@@ -74,15 +108,18 @@ fn store_of(mut meter: MeterCore<MemoryStore>) -> Result<MemoryStore, Fail> {
 }
 
 /// What comes of a header in a store.
-fn judged(
-    mut store: MemoryStore,
-    header: &[u8; HEADER_SIZE],
-) -> Result<(Outcome, MemoryStore), Fail> {
+fn judged(mut store: MemoryStore, header: &HeaderBytes) -> Result<(Outcome, MemoryStore), Fail> {
     store.write_header(header)?;
     match MeterCore::open_store(store) {
         Ok(meter) => {
             let view = meter.view();
-            if view.enabled != (header[4] == 1) || view.status.number() != header[6] {
+            let [_, _, _, _, enabled, _, status, ..] = header.as_slice() else {
+                return Err("a header".into());
+            };
+            if view.enabled != (*enabled == 1)
+                || view.status.number() != *status
+                || view.limit != 16_384
+            {
                 return Err("a meter was opened as its header doesn't say".into());
             }
             Ok((Outcome::Opened, store_of(meter)?))
@@ -93,34 +130,62 @@ fn judged(
     }
 }
 
-/// Each byte of the store's header is turned to each value.
+/// A byte of a header, where it has one at this place.
+fn byte_of(header: &HeaderBytes, at: usize) -> Result<u8, Fail> {
+    Ok(*header.as_slice().get(at).ok_or("a byte of the header")?)
+}
+
+/// The header with this byte at this place.
+fn with_byte(header: &HeaderBytes, at: usize, value: u8) -> HeaderBytes {
+    match *header {
+        HeaderBytes::One(mut bytes) => {
+            set(&mut bytes, at, value);
+            HeaderBytes::One(bytes)
+        }
+        HeaderBytes::Two(mut bytes) => {
+            set(&mut bytes, at, value);
+            HeaderBytes::Two(bytes)
+        }
+    }
+}
+
+fn set(bytes: &mut [u8], at: usize, value: u8) {
+    if let Some(byte) = bytes.get_mut(at) {
+        *byte = value;
+    }
+}
+
+/// Each of the 622 bytes that a header of either version has is turned to each value.
 fn turned(mut store: MemoryStore) -> Result<Count, Fail> {
     let whole = store.header()?;
-    let mut header = whole;
-    let mut count = Count {
-        opened: 0,
-        bad_header: 0,
-        bad_image: 0,
-    };
-    for at in 0..HEADER_SIZE {
+    let mut count = Count::NONE;
+    for at in 0..VERSION_ONE_SIZE {
         for value in 0..=255u8 {
-            header[at] = value;
-            let (outcome, left) = judged(store, &header)?;
+            let (outcome, left) = judged(store, &with_byte(&whole, at, value))?;
             store = left;
             count = count.note(outcome);
         }
-        header[at] = whole[at];
     }
     Ok(count)
 }
 
-fn expect(alloc: Global, store: MemoryStore, want: Count) -> Result<(), Fail> {
-    let count = turned(store)?;
-    let tried = count
-        .opened
-        .saturating_add(count.bad_header)
-        .saturating_add(count.bad_image);
-    expect_tried(alloc, tried, HEADER_SIZE * 256)?;
+/// Each bit of the further marks of a header of version 2 is turned.
+fn bits_turned(mut store: MemoryStore) -> Result<Count, Fail> {
+    let whole = store.header()?;
+    let mut count = Count::NONE;
+    for at in VERSION_ONE_SIZE..VERSION_TWO_SIZE {
+        let byte = byte_of(&whole, at)?;
+        for bit in 0..8u32 {
+            let (outcome, left) = judged(store, &with_byte(&whole, at, byte ^ (1 << bit)))?;
+            store = left;
+            count = count.note(outcome);
+        }
+    }
+    Ok(count)
+}
+
+fn expect(alloc: Global, count: Count, want: Count) -> Result<(), Fail> {
+    expect_tried(alloc, count.all(), want.all())?;
     if count != want {
         let told = format!(in alloc; "{count:?} in place of {want:?}")?;
         return Err(Fail::from(told));
@@ -128,49 +193,83 @@ fn expect(alloc: Global, store: MemoryStore, want: Count) -> Result<(), Fail> {
     Ok(())
 }
 
-/// A new store of 64 bytes a slot, with blocks of two bytes and the image `abc`. Each of the 622 bytes has the value that it has, and
+/// Of a new store of 64 bytes a slot, with blocks of two bytes and the image `abc`. Each of the 622 bytes has the value that it has, and
 /// beside them are headers that a store can have: enabled; status 6; a block size of 258, 514 or 770, and any of 1 to 255. The image
 /// isn't the name's where it is in the other slot, has another size of 1 to 64, or the name another digest.
+const OF_A_NEW_STORE: Count = Count {
+    opened: 622 + 1 + 1 + 3 + 254,
+    bad_header: 622 * 256 - 881 - 8_224,
+    bad_image: 1 + 63 + 32 * 255,
+};
+
 #[test]
 fn of_a_new_store(rt: HostRuntime) -> Result<(), Fail> {
     let alloc = rt.alloc();
-    let store = MemoryStore::new(alloc, 64, 2, b"abc")?;
-    let want = Count {
-        opened: 622 + 1 + 1 + 3 + 254,
-        bad_header: 622 * 256 - 881 - 8_224,
-        bad_image: 1 + 63 + 32 * 255,
-    };
-    expect(alloc, store, want)
+    let store = new_store(alloc, HeaderVersion::Two, b"abc")?;
+    expect(alloc, turned(store)?, OF_A_NEW_STORE)
 }
 
-/// A store that runs `x`, in which `abc` was verified. Beside its own header it can have these: not enabled; statuses 1 and 4; a name of
+#[test]
+fn of_an_old_store(rt: HostRuntime) -> Result<(), Fail> {
+    let alloc = rt.alloc();
+    let store = new_store(alloc, HeaderVersion::One, b"abc")?;
+    expect(alloc, turned(store)?, OF_A_NEW_STORE)
+}
+
+/// Of a store that runs `x`, in which `abc` was verified. Beside its own header it can have these: not enabled; statuses 1 and 4; a name of
 /// another campaign, whose numbers are any but 0, or of any release. The image that runs isn't its name's in the other slot, with another
 /// size, or under another digest, and the verified one isn't with four bytes, or under another digest.
+const OF_A_VERIFIED_IMAGE: Count = Count {
+    opened: 622 + 1 + 2 + 2 * (3 * 255 + 254) + 4 * 255,
+    bad_header: 622 * 256 - 3_683 - 16_385,
+    bad_image: 1 + 63 + 32 * 255 + 1 + 32 * 255,
+};
+
 #[test]
 fn of_a_verified_image(rt: HostRuntime) -> Result<(), Fail> {
     let alloc = rt.alloc();
-    let mut meter = opened(MemoryStore::new(alloc, 64, 2, b"x")?)?;
-    replies(alloc, &mut meter, TO_VERIFIED)?;
-    let want = Count {
-        opened: 622 + 1 + 2 + 2 * (3 * 255 + 254) + 4 * 255,
-        bad_header: 622 * 256 - 3_683 - 16_385,
-        bad_image: 1 + 63 + 32 * 255 + 1 + 32 * 255,
-    };
-    expect(alloc, store_of(meter)?, want)
+    let store = store_after(alloc, HeaderVersion::Two, TO_VERIFIED)?;
+    expect(alloc, turned(store)?, OF_A_VERIFIED_IMAGE)
 }
 
-/// A store that runs `abc` of release 5. Beside its own header it can have these: not enabled; status 0; each other block size as above; a
-/// name of another campaign, whose numbers are any but 0, or of any release. The image isn't the name's in the other slot, with another
+#[test]
+fn of_a_verified_image_in_an_old_store(rt: HostRuntime) -> Result<(), Fail> {
+    let alloc = rt.alloc();
+    let store = store_after(alloc, HeaderVersion::One, TO_VERIFIED)?;
+    expect(alloc, turned(store)?, OF_A_VERIFIED_IMAGE)
+}
+
+/// The two blocks of the image are marked, and no other block is one of it.
+#[test]
+fn of_a_verified_image_with_further_marks(rt: HostRuntime) -> Result<(), Fail> {
+    let alloc = rt.alloc();
+    let store = store_after(alloc, HeaderVersion::Two, TO_VERIFIED)?;
+    let want = Count {
+        bad_header: 1_536 * 8,
+        ..Count::NONE
+    };
+    expect(alloc, bits_turned(store)?, want)
+}
+
+/// Of a store that runs `abc` of release 5. Beside its own header it can have these: not enabled; status 0; each other block size as above;
+/// a name of another campaign, whose numbers are any but 0, or of any release. The image isn't the name's in the other slot, with another
 /// size, or under another digest.
+const OF_AN_IMAGE_WITH_A_RELEASE: Count = Count {
+    opened: 622 + 1 + 1 + 3 + 254 + 2 * (3 * 255 + 254) + 4 * 255,
+    bad_header: 622 * 256 - 3_939 - 8_224,
+    bad_image: 1 + 63 + 32 * 255,
+};
+
 #[test]
 fn of_an_image_with_a_release(rt: HostRuntime) -> Result<(), Fail> {
     let alloc = rt.alloc();
-    let mut meter = opened(MemoryStore::new(alloc, 64, 2, b"x")?)?;
-    replies(alloc, &mut meter, TO_RUNNING)?;
-    let want = Count {
-        opened: 622 + 1 + 1 + 3 + 254 + 2 * (3 * 255 + 254) + 4 * 255,
-        bad_header: 622 * 256 - 3_939 - 8_224,
-        bad_image: 1 + 63 + 32 * 255,
-    };
-    expect(alloc, store_of(meter)?, want)
+    let store = store_after(alloc, HeaderVersion::Two, TO_RUNNING)?;
+    expect(alloc, turned(store)?, OF_AN_IMAGE_WITH_A_RELEASE)
+}
+
+#[test]
+fn of_an_image_with_a_release_in_an_old_store(rt: HostRuntime) -> Result<(), Fail> {
+    let alloc = rt.alloc();
+    let store = store_after(alloc, HeaderVersion::One, TO_RUNNING)?;
+    expect(alloc, turned(store)?, OF_AN_IMAGE_WITH_A_RELEASE)
 }

@@ -1,13 +1,14 @@
 //! Stops of the meter in each datagram of a campaign, at each call of its store. The meter is then as before the datagram or as after it,
-//! and the campaign goes on to its end.
+//! and the campaign goes on to its end. So it does after a stop in each restart of an old meter.
 
-use crate::campaign::{events, head, meter, setup};
+use crate::campaign::{ALL, events, head, meter, old_setup, setup};
 use crate::support::{expect_tried, failed};
 use fw_air::{Fate, Fates, schedule};
 use fw_book::RowState;
 use fw_names::CampaignId;
-use fw_world::{Event, World, run};
+use fw_world::{Event, Setup, World, run};
 use std::alloc::Global;
+use std::ops::Range;
 use std::test::Fail;
 
 /// How many events of the campaign come before a datagram to the meter, its number, and how many calls of the store it makes: of a GET
@@ -67,13 +68,12 @@ fn is_done(world: &World) -> Result<bool, Fail> {
 }
 
 /// The campaign goes on behind these events.
-fn goes_on(alloc: Global, given: &[Event]) -> Result<bool, Fail> {
-    let setup = setup(alloc)?;
+fn goes_on(alloc: Global, setup: &Setup, given: &[Event]) -> Result<bool, Fail> {
     let fates = Fates::new(&[Fate::Deliver]).ok_or("1 to 4,096 fates")?;
-    let Ok(events) = schedule(alloc, &setup, given, 20, &fates) else {
+    let Ok(events) = schedule(alloc, setup, given, 20, &fates) else {
         return Err("an event is refused".into());
     };
-    match run(alloc, &setup, &events) {
+    match run(alloc, setup, &events) {
         Ok(world) => is_done(&world),
         Err(_) => Err("an event of the schedule is refused".into()),
     }
@@ -113,7 +113,7 @@ fn stopped(
         if seen(alloc, count, [Some(stop), None])? != want {
             failed(alloc, "the meter is another one", datagram)?;
         }
-        if !goes_on(alloc, &given)? {
+        if !goes_on(alloc, &setup(alloc)?, &given)? {
             failed(alloc, "the campaign doesn't end", datagram)?;
         }
     }
@@ -130,4 +130,47 @@ fn each_call_of_each_datagram(rt: HostRuntime) -> Result<(), Fail> {
         }
     }
     expect_tried(alloc, tried, 57)
+}
+
+/// After how many events the image is verified and doesn't run yet.
+const VERIFIED: Range<usize> = 20..26;
+
+/// A stop in a restart of the old meter. Its header is one of version 2 where the calls suffice for the write of it, which comes after
+/// those of the checks. All else is as after a restart without a stop.
+fn restart_stopped(alloc: Global, count: usize, calls: u64) -> Result<(), Fail> {
+    let checks = if VERIFIED.contains(&count) { 3 } else { 2 };
+    let limit = if calls > checks { 16_384 } else { 4_096 };
+    let setup = old_setup(alloc)?;
+    let mut given = events(alloc, count)?;
+    given.push(Event::StopRestart {
+        meter: meter()?,
+        calls,
+        torn: 238,
+    })?;
+    let Ok(world) = run(alloc, &setup, &given) else {
+        return Err("an event is refused".into());
+    };
+    let core = world.meter(meter()?).ok_or("the meter of the setup")?;
+    let want = seen(alloc, count, [Some(Event::RestartMeter(meter()?)), None])?;
+    if core.view().limit != limit || sight(&world)? != want {
+        failed(alloc, "the meter is another one", count)?;
+    }
+    if !goes_on(alloc, &setup, &given)? {
+        failed(alloc, "the campaign doesn't end", count)?;
+    }
+    Ok(())
+}
+
+/// After 1 to 30 events, and after 0 to 4 calls.
+#[test]
+fn each_call_of_each_restart(rt: HostRuntime) -> Result<(), Fail> {
+    let alloc = rt.alloc();
+    let mut tried = 0usize;
+    for count in 1..=ALL {
+        for calls in 0..=4 {
+            restart_stopped(alloc, count, calls)?;
+            tried = tried.saturating_add(1);
+        }
+    }
+    expect_tried(alloc, tried, 30 * 5)
 }

@@ -173,6 +173,13 @@ const OPTIONS: &[(Options, &str)] = &[
     ),
     (
         Options(AnswerOptions {
+            capacity: 16_777_217,
+            ..DEFAULTS
+        }),
+        "BadSetup",
+    ),
+    (
+        Options(AnswerOptions {
             capacity: 4_294_967_296,
             ..DEFAULTS
         }),
@@ -180,9 +187,19 @@ const OPTIONS: &[(Options, &str)] = &[
     ),
 ];
 
+/// The largest capacity.
+const LARGEST: &[(Options, &str)] = &[(
+    Options(AnswerOptions {
+        capacity: 16_777_216,
+        ..DEFAULTS
+    }),
+    "BadLine(1)",
+)];
+
 #[test]
 fn options_that_describe_no_meter_are_refused(rt: HostRuntime) -> Result<(), Fail> {
-    each(rt.alloc(), OPTIONS)
+    each(rt.alloc(), OPTIONS)?;
+    each(rt.alloc(), LARGEST)
 }
 
 /// Interrupted once, then a byte at a time, and then broken.

@@ -19,6 +19,12 @@ mod lines;
 #[cfg(test)]
 mod naming;
 #[cfg(test)]
+mod old_files;
+#[cfg(test)]
+mod old_meters;
+#[cfg(test)]
+mod refused_scripts;
+#[cfg(test)]
 mod replaying;
 #[cfg(test)]
 mod restarts;

@@ -82,13 +82,13 @@ impl Case for Zeros {
     }
 }
 
-/// The longest image, whose digest is that of `head -c 4194304 /dev/zero | sha256sum`, and one that is a byte longer.
+/// A long image, whose digest is that of `head -c 4194305 /dev/zero | sha256sum`, and one that has a byte more than an image can have.
 const LONG: &[(Zeros, &str)] = &[
     (
-        Zeros(4_194_304),
-        "010000000700000001bb9f8df61474d25e71fa00722318cd387396ca1736605e1248821cc0de3d3af8\n",
+        Zeros(4_194_305),
+        "01000000070000000195e441ca65cd41fa01b2a71799e79fd60db59ed34f13af32a91e85f90378676c\n",
     ),
-    (Zeros(4_194_305), "ImageTooLong"),
+    (Zeros(16_777_217), "ImageTooLong"),
 ];
 
 #[test]

@@ -9,13 +9,13 @@ use std::io::Read;
 use std::test::Fail;
 
 /// Rounds: how many, and the fates of their datagrams.
-type Given = Option<(u32, &'static str)>;
+pub(crate) type Given = Option<(u32, &'static str)>;
 
 /// No rounds.
-const ALONE: Given = None;
+pub(crate) const ALONE: Given = None;
 
 /// The options with these rounds.
-fn options(given: Option<(u32, &str)>) -> ReplayOptions<'_> {
+pub(crate) fn options(given: Option<(u32, &str)>) -> ReplayOptions<'_> {
     ReplayOptions {
         rounds: match given {
             Some((rounds, fates)) => Some(Rounds { rounds, fates }),
@@ -26,7 +26,7 @@ fn options(given: Option<(u32, &str)>) -> ReplayOptions<'_> {
 }
 
 /// What is written of what a reader has, and behind it whether an event was refused, or the fault.
-fn replayed<R: Read>(
+pub(crate) fn replayed<R: Read>(
     alloc: Global,
     reader: &mut R,
     options: &ReplayOptions<'_>,
@@ -43,7 +43,7 @@ fn replayed<R: Read>(
 }
 
 /// The parts, one behind the other.
-fn joined(alloc: Global, parts: &[&str]) -> Result<String, AllocError> {
+pub(crate) fn joined(alloc: Global, parts: &[&str]) -> Result<String, AllocError> {
     let mut text = String::new(alloc);
     for part in parts {
         text.push_str(part)?;
@@ -52,7 +52,7 @@ fn joined(alloc: Global, parts: &[&str]) -> Result<String, AllocError> {
 }
 
 /// A script in parts, and the rounds.
-struct Script(&'static [&'static str], Given);
+pub(crate) struct Script(pub(crate) &'static [&'static str], pub(crate) Given);
 
 impl Case for Script {
     fn told(&self, alloc: Global) -> Result<String, Fail> {
@@ -62,18 +62,18 @@ impl Case for Script {
 }
 
 /// One head end, and one meter with blocks of two bytes.
-const SETUP: &str = "\
+pub(crate) const SETUP: &str = "\
 head 7 width 4
 meter 1 block 2 capacity 64 factory 78
 ";
 
-const OPEN: &str = "open 7 1 616263 1\n";
+pub(crate) const OPEN: &str = "open 7 1 616263 1\n";
 
 /// The same image of release 5.
-const OPEN_5: &str = "open-release 7 1 5 616263 1\n";
+pub(crate) const OPEN_5: &str = "open-release 7 1 5 616263 1\n";
 
 /// Up to where the image is there.
-const UP_TO_BLOCKS: &str = "\
+pub(crate) const UP_TO_BLOCKS: &str = "\
 tick 7 1
 deliver 0 1
 tick 7 1
@@ -85,7 +85,7 @@ deliver 6 7 8 9
 ";
 
 /// Then up to where the meter is asked to verify, which datagram 12 is.
-const UP_TO_VERIFY: &str = "\
+pub(crate) const UP_TO_VERIFY: &str = "\
 tick 7 1
 deliver 10 11
 tick 7 1
@@ -100,7 +100,7 @@ tick 7 1
 ";
 
 /// Then up to the claim, which datagram 19 is.
-const UP_TO_DONE: &str = "\
+pub(crate) const UP_TO_DONE: &str = "\
 deliver 16 17
 tick 7 1
 deliver 18 19
@@ -177,7 +177,7 @@ meter 4 block 2 capacity 64 factory 78
 open 7 1 616263 1 2 3 4
 ";
 
-const DONE: &str = "\
+pub(crate) const DONE: &str = "\
 row 7 1 1 done
 meter 1 status 6 active 7 1 size 3
 activations 1
@@ -525,200 +525,6 @@ const STOPS: &[(Script, &str)] = &[
 #[test]
 fn stops(rt: HostRuntime) -> Result<(), Fail> {
     each(rt.alloc(), STOPS)
-}
-
-const REFUSED: &[(Script, &str)] = &[
-    (
-        Script(&[SETUP, OPEN, OPEN], ALONE),
-        "row 7 1 1 live\nmeter 1 status 0 active 0 0 size 1\nactivations 0\nrefused 1 SerialUsed\nstatus 1",
-    ),
-    (
-        Script(&[SETUP, OPEN, "open 7 2 616263 1\n"], ALONE),
-        "row 7 1 1 live\nmeter 1 status 0 active 0 0 size 1\nactivations 0\nrefused 1 MeterBusy\nstatus 1",
-    ),
-    (
-        Script(&[SETUP, OPEN, "tick 7 1\ndeliver 0\nstop 1 0 0\n"], ALONE),
-        "row 7 1 1 live\nmeter 1 status 0 active 0 0 size 1\nactivations 0\nrefused 3 NoSuchActor\nstatus 1",
-    ),
-    (
-        Script(&[SETUP, OPEN, "tick 7 1\ndeliver 0\nstop 99 0 0\n"], ALONE),
-        "row 7 1 1 live\nmeter 1 status 0 active 0 0 size 1\nactivations 0\nrefused 3 NoSuchDatagram\nstatus 1",
-    ),
-    // each of the datagrams of a line is an event
-    (
-        Script(&[SETUP, OPEN, "tick 7 1\ndeliver 0 1 2\n"], ALONE),
-        "row 7 1 1 live\nmeter 1 status 0 active 0 0 size 1\nactivations 0\nrefused 4 NoSuchDatagram\nstatus 1",
-    ),
-    // what a script is refused for before its rounds
-    (
-        Script(&[SETUP, OPEN, OPEN], Some((9, "d"))),
-        "row 7 1 1 live\nmeter 1 status 0 active 0 0 size 1\nactivations 0\nrefused 1 SerialUsed\nstatus 1",
-    ),
-    (Script(&[SETUP, "turn 2\n"], ALONE), REFUSED_ACTOR),
-    (Script(&[SETUP, "restart-meter 2\n"], ALONE), REFUSED_ACTOR),
-    (Script(&[SETUP, "restart-head 1\n"], ALONE), REFUSED_ACTOR),
-    (Script(&[SETUP, "tick 1 1\n"], ALONE), REFUSED_ACTOR),
-    (Script(&[SETUP, "open 7 1 - 2\n"], ALONE), REFUSED_ACTOR),
-    (
-        Script(&[SETUP, "open-release 7 1 5 - 2\n"], ALONE),
-        REFUSED_ACTOR,
-    ),
-    (
-        Script(&[SETUP, "open-release 8 1 5 61 1\n"], ALONE),
-        REFUSED_ACTOR,
-    ),
-    (
-        Script(&[SETUP, "open-release 7 1 5 - 1\n"], ALONE),
-        "meter 1 status 0 active 0 0 size 1\nactivations 0\nrefused 0 EmptyImage\nstatus 1",
-    ),
-    (
-        Script(&[SETUP, "open-release 7 1 5 61\n"], ALONE),
-        "meter 1 status 0 active 0 0 size 1\nactivations 0\nrefused 0 NoMeters\nstatus 1",
-    ),
-    (
-        Script(&[SETUP, OPEN_5, "open 7 1 616263 1\n"], ALONE),
-        "row 7 1 1 live\nmeter 1 status 0 active 0 0 size 1\nactivations 0\nrefused 1 SerialUsed\nstatus 1",
-    ),
-    (
-        Script(&[SETUP, "open 7 1 - 1\n"], ALONE),
-        "meter 1 status 0 active 0 0 size 1\nactivations 0\nrefused 0 EmptyImage\nstatus 1",
-    ),
-    (
-        Script(&[SETUP, "open 7 1 61\n"], ALONE),
-        "meter 1 status 0 active 0 0 size 1\nactivations 0\nrefused 0 NoMeters\nstatus 1",
-    ),
-    (
-        Script(&[SETUP, "open 7 1 61 1 1\n"], ALONE),
-        "meter 1 status 0 active 0 0 size 1\nactivations 0\nrefused 0 MeterTwice\nstatus 1",
-    ),
-    (
-        Script(&[SETUP, "cancel 7 1\n"], ALONE),
-        "meter 1 status 0 active 0 0 size 1\nactivations 0\nrefused 0 NoSuchCampaign\nstatus 1",
-    ),
-    (
-        Script(&[SETUP, OPEN, "cancel 7 1\ncancel 7 1\n"], ALONE),
-        "row 7 1 1 cancelled\nmeter 1 status 0 active 0 0 size 1\nactivations 0\nrefused 2 NotLive\nstatus 1",
-    ),
-];
-
-const REFUSED_ACTOR: &str =
-    "meter 1 status 0 active 0 0 size 1\nactivations 0\nrefused 0 NoSuchActor\nstatus 1";
-
-#[test]
-fn events_that_are_refused(rt: HostRuntime) -> Result<(), Fail> {
-    each(rt.alloc(), REFUSED)
-}
-
-/// Lines, also ones that are skipped, count from 1. A bad line comes before a bad setup, and a setup line stands before all events.
-const BAD: &[(Script, &str)] = &[
-    (
-        Script(&[SETUP, "\n# a head end\n", OPEN, "tick 7\n", OPEN], ALONE),
-        "BadLine 6",
-    ),
-    (Script(&[SETUP, OPEN, SETUP], ALONE), "BadLine 4"),
-    (Script(&["head 7 width 16\n", "\r\n"], ALONE), "BadLine 2"),
-    (Script(&["head 0 width 4\n"], ALONE), "BadLine 1"),
-    (Script(&[SETUP, "deliver\n"], ALONE), "BadLine 3"),
-    (Script(&[SETUP, "deliver 0  1\n"], ALONE), "BadLine 3"),
-    (Script(&[SETUP, "deliver 4294967296\n"], ALONE), "BadLine 3"),
-    (Script(&[SETUP, "stop 0 0 256\n"], ALONE), "BadLine 3"),
-    (Script(&[SETUP, "open 7 0 61 1\n"], ALONE), "BadLine 3"),
-    (Script(&[SETUP, "open 7 1 6 1\n"], ALONE), "BadLine 3"),
-    (Script(&[SETUP, OPEN_5, SETUP], ALONE), "BadLine 4"),
-    // no head end, no campaign, no release, and one that is too great; digits that are no image, and no word for it
-    (
-        Script(&[SETUP, "open-release 0 1 5 61 1\n"], ALONE),
-        "BadLine 3",
-    ),
-    (
-        Script(&[SETUP, "open-release 7 0 5 61 1\n"], ALONE),
-        "BadLine 3",
-    ),
-    (
-        Script(&[SETUP, "open-release 7 1 - 61 1\n"], ALONE),
-        "BadLine 3",
-    ),
-    (
-        Script(&[SETUP, "open-release 7 1 4294967296 61 1\n"], ALONE),
-        "BadLine 3",
-    ),
-    (
-        Script(&[SETUP, "open-release 7 1 616263 1\n"], ALONE),
-        "BadLine 3",
-    ),
-    (Script(&[SETUP, "open-release 7 1 5\n"], ALONE), "BadLine 3"),
-    (
-        Script(&[SETUP, "open-release 7 1 5 61 x\n"], ALONE),
-        "BadLine 3",
-    ),
-    (
-        Script(&[SETUP, "open-releases 7 1 5 61 1\n"], ALONE),
-        "BadLine 3",
-    ),
-    (
-        Script(
-            &["head 7 width 16\nmeter 1 block 2 capacity 64 factory 78\n"],
-            ALONE,
-        ),
-        "BadSetup",
-    ),
-    (
-        Script(
-            &["head 7 width 4\nmeter 1 block 5000 capacity 64 factory 78\n"],
-            ALONE,
-        ),
-        "BadSetup",
-    ),
-    (
-        Script(
-            &["head 7 width 4\nmeter 1 block 2 capacity 64 factory -\n"],
-            ALONE,
-        ),
-        "BadSetup",
-    ),
-    (Script(&["head 7 width 4\n", SETUP], ALONE), "BadSetup"),
-    (
-        Script(&["meter 1 block 2 capacity 64 factory 78\n"], ALONE),
-        "BadSetup",
-    ),
-    (
-        Script(
-            &["meter 1 block 2 capacity 64 factory 78\n"],
-            Some((1, "d")),
-        ),
-        "BadSetup",
-    ),
-    (Script(&[], ALONE), "BadSetup"),
-    // fates come first
-    (Script(&["x\n"], Some((1, ""))), "BadFates"),
-    (Script(&["x\n"], Some((1, "dxtlD"))), "BadFates"),
-    (Script(&["x\n"], Some((1, "dxtl"))), "BadLine 1"),
-];
-
-#[test]
-fn what_is_no_script(rt: HostRuntime) -> Result<(), Fail> {
-    each(rt.alloc(), BAD)
-}
-
-/// So many fates, all of them `d`, for a bad line.
-struct Fates(usize);
-
-impl Case for Fates {
-    fn told(&self, alloc: Global) -> Result<String, Fail> {
-        let fates = String::from_utf8(vec![in alloc; b'd'; self.0]?)?;
-        replayed(
-            alloc,
-            &mut "x".as_bytes(),
-            &options(Some((1, fates.as_str()))),
-        )
-    }
-}
-
-const FATES: &[(Fates, &str)] = &[(Fates(4096), "BadLine 1"), (Fates(4097), "BadFates")];
-
-#[test]
-fn many_fates(rt: HostRuntime) -> Result<(), Fail> {
-    each(rt.alloc(), FATES)
 }
 
 /// So many rounds for an image of 8,193 bytes, which is verified in three slices.

@@ -2,7 +2,7 @@
 
 use crate::apdus::*;
 use crate::sessions::*;
-use crate::wire::{Exchange, Part, session};
+use crate::wire::{Exchange, Part, old_session_with, session};
 use std::test::Fail;
 
 /// What is read of a meter in status 1 with one of two blocks, before and after a restart.
@@ -140,6 +140,26 @@ const STOPS: &[Part] = &[
     ),
 ];
 
+/// The restart of an old meter takes four calls of its store: the header, the image that runs and the one that waits are read, and
+/// the header written. One that stops before that write leaves all as it is.
+const OLD: &[Part] = &[
+    Part::Limits(4_096),
+    Part::Says(TWO_BLOCKS),
+    Part::StopsInRestart(0),
+    Part::Limits(4_096),
+    Part::Says(WAITS),
+    Part::StopsInRestart(3),
+    Part::Limits(4_096),
+    Part::Says(WAITS),
+    Part::StopsInRestart(4),
+    Part::Limits(16_384),
+    Part::Says(WAITS),
+    Part::Says(&[(ACTIVATE, DONE)]),
+    Part::StopsInRestart(0),
+    Part::Limits(16_384),
+    Part::Says(RUNS),
+];
+
 #[test]
 fn each_session(rt: HostRuntime) -> Result<(), Fail> {
     session(rt.alloc(), NOTHING)?;
@@ -149,5 +169,6 @@ fn each_session(rt: HostRuntime) -> Result<(), Fail> {
     session(rt.alloc(), DISABLED)?;
     session(rt.alloc(), SECOND_IMAGE)?;
     session(rt.alloc(), RELEASES)?;
-    session(rt.alloc(), STOPS)
+    session(rt.alloc(), STOPS)?;
+    old_session_with(rt.alloc(), 2, 64, OLD)
 }

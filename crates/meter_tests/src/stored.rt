@@ -13,8 +13,12 @@ use std::path::PathBuf;
 use std::test::Fail;
 use std::{env, fs};
 
+/// Bytes in hexadecimal, and so many bytes 00 after them.
+#[derive(Clone, Copy)]
+pub(crate) struct Spelled(pub(crate) &'static str, pub(crate) usize);
+
 /// A step at a path of a test's own. A command has these options for a new meter.
-enum Step {
+pub(crate) enum Step {
     /// The command on a session: each request gets its reply.
     Says(AnswerOptions<'static>, &'static [&'static [Exchange]]),
     /// The command on a line that spells nothing: what is written, and the fault. A file is left as it was.
@@ -22,8 +26,14 @@ enum Step {
     /// The command with a reader that breaks, or a writer without room, on a session of one request: the fault.
     Breaks,
     Fills,
+    /// A file of these bytes is written.
+    Writes(&'static [Spelled]),
+    /// These are the bytes of the file.
+    Holds(&'static [Spelled]),
     /// The byte of the file at this place is changed.
     Spoils(usize),
+    /// It is this byte.
+    Sets(usize, u8),
     /// The file is made so long.
     SetLen(u64),
     /// How many bytes the file has.
@@ -54,12 +64,13 @@ impl Place<'_> {
             Step::Fills => self.fills(alloc),
             Step::Exists => Ok(String::from_str(alloc, self.exists()?)?),
             Step::Len => Ok(format!(in alloc; "{}", self.bytes()?.len())?),
+            Step::Holds(parts) => self.holds(alloc, parts),
             Step::Absent => {
                 self.path.push("store")?;
                 Ok(String::new(alloc))
             }
             step => {
-                self.change(step)?;
+                self.change(alloc, step)?;
                 Ok(String::new(alloc))
             }
         }
@@ -149,10 +160,19 @@ impl Place<'_> {
         fs::read(self.rt, self.path.as_path()).ok()
     }
 
-    fn change(&self, step: &Step) -> Result<(), Fail> {
+    fn holds(&self, alloc: Global, parts: &[Spelled]) -> Result<String, Fail> {
+        let found = hex::encode(alloc, self.bytes()?.as_slice())?;
+        let want = hex::encode(alloc, bytes_of(alloc, parts)?.as_slice())?;
+        expect(alloc, "the file", found.as_str(), want.as_str())?;
+        Ok(String::new(alloc))
+    }
+
+    fn change(&self, alloc: Global, step: &Step) -> Result<(), Fail> {
         let path = self.path.as_path();
         match step {
+            Step::Writes(parts) => fs::write(self.rt, path, bytes_of(alloc, parts)?.as_slice())?,
             Step::Spoils(at) => return self.spoil(*at),
+            Step::Sets(at, byte) => return self.set_byte(*at, *byte),
             Step::SetLen(len) => return self.set_len(*len),
             Step::Remove => fs::remove_file(self.rt, path)?,
             Step::CreateDir => fs::create_dir(self.rt, path)?,
@@ -163,9 +183,15 @@ impl Place<'_> {
     }
 
     fn spoil(&self, at: usize) -> Result<(), Fail> {
+        let bytes = self.bytes()?;
+        let byte = bytes.get(at).ok_or("no such byte")?;
+        self.set_byte(at, *byte ^ 255)
+    }
+
+    fn set_byte(&self, at: usize, value: u8) -> Result<(), Fail> {
         let mut bytes = self.bytes()?;
         match bytes.get_mut(at) {
-            Some(byte) => *byte ^= 255,
+            Some(byte) => *byte = value,
             None => return Err("no such byte".into()),
         }
         Ok(fs::write(self.rt, self.path.as_path(), bytes.as_slice())?)
@@ -178,8 +204,18 @@ impl Place<'_> {
     }
 }
 
+/// The bytes of these parts, one after the other.
+fn bytes_of(alloc: Global, parts: &[Spelled]) -> Result<Vec<u8>, Fail> {
+    let mut bytes = Vec::new(alloc);
+    for Spelled(digits, zeros) in parts {
+        bytes.extend_from_slice(&hex::decode(alloc, *digits)?)?;
+        bytes.extend_from_slice(&vec![in alloc; 0; *zeros]?)?;
+    }
+    Ok(bytes)
+}
+
 /// Takes the steps at a path where there is no file at first. Of each is told what stands beside it.
-fn steps(rt: &HostRuntime, name: &str, rows: &[(Step, &str)]) -> Result<(), Fail> {
+pub(crate) fn steps(rt: &HostRuntime, name: &str, rows: &[(Step, &str)]) -> Result<(), Fail> {
     let alloc = rt.alloc();
     let mut path = env::temp_dir(rt)?;
     path.push(name)?;
@@ -232,7 +268,7 @@ const SWITCHED: &[(Step, &str)] = &[
         Step::Says(NO_METER, &[&[(GET_BLOCK_SIZE, "c401c1000600000002")]]),
         "",
     ),
-    (Step::Len, "754"),
+    (Step::Len, "2290"),
     (Step::Remove, ""),
 ];
 
@@ -253,13 +289,13 @@ const RELEASED: &[(Step, &str)] = &[
     (Step::Remove, ""),
 ];
 
-/// A file as it was before names had releases, 8 bytes shorter, goes on with release 0. A look at it leaves it so, and what is written
-/// of its header makes it as long as a new one.
+/// A file with a header of version 1, which ends its magic bytes by 31 and not by 32, goes on with what it has: first one without
+/// releases, and then one with them. A look at it makes its header one of version 2, and leaves that so.
 const OLD_FILE: &[(Step, &str)] = &[
     (Step::Says(DEFAULTS, &[LATE_BLOCK]), ""),
-    (Step::Len, "754"),
+    (Step::Len, "2290"),
+    (Step::Sets(7, 0x31), ""),
     (Step::SetLen(746), ""),
-    (Step::Ends(DEFAULTS), "BadLine 1"),
     (
         Step::Says(
             DEFAULTS,
@@ -267,12 +303,16 @@ const OLD_FILE: &[(Step, &str)] = &[
         ),
         "",
     ),
-    (Step::Len, "746"),
+    (Step::Len, "2290"),
+    (Step::Ends(DEFAULTS), "BadLine 1"),
+    (Step::Sets(7, 0x31), ""),
+    (Step::SetLen(754), ""),
+    (Step::Says(DEFAULTS, &[&[(GET_STATUS, VERIFIED)]]), ""),
+    (Step::Len, "2290"),
     (
         Step::Says(DEFAULTS, &[&[(ACTIVATE, DONE), (GET_NAME, BBBB_NAME)]]),
         "",
     ),
-    (Step::Len, "754"),
     (
         Step::Says(
             DEFAULTS,
@@ -339,7 +379,7 @@ const OTHER_METER: &[(Step, &str)] = &[
         Step::Says(OTHER, &[&[(GET_BLOCK_SIZE, "c401c1000600000004")]]),
         "",
     ),
-    (Step::Len, "642"),
+    (Step::Len, "2178"),
     (Step::Remove, ""),
 ];
 
@@ -365,9 +405,21 @@ const SPOILT_FILES: &[(Step, &str)] = &[
     (Step::Ends(DEFAULTS), "BadFile"),
     (Step::SetLen(755), ""),
     (Step::Ends(DEFAULTS), "BadFile"),
+    (Step::SetLen(2289), ""),
+    (Step::Ends(DEFAULTS), "BadFile"),
+    (Step::SetLen(2291), ""),
+    (Step::Ends(DEFAULTS), "BadFile"),
+    // as long as with a header of version 1, without releases and with them, and such a header in a file of the other length
+    (Step::SetLen(746), ""),
+    (Step::Ends(DEFAULTS), "BadHeader"),
     (Step::SetLen(754), ""),
+    (Step::Ends(DEFAULTS), "BadHeader"),
+    (Step::SetLen(2290), ""),
+    (Step::Sets(7, 0x31), ""),
+    (Step::Ends(DEFAULTS), "BadHeader"),
+    (Step::Sets(7, 0x32), ""),
     (Step::Ends(DEFAULTS), "BadLine 1"),
-    // the first byte of the header, of the running image, of the verified one, and of the running image's release
+    // the first byte of the header, of the running image, of the verified one, of the running image's release, and of the further marks
     (Step::Spoils(4), ""),
     (Step::Ends(DEFAULTS), "BadHeader"),
     (Step::Spoils(4), ""),
@@ -380,6 +432,9 @@ const SPOILT_FILES: &[(Step, &str)] = &[
     (Step::Spoils(746), ""),
     (Step::Ends(DEFAULTS), "BadHeader"),
     (Step::Spoils(746), ""),
+    (Step::Spoils(754), ""),
+    (Step::Ends(DEFAULTS), "BadHeader"),
+    (Step::Spoils(754), ""),
     (Step::Says(DEFAULTS, &[&[(GET_STATUS, VERIFIED)]]), ""),
     (Step::SetLen(0), ""),
     (Step::Ends(DEFAULTS), "BadFile"),

@@ -6,7 +6,7 @@ use crate::support::{Case, Kept, each};
 use crate::wire::{Part, opened, store_after};
 use fw_image::OpenError;
 use fw_meter::MeterCore;
-use fw_store::{HEADER_SIZE, ImageStore, MemoryStore, Slot};
+use fw_store::{HeaderBytes, ImageStore, MemoryStore, Slot, VERSION_TWO_SIZE};
 use std::alloc::Global;
 use std::test::Fail;
 
@@ -26,7 +26,7 @@ impl Case for New {
 const LIMITS: &[(New, &str)] = &[
     (New(1, 64), "NotInitiated"),
     (New(1024, 64), "NotInitiated"),
-    (New(2, 4_194_304), "NotInitiated"),
+    (New(2, 16_777_216), "NotInitiated"),
     (New(2, 3), "NotInitiated"),
 ];
 
@@ -95,7 +95,7 @@ fn refusal(store: MemoryStore, other: &MemoryStore) -> Result<Option<OpenError>,
 fn changed(alloc: Global, change: &Change) -> Result<MemoryStore, Fail> {
     let mut store = store_after(alloc, BBBB_VERIFIED)?;
     match change {
-        Change::NoHeader => store.write_header(&[0; HEADER_SIZE])?,
+        Change::NoHeader => store.write_header(&HeaderBytes::Two([0; VERSION_TWO_SIZE]))?,
         Change::Bytes(slot, at, bytes) => put(&mut store, *slot, *at, bytes)?,
         Change::Fuse(calls) => store.fuse(*calls, 0xee),
     }

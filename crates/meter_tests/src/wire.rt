@@ -28,6 +28,12 @@ pub(crate) enum Part {
     Unfuses,
     /// The meter is restarted.
     Restarts,
+    /// It is restarted, and stops after so many calls of its store. Then it is opened with the header that is there.
+    StopsInRestart(u64),
+    /// So many blocks may an image have.
+    Limits(u32),
+    /// A request gets a reply with so many bytes 00 between two parts.
+    SaysZeros(&'static str, &'static str, usize, &'static str),
     /// The meter takes a turn.
     Turns,
     /// Blocks of so many bytes 61 are sent, from block 0 on, and each is done.
@@ -66,6 +72,18 @@ pub(crate) fn session_with(
     Ok(())
 }
 
+/// The same with an old meter, whose header has version 1.
+pub(crate) fn old_session_with(
+    alloc: Global,
+    block_size: u32,
+    capacity: u32,
+    parts: &[Part],
+) -> Result<(), Fail> {
+    let store = MemoryStore::new_old(alloc, capacity, block_size, b"abc")?;
+    played_by(alloc, kept(store)?, parts)?;
+    Ok(())
+}
+
 /// The store of a new meter that runs `abc`, with blocks of two bytes and room for 64, after a session. A restart hands it back
 /// where a call of it fails.
 pub(crate) fn store_after(alloc: Global, parts: &[Part]) -> Result<MemoryStore, Fail> {
@@ -95,13 +113,19 @@ fn played(
     parts: &[Part],
 ) -> Result<Wire, Fail> {
     let store = MemoryStore::new(alloc, capacity, block_size, factory)?;
+    played_by(alloc, opened(store)?, parts)
+}
+
+/// A session with a meter.
+fn played_by(alloc: Global, meter: MeterCore<MemoryStore>, parts: &[Part]) -> Result<Wire, Fail> {
     let mut wire = Wire {
-        meter: opened(store)?,
+        meter,
         told: String::new(alloc),
     };
     for part in parts {
         match part {
             Part::Restarts => wire = wire.restarted()?,
+            Part::StopsInRestart(calls) => wire = wire.stopped(*calls)?,
             part => wire.take(alloc, part)?,
         }
     }
@@ -111,6 +135,14 @@ fn played(
 /// The meter in a store.
 pub(crate) fn opened(store: MemoryStore) -> Result<MeterCore<MemoryStore>, Fail> {
     match MeterCore::open_store(store) {
+        Ok(meter) => Ok(meter),
+        Err((error, _store)) => Err(error.into()),
+    }
+}
+
+/// The meter in a store, whose header stays as it is.
+fn kept(store: MemoryStore) -> Result<MeterCore<MemoryStore>, Fail> {
+    match MeterCore::open_kept(store) {
         Ok(meter) => Ok(meter),
         Err((error, _store)) => Err(error.into()),
     }
@@ -143,6 +175,23 @@ impl Wire {
         }
     }
 
+    /// As a restart leaves it that stops after so many calls of the store.
+    fn stopped(self, calls: u64) -> Result<Wire, Fail> {
+        let Wire { mut meter, told } = self;
+        meter.fuse(calls, 0xee);
+        match meter.restart() {
+            Ok(mut meter) => {
+                meter.unfuse();
+                Ok(Wire { meter, told })
+            }
+            Err((_error, mut store)) => {
+                store.unfuse();
+                let meter = kept(store)?;
+                Ok(Wire { meter, told })
+            }
+        }
+    }
+
     /// Plays a part that is no restart.
     fn take(&mut self, alloc: Global, part: &Part) -> Result<(), Fail> {
         match part {
@@ -153,9 +202,14 @@ impl Wire {
                 self.meter.fuse(*calls, 0xee);
                 Ok(())
             }
-            Part::Unfuses | Part::Restarts => {
+            Part::Unfuses | Part::Restarts | Part::StopsInRestart(_) => {
                 self.meter.unfuse();
                 Ok(())
+            }
+            Part::Limits(limit) => self.limits(alloc, *limit),
+            Part::SaysZeros(request, front, count, back) => {
+                let want = zeros_text(alloc, front, *count, back)?;
+                self.says(alloc, request, want.as_str())
             }
             Part::Turns => {
                 self.meter.turn();
@@ -182,6 +236,12 @@ impl Wire {
             self.says(alloc, &block, DONE)?;
         }
         Ok(())
+    }
+
+    fn limits(&self, alloc: Global, want: u32) -> Result<(), Fail> {
+        let limit = format!(in alloc; "{}", self.meter.view().limit)?;
+        let want = format!(in alloc; "{want}")?;
+        expect(alloc, "the limit", limit.as_str(), want.as_str())
     }
 
     fn says(&mut self, alloc: Global, request: &str, want: &str) -> Result<(), Fail> {
@@ -277,7 +337,7 @@ fn name_text(alloc: Global, name: ImageName) -> Result<String, AllocError> {
 /// The numbers of the blocks that are marked: block i by bit i, the first bit the top bit of the first byte.
 fn marks_text(alloc: Global, view: &MeterView) -> Result<String, AllocError> {
     let mut marks = String::new(alloc);
-    for number in 0..4096usize {
+    for number in 0..16384usize {
         if view.marked[number / 8] & (0x80u8 >> (number % 8)) != 0 {
             let mark = format!(in alloc; " {number}")?;
             marks.push_str(&mark)?;
@@ -292,6 +352,16 @@ pub(crate) fn block_text(alloc: Global, number: usize, size: u32) -> Result<Stri
     for _ in 0..size {
         text.push_str("61")?;
     }
+    Ok(text)
+}
+
+/// So many bytes 00 between two parts.
+fn zeros_text(alloc: Global, front: &str, count: usize, back: &str) -> Result<String, AllocError> {
+    let mut text = String::from_str(alloc, front)?;
+    for _ in 0..count {
+        text.push_str("00")?;
+    }
+    text.push_str(back)?;
     Ok(text)
 }
 

@@ -159,6 +159,11 @@ impl Case for Most {
     }
 }
 
+const MOST: &[(Most, &str)] = &[
+    (Most(4096), "520 c401c100048210008000"),
+    (Most(16384), "2056 c401c100048240008000"),
+];
+
 /// So many bits, of which the first is set.
 fn first_of(alloc: Global, len: usize) -> Result<Bits, Fail> {
     let mut bytes = vec![in alloc; 0; len.div_ceil(8)]?;
@@ -204,7 +209,7 @@ impl Case for Wrapped {
 #[test]
 fn each_answer(rt: HostRuntime) -> Result<(), Fail> {
     each(rt.alloc(), TOLD)?;
-    each(rt.alloc(), &[(Most(4096), "520 c401c100048210008000")])?;
+    each(rt.alloc(), MOST)?;
     each(rt.alloc(), REPEATED)?;
     each(
         rt.alloc(),

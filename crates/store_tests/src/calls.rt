@@ -1,10 +1,12 @@
 //! Calls of a store, one after another. Expected bytes are worked out by hand from the format, and the SHA-256 of `abc` is the
 //! published one.
 
-use crate::headers::{padded, with_releases};
+use crate::headers::{RELEASES_AT, padded, with_patch};
 use crate::support::Takes;
 use crate::test_device::TestDevice;
-use fw_store::{DeviceStore, FileStore, HEADER_SIZE, ImageStore, MemoryStore, Slot, StoreFault};
+use fw_store::{
+    DeviceStore, FileStore, HeaderBytes, HeaderVersion, ImageStore, MemoryStore, Slot, StoreFault,
+};
 use std::alloc::{AllocError, Global};
 use std::test::Fail;
 
@@ -13,10 +15,13 @@ use std::test::Fail;
 pub(crate) enum Call {
     /// The header's bytes, as far as they aren't zeros.
     Header,
-    /// A header that begins with these bytes, and has zeros behind them.
+    /// A header of version 2 that begins with these bytes, and has zeros after them.
     WriteHeader(&'static [u8]),
-    /// The same with these bytes as its last, which are its releases.
-    WriteReleases(&'static [u8], [u8; 8]),
+    /// The same with these bytes from its releases on: they, and the marks after them.
+    WriteTail(&'static [u8], &'static [u8]),
+    /// Both of version 1.
+    WriteOldHeader(&'static [u8]),
+    WriteOldTail(&'static [u8], &'static [u8]),
     /// So many bytes of a slot, from a place on.
     Read(Slot, u32, u32),
     Write(Slot, u32, &'static [u8]),
@@ -32,13 +37,11 @@ pub(crate) fn called<S: ImageStore>(
 ) -> Result<String, Fail> {
     match *call {
         Call::Header => header_text(alloc, store.header()),
-        Call::WriteHeader(begin) => {
-            let bytes = padded(begin).ok_or("it is too long")?;
-            Ok(done_text(alloc, store.write_header(&bytes))?)
-        }
-        Call::WriteReleases(begin, releases) => {
-            let bytes = with_releases(begin, &releases).ok_or("it is too long")?;
-            Ok(done_text(alloc, store.write_header(&bytes))?)
+        Call::WriteHeader(begin) => head_text(alloc, store, HeaderVersion::Two, begin, &[]),
+        Call::WriteTail(begin, tail) => head_text(alloc, store, HeaderVersion::Two, begin, tail),
+        Call::WriteOldHeader(begin) => head_text(alloc, store, HeaderVersion::One, begin, &[]),
+        Call::WriteOldTail(begin, tail) => {
+            head_text(alloc, store, HeaderVersion::One, begin, tail)
         }
         Call::Read(slot, at, count) => read_text(alloc, store, slot, at, count),
         Call::Write(slot, at, bytes) => write_text(alloc, store, slot, at, bytes),
@@ -51,25 +54,55 @@ fn number_text(alloc: Global, number: u64) -> Result<String, AllocError> {
     format!(in alloc; "{number}")
 }
 
-fn header_text(
+/// A header is written that begins with these bytes, and has those from its releases on.
+fn head_text<S: ImageStore>(
     alloc: Global,
-    header: Result<[u8; HEADER_SIZE], StoreFault>,
+    store: &mut S,
+    version: HeaderVersion,
+    begin: &[u8],
+    tail: &[u8],
 ) -> Result<String, Fail> {
-    Ok(match header {
-        Ok(bytes) => bytes_text(alloc, &bytes)?,
-        Err(fault) => fault.to_string(alloc)?,
+    let front = padded(version, begin).ok_or("it is too long")?;
+    let bytes = with_patch(&front, RELEASES_AT, tail).ok_or("it is too long")?;
+    Ok(done_text(alloc, store.write_header(&bytes))?)
+}
+
+fn header_text(alloc: Global, header: Result<HeaderBytes, StoreFault>) -> Result<String, Fail> {
+    match header {
+        Ok(bytes) => versioned_text(alloc, &bytes),
+        Err(fault) => Ok(fault.to_string(alloc)?),
+    }
+}
+
+/// The bytes of a header, and of which version they are where that isn't 2.
+fn versioned_text(alloc: Global, bytes: &HeaderBytes) -> Result<String, Fail> {
+    let text = bytes_text(alloc, bytes)?;
+    Ok(match bytes.version() {
+        HeaderVersion::One => format!(in alloc; "{text} (version 1)")?,
+        HeaderVersion::Two => text,
     })
 }
 
-/// The bytes of a header as far as they aren't zeros, and the releases, where one isn't 0.
-pub(crate) fn bytes_text(alloc: Global, bytes: &[u8; HEADER_SIZE]) -> Result<String, AllocError> {
-    let (front, releases) = bytes.split_at(614);
-    let front = trimmed_text(alloc, front)?;
-    if releases.iter().all(|byte| *byte == 0) {
+/// The bytes of a header as far as they aren't zeros, and the releases and the marks after them where they aren't zeros alone.
+pub(crate) fn bytes_text(alloc: Global, bytes: &HeaderBytes) -> Result<String, AllocError> {
+    let bytes = bytes.as_slice();
+    let front = trimmed_text(alloc, bytes.get(..RELEASES_AT).unwrap_or(bytes))?;
+    let tail = bytes.get(RELEASES_AT..).unwrap_or(&[]);
+    if tail.iter().all(|byte| *byte == 0) {
         return Ok(front);
     }
-    let releases = hex::encode(alloc, releases)?;
-    format!(in alloc; "{front} {releases}")
+    let tail = tail_text(alloc, tail)?;
+    format!(in alloc; "{front} {tail}")
+}
+
+/// The releases, and the marks after them as far as they aren't zeros, where there are some.
+fn tail_text(alloc: Global, tail: &[u8]) -> Result<String, AllocError> {
+    let releases = hex::encode(alloc, tail.get(..8).unwrap_or(tail))?;
+    let marks = trimmed_text(alloc, tail.get(8..).unwrap_or(&[]))?;
+    if marks.is_empty() {
+        return Ok(releases);
+    }
+    format!(in alloc; "{releases} {marks}")
 }
 
 /// Bytes in hexadecimal, without the zeros at their end.
@@ -144,7 +177,7 @@ pub(crate) const FRESH: &[(Call, &str)] = &[
     (Call::Faults, "0"),
     (
         Call::Header,
-        "46574831000000000000000200000003010000000000000000ba7816bf8f01cfea414140de5dae2223b00361a396177a9cb410ff61f20015ad",
+        "46574832000000000000000200000003010000000000000000ba7816bf8f01cfea414140de5dae2223b00361a396177a9cb410ff61f20015ad",
     ),
     (Call::Read(Slot::First, 0, 8), "6162630000000000"),
     (Call::Read(Slot::Second, 0, 8), "0000000000000000"),
@@ -167,11 +200,28 @@ pub(crate) const KEPT: &[(Call, &str)] = &[
     (Call::Read(Slot::Second, 5, 3), "707172"),
 ];
 
-/// The bytes of a store with 8 bytes a slot: how many there are, the capacity, the header as far as it isn't zeros, both slots, and the
-/// releases, which an old store hasn't.
+/// The same in version 1: the front of the header of such a store, and what each call of one with it is told.
+pub(crate) const OLD_FRONT: &[u8] = &[
+    0x46, 0x57, 0x48, 0x31, 0, 0, 0, 0, 0, 0, 0, 2, 0, 0, 0, 3, 1, 0, 0, 0, 0, 0, 0, 0, 0, 0xba,
+    0x78, 0x16, 0xbf, 0x8f, 0x01, 0xcf, 0xea, 0x41, 0x41, 0x40, 0xde, 0x5d, 0xae, 0x22, 0x23, 0xb0,
+    0x03, 0x61, 0xa3, 0x96, 0x17, 0x7a, 0x9c, 0xb4, 0x10, 0xff, 0x61, 0xf2, 0x00, 0x15, 0xad,
+];
+
+pub(crate) const OLD_FRESH: &[(Call, &str)] = &[
+    (Call::Capacity, "8"),
+    (
+        Call::Header,
+        "46574831000000000000000200000003010000000000000000ba7816bf8f01cfea414140de5dae2223b00361a396177a9cb410ff61f20015ad (version 1)",
+    ),
+    (Call::Read(Slot::First, 0, 8), "6162630000000000"),
+    (Call::Read(Slot::Second, 0, 8), "0000000000000000"),
+];
+
+/// The bytes of a store with 8 bytes a slot: how many there are, the capacity, the header as far as it isn't zeros, both slots, and what
+/// stands behind them: nothing, the releases, or these and the marks.
 pub(crate) fn stored_text(alloc: Global, bytes: &[u8]) -> Result<String, Fail> {
     let len = bytes.len();
-    if len != 634 && len != 642 {
+    if len != 634 && len != 642 && len != 2178 {
         return Ok(format!(in alloc; "{len} bytes")?);
     }
     let capacity = hex::encode(alloc, &bytes[..4])?;
@@ -180,10 +230,10 @@ pub(crate) fn stored_text(alloc: Global, bytes: &[u8]) -> Result<String, Fail> {
     if len == 634 {
         return Ok(format!(in alloc; "{len} bytes: {capacity} {header} {slots}")?);
     }
-    let releases = hex::encode(alloc, &bytes[634..])?;
-    Ok(format!(in alloc; "{len} bytes: {capacity} {header} {slots} {releases}")?)
+    let tail = tail_text(alloc, &bytes[634..])?;
+    Ok(format!(in alloc; "{len} bytes: {capacity} {header} {slots} {tail}")?)
 }
 
 /// Those of a new one.
 pub(crate) const FRESH_BYTES: &str =
-    "642 bytes: 00000008 46574831000000000000000200000003010000000000000000ba7816bf8f01cfea414140de5dae2223b00361a396177a9cb410ff61f20015ad 61626300000000000000000000000000 0000000000000000";
+    "2178 bytes: 00000008 46574832000000000000000200000003010000000000000000ba7816bf8f01cfea414140de5dae2223b00361a396177a9cb410ff61f20015ad 61626300000000000000000000000000 0000000000000000";

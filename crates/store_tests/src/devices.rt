@@ -1,6 +1,6 @@
 //! Stores on a device in memory, whose bytes are compared with the format.
 
-use crate::calls::{Call, FRESH, FRESH_BYTES, KEPT, WRITES, stored_text};
+use crate::calls::{Call, FRESH, FRESH_BYTES, KEPT, OLD_FRESH, OLD_FRONT, WRITES, stored_text};
 use crate::memory::Setup;
 use crate::support::{Case, each, session};
 use crate::test_device::TestDevice;
@@ -8,9 +8,9 @@ use fw_store::{ByteDevice, DeviceStore, FileStoreError, ImageStore, Slot};
 use std::alloc::{AllocError, Global};
 use std::test::Fail;
 
-/// A new store of 8 bytes a slot.
+/// A new store of 8 bytes a slot, on a device with room for as many bytes as it has.
 fn fresh(alloc: Global) -> Result<DeviceStore<TestDevice>, Fail> {
-    Ok(DeviceStore::create_on(TestDevice::new(alloc), 8, 2, b"abc")?)
+    Ok(DeviceStore::create_on(TestDevice::new(alloc, 2178)?, 8, 2, b"abc")?)
 }
 
 /// Calls of a new store: the bytes of the device then.
@@ -28,50 +28,131 @@ const STORED: &[(Stored, &str)] = &[
     (Stored(FRESH), FRESH_BYTES),
     (
         Stored(WRITES),
-        "642 bytes: 00000008 0102030405 61787900000000000000000000707172 0000000000000000",
+        "2178 bytes: 00000008 0102030405 61787900000000000000000000707172 0000000000000000",
     ),
     (
-        Stored(RELEASES),
-        "642 bytes: 00000008 07 61626300000000000000000000000000 0000000500000006",
+        Stored(TAIL),
+        "2178 bytes: 00000008 07 61626300000000000000000000000000 0000000500000006 80",
+    ),
+    // an old header makes it shorter, and a new one longer again, with nothing left of what stood there
+    (
+        Stored(OLD_TAIL),
+        "642 bytes: 00000008 08 61626300000000000000000000000000 0000000300000004",
+    ),
+    (
+        Stored(&[
+            (Call::WriteTail(&[7], TAIL_BYTES), "done"),
+            (Call::WriteOldHeader(&[8]), "done"),
+            (Call::WriteHeader(&[9]), "done"),
+            (Call::Header, "09"),
+        ]),
+        "2178 bytes: 00000008 09 61626300000000000000000000000000 0000000000000000",
     ),
 ];
 
-/// The last eight bytes of a header stand behind the second slot.
-const RELEASES: &[(Call, &str)] = &[
-    (Call::WriteReleases(&[7], [0, 0, 0, 5, 0, 0, 0, 6]), "done"),
-    (Call::Header, "07 0000000500000006"),
+/// Two releases, and a mark of block 4,096.
+const TAIL_BYTES: &[u8] = &[0, 0, 0, 5, 0, 0, 0, 6, 0x80];
+
+/// The last bytes of a header stand behind the second slot.
+const TAIL: &[(Call, &str)] = &[
+    (Call::WriteTail(&[7], TAIL_BYTES), "done"),
+    (Call::Header, "07 0000000500000006 80"),
 ];
 
-/// Calls of a store on a device that holds an old one, without releases: the bytes of the device then.
-struct Old(&'static [(Call, &'static str)]);
+/// And so they do in version 1.
+const OLD_TAIL: &[(Call, &str)] = &[
+    (Call::WriteOldTail(&[8], &[0, 0, 0, 3, 0, 0, 0, 4]), "done"),
+    (Call::Header, "08 0000000300000004 (version 1)"),
+];
+
+/// Calls of a store on a device that holds an old one of so many bytes, with releases or without: the bytes of the device then.
+struct Old(usize, &'static [(Call, &'static str)]);
 
 impl Case for Old {
     fn told(&self, alloc: Global) -> Result<String, Fail> {
-        let mut device = fresh(alloc)?.into_device();
-        device.bytes.truncate(634);
-        let mut store = DeviceStore::reopen_on(device)?;
-        session(alloc, &mut store, self.0)?;
+        let mut store = DeviceStore::reopen_on(old_device(alloc, self.0)?)?;
+        session(alloc, &mut store, self.1)?;
         stored_text(alloc, store.into_device().bytes.as_slice())
     }
 }
 
-/// Its releases are 0. The next write of its header adds them, and no other call does.
+fn old_device(alloc: Global, len: usize) -> Result<TestDevice, Fail> {
+    let mut store = fresh(alloc)?;
+    session(
+        alloc,
+        &mut store,
+        &[(Call::WriteOldHeader(OLD_FRONT), "done")],
+    )?;
+    let mut device = store.into_device();
+    device.bytes.truncate(len);
+    Ok(device)
+}
+
+/// Releases that aren't there are 0. The next write of its header gives it the length of the version that is written, and no other call
+/// changes its length.
 const OLD: &[(Old, &str)] = &[
     (
-        Old(FRESH),
+        Old(634, OLD_FRESH),
         "634 bytes: 00000008 46574831000000000000000200000003010000000000000000ba7816bf8f01cfea414140de5dae2223b00361a396177a9cb410ff61f20015ad 61626300000000000000000000000000",
     ),
     (
-        Old(&[(Call::Write(Slot::Second, 5, b"pqr"), "done")]),
+        Old(642, OLD_FRESH),
+        "642 bytes: 00000008 46574831000000000000000200000003010000000000000000ba7816bf8f01cfea414140de5dae2223b00361a396177a9cb410ff61f20015ad 61626300000000000000000000000000 0000000000000000",
+    ),
+    (
+        Old(634, &[(Call::Write(Slot::Second, 5, b"pqr"), "done")]),
         "634 bytes: 00000008 46574831000000000000000200000003010000000000000000ba7816bf8f01cfea414140de5dae2223b00361a396177a9cb410ff61f20015ad 61626300000000000000000000707172",
     ),
     (
-        Old(WRITES),
-        "642 bytes: 00000008 0102030405 61787900000000000000000000707172 0000000000000000",
+        Old(634, WRITES),
+        "2178 bytes: 00000008 0102030405 61787900000000000000000000707172 0000000000000000",
     ),
     (
-        Old(RELEASES),
-        "642 bytes: 00000008 07 61626300000000000000000000000000 0000000500000006",
+        Old(642, WRITES),
+        "2178 bytes: 00000008 0102030405 61787900000000000000000000707172 0000000000000000",
+    ),
+    (
+        Old(634, TAIL),
+        "2178 bytes: 00000008 07 61626300000000000000000000000000 0000000500000006 80",
+    ),
+    (
+        Old(634, OLD_TAIL),
+        "642 bytes: 00000008 08 61626300000000000000000000000000 0000000300000004",
+    ),
+    (
+        Old(642, OLD_TAIL),
+        "642 bytes: 00000008 08 61626300000000000000000000000000 0000000300000004",
+    ),
+];
+
+/// Calls of an old store of 642 bytes on a device that has room for so many: the bytes of the device then.
+struct Within(usize, &'static [(Call, &'static str)]);
+
+impl Case for Within {
+    fn told(&self, alloc: Global) -> Result<String, Fail> {
+        let device = old_device(alloc, 642)?.limited(self.0);
+        let mut store = DeviceStore::reopen_on(device)?;
+        session(alloc, &mut store, self.1)?;
+        stored_text(alloc, store.into_device().bytes.as_slice())
+    }
+}
+
+/// A header for which there is no room isn't written: the old one stands.
+const WITHIN: &[(Within, &str)] = &[
+    (
+        Within(
+            2177,
+            &[(Call::WriteHeader(&[7]), "StoreFault"), (Call::Faults, "1")],
+        ),
+        "642 bytes: 00000008 46574831000000000000000200000003010000000000000000ba7816bf8f01cfea414140de5dae2223b00361a396177a9cb410ff61f20015ad 61626300000000000000000000000000 0000000000000000",
+    ),
+    (
+        Within(642, OLD_TAIL),
+        "642 bytes: 00000008 08 61626300000000000000000000000000 0000000300000004",
+    ),
+    (
+        Within(2178, TAIL),
+        "2178 bytes: 00000008 07 61626300000000000000000000000000 0000000500000006 80",
     ),
 ];
 
@@ -80,20 +161,23 @@ struct Over(usize);
 
 impl Case for Over {
     fn told(&self, alloc: Global) -> Result<String, Fail> {
-        let used = TestDevice {
-            bytes: vec![in alloc; 255; self.0]?,
-            calls_left: None,
-        };
+        let used = filled(alloc, self.0, 255)?;
         let over = DeviceStore::create_on(used, 8, 2, b"abc")?.into_device();
         stored_text(alloc, over.bytes.as_slice())
     }
+}
+
+/// A device of so many bytes, each of them this one.
+fn filled(alloc: Global, len: usize, byte: u8) -> Result<TestDevice, AllocError> {
+    Ok(TestDevice::of(vec![in alloc; byte; len]?))
 }
 
 #[test]
 fn the_bytes_of_a_store(rt: HostRuntime) -> Result<(), Fail> {
     each(rt.alloc(), STORED)?;
     each(rt.alloc(), OLD)?;
-    each(rt.alloc(), &[(Over(1000), FRESH_BYTES)])
+    each(rt.alloc(), WITHIN)?;
+    each(rt.alloc(), &[(Over(3000), FRESH_BYTES)])
 }
 
 #[test]
@@ -120,18 +204,22 @@ impl Case for Opened {
 }
 
 fn device(alloc: Global, opened: &Opened) -> Result<TestDevice, AllocError> {
-    let mut bytes = vec![in alloc; 0; opened.1]?;
-    for (byte, is) in bytes.iter_mut().zip(opened.0) {
+    let mut device = filled(alloc, opened.1, 0)?;
+    for (byte, is) in device.bytes.iter_mut().zip(opened.0) {
         *byte = *is;
     }
-    Ok(TestDevice {
-        bytes,
-        calls_left: None,
-    })
+    Ok(device)
 }
 
-/// The capacity in the first four bytes, and the length of all, which in an old store is less by eight.
+/// The capacity in the first four bytes, and the length of all, which in an old store is less by 1,536, or by eight more.
 const OPENED: &[(Opened, &str)] = &[
+    (Opened(&[0, 0, 0, 8], 2178), "8"),
+    (Opened(&[0, 0, 0, 8], 642), "8"),
+    (Opened(&[0, 0, 0, 8], 634), "8"),
+    (Opened(&[0, 0, 0, 8], 2177), "BadFile"),
+    (Opened(&[0, 0, 0, 8], 2179), "BadFile"),
+    (Opened(&[0, 0, 0, 7], 2178), "BadFile"),
+    (Opened(&[0, 0, 0, 9], 2178), "BadFile"),
     (Opened(&[0, 0, 0, 8], 641), "BadFile"),
     (Opened(&[0, 0, 0, 8], 643), "BadFile"),
     (Opened(&[0, 0, 0, 7], 642), "BadFile"),
@@ -140,45 +228,55 @@ const OPENED: &[(Opened, &str)] = &[
     (Opened(&[0, 0, 0, 8], 635), "BadFile"),
     (Opened(&[0, 0, 0, 7], 634), "BadFile"),
     (Opened(&[0, 0, 0, 9], 634), "BadFile"),
+    (Opened(&[0, 0, 0, 0], 2162), "BadFile"),
     (Opened(&[0, 0, 0, 0], 626), "BadFile"),
     (Opened(&[0, 0, 0, 0], 618), "BadFile"),
     (Opened(&[0, 0, 0, 0], 4), "BadFile"),
     (Opened(&[0, 0, 0, 1], 618), "BadFile"),
-    // 4,194,305 bytes a slot
-    (Opened(&[0, 0x40, 0, 1], 8_389_236), "BadFile"),
-    (Opened(&[0, 0x40, 0, 1], 8_389_228), "BadFile"),
+    // 16,777,217 bytes a slot
+    (Opened(&[1, 0, 0, 1], 33_556_596), "BadFile"),
+    (Opened(&[0xff, 0xff, 0xff, 0xff], 2160), "BadFile"),
     (Opened(&[0xff, 0xff, 0xff, 0xff], 624), "BadFile"),
     (Opened(&[0xff, 0xff, 0xff, 0xff], 616), "BadFile"),
     (Opened(&[8, 0, 0, 0], 642), "BadFile"),
     // no byte
     (Opened(&[], 0), "BadFile"),
     // the limits
+    (Opened(&[0, 0, 0, 1], 2164), "1"),
+    (Opened(&[1, 0, 0, 0], 33_556_594), "16777216"),
+    // and of old stores: none is made any more with more than 4,194,304 bytes a slot, and one that has them is opened
     (Opened(&[0, 0, 0, 1], 628), "1"),
-    (Opened(&[0, 0x40, 0, 0], 8_389_234), "4194304"),
-    // those of old stores
+    (Opened(&[0, 0x40, 0, 1], 8_389_236), "4194305"),
     (Opened(&[0, 0, 0, 1], 620), "1"),
-    (Opened(&[0, 0x40, 0, 0], 8_389_226), "4194304"),
+    (Opened(&[0, 0x40, 0, 1], 8_389_228), "4194305"),
 ];
 
-/// Capacity, block size and factory image of a store on a device: the refusal.
-struct Created(Setup);
+/// Capacity, block size and factory image of a store on a device with room for so many bytes: the refusal.
+struct Created(Setup, usize);
 
 impl Case for Created {
     fn told(&self, alloc: Global) -> Result<String, Fail> {
         let Setup(capacity, block_size, factory) = self.0;
-        let device = TestDevice::new(alloc);
+        let device = TestDevice::new(alloc, self.1)?;
         let store = DeviceStore::create_on(device, capacity, block_size, factory);
         Ok(format!(in alloc; "{:?}", store.err())?)
     }
 }
 
 const CREATED: &[(Created, &str)] = &[
-    (Created(Setup(64, 0, b"abc")), "Some(BadSetup)"),
-    (Created(Setup(64, 1025, b"abc")), "Some(BadSetup)"),
-    (Created(Setup(0, 2, b"abc")), "Some(BadSetup)"),
-    (Created(Setup(4_194_305, 2, b"abc")), "Some(BadSetup)"),
-    (Created(Setup(64, 2, b"")), "Some(BadSetup)"),
-    (Created(Setup(2, 2, b"abc")), "Some(BadSetup)"),
+    (Created(Setup(64, 0, b"abc"), 2290), "Some(BadSetup)"),
+    (Created(Setup(64, 1025, b"abc"), 2290), "Some(BadSetup)"),
+    (Created(Setup(0, 2, b"abc"), 2290), "Some(BadSetup)"),
+    (
+        Created(Setup(16_777_217, 2, b"abc"), 2290),
+        "Some(BadSetup)",
+    ),
+    (Created(Setup(64, 2, b""), 2290), "Some(BadSetup)"),
+    (Created(Setup(2, 2, b"abc"), 2290), "Some(BadSetup)"),
+    (Created(Setup(64, 2, b"abc"), 2290), "None"),
+    (Created(Setup(4_194_305, 2, b"abc"), 8_390_772), "None"),
+    // a byte of room is missing
+    (Created(Setup(64, 2, b"abc"), 2289), "Some(StoreFault)"),
 ];
 
 #[test]
@@ -197,10 +295,8 @@ impl Case for Failing {
     fn told(&self, alloc: Global) -> Result<String, Fail> {
         let refusal = match *self {
             Failing::Made(calls) => {
-                let device = TestDevice {
-                    bytes: Vec::new(alloc),
-                    calls_left: Some(calls),
-                };
+                let mut device = TestDevice::new(alloc, 2178)?;
+                device.calls_left = Some(calls);
                 DeviceStore::create_on(device, 8, 2, b"abc").err()
             }
             Failing::Opened(calls) => {
@@ -254,7 +350,7 @@ impl Case for Left {
 
 const LEFT: &[(Left, &str)] = &[(
     Left(FAULTS),
-    "true 642 bytes: 00000008 46574831000000000000000200000003010000000000000000ba7816bf8f01cfea414140de5dae2223b00361a396177a9cb410ff61f20015ad eeeeeeee000000000000000000000000 0000000000000000",
+    "true 2178 bytes: 00000008 46574832000000000000000200000003010000000000000000ba7816bf8f01cfea414140de5dae2223b00361a396177a9cb410ff61f20015ad eeeeeeee000000000000000000000000 0000000000000000",
 )];
 
 impl Case for FileStoreError {

@@ -1,6 +1,6 @@
 //! Stores in files.
 
-use crate::calls::{Call, FRESH, FRESH_BYTES, KEPT, WRITES, stored_text};
+use crate::calls::{Call, FRESH, FRESH_BYTES, KEPT, OLD_FRESH, OLD_FRONT, WRITES, stored_text};
 use crate::support::{Takes, session};
 use fw_store::{FileStore, FileStoreError, Slot};
 use std::alloc::Global;
@@ -199,7 +199,7 @@ const STORED: &[(Step, &str)] = &[
     (Step::Drop, ""),
     (
         Step::Stored,
-        "642 bytes: 00000008 0707 61626300000000000000000000000000 0000000000000000",
+        "2178 bytes: 00000008 0707 61626300000000000000000000000000 0000000000000000",
     ),
     (Step::Remove, ""),
     (Step::Create(8, 2), "a store"),
@@ -210,7 +210,7 @@ const STORED: &[(Step, &str)] = &[
     (Step::Drop, ""),
     (
         Step::Stored,
-        "642 bytes: 00000008 46574831000000000000000200000003010000000000000000ba7816bf8f01cfea414140de5dae2223b00361a396177a9cb410ff61f20015ad 61626364656667680000000000000000 0000000000000000",
+        "2178 bytes: 00000008 46574832000000000000000200000003010000000000000000ba7816bf8f01cfea414140de5dae2223b00361a396177a9cb410ff61f20015ad 61626364656667680000000000000000 0000000000000000",
     ),
     (Step::Remove, ""),
     (Step::Create(8, 2), "a store"),
@@ -225,7 +225,7 @@ const STORED: &[(Step, &str)] = &[
     (Step::Drop, ""),
     (
         Step::Stored,
-        "642 bytes: 00000008 0707 6162636465666768696a000000000000 0000000000000000",
+        "2178 bytes: 00000008 0707 6162636465666768696a000000000000 0000000000000000",
     ),
     (Step::Remove, ""),
 ];
@@ -241,14 +241,71 @@ const REOPENED: &[(Step, &str)] = &[
     (Step::Remove, ""),
 ];
 
-/// A file as it was before names had releases, 8 bytes shorter. A look at it leaves it, and so does a write to a slot. What is written
-/// of the header adds the releases.
+/// A file with a header of version 1 is 1,536 bytes shorter. A look at it leaves it. A header of version 2 makes it longer, and one of
+/// version 1 shorter again.
 const OLD: &[(Step, &str)] = &[
     (Step::Create(8, 2), "a store"),
+    (
+        Step::Calls(&[(Call::WriteOldHeader(OLD_FRONT), "done")]),
+        "",
+    ),
+    (Step::Drop, ""),
+    (
+        Step::Stored,
+        "642 bytes: 00000008 46574831000000000000000200000003010000000000000000ba7816bf8f01cfea414140de5dae2223b00361a396177a9cb410ff61f20015ad 61626300000000000000000000000000 0000000000000000",
+    ),
+    (Step::Look, "a store"),
+    (Step::Calls(OLD_FRESH), ""),
+    (
+        Step::Calls(&[
+            (
+                Call::WriteTail(&[7], &[0, 0, 0, 5, 0, 0, 0, 6, 0x80]),
+                "done",
+            ),
+            (Call::Header, "07 0000000500000006 80"),
+            (Call::Read(Slot::First, 0, 8), "6162630000000000"),
+        ]),
+        "",
+    ),
+    (Step::Drop, ""),
+    (
+        Step::Stored,
+        "2178 bytes: 00000008 07 61626300000000000000000000000000 0000000500000006 80",
+    ),
+    (Step::Reopen, "a store"),
+    (
+        Step::Calls(&[
+            (Call::Header, "07 0000000500000006 80"),
+            (Call::WriteOldTail(&[8], &[0, 0, 0, 3, 0, 0, 0, 4]), "done"),
+            (Call::Header, "08 0000000300000004 (version 1)"),
+        ]),
+        "",
+    ),
+    (Step::Drop, ""),
+    (
+        Step::Stored,
+        "642 bytes: 00000008 08 61626300000000000000000000000000 0000000300000004",
+    ),
+    (Step::Reopen, "a store"),
+    (
+        Step::Calls(&[(Call::Header, "08 0000000300000004 (version 1)")]),
+        "",
+    ),
+    (Step::Remove, ""),
+];
+
+/// A file as it was before names had releases, 8 bytes shorter still. A look at it leaves it, and so does a write to a slot. What is
+/// written of the header adds the releases, and in version 2 the marks.
+const WITHOUT_RELEASES: &[(Step, &str)] = &[
+    (Step::Create(8, 2), "a store"),
+    (
+        Step::Calls(&[(Call::WriteOldHeader(OLD_FRONT), "done")]),
+        "",
+    ),
     (Step::Drop, ""),
     (Step::SetLen(634), ""),
     (Step::Look, "a store"),
-    (Step::Calls(FRESH), ""),
+    (Step::Calls(OLD_FRESH), ""),
     (
         Step::Calls(&[(Call::Write(Slot::First, 3, b"defgh"), "done")]),
         "",
@@ -261,8 +318,8 @@ const OLD: &[(Step, &str)] = &[
     (Step::Reopen, "a store"),
     (
         Step::Calls(&[
-            (Call::WriteReleases(&[7], [0, 0, 0, 5, 0, 0, 0, 6]), "done"),
-            (Call::Header, "07 0000000500000006"),
+            (Call::WriteOldTail(&[7], &[0, 0, 0, 5, 0, 0, 0, 6]), "done"),
+            (Call::Header, "07 0000000500000006 (version 1)"),
             (Call::Read(Slot::First, 0, 8), "6162636465666768"),
         ]),
         "",
@@ -272,8 +329,16 @@ const OLD: &[(Step, &str)] = &[
         Step::Stored,
         "642 bytes: 00000008 07 61626364656667680000000000000000 0000000500000006",
     ),
+    (Step::SetLen(634), ""),
     (Step::Reopen, "a store"),
-    (Step::Calls(&[(Call::Header, "07 0000000500000006")]), ""),
+    (Step::Calls(&[(Call::WriteHeader(&[9]), "done")]), ""),
+    (Step::Drop, ""),
+    (
+        Step::Stored,
+        "2178 bytes: 00000008 09 61626364656667680000000000000000 0000000000000000",
+    ),
+    (Step::Reopen, "a store"),
+    (Step::Calls(&[(Call::Header, "09")]), ""),
     (Step::Remove, ""),
 ];
 
@@ -281,7 +346,8 @@ const OLD: &[(Step, &str)] = &[
 fn the_bytes_of_the_file(rt: HostRuntime) -> Result<(), Fail> {
     steps(&rt, "fw_store_bytes", STORED)?;
     steps(&rt, "fw_store_reopened", REOPENED)?;
-    steps(&rt, "fw_store_old", OLD)
+    steps(&rt, "fw_store_old", OLD)?;
+    steps(&rt, "fw_store_without_releases", WITHOUT_RELEASES)
 }
 
 /// A file that is there is never overwritten.
@@ -330,16 +396,23 @@ fn a_file_that_is_there_is_left(rt: HostRuntime) -> Result<(), Fail> {
     steps(&rt, "fw_store_held", HELD)
 }
 
-/// Files that begin as that of a new store and have another length, and others: no bytes a slot, and 4,194,305, which are one too many.
-/// The length of an old store is that of one, too.
+/// Files that begin as that of a new store and have another length, and others: no bytes a slot, and 16,777,217, which are one too many.
+/// The lengths of old stores are those of one, too.
 const NO_STORES: &[(Step, &str)] = &[
     (Step::Create(8, 2), "a store"),
     (Step::Drop, ""),
+    (Step::SetLen(2179), ""),
+    (Step::Look, "BadFile"),
+    (Step::SetLen(2178), ""),
+    (Step::Look, "a store"),
+    (Step::Drop, ""),
+    (Step::SetLen(2177), ""),
+    (Step::Look, "BadFile"),
+    (Step::SetLen(643), ""),
+    (Step::Look, "BadFile"),
     (Step::SetLen(642), ""),
     (Step::Look, "a store"),
     (Step::Drop, ""),
-    (Step::SetLen(643), ""),
-    (Step::Look, "BadFile"),
     (Step::SetLen(641), ""),
     (Step::Look, "BadFile"),
     (Step::SetLen(635), ""),
@@ -354,15 +427,19 @@ const NO_STORES: &[(Step, &str)] = &[
     (Step::SetLen(0), ""),
     (Step::Look, "BadFile"),
     (Step::Write(&[0, 0, 0, 0]), ""),
+    (Step::SetLen(2162), ""),
+    (Step::Look, "BadFile"),
     (Step::SetLen(626), ""),
     (Step::Look, "BadFile"),
     (Step::SetLen(618), ""),
     (Step::Look, "BadFile"),
-    (Step::Write(&[0, 0x40, 0, 1]), ""),
-    (Step::SetLen(8_389_236), ""),
-    (Step::Look, "BadFile"),
-    (Step::SetLen(8_389_228), ""),
-    (Step::Look, "BadFile"),
+    (Step::Write(&[1, 0, 0, 1]), ""),
+    (Step::SetLen(33_556_596), ""),
+    (Step::Reopen, "BadFile"),
+    (Step::SetLen(33_555_060), ""),
+    (Step::Reopen, "BadFile"),
+    (Step::SetLen(33_555_052), ""),
+    (Step::Reopen, "BadFile"),
     (Step::Remove, ""),
 ];
 

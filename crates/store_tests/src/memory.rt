@@ -1,6 +1,6 @@
 //! Stores in memory, and their fuse.
 
-use crate::calls::{Call, FRESH, KEPT, WRITES, called};
+use crate::calls::{Call, FRESH, KEPT, OLD_FRESH, OLD_FRONT, WRITES, called};
 use crate::support::{Case, Takes, each, session};
 use fw_store::{ImageStore, MAX_CAPACITY, MemoryStore, SetupError, Slot, StoreFault};
 use std::alloc::Global;
@@ -15,15 +15,49 @@ fn keeps_what_is_written(rt: HostRuntime) -> Result<(), Fail> {
     session(alloc, &mut store, KEPT)
 }
 
+/// An old store has a header of version 1, and takes one of either version.
+#[test]
+fn keeps_what_is_written_into_an_old_one(rt: HostRuntime) -> Result<(), Fail> {
+    let alloc = rt.alloc();
+    let mut store = MemoryStore::new_old(alloc, 8, 2, b"abc")?;
+    session(alloc, &mut store, OLD_FRESH)?;
+    session(alloc, &mut store, WRITES)?;
+    session(alloc, &mut store, KEPT)?;
+    session(alloc, &mut store, OLD_AGAIN)
+}
+
+const OLD_AGAIN: &[(Call, &str)] = &[
+    (Call::WriteOldTail(&[7], &[0, 0, 0, 5, 0, 0, 0, 6]), "done"),
+    (Call::Header, "07 0000000500000006 (version 1)"),
+    (Call::Read(Slot::First, 0, 8), "6178790000000000"),
+];
+
 /// Capacity, block size and factory image of a store: the capacity that it has, or the refusal.
 pub(crate) struct Setup(pub(crate) u32, pub(crate) u32, pub(crate) &'static [u8]);
 
 impl Case for Setup {
     fn told(&self, alloc: Global) -> Result<String, Fail> {
-        Ok(match MemoryStore::new(alloc, self.0, self.1, self.2) {
-            Ok(store) => format!(in alloc; "{}", store.capacity())?,
-            Err(refusal) => refusal.to_string(alloc)?,
-        })
+        made_text(alloc, MemoryStore::new(alloc, self.0, self.1, self.2))
+    }
+}
+
+fn made_text(alloc: Global, made: Result<MemoryStore, SetupError>) -> Result<String, Fail> {
+    Ok(match made {
+        Ok(store) => format!(in alloc; "{}", store.capacity())?,
+        Err(refusal) => refusal.to_string(alloc)?,
+    })
+}
+
+/// The same of an old one.
+struct OldSetup(Setup);
+
+impl Case for OldSetup {
+    fn told(&self, alloc: Global) -> Result<String, Fail> {
+        let Setup(capacity, block_size, factory) = self.0;
+        made_text(
+            alloc,
+            MemoryStore::new_old(alloc, capacity, block_size, factory),
+        )
     }
 }
 
@@ -31,14 +65,29 @@ const SETUPS: &[(Setup, &str)] = &[
     (Setup(64, 1, b"abc"), "64"),
     (Setup(64, 1024, b"abc"), "64"),
     (Setup(1, 2, b"a"), "1"),
-    (Setup(MAX_CAPACITY, 2, b"abc"), "4194304"),
+    (Setup(4_194_305, 2, b"abc"), "4194305"),
+    (Setup(MAX_CAPACITY, 2, b"abc"), "16777216"),
     (Setup(3, 2, b"abc"), "3"),
     (Setup(64, 0, b"abc"), "BadSetup"),
     (Setup(64, 1025, b"abc"), "BadSetup"),
     (Setup(0, 2, b"abc"), "BadSetup"),
-    (Setup(4_194_305, 2, b"abc"), "BadSetup"),
+    (Setup(16_777_217, 2, b"abc"), "BadSetup"),
     (Setup(64, 2, b""), "BadSetup"),
     (Setup(2, 2, b"abc"), "BadSetup"),
+];
+
+/// The limit of the capacity is that of 4,096 blocks.
+const OLD_SETUPS: &[(OldSetup, &str)] = &[
+    (OldSetup(Setup(64, 1, b"abc")), "64"),
+    (OldSetup(Setup(1, 1024, b"a")), "1"),
+    (OldSetup(Setup(4_194_304, 2, b"abc")), "4194304"),
+    (OldSetup(Setup(4_194_305, 2, b"abc")), "BadSetup"),
+    (OldSetup(Setup(MAX_CAPACITY, 2, b"abc")), "BadSetup"),
+    (OldSetup(Setup(64, 0, b"abc")), "BadSetup"),
+    (OldSetup(Setup(64, 1025, b"abc")), "BadSetup"),
+    (OldSetup(Setup(0, 2, b"abc")), "BadSetup"),
+    (OldSetup(Setup(64, 2, b"")), "BadSetup"),
+    (OldSetup(Setup(2, 2, b"abc")), "BadSetup"),
 ];
 
 impl Case for SetupError {
@@ -56,6 +105,7 @@ impl Case for StoreFault {
 #[test]
 fn setups(rt: HostRuntime) -> Result<(), Fail> {
     each(rt.alloc(), SETUPS)?;
+    each(rt.alloc(), OLD_SETUPS)?;
     each(
         rt.alloc(),
         &[
@@ -127,7 +177,7 @@ const FAULTS: Step = Step::Call(Call::Faults);
 
 /// The header of a new store.
 const NEW: &str =
-    "46574831000000000000000200000003010000000000000000ba7816bf8f01cfea414140de5dae2223b00361a396177a9cb410ff61f20015ad";
+    "46574832000000000000000200000003010000000000000000ba7816bf8f01cfea414140de5dae2223b00361a396177a9cb410ff61f20015ad";
 
 /// A fuse fails after so many of four calls, one of each kind, and stays until it is taken away.
 const FUSES: &[&[(Step, &str)]] = &[
@@ -348,6 +398,14 @@ const SAME: &[&[(Step, &str)]] = &[
     &[
         (Step::Same(9, None), "false"),
         (Step::Same(8, Some(Call::WriteHeader(&[]))), "false"),
+        // bytes of the other version
+        (
+            Step::Same(8, Some(Call::WriteOldHeader(OLD_FRONT))),
+            "false",
+        ),
+        (Step::Call(Call::WriteHeader(&[])), "done"),
+        (Step::Same(8, Some(Call::WriteHeader(&[]))), "true"),
+        (Step::Same(8, Some(Call::WriteOldHeader(&[]))), "false"),
     ],
 ];
 

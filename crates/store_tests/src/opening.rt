@@ -3,10 +3,12 @@
 use crate::headers::marked;
 use crate::session::{bbbb, named};
 use crate::support::{Case, each};
-use fw_blocks::Pages;
-use fw_image::{OpenError, open_store};
+use fw_image::{OpenError, Phase, open_kept, open_store};
 use fw_names::{ImageName, factory_name};
-use fw_store::{Goal, HEADER_SIZE, Header, ImageStore, MemoryStore, Slot, StoredStatus};
+use fw_store::{
+    Goal, Header, HeaderBytes, HeaderVersion, ImageStore, MemoryStore, Slot, StoredStatus,
+    VERSION_TWO_SIZE,
+};
 use std::alloc::Global;
 use std::test::Fail;
 
@@ -19,6 +21,8 @@ struct Stored(Head, &'static [u8], Option<u64>);
 enum Head {
     /// It runs `abc`, in this status.
     In(StoredStatus),
+    /// The same in version 1.
+    Old(StoredStatus),
     /// It runs `abc` under the name of these bytes.
     Runs(&'static [u8]),
     /// It runs `abc` of release 5, and the goal has this release.
@@ -30,29 +34,50 @@ enum Head {
 }
 
 /// The headers above, as a store has them.
-fn bytes_of(head: &Head) -> Result<[u8; HEADER_SIZE], Fail> {
+fn bytes_of(head: &Head) -> Result<HeaderBytes, Fail> {
+    let abc = factory_name(b"abc");
     match head {
-        Head::In(status) => Ok(spelled(*status, factory_name(b"abc"), bbbb()?)),
-        Head::Runs(image) => Ok(spelled(StoredStatus::Initiated, factory_name(image), bbbb()?)),
+        Head::In(status) => Ok(header(*status, abc, bbbb()?).to_bytes()),
+        Head::Old(status) => Ok(old_header(*status, abc, bbbb()?).to_bytes()),
+        Head::Runs(image) => {
+            Ok(header(StoredStatus::Initiated, factory_name(image), bbbb()?).to_bytes())
+        }
         Head::Aims(release) => {
             let goal = named(b"bbbb", *release)?;
-            Ok(spelled(StoredStatus::Initiated, named(b"abc", 5)?, goal))
+            Ok(header(StoredStatus::Initiated, named(b"abc", 5)?, goal).to_bytes())
         }
-        Head::OtherForm => {
-            let mut bytes = spelled(
-                StoredStatus::VerificationSuccessful,
-                factory_name(b"abc"),
-                bbbb()?,
-            );
-            bytes[0] = 0x47;
-            Ok(bytes)
-        }
-        Head::Zeros => Ok([0; HEADER_SIZE]),
+        Head::OtherForm => other_form(header(StoredStatus::VerificationSuccessful, abc, bbbb()?)),
+        Head::Zeros => Ok(HeaderBytes::Two([0; VERSION_TWO_SIZE])),
     }
 }
 
-fn spelled(status: StoredStatus, running: ImageName, goal: ImageName) -> [u8; HEADER_SIZE] {
-    let header = Header {
+/// The bytes of a header of version 2 with another first byte.
+fn other_form(header: Header) -> Result<HeaderBytes, Fail> {
+    match header.to_bytes() {
+        HeaderBytes::Two(mut bytes) => {
+            bytes[0] = 0x47;
+            Ok(HeaderBytes::Two(bytes))
+        }
+        HeaderBytes::One(_) => Err("it has version 1".into()),
+    }
+}
+
+fn header(status: StoredStatus, running: ImageName, goal: ImageName) -> Header {
+    header_of(HeaderVersion::Two, status, running, goal)
+}
+
+fn old_header(status: StoredStatus, running: ImageName, goal: ImageName) -> Header {
+    header_of(HeaderVersion::One, status, running, goal)
+}
+
+fn header_of(
+    version: HeaderVersion,
+    status: StoredStatus,
+    running: ImageName,
+    goal: ImageName,
+) -> Header {
+    Header {
+        version,
         enabled: true,
         running_slot: Slot::First,
         status,
@@ -63,41 +88,57 @@ fn spelled(status: StoredStatus, running: ImageName, goal: ImageName) -> [u8; HE
             name: goal,
             size: 4,
         }),
-        marks: marked(Pages::none(), &[0, 1]),
-    };
-    header.to_bytes()
+        marks: marked(version.no_marks(), &[0, 1]),
+    }
 }
 
 impl Case for Stored {
     /// Why it isn't opened. It is handed back as it was.
     fn told(&self, alloc: Global) -> Result<String, Fail> {
-        let Stored(head, spare, calls) = self;
-        let head = bytes_of(head)?;
-        let mut store = store_of(alloc, &head, spare)?;
-        if let Some(calls) = calls {
-            store.fuse(*calls, 238);
-        }
-        let refusal = refusal(store, &store_of(alloc, &head, spare)?)?;
+        let refusal = refusal(open_store(fused(alloc, self)?), &made(alloc, self)?)?;
+        Ok(format!(in alloc; "{refusal:?}")?)
+    }
+}
+
+/// A store that is to be opened with its header as it is.
+struct Kept(Stored);
+
+impl Case for Kept {
+    fn told(&self, alloc: Global) -> Result<String, Fail> {
+        let refusal = refusal(open_kept(fused(alloc, &self.0)?), &made(alloc, &self.0)?)?;
         Ok(format!(in alloc; "{refusal:?}")?)
     }
 }
 
 /// Why a store isn't opened. It is handed back like the other.
-fn refusal(store: MemoryStore, other: &MemoryStore) -> Result<Option<OpenError>, Fail> {
-    match open_store(store) {
+fn refusal(
+    opening: Result<Phase<MemoryStore>, (OpenError, MemoryStore)>,
+    other: &MemoryStore,
+) -> Result<Option<OpenError>, Fail> {
+    match opening {
         Ok(_meter) => Ok(None),
         Err((error, back)) if back.same(other) => Ok(Some(error)),
         Err(_) => Err("another store was handed back".into()),
     }
 }
 
-fn store_of(alloc: Global, head: &[u8; HEADER_SIZE], spare: &[u8]) -> Result<MemoryStore, Fail> {
+/// The store, and the same once its fuse is set.
+fn made(alloc: Global, stored: &Stored) -> Result<MemoryStore, Fail> {
+    let Stored(head, spare, _) = stored;
     let mut store = MemoryStore::new(alloc, 64, 2, b"abc")?;
     if spare.len() > store.capacity() as usize {
         return Err("the bytes don't fit".into());
     }
-    store.write_header(head)?;
+    store.write_header(&bytes_of(head)?)?;
     store.write(Slot::Second, 0, spare)?;
+    Ok(store)
+}
+
+fn fused(alloc: Global, stored: &Stored) -> Result<MemoryStore, Fail> {
+    let mut store = made(alloc, stored)?;
+    if let Some(calls) = stored.2 {
+        store.fuse(calls, 238);
+    }
     Ok(store)
 }
 
@@ -106,6 +147,10 @@ const VERIFIED: Head = Head::In(StoredStatus::VerificationSuccessful);
 const SPOILT: Head = Head::In(StoredStatus::VerificationFailed);
 
 const RECEIVING: Head = Head::In(StoredStatus::Initiated);
+
+const OLD_VERIFIED: Head = Head::Old(StoredStatus::VerificationSuccessful);
+
+const OLD_RECEIVING: Head = Head::Old(StoredStatus::Initiated);
 
 const STORED: &[(Stored, &str)] = &[
     // a goal that was verified has the digest of its name, and another one needn't have
@@ -131,6 +176,26 @@ const STORED: &[(Stored, &str)] = &[
     (Stored(VERIFIED, b"bbbb", Some(3)), "None"),
     (Stored(RECEIVING, b"bbbb", Some(1)), "Some(Fault)"),
     (Stored(RECEIVING, b"bbbb", Some(2)), "None"),
+    // a header of version 1 is written in version 2 after that, and not where it is refused
+    (Stored(OLD_VERIFIED, b"bbbb", None), "None"),
+    (Stored(OLD_VERIFIED, b"bbaa", None), "Some(BadImage)"),
+    (Stored(OLD_VERIFIED, b"bbbb", Some(2)), "Some(Fault)"),
+    (Stored(OLD_VERIFIED, b"bbbb", Some(3)), "Some(Fault)"),
+    (Stored(OLD_VERIFIED, b"bbbb", Some(4)), "None"),
+    (Stored(OLD_RECEIVING, b"bbbb", Some(2)), "Some(Fault)"),
+    (Stored(OLD_RECEIVING, b"bbbb", Some(3)), "None"),
+];
+
+/// With the header as it is, the calls are as many for either version.
+const KEPT: &[(Kept, &str)] = &[
+    (Kept(Stored(OLD_VERIFIED, b"bbaa", None)), "Some(BadImage)"),
+    (Kept(Stored(OLD_VERIFIED, b"bbbb", Some(2))), "Some(Fault)"),
+    (Kept(Stored(OLD_VERIFIED, b"bbbb", Some(3))), "None"),
+    (Kept(Stored(OLD_RECEIVING, b"bbbb", Some(1))), "Some(Fault)"),
+    (Kept(Stored(OLD_RECEIVING, b"bbbb", Some(2))), "None"),
+    (Kept(Stored(VERIFIED, b"bbbb", Some(2))), "Some(Fault)"),
+    (Kept(Stored(VERIFIED, b"bbbb", Some(3))), "None"),
+    (Kept(Stored(Head::Zeros, b"bbbb", None)), "Some(BadHeader)"),
 ];
 
 impl Case for OpenError {
@@ -148,5 +213,6 @@ const REFUSALS: &[(OpenError, &str)] = &[
 #[test]
 fn each_store(rt: HostRuntime) -> Result<(), Fail> {
     each(rt.alloc(), STORED)?;
+    each(rt.alloc(), KEPT)?;
     each(rt.alloc(), REFUSALS)
 }

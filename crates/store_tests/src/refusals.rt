@@ -42,11 +42,11 @@ const VAIN: &[(Vain, &str)] = &[
     // before it was ever enabled, and an offer that wouldn't do either
     (Vain(&[], Call::Initiate(4)), "Disabled"),
     (Vain(&[], Call::InitiateFactory(0)), "Disabled"),
-    // an offer of the factory's, of no bytes, above the capacity, of 4,097 blocks
+    // an offer of the factory's, of no bytes, above the capacity, of 16,385 blocks
     (Vain(ENABLED_NOW, Call::InitiateFactory(4)), "BadInitiate"),
     (Vain(ENABLED_NOW, Call::Initiate(0)), "BadInitiate"),
-    (Vain(ENABLED_NOW, Call::Initiate(10_001)), "BadInitiate"),
-    (Vain(ENABLED_NOW, Call::Initiate(8_193)), "BadInitiate"),
+    (Vain(ENABLED_NOW, Call::Initiate(40_001)), "BadInitiate"),
+    (Vain(ENABLED_NOW, Call::Initiate(32_769)), "BadInitiate"),
     // a release below that of the image that runs, also where another one is received; and transfer is disabled
     (Vain(RELEASE_5, Call::Initiate(4)), "BadInitiate"),
     (Vain(RELEASE_5, Call::InitiateRelease(4, 4)), "BadInitiate"),
@@ -125,9 +125,9 @@ const DISABLED_THEN: &[Call] = &[
     Call::Enable(false),
 ];
 
-/// Tries a new meter with room for 10,000 bytes, up to after these calls.
+/// Tries a new meter with room for 40,000 bytes, up to after these calls.
 fn after(alloc: Global, trial: &mut Trial, calls: &[Call]) -> Result<(), Fail> {
-    trial.open(alloc, 10_000)?;
+    trial.open(alloc, 40_000)?;
     trial.make_all(alloc, calls)
 }
 
@@ -168,10 +168,10 @@ impl Case for Done {
     }
 }
 
-/// 8,192 bytes in 4,096 blocks are no refusal, nor is an equal release or a higher one. What is received and doesn't run yet keeps no
-/// release away.
+/// 32,768 bytes in 16,384 blocks are no refusal, nor is an equal release or a higher one. What is received and doesn't run yet keeps
+/// no release away.
 const DONE: &[(Done, &str)] = &[
-    (Done(ENABLED_NOW, Call::Initiate(8_192)), "done"),
+    (Done(ENABLED_NOW, Call::Initiate(32_768)), "done"),
     (Done(RELEASE_5, Call::InitiateRelease(5, 4)), "done"),
     (Done(RELEASE_5, Call::InitiateRelease(6, 4)), "done"),
     (

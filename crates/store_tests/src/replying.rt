@@ -10,7 +10,7 @@ use fw_server::{Outcome, answer};
 use fw_wrapper::{WrapError, join};
 use std::alloc::Global;
 
-/// The datagram between two wPorts that tells an outcome, of at most 4,096 blocks, and `None` where memory was refused.
+/// The datagram between two wPorts that tells an outcome, of at most 16,384 blocks, and `None` where memory was refused.
 pub fn wrapped_answer(
     alloc: Global,
     source: u16,
@@ -18,7 +18,7 @@ pub fn wrapped_answer(
     invoke: &Invoke,
     outcome: &Outcome,
 ) -> Option<Vec<u8>>
-    requires { bits_in outcome.now ≤ 4096 }
+    requires { bits_in outcome.now ≤ 16384 }
     ensures { IfSome result (λ datagram. datagram.items ≡ wrapped source dest (response_bytes invoke.now.0 (response_of outcome.now))) }
 {
     let apdu = match answer(alloc, invoke, outcome) {

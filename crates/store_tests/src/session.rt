@@ -1,9 +1,11 @@
 //! Sessions with a meter over a store in memory.
 
 use crate::calls::bytes_text;
-use crate::fresh::new_meter;
+use crate::fresh::{new_meter, old_meter};
 use crate::support::expect;
-use fw_image::{MeterView, NotVerified, Phase, Receiving, Refusal, TransferStatus, open_store};
+use fw_image::{
+    MeterView, NotVerified, Phase, Receiving, Refusal, TransferStatus, open_kept, open_store,
+};
 use fw_names::{CampaignId, HeadId, ImageName, factory_name, name_of};
 use fw_store::{ImageStore, MemoryStore, Slot};
 use std::alloc::{AllocError, Global};
@@ -33,6 +35,10 @@ pub(crate) enum Call {
     Unfuse,
     /// Takes the store and opens it again.
     Reopen,
+    /// The same, where so many calls of the store succeed. If it isn't opened then, it is with the header that is there.
+    StopInReopen(u64),
+    /// So many blocks may an image have.
+    Limited(u32),
     /// These are the bytes of the image that runs.
     Runs(&'static [u8]),
     /// So long are its blocks, so many has the goal, this one is the first that isn't there, and the bits of all.
@@ -86,6 +92,13 @@ pub(crate) fn session(alloc: Global, reopens: bool, parts: &[&[Row]]) -> Result<
     trial.play(alloc, reopens, parts)
 }
 
+/// A session with a new old meter that has room for 10,000 bytes.
+pub(crate) fn old_session(alloc: Global, parts: &[&[Row]]) -> Result<(), Fail> {
+    let mut trial = Trial::none();
+    trial.open_old(alloc, 10_000, 2)?;
+    trial.play(alloc, false, parts)
+}
+
 /// A meter that is tried. Each call takes it, and puts the one in its place that it leads to. Its drop is written out, so that each
 /// place that drops it calls that, and isn't proved to drop each kind of meter.
 pub(crate) struct Trial {
@@ -122,6 +135,20 @@ impl Trial {
         block_size: u32,
     ) -> Result<(), Fail> {
         self.meter = new_meter(alloc, capacity, block_size, b"abc");
+        match self.meter {
+            Some(_) => Ok(()),
+            None => Err("it isn't opened".into()),
+        }
+    }
+
+    /// Begins with a new old meter, whose header has version 1.
+    pub(crate) fn open_old(
+        &mut self,
+        alloc: Global,
+        capacity: u32,
+        block_size: u32,
+    ) -> Result<(), Fail> {
+        self.meter = old_meter(alloc, capacity, block_size, b"abc");
         match self.meter {
             Some(_) => Ok(()),
             None => Err("it isn't opened".into()),
@@ -312,6 +339,7 @@ impl Trial {
     fn looked(&mut self, alloc: Global, look: &Call) -> Result<(), Fail> {
         match look {
             Call::Reopen => self.reopen(),
+            Call::StopInReopen(calls) => self.stop_in_reopen(*calls),
             Call::Holds(slot, bytes) => self.holds(alloc, *slot, bytes),
             Call::Headed(digits) => self.headed(alloc, digits),
             look => match &mut self.meter {
@@ -339,13 +367,43 @@ impl Trial {
         }
     }
 
+    /// Opens a store, whose header stays as it is.
+    fn open_kept(&mut self, store: MemoryStore) -> Result<(), Fail> {
+        match open_kept(store) {
+            Ok(meter) => {
+                self.meter = Some(meter);
+                Ok(())
+            }
+            Err((error, _store)) => Err(error.into()),
+        }
+    }
+
+    fn stop_in_reopen(&mut self, calls: u64) -> Result<(), Fail> {
+        let Some(meter) = self.meter.take() else {
+            return Err("there is no meter".into());
+        };
+        let mut store = meter.into_store();
+        store.fuse(calls, 0);
+        match open_store(store) {
+            Ok(mut meter) => {
+                meter.unfuse();
+                self.meter = Some(meter);
+                Ok(())
+            }
+            Err((_error, mut store)) => {
+                store.unfuse();
+                self.open_kept(store)
+            }
+        }
+    }
+
     fn holds(&mut self, alloc: Global, slot: Slot, wanted: &[u8]) -> Result<(), Fail> {
         let Some(meter) = self.meter.take() else {
             return Err("there is no meter".into());
         };
         let mut store = meter.into_store();
         has_bytes(alloc, &mut store, slot, wanted)?;
-        self.open_store(store)
+        self.open_kept(store)
     }
 
     fn headed(&mut self, alloc: Global, digits: &str) -> Result<(), Fail> {
@@ -354,7 +412,7 @@ impl Trial {
         };
         let mut store = meter.into_store();
         has_header(alloc, &mut store, digits)?;
-        self.open_store(store)
+        self.open_kept(store)
     }
 }
 
@@ -408,6 +466,7 @@ fn looked(alloc: Global, meter: &mut Meter, look: &Call) -> Result<(), Fail> {
             return blocks(alloc, meter, (*size, *count, *first), bits);
         }
         Call::Verified(size) => return verified(meter, *size),
+        Call::Limited(limit) => return limited(meter, *limit),
         _ => return Err("no look".into()),
     }
     Ok(())
@@ -465,6 +524,14 @@ fn verified(meter: &Meter, wanted: u32) -> Result<(), Fail> {
     }
 }
 
+fn limited(meter: &Meter, wanted: u32) -> Result<(), Fail> {
+    if meter.view().limit == wanted {
+        Ok(())
+    } else {
+        Err("it has another limit".into())
+    }
+}
+
 /// What can be seen: whether transfer is enabled, the status, the goal's size and name, the blocks that are marked, and the
 /// size and the name of the image that runs.
 pub(crate) fn sight(alloc: Global, view: &MeterView) -> Result<String, AllocError> {
@@ -502,7 +569,7 @@ fn name_text(alloc: Global, name: ImageName) -> Result<String, AllocError> {
 /// The numbers of the blocks that are marked: block i by bit i, the first bit the top bit of the first byte.
 fn marks_text(alloc: Global, view: &MeterView) -> Result<String, AllocError> {
     let mut marks = String::new(alloc);
-    for number in 0..4096usize {
+    for number in 0..16384usize {
         if view.marked[number / 8] & (0x80u8 >> (number % 8)) != 0 {
             let mark = format!(in alloc; " {number}")?;
             marks.push_str(&mark)?;

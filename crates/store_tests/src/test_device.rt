@@ -1,26 +1,45 @@
 //! A device of bytes in memory, which can be made to fail.
 
-ghost use Rattle.std.specs.Prelude.{◌≡◌, ◌+◌, ◌≤◌, true, is_none, length, IsTrue, IsOk};
+ghost use Rattle.std.specs.Prelude.{◌≡◌, ◌+◌, ◌≤◌, true, is_none, length, vec_capacity, IsTrue, IsOk, IfOk};
 ghost use Rattle.fw_store.specs.Device.{splice};
 
 use fw_store::{ByteDevice, DeviceFault};
-use std::alloc::Global;
+use std::alloc::{AllocError, Global};
 
-/// Bytes in memory. With a number of calls that are left, all later ones fail, and a write that fails leaves
+/// Bytes in memory, and room for so many. With a number of calls that are left, all later ones fail, and a write that fails leaves
 /// bytes ee in its range.
 #[derive(Drop)]
 pub(crate) struct TestDevice {
     pub(crate) bytes: Vec<u8>,
+    room: usize,
     pub(crate) calls_left: Option<u64>,
+    ghost has_room: { room ≤ vec_capacity bytes },
 }
 
 impl TestDevice {
-    /// A device without bytes that never fails.
-    pub(crate) fn new(alloc: Global) -> TestDevice {
+    /// A device without bytes, and with room for so many, that never fails.
+    pub(crate) fn new(alloc: Global, room: usize) -> Result<TestDevice, AllocError> {
+        Ok(TestDevice {
+            bytes: Vec::with_capacity(alloc, room)?,
+            room,
+            calls_left: None,
+        })
+    }
+
+    /// A device with these bytes, and with room for no more, that never fails.
+    pub(crate) fn of(bytes: Vec<u8>) -> TestDevice {
+        let room = bytes.len();
         TestDevice {
-            bytes: Vec::new(alloc),
+            bytes,
+            room,
             calls_left: None,
         }
+    }
+
+    /// It has no room for more than so many bytes.
+    pub(crate) fn limited(mut self, room: usize) -> TestDevice {
+        self.room = self.room.min(room);
+        self
     }
 }
 
@@ -41,7 +60,8 @@ fn spend(calls_left: &mut Option<u64>) -> Result<(), DeviceFault>
 /// Puts bytes in the place of those from `at` on.
 fn put(bytes: &mut Vec<u8>, at: usize, part: &[u8])
     requires { at + length part.now ≤ length bytes.old.items }
-    ensures { bytes.new.items ≡ splice bytes.old.items at part.now }
+    ensures value { bytes.new.items ≡ splice bytes.old.items at part.now }
+    ensures room { vec_capacity bytes.new ≡ vec_capacity bytes.old }
 {
     bytes[at..at + part.len()].copy_from_slice(part);
 }
@@ -50,6 +70,8 @@ impl ByteDevice for TestDevice {
     ghost honest = { λ _. true };
 
     ghost sound = { λ d. is_none d.calls_left };
+
+    ghost room = { λ d. d.room };
 
     ghost contents = { λ d. d.bytes.items };
 
@@ -60,6 +82,9 @@ impl ByteDevice for TestDevice {
 
     fn set_len(&mut self, len: u64) -> Result<(), DeviceFault> {
         spend(&mut self.calls_left)?;
+        if (self.room as u64) < len {
+            return Err(DeviceFault);
+        }
         self.bytes.resize(len as usize, 0).map_err(|_| DeviceFault)
     }
 
@@ -95,12 +120,11 @@ impl ByteDevice for TestDevice {
     ) -> Result<(), DeviceFault> {
         spend(&mut self.calls_left)?;
         let (at, last_at) = (at as usize, last_at as usize);
-        let end = last_at + last.len();
-        if self.bytes.len() < end {
-            self.bytes.resize(end, 0).map_err(|_| DeviceFault)?;
+        if self.room < last_at + last.len() {
+            return Err(DeviceFault);
         }
         put(&mut self.bytes, at, bytes);
-        put(&mut self.bytes, last_at, last);
-        Ok(())
+        self.bytes.truncate(last_at);
+        self.bytes.extend_from_slice(last).map_err(|_| DeviceFault)
     }
 }

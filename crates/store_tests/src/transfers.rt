@@ -2,7 +2,7 @@
 
 use crate::session::{
     BLOCK_0, BOTH_BLOCKS, Call, ENABLED, NO_BLOCK, Row, SPOILT, SWITCHED, TO_VERIFIED, VERIFIED,
-    session,
+    old_session, session,
 };
 use fw_image::Refusal;
 use fw_store::Slot;
@@ -22,7 +22,7 @@ const TRANSFER: &[Row] = &[
 
 /// The header before the switch: form, flags and status, block size, size and name of what runs, the goal's, and marks.
 const VERIFIED_HEADER: &str = concat!(
-    "46574831",
+    "46574832",
     "01000301",
     "00000002",
     "00000003",
@@ -36,7 +36,7 @@ const VERIFIED_HEADER: &str = concat!(
 
 /// And after it.
 const SWITCHED_HEADER: &str = concat!(
-    "46574831",
+    "46574832",
     "01010600",
     "00000002",
     "00000004",
@@ -96,7 +96,7 @@ const RELEASE_6: &str =
     "true, Initiated, goal 4 of 2 1 release 6 81cc5b17, marks, runs 4 of 2 1 release 5 81cc5b17";
 
 const RELEASE_5_HEADER: &str = concat!(
-    "46574831",
+    "46574832",
     "01000101",
     "00000002",
     "00000003",
@@ -109,7 +109,7 @@ const RELEASE_5_HEADER: &str = concat!(
 );
 
 const RELEASE_5_RUNS_HEADER: &str = concat!(
-    "46574831",
+    "46574832",
     "01010600",
     "00000002",
     "00000004",
@@ -119,7 +119,7 @@ const RELEASE_5_RUNS_HEADER: &str = concat!(
 );
 
 const RELEASE_6_HEADER: &str = concat!(
-    "46574831",
+    "46574832",
     "01010101",
     "00000002",
     "00000004",
@@ -223,6 +223,46 @@ const NEXT: &str = "true, Initiated, goal 4 of 2 1 81cc5b17, marks, runs 4 of 2 
 const NEXT_BLOCK_0: &str =
     "true, Initiated, goal 4 of 2 1 81cc5b17, marks 0, runs 4 of 2 1 81cc5b17";
 
+/// An old meter admits 4,096 blocks, of 8,192 bytes, and writes headers of version 1. Once it is opened again it admits more.
+const OLD: &[Row] = &[
+    (Call::Limited(4_096), None, NEW),
+    (Call::Enable(true), None, ENABLED),
+    (Call::Headed(OLD_HEADER), None, ENABLED),
+    (Call::Initiate(8_193), Some(Refusal::BadInitiate), ENABLED),
+    (Call::Initiate(8_192), None, MOST),
+    (Call::Reopen, None, MOST),
+    (Call::Limited(16_384), None, MOST),
+    (Call::Initiate(8_193), None, ONE_MORE),
+];
+
+const NEW: &str = "false, NotInitiated, no goal, marks, runs 3 of 0 0 ba7816bf";
+
+const MOST: &str = "true, Initiated, goal 8192 of 2 1 81cc5b17, marks, runs 3 of 0 0 ba7816bf";
+
+const ONE_MORE: &str = "true, Initiated, goal 8193 of 2 1 81cc5b17, marks, runs 3 of 0 0 ba7816bf";
+
+const OLD_HEADER: &str = concat!(
+    "46574831",
+    "01000000",
+    "00000002",
+    "00000003",
+    "010000000000000000",
+    "ba7816bf8f01cfea414140de5dae2223b00361a396177a9cb410ff61f20015ad",
+);
+
+/// To open a verified one takes four calls of its store, of which the last one writes the header. It has all else as before.
+const OLD_VERIFIED: &[Row] = &[
+    (Call::StopInReopen(3), None, VERIFIED),
+    (Call::Limited(4_096), None, VERIFIED),
+    (Call::StopInReopen(4), None, VERIFIED),
+    (Call::Limited(16_384), None, VERIFIED),
+    (Call::Headed(VERIFIED_HEADER), None, VERIFIED),
+    (Call::StopInReopen(3), None, VERIFIED),
+    (Call::Limited(16_384), None, VERIFIED),
+    (Call::Activate, None, SWITCHED),
+    (Call::Headed(SWITCHED_HEADER), None, SWITCHED),
+];
+
 #[test]
 fn each_transfer(rt: HostRuntime) -> Result<(), Fail> {
     let sessions: &[&[&[Row]]] = &[
@@ -239,5 +279,7 @@ fn each_transfer(rt: HostRuntime) -> Result<(), Fail> {
     }
     session(rt.alloc(), true, &[TRANSFER])?;
     session(rt.alloc(), true, &[LATE_BLOCK])?;
-    session(rt.alloc(), true, &[RELEASES])
+    session(rt.alloc(), true, &[RELEASES])?;
+    old_session(rt.alloc(), &[OLD])?;
+    old_session(rt.alloc(), &[TO_VERIFIED, OLD_VERIFIED])
 }

@@ -31,6 +31,8 @@ pub enum Line {
     Stop(usize, u64, u8),
     /// A meter starts again.
     RestartMeter(u32),
+    /// A meter starts again, and stops in it after so many calls of its store.
+    StopRestart(u32, u64, u8),
     /// A head end starts again.
     RestartHead(u32),
     /// A meter goes on with what it verifies.
@@ -39,6 +41,16 @@ pub enum Line {
 
 /// What a world is made with.
 pub fn setup_of(alloc: Global, given: &Given) -> Result<Setup, Fail> {
+    setup_with(alloc, given, false)
+}
+
+/// The same with old meters.
+pub fn old_setup_of(alloc: Global, given: &Given) -> Result<Setup, Fail> {
+    setup_with(alloc, given, true)
+}
+
+/// The same with meters of which all are old ones, or none.
+fn setup_with(alloc: Global, given: &Given, old: bool) -> Result<Setup, Fail> {
     let mut heads = Vec::new(alloc);
     for (number, width) in given.0 {
         let head = head(*number)?;
@@ -54,6 +66,7 @@ pub fn setup_of(alloc: Global, given: &Given) -> Result<Setup, Fail> {
             block_size: *block_size,
             capacity: *capacity,
             factory: factory.to_vec(alloc)?,
+            old,
         })?;
     }
     Ok(Setup { heads, meters })
@@ -108,6 +121,11 @@ fn event(alloc: Global, line: &Line) -> Result<Event, Fail> {
             torn,
         },
         Line::RestartMeter(number) => Event::RestartMeter(meter(number)?),
+        Line::StopRestart(number, calls, torn) => Event::StopRestart {
+            meter: meter(number)?,
+            calls,
+            torn,
+        },
         Line::RestartHead(number) => Event::RestartHead(head(number)?),
         Line::Turn(number) => Event::Turn(meter(number)?),
     })

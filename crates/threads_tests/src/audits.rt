@@ -7,7 +7,9 @@ use std::alloc::Global;
 use std::sync::Wait;
 use std::test::Fail;
 use std::thread::Threads;
-use test_worlds::{DONE, Given, LARGE, Line, NO_HEAD, SMALL, events_of, report, setup_of};
+use test_worlds::{
+    DONE, Given, LARGE, Line, NO_HEAD, SMALL, events_of, old_setup_of, report, setup_of,
+};
 
 /// What an audit is told of a run.
 enum Told {
@@ -37,8 +39,7 @@ struct Made {
 
 impl Made {
     /// The run of some events.
-    fn new(alloc: Global, given: &Given, lines: &[Line]) -> Result<Made, Fail> {
-        let setup = setup_of(alloc, given)?;
+    fn new(alloc: Global, setup: Setup, lines: &[Line]) -> Result<Made, Fail> {
         let events = events_of(alloc, &[lines])?;
         let Ok(world) = run(alloc, &setup, &events) else {
             return Err("an event is refused".into());
@@ -93,7 +94,7 @@ struct Audit(&'static Given, &'static [Line], Told);
 
 impl Case for Audit {
     fn told<R: Threads + Wait + Sync>(&self, _rt: &R, alloc: Global) -> Result<String, Fail> {
-        let mut made = Made::new(alloc, self.0, self.1)?;
+        let mut made = Made::new(alloc, setup_of(alloc, self.0)?, self.1)?;
         made.change(alloc, &self.2)?;
         made.audited(alloc)
     }
@@ -151,7 +152,41 @@ const TURNED: &[Line] = &[
     Line::Turn(1),
 ];
 
+/// The same where the meter is an old one.
+struct OldAudit(&'static [Line], Told);
+
+impl Case for OldAudit {
+    fn told<R: Threads + Wait + Sync>(&self, _rt: &R, alloc: Global) -> Result<String, Fail> {
+        let mut made = Made::new(alloc, old_setup_of(alloc, SMALL)?, self.0)?;
+        made.change(alloc, &self.1)?;
+        made.audited(alloc)
+    }
+}
+
+/// A restart that stops before the meter's header is written in version 2 changes nothing, and one that stops after that does.
+const OLD_AUDITS: &[(OldAudit, &str)] = &[
+    (
+        OldAudit(&[Line::StopRestart(1, 2, 0)], Told::All),
+        NOTHING_SENT,
+    ),
+    (
+        OldAudit(&[Line::StopRestart(1, 2, 0)], Told::WithoutLastEvent),
+        NOTHING_SENT,
+    ),
+    (
+        OldAudit(&[Line::StopRestart(1, 3, 0)], Told::All),
+        NOTHING_SENT,
+    ),
+    (
+        OldAudit(&[Line::StopRestart(1, 3, 0)], Told::WithoutLastEvent),
+        "Mismatch",
+    ),
+];
+
+const NOTHING_SENT: &str = "meter 1 status 0 active 0 0 size 1; activations 0; sent 0";
+
 #[test]
 fn audits(rt: HostRuntime) -> Result<(), Fail> {
-    each(&rt, rt.alloc(), AUDITS)
+    each(&rt, rt.alloc(), AUDITS)?;
+    each(&rt, rt.alloc(), OLD_AUDITS)
 }

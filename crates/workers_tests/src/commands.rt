@@ -135,6 +135,28 @@ activations 1
 board 1
 ";
 
+/// An old meter, which starts again before the rounds, and stops before its header is written in version 2 or after that.
+const OLD_BEFORE: &str = "\
+head 7 width 4
+meter 1 block 2 capacity 64 factory 78 old
+open 7 1 616263 1
+stop-restart 1 2 0
+";
+
+const OLD_AFTER: &str = "\
+head 7 width 4
+meter 1 block 2 capacity 64 factory 78 old
+open 7 1 616263 1
+stop-restart 1 3 0
+";
+
+const ONE_DONE: &str = "\
+row 7 1 1 done
+meter 1 status 6 active 7 1 size 3
+activations 1
+board 1
+";
+
 pub(crate) const TWICE: &str = "\
 head 7 width 4
 meter 1 block 2 capacity 64 factory 78
@@ -161,6 +183,9 @@ const REPORTS: &[(Rehearsal, &str)] = &[
     (Rehearsal(FOUR, 9, 2, "x"), NONE_DONE),
     // the meter runs a higher release
     (Rehearsal(OLDER, 3, 1, "d"), OLDER_FAILED),
+    // the meter is an old one
+    (Rehearsal(OLD_BEFORE, 9, 1, "d"), ONE_DONE),
+    (Rehearsal(OLD_AFTER, 9, 1, "d"), ONE_DONE),
     // no link
     (
         Rehearsal(

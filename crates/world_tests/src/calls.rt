@@ -49,6 +49,7 @@ const EVENTS: &[(Made, &str)] = &[
                     Line::Cancel(7, 1),
                     Line::RestartHead(8),
                     Line::RestartMeter(9),
+                    Line::StopRestart(9, 0, 0),
                     Line::Turn(9),
                 ],
                 UP_TO_BLOCKS,
@@ -58,7 +59,7 @@ const EVENTS: &[(Made, &str)] = &[
                 UP_TO_DONE,
             ],
         ),
-        "NoSuchDatagram; NoSuchActor; NoSuchActor; EmptyImage; NoSuchCampaign; NoSuchActor; NoSuchActor; NoSuchActor; NoSuchActor; MeterBusy; row 7 1 1 done; meter 1 status 6 active 7 1 size 3; activations 1; sent 20",
+        "NoSuchDatagram; NoSuchActor; NoSuchActor; EmptyImage; NoSuchCampaign; NoSuchActor; NoSuchActor; NoSuchActor; NoSuchActor; NoSuchActor; MeterBusy; row 7 1 1 done; meter 1 status 6 active 7 1 size 3; activations 1; sent 20",
     ),
 ];
 

@@ -432,13 +432,13 @@ fn a_cancelled_campaign(rt: HostRuntime) -> Result<(), Fail> {
 /// One meter with blocks of one byte.
 const BYTES: &Given = &Given(&[(7, 4)], &[(1, 1, 64, b"x")]);
 
-/// An image of more than 4,096 blocks fails in `Size`, and one that is longer than the meter's slots in `Start`.
+/// An image of more than 16,384 blocks fails in `Size`, and one that is longer than the meter's slots in `Start`.
 const FAILED: &[(Script, &str)] = &[
     (
         Script(
             BYTES,
             &[&[
-                Line::OpenLong(7, 1, 4_097, &[1]),
+                Line::OpenLong(7, 1, 16_385, &[1]),
                 Line::Tick(7, 1),
                 Line::Deliver(&[0, 1]),
             ]],

@@ -40,7 +40,7 @@ const REFUSED_OPENINGS: &[(Script, &str)] = &[
         "meter 1 status 0 active 0 0 size 1; activations 0; sent 0; refused 0 EmptyImage",
     ),
     (
-        Script(SMALL, &[&[Line::OpenLong(7, 1, 4_194_305, &[])]]),
+        Script(SMALL, &[&[Line::OpenLong(7, 1, 16_777_217, &[])]]),
         "meter 1 status 0 active 0 0 size 1; activations 0; sent 0; refused 0 ImageTooLong",
     ),
     (
@@ -182,6 +182,10 @@ const ACTORS: &[(Script, &str)] = &[
     ),
     (
         Script(SMALL, &[&[Line::RestartMeter(9)]]),
+        "meter 1 status 0 active 0 0 size 1; activations 0; sent 0; refused 0 NoSuchActor",
+    ),
+    (
+        Script(SMALL, &[&[Line::StopRestart(9, 0, 0)]]),
         "meter 1 status 0 active 0 0 size 1; activations 0; sent 0; refused 0 NoSuchActor",
     ),
     (

@@ -1,11 +1,11 @@
 //! What worlds are made with, within the limits and past them.
 
 use crate::support::{Case, each};
-use fw_store::is_setup;
+use fw_store::{HeaderVersion, is_setup};
 use fw_world::{HeadSetup, MeterSetup, Setup, World};
 use std::alloc::Global;
 use std::test::Fail;
-use test_worlds::{Given, head, meter, setup_of};
+use test_worlds::{Given, head, meter, old_setup_of, setup_of};
 
 /// Whether a world is made: `made`, or the refusal.
 impl Case for Given {
@@ -33,6 +33,7 @@ impl Case for Many {
                 block_size: 2,
                 capacity: 64,
                 factory: b"x".to_vec(alloc)?,
+                old: false,
             })?;
         }
         made(alloc, &Setup { heads, meters })
@@ -85,7 +86,7 @@ const SETUPS: &[(Given, &str)] = &[
     (Given(&[(1, 4)], &[(1, 0, 64, b"x")]), "BadSetup"),
     (Given(&[(1, 4)], &[(1, 1_025, 64, b"x")]), "BadSetup"),
     (Given(&[(1, 4)], &[(1, 2, 0, b"")]), "BadSetup"),
-    (Given(&[(1, 4)], &[(1, 2, 4_194_305, b"x")]), "BadSetup"),
+    (Given(&[(1, 4)], &[(1, 2, 16_777_217, b"x")]), "BadSetup"),
     (Given(&[(1, 4)], &[(1, 2, 64, b"")]), "BadSetup"),
     (Given(&[(1, 4)], &[(1, 2, 3, b"abc")]), "made"),
     (Given(&[(1, 4)], &[(1, 2, 2, b"abc")]), "BadSetup"),
@@ -101,25 +102,69 @@ fn of_what(rt: HostRuntime) -> Result<(), Fail> {
     each(rt.alloc(), SETUPS)
 }
 
-/// A capacity, a block size and a factory image of a store.
-struct Store(u32, u32, &'static [u8]);
+/// The same with old meters.
+struct Old(Given);
+
+impl Case for Old {
+    fn told(&self, alloc: Global) -> Result<String, Fail> {
+        made(alloc, &old_setup_of(alloc, &self.0)?)
+    }
+}
+
+/// Their capacities have a limit of their own.
+const OLD_SETUPS: &[(Old, &str)] = &[
+    (Old(Given(&[(1, 4)], &[(1, 2, 64, b"x")])), "made"),
+    (Old(Given(&[(1, 4)], &[(1, 1_024, 64, b"x")])), "made"),
+    (Old(Given(&[(1, 4)], &[(1, 1_025, 64, b"x")])), "BadSetup"),
+    (Old(Given(&[(1, 4)], &[(1, 2, 4_194_304, b"x")])), "made"),
+    (
+        Old(Given(&[(1, 4)], &[(1, 2, 4_194_305, b"x")])),
+        "BadSetup",
+    ),
+    (Old(Given(&[(1, 4)], &[(1, 2, 64, b"")])), "BadSetup"),
+    (Old(Given(&[(1, 4)], &[(1, 2, 2, b"abc")])), "BadSetup"),
+    // the second meter can't be made
+    (
+        Old(Given(&[(1, 4)], &[(1, 2, 64, b"x"), (2, 2, 4_194_305, b"x")])),
+        "BadSetup",
+    ),
+];
+
+#[test]
+fn of_what_with_old_meters(rt: HostRuntime) -> Result<(), Fail> {
+    each(rt.alloc(), OLD_SETUPS)
+}
+
+/// The version of its header, a capacity, a block size and a factory image of a store.
+struct Store(HeaderVersion, u32, u32, &'static [u8]);
 
 impl Case for Store {
     fn told(&self, alloc: Global) -> Result<String, Fail> {
-        let made = is_setup(self.0, self.1, self.2);
+        let made = is_setup(self.0, self.1, self.2, self.3);
         Ok(format!(in alloc; "{made}")?)
     }
 }
 
+/// A new store, and an old one.
+const NEW: HeaderVersion = HeaderVersion::Two;
+
+const OLD: HeaderVersion = HeaderVersion::One;
+
 const STORES: &[(Store, &str)] = &[
-    (Store(3, 1, b"abc"), "true"),
-    (Store(4_194_304, 1_024, b"abc"), "true"),
-    (Store(2, 1, b"abc"), "false"),
-    (Store(3, 0, b"abc"), "false"),
-    (Store(3, 1_025, b"abc"), "false"),
-    (Store(3, 1, b""), "false"),
-    (Store(0, 1, b""), "false"),
-    (Store(4_194_305, 1, b"abc"), "false"),
+    (Store(NEW, 3, 1, b"abc"), "true"),
+    (Store(NEW, 16_777_216, 1_024, b"abc"), "true"),
+    (Store(NEW, 2, 1, b"abc"), "false"),
+    (Store(NEW, 3, 0, b"abc"), "false"),
+    (Store(NEW, 3, 1_025, b"abc"), "false"),
+    (Store(NEW, 3, 1, b""), "false"),
+    (Store(NEW, 0, 1, b""), "false"),
+    (Store(NEW, 16_777_217, 1, b"abc"), "false"),
+    (Store(OLD, 3, 1, b"abc"), "true"),
+    (Store(OLD, 4_194_304, 1_024, b"abc"), "true"),
+    (Store(OLD, 2, 1, b"abc"), "false"),
+    (Store(OLD, 3, 1_025, b"abc"), "false"),
+    (Store(OLD, 3, 1, b""), "false"),
+    (Store(OLD, 4_194_305, 1, b"abc"), "false"),
 ];
 
 #[test]

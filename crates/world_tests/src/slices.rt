@@ -6,7 +6,7 @@ use std::test::Fail;
 use test_worlds::{Given, Line};
 
 /// One head end with the widest windows, and one meter with the longest blocks.
-const LARGE: &Given = &Given(&[(7, 15)], &[(1, 1_024, 8_193, b"x")]);
+pub(crate) const LARGE: &Given = &Given(&[(7, 15)], &[(1, 1_024, 8_193, b"x")]);
 
 /// Up to where the meter is asked to verify 4,097 bytes, which datagram 18 is: one window of five blocks.
 const FIVE: &[Line] = &[
@@ -25,7 +25,7 @@ const FIVE: &[Line] = &[
 ];
 
 /// And 8,193 bytes, which datagram 26 is: one window of nine blocks.
-const NINE: &[Line] = &[
+pub(crate) const NINE: &[Line] = &[
     Line::OpenLong(7, 1, 8_193, &[1]),
     Line::Tick(7, 1),
     Line::Deliver(&[0, 1]),

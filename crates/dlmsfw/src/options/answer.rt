@@ -16,7 +16,8 @@ none. The last line may lack its line feed, and an empty line is an empty datagr
 read before anything is written.
 
 With --store the meter is in FILE, and stays there for the next run. Where no such file is there, it
-is made, with a new meter. Where one is, its meter goes on, and the other options are ignored.
+is made, with a new meter. Where one is, its meter goes on, and the other options are ignored; a
+header of version 1 in it, which has marks for 4096 blocks, is written in version 2 first.
 
 Example, a GET of image_transfer_status, which is 0 in a new meter:
 
@@ -32,7 +33,7 @@ Exit status:
   0  each line was answered
   1  a fault: standard error has `dlmsfw: NAME`, with one of these names
        StoreFault    FILE can't be made or opened, or another program has it open
-       Fault         FILE can't be read
+       Fault         FILE can't be read, or a header of version 1 in it not be written in version 2
        BadFile       FILE hasn't the length that it begins with: it is no meter's, or was cut
        BadHeader     FILE has no header that a meter writes
        BadImage      an image in FILE, which runs or is verified, hasn't the digest of its name
@@ -42,7 +43,8 @@ Exit status:
        BadLine L     line L, counted from 1, is no hexadecimal; the lines before it were answered
        Output        standard output can't be written
        OutOfMemory   memory ran out; nothing was written
-     up to BadSetup, nothing was read, and a FILE that was there is as it was
+     up to BadSetup, nothing was read, and a FILE that was there is as it was, unless the write of
+     its header failed
   2  a wrong command line: standard error says what is wrong";
 
 /// The command.
@@ -61,7 +63,7 @@ pub(super) fn command<'a>(alloc: Global) -> Result<Command<'a>, AllocError> {
         .arg(
             option(alloc, "capacity", "BYTES")
                 .default_value("64")
-                .help("Bytes of the longest image, 1 to 4194304")
+                .help("Bytes of the longest image, 1 to 16777216")
                 .value_parser(clap::value_parser!(u64)),
         )?
         .arg(

@@ -11,7 +11,7 @@ const ABOUT: &str = "\
 Prints the name of an image, which is what image_transfer_initiate carries as its identifier, and
 what a meter that runs the image answers as its active firmware identifier.
 
-Standard input has the bytes of the image, 1 to 4194304. Standard output gets one line, the 82
+Standard input has the bytes of the image, 1 to 16777216. Standard output gets one line, the 82
 digits of the name in lower-case hexadecimal: 01, the number of the head end and the serial number
 of its campaign in 8 digits each, and the SHA-256 of the image. A name with a release of at least 1
 has 90 digits: 02 in place of 01, and the release in 8 digits before the SHA-256. All input is read
@@ -33,7 +33,7 @@ Exit status:
        Input         standard input can't be read to its end
        TooMuchInput  standard input has more than 64 MiB
        EmptyImage    standard input has no byte
-       ImageTooLong  standard input has more than 4194304 bytes
+       ImageTooLong  standard input has more than 16777216 bytes
        Output        standard output can't be written
        OutOfMemory   memory ran out; nothing was written
   2  a wrong command line: standard error says what is wrong";

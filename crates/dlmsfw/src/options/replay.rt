@@ -14,7 +14,9 @@ all others:
 
   head H width W                            head end H, from 1 on, sends W blocks at a time, 1 to 15
   meter M block B capacity C factory HEX    meter M takes blocks of B bytes, 1 to 1024, and images of
-                                            up to C bytes, 1 to 4194304, and runs the image HEX
+                                            up to C bytes, 1 to 16777216, and runs the image HEX
+  meter M .. factory HEX old                an old meter: C is 1 to 4194304, and it takes at most
+                                            4096 blocks before it starts again
   open H S HEX M M ..                       head end H opens campaign S, from 1 on: the image HEX for
                                             these meters
   open-release H S R HEX M M ..             the same, with R as the release of the image, which is 0
@@ -26,6 +28,9 @@ all others:
                                             calls of its store and starts again; a block that it writes
                                             then ends with bytes TORN, 0 to 255
   restart-meter M, restart-head H           it starts again
+  stop-restart M CALLS TORN                 meter M starts again, and stops in it behind so many
+                                            calls of its store; then it goes on with the header
+                                            that is there
   turn M                                    meter M digests 4096 bytes more of what it verifies
 
 Datagrams are numbered from 0 in the order in which they are sent. Numbers are decimal, HEX is

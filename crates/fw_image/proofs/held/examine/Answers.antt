@@ -1,10 +1,10 @@
-use Rattle.std.proofs.Common.{◌≡◌, ℕ, ◌+◌, IsTrue, Bool, true, false, inl, inr, sym, ap, subst, ◌∙◌}
+use Rattle.std.proofs.Common.{◌≡◌, ℕ, ◌+◌, ◌≤◌, arith, IsTrue, Bool, true, false, inl, inr, sym, ap, subst, ◌∙◌}
 use Rattle.fw_store.specs.Header.{IsHeader}
 use Rattle.fw_verify.specs.Slices.{slice_count}
-use Rattle.fw_image.specs.Calls.{verified_size}
+use Rattle.fw_image.specs.Calls.{verified_size, opening_calls}
 use Rattle.fw_image.specs.Stored.{phase_of}
 use Rattle.fw_image.proofs.Moves.{keeps_twice, counted_after}
-use Rattle.fw_image.proofs.Openings.{refused_image, refused_fault, length-running}
+use Rattle.fw_image.proofs.Openings.{refused_image, refused_fault, calls_of_header, some_calls, cut_told, image_not_cut, length-running}
 use Rattle.fw_image.proofs.held.examine.Goals as goal
 
 clash : (b : Bool) → b ≡ false → IsTrue b → ⊥
@@ -87,3 +87,42 @@ returns-clause-spends g c =
     let header = c.in-Some.header in
     c.calls_add.ensures (1 + slice_count header.running_size) (slice_count (verified_size (phase_of header.status header.goal))) _ _ _ true
     (c.calls_add.ensures 1 (slice_count header.running_size) _ _ _ true c.in_ok-bytes.ensures.spends c.in_ok-is_genuine.ensures.spends) c.in_ok-is_goal_genuine.ensures.spends
+
+pub returns-then-not-branch-clause-cut : goal.returns-then-not-branch-clause-cut
+returns-then-not-branch-clause-cut g c = image_not_cut g.S.ImageStore c.args.store.now c.is_genuine.new.store c.one_header.ensures (returns-then-not-branch-clause-refused g c)
+
+pub returns-then-not-branch-2-clause-cut : goal.returns-then-not-branch-2-clause-cut
+returns-then-not-branch-2-clause-cut g c =
+    image_not_cut g.S.ImageStore c.args.store.now c.is_goal_genuine.new.store c.one_header.ensures (returns-then-not-branch-2-clause-refused g c)
+
+pub returns-in_err-bytes-clause-cut : goal.returns-in_err-bytes-clause-cut
+returns-in_err-bytes-clause-cut g c =
+    cut_told g.S.ImageStore c.args.store.now c.header.new.self c.from_residual.result
+    (λ meter is trusted honest. c.calls_end.ensures 1 (opening_calls meter) _ _ (some_calls meter) c.in_err-bytes.ensures.spends)
+
+pub returns-in_err-is_genuine-clause-cut : goal.returns-in_err-is_genuine-clause-cut
+returns-in_err-is_genuine-clause-cut g c =
+    let s = g.S.ImageStore in
+    let store = c.args.store.now in
+    let header = c.in-Some.header in
+    let read = c.in_ok-bytes.ensures in
+    let valid : IsHeader (s.capacity store) header = subst (λ (n : ℕ). IsHeader n header) (c.capacity.ensures ∙ read.kept.size) c.in-Some.ensures.some.0 in
+    cut_told s store c.is_genuine.new.store c.from_residual-in_err-is_genuine.result (λ meter is trusted honest.
+    let calls = calls_of_header c.one_header.ensures (s.capacity store) header (s.device store) meter valid (c.in-Some.ensures.some.1 ∙ read.done honest) (λ slot. g.met.S.ImageStore.sized store slot honest) is in
+    let some : 1 + slice_count header.running_size ≤ opening_calls meter = omega (arith, calls) in
+    c.calls_end.ensures (1 + slice_count header.running_size) (opening_calls meter) _ _ some
+    (c.calls_add.ensures 1 (slice_count header.running_size) _ _ _ false read.spends c.in_err-is_genuine.ensures.spends))
+
+pub returns-in_err-is_goal_genuine-clause-cut : goal.returns-in_err-is_goal_genuine-clause-cut
+returns-in_err-is_goal_genuine-clause-cut g c =
+    let s = g.S.ImageStore in
+    let store = c.args.store.now in
+    let header = c.in-Some.header in
+    let read = c.in_ok-bytes.ensures in
+    let judged = slice_count (verified_size (phase_of header.status header.goal)) in
+    let valid : IsHeader (s.capacity store) header = subst (λ (n : ℕ). IsHeader n header) (c.capacity.ensures ∙ read.kept.size) c.in-Some.ensures.some.0 in
+    cut_told s store c.is_goal_genuine.new.store c.from_residual-in_err-is_goal_genuine.result (λ meter is trusted honest.
+    let calls = calls_of_header c.one_header.ensures (s.capacity store) header (s.device store) meter valid (c.in-Some.ensures.some.1 ∙ read.done honest) (λ slot. g.met.S.ImageStore.sized store slot honest) is in
+    rw calls
+    (c.calls_add.ensures (1 + slice_count header.running_size) judged _ _ _ false (c.calls_add.ensures 1 (slice_count header.running_size) _ _ _ true read.spends c.in_ok-is_genuine.ensures.spends)
+    c.in_err-is_goal_genuine.ensures.spends))

@@ -2,6 +2,7 @@ use Rattle.std.proofs.Common.{◌≡◌, ℕ, false, replicate, refl, inl, inr, 
 use Rattle.std.proofs.lemmas.Bool.{cases_lt}
 use Rattle.std.proofs.lemmas.List.{length-replicate, get_or-replicate, get_or_past}
 use Rattle.fw_blocks.specs.Members.{has}
+use Rattle.fw_store.specs.Versions.{block_limit}
 use Rattle.fw_store.proofs.laws.fresh_is_header.Goals as goal
 
 none_marked : (n i : ℕ) → has (replicate n false) i ≡ false
@@ -11,13 +12,13 @@ none_marked n i = elim (cases_lt i n) [
 ]
 
 pub returns : goal.returns
-returns c = λ capacity block_size running_size name fits begins ends some within named. record {
+returns c = λ version capacity block_size running_size name fits begins ends some within named. record {
   fields = record {
     block_size = omega arith;
     running_size = omega arith;
     running_name = named;
     goal = tt;
-    marks = length-replicate 4096 false;
+    marks = length-replicate (block_limit version) false;
   };
   block_size_begins = begins;
   block_size_ends = ends;
@@ -25,6 +26,6 @@ returns c = λ capacity block_size running_size name fits begins ends some withi
   running_size_fits = within;
   goal_by_status = refl;
   goal = tt;
-  unmarked = λ i _. none_marked 4096 i;
+  unmarked = λ i _. none_marked (block_limit version) i;
   marked = λ _ i below. absurd (omega arith);
 }

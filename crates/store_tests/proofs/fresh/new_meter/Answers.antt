@@ -1,15 +1,17 @@
 use Rattle.fw_store.specs.Memory.{device_of, capacity_of}
+use Rattle.fw_store.specs.declared.version.HeaderVersion.TheVariants.{Two}
 use Rattle.fw_image.specs.Fresh.{fresh_meter}
-use Rattle.fw_image.specs.Phases.{state_in}
+use Rattle.fw_image.specs.Meter.{migrated}
 use Rattle.fw_image.specs.Stored.{IsMeterOf}
-use Rattle.std.proofs.Common.{refl}
+use Rattle.std.proofs.Common.{refl, ap, ◌∙◌}
 use Rattle.store_tests.proofs.fresh.new_meter.Goals as goal
 
 pub returns-in-Ok-open_store : goal.returns-in-Ok-open_store
 returns-in-Ok-open_store c =
     let made = c.in-Ok.ensures in
     let store = c.in-Ok.store in
-    let new = fresh_meter c.args.block_size c.args.capacity c.args.factory.now in
-    let law = c.fresh_is_meter.ensures c.args.block_size c.args.capacity c.args.factory.now made.setup in
+    let new = fresh_meter Two c.args.block_size c.args.capacity c.args.factory.now in
+    let law = c.fresh_is_meter.ensures Two c.args.block_size c.args.capacity c.args.factory.now made.setup in
     let holds : IsMeterOf (capacity_of store) (device_of store) new = rw (made.size, made.fresh) law.0 in
-    c.one_meter.ensures (capacity_of store) (device_of store) (state_in c.in-Ok-open_store.phase).meter new (c.in-Ok-open_store.ensures.opened.means refl) holds
+    let opened = c.in-Ok-open_store.ensures.opened in
+    opened.goes_on ∙ ap migrated (c.one_meter.ensures (capacity_of store) (device_of store) opened.was new (opened.held refl) holds)

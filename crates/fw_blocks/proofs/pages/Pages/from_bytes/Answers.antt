@@ -3,6 +3,7 @@ use Rattle.std.proofs.lemmas.List.{get_or_default, take_all}
 use Rattle.std.specs.List.{All}
 use Rattle.fw_axdr.specs.Bits.{bits, packed}
 use Rattle.fw_blocks.specs.Cuts.{max_blocks}
+use Rattle.fw_blocks.specs.Inside.{page_count}
 use Rattle.fw_blocks.proofs.BitLemmas.{length-bits}
 use Rattle.fw_blocks.proofs.PageLemmas.{ReadTo, holds, read_none, read_next, read_all, read_marks}
 use Rattle.fw_blocks.proofs.pages.Pages.from_bytes.Goals as goal
@@ -17,13 +18,13 @@ loop-page-preserved c =
 
 pub invariant_of-result : goal.invariant_of-result
 invariant_of-result c =
-    let all : c.loop-page.page ≡ 64 = omega arith in
+    let all : c.loop-page.page ≡ page_count = omega arith in
     let read = subst (λ page. ReadTo c.args.bytes.now page c.loop-page.words c.loop-page.counts) all c.loop-page.invariant in
     holds max_blocks c.loop-page.words c.loop-page.counts (omega arith) (read_all c.args.bytes.now c.loop-page.words c.loop-page.counts read)
 
 pub returns-clause-value : goal.returns-clause-value
 returns-clause-value c =
-    let all : c.loop-page.page ≡ 64 = omega arith in
+    let all : c.loop-page.page ≡ page_count = omega arith in
     let read = subst (λ page. ReadTo c.args.bytes.now page c.loop-page.words c.loop-page.counts) all c.loop-page.invariant in
     read_marks c.args.bytes.now c.loop-page.words c.loop-page.counts (omega (arith, c.told-bytes)) read
 

@@ -1,4 +1,5 @@
 use Rattle.std.proofs.Common.{◌/◌, ◌<◌, length, get_or, set, true, sym, ap, ◌∙◌, arith}
+use Rattle.fw_blocks.specs.Inside.{page_count}
 use Rattle.fw_blocks.proofs.PageLemmas.{bit_from_top, are_words, holds, ones_of-le, length-marks_of, marks_more, marks_same, words_more}
 use Rattle.fw_blocks.proofs.pages.Pages.mark.Goals as goal
 
@@ -6,7 +7,7 @@ pub overflow_add-self : goal.overflow_add-self
 overflow_add-self c =
     let are = are_words c.self.inside.count c.self.inside.words c.self.inside.counts c.self.invariant in
     let size = length-marks_of c.self.inside.count c.self.inside.words in
-    let page : c.args.number / 64 < 64 = omega (arith, size, ap length c.self.view_is, c.requires, c.self.invariant.few) in
+    let page : c.args.number / 64 < page_count = omega (arith, size, ap length c.self.view_is, c.requires, c.self.invariant.few) in
     omega (arith, are.each (c.args.number / 64) page, ones_of-le (bit_from_top (get_or c.self.inside.words (c.args.number / 64) 0) 64) 64)
 
 pub invariant_of-self : goal.invariant_of-self

@@ -14,17 +14,17 @@ invariant_of-self-2 g c =
     let valid = c.self.invariant.held.valid in
     let wanted = c.in-Some.goal in
     let told = c.in_ok-replace.ensures in
-    let none = none_has 4096 c.none.result c.none.ensures in
+    let none = none_has _ c.no_marks.result c.no_marks.ensures in
     let at : status_of (phase_at c.self.inside.digesting (phase_of h.status h.goal)) ≡ VerificationSuccessful = rw (← c.self.view_is) at c.requires in
     let none_digests = none_digested g.S.ImageStore.honest g.S.ImageStore.device c.self.inside.store h c.self.inside.digesting c.self.invariant.digested VerificationSuccessful at (λ e. cc) in
     let status : status_of (phase_of h.status h.goal) ≡ VerificationSuccessful = rw none_digests at at in
     let phase = is_sealed _ h wanted valid status c.in-Some.is in
     rw (told.done, none_digests) (record {
       held = held_written g.S.ImageStore c.self.inside.store c.replace.new.store h _ (g.met.S.ImageStore.sized c.self.inside.store) told.kept told.written c.self.invariant.held
-          (valid_switched _ h c.other.result wanted c.none.result none c.in-Some.is valid told.fits)
+          (valid_switched _ h c.other.result wanted c.no_marks.result none c.in-Some.is valid told.fits)
           (λ d d' views honest trusted.
           let whole = verified_bytes c.cuts_join.ensures _ h d wanted valid views.sized status c.in-Some.is in
-          rw (meter_of-switched _ h d d' c.other.result wanted c.none.result c.other.ensures views.same phase whole) (trusted_switched _ wanted _ phase whole trusted));
+          rw (meter_of-switched _ h d d' c.other.result wanted c.no_marks.result c.other.ensures views.same phase whole) (trusted_switched _ wanted _ phase whole trusted));
       digested = tt;
     })
 
@@ -42,6 +42,6 @@ returns-clause-makes g c =
     let status : status_of (phase_of h.status h.goal) ≡ VerificationSuccessful = rw none_digests at at in
     let phase = is_sealed _ h wanted valid status c.in-Some.is in
     let admits = subst (λ (p : Phase). Admits m p activate) (sym phase) tt in
-    rw (← c.self.view_is, told.done, none_digests) (makes_written s store c.replace.new.store h (header_switched h c.other.result wanted c.none.result) None None activate done refl (g.met.S.ImageStore.sized store) told.kept told.cause.counted told.written told.spends (c.if-not-self.false, admits)
+    rw (← c.self.view_is, told.done, none_digests) (makes_written s store c.replace.new.store h (header_switched h c.other.result wanted c.no_marks.result) None None activate done refl (g.met.S.ImageStore.sized store) told.kept told.cause.counted told.written told.spends (c.if-not-self.false, admits)
     (λ d d' views.
-    leaves _ _ _ (meter_of-switched _ h d d' c.other.result wanted c.none.result c.other.ensures views.same phase (verified_bytes c.cuts_join.ensures _ h d wanted valid views.sized status c.in-Some.is))))
+    leaves _ _ _ (meter_of-switched _ h d d' c.other.result wanted c.no_marks.result c.other.ensures views.same phase (verified_bytes c.cuts_join.ensures _ h d wanted valid views.sized status c.in-Some.is))))

@@ -6,7 +6,7 @@ use Rattle.fw_image.proofs.held.Held.open.Goals as goal
 pub returns-in-Ok-clause-again : goal.returns-in-Ok-clause-again
 returns-in-Ok-clause-again g c = λ meter is trusted honest sound.
     let told = c.in-Ok.ensures in
-    opened_again g.S.ImageStore c.args.store c.examine.new.store c.in-Ok.header meter c.one_header.ensures told.kept told.same told.held is honest
+    rw c.of.ensures (opened_again g.S.ImageStore c.args.store c.examine.new.store c.in-Ok.header meter c.one_header.ensures told.kept told.same told.held is honest)
 
 pub returns-in-Err-clause-again : goal.returns-in-Err-clause-again
 returns-in-Err-clause-again g c = λ meter is trusted honest sound.
@@ -18,4 +18,7 @@ returns-in-Ok-clause-spends g c =
     let store = c.examine.new.store in
     let told = c.in-Ok.ensures in
     let sized = seen_size (s.honest store) (s.capacity store) (s.device store) (g.met.S.ImageStore.sized store) in
-    rw (length-running (s.capacity store) c.in-Ok.header (seen (s.honest store) (s.capacity store) (s.device store)) told.held.valid sized) told.spends
+    rw (c.of.ensures, length-running (s.capacity store) c.in-Ok.header (seen (s.honest store) (s.capacity store) (s.device store)) told.held.valid sized) told.spends
+
+pub returns-in-Err-clause-cut : goal.returns-in-Err-clause-cut
+returns-in-Err-clause-cut g c = c.in-Err.ensures.cut

@@ -16,12 +16,13 @@ returns-clause-view g c =
     let valid = c.self.invariant.held.valid in
     let sized = seen_size (s.honest store) (s.capacity store) (s.device store) (g.met.S.ImageStore.sized store) in
     rw (← c.self.view_is, shown_at (s.capacity store) h c.self.inside.digesting (seen (s.honest store) (s.capacity store) (s.device store)) valid sized) (record {
+      limit = c.block_limit.ensures.value;
       enabled = refl;
       status = c.status.ensures ∙ ap (λ (x : State). status_of x.meter.phase) (sym c.self.view_is);
       active = refl;
       active_size = refl;
       goal = sym (goal_at c.self.inside.digesting (phase_of h.status h.goal) ∙ goal_again h.status h.goal valid.goal_by_status);
-      marked = c.to_bytes.ensures.value ∙ ap packed (c.to_bytes.ensures.whole valid.fields.marks ∙ sym (marks_shown (s.capacity store) h valid));
+      marked = c.to_bytes.ensures.value ∙ ap packed (sym (marks_shown (s.capacity store) h valid));
     })
 
 pub returns-clause-fits : goal.returns-clause-fits

@@ -6,4 +6,4 @@ pub returns-clause-store : goal.returns-clause-store
 returns-clause-store g c h =
     let s = c.args.self in
     let bytes = g.D.ByteDevice.contents s.device in
-    holds s.capacity bytes (is_store s.has_releases s.capacity bytes (s.laid_out h))
+    holds s.capacity bytes (is_store s.tail s.capacity bytes (s.laid_out h))
