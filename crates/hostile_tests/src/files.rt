@@ -71,7 +71,13 @@ fn goal_bytes(view: &MeterView) -> ([u8; 45], [u8; 4]) {
 fn shows(view: &MeterView, header: &[u8; VERSION_TWO_SIZE]) -> bool {
     let (active, active_release) = name_bytes(view.active);
     let (goal, goal_release) = goal_bytes(view);
-    let (marked, more_marked) = view.marked.as_slice().split_at(512);
+    let marks = view.marked.as_slice();
+    let Some(marked) = marks.get(..512) else {
+        return false;
+    };
+    let Some(more_marked) = marks.get(512..) else {
+        return false;
+    };
     &header[..4] == b"FWH2".as_slice()
         && view.limit == 16_384
         && u8::from(view.enabled) == header[4]

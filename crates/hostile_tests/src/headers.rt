@@ -137,21 +137,27 @@ fn byte_of(header: &HeaderBytes, at: usize) -> Result<u8, Fail> {
 
 /// The header with this byte at this place.
 fn with_byte(header: &HeaderBytes, at: usize, value: u8) -> HeaderBytes {
-    match *header {
-        HeaderBytes::One(mut bytes) => {
-            set(&mut bytes, at, value);
+    match header.version() {
+        HeaderVersion::One => {
+            let mut bytes = [0; VERSION_ONE_SIZE];
+            fill(&mut bytes, header.as_slice(), at, value);
             HeaderBytes::One(bytes)
         }
-        HeaderBytes::Two(mut bytes) => {
-            set(&mut bytes, at, value);
+        HeaderVersion::Two => {
+            let mut bytes = [0; VERSION_TWO_SIZE];
+            fill(&mut bytes, header.as_slice(), at, value);
             HeaderBytes::Two(bytes)
         }
     }
 }
 
-fn set(bytes: &mut [u8], at: usize, value: u8) {
-    if let Some(byte) = bytes.get_mut(at) {
-        *byte = value;
+/// Writes these bytes, with this one at this place.
+fn fill(out: &mut [u8], bytes: &[u8], at: usize, value: u8) {
+    for (to, byte) in out.iter_mut().zip(bytes) {
+        *to = *byte;
+    }
+    if let Some(to) = out.get_mut(at) {
+        *to = value;
     }
 }
 
