@@ -60,6 +60,7 @@ fn dlmsfw<'a>(alloc: Global) -> Result<Command<'a>, AllocError> {
     Command::new(alloc, "dlmsfw")
         .bin_name("dlmsfw")?
         .version("0.1.0")
+        .propagate_version(true)
         .about(
             "COSEM firmware distribution: a meter that answers datagrams, names of images, and scripts of campaigns",
         )

@@ -19,6 +19,10 @@ With --store the meter is in FILE, and stays there for the next run. Where no su
 is made, with a new meter. Where one is, its meter goes on, and the other options are ignored; a
 header of version 1 in it, which has marks for 4096 blocks, is written in version 2 first.
 
+A meter verifies an image of more than 4096 bytes in turns, and `answer` takes no turns. So it can't
+verify such an image: image_verify returns 2, temporary-failure, and image_transfer_status stays 2.
+`replay`, `rehearse` and `live` take turns, and verify each image that a meter takes.
+
 Example, a GET of image_transfer_status, which is 0 in a new meter:
 
   echo 000100010001000dc001c1001200002c0000ff0600 | ./dlmsfw answer
@@ -32,19 +36,28 @@ const ENDINGS: &str = "\
 Exit status:
   0  each line was answered
   1  a fault: standard error has `dlmsfw: NAME`, with one of these names
-       StoreFault    FILE can't be made or opened, or another program has it open
-       Fault         FILE can't be read, or a header of version 1 in it not be written in version 2
-       BadFile       FILE hasn't the length that it begins with: it is no meter's, or was cut
-       BadHeader     FILE has no header that a meter writes
-       BadImage      an image in FILE, which runs or is verified, hasn't the digest of its name
-       BadSetup      the options describe no meter, and FILE isn't there
-       Input         standard input can't be read to its end
+       StoreFault    FILE can't be opened or made: another program has it locked, there is no such
+                     folder, FILE is a folder, this user may not read and write it, or the disk is
+                     full
+       Fault         the disk failed: FILE can't be read, or its header of version 1 can't be written
+                     in version 2
+       BadFile       FILE hasn't the length that it begins with: it is empty or another program's, or
+                     it was cut
+       BadHeader     FILE has no header that a meter writes: its bytes were changed
+       BadImage      an image in FILE, which runs or is verified, hasn't the digest of its name: its
+                     bytes were changed
+       BadSetup      the options describe no meter: a number is out of range, or HEX isn't pairs of
+                     hexadecimal digits, is empty, or is longer than the capacity; with --store only
+                     where FILE isn't there
+       Input         a read of standard input failed, as where it is a folder
        TooMuchInput  standard input has more than 64 MiB
-       BadLine L     line L, counted from 1, is no hexadecimal; the lines before it were answered
-       Output        standard output can't be written
-       OutOfMemory   memory ran out; nothing was written
-     up to BadSetup, nothing was read, and a FILE that was there is as it was, unless the write of
-     its header failed
+       BadLine L     line L, counted from 1, isn't pairs of hexadecimal digits: it has another
+                     character, as a space, or a CR before its line feed, or an odd number of digits;
+                     the lines before it were answered
+       Output        standard output can't be written, as on a full disk
+       OutOfMemory   the system gives no more memory; nothing was written
+     From StoreFault to BadSetup nothing was read, and a FILE that was there is as it was, unless the
+     write of its header failed.
   2  a wrong command line: standard error says what is wrong";
 
 /// The command.
@@ -63,7 +76,7 @@ pub(super) fn command<'a>(alloc: Global) -> Result<Command<'a>, AllocError> {
         .arg(
             option(alloc, "capacity", "BYTES")
                 .default_value("64")
-                .help("Bytes of the longest image, 1 to 16777216")
+                .help("Bytes of the longest image, 1 to 16777216, in at most 16384 blocks")
                 .value_parser(clap::value_parser!(u64)),
         )?
         .arg(

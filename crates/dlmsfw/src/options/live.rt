@@ -25,7 +25,7 @@ Example, a campaign for two meters, and a worker for each:
   'meter 2 block 2 capacity 64 factory 78' 'open 7 1 616263 1 2' |
   ./dlmsfw live --rounds 20 --workers 2
 
-prints, where no datagram is lost twenty times,
+prints, where at most ten datagrams of a link are lost or late (where none is, 9 rounds do),
 
   row 7 1 1 done
   row 7 1 2 done
@@ -39,18 +39,18 @@ const ENDINGS: &str = "\
 Exit status:
   0  all rounds were made
   1  a fault: standard error has `dlmsfw: NAME`, with one of these names
-       Input          standard input can't be read to its end
+       Input          a read of standard input failed, as where it is a folder
        TooMuchInput   standard input has more than 64 MiB
-       BadLine L      line L, counted from 1, is none of a script, or stands too late
-       BadSetup       no world can be made of the setup, as told by `replay --help`
-       Event          an event of the script was refused; `replay` tells which, and why
-       Socket         no socket could be bound
-       Mismatch       what the workers left isn't what their record says
-       ThreadRefused  a thread could not be started
-       GateShut       a worker was not let pass, which here is none
-       Output         standard output can't be written
-       OutOfMemory    memory ran out
-     up to OutOfMemory, but for Output, nothing was written
+       BadLine L      line L, counted from 1, is none of a script; `replay --help` has the causes
+       BadSetup       no world can be made of the setup; `replay --help` has the causes
+       Event          an event of the script was refused; `replay` prints which, and why
+       Socket         no socket can be bound on 127.0.0.1, as where a process may not have two open
+                      files for each link (`ulimit -n`)
+       Mismatch       what the workers left isn't what their record says: an error of the program
+       ThreadRefused  a thread can't be started, as where this user has too many of them
+       Output         standard output can't be written, as on a full disk
+       OutOfMemory    the system gives no more memory
+     Except at Output, nothing was written.
   2  a wrong command line: standard error says what is wrong";
 
 /// The command.

@@ -30,12 +30,12 @@ const ENDINGS: &str = "\
 Exit status:
   0  the name was printed
   1  a fault: standard error has `dlmsfw: NAME`, with one of these names
-       Input         standard input can't be read to its end
+       Input         a read of standard input failed, as where it is a folder
        TooMuchInput  standard input has more than 64 MiB
        EmptyImage    standard input has no byte
        ImageTooLong  standard input has more than 16777216 bytes
-       Output        standard output can't be written
-       OutOfMemory   memory ran out; nothing was written
+       Output        standard output can't be written, as on a full disk
+       OutOfMemory   the system gives no more memory; nothing was written
   2  a wrong command line: standard error says what is wrong";
 
 /// The command.

@@ -14,7 +14,7 @@ Standard input has a script, as `replay` reads it; `replay --help` has its lines
 first. Then the workers make R rounds on each link of a head end and a meter, as `replay --rounds` makes
 them: the links go by head ends, then meters, as in the setup, and link J, from 0 on, is worker J modulo
 W's. The workers share the head ends, the meters and a board, on which they count the meters that are
-done. What they did is recorded, and nothing is told that isn't the end of a run of this record.
+done. What they did is recorded, and the report is that of the end of a run of this record.
 
 Standard output gets the report of that end, as of `replay`, and the line `board N`, the number of rows
 that are done. All input is read before anything is written.
@@ -39,18 +39,18 @@ const ENDINGS: &str = "\
 Exit status:
   0  all rounds were made
   1  a fault: standard error has `dlmsfw: NAME`, with one of these names
-       BadFates       --fates isn't 1 to 4096 of the letters d, x, t and l; nothing was read
-       Input          standard input can't be read to its end
+       BadFates       --fates is empty, has more than 4096 letters, or another one than d, x, t and l;
+                      nothing was read
+       Input          a read of standard input failed, as where it is a folder
        TooMuchInput   standard input has more than 64 MiB
-       BadLine L      line L, counted from 1, is none of a script, or stands too late
-       BadSetup       no world can be made of the setup, as told by `replay --help`
-       Event          an event of the script was refused; `replay` tells which, and why
-       Mismatch       what the workers left isn't what their record says
-       ThreadRefused  a thread could not be started
-       GateShut       a worker was not let pass, which here is none
-       Output         standard output can't be written
-       OutOfMemory    memory ran out
-     up to OutOfMemory, but for Output, nothing was written
+       BadLine L      line L, counted from 1, is none of a script; `replay --help` has the causes
+       BadSetup       no world can be made of the setup; `replay --help` has the causes
+       Event          an event of the script was refused; `replay` prints which, and why
+       Mismatch       what the workers left isn't what their record says: an error of the program
+       ThreadRefused  a thread can't be started, as where this user has too many of them
+       Output         standard output can't be written, as on a full disk
+       OutOfMemory    the system gives no more memory
+     Except at Output, nothing was written.
   2  a wrong command line: standard error says what is wrong";
 
 /// The command.

@@ -14,7 +14,8 @@ all others:
 
   head H width W                            head end H, from 1 on, sends W blocks at a time, 1 to 15
   meter M block B capacity C factory HEX    meter M takes blocks of B bytes, 1 to 1024, and images of
-                                            up to C bytes, 1 to 16777216, and runs the image HEX
+                                            up to C bytes, 1 to 16777216, in at most 16384 blocks,
+                                            and runs the image HEX
   meter M .. factory HEX old                an old meter: C is 1 to 4194304, and it takes at most
                                             4096 blocks before it starts again
   open H S HEX M M ..                       head end H opens campaign S, from 1 on: the image HEX for
@@ -24,28 +25,40 @@ all others:
   cancel H S                                it cancels that campaign
   tick H M                                  it sends what it has for meter M now
   deliver K K ..                            these datagrams come, one after another
-  stop K CALLS TORN                         datagram K comes to its meter, which stops behind so many
-                                            calls of its store and starts again; a block that it writes
-                                            then ends with bytes TORN, 0 to 255
+  stop K CALLS TORN                         datagram K comes to its meter, which stops after CALLS calls
+                                            of its store and starts again; a block that it writes then
+                                            ends with bytes TORN, 0 to 255
   restart-meter M, restart-head H           it starts again
-  stop-restart M CALLS TORN                 meter M starts again, and stops in it behind so many
-                                            calls of its store; then it goes on with the header
-                                            that is there
+  stop-restart M CALLS TORN                 meter M starts again, and stops in it after CALLS calls of
+                                            its store; then it goes on with the header that is there
   turn M                                    meter M digests 4096 bytes more of what it verifies
 
 Datagrams are numbered from 0 in the order in which they are sent. Numbers are decimal, HEX is
 hexadecimal or `-` for no bytes, and one space parts two words. Empty lines and lines that begin with
 `#` are skipped.
 
-With --rounds and --fates so many rounds follow on each link of a head end and a meter. In a round what
-is late comes, the head end sends, and each datagram has its fate, by its number on the link: the
-letters of --fates, again and again. At its end a meter that verifies takes a turn.
+With --rounds and --fates R rounds follow on each link of a head end and a meter. In a round what is
+late comes, the head end sends, and each datagram has its fate, by its number on the link: the letters
+of --fates, again and again. At its end a meter that verifies takes a turn.
 
 Standard output gets the report: `row H S M STATE` for each meter of each campaign, where STATE is live,
 done, failed or cancelled; `meter M status X active H S size N` with the image_transfer_status and the
 image that the meter runs, 0 0 for the one that it was made with; `activations N`, how often a meter
 switched to an image. Where an event is refused, the report of the world there and `refused AT NAME`,
-where AT is the number of the event, from 0 on. All input is read before anything is written.
+where AT is the number of the event, from 0 on. All input is read before anything is written. NAME is
+
+  NoSuchDatagram  a `deliver` or `stop` names a datagram that wasn't sent
+  NoSuchActor     an event names a head end or a meter that the setup hasn't, or a `stop` names a
+                  datagram that goes to no meter
+  SerialUsed      an `open` names a campaign that this head end opened before
+  EmptyImage      its image has no byte
+  ImageTooLong    its image has more than 16777216 bytes
+  NoMeters        it names no meter
+  TooManyMeters   it names more than 256 meters
+  MeterTwice      it names a meter twice
+  MeterBusy       a meter that it names is live in another campaign of this head end
+  NoSuchCampaign  a `cancel` names a campaign that wasn't opened
+  NotLive         it names a campaign of which no row is live
 
 With --trace a line for each datagram that was sent stands before the report: its number, who sent it to
 whom, and what it says. A head end says `get ATTRIBUTE`, `enable`, `initiate campaign H S (N bytes)`,
@@ -72,15 +85,19 @@ Exit status:
   0  no event was refused
   1  an event was refused, which standard output tells, or a fault: standard error has
      `dlmsfw: NAME`, with one of these names
-       BadFates      --fates isn't 1 to 4096 of the letters d, x, t and l; nothing was read
-       Input         standard input can't be read to its end
+       BadFates      --fates is empty, has more than 4096 letters, or another one than d, x, t and l;
+                     nothing was read
+       Input         a read of standard input failed, as where it is a folder
        TooMuchInput  standard input has more than 64 MiB
-       BadLine L     line L, counted from 1, is none of the above, or stands too late; nothing was
-                     written
-       BadSetup      there isn't a head end and a meter, or there are more than 16 or 256, or a number
-                     stands twice or is out of range; nothing was written
-       Output        standard output can't be written
-       OutOfMemory   memory ran out; nothing was written
+       BadLine L     line L, counted from 1, is none of the above: it has another word, a word too
+                     many or too few, a number above 4294967295, a HEX with an odd number of digits,
+                     two spaces together, or a space, a tab or a CR at its end; or it is a `head` or
+                     `meter` after an event; nothing was written
+       BadSetup      there is no head end or no meter, there are more than 16 head ends or 256 meters,
+                     two have the same number, or a width, block, capacity or factory image is out of
+                     range; nothing was written
+       Output        standard output can't be written, as on a full disk
+       OutOfMemory   the system gives no more memory; nothing was written
   2  a wrong command line: standard error says what is wrong";
 
 /// The command.
