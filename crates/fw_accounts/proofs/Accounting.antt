@@ -1,6 +1,6 @@
 -- The record of workers: the given events, and behind them those of the receipts.
-use Rattle.std.proofs.Common.{◌≡◌, ◌-◌, List, [], ◌∷◌, ◌++◌, length, drop, take, refl, ap, sym, ◌∙◌, append_assoc, arith}
-use Rattle.std.proofs.lemmas.List.{append-nil, length-map, map_push, take_all}
+use Rattle.std.proofs.Common.{◌≡◌, ◌-◌, List, [], ◌∷◌, ◌++◌, length, drop, take, refl, ap, sym, ◌∙◌, arith}
+use Rattle.std.proofs.lemmas.List.{length-map, take_all}
 use lib.ListN.{length-drop}
 use Rattle.std.specs.List.{AllZip}
 use Rattle.std.specs.List.Sorted.{IsPermutation}
@@ -37,16 +37,3 @@ same_events [] [] h = refl
 same_events [] (copy ∷ copies) h = absurd h
 same_events (event ∷ events) [] h = absurd h
 same_events (event ∷ events) (copy ∷ copies) h = ap (λ e. e ∷ events_of copies) h.0 ∙ ap (λ es. event_of event ∷ es) (same_events events copies h.1)
-
--- an event more behind the given ones
-abbrev pub Begins : List Event → List Given → Type 0
-Begins given events = (made : List Event) × (events_of events ≡ given ++ made)
-
-pub begins : (given : List Event) (events : List Given) → events_of events ≡ given → Begins given events
-begins given events is = ([], is ∙ sym (append-nil given))
-
-pub begins_on : (given : List Event) (events new : List Given) (event : Given) → Begins given events → new ≡ events ++ event ∷ [] → Begins given new
-begins_on given events new event was is = (
-  was.0 ++ event_of event ∷ [],
-  ap events_of is ∙ map_push event_of events event ∙ ap (λ (xs : List Event). xs ++ event_of event ∷ []) was.1 ∙ append_assoc given was.0 (event_of event ∷ []),
-)

@@ -1,16 +1,13 @@
 -- Public vocabulary: when a run of workers is accounted for.
-use Rattle.std.specs.Prelude.{◌≡◌, ℕ, ◌+◌, ◌%◌, ◌==◌, ◌<◌, List, [], ◌∷◌, ◌++◌, length, count_by, All, slice_get, slice_index_or, Some, if◌then◌else◌}
-use Rattle.std.specs.List.{flat_map, sum_by}
+use Rattle.std.specs.Prelude.{◌≡◌, ℕ, ◌+◌, ◌%◌, ◌==◌, ◌<◌, List, [], ◌∷◌, ◌++◌, drop, length, map, count_by, All, slice_get, slice_index_or, Some, if◌then◌else◌}
+use Rattle.std.specs.List.{flat_map}
 use Rattle.std.specs.List.Sorted.{IsPermutation}
-use Rattle.std.specs.Option.{option_map_or}
-use Rattle.fw_book.specs.Contents.{Contents, Offered}
-use Rattle.fw_book.specs.declared.row.Row.{Row}
-use Rattle.fw_head.specs.Head.{Head}
-use Rattle.fw_world.specs.declared.setup.HeadSetup.{HeadSetup}
 use Rattle.fw_world.specs.declared.setup.Setup.{Setup}
-use Rattle.fw_world.specs.Setup.{opening_state, number_of_head}
-use Rattle.fw_world.specs.State.{State, StateRun, head_at, is_done}
+use Rattle.fw_world.specs.Setup.{opening_state}
+use Rattle.fw_world.specs.State.{State, StateRun}
+use Rattle.fw_world.specs.Done.{done_rows}
 use Rattle.fw_world.specs.Step.{Event}
+use Rattle.fw_air.specs.Logs.{Entry}
 use Rattle.fw_air.specs.Rounds.{Link, links}
 use Rattle.fw_air.specs.Ticks.{is_tick}
 use Rattle.fw_shared.specs.Seat.{Receipt}
@@ -47,24 +44,21 @@ AreDealt links rounds workers receipts =
     (worker : ℕ) (of_worker : List Receipt) → slice_get receipts worker ≡ Some of_worker
     → HasItsTicks links rounds workers worker of_worker
 
--- how many rows of a campaign are done, of a book, of a head end, and of all head ends of a world
-abbrev pub done_of : ℕ × Offered → ℕ
-done_of entry = count_by (λ (row : Row). is_done (Some row.state)) entry.1.rows
-
-abbrev pub done_in : Contents → ℕ
-done_in book = sum_by done_of book.campaigns
-
-abbrev pub done_with : State → HeadSetup → ℕ
-done_with s head = option_map_or (λ (h : Head). done_in h.book) (head_at s (number_of_head head)) 0
-
-abbrev pub done_rows : Setup → State → ℕ
-done_rows setup s = sum_by (done_with s) setup.heads.items
-
 -- The events are the given ones, and behind them those of the receipts in the order of their numbers, each number once.
 pub record AreNumbered (given events : List Event) (receipts : List (List Receipt)) : Type 0 where
   pub made : List Event
   pub events_are : events ≡ given ++ made
   pub each_once : IsPermutation (all_of receipts) (numbered (length given) made)
+
+-- The events of a log that begins with the given ones: these, each once, and after them those of the entries that come after theirs.
+abbrev pub recorded : List Event → List Entry → List Event
+recorded given entries = given ++ map (λ (entry : Entry). entry.event) (drop (length given) entries)
+
+-- What is accounted for is this log and no other: the world is that of a run over its events, and the receipts are those of its
+-- entries after the given ones, each number once.
+pub record IsOfLog (setup : Setup) (given : List Event) (entries : List Entry) (world : State) (receipts : List (List Receipt)) : Type 0 where
+  pub run : StateRun (opening_state setup) (recorded given entries) world
+  pub numbered_are : AreNumbered given (recorded given entries) receipts
 
 -- A run of workers is accounted for: what each of them made is in one record, in which each link has all of its rounds, by the worker
 -- that it was dealt to; the world at the end is that of a run over this record; and the board has the number of rows that are done.

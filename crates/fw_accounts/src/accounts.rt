@@ -8,7 +8,6 @@ ghost use Rattle.std.specs.Prelude.{
   ◌+◌,
   ◌++◌,
   ◌^◌,
-  List,
   Some,
   All,
   IsTrue,
@@ -22,19 +21,19 @@ ghost use Rattle.std.specs.Prelude.{
 ghost use Rattle.std.specs.List.Sorted.{IsPermutation};
 ghost use Rattle.fw_air.specs.Events.{core_event_of};
 ghost use Rattle.fw_air.specs.Links.{link_of};
+ghost use Rattle.fw_world.specs.Done.{done_in, done_rows};
 ghost use Rattle.fw_world.specs.Runs.{events_of};
 ghost use Rattle.fw_world.specs.State.{is_done};
-ghost use Rattle.fw_world.specs.Step.{Event as Given};
 ghost use Rattle.fw_world.specs.View.{event_of};
 ghost use Rattle.fw_accounts.specs.Accounts.{
   AreDealt,
   HasItsTicks,
+  IsOfLog,
   IsRising,
   all_of,
-  done_in,
-  done_rows,
   its_ticks,
   numbered,
+  recorded,
   ticks_of,
 };
 ghost use Rattle.fw_accounts.specs.Reported.{IsReported};
@@ -81,7 +80,9 @@ pub fn account(
     left: Left,
 ) -> Result<Report, AccountError>
     requires { 1 ≤ workers }
-    ensures { IfOk result (λ r. IsReported setup.now (events_of given.now) rounds workers r.world r.board r.receipts.items) }
+    ensures reported { IfOk result (λ r. IsReported setup.now (events_of given.now) rounds workers r.world r.board r.receipts.items) }
+    ensures log { IfOk result (λ r. IsOfLog setup.now (events_of given.now) left.entries.items r.world r.receipts.items) }
+    ensures kept { IfOk result (λ r. (r.board ≡ left.board) × (r.receipts ≡ left.receipts)) }
 {
     let Left {
         heads,
@@ -110,9 +111,9 @@ pub fn account(
     })
 }
 
-/// The given events, and behind them those of the entries that come after theirs.
+/// The given events, each once, and after them those of the entries that come after theirs.
 fn record_of(alloc: Global, given: &[Event], entries: Vec<Entry>) -> Result<Vec<Event>, AllocError>
-    ensures { IfOk result (λ v. (made : List Given) × (events_of v.items ≡ events_of given.now ++ made)) }
+    ensures { IfOk result (λ v. events_of v.items ≡ recorded (events_of given.now) entries.items) }
 {
     let mut events = given.to_vec(alloc)?;
     for entry in entries.into_iter().skip(given.len()) {

@@ -1,6 +1,5 @@
 -- Public vocabulary: the laws of schedules. They speak of definitions alone.
-use Rattle.std.specs.Prelude.{◌≡◌, ◌≤◌, ℕ, Bool, true, false, List, length}
-use Rattle.std.specs.List.{list_any}
+use Rattle.std.specs.Prelude.{◌≡◌, ◌≤◌, ℕ, List, length}
 use Rattle.fw_world.specs.declared.error.StepError.{StepError}
 use Rattle.fw_world.specs.declared.error.StepError.TheVariants.{OutOfMemory}
 use Rattle.fw_world.specs.declared.event.Event.{Event as Given}
@@ -9,7 +8,7 @@ use Rattle.fw_world.specs.declared.setup.Setup.{Setup}
 use Rattle.fw_world.specs.Runs.{IsStopped, events_of}
 use Rattle.fw_world.specs.Setup.{IsSetup, opening_state}
 use Rattle.fw_world.specs.State.{State, StateRun}
-use Rattle.fw_world.specs.Step.{Event, stop}
+use Rattle.fw_world.specs.Step.{Event}
 use Rattle.fw_air.specs.Rounds.{AdmittedRun}
 use Rattle.fw_air.specs.Schedules.{Schedules}
 use Rattle.fw_air.specs.Ticks.{IsLink, ticks}
@@ -22,22 +21,16 @@ TicksEach =
     → (IsLink setup s.middle head meter → ticks head meter s.behind ≡ rounds)
     × (¬ IsLink setup s.middle head meter → ticks head meter s.behind ≡ 0)
 
--- whether an event stops a meter, which leaves open what of a block is written
-abbrev pub is_stop : Event → Bool
-is_stop (stop number calls torn) = true
-is_stop event = false
-
--- where no given event is a stop, each run over a schedule ends in the world of the run in which no event is refused
+-- each run over a schedule ends in the world of the run in which no event is refused
 abbrev pub OneWorld : Type 0
 OneWorld =
     (setup : Setup) (given : List Event) (rounds : ℕ) (events : List Event) (s : Schedules setup given rounds events)
-    → list_any is_stop given ≡ false → (world : State) → StateRun (opening_state setup) events world → world ≡ s.end
+    → (world : State) → StateRun (opening_state setup) events world → world ≡ s.end
 
--- where no given event is a stop, a run over a schedule is stopped for want of memory alone
+-- a run over a schedule is stopped where it is out of memory, and nowhere else
 abbrev pub NoneRefused : Type 0
 NoneRefused =
     (setup : Setup) (given : List Event) (rounds : ℕ) (events : List Given) → Schedules setup given rounds (events_of events)
-    → list_any is_stop given ≡ false
     → (number : ℕ) (world : State) (cause : StepError) → IsStopped setup events (stopped.Event number world cause) → cause ≡ OutOfMemory
 
 -- what was sent stays, in a run in which no event is refused

@@ -7,23 +7,24 @@ pub fn ticks_each()
     ensures { TicksEach }
 {}
 
-/// Where no given event is a stop, each run over a schedule, as `run` makes it, ends in the world of the run in which no event is
-/// refused.
+/// Each run over a schedule, as `run` makes it, ends in the world of the run in which no event is refused.
 pub fn one_world()
     ensures { OneWorld }
 {
     fw_head::laws::one_row();
     fw_image::laws::one_turn();
     fw_meter::laws::one_answer();
+    fw_meter::laws::one_stop();
 }
 
-/// Where no given event is a stop, `run` over a schedule is refused at no event, but for want of memory.
+/// `run` over a schedule is refused at no event, except where it is out of memory.
 pub fn none_refused()
     ensures { NoneRefused }
 {
     fw_head::laws::one_row();
     fw_image::laws::one_turn();
     fw_meter::laws::one_answer();
+    fw_meter::laws::one_stop();
 }
 
 /// A run in which no event is refused leaves no fewer datagrams sent than there were.

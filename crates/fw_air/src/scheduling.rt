@@ -17,7 +17,7 @@ use std::alloc::Global;
 /// The given events, and behind them those of so many rounds of each link: round follows round, and in each the links go by head
 /// ends and then by meters, in the order of the setup. A link is a head end and a meter that stands in its book after the given
 /// events, also where its rows have all ended. `run` over the list is refused at no event, but for want of memory, and ends in the
-/// world of these rounds; where no given event is a stop, `laws::none_refused` and `laws::one_world` say so. Behind the given events
+/// world of these rounds: `laws::none_refused` and `laws::one_world` say so. Behind the given events
 /// each link has as many ticks as there are rounds, and any other two numbers have none: `laws::ticks_each`.
 ///
 /// # Errors

@@ -96,11 +96,11 @@ fn set_up<F: Files<File = File>>(
 
 /// The meter that a store holds, whose header is one of version 2 from then on.
 fn opened<S: ImageStore + Drop>(store: S) -> Result<MeterCore<S>, Fault>
-    ensures opened { IfOk result (λ meter. Opens S.honest S.capacity S.calls_left S.device store meter) }
+    ensures opened { IfOk result (λ meter. Opens S.honest S.capacity S.fuse S.device store meter) }
     ensures begins { IfOk result (λ meter. restarted meter.meter ≡ meter.meter) }
     ensures faultless { IfOk result (λ meter. meter.faults ≡ S.faults store) }
     ensures refused { IfErr result (λ f. (error : OpenError) × (f ≡ fault_of_opening error) × (back : S)
-        × Refused S.honest S.sound S.capacity S.faults S.calls_left S.device store error back) }
+        × Refused S.honest S.sound S.capacity S.faults S.fuse S.device store error back) }
 {
     match MeterCore::open_store(store) {
         Ok(meter) => Ok(meter),

@@ -1,5 +1,5 @@
 -- Entries for events that happened in a world, and the events of entries.
-use Rattle.std.proofs.Common.{◌≡◌, ℕ, ◌+◌, ◌-◌, ◌<◌, ◌≤◌, List, [], ◌∷◌, ◌++◌, length, get_or, take, ap, sym, subst, ◌∙◌, arith}
+use Rattle.std.proofs.Common.{◌≡◌, ℕ, ◌+◌, ◌-◌, ◌<◌, ◌≤◌, List, [], ◌∷◌, ◌++◌, length, get_or, take, refl, ap, sym, subst, ◌∙◌, arith}
 use Rattle.std.proofs.lemmas.List.{map_more}
 use Rattle.std.proofs.lemmas.List.Sums.{sum_by_push}
 use Rattle.std.specs.List.{sum_by}
@@ -11,7 +11,8 @@ use Rattle.fw_world.specs.declared.setup.Setup.{Setup}
 use Rattle.fw_world.specs.Laws.{RunGoesOn}
 use Rattle.fw_world.specs.Runs.{IsStopped, events_of}
 use Rattle.fw_world.specs.State.{State, StateRun, StateStep}
-use Rattle.fw_world.specs.Step.{Event}
+use Rattle.fw_world.specs.Step.{Event, Run, WorldStep}
+use Rattle.fw_world.specs.World.{World}
 use Rattle.fw_world.specs.View.{event_of}
 use Rattle.fw_air.specs.Logs.{Entry}
 use Rattle.fw_crew.specs.declared.error.RehearseError.TheVariants as refused
@@ -31,6 +32,17 @@ runs_on goes_on opening old new events at event inside is run step =
     let more : events_of (take (at + 1) events) ≡ events_of (take at events) ++ event_of event ∷ [] =
     map_more event_of events at event inside ∙ ap (λ (e : Given). events_of (take at events) ++ event_of e ∷ []) (sym is) in
     subst (λ (es : List Event). StateRun opening es new) (sym more) (goes_on opening old new (events_of (take at events)) (event_of event) run step)
+
+world_goes_on : (opening old new : World) (events : List Event) (event : Event) → Run opening events old → WorldStep old event new → Run opening (events ++ event ∷ []) new
+world_goes_on opening old new [] event run step = (new, subst (λ (w : World). WorldStep w event new) run step, refl)
+world_goes_on opening old new (first ∷ events) event run step = (run.0, run.1, world_goes_on run.0 old new events event run.2 step)
+
+pub world_runs_on : (opening old new : World) (events : List Given) (at : ℕ) (event : Given) → at < length events → event ≡ get_or events at event
+    → Run opening (events_of (take at events)) old → WorldStep old (event_of event) new → Run opening (events_of (take (at + 1) events)) new
+world_runs_on opening old new events at event inside is run step =
+    let more : events_of (take (at + 1) events) ≡ events_of (take at events) ++ event_of event ∷ [] =
+    map_more event_of events at event inside ∙ ap (λ (e : Given). events_of (take at events) ++ event_of e ∷ []) (sym is) in
+    subst (λ (es : List Event). Run opening es new) (sym more) (world_goes_on opening old new (events_of (take at events)) (event_of event) run step)
 
 -- where a given event was refused, it is told so
 pub told : (setup : Setup) (events : List Given) (number : ℕ) (world : State) (reason : StepError) → IsStopped setup events (stopped.Event number world reason)

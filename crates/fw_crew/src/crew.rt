@@ -1,18 +1,22 @@
 //! Workers, each in a thread of its own.
 
-ghost use Rattle.std.specs.Prelude.{◌≡◌, ◌≤◌, All, IfOk};
+ghost use Rattle.std.specs.Prelude.{◌≡◌, ◌≤◌, ◌⊎◌, All, IfOk, IfErr, map};
+ghost use Rattle.std.specs.List.{AllZip};
 ghost use Rattle.fw_accounts.specs.Reported.{IsReported};
 ghost use Rattle.fw_world.specs.Runs.{events_of};
+ghost use Rattle.fw_crew.specs.Ends.{End, EndsAs, IsLowestRefusal, IsOfCrew};
 
 use crate::error::Unaccounted;
 use crate::floor::Floor;
 use crate::gate::Gate;
 use crate::given::Opening;
-use crate::stage::{Job, OnBoard, Outcome, Stage};
+use crate::stage::{Job, OfWorker, Outcome, Stage};
+use crate::start::{Start, Starter};
 use crate::worker::Worker;
 use fw_accounts::Report;
 use fw_world::{Event, Setup};
 use std::alloc::Global;
+use std::snapshot::Snapshot;
 use std::sync::Wait;
 use std::thread;
 use std::thread::Threads;
@@ -29,6 +33,9 @@ pub struct Task<'a, G: Gate> {
 
 /// What is dealt to a worker.
 pub trait Hand {
+    /// How its rounds may end.
+    ghost may_end: { Self → End → Type 0 };
+
     /// So many rounds of its links.
     fn rounds<R: Wait, G: Gate>(
         &mut self,
@@ -39,15 +46,17 @@ pub trait Hand {
         rounds: u32,
     ) -> Result<(), Unaccounted>
         requires { worker.old.board ≡ floor.now.board.id }
-        ensures { worker.new.board ≡ worker.old.board };
+        ensures board { worker.new.board ≡ worker.old.board }
+        ensures end { may_end self.old result };
 }
 
 /// Lets a worker for each hand make its rounds from this opening on, each in a thread of its own, and accounts for what they left.
+/// No worker begins before the threads of all are there.
 ///
 /// # Errors
 ///
-/// The lowest worker's: `GateShut`, `OutOfMemory` or `Mismatch`; or `ThreadRefused`. `Mismatch` too where what they left isn't what
-/// their receipts say.
+/// `ThreadRefused` where a thread could not be started: no worker began. Then the lowest worker's: `GateShut`, `OutOfMemory` or
+/// `Mismatch`. `Mismatch` too where what they left isn't what their receipts say.
 pub fn work<R: Threads + Wait + Sync, G: Gate + Sync, H: Hand + Send + Drop>(
     rt: &R,
     alloc: Global,
@@ -56,8 +65,10 @@ pub fn work<R: Threads + Wait + Sync, G: Gate + Sync, H: Hand + Send + Drop>(
     hands: Vec<H>,
 ) -> Result<Report, Unaccounted>
     requires { 1 ≤ task.now.workers }
-    ensures { IfOk result (λ r. IsReported task.now.setup.now (events_of task.now.given.now) task.now.rounds task.now.workers
+    ensures reported { IfOk result (λ r. IsReported task.now.setup.now (events_of task.now.given.now) task.now.rounds task.now.workers
         r.world r.board r.receipts.items) }
+    ensures ended { IfOk result (λ _. All (λ hand. H.may_end hand (Ok tt)) hands.items) }
+    ensures lowest { IfErr result (λ e. IsOfCrew e ⊎ IsLowestRefusal H.may_end hands.items e) }
 {
     let mut stage = Stage::of(alloc, task.setup, opening)?;
     let jobs = stage.seat(alloc, hands)?;
@@ -72,7 +83,8 @@ pub fn work<R: Threads + Wait + Sync, G: Gate + Sync, H: Hand + Send + Drop>(
     )
 }
 
-/// Each worker in a thread of its own. All are started before the first is joined.
+/// Each worker in a thread of its own. None begins before the threads of all are there; where one is refused, the others end. What
+/// they leave stands in the order of the jobs.
 fn spawned<R: Threads + Wait + Sync, G: Gate + Sync, H: Hand + Send + Drop>(
     rt: &R,
     alloc: Global,
@@ -82,30 +94,43 @@ fn spawned<R: Threads + Wait + Sync, G: Gate + Sync, H: Hand + Send + Drop>(
     jobs: Vec<Job<H>>,
 ) -> Result<Vec<Outcome>, Unaccounted>
     requires { All (λ job. job.seat.board ≡ floor.now.board.id) jobs.items }
-    ensures { IfOk result (λ v. All (λ outcome. outcome.seat.board ≡ floor.now.board.id) v.items) }
+    ensures seats { IfOk result (λ v. All (λ outcome. outcome.seat.board ≡ floor.now.board.id) v.items) }
+    ensures ends { IfOk result (λ v. AllZip (EndsAs H.may_end) (map (λ job. job.hand) jobs.items) (map (λ outcome. outcome.ended) v.items)) }
+    ensures cause { IfErr result IsOfCrew }
 {
+    let start = Start::new();
+    let start = &start;
     thread::scope(
         thread::scope_env(),
         rt,
         move |scope| -> Result<Vec<Outcome>, Unaccounted>
             requires { All (λ job. job.seat.board ≡ floor.now.board.id) jobs.items }
-            ensures { IfOk result (λ v. All (λ outcome. outcome.seat.board ≡ floor.entry.now.board.id) v.items) }
+            ensures seats { IfOk result (λ v. All (λ outcome. outcome.seat.board ≡ floor.entry.now.board.id) v.items) }
+            ensures ends { IfOk result (λ v. AllZip (EndsAs H.may_end) (map (λ job. job.hand) jobs.items) (map (λ outcome. outcome.ended) v.items)) }
+            ensures cause { IfErr result IsOfCrew }
         {
+            let starter = Starter::of(start);
             let mut rest = jobs;
             let mut children = Vec::new(alloc);
             'starts: while !rest.is_empty() {
                 let job = rest.remove(0);
+                let promise = OfWorker {
+                    board: &floor.board,
+                    hand: Snapshot::of(&job.hand),
+                };
                 let work = move || -> Outcome
                     requires { job.seat.board ≡ floor.now.board.id }
-                    ensures { result.seat.board ≡ floor.entry.now.board.id }
-                { work_off(rt, alloc, floor, gate, rounds, job) };
-                let Ok(child) = scope.spawn_with(OnBoard(&floor.board), work) else {
-                    return Err(Unaccounted::ThreadRefused);
+                    ensures seat { result.seat.board ≡ floor.entry.now.board.id }
+                    ensures end { EndsAs H.may_end job.hand result.ended }
+                { work_off(rt, alloc, floor, start, gate, rounds, job) };
+                let Ok(child) = scope.spawn_with(promise, work) else {
+                    return Err(starter.refuse(rt, Unaccounted::ThreadRefused));
                 };
-                if children.push(child).is_err() {
-                    return Err(Unaccounted::OutOfMemory);
-                }
+                let Ok(()) = children.push(child) else {
+                    return Err(starter.refuse(rt, Unaccounted::OutOfMemory));
+                };
             }
+            starter.begin(rt, &rest);
             match thread::join_promised(rt, children) {
                 Ok(outcomes) => Ok(outcomes),
                 Err(_) => Err(Unaccounted::OutOfMemory),
@@ -114,23 +139,31 @@ fn spawned<R: Threads + Wait + Sync, G: Gate + Sync, H: Hand + Send + Drop>(
     )
 }
 
-/// What a worker does in its thread.
+/// What a worker does in its thread, once it is told to begin.
 fn work_off<R: Wait, G: Gate, H: Hand + Drop>(
     rt: &R,
     alloc: Global,
     floor: &Floor,
+    start: &Start,
     gate: &G,
     rounds: u32,
     job: Job<H>,
 ) -> Outcome
     requires { job.seat.board ≡ floor.now.board.id }
-    ensures { result.seat.board ≡ floor.now.board.id }
+    ensures seat { result.seat.board ≡ floor.now.board.id }
+    ensures end { EndsAs H.may_end job.hand result.ended }
 {
     let Job {
         number,
         seat,
         mut hand,
     } = job;
+    if !start.waits(rt) {
+        return Outcome {
+            seat,
+            ended: Err(Unaccounted::ThreadRefused),
+        };
+    }
     let mut worker = Worker::new(number, seat, gate);
     let ended = hand.rounds(rt, alloc, floor, &mut worker, rounds);
     Outcome {

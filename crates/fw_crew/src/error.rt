@@ -1,8 +1,10 @@
 //! Why a rehearsal or a live rollout has no report.
 
 ghost use Rattle.std.specs.Prelude.{◌≡◌, ◌≢◌};
+ghost use Rattle.fw_crew.specs.Ends.{IsOfCrew};
 ghost use Rattle.fw_crew.specs.Refusals.{IsLater, of_setup, of_step};
 ghost use Rattle.fw_crew.specs.declared.error.RehearseError.TheVariants as refused;
+ghost use Rattle.fw_crew.specs.declared.error.Unaccounted.TheVariants as unaccounted;
 
 use fw_accounts::AccountError;
 use fw_head::PutError;
@@ -65,7 +67,7 @@ impl From<SetupError> for RehearseError {
 }
 
 /// Why what workers did is not accounted for. A setup, a given event or the wires are never the reason.
-#[derive(Drop)]
+#[derive(Clone, Copy, Debug, Drop, PartialEq, Eq)]
 pub enum Unaccounted {
     /// What the workers left isn't what their record says.
     Mismatch,
@@ -91,18 +93,24 @@ impl From<Unaccounted> for RehearseError {
 }
 
 impl From<AllocError> for Unaccounted {
+    ghost from_gives = { λ _ e. e ≡ unaccounted.OutOfMemory };
+
     fn from(_error: AllocError) -> Unaccounted {
         Unaccounted::OutOfMemory
     }
 }
 
 impl<T: Drop> From<AllocFailed<T>> for Unaccounted {
+    ghost from_gives = { λ _ e. e ≡ unaccounted.OutOfMemory };
+
     fn from(_error: AllocFailed<T>) -> Unaccounted {
         Unaccounted::OutOfMemory
     }
 }
 
 impl From<OutOfMemory> for Unaccounted {
+    ghost from_gives = { λ _ e. e ≡ unaccounted.OutOfMemory };
+
     fn from(_error: OutOfMemory) -> Unaccounted {
         Unaccounted::OutOfMemory
     }
@@ -120,6 +128,8 @@ impl From<StepError> for Unaccounted {
 }
 
 impl From<PutError> for Unaccounted {
+    ghost from_gives = { λ _ e. IsOfCrew e };
+
     fn from(refusal: PutError) -> Unaccounted {
         match refusal {
             PutError::WrongRows => Unaccounted::Mismatch,
@@ -129,6 +139,8 @@ impl From<PutError> for Unaccounted {
 }
 
 impl From<AccountError> for Unaccounted {
+    ghost from_gives = { λ _ e. IsOfCrew e };
+
     fn from(refusal: AccountError) -> Unaccounted {
         match refusal {
             AccountError::Mismatch => Unaccounted::Mismatch,

@@ -1,10 +1,11 @@
 //! What workers share, and the events that they make there. What a worker makes is a receipt of its seat; what comes of it no clause
 //! tells, since the receipts are compared with the log behind it.
 
-ghost use Rattle.std.specs.Prelude.{◌≡◌, ◌≤◌, IsTrue, None, IfOk, IfSome, IsErrOf, OnOk, OnErr};
+ghost use Rattle.std.specs.Prelude.{◌≡◌, ◌≤◌, IsTrue, None, IfOk, IfErr, IfSome, IsErrOf, OnOk, OnErr};
 ghost use Rattle.std.specs.Option.{option_copied};
 ghost use Rattle.fw_air.specs.Rounds.{stands_in};
 ghost use Rattle.fw_world.specs.Step.{deliver, tick};
+ghost use Rattle.fw_crew.specs.Ends.{IsOfCrew};
 ghost use Rattle.fw_crew.specs.Seated.{HasLetHear, HasLooked, HasMade, HasTurned, desk_of, meter_of};
 
 use crate::error::Unaccounted;
@@ -33,7 +34,8 @@ pub struct Floor {
 impl Floor {
     /// The world and the record of this opening, and this board.
     pub(crate) fn of(alloc: Global, opening: Opening, board: Board) -> Result<Floor, Unaccounted>
-        ensures { IfOk result (λ made. made.board ≡ board) }
+        ensures board { IfOk result (λ made. made.board ≡ board) }
+        ensures memory { IfErr result (λ e. e ≡ Unaccounted.OutOfMemory) }
     {
         let Opening { world, entries } = opening;
         let Parts {
@@ -58,6 +60,7 @@ impl Floor {
         receipts: Vec<Receipts>,
     ) -> Result<Left, Unaccounted>
         requires { seat.board ≡ self.board.id }
+        ensures { IfErr result IsOfCrew }
     {
         let Floor {
             desks,
@@ -213,7 +216,9 @@ impl Floor {
 }
 
 /// Each head end as workers share it.
-fn desks_of(alloc: Global, heads: Vec<HeadCore>) -> Result<Vec<Desk>, Unaccounted> {
+fn desks_of(alloc: Global, heads: Vec<HeadCore>) -> Result<Vec<Desk>, Unaccounted>
+    ensures { IfErr result (λ e. e ≡ Unaccounted.OutOfMemory) }
+{
     let mut desks = Vec::new(alloc);
     for head in heads {
         desks.push(Desk::new(alloc, head)?)?;
@@ -222,7 +227,9 @@ fn desks_of(alloc: Global, heads: Vec<HeadCore>) -> Result<Vec<Desk>, Unaccounte
 }
 
 /// The head ends as the workers left them.
-fn heads_of(alloc: Global, desks: Vec<Desk>) -> Result<Vec<HeadCore>, Unaccounted> {
+fn heads_of(alloc: Global, desks: Vec<Desk>) -> Result<Vec<HeadCore>, Unaccounted>
+    ensures { IfErr result IsOfCrew }
+{
     let mut heads = Vec::new(alloc);
     for desk in desks {
         heads.push(desk.into_inner(alloc)?)?;
@@ -234,7 +241,9 @@ fn heads_of(alloc: Global, desks: Vec<Desk>) -> Result<Vec<HeadCore>, Unaccounte
 fn shared(
     alloc: Global,
     meters: Vec<NumberedMeter>,
-) -> Result<Vec<SharedMeter<MemoryStore>>, Unaccounted> {
+) -> Result<Vec<SharedMeter<MemoryStore>>, Unaccounted>
+    ensures { IfErr result (λ e. e ≡ Unaccounted.OutOfMemory) }
+{
     let mut all = Vec::new(alloc);
     for meter in meters {
         all.push(SharedMeter::new(meter.meter(), meter.into_core()))?;
@@ -246,7 +255,9 @@ fn shared(
 fn unshared(
     alloc: Global,
     meters: Vec<SharedMeter<MemoryStore>>,
-) -> Result<Vec<NumberedMeter>, Unaccounted> {
+) -> Result<Vec<NumberedMeter>, Unaccounted>
+    ensures { IfErr result (λ e. e ≡ Unaccounted.OutOfMemory) }
+{
     let mut all = Vec::new(alloc);
     for shared in meters {
         let meter = shared.meter();

@@ -8,6 +8,7 @@ mod floor;
 mod gate;
 mod given;
 mod stage;
+mod start;
 mod worker;
 
 pub use crew::{Hand, Task, work};

@@ -1,9 +1,11 @@
 //! What workers begin with, and what is made of what they leave.
 
-ghost use Rattle.std.specs.Prelude.{◌≡◌, ◌<◌, ◌≤◌, ◌^◌, All, IfOk};
+ghost use Rattle.std.specs.Prelude.{◌≡◌, ◌<◌, ◌≤◌, ◌^◌, All, IfOk, IfErr, IfSome, IsErrOf, None, map};
 ghost use Rattle.fw_accounts.specs.Reported.{IsReported};
 ghost use Rattle.fw_world.specs.Runs.{events_of};
+ghost use Rattle.fw_crew.specs.Ends.{EndsAs, IsOfCrew, lowest_refusal};
 
+use crate::crew::Hand;
 use crate::error::Unaccounted;
 use crate::floor::Floor;
 use crate::given::Opening;
@@ -11,6 +13,7 @@ use fw_accounts::{Receipts, Report, account, done_rows};
 use fw_shared::{Board, Seat};
 use fw_world::{Event, Setup, World};
 use std::alloc::Global;
+use std::snapshot::Snapshot;
 use std::thread::Promise;
 
 /// What a worker begins with: its number, its seat, and what is dealt to it.
@@ -28,12 +31,15 @@ pub(crate) struct Outcome {
     pub(crate) ended: Result<(), Unaccounted>,
 }
 
-/// What is promised of a worker: its seat is of this board.
-#[derive(Clone, Copy)]
-pub(crate) struct OnBoard<'a>(pub(crate) &'a Board);
+/// What is promised of what a worker leaves: its seat is of this board, and it ended as with this hand.
+#[derive(Drop)]
+pub(crate) struct OfWorker<'a, H> {
+    pub(crate) board: &'a Board,
+    pub(crate) hand: Snapshot<H>,
+}
 
-impl<'a> Promise<Outcome> for OnBoard<'a> {
-    ghost kept_by = { λ p outcome. outcome.seat.board ≡ p.0.now.id };
+impl<'a, H: Hand> Promise<Outcome> for OfWorker<'a, H> {
+    ghost kept_by = { λ p outcome. (outcome.seat.board ≡ p.board.now.id) × EndsAs H.may_end p.hand.value outcome.ended };
 }
 
 /// What workers share, and the seat out of which theirs are split.
@@ -46,7 +52,9 @@ pub(crate) struct Stage {
 
 impl Stage {
     /// The stage for this opening. The board begins with the rows that are done.
-    pub(crate) fn of(alloc: Global, setup: &Setup, opening: Opening) -> Result<Stage, Unaccounted> {
+    pub(crate) fn of(alloc: Global, setup: &Setup, opening: Opening) -> Result<Stage, Unaccounted>
+        ensures { IfErr result IsOfCrew }
+    {
         let done = marks_of(setup, &opening.world)?;
         let (board, seat) = Board::new(alloc, done)?;
         Ok(Stage {
@@ -55,13 +63,15 @@ impl Stage {
         })
     }
 
-    /// A worker for each hand, with a seat of its own. Each has half of the marks that were left.
+    /// A worker for each hand, in order, with a seat of its own. Each has half of the marks that were left.
     pub(crate) fn seat<H: Drop>(
         &mut self,
         alloc: Global,
         hands: Vec<H>,
     ) -> Result<Vec<Job<H>>, Unaccounted>
-        ensures { IfOk result (λ v. All (λ job. job.seat.board ≡ self.new.floor.board.id) v.items) }
+        ensures seats { IfOk result (λ v. All (λ job. job.seat.board ≡ self.new.floor.board.id) v.items) }
+        ensures hands { IfOk result (λ v. map (λ job. job.hand) v.items ≡ hands.items) }
+        ensures memory { IfErr result (λ e. e ≡ Unaccounted.OutOfMemory) }
     {
         let mut jobs = Vec::new(alloc);
         let mut number = 0u32;
@@ -74,7 +84,8 @@ impl Stage {
         Ok(jobs)
     }
 
-    /// The report of what the workers left, where it is accounted for.
+    /// The report of what the workers left, who stand in the order of their numbers, where it is accounted for. The lowest worker's
+    /// refusal comes before all else.
     pub(crate) fn account(
         self,
         alloc: Global,
@@ -86,8 +97,10 @@ impl Stage {
     ) -> Result<Report, Unaccounted>
         requires workers { 1 ≤ workers }
         requires outcomes { All (λ outcome. outcome.seat.board ≡ self.floor.board.id) outcomes.items }
-        ensures { IfOk result (λ r. IsReported setup.now (events_of given.now) rounds workers
+        ensures reported { IfOk result (λ r. IsReported setup.now (events_of given.now) rounds workers
             r.world r.board r.receipts.items) }
+        ensures refused { IfSome (lowest_refusal (map (λ outcome. outcome.ended) outcomes.items)) (λ e. IsErrOf result e) }
+        ensures otherwise { lowest_refusal (map (λ outcome. outcome.ended) outcomes.items) ≡ None → IfErr result IsOfCrew }
     {
         let Stage { floor, mut seat } = self;
         let receipts = gathered(alloc, &floor.board, &mut seat, outcomes)?;
@@ -99,7 +112,8 @@ impl Stage {
 
 /// The count with which the board begins: the rows that are done.
 fn marks_of(setup: &Setup, world: &World) -> Result<u64, Unaccounted>
-    ensures { IfOk result (λ done. done < 2 ^ 63) }
+    ensures fits { IfOk result (λ done. done < 2 ^ 63) }
+    ensures cause { IfErr result (λ e. e ≡ Unaccounted.Mismatch) }
 {
     match done_rows(setup, world) {
         Some(done) if done < 1 << 63 => Ok(done),
@@ -107,7 +121,12 @@ fn marks_of(setup: &Setup, world: &World) -> Result<u64, Unaccounted>
     }
 }
 
-/// Joins the seats into this one: the receipts of each worker. The lowest worker's refusal is given.
+/// Joins the seats into this one: the receipts of each worker, in order. Where workers were refused, the lowest worker's refusal is
+/// given.
+///
+/// # Errors
+///
+/// That refusal, and otherwise out of memory alone.
 fn gathered(
     alloc: Global,
     board: &Board,
@@ -117,14 +136,32 @@ fn gathered(
     requires seat { seat.old.board ≡ board.now.id }
     requires outcomes { All (λ outcome. outcome.seat.board ≡ board.now.id) outcomes.items }
     ensures seat { seat.new.board ≡ seat.old.board }
+    ensures receipts { IfOk result (λ v. v.items ≡ map (λ outcome. outcome.seat.receipts) outcomes.items) }
+    ensures refused { IfSome (lowest_refusal (map (λ outcome. outcome.ended) outcomes.items)) (λ e. IsErrOf result e) }
+    ensures memory { lowest_refusal (map (λ outcome. outcome.ended) outcomes.items) ≡ None
+        → IfErr result (λ e. e ≡ Unaccounted.OutOfMemory) }
 {
+    if let Some(refusal) = refusal_among(&outcomes) {
+        return Err(refusal);
+    }
     let mut all = Vec::new(alloc);
     let mut rest = outcomes;
     while !rest.is_empty() {
-        let Outcome { seat: own, ended } = rest.remove(0);
-        ended?;
+        let Outcome { seat: own, .. } = rest.remove(0);
         let receipts = board.join(seat, own);
         all.push(Receipts::new(receipts))?;
     }
     Ok(all)
+}
+
+/// The refusal of the lowest worker that was refused.
+fn refusal_among(outcomes: &[Outcome]) -> Option<Unaccounted>
+    ensures { result ≡ lowest_refusal (map (λ outcome. outcome.ended) outcomes.now) }
+{
+    for outcome in outcomes {
+        if let Err(refusal) = outcome.ended {
+            return Some(refusal);
+        }
+    }
+    None
 }

@@ -20,3 +20,4 @@ mod NewRows
 mod Cancelling
 mod Openings
 mod DoneIn
+mod HasRow

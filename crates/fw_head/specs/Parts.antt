@@ -1,5 +1,5 @@
 -- Public vocabulary: the parts of a head end, and what they are when they are put together.
-use Rattle.std.specs.Prelude.{ℕ, not, List, [], ◌∷◌, map, filter}
+use Rattle.std.specs.Prelude.{◌≢◌, ℕ, not, List, [], ◌∷◌, map, filter}
 use Rattle.fw_book.specs.declared.row.RowState.TheVariants as state
 use Rattle.fw_book.specs.Contents.{Contents}
 use Rattle.fw_book.specs.Changes.{marked}
@@ -39,7 +39,7 @@ with_ends book (row ∷ rows) = with_ends (with_end book row.name.campaign.seria
 abbrev pub joined : Contents → ℕ → List Row → Head
 joined book width rows = record { book = with_ends book rows; width = width; rows = still_live (by_meter rows) }
 
--- why parts are not put together: the rows are not those of the book; or memory ran out, and they are
+-- why parts are not put together: the rows are not those of the book; or memory ran out, and they are, and there are some
 abbrev pub PutRefused : Contents → List Row → PutError → Type 0
 PutRefused book rows WrongRows = ¬ AreLiveRows book rows
-PutRefused book rows OutOfMemory = AreLiveRows book rows
+PutRefused book rows OutOfMemory = AreLiveRows book rows × (rows ≢ [])

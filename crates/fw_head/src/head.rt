@@ -1,6 +1,6 @@
 //! A head end: the book of its campaigns, and a row for each meter that is live in one of them.
 
-ghost use Rattle.std.specs.Prelude.{◌≡◌, ◌≤◌, ◌↔◌, ℕ, length, All, None, IsSomeAnd, IfOk, IfErr, IsOk, OnOk, OnErr};
+ghost use Rattle.std.specs.Prelude.{◌≡◌, ◌≤◌, ◌↔◌, ℕ, length, All, None, is_some, IsTrue, IsSomeAnd, IfOk, IfErr, IsOk, OnOk, OnErr};
 ghost use Rattle.std.specs.Map.{values_of};
 ghost use Rattle.fw_names.specs.Name.{Campaign, name_of};
 ghost use Rattle.fw_blocks.specs.Width.{IsWidth};
@@ -183,6 +183,15 @@ impl HeadCore {
         })
     }
 
+    /// Whether a meter has a live row. Where it has none, a tick sends it nothing and takes no memory.
+    pub fn has_row(&self, meter: MeterId) -> bool
+        ensures value { result ≡ is_some (row_of self.now.rows meter) }
+        // A live row has not ended.
+        ensures live { IsTrue result → IsSomeAnd (row_of self.now.rows meter) (λ row. IsLive row.stage) }
+    {
+        self.rows.get(meter).is_some()
+    }
+
     /// Makes the datagrams that are sent to a meter now: none where it has no live row.
     ///
     /// # Errors
@@ -252,7 +261,7 @@ impl HeadCore {
     /// # Errors
     ///
     /// `WrongRows` where the rows are not those that are live in the book, each once and in any order, for the image that their
-    /// campaign offers. Otherwise `OutOfMemory` alone. The parts are lost.
+    /// campaign offers. Otherwise `OutOfMemory` alone, and only where there are rows. The parts are lost.
     pub fn put_rows(
         alloc: Global,
         book: Book,

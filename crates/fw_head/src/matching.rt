@@ -1,6 +1,6 @@
 //! Whether rows are the live ones of a book. Nothing here takes memory.
 
-ghost use Rattle.std.specs.Prelude.{◌≡◌, ◌==◌, find, MatchBool};
+ghost use Rattle.std.specs.Prelude.{◌≡◌, ◌≢◌, ◌==◌, [], find, MatchBool};
 ghost use Rattle.std.specs.List.{AllByRecursion, list_any};
 ghost use Rattle.std.specs.Option.{option_copied};
 ghost use Rattle.fw_head.specs.Row.{Row};
@@ -23,6 +23,7 @@ fn are_live_rows(book: &Book, rows: &[RowCore]) -> bool
 
 /// What rows are refused for where no memory was had for them.
 pub(crate) fn refusal(book: &Book, rows: &[RowCore]) -> PutError
+    requires { rows.now ≢ [] }
     ensures { PutRefused book.now rows.now result }
 {
     if are_live_rows(book, rows) {

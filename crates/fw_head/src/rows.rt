@@ -1,7 +1,7 @@
 //! The live rows of a head end.
 
 ghost use Rattle.std.specs.Prelude.{◌≡◌, ◌≤◌, ◌==◌, nat_eq, not, true, [], ◌++◌, length};
-ghost use Rattle.std.specs.Prelude.{All, IsTrue, MatchBool, IsSomeAnd, IfOk, IfErr, OnOk, OnErr};
+ghost use Rattle.std.specs.Prelude.{All, IsTrue, MatchBool, IsSomeAnd, IfOk, IfErr, IsOk, OnOk, OnErr};
 ghost use Rattle.std.specs.List.{IsDistinct, AllByRecursion};
 ghost use Rattle.std.specs.Map.{keys_of, values_of};
 ghost use Rattle.indexmap.specs.IndexMap.{spare};
@@ -72,7 +72,7 @@ impl Rows {
     ///
     /// # Errors
     ///
-    /// `WrongRows` where they are not. Otherwise `OutOfMemory` alone.
+    /// `WrongRows` where they are not. Otherwise `OutOfMemory` alone, and only where there are rows.
     pub(crate) fn of_book(alloc: Global, book: &Book, rows: Vec<RowCore>) -> Result<Rows, PutError>
         ensures rows { IfOk result (λ live. live.rows.entries ≡ by_meter rows.items) }
         ensures live { OnOk result (AreLiveRows book.now rows.items) }
@@ -164,6 +164,7 @@ impl Rows {
     pub(crate) fn reserve(&mut self, more: usize) -> Result<(), AllocError>
         ensures same { self.new.rows.entries ≡ self.old.rows.entries }
         ensures room { OnOk result (more ≤ spare self.new.rows) }
+        ensures succeeds { more ≤ spare self.old.rows → IsOk result }
     {
         self.rows.reserve(more)
     }

@@ -7,6 +7,7 @@ use Rattle.fw_blocks.specs.Cuts.{block_count}
 use Rattle.fw_blocks.specs.Members.{has}
 use Rattle.fw_store.specs.Device.{Device, slot_bytes, with_head}
 use Rattle.fw_store.specs.Faults.{Keeps, count_after, Spends}
+use Rattle.fw_store.specs.declared.fuse.Fuse.{Fuse}
 use Rattle.fw_store.specs.Slot.{other}
 use Rattle.fw_store.specs.Layout.{header_bytes}
 use Rattle.fw_store.specs.Header.{IsHeader, IsGoal, FieldsFit, goal_count, has_goal}
@@ -234,8 +235,11 @@ no_calls kept.VerificationFailed None = refl
 no_calls kept.VerificationFailed (Some goal) = refl
 no_calls kept.ActivationSuccessful goal = refl
 
-spends_none : (left : Option ℕ) → Spends 0 left left true
-spends_none left = record { told = λ n e. (λ _. omega arith, λ _. refl); used = λ n e. e ∙ ap Some (let same : n ≡ n - 0 = omega arith in same) }
+spends_none : (left : Option Fuse) → Spends 0 left left true
+spends_none left = record {
+  told = λ set e. (λ _. omega arith, λ _. refl);
+  used = λ set e. let same : set.calls ≡ set.calls - 0 = omega arith in e ∙ ap (λ (n : ℕ). Some (record set { calls = n })) same;
+}
 
 pub turns_none : {S : Type 0} (t : Ghosts S) (s : S) (h : Header) → Turns (state_in t s h None) (state_in t s h None)
 turns_none t s h = record {
@@ -244,7 +248,7 @@ turns_none t s h = record {
   untouched = λ _. refl;
   follows = record { honesty = refl; soundness = λ e. e; later = omega arith };
   counts = record { counted = refl; never = λ _. refl };
-  spends = subst (λ (n : ℕ). Spends n (t.calls_left s) (t.calls_left s) true) (sym (no_calls h.status h.goal)) (spends_none (t.calls_left s));
+  spends = subst (λ (n : ℕ). Spends n (t.fuse s) (t.fuse s) true) (sym (no_calls h.status h.goal)) (spends_none (t.fuse s));
 }
 
 -- the reads of a slice, where so many of so many bytes are taken
@@ -282,7 +286,7 @@ turn_some goal taken = some_calls taken goal.size
 -- what a turn of a verification comes to
 turns_in : {S : Type 0} (t : Ghosts S) (s s' : S) (h h' : Header) (progress : Progress) (digesting : Option Progress) (faultless : Bool) → (is : IsVerifying t.honest t.device s h progress)
     → Keeps t.honest t.sound t.capacity t.faults s s' → t.faults s' ≡ count_after faultless (t.faults s) → (IsTrue (t.sound s) → IsTrue faultless)
-    → Spends (turn_calls (verifying is.goal progress.taken)) (t.calls_left s) (t.calls_left s') faultless
+    → Spends (turn_calls (verifying is.goal progress.taken)) (t.fuse s) (t.fuse s') faultless
     → TurnsIn (verifying is.goal progress.taken) (t.honest s) (meter_in t s h (Some progress)) faultless (meter_at (t.capacity s) h' digesting (seen (t.honest s) (t.capacity s) (t.device s')))
     → Turns (state_in t s h (Some progress)) (state_in t s' h' digesting)
 turns_in t s s' h h' progress digesting faultless is keeps counted never spends turns =
@@ -295,13 +299,13 @@ turns_in t s s' h h' progress digesting faultless is keeps counted never spends 
       untouched = λ other. absurd (other (ap status_of phase));
       follows = record { honesty = keeps.honesty; soundness = keeps.soundness; later = keeps.later };
       counts = record { counted = counted; never = never };
-      spends = subst (λ (p : Phase). Spends (turn_calls p) (t.calls_left s) (t.calls_left s') faultless) (sym phase) spends;
+      spends = subst (λ (p : Phase). Spends (turn_calls p) (t.fuse s) (t.fuse s') faultless) (sym phase) spends;
     }
 
 -- a slice more
 pub turns_on : {S : Type 0} (t : Ghosts S) (s s' : S) (h : Header) (progress next : Progress) → IsVerifying t.honest t.device s h progress
     → Keeps t.honest t.sound t.capacity t.faults s s' → (IsTrue (t.honest s) → t.device s' ≡ t.device s) → t.faults s' ≡ t.faults s
-    → Spends (reads_left progress) (t.calls_left s) (t.calls_left s') true → next.taken ≡ min (progress.taken + slice_size) progress.size → next.taken ≢ progress.size
+    → Spends (reads_left progress) (t.fuse s) (t.fuse s') true → next.taken ≡ min (progress.taken + slice_size) progress.size → next.taken ≢ progress.size
     → Turns (state_in t s h (Some progress)) (state_in t s' h (Some next))
 turns_on t s s' h progress next is keeps same uncounted spends taken left =
     let most : next.taken ≡ min (progress.taken + 4096) progress.size = taken in
@@ -311,13 +315,13 @@ turns_on t s s' h progress next is keeps same uncounted spends taken left =
     let phase : phase_at (Some next) (phase_of h.status h.goal) ≡ verifying is.goal (progress.taken + 4096) =
     ap (λ (p : Phase). digested_phase p next.taken) (phase_received h is.goal is.receives is.there) ∙ ap (verifying is.goal) sum in
     turns_in t s s' h h progress (Some next) true is keeps uncounted (λ _. refl)
-    (subst (λ (n : ℕ). Spends n (t.calls_left s) (t.calls_left s') true) (reads_some progress is.more ∙ sym (turn_more is.goal progress.taken more)) spends)
+    (subst (λ (n : ℕ). Spends n (t.fuse s) (t.fuse s') true) (reads_some progress is.more ∙ sym (turn_more is.goal progress.taken more)) spends)
     (inl (more, leaves (t.honest s) _ _ (λ i. record (meter_of (t.capacity s) h (d i)) { phase = phase i })))
 
 -- a call that failed
 pub turns_failed : {S : Type 0} (t : Ghosts S) (s s' : S) (h : Header) (progress : Progress) → (is : IsVerifying t.honest t.device s h progress)
     → Keeps t.honest t.sound t.capacity t.faults s s' → (IsTrue (t.honest s) → t.device s' ≡ t.device s) → t.faults s' ≡ count_after false (t.faults s) → (IsTrue (t.sound s) → IsTrue false)
-    → Spends (turn_calls (verifying is.goal progress.taken)) (t.calls_left s) (t.calls_left s') false
+    → Spends (turn_calls (verifying is.goal progress.taken)) (t.fuse s) (t.fuse s') false
     → Turns (state_in t s h (Some progress)) (state_in t s' h None)
 turns_failed t s s' h progress is keeps same counted never spends =
     let d : seen (t.honest s) (t.capacity s) (t.device s') ≡ seen_of t s = seen_same (t.honest s) (t.capacity s) (t.device s) (t.device s') same in
@@ -333,12 +337,12 @@ either false honest old new judged = inr judged
 pub turns_judged : {S : Type 0} (t : Ghosts S) (s s' : S) (h : Header) (progress : Progress) (status : StoredStatus) (genuine : Bool) → (is : IsVerifying t.honest t.device s h progress)
     → ((slot : Slot) → IsTrue (t.honest s) → length (slot_bytes (t.device s) slot) ≡ t.capacity s)
     → Keeps t.honest t.sound t.capacity t.faults s s' → t.faults s' ≡ t.faults s → (IsTrue (t.honest s) → t.device s' ≡ with_head (t.device s) (header_bytes (record h { status = status })))
-    → Spends 2 (t.calls_left s) (t.calls_left s') true → is.goal.size ≤ progress.taken + slice_size
+    → Spends 2 (t.fuse s) (t.fuse s') true → is.goal.size ≤ progress.taken + slice_size
     → ((d d' : Device) → Rewrites (t.honest s) (t.capacity s) (t.device s) d d' → Judges (t.honest s) (meter_at (t.capacity s) h (Some progress) d) genuine (meter_of (t.capacity s) (record h { status = status }) d'))
     → Turns (state_in t s h (Some progress)) (state_in t s' (record h { status = status }) None)
 turns_judged t s s' h progress status genuine is sized keeps uncounted written spends last judged =
     turns_in t s s' h (record h { status = status }) progress None true is keeps uncounted (λ _. refl)
-    (subst (λ (n : ℕ). Spends n (t.calls_left s) (t.calls_left s') true) (sym (turn_last is.goal progress.taken last)) spends)
+    (subst (λ (n : ℕ). Spends n (t.fuse s) (t.fuse s') true) (sym (turn_last is.goal progress.taken last)) spends)
     (inr (
       last,
       either genuine (t.honest s) _ _

@@ -117,7 +117,7 @@ pub record Reads {S : Type 0} (t : Ghosts S) (s s' : S) (h : Header) : Type 0 wh
   pub kept : Keeps t.honest t.sound t.capacity t.faults s s'
   pub same : IsTrue (t.honest s) → t.device s' ≡ t.device s
   pub held : IsHeld t.honest t.capacity t.device s' h
-  pub spends : Spends (1 + slice_count h.running_size + slice_count (verified_size (phase_of h.status h.goal))) (t.calls_left s) (t.calls_left s') true
+  pub spends : Spends (1 + slice_count h.running_size + slice_count (verified_size (phase_of h.status h.goal))) (t.fuse s) (t.fuse s') true
 
 -- it is the meter of the store as it was
 pub was_meter : {S : Type 0} (t : Ghosts S) (s s' : S) (h : Header) → Reads t s s' h → IsTrue (t.honest s) → IsMeterOf (t.capacity s) (t.device s) (meter_of (t.capacity s) h (seen_of t s))
@@ -140,8 +140,8 @@ was_trusted t s s' h read honest =
 pub opens : {S : Type 0} (t : Ghosts S) (s between s' : S) (h : Header) → MigratedIsHeader → CallsAdd → ((slot : Slot) → IsTrue (t.honest s) → length (slot_bytes (t.device s) slot) ≡ t.capacity s)
     → Reads t s between h → Keeps t.honest t.sound t.capacity t.faults between s'
     → (IsTrue (t.honest between) → t.device s' ≡ with_head (t.device between) (header_bytes (header_migrated h)))
-    → Spends (migrating_writes h) (t.calls_left between) (t.calls_left s') true
-    → Opens t.honest t.capacity t.calls_left t.device s (state_in t s' (header_migrated h) None)
+    → Spends (migrating_writes h) (t.fuse between) (t.fuse s') true
+    → Opens t.honest t.capacity t.fuse t.device s (state_in t s' (header_migrated h) None)
 opens t s between s' h law add sized read kept written spends =
     let bytes : List ℕ = header_bytes (header_migrated h) in
     let honesty : t.honest s' ≡ t.honest s = kept.honesty ∙ read.kept.honesty in
@@ -176,7 +176,7 @@ opens t s between s' h law add sized read kept written spends =
     }
 
 -- what holds a meter is opened as that, with a header of version 2
-pub opened_migrated : {S : Type 0} (t : Ghosts S) (s : S) (state : State) (meter : Meter) → OneHeader → Opens t.honest t.capacity t.calls_left t.device s state
+pub opened_migrated : {S : Type 0} (t : Ghosts S) (s : S) (state : State) (meter : Meter) → OneHeader → Opens t.honest t.capacity t.fuse t.device s state
     → IsMeterOf (t.capacity s) (t.device s) meter → IsTrue (t.honest s) → state.meter ≡ migrated meter
 opened_migrated t s state meter law opened is honest = opened.goes_on ∙ ap migrated (one_meter law (t.capacity s) (t.device s) opened.was meter (opened.held honest) is)
 

@@ -8,6 +8,7 @@ use Rattle.std.specs.Prelude.{IfSome, Result, Ok, Err, IsErrAnd}
 use Rattle.fw_names.specs.Name.{Name, Campaign}
 use Rattle.fw_store.specs.Device.{Device, slot_bytes, with_head}
 use Rattle.fw_store.specs.Faults.{Keeps, count_after, Spends}
+use Rattle.fw_store.specs.declared.fuse.Fuse.{Fuse}
 use Rattle.fw_store.specs.Slot.{other}
 use Rattle.fw_store.specs.Layout.{header_bytes}
 use Rattle.fw_store.specs.Header.{IsHeader, IsGoal, FieldsFit, goal_count, is_verified}
@@ -24,7 +25,7 @@ use Rattle.fw_image.specs.Step.{Operation, OperationOutcome, refused, Refuses, S
 use Rattle.fw_image.specs.declared.error.Refusal.{Refusal}
 use Rattle.fw_image.specs.declared.error.Refusal.TheVariants.{Disabled, Fault}
 use Rattle.fw_image.specs.State.{State, Makes, outcome_of}
-use Rattle.fw_image.specs.Calls.{calls_for}
+use Rattle.fw_image.specs.Calls.{calls_for, left_by_fault}
 use Rattle.fw_verify.specs.Progress.{Progress, IsDigesting}
 use Rattle.fw_image.specs.Stored.{phase_of, meter_of, meter_at, seen, state_of, IsHeld, IsDigested, IsHolding}
 use Rattle.fw_image.proofs.Blocks.{blocks_none}
@@ -71,7 +72,12 @@ abbrev pub meter_in : {S : Type 0} → Ghosts S → S → Header → Option Prog
 meter_in t s h digesting = meter_at (t.capacity s) h digesting (seen_of t s)
 
 abbrev pub state_in : {S : Type 0} → Ghosts S → S → Header → Option Progress → State
-state_in t s h digesting = state_of t.honest t.sound t.capacity t.faults t.calls_left t.device s h digesting
+state_in t s h digesting = state_of t.honest t.sound t.capacity t.faults t.fuse t.device s h digesting
+
+-- what is left where the store is honest, its fuse is known, and one of its calls failed
+abbrev IsLeft : {S : Type 0} → Ghosts S → S → Meter → Operation → OperationOutcome → Meter → Type 0
+IsLeft t s m operation outcome m' =
+    IsTrue (t.honest s) → (set : Fuse) → t.fuse s ≡ Some set → is_operation_faultless outcome ≡ false → m' ≡ left_by_fault set.torn m operation
 
 -- an operation that a line refuses
 pub makes_refused : {S : Type 0} (t : Ghosts S) (s : S) (h : Header) (digesting : Option Progress) (operation : Operation) (r : Refusal) → IsTrue (is_operation_faultless (refused r))
@@ -82,34 +88,43 @@ makes_refused t s h digesting operation r faultless line = record {
   follows = record { honesty = refl; soundness = λ e. e; later = omega arith };
   counts = record { counted = ap (λ (ok : Bool). count_after ok (t.faults s)) (sym faultless); never = λ _. faultless };
   spends = λ serves. absurd (served_only (meter_in t s h digesting) operation serves r line);
+  left = λ honest set is failed. let bad : true ≡ false = sym faultless ∙ failed in absurd cc;
 }
 
 -- an operation that is served
 pub makes_served : {S : Type 0} (t : Ghosts S) (s s' : S) (h h' : Header) (digesting digesting' : Option Progress) (operation : Operation) (outcome : OperationOutcome)
     → Keeps t.honest t.sound t.capacity t.faults s s' → t.faults s' ≡ count_after (is_operation_faultless outcome) (t.faults s) → (IsTrue (t.sound s) → IsTrue (is_operation_faultless outcome))
-    → Spends (calls_for (meter_in t s h digesting) operation) (t.calls_left s) (t.calls_left s') (is_operation_faultless outcome)
+    → Spends (calls_for (meter_in t s h digesting) operation) (t.fuse s) (t.fuse s') (is_operation_faultless outcome)
     → Serves (meter_in t s h digesting) operation
     → Does (t.honest s) (meter_in t s h digesting) operation outcome (meter_at (t.capacity s) h' digesting' (seen (t.honest s) (t.capacity s) (t.device s')))
+    → IsLeft t s (meter_in t s h digesting) operation outcome (meter_at (t.capacity s) h' digesting' (seen (t.honest s) (t.capacity s) (t.device s')))
     → Makes (state_in t s h digesting) operation outcome (state_in t s' h' digesting')
-makes_served t s s' h h' digesting digesting' operation outcome kept counted never spends serves does = record {
+makes_served t s s' h h' digesting digesting' operation outcome kept counted never spends serves does left = record {
   step = inr (record { serves = serves; does = rw (kept.honesty, kept.size) does });
   untouched = λ r line. absurd (served_only (meter_in t s h digesting) operation serves r line);
   follows = record { honesty = kept.honesty; soundness = kept.soundness; later = kept.later };
   counts = record { counted = counted; never = never };
   spends = λ _. spends;
+  left = λ honest set is failed. rw (kept.honesty, kept.size) (left honest set is failed);
 }
+
+-- one of which no call failed leaves nothing by a fault
+pub no_fault : {S : Type 0} (t : Ghosts S) (s : S) (m : Meter) (operation : Operation) (outcome : OperationOutcome) (m' : Meter) → IsTrue (is_operation_faultless outcome) → IsLeft t s m operation outcome m'
+no_fault t s m operation outcome m' faultless honest set is failed = let bad : true ≡ false = sym faultless ∙ failed in absurd cc
 
 -- one whose store call failed and left the device as it was
 pub makes_failed : {S : Type 0} (t : Ghosts S) (s s' : S) (h : Header) (digesting : Option Progress) (operation : Operation)
     → Keeps t.honest t.sound t.capacity t.faults s s' → (IsTrue (t.honest s) → t.device s' ≡ t.device s) → t.faults s' ≡ count_after false (t.faults s) → (IsTrue (t.sound s) → IsTrue false)
-    → Spends (calls_for (meter_in t s h digesting) operation) (t.calls_left s) (t.calls_left s') false
+    → Spends (calls_for (meter_in t s h digesting) operation) (t.fuse s) (t.fuse s') false
     → Serves (meter_in t s h digesting) operation
     → ((m m' : Meter) → Leaves (t.honest s) m m' → Does (t.honest s) m operation (refused Fault) m')
+    → ((torn : ℕ) (m : Meter) → left_by_fault torn m operation ≡ m)
     → Makes (state_in t s h digesting) operation (refused Fault) (state_in t s' h digesting)
-makes_failed t s s' h digesting operation kept same counted never spends serves does =
+makes_failed t s s' h digesting operation kept same counted never spends serves does stays =
     let e : seen (t.honest s) (t.capacity s) (t.device s') ≡ seen_of t s = seen_same (t.honest s) (t.capacity s) (t.device s) (t.device s') same in
     makes_served t s s' h h digesting digesting operation (refused Fault) kept counted never spends serves
     (does (meter_in t s h digesting) _ (leaves (t.honest s) (meter_in t s h digesting) _ (ap (meter_at (t.capacity s) h digesting) e)))
+    (λ honest set is failed. ap (meter_at (t.capacity s) h digesting) e ∙ sym (stays set.torn (meter_in t s h digesting)))
 
 -- what is seen before and after a write of the header
 pub rewrites : {S : Type 0} (t : Ghosts S) (s s' : S) (bytes : List ℕ) → ((slot : Slot) → IsTrue (t.honest s) → length (slot_bytes (t.device s) slot) ≡ t.capacity s)
@@ -124,14 +139,15 @@ rewrites t s s' bytes sized written = record {
 pub makes_written : {S : Type 0} (t : Ghosts S) (s s' : S) (h h' : Header) (digesting digesting' : Option Progress) (operation : Operation) (outcome : OperationOutcome) → IsTrue (is_operation_faultless outcome)
     → ((slot : Slot) → IsTrue (t.honest s) → length (slot_bytes (t.device s) slot) ≡ t.capacity s)
     → Keeps t.honest t.sound t.capacity t.faults s s' → t.faults s' ≡ t.faults s → (IsTrue (t.honest s) → t.device s' ≡ with_head (t.device s) (header_bytes h'))
-    → Spends (calls_for (meter_in t s h digesting) operation) (t.calls_left s) (t.calls_left s') true
+    → Spends (calls_for (meter_in t s h digesting) operation) (t.fuse s) (t.fuse s') true
     → Serves (meter_in t s h digesting) operation
     → ((d d' : Device) → Rewrites (t.honest s) (t.capacity s) (t.device s) d d' → Does (t.honest s) (meter_at (t.capacity s) h digesting d) operation outcome (meter_at (t.capacity s) h' digesting' d'))
     → Makes (state_in t s h digesting) operation outcome (state_in t s' h' digesting')
 makes_written t s s' h h' digesting digesting' operation outcome faultless sized kept uncounted written spends serves does =
     makes_served t s s' h h' digesting digesting' operation outcome kept (uncounted ∙ ap (λ (ok : Bool). count_after ok (t.faults s)) (sym faultless)) (λ _. faultless)
-    (subst (λ (ok : Bool). Spends (calls_for (meter_in t s h digesting) operation) (t.calls_left s) (t.calls_left s') ok) (sym faultless) spends) serves
+    (subst (λ (ok : Bool). Spends (calls_for (meter_in t s h digesting) operation) (t.fuse s) (t.fuse s') ok) (sym faultless) spends) serves
     (does (seen_of t s) (seen (t.honest s) (t.capacity s) (t.device s')) (rewrites t s s' (header_bytes h') sized written))
+    (no_fault t s (meter_in t s h digesting) operation outcome _ faultless)
 
 -- ---- what is held
 

@@ -132,9 +132,9 @@ verified_iff cuts capacity h d goal is sized status there =
 
 pub refused_image : {S : Type 0} (t : Ghosts S) (s s' : S) (h : Header) → Keeps t.honest t.sound t.capacity t.faults s s' → (IsTrue (t.honest s) → t.device s' ≡ t.device s) → t.faults s' ≡ t.faults s → IsHeader (t.capacity s) h
     → (IsTrue (t.honest s) → header_bytes h ≡ (t.device s).head) → (IsTrue (t.honest s) → ¬ IsTrusted (meter_of (t.capacity s) h (t.device s)))
-    → (calls : ℕ) → Spends calls (t.calls_left s) (t.calls_left s') true
+    → (calls : ℕ) → Spends calls (t.fuse s) (t.fuse s') true
     → (IsTrue (t.honest s) → let m = meter_of (t.capacity s) h (t.device s) in (calls ≡ 1 + slice_count (length m.running.bytes)) ⊎ (calls ≡ opening_calls m))
-    → Refused t.honest t.sound t.capacity t.faults t.calls_left t.device s BadImage s'
+    → Refused t.honest t.sound t.capacity t.faults t.fuse t.device s BadImage s'
 refused_image t s s' h kept same uncounted valid spelled differs calls spends number = record {
   reason = λ b.
       let is : IsMeterOf (t.capacity s) (t.device s) (meter_of (t.capacity s) h (t.device s)) = record { header = h; valid = valid; spelled = spelled b; means = refl } in
@@ -152,11 +152,11 @@ refused_image t s s' h kept same uncounted valid spelled differs calls spends nu
 
 -- what the exit of a `?` tells
 pub refused_fault : {S : Type 0} {T : Type 0} (t : Ghosts S) (s s' : S) (r : Result T OpenError) → IsErrAnd r (λ e. e ≡ Fault) → Keeps t.honest t.sound t.capacity t.faults s s' → (IsTrue (t.honest s) → t.device s' ≡ t.device s)
-    → t.faults s' ≡ count_after false (t.faults s) → (IsTrue (t.sound s) → IsTrue false) → (calls : ℕ) → Spends calls (t.calls_left s) (t.calls_left s') false
-    → IfErr r (λ e. Refused t.honest t.sound t.capacity t.faults t.calls_left t.device s e s')
+    → t.faults s' ≡ count_after false (t.faults s) → (IsTrue (t.sound s) → IsTrue false) → (calls : ℕ) → Spends calls (t.fuse s) (t.fuse s') false
+    → IfErr r (λ e. Refused t.honest t.sound t.capacity t.faults t.fuse t.device s e s')
 refused_fault t s s' (Ok x) told kept same counted never calls spends = absurd told
 refused_fault t s s' (Err e) told kept same counted never calls spends =
-    subst (λ (x : OpenError). Refused t.honest t.sound t.capacity t.faults t.calls_left t.device s x s') (sym told)
+    subst (λ (x : OpenError). Refused t.honest t.sound t.capacity t.faults t.fuse t.device s x s') (sym told)
     (record { reason = λ _. tt; counted = counted; never = never; same = same; kept = kept; calls = calls; spends = spends; found = λ _. tt })
 
 -- how many bytes the image that runs has
@@ -175,7 +175,7 @@ opened_again t s s' h meter law kept same held was honest =
     ∙ sym was.means
 
 -- of a store that holds one only a fault is reported
-pub told_fault : {S : Type 0} (t : Ghosts S) (s s' : S) (error : OpenError) (meter : Meter) → OneHeader → Refused t.honest t.sound t.capacity t.faults t.calls_left t.device s error s'
+pub told_fault : {S : Type 0} (t : Ghosts S) (s s' : S) (error : OpenError) (meter : Meter) → OneHeader → Refused t.honest t.sound t.capacity t.faults t.fuse t.device s error s'
     → IsMeterOf (t.capacity s) (t.device s) meter → IsTrusted meter → IsTrue (t.honest s) → error ≡ Fault
 told_fault t s s' Fault meter law refused is trusted honest = refl
 told_fault t s s' BadHeader meter law refused is trusted honest = absurd (refused.reason honest meter is)
@@ -184,7 +184,7 @@ told_fault t s s' BadImage meter law refused is trusted honest =
     let same : meter ≡ reason.0 = one_meter law (t.capacity s) (t.device s) meter reason.0 is reason.1 in
     absurd (reason.2 (subst IsTrusted same trusted))
 
-pub not_refused : {S : Type 0} (t : Ghosts S) (s s' : S) (error : OpenError) (meter : Meter) → OneHeader → Refused t.honest t.sound t.capacity t.faults t.calls_left t.device s error s'
+pub not_refused : {S : Type 0} (t : Ghosts S) (s s' : S) (error : OpenError) (meter : Meter) → OneHeader → Refused t.honest t.sound t.capacity t.faults t.fuse t.device s error s'
     → IsMeterOf (t.capacity s) (t.device s) meter → IsTrusted meter → IsTrue (t.honest s) → IsTrue (t.sound s) → ⊥
 not_refused t s s' error meter law refused is trusted honest sound =
     let fault = told_fault t s s' error meter law refused is trusted honest in
@@ -207,14 +207,14 @@ some_calls m = omega arith
 -- one of the calls failed of each meter that the store may hold
 abbrev pub IsCut : {S : Type 0} → Ghosts S → S → S → Type 0
 IsCut t s s' =
-    (meter : Meter) → IsMeterOf (t.capacity s) (t.device s) meter → IsTrusted meter → IsTrue (t.honest s) → Spends (opening_calls meter) (t.calls_left s) (t.calls_left s') false
+    (meter : Meter) → IsMeterOf (t.capacity s) (t.device s) meter → IsTrusted meter → IsTrue (t.honest s) → Spends (opening_calls meter) (t.fuse s) (t.fuse s') false
 
 pub cut_told : {S : Type 0} {T : Type 0} (t : Ghosts S) (s s' : S) (r : Result T OpenError) → IsCut t s s' → OnErr r (IsCut t s s')
 cut_told t s s' (Ok x) cut = tt
 cut_told t s s' (Err e) cut = cut
 
 -- none did where the image isn't genuine
-pub image_not_cut : {S : Type 0} (t : Ghosts S) (s s' : S) → OneHeader → Refused t.honest t.sound t.capacity t.faults t.calls_left t.device s BadImage s' → IsCut t s s'
+pub image_not_cut : {S : Type 0} (t : Ghosts S) (s s' : S) → OneHeader → Refused t.honest t.sound t.capacity t.faults t.fuse t.device s BadImage s' → IsCut t s s'
 image_not_cut t s s' law refused meter is trusted honest =
     let bad : BadImage ≡ Fault = told_fault t s s' BadImage meter law refused is trusted honest in
     absurd cc

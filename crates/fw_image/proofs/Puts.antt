@@ -9,8 +9,9 @@ use Rattle.fw_blocks.specs.Members.{has}
 use Rattle.fw_blocks.specs.Laws.{OtherBlocksStay, BeginsWithin}
 use Rattle.fw_store.specs.Device.{Device, slot_bytes, written, splice, Torn}
 use Rattle.fw_store.specs.Faults.{Keeps}
+use Rattle.fw_store.specs.Fuse.{half_torn}
 use Rattle.fw_store.specs.Layout.{header_bytes}
-use Rattle.fw_store.specs.StoreLaws.{SpliceStands}
+use Rattle.fw_store.specs.StoreLaws.{SpliceStands, TornSize}
 use Rattle.fw_store.specs.Slot.{other}
 use Rattle.fw_store.specs.Header.{IsHeader, IsGoal, FieldsFit, goal_count, is_verified}
 use Rattle.fw_store.specs.Versions.{block_limit}
@@ -23,7 +24,7 @@ use Rattle.fw_store.specs.declared.header.Header.{Header}
 use Rattle.fw_store.specs.declared.store.ImageStore.{Ghosts}
 use Rattle.fw_store.specs.declared.header.Goal.{Goal}
 use Rattle.fw_image.specs.Meter.{Meter, Phase, receiving, status_of}
-use Rattle.fw_image.specs.Calls.{calls_for}
+use Rattle.fw_image.specs.Calls.{calls_for, left_by_fault}
 use Rattle.fw_image.specs.Shown.{shown_of}
 use Rattle.fw_image.specs.Step.{IsBlock, Admits, Serves, Leaves, Tears, block, with_cell}
 use Rattle.fw_verify.specs.Progress.{Progress}
@@ -270,6 +271,53 @@ tears_put stay law stand true capacity h d d' slot number start value valid size
       | inr unmarked ↦ inl (leaves true _ _ (meter_kept stay law stand capacity h d d' place.goal number start is.left put unmarked there))
     ]
 
+-- whether the block is there is told by its mark
+there_by_mark : (capacity : ℕ) (h : Header) (d : Device) (number start : ℕ) (value : List ℕ) → IsPlace h number value start
+    → is_some (get (meter_of capacity h d).cells number) ≡ has h.marks number
+there_by_mark capacity h d number start value place =
+    let spare = slot_bytes d (other h.running_slot) in
+    ap (λ (g : Option Goal). is_some (get (cells_of h.block_size h.marks spare g) number)) place.there
+    ∙ is_some-get h.block_size h.marks (take place.goal.size spare) (block_count h.block_size place.goal.size) number place.is_block.below
+
+-- what a write of a block left that failed half way
+pub left_torn : OtherBlocksStay → BeginsWithin → SpliceStands → TornSize → (honest : Bool) (capacity : ℕ) (h : Header) (d d' : Device) (slot : Slot) (number start : ℕ) (value : List ℕ) (torn : ℕ)
+    → IsHeader capacity h → ((s : Slot) → length (slot_bytes (seen honest capacity d) s) ≡ capacity) → IsPlace h number value start → slot ≡ other h.running_slot → IsTrue honest
+    → d' ≡ written d slot start (half_torn value torn)
+    → meter_of capacity h (seen honest capacity d') ≡ left_by_fault torn (meter_of capacity h (seen honest capacity d)) (block number value)
+left_torn stay law stand half_size false capacity h d d' slot number start value torn valid sized place turned b e = absurd cc
+left_torn stay law stand half_size true capacity h d d' slot number start value torn valid sized place turned b e =
+    let spare = slot_bytes d (other h.running_slot) in
+    let m = meter_of capacity h d in
+    let place' : IsPlace h number (half_torn value torn) start = record {
+      goal = place.goal;
+      there = place.there;
+      is_block = record { below = place.is_block.below; long = half_size value torn ∙ place.is_block.long };
+      begins = place.begins;
+    } in
+    let put = is_put capacity h spare number start (half_torn value torn) valid (sized (other h.running_slot)) place' in
+    let there = wrote h slot start (half_torn value torn) d d' turned e in
+    let at = there_by_mark capacity h d number start value place in
+    elim (mark_or_not (has h.marks number)) [
+      | inl marked ↦
+          meter_put stay law stand capacity h d d' place.goal number start (half_torn value torn) h.marks put (mark_again h.marks number marked) there
+          ∙ sym (ap (λ (b : Bool). cond b (with_cell m number (half_torn value torn)) m) (at ∙ marked))
+      | inr unmarked ↦
+          meter_kept stay law stand capacity h d d' place.goal number start (half_torn value torn) put unmarked there
+          ∙ sym (ap (λ (b : Bool). cond b (with_cell m number (half_torn value torn)) m) (at ∙ unmarked))
+    ]
+
+-- what is left where the block was written and not marked
+pub left_unmarked : OtherBlocksStay → BeginsWithin → SpliceStands → (honest : Bool) (capacity : ℕ) (h : Header) (d d' : Device) (slot : Slot) (number start : ℕ) (value : List ℕ) (torn : ℕ)
+    → IsHeader capacity h → ((s : Slot) → length (slot_bytes (seen honest capacity d) s) ≡ capacity) → IsPlace h number value start → slot ≡ other h.running_slot → IsTrue honest
+    → has h.marks number ≡ false → d' ≡ written d slot start value
+    → meter_of capacity h (seen honest capacity d') ≡ left_by_fault torn (meter_of capacity h (seen honest capacity d)) (block number value)
+left_unmarked stay law stand false capacity h d d' slot number start value torn valid sized place turned b unmarked e = absurd cc
+left_unmarked stay law stand true capacity h d d' slot number start value torn valid sized place turned b unmarked e =
+    let m = meter_of capacity h d in
+    let put = is_put capacity h (slot_bytes d (other h.running_slot)) number start value valid (sized (other h.running_slot)) place in
+    meter_kept stay law stand capacity h d d' place.goal number start value put unmarked (wrote h slot start value d d' turned e)
+    ∙ sym (ap (λ (b : Bool). cond b (with_cell m number (half_torn value torn)) m) (there_by_mark capacity h d number start value place ∙ unmarked))
+
 pub served_block : (m : Meter) (goal : Goal) (number : ℕ) (value : List ℕ) → m.enabled ≡ true → m.phase ≡ receiving goal → IsBlock m.block_size goal.size number value → Serves m (block number value)
 served_block m goal number value on phase is =
     let admits : Admits m (receiving goal) (block number value) = is in
@@ -278,11 +326,7 @@ served_block m goal number value on phase is =
 -- a block takes a second call where it is not marked
 pub calls_put : (capacity : ℕ) (h : Header) (d : Device) (number start : ℕ) (value : List ℕ) → IsPlace h number value start
     → calls_for (meter_of capacity h d) (block number value) ≡ cond (has h.marks number) 1 2
-calls_put capacity h d number start value place =
-    let spare = slot_bytes d (other h.running_slot) in
-    ap (λ (b : Bool). cond b 1 2)
-    (ap (λ (g : Option Goal). is_some (get (cells_of h.block_size h.marks spare g) number)) place.there
-    ∙ is_some-get h.block_size h.marks (take place.goal.size spare) (block_count h.block_size place.goal.size) number place.is_block.below)
+calls_put capacity h d number start value place = ap (λ (b : Bool). cond b 1 2) (there_by_mark capacity h d number start value place)
 
 pub one_or_two : (b : Bool) → 1 ≤ cond b 1 2
 one_or_two true = omega arith

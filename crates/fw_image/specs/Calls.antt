@@ -1,10 +1,11 @@
--- Public vocabulary: how many calls of its store an operation makes.
+-- Public vocabulary: how many calls of its store an operation makes, and what it leaves where one of them fails.
 use Rattle.std.specs.Prelude.{ℕ, ◌+◌, ◌==◌, nat_lt, nat_le, if◌then◌else◌, length, is_some}
 use Rattle.std.specs.FinMap.{get}
 use Rattle.fw_blocks.specs.Cuts.{max_blocks}
+use Rattle.fw_store.specs.Fuse.{half_torn}
 use Rattle.fw_verify.specs.Slices.{slice_size, slice_count}
 use Rattle.fw_image.specs.Meter.{Meter, Phase, verifying, sealed, goal_of, goal_size}
-use Rattle.fw_image.specs.Step.{Operation, enable, initiate, block, verify, activate}
+use Rattle.fw_image.specs.Step.{Operation, enable, initiate, block, verify, activate, with_cell}
 
 -- An operation that no line refuses: one write of the header; for a block, first that of its bytes, and the header only for a mark that
 -- is new; for a verify, first a read of the goal, and the header only where that is all of it.
@@ -14,6 +15,12 @@ calls_for m (initiate name size) = 1
 calls_for m (block i value) = if is_some (get m.cells i) then 1 else 2
 calls_for m verify = if nat_le (goal_size (goal_of m.phase)) slice_size then 2 else 1
 calls_for m activate = 1
+
+-- What an operation leaves where a call of an honest store failed that leaves this byte: a block that was there is torn, and all else is
+-- as it was.
+abbrev pub left_by_fault : ℕ → Meter → Operation → Meter
+left_by_fault torn m (block i value) = if is_some (get m.cells i) then with_cell m i (half_torn value torn) else m
+left_by_fault torn m operation = m
 
 -- a turn: while a goal is verified, a read of it, and a write of the header behind the last
 abbrev pub turn_calls : Phase → ℕ

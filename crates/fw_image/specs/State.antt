@@ -1,10 +1,11 @@
 -- Public vocabulary: a meter and the store that holds it, as callers see them.
-use Rattle.std.specs.Prelude.{◌≡◌, ◌≢◌, ◌≤◌, ℕ, Bool, IsTrue, Option, Result, Ok, Err}
+use Rattle.std.specs.Prelude.{◌≡◌, ◌≢◌, ◌≤◌, ℕ, Bool, false, IsTrue, Option, Some, Result, Ok, Err}
 use Rattle.fw_store.specs.Device.{Device}
 use Rattle.fw_store.specs.Faults.{count_after, Spends}
+use Rattle.fw_store.specs.declared.fuse.Fuse.{Fuse}
 use Rattle.fw_image.specs.Meter.{Meter, status_of, reopened}
 use Rattle.fw_image.specs.Step.{Operation, OperationOutcome, done, refused, Refuses, Serves, Step, Turn, is_operation_faultless}
-use Rattle.fw_image.specs.Calls.{calls_for, turn_calls}
+use Rattle.fw_image.specs.Calls.{calls_for, left_by_fault, turn_calls}
 use Rattle.fw_image.specs.declared.error.Refusal.{Refusal}
 use Rattle.fw_image.specs.declared.status.TransferStatus.TheVariants.{VerificationInitiated}
 
@@ -19,8 +20,8 @@ pub record State : Type 0 where
   pub sound : Bool
   -- how often the store has failed
   pub faults : ℕ
-  -- how many calls of the store succeed before all fail, where that is known
-  pub calls_left : Option ℕ
+  -- how many calls of the store succeed before all fail, and the byte that a failing write leaves, where that is known
+  pub fuse : Option Fuse
 
 -- what every call keeps, whatever it answers
 pub record Follows (old new : State) : Type 0 where
@@ -35,13 +36,16 @@ pub record Counts (old new : State) (faultless : Bool) : Type 0 where
   pub never : IsTrue old.sound → IsTrue faultless
 
 -- From old, a state makes the step of this operation with this outcome and goes on to new. What a line refuses makes no call of the
--- store, and any other operation makes its calls, one that fails being the last of them. A fault is told just where one failed.
+-- store, and any other operation makes its calls, one that fails being the last of them. A fault is reported just where one failed. What
+-- it left is known where the store is honest and its fuse is known.
 pub record Makes (old : State) (operation : Operation) (outcome : OperationOutcome) (new : State) : Type 0 where
   pub step : Step old.honest old.meter operation outcome new.meter
   pub untouched : (r : Refusal) → Refuses old.meter operation r → new ≡ old
   pub follows : Follows old new
   pub counts : Counts old new (is_operation_faultless outcome)
-  pub spends : Serves old.meter operation → Spends (calls_for old.meter operation) old.calls_left new.calls_left (is_operation_faultless outcome)
+  pub spends : Serves old.meter operation → Spends (calls_for old.meter operation) old.fuse new.fuse (is_operation_faultless outcome)
+  pub left : IsTrue old.honest → (set : Fuse) → old.fuse ≡ Some set → is_operation_faultless outcome ≡ false
+      → new.meter ≡ left_by_fault set.torn old.meter operation
 
 -- From old, a state takes a turn and goes on to new. Where no verification goes on, nothing is done. A turn makes its calls of the store,
 -- one that fails being the last of them.
@@ -51,15 +55,15 @@ pub record Turns (old new : State) : Type 0 where
   pub untouched : status_of old.meter.phase ≢ VerificationInitiated → new ≡ old
   pub follows : Follows old new
   pub counts : Counts old new faultless
-  pub spends : Spends (turn_calls old.meter.phase) old.calls_left new.calls_left faultless
+  pub spends : Spends (turn_calls old.meter.phase) old.fuse new.fuse faultless
 
 -- A state is that of a store of this type: as honest and as sound, with as many faults counted and as many calls left.
-pub record IsOver {S : Type 0} (honest sound : S → Bool) (faults : S → ℕ) (calls_left : S → Option ℕ) (state : State) : Type 0 where
+pub record IsOver {S : Type 0} (honest sound : S → Bool) (faults : S → ℕ) (fuse : S → Option Fuse) (state : State) : Type 0 where
   pub store : S
   pub honesty : state.honest ≡ honest store
   pub soundness : state.sound ≡ sound store
   pub count : state.faults ≡ faults store
-  pub calls : state.calls_left ≡ calls_left store
+  pub calls : state.fuse ≡ fuse store
 
 -- the state as its store keeps it
 abbrev pub stored : State → State

@@ -5,6 +5,7 @@ use Rattle.fw_blocks.specs.Cuts.{cut, block_count, max_blocks}
 use Rattle.fw_blocks.specs.Members.{has}
 use Rattle.fw_store.specs.Device.{Device, slot_bytes}
 use Rattle.fw_store.specs.Faults.{Keeps, count_after, Spends}
+use Rattle.fw_store.specs.declared.fuse.Fuse.{Fuse}
 use Rattle.fw_store.specs.Slot.{other}
 use Rattle.fw_store.specs.declared.slot.Slot.{Slot}
 use Rattle.fw_store.specs.Layout.{header_bytes}
@@ -71,15 +72,15 @@ abbrev pub meter_at : ℕ → Header → Option Progress → Device → Meter
 meter_at capacity h digesting d = record (meter_of capacity h d) { phase = phase_at digesting (phase_of h.status h.goal) }
 
 -- the state of a store, the header that it was given, and how far the digest of its goal has come where that is verified
-abbrev pub state_of : {S : Type 0} → (S → Bool) → (S → Bool) → (S → ℕ) → (S → ℕ) → (S → Option ℕ) → (S → Device) → S → Header → Option Progress → State
-state_of honest sound capacity faults calls_left device store h digesting =
+abbrev pub state_of : {S : Type 0} → (S → Bool) → (S → Bool) → (S → ℕ) → (S → ℕ) → (S → Option Fuse) → (S → Device) → S → Header → Option Progress → State
+state_of honest sound capacity faults fuse device store h digesting =
     let d = seen (honest store) (capacity store) (device store) in record {
       meter = meter_at (capacity store) h digesting d;
       device = d;
       honest = honest store;
       sound = sound store;
       faults = faults store;
-      calls_left = calls_left store;
+      fuse = fuse store;
     }
 
 -- The header is one that a store can have. Where the store is honest it stands there, and the images have their names' digests.
@@ -128,7 +129,7 @@ pub record Holds {S : Type 0} (honest : S → Bool) (capacity : S → ℕ) (devi
 
 -- A store is opened, and its header is one of version 2 from then on: the meter that it was goes on with all else kept, and so does the
 -- device where that was so before. No call of the store failed.
-pub record Opens {S : Type 0} (honest : S → Bool) (capacity : S → ℕ) (calls_left : S → Option ℕ) (device : S → Device) (store : S) (state : State) : Type 0 where
+pub record Opens {S : Type 0} (honest : S → Bool) (capacity : S → ℕ) (fuse : S → Option Fuse) (device : S → Device) (store : S) (state : State) : Type 0 where
   pub honesty : state.honest ≡ honest store
   pub was : Meter
   pub held : IsTrue (honest store) → IsMeterOf (capacity store) (device store) was
@@ -138,7 +139,7 @@ pub record Opens {S : Type 0} (honest : S → Bool) (capacity : S → ℕ) (call
   pub holds : IsTrue (honest store) → IsMeterOf (capacity store) state.device state.meter
   pub slots : IsTrue (honest store) → (slot : Slot) → slot_bytes state.device slot ≡ slot_bytes (device store) slot
   pub kept : IsTrue (honest store) → was.limit ≡ max_blocks → state.device ≡ device store
-  pub spends : Spends (restart_calls was) (calls_left store) state.calls_left true
+  pub spends : Spends (restart_calls was) (fuse store) state.fuse true
 
 -- Why a store was not opened. Where it is honest: its header is none that it can have, or it is a meter, and an image has not the digest
 -- of its name.
@@ -162,14 +163,14 @@ IsFoundIn BadImage capacity d calls =
     (m : Meter) × IsMeterOf capacity d m × ((calls ≡ 1 + slice_count (length m.running.bytes)) ⊎ (calls ≡ opening_calls m))
 
 -- A store was not opened for this reason, and is handed back. A fault is told just where it failed, and it was not called again then.
-pub record Refused {S : Type 0} (honest sound : S → Bool) (capacity faults : S → ℕ) (calls_left : S → Option ℕ) (device : S → Device) (store : S) (error : OpenError) (back : S) : Type 0 where
+pub record Refused {S : Type 0} (honest sound : S → Bool) (capacity faults : S → ℕ) (fuse : S → Option Fuse) (device : S → Device) (store : S) (error : OpenError) (back : S) : Type 0 where
   pub reason : IsTrue (honest store) → IsCause error (capacity store) (device store)
   pub counted : faults back ≡ count_after (is_opening_faultless error) (faults store)
   pub never : IsTrue (sound store) → IsTrue (is_opening_faultless error)
   pub same : IsTrue (honest store) → device back ≡ device store
   pub kept : Keeps honest sound capacity faults store back
   pub calls : ℕ
-  pub spends : Spends calls (calls_left store) (calls_left back) (is_opening_faultless error)
+  pub spends : Spends calls (fuse store) (fuse back) (is_opening_faultless error)
   pub found : IsTrue (honest store) → IsFoundIn error (capacity store) (device store) calls
 
 -- two stores have the same capacity, header and slots, and the transfers are in the same phase

@@ -91,7 +91,7 @@ impl<S: ImageStore> Model for Held<S> {
 
     ghost use Rattle.fw_image.specs.Stored.{state_of, IsHolding};
 
-    ghost view = { λ s. state_of S.honest S.sound S.capacity S.faults S.calls_left S.device s.store s.header s.digesting };
+    ghost view = { λ s. state_of S.honest S.sound S.capacity S.faults S.fuse S.device s.store s.header s.digesting };
 
     ghost invariant = { λ s. IsHolding S.honest S.capacity S.device s.store s.header s.digesting };
 }
@@ -142,6 +142,7 @@ impl<S: ImageStore> Held<S> {
         laws::other_blocks_stay();
         laws::begins_within();
         store_laws::splice_stands();
+        store_laws::torn_size();
         store_laws::calls_add();
         store_laws::calls_end();
         if !self.header.enabled {
@@ -245,12 +246,12 @@ impl<S: ImageStore> Held<S> {
         ensures begins { IfOk result (λ next. reopened next.meter ≡ next.meter) }
         ensures sound { IfOk result (λ next. IsTrue (S.sound store) → IsTrue next.sound) }
         ensures faultless { IfOk result (λ next. next.faults ≡ S.faults store) }
-        ensures spends { IfOk result (λ next. Spends (opening_calls next.meter) (S.calls_left store) next.calls_left true) }
-        ensures refused { IfErr result (λ e. Refused S.honest S.sound S.capacity S.faults S.calls_left S.device store e.0 e.1) }
+        ensures spends { IfOk result (λ next. Spends (opening_calls next.meter) (S.fuse store) next.fuse true) }
+        ensures refused { IfErr result (λ e. Refused S.honest S.sound S.capacity S.faults S.fuse S.device store e.0 e.1) }
         ensures again { (meter : Meter) → IsMeterOf (S.capacity store) (S.device store) meter → IsTrusted meter
             → IsTrue (S.honest store) → IsTrue (S.sound store) → IsOkAnd result (λ next. next.meter ≡ meter) }
         ensures cut { (meter : Meter) → IsMeterOf (S.capacity store) (S.device store) meter → IsTrusted meter
-            → IsTrue (S.honest store) → IfErr result (λ e. Spends (opening_calls meter) (S.calls_left store) (S.calls_left e.1) false) }
+            → IsTrue (S.honest store) → IfErr result (λ e. Spends (opening_calls meter) (S.fuse store) (S.fuse e.1) false) }
     {
         store_laws::one_header();
         match examine(&mut store) {
@@ -262,15 +263,15 @@ impl<S: ImageStore> Held<S> {
     /// Opens a store, and then writes its header in version 2 where it is one of version 1. A store that is refused is handed back,
     /// and its device is as it was.
     pub(crate) fn open_migrated(mut store: S) -> Result<Held<S>, (OpenError, S)>
-        ensures opened { IfOk result (λ next. Opens S.honest S.capacity S.calls_left S.device store next) }
+        ensures opened { IfOk result (λ next. Opens S.honest S.capacity S.fuse S.device store next) }
         ensures begins { IfOk result (λ next. reopened next.meter ≡ next.meter) }
         ensures sound { IfOk result (λ next. IsTrue (S.sound store) → IsTrue next.sound) }
         ensures faultless { IfOk result (λ next. next.faults ≡ S.faults store) }
-        ensures refused { IfErr result (λ e. Refused S.honest S.sound S.capacity S.faults S.calls_left S.device store e.0 e.1) }
+        ensures refused { IfErr result (λ e. Refused S.honest S.sound S.capacity S.faults S.fuse S.device store e.0 e.1) }
         ensures again { (meter : Meter) → IsMeterOf (S.capacity store) (S.device store) meter → IsTrusted meter
             → IsTrue (S.honest store) → IsTrue (S.sound store) → IsOkAnd result (λ next. next.meter ≡ migrated meter) }
         ensures cut { (meter : Meter) → IsMeterOf (S.capacity store) (S.device store) meter → IsTrusted meter
-            → IsTrue (S.honest store) → IfErr result (λ e. Spends (restart_calls meter) (S.calls_left store) (S.calls_left e.1) false) }
+            → IsTrue (S.honest store) → IfErr result (λ e. Spends (restart_calls meter) (S.fuse store) (S.fuse e.1) false) }
     {
         store_laws::one_header();
         store_laws::migrated_is_header();
@@ -289,7 +290,7 @@ impl<S: ImageStore> Held<S> {
     fn of(store: S, header: Header) -> Held<S>
         requires { IsHeld S.honest S.capacity S.device store header }
         ensures { result
-            ≡ state_of S.honest S.sound S.capacity S.faults S.calls_left S.device store header None }
+            ≡ state_of S.honest S.sound S.capacity S.faults S.fuse S.device store header None }
     {
         Held {
             store,
@@ -361,7 +362,7 @@ impl<S: ImageStore> Held<S> {
         ensures view { IsView result (shown_of self.now.meter) }
         ensures fits { IsFit self.now.meter }
         ensures trusted { IsTrue self.now.honest → IsTrusted self.now.meter }
-        ensures over { IsOver S.honest S.sound S.faults S.calls_left self.now }
+        ensures over { IsOver S.honest S.sound S.faults S.fuse self.now }
     {
         laws::cut_size();
         let header = &self.header;
@@ -384,7 +385,7 @@ impl<S: ImageStore> Held<S> {
         ensures device { self.new.device ≡ self.old.device }
         ensures follows { Follows self.old self.new }
         ensures cause { HasCause self.old.sound self.old.faults self.new.faults result }
-        ensures spends { Spends 1 self.old.calls_left self.new.calls_left (is_ok result) }
+        ensures spends { Spends 1 self.old.fuse self.new.fuse (is_ok result) }
     {
         self.store.read(self.header.running_slot, 0, out)
     }
@@ -394,7 +395,7 @@ impl<S: ImageStore> Held<S> {
         ensures held { Holds S.honest S.capacity S.device result (stored self) }
         ensures sound { S.sound result ≡ self.sound }
         ensures faults { S.faults result ≡ self.faults }
-        ensures calls_left { S.calls_left result ≡ self.calls_left }
+        ensures fuse { S.fuse result ≡ self.fuse }
     {
         let Held { store, .. } = self;
         store
@@ -404,14 +405,14 @@ impl<S: ImageStore> Held<S> {
 impl Held<MemoryStore> {
     /// Sets the store's fuse.
     pub(crate) fn fuse(&mut self, calls: u64, torn: u8)
-        ensures { self.new ≡ record self.old { sound = false; calls_left = Some calls } }
+        ensures { self.new ≡ record self.old { sound = false; fuse = Some (record { calls = calls; torn = torn }) } }
     {
         self.store.fuse(calls, torn);
     }
 
     /// Removes the store's fuse.
     pub(crate) fn unfuse(&mut self)
-        ensures { self.new ≡ record self.old { sound = true; calls_left = None } }
+        ensures { self.new ≡ record self.old { sound = true; fuse = None } }
     {
         self.store.unfuse();
     }
@@ -441,7 +442,7 @@ fn replace<S: ImageStore>(
     ensures fits { FieldsFit next }
     ensures kept { Keeps S.honest S.sound S.capacity S.faults store.old store.new }
     ensures cause { HasCause (S.sound store.old) (S.faults store.old) (S.faults store.new) result }
-    ensures spends { Spends 1 (S.calls_left store.old) (S.calls_left store.new) (is_ok result) }
+    ensures spends { Spends 1 (S.fuse store.old) (S.fuse store.new) (is_ok result) }
 {
     store.write_header(&next.to_bytes())?;
     *header = next;
@@ -502,7 +503,7 @@ fn is_genuine<S: ImageStore>(
     ensures same { IsTrue (S.honest store.old) → S.device store.new ≡ S.device store.old }
     ensures kept { Keeps S.honest S.sound S.capacity S.faults store.old store.new }
     ensures cause { HasCause (S.sound store.old) (S.faults store.old) (S.faults store.new) result }
-    ensures spends { Spends (slice_count size) (S.calls_left store.old) (S.calls_left store.new) (is_ok result) }
+    ensures spends { Spends (slice_count size) (S.fuse store.old) (S.fuse store.new) (is_ok result) }
 {
     let found = digest(store, slot, size)?;
     Ok(found == name.digest)
@@ -527,7 +528,7 @@ fn judge<S: ImageStore>(
     ensures fits { OnOk result (FieldsFit header.new) }
     ensures kept { Keeps S.honest S.sound S.capacity S.faults store.old store.new }
     ensures cause { HasCause (S.sound store.old) (S.faults store.old) (S.faults store.new) result }
-    ensures spends { Spends 1 (S.calls_left store.old) (S.calls_left store.new) (is_ok result) }
+    ensures spends { Spends 1 (S.fuse store.old) (S.fuse store.new) (is_ok result) }
 {
     let genuine = digesting.finish() == name.digest;
     let next = Header {
@@ -558,7 +559,7 @@ fn migrate<S: ImageStore>(store: &mut S, header: &mut Header) -> Result<(), Stor
     ensures same { IsTrue (S.honest store.old) → OnErr result (S.device store.new ≡ S.device store.old) }
     ensures kept { Keeps S.honest S.sound S.capacity S.faults store.old store.new }
     ensures cause { HasCause (S.sound store.old) (S.faults store.old) (S.faults store.new) result }
-    ensures spends { Spends (migrating_writes header.old) (S.calls_left store.old) (S.calls_left store.new) (is_ok result) }
+    ensures spends { Spends (migrating_writes header.old) (S.fuse store.old) (S.fuse store.new) (is_ok result) }
 {
     match header.version {
         HeaderVersion::One => {
@@ -577,10 +578,10 @@ fn examine<S: ImageStore>(store: &mut S) -> Result<Header, OpenError>
     ensures faultless { OnOk result (S.faults store.new ≡ S.faults store.old) }
     ensures spends { IfOk result (λ header.
         Spends (1 + slice_count header.running_size + slice_count (verified_size (phase_of header.status header.goal)))
-        (S.calls_left store.old) (S.calls_left store.new) true) }
-    ensures refused { IfErr result (λ e. Refused S.honest S.sound S.capacity S.faults S.calls_left S.device store.old e store.new) }
+        (S.fuse store.old) (S.fuse store.new) true) }
+    ensures refused { IfErr result (λ e. Refused S.honest S.sound S.capacity S.faults S.fuse S.device store.old e store.new) }
     ensures cut { OnErr result ((meter : Meter) → IsMeterOf (S.capacity store.old) (S.device store.old) meter → IsTrusted meter
-        → IsTrue (S.honest store.old) → Spends (opening_calls meter) (S.calls_left store.old) (S.calls_left store.new) false) }
+        → IsTrue (S.honest store.old) → Spends (opening_calls meter) (S.fuse store.old) (S.fuse store.new) false) }
 {
     store_laws::one_header();
     store_laws::calls_add();
@@ -608,7 +609,7 @@ fn is_goal_genuine<S: ImageStore>(store: &mut S, header: &Header) -> Result<bool
     ensures kept { Keeps S.honest S.sound S.capacity S.faults store.old store.new }
     ensures cause { HasCause (S.sound store.old) (S.faults store.old) (S.faults store.new) result }
     ensures spends { Spends (slice_count (verified_size (phase_of header.now.status header.now.goal)))
-        (S.calls_left store.old) (S.calls_left store.new) (is_ok result) }
+        (S.fuse store.old) (S.fuse store.new) (is_ok result) }
 {
     laws::cuts_join();
     let StoredStatus::VerificationSuccessful = header.status else {

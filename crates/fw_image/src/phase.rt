@@ -57,14 +57,14 @@ pub enum Phase<S: ImageStore> {
 ///
 /// `Fault`, `BadHeader` or `BadImage`, with the store, whose device is as it was.
 pub fn open_store<S: ImageStore>(store: S) -> Result<Phase<S>, (OpenError, S)>
-    ensures opened { IfOk result (λ phase. Opens S.honest S.capacity S.calls_left S.device store (state_in phase)) }
+    ensures opened { IfOk result (λ phase. Opens S.honest S.capacity S.fuse S.device store (state_in phase)) }
     ensures phase { IfOk result IsInPhase }
 
     // No verification goes on.
     ensures begins { IfOk result (λ phase. reopened (state_in phase).meter ≡ (state_in phase).meter) }
     ensures sound { IfOk result (λ phase. IsTrue (S.sound store) → IsTrue (state_in phase).sound) }
     ensures faultless { IfOk result (λ phase. (state_in phase).faults ≡ S.faults store) }
-    ensures refused { IfErr result (λ e. Refused S.honest S.sound S.capacity S.faults S.calls_left S.device store e.0 e.1) }
+    ensures refused { IfErr result (λ e. Refused S.honest S.sound S.capacity S.faults S.fuse S.device store e.0 e.1) }
 
     // An honest, sound store that holds a meter, whose images have their names' digests, is opened as that meter, with a header
     // of version 2.
@@ -73,7 +73,7 @@ pub fn open_store<S: ImageStore>(store: S) -> Result<Phase<S>, (OpenError, S)>
 
     // One that is honest alone is refused only where one of these calls fails.
     ensures cut { (meter : Meter) → IsMeterOf (S.capacity store) (S.device store) meter → IsTrusted meter
-        → IsTrue (S.honest store) → IfErr result (λ e. Spends (restart_calls meter) (S.calls_left store) (S.calls_left e.1) false) }
+        → IsTrue (S.honest store) → IfErr result (λ e. Spends (restart_calls meter) (S.fuse store) (S.fuse e.1) false) }
 {
     Ok(Phase::of(Held::open_migrated(store)?))
 }
@@ -93,8 +93,8 @@ pub fn open_kept<S: ImageStore>(store: S) -> Result<Phase<S>, (OpenError, S)>
     ensures sound { IfOk result (λ phase. IsTrue (S.sound store) → IsTrue (state_in phase).sound) }
     ensures faultless { IfOk result (λ phase. (state_in phase).faults ≡ S.faults store) }
     ensures spends { IfOk result (λ phase.
-        Spends (opening_calls (state_in phase).meter) (S.calls_left store) (state_in phase).calls_left true) }
-    ensures refused { IfErr result (λ e. Refused S.honest S.sound S.capacity S.faults S.calls_left S.device store e.0 e.1) }
+        Spends (opening_calls (state_in phase).meter) (S.fuse store) (state_in phase).fuse true) }
+    ensures refused { IfErr result (λ e. Refused S.honest S.sound S.capacity S.faults S.fuse S.device store e.0 e.1) }
 
     // An honest, sound store that holds a meter, whose images have their names' digests, is opened as that meter.
     ensures again { (meter : Meter) → IsMeterOf (S.capacity store) (S.device store) meter → IsTrusted meter
@@ -102,7 +102,7 @@ pub fn open_kept<S: ImageStore>(store: S) -> Result<Phase<S>, (OpenError, S)>
 
     // One that is honest alone is refused only where one of these calls fails.
     ensures cut { (meter : Meter) → IsMeterOf (S.capacity store) (S.device store) meter → IsTrusted meter
-        → IsTrue (S.honest store) → IfErr result (λ e. Spends (opening_calls meter) (S.calls_left store) (S.calls_left e.1) false) }
+        → IsTrue (S.honest store) → IfErr result (λ e. Spends (opening_calls meter) (S.fuse store) (S.fuse e.1) false) }
 {
     Ok(Phase::of(Held::open(store)?))
 }
@@ -242,7 +242,7 @@ impl<S: ImageStore> Phase<S> {
         ensures trusted { IsTrue (state_in self.now).honest → IsTrusted (state_in self.now).meter }
 
         // It is over a store of its type: over one in memory it is honest, and sound where no fuse is set.
-        ensures over { IsOver S.honest S.sound S.faults S.calls_left (state_in self.now) }
+        ensures over { IsOver S.honest S.sound S.faults S.fuse (state_in self.now) }
     {
         self.held().view()
     }
@@ -253,7 +253,7 @@ impl<S: ImageStore> Phase<S> {
         ensures held { Holds S.honest S.capacity S.device result (stored (state_in self)) }
         ensures sound { S.sound result ≡ (state_in self).sound }
         ensures faults { S.faults result ≡ (state_in self).faults }
-        ensures calls_left { S.calls_left result ≡ (state_in self).calls_left }
+        ensures fuse { S.fuse result ≡ (state_in self).fuse }
     {
         self.into_held().into_store()
     }
@@ -270,7 +270,7 @@ impl<S: ImageStore> Phase<S> {
         ensures device { (state_in self.new).device ≡ (state_in self.old).device }
         ensures follows { Follows (state_in self.old) (state_in self.new) }
         ensures cause { HasCause (state_in self.old).sound (state_in self.old).faults (state_in self.new).faults result }
-        ensures spends { Spends 1 (state_in self.old).calls_left (state_in self.new).calls_left (is_ok result) }
+        ensures spends { Spends 1 (state_in self.old).fuse (state_in self.new).fuse (is_ok result) }
         ensures phase { IsInPhase self.old → IsInPhase self.new }
     {
         match self {
@@ -287,7 +287,7 @@ impl<S: ImageStore> Phase<S> {
 impl Phase<MemoryStore> {
     /// The next `calls` calls of the store succeed, and all later ones fail until `unfuse`, as `MemoryStore::fuse` says.
     pub fn fuse(&mut self, calls: u64, torn: u8)
-        ensures state { state_in self.new ≡ record (state_in self.old) { sound = false; calls_left = Some calls } }
+        ensures state { state_in self.new ≡ record (state_in self.old) { sound = false; fuse = Some (record { calls = calls; torn = torn }) } }
         ensures phase { IsInPhase self.old → IsInPhase self.new }
     {
         match self {
@@ -302,7 +302,7 @@ impl Phase<MemoryStore> {
 
     /// From now on no call of the store fails.
     pub fn unfuse(&mut self)
-        ensures state { state_in self.new ≡ record (state_in self.old) { sound = true; calls_left = None } }
+        ensures state { state_in self.new ≡ record (state_in self.old) { sound = true; fuse = None } }
         ensures phase { IsInPhase self.old → IsInPhase self.new }
     {
         match self {

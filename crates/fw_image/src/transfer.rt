@@ -135,7 +135,7 @@ impl<S: ImageStore, P: Status> Transfer<S, P> {
         ensures trusted { IsTrue self.now.honest → IsTrusted self.now.meter }
 
         // It is over a store of its type: over one in memory it is honest, and sound where no fuse is set.
-        ensures over { IsOver S.honest S.sound S.faults S.calls_left self.now }
+        ensures over { IsOver S.honest S.sound S.faults S.fuse self.now }
     {
         self.held.view()
     }
@@ -152,7 +152,7 @@ impl<S: ImageStore, P: Status> Transfer<S, P> {
         ensures device { self.new.device ≡ self.old.device }
         ensures follows { Follows self.old self.new }
         ensures cause { HasCause self.old.sound self.old.faults self.new.faults result }
-        ensures spends { Spends 1 self.old.calls_left self.new.calls_left (is_ok result) }
+        ensures spends { Spends 1 self.old.fuse self.new.fuse (is_ok result) }
     {
         self.held.read_running(out)
     }
@@ -163,7 +163,7 @@ impl<S: ImageStore, P: Status> Transfer<S, P> {
         ensures held { Holds S.honest S.capacity S.device result (stored self) }
         ensures sound { S.sound result ≡ self.sound }
         ensures faults { S.faults result ≡ self.faults }
-        ensures calls_left { S.calls_left result ≡ self.calls_left }
+        ensures fuse { S.fuse result ≡ self.fuse }
     {
         self.held.into_store()
     }
@@ -268,14 +268,14 @@ impl<S: ImageStore> Verified<S> {
 impl<P: Status> Transfer<MemoryStore, P> {
     /// The next `calls` calls of the store succeed, and all later ones fail until `unfuse`, as `MemoryStore::fuse` says.
     pub fn fuse(&mut self, calls: u64, torn: u8)
-        ensures { self.new ≡ record self.old { sound = false; calls_left = Some calls } }
+        ensures { self.new ≡ record self.old { sound = false; fuse = Some (record { calls = calls; torn = torn }) } }
     {
         self.held.fuse(calls, torn);
     }
 
     /// From now on no call of the store fails.
     pub fn unfuse(&mut self)
-        ensures { self.new ≡ record self.old { sound = true; calls_left = None } }
+        ensures { self.new ≡ record self.old { sound = true; fuse = None } }
     {
         self.held.unfuse();
     }

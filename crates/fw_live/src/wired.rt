@@ -47,6 +47,8 @@ struct Wired {
 }
 
 impl Hand for Wired {
+    ghost may_end = { λ _ _. Unit {0} };
+
     fn rounds<R: Wait, G: Gate>(
         &mut self,
         rt: &R,

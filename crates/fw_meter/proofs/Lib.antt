@@ -3,6 +3,8 @@ mod Responding
 mod OneAnswer
 mod Stops
 mod Faultless
+mod Calling
+mod Cutting
 mod Telling
 mod Restarts
 pub mod Coding

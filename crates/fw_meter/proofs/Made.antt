@@ -20,7 +20,7 @@ refused_method m operation r (inl line) serves = let bad : true ≡ false = sym 
 refused_method m operation r (inr line) serves = line.2 serves.1
 
 -- what a line refuses is not served
-not_served : (m : Meter) (operation : Operation) (r : Refusal) → Refuses m operation r → Serves m operation → ⊥
+pub not_served : (m : Meter) (operation : Operation) (r : Refusal) → Refuses m operation r → Serves m operation → ⊥
 not_served m (enable b) r line serves = elim line [ ]
 not_served m (initiate name size) r line serves = refused_method m (initiate name size) r line serves
 not_served m (block i value) r line serves = refused_method m (block i value) r line serves
@@ -37,6 +37,7 @@ refused_by s operation r n line faultless told = (
     follows = record { honesty = refl; soundness = λ h. h; later = omega arith };
     counts = record { counted = ap (λ (ok : Bool). count_after ok s.faults) (sym faultless); never = λ _. faultless };
     spends = λ serves. absurd (not_served s.meter operation r line serves);
+    left = λ honest set is failed. let bad : true ≡ false = sym faultless ∙ failed in absurd cc;
   },
   told,
 )

@@ -53,7 +53,7 @@ pub record SameRequest (source s invoke i : ℕ) (content c : RequestContent) : 
   pub invokes : invoke ≡ i
   pub contents : content ≡ c
 
-one_brought : wrapper.OneFrame → apdu.OneRequest → (datagram : List ℕ) (source s invoke i : ℕ) (content c : RequestContent) → Brings datagram source invoke content → Brings datagram s i c
+pub one_brought : wrapper.OneFrame → apdu.OneRequest → (datagram : List ℕ) (source s invoke i : ℕ) (content c : RequestContent) → Brings datagram source invoke content → Brings datagram s i c
     → SameRequest source s invoke i content c
 one_brought frames requests datagram source s invoke i content c h k =
     let same = frames datagram h.apdu k.apdu source 1 s 1 h.wraps k.wraps in

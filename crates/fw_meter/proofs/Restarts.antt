@@ -1,6 +1,7 @@
 -- What a restart finds in the store of a meter, and how many calls it makes.
 use Rattle.std.proofs.Common.{◌≡◌, ℕ, Bool, IsTrue, Option, refl, sym, ap, ◌∙◌}
 use Rattle.fw_store.specs.Device.{Device}
+use Rattle.fw_store.specs.declared.fuse.Fuse.{Fuse}
 use Rattle.fw_image.specs.Calls.{verified_size, restart_calls}
 use Rattle.fw_image.specs.Laws.{OneMeter}
 use Rattle.fw_image.specs.Meter.{Meter, Phase, idle, receiving, verifying, sealed, spoilt, switched, reopened, reopened_phase, migrated, restarted}
@@ -20,8 +21,8 @@ reopened_calls : (m : Meter) → restart_calls (reopened m) ≡ restart_calls m
 reopened_calls m = rw (reopened_size m.phase) refl
 
 -- an honest store in which a meter was left is opened as that meter
-module _ {S : Type 0} (honest : S → Bool) (capacity : S → ℕ) (calls_left : S → Option ℕ) (device : S → Device) (store : S) (old new : State) (law : OneMeter)
-    (left : Holds honest capacity device store (stored old)) (opened : Opens honest capacity calls_left device store new) (is : IsTrue old.honest) where
+module _ {S : Type 0} (honest : S → Bool) (capacity : S → ℕ) (fuse : S → Option Fuse) (device : S → Device) (store : S) (old new : State) (law : OneMeter)
+    (left : Holds honest capacity device store (stored old)) (opened : Opens honest capacity fuse device store new) (is : IsTrue old.honest) where
   found : opened.was ≡ reopened old.meter
   found =
       let b : IsTrue (honest store) = sym left.honesty ∙ is in

@@ -41,7 +41,7 @@ pub record TearsCell (old : Meter) (asked : Meaning) (new : Meter) : Type 0 wher
   pub torn : new ≡ with_cell old number left
 
 -- a phase that admits a block receives it
-admits_block : (m : Meter) (phase : Phase) (i : ℕ) (value : List ℕ) → Admits m phase (operations.block i value)
+pub admits_block : (m : Meter) (phase : Phase) (i : ℕ) (value : List ℕ) → Admits m phase (operations.block i value)
     → (goal : Goal) × (phase ≡ receiving goal) × IsBlock m.block_size goal.size i value
 admits_block m idle i value h = elim h [ ]
 admits_block m (receiving goal) i value h = (goal, refl, h)
@@ -102,7 +102,7 @@ is_fault : (a : MeterResult) → (a ≡ coded 1) ⊎ (a ≢ coded 1)
 is_fault (got answer) = inr (λ e. cc)
 is_fault (coded c) = elim (cases_eq c 1) [ inl e ↦ inl (ap coded e) | inr n ↦ inr (λ e. n cc) ]
 
-activates_none : (asked : Meaning) (new : Meter) → activation_of asked (coded 1) new ≡ None
+pub activates_none : (asked : Meaning) (new : Meter) → activation_of asked (coded 1) new ≡ None
 activates_none (read reading) new = refl
 activates_none (denied code) new = refl
 activates_none (enable e) new = refl
@@ -110,6 +110,12 @@ activates_none (initiate identifier size) new = refl
 activates_none (block i value) new = refl
 activates_none verify new = refl
 activates_none activate new = refl
+
+pub fault_told_by : (a : MeterResult) → tells_no_fault a ≡ false → a ≡ coded 1
+fault_told_by (got answer) e = absurd cc
+fault_told_by (coded zero) e = absurd cc
+fault_told_by (coded (suc zero)) e = refl
+fault_told_by (coded (suc (suc c))) e = absurd cc
 
 told_faultless : (a : MeterResult) → a ≢ coded 1 → IsTrue (tells_no_fault a)
 told_faultless (got answer) n = refl

@@ -1,9 +1,12 @@
 -- For private clauses alone: what the types of the code stand for.
-use Rattle.std.specs.Prelude.{◌≡◌, ℕ, false, List, [], Option, Some, None, slice_set, if◌then◌else◌}
+use Rattle.std.specs.Prelude.{◌≡◌, ◌⊎◌, ℕ, Bool, false, IsTrue, List, [], Option, Some, None, slice_set, if◌then◌else◌}
 use Rattle.std.specs.Option.{option_map}
 use Rattle.std.specs.FinMap.{empty}
 use Rattle.fw_names.specs.Name.{factory}
-use Rattle.fw_image.specs.Meter.{idle}
+use Rattle.fw_image.specs.Meter.{Meter, idle}
+use Rattle.fw_image.specs.Calls.{calls_for, left_by_fault}
+use Rattle.fw_store.specs.Faults.{Spends}
+use Rattle.fw_store.specs.declared.fuse.Fuse.{Fuse}
 use Rattle.fw_wrapper.specs.Wrapper.{wrapped}
 use Rattle.fw_apdu.specs.Cosem.{success, hardware_fault, temporary_failure, read_write_denied, other_reason}
 use Rattle.fw_apdu.specs.Request.{RequestContent, get_request, set_request, action_request, is_confirmed}
@@ -18,6 +21,7 @@ use Rattle.fw_image.specs.Step as image
 use Rattle.fw_image.specs.declared.phase.Phase.{Phase}
 use Rattle.fw_meter.specs.Step.{coded, tells_no_fault, operation_code, MeterStep}
 use Rattle.fw_meter.specs.Handling.{Brings, BringsNothing, reply_to, reply_bytes}
+use Rattle.fw_meter.specs.Stopping.{AsksFor}
 use Rattle.fw_meter.specs.declared.code.Code.{Code}
 use Rattle.fw_meter.specs.declared.code.Code.TheVariants as code
 use Rattle.fw_meter.specs.declared.replies.Replies.{Replies}
@@ -60,11 +64,36 @@ AnswersEach heard replies = (c : Code) → reply_in replies (code_number c) ≡ 
 abbrev pub IsMade : State → image.Operation → ℕ → State → Type 0
 IsMade old operation c new = (outcome : image.OperationOutcome) × Makes old operation outcome new × (c ≡ operation_code outcome)
 
+-- the calls of its store that a meter makes for an operation: those that it takes, or none where a line refuses it
+abbrev pub CallsFor : Meter → image.Operation → ℕ → Type 0
+CallsFor m operation calls = (image.Serves m operation × (calls ≡ calls_for m operation)) ⊎ (¬ image.Serves m operation × (calls ≡ 0))
+
+-- and for a request: none where it asks for no operation
+abbrev pub CallsOf : Meter → Meaning → ℕ → Type 0
+CallsOf m asked calls =
+    ((operation : image.Operation) × AsksFor asked operation × CallsFor m operation calls)
+    ⊎ (((operation : image.Operation) → ¬ AsksFor asked operation) × (calls ≡ 0))
+
+-- the operation that a request asks for was served, and left this where a call of the store failed that leaves this byte
+pub record IsLeftBy (torn : ℕ) (old : Meter) (asked : Meaning) (new : Meter) : Type 0 where
+  pub operation : image.Operation
+  pub asks : AsksFor asked operation
+  pub serves : image.Serves old operation
+  pub left : new ≡ left_by_fault torn old operation
+
+-- what is known of the store's calls for a request, of which none failed or one did
+pub record IsCalled (old : State) (asked : Meaning) (new : State) (faultless : Bool) : Type 0 where
+  pub counts : Counts old new faultless
+  pub calls : ℕ
+  pub makes : CallsOf old.meter asked calls
+  pub spends : Spends calls old.fuse new.fuse faultless
+  pub left : IsTrue old.honest → (set : Fuse) → old.fuse ≡ Some set → faultless ≡ false → IsLeftBy set.torn old.meter asked new.meter
+
 -- the meter's step on a meaning, with this code
 pub record Steps (old : State) (asked : Meaning) (c : ℕ) (new : State) : Type 0 where
   pub step : MeterStep old.honest old.meter asked (coded c) new.meter
   pub follows : Follows old new
-  pub faults : Counts old new (tells_no_fault (coded c))
+  pub called : IsCalled old asked new (tells_no_fault (coded c))
 
 -- a phase is there
 abbrev pub IsThere : {S : Type 0} → Option (Phase S) → Type 0
@@ -79,7 +108,7 @@ no_state = record {
   honest = false;
   sound = false;
   faults = 0;
-  calls_left = None;
+  fuse = None;
 }
 
 -- the state of the phase

@@ -12,6 +12,7 @@ use Rattle.fw_image.specs.Meter.{Meter, receiving, reopened}
 use Rattle.fw_image.specs.State.{State, Counts}
 use Rattle.fw_image.specs.Step.{IsBlock, with_cell, Turn}
 use Rattle.fw_meter.specs.Handling.{Brings, Handles}
+use Rattle.fw_meter.specs.Stopping.{StopsAfter}
 
 -- over an honest store that doesn't fail, a meter and a datagram determine the reply, the activation and the meter afterwards
 abbrev pub OneAnswer : Type 0
@@ -56,6 +57,17 @@ abbrev pub FaultIsStop : Type 0
 FaultIsStop =
     (old new : State) (datagram : List ℕ) (reply : Option (List ℕ)) (activated : Option Name) → IsTrue old.honest
     → Handles old.honest (Counts old new) old.meter datagram reply activated new.meter → Stops old.meter datagram activated new.meter
+
+-- what a stop after some calls leaves is what a stop may leave
+abbrev pub StopAfterIsStop : Type 0
+StopAfterIsStop =
+    (calls torn : ℕ) (old new : Meter) (datagram : List ℕ) (activated : Option Name) → StopsAfter calls torn old datagram activated new → Stops old datagram activated new
+
+-- a meter, a datagram, the number of calls and the torn byte determine what a stop leaves
+abbrev pub OneStop : Type 0
+OneStop =
+    (calls torn : ℕ) (old new other : Meter) (datagram : List ℕ) (a b : Option Name)
+    → StopsAfter calls torn old datagram a new → StopsAfter calls torn old datagram b other → (a ≡ b) × (new ≡ other)
 
 -- Whichever call of an honest store fails in a turn, the meter is left as it was, but that no verification goes on, or as it is without
 -- the failure.

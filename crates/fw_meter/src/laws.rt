@@ -1,6 +1,6 @@
 //! Laws of a meter, over the definitions alone. A caller cites a law by calling it: nothing is done.
 
-ghost use Rattle.fw_meter.specs.Laws.{OneAnswer, Faultless, FaultIsStop, TurnFaultIsStop, TellsRunning};
+ghost use Rattle.fw_meter.specs.Laws.{OneAnswer, Faultless, FaultIsStop, StopAfterIsStop, OneStop, TurnFaultIsStop, TellsRunning};
 
 /// Over an honest store that doesn't fail, a meter and a datagram determine the reply, the activation and the meter
 /// afterwards.
@@ -24,6 +24,24 @@ pub fn faultless()
 pub fn fault_is_stop()
     ensures { FaultIsStop }
 {}
+
+/// What is left where the calls of an honest store fail after some is what a stop may leave, as `fault_is_stop` has it.
+pub fn stop_after_is_stop()
+    ensures { StopAfterIsStop }
+{
+    fw_store::laws::torn_size();
+}
+
+/// Over an honest store, a meter, a datagram, the number of calls before all fail, and the byte that a failing write leaves determine
+/// what is left, and what was activated.
+pub fn one_stop()
+    ensures { OneStop }
+{
+    fw_names::laws::one_name();
+    fw_wrapper::laws::one_frame();
+    fw_apdu::laws::one_request();
+    fw_image::laws::one_step();
+}
 
 /// Over an honest store, a stop at any call of a turn leaves the meter before the turn, but that no verification goes on, or
 /// after it.

@@ -19,10 +19,11 @@ ghost use Rattle.std.specs.Prelude.{
   length,
 };
 ghost use Rattle.fw_store.specs.Faults.{HasCause, Spends, count_after};
+ghost use Rattle.fw_store.specs.declared.fuse.Fuse.{Fuse};
 ghost use Rattle.fw_server.specs.Meaning as meaning;
 ghost use Rattle.fw_server.specs.Meaning.{meaning_of};
 ghost use Rattle.fw_server.specs.View.{operation_meaning};
-ghost use Rattle.fw_meter.specs.Inside.{code_number, Steps};
+ghost use Rattle.fw_meter.specs.Inside.{code_number, IsCalled, Steps};
 ghost use Rattle.fw_meter.specs.Step.{got, answer_of, activation_of, coded};
 ghost use Rattle.fw_apdu.specs.Request.{is_confirmed};
 ghost use Rattle.fw_apdu.specs.View.{request_content, request_invoke};
@@ -34,6 +35,7 @@ ghost use Rattle.fw_image.specs.State.{Follows, Counts, Turns, IsOver, stored};
 ghost use Rattle.fw_image.specs.Stored.{Holds, IsMeterOf, Opens, Refused, IsSame, is_opening_faultless};
 ghost use Rattle.fw_image.specs.declared.error.OpenError.TheVariants as not_opened;
 ghost use Rattle.fw_meter.specs.Handling.{Handles, Responds, MayWantMemory, reply_to, reply_bytes};
+ghost use Rattle.fw_meter.specs.Stopping.{CallsStore, StopsAfter};
 
 use crate::attributes::read;
 use crate::code::Code;
@@ -89,7 +91,7 @@ impl<S: ImageStore + Drop> MeterCore<S> {
     /// that runs, or a verified one, hasn't the digest of its name, in this order. The store is handed back, and holds what
     /// it held.
     pub fn open_store(store: S) -> Result<MeterCore<S>, (OpenError, S)>
-        ensures opened { IfOk result (λ meter. Opens S.honest S.capacity S.calls_left S.device store meter) }
+        ensures opened { IfOk result (λ meter. Opens S.honest S.capacity S.fuse S.device store meter) }
 
         // No verification goes on.
         ensures begins { IfOk result (λ meter. reopened meter.meter ≡ meter.meter) }
@@ -100,8 +102,8 @@ impl<S: ImageStore + Drop> MeterCore<S> {
 
         // An honest store that holds such a meter is refused only where one of these calls fails.
         ensures cut { (meter : Meter) → IsMeterOf (S.capacity store) (S.device store) meter → IsTrusted meter
-            → IsTrue (S.honest store) → IfErr result (λ e. Spends (restart_calls meter) (S.calls_left store) (S.calls_left e.1) false) }
-        ensures refused { IfErr result (λ e. Refused S.honest S.sound S.capacity S.faults S.calls_left S.device store e.0 e.1) }
+            → IsTrue (S.honest store) → IfErr result (λ e. Spends (restart_calls meter) (S.fuse store) (S.fuse e.1) false) }
+        ensures refused { IfErr result (λ e. Refused S.honest S.sound S.capacity S.faults S.fuse S.device store e.0 e.1) }
     {
         let phase = fw_image::open_store(store)?;
         Ok(MeterCore { phase: Some(phase) })
@@ -120,14 +122,14 @@ impl<S: ImageStore + Drop> MeterCore<S> {
         ensures begins { IfOk result (λ meter. reopened meter.meter ≡ meter.meter) }
         ensures sound { IfOk result (λ meter. IsTrue (S.sound store) → IsTrue meter.sound) }
         ensures faultless { IfOk result (λ meter. meter.faults ≡ S.faults store) }
-        ensures spends { IfOk result (λ meter. Spends (opening_calls meter.meter) (S.calls_left store) meter.calls_left true) }
+        ensures spends { IfOk result (λ meter. Spends (opening_calls meter.meter) (S.fuse store) meter.fuse true) }
         ensures again { (meter : Meter) → IsMeterOf (S.capacity store) (S.device store) meter → IsTrusted meter
             → IsTrue (S.honest store) → IsTrue (S.sound store) → IsOkAnd result (λ opened. opened.meter ≡ meter) }
 
         // An honest store that holds such a meter is refused only where one of these calls fails.
         ensures cut { (meter : Meter) → IsMeterOf (S.capacity store) (S.device store) meter → IsTrusted meter
-            → IsTrue (S.honest store) → IfErr result (λ e. Spends (opening_calls meter) (S.calls_left store) (S.calls_left e.1) false) }
-        ensures refused { IfErr result (λ e. Refused S.honest S.sound S.capacity S.faults S.calls_left S.device store e.0 e.1) }
+            → IsTrue (S.honest store) → IfErr result (λ e. Spends (opening_calls meter) (S.fuse store) (S.fuse e.1) false) }
+        ensures refused { IfErr result (λ e. Refused S.honest S.sound S.capacity S.faults S.fuse S.device store e.0 e.1) }
     {
         let phase = fw_image::open_kept(store)?;
         Ok(MeterCore { phase: Some(phase) })
@@ -150,11 +152,11 @@ impl<S: ImageStore + Drop> MeterCore<S> {
         // Over any store it makes the calls of the meter that is found there, and over an honest one those of this meter.
         ensures spends { IfOk result (λ meter. (was : Meter) × (meter.meter ≡ migrated was)
             × (IsTrue self.honest → restart_calls was ≡ restart_calls self.meter)
-            × Spends (restart_calls was) self.calls_left meter.calls_left true) }
+            × Spends (restart_calls was) self.fuse meter.fuse true) }
 
         // An honest store is refused only where one of these calls fails.
         ensures cut { IsTrue self.honest
-            → IfErr result (λ e. Spends (restart_calls self.meter) self.calls_left (S.calls_left e.1) false) }
+            → IfErr result (λ e. Spends (restart_calls self.meter) self.fuse (S.fuse e.1) false) }
         ensures counted { IfErr result (λ e. S.faults e.1 ≡ count_after (is_opening_faultless e.0) self.faults) }
         ensures never { IsTrue self.sound → IfErr result (λ e. IsTrue (is_opening_faultless e.0)) }
         ensures back { IfErr result (λ e. Holds S.honest S.capacity S.device e.1 (stored self)) }
@@ -178,10 +180,19 @@ impl<S: ImageStore + Drop> MeterCore<S> {
         ensures step { IfOk result (λ h. Handles self.old.honest (Counts self.old self.new) self.old.meter datagram.now
             (reply_bytes h.reply) h.activated self.new.meter) }
         ensures follows { Follows self.old self.new }
+        ensures calls { OnOk result (CallsStore self.old datagram.now self.new) }
+
+        // Where the calls of an honest store fail after some, this is what they leave.
+        ensures cut { IfOk result (λ h. IsTrue self.old.honest → (set : Fuse) → self.old.fuse ≡ Some set
+            → StopsAfter set.calls set.torn self.old.meter datagram.now h.activated self.new.meter) }
         ensures err { OnErr result (self.new ≡ self.old) }
+
         // Any other datagram is handled without memory.
         ensures memory { OnErr result (MayWantMemory datagram.now) }
     {
+        fw_names::laws::one_name();
+        fw_wrapper::laws::one_frame();
+        fw_apdu::laws::one_request();
         match hear(alloc, datagram)? {
             None => Ok(unchanged(None)),
             Some(heard) => self.respond(alloc, &heard),
@@ -228,7 +239,7 @@ impl<S: ImageStore + Drop> MeterCore<S> {
         ensures trusted { IsTrue self.now.honest → IsTrusted self.now.meter }
 
         // It is over a store of its type: over one in memory it is honest, and sound where no fuse is set.
-        ensures over { IsOver S.honest S.sound S.faults S.calls_left self.now }
+        ensures over { IsOver S.honest S.sound S.faults S.fuse self.now }
     {
         match &self.phase {
             Some(phase) => phase.view(),
@@ -247,7 +258,7 @@ impl<S: ImageStore + Drop> MeterCore<S> {
         ensures same { self.new.meter ≡ self.old.meter }
         ensures follows { Follows self.old self.new }
         ensures cause { HasCause self.old.sound self.old.faults self.new.faults result }
-        ensures spends { Spends 1 self.old.calls_left self.new.calls_left (is_ok result) }
+        ensures spends { Spends 1 self.old.fuse self.new.fuse (is_ok result) }
     {
         match &mut self.phase {
             Some(phase) => phase.read_running(out),
@@ -257,7 +268,8 @@ impl<S: ImageStore + Drop> MeterCore<S> {
 
     /// Serves a request, and replies where it asks for a response.
     fn respond(&mut self, alloc: Global, heard: &Heard) -> Result<Handled, OutOfMemory>
-        ensures step { IfOk result (λ h. Responds self.old.honest (Counts self.old self.new) self.old.meter heard.now.source
+        ensures step { IfOk result (λ h. Responds self.old.honest
+            (IsCalled self.old (meaning_of (request_content heard.now.request)) self.new) self.old.meter heard.now.source
             (request_invoke heard.now.request) (request_content heard.now.request) (reply_bytes h.reply) h.activated self.new.meter) }
         ensures follows { Follows self.old self.new }
         ensures err { OnErr result (self.new ≡ self.old) }
@@ -298,7 +310,8 @@ impl<S: ImageStore + Drop> MeterCore<S> {
         operation: Operation<'_>,
     ) -> Result<Handled, OutOfMemory>
         requires { operation_meaning operation ≡ meaning_of (request_content heard.now.request) }
-        ensures step { IfOk result (λ h. Responds self.old.honest (Counts self.old self.new) self.old.meter heard.now.source
+        ensures step { IfOk result (λ h. Responds self.old.honest
+            (IsCalled self.old (meaning_of (request_content heard.now.request)) self.new) self.old.meter heard.now.source
             (request_invoke heard.now.request) (request_content heard.now.request) (reply_bytes h.reply) h.activated self.new.meter) }
         ensures follows { Follows self.old self.new }
         ensures err { OnErr result (self.new ≡ self.old) }
@@ -354,7 +367,7 @@ impl<S: ImageStore + Drop> MeterCore<S> {
 impl MeterCore<MemoryStore> {
     /// The next `calls` calls of the store succeed, and all later ones fail until `unfuse`, as `MemoryStore::fuse` says.
     pub fn fuse(&mut self, calls: u64, torn: u8)
-        ensures { self.new ≡ record self.old { sound = false; calls_left = Some calls } }
+        ensures { self.new ≡ record self.old { sound = false; fuse = Some (record { calls = calls; torn = torn }) } }
     {
         match &mut self.phase {
             Some(phase) => phase.fuse(calls, torn),
@@ -364,7 +377,7 @@ impl MeterCore<MemoryStore> {
 
     /// From now on no call of the store fails.
     pub fn unfuse(&mut self)
-        ensures { self.new ≡ record self.old { sound = true; calls_left = None } }
+        ensures { self.new ≡ record self.old { sound = true; fuse = None } }
     {
         match &mut self.phase {
             Some(phase) => phase.unfuse(),

@@ -54,14 +54,18 @@ fn offer<S: ImageStore>(phase: Phase<S>, identifier: &[u8], size: u32) -> (Code,
 {
     match ImageName::from_bytes(identifier) {
         Some(name) => initiate(phase, name, size),
-        None => {
-            let code = if phase.view().enabled {
-                Code::OtherReason
-            } else {
-                Code::ReadWriteDenied
-            };
-            (code, phase)
-        }
+        None => (nameless(&phase), phase),
+    }
+}
+
+/// The code of an initiate whose identifier is no name.
+fn nameless<S: ImageStore>(phase: &Phase<S>) -> Code
+    ensures { result ≡ (if (state_in phase.now).meter.enabled then code.OtherReason else code.ReadWriteDenied) }
+{
+    if phase.view().enabled {
+        Code::OtherReason
+    } else {
+        Code::ReadWriteDenied
     }
 }
 

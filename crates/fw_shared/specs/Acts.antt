@@ -55,10 +55,11 @@ pub record IsPutBack (desk : Desk) (head : Head) : Type 0 where
 
 -- ---- what is done behind a lock
 
--- what a core did: the event, and the datagrams that it sends
-pub record Act : Type 0 where
+-- what a core did: the event, the datagrams that it sends, and what it left behind its lock
+pub record Act (T : Type 0) : Type 0 where
   pub event : Event
   pub sent : List Datagram
+  pub left : T
 
 -- a meter handles a datagram, and sends its reply
 pub record MeterServes (old : meter.State) (d : Datagram) (sent : List Datagram) (new : meter.State) : Type 0 where

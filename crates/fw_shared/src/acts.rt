@@ -2,7 +2,8 @@
 //!
 //! A meter, or a shard of the rows of a head end, stands behind its lock in a type of this file, whose steps leave an `Act`. An act
 //! can't be let go of, and nothing but `Act::record` ends it: that appends the event to the log, once, and notes the receipt. So a
-//! step of a core, an event in the record and a receipt are made one for one.
+//! step of a core, an event in the record and a receipt are made one for one. `Act::record` borrows the guard of the lock, and asks
+//! that what the step left stands behind it. So the lock is held from the step until the event stands in the record.
 //!
 //! The lock of a meter or of a shard is taken first, and that of the log inside it. No two meters or shards are ever held by one
 //! call.
@@ -28,6 +29,7 @@ ghost use Rattle.std.specs.Prelude.{
   true,
   false,
 };
+ghost use Rattle.std.specs.Sync.Mutex.{mutex_guard_value};
 ghost use Rattle.std.specs.Vec.{vec_len, vec_capacity};
 ghost use Rattle.fw_air.specs.Rounds.{is_verifying};
 ghost use Rattle.fw_book.specs.Contents.{image_in};
@@ -54,38 +56,47 @@ use fw_store::ImageStore;
 use fw_world::{Actor, Datagram, Direction, StepError};
 use std::alloc::{AllocError, Global};
 use std::marker::Model;
-use std::sync::Wait;
+use std::snapshot::Snapshot;
+use std::sync::{MutexGuard, Wait};
 
-/// What a core did, and what isn't in the record yet: the event, and room with the datagrams that it sends. It can't be let go of
-/// but by `record`.
-pub(crate) struct Act {
+/// What a core did under its lock, and what isn't in the record yet: the event, room with the datagrams that it sends, and, for
+/// contracts alone, what it left behind the lock. It can't be let go of but by `record`.
+pub(crate) struct Act<T> {
     event: CoreEvent,
     room: Room,
+    left: Snapshot<T>,
 }
 
-impl Model for Act {
+impl<T> Model for Act<T> {
     ghost use Rattle.fw_air.specs.Events.{core_event_of};
     ghost use Rattle.fw_shared.specs.Acts as acts;
 
-    ghost Value = { acts.Act };
+    ghost Value = { acts.Act T };
 
-    ghost view = { λ a. record { event = core_event_of a.event; sent = a.room } };
+    ghost view = { λ a. record { event = core_event_of a.event; sent = a.room; left = a.left.value } };
 }
 
-impl Act {
-    /// Appends it to the log, once, and notes the receipt under the number that it has there. It asks for room for the receipt.
+impl<T> Act<T> {
+    /// Appends it to the log, once, and notes the receipt under the number that it has there. It asks for room for the receipt, and
+    /// that what the core left stands behind the lock of this guard, which is held until the event stands in the log.
     pub(crate) fn record<R: Wait>(
         self,
         rt: &R,
         log: &SharedLog,
+        _guard: &MutexGuard<'_, T>,
         receipts: &mut Vec<Receipt>,
     ) -> Sent
-        requires { vec_len receipts.old < vec_capacity receipts.old }
+        requires room { vec_len receipts.old < vec_capacity receipts.old }
+        requires held { mutex_guard_value _guard.now ≡ self.left }
         ensures noted { receipts.new.items
             ≡ receipts.old.items ++ (record { number = result.event; event = self.event }) ∷ [] }
         ensures sent { result.count ≡ length self.sent }
     {
-        let Act { event, room } = self;
+        let Act {
+            event,
+            room,
+            left: _left,
+        } = self;
         let (sent, stub) = log.append(rt, room, event);
         let (number, event) = stub.spend();
         receipts.push_reserved(Receipt { number, event });
@@ -127,11 +138,12 @@ impl<S: ImageStore + Drop> GuardedMeter<S> {
         number: usize,
         datagram: &Datagram,
         room: Room,
-    ) -> Result<Act, fw_meter::OutOfMemory>
+    ) -> Result<Act<GuardedMeter<S>>, fw_meter::OutOfMemory>
         requires addressee { addressee datagram.now ≡ actor.Meter meter }
         requires empty { room ≡ [] }
         ensures event { IfOk result (λ act. act.event ≡ deliver number) }
         ensures step { IfOk result (λ act. MeterServes self.old.core datagram.now act.sent self.new.core) }
+        ensures left { IfOk result (λ act. act.left ≡ self.new) }
         ensures few { IfOk result (λ act. length act.sent ≤ 1) }
         ensures same { OnErr result (self.new.core ≡ self.old.core) }
     {
@@ -139,13 +151,15 @@ impl<S: ImageStore + Drop> GuardedMeter<S> {
         let mut room = room;
         reply(&mut room, datagram, meter, handled.reply);
         let event = CoreEvent::Deliver(number);
-        Ok(Act { event, room })
+        let left = Snapshot::of(self);
+        Ok(Act { event, room, left })
     }
 
     /// A turn of this meter, where it verifies. In every other status it is left as it is, and there is no act.
-    pub(crate) fn turn(&mut self, meter: MeterId, room: Room) -> Option<Act>
+    pub(crate) fn turn(&mut self, meter: MeterId, room: Room) -> Option<Act<GuardedMeter<S>>>
         requires { room ≡ [] }
-        ensures made { IfSome result (λ act. act ≡ record { event = turn meter; sent = [] }) }
+        ensures made { IfSome result (λ act. (act.event ≡ turn meter) × (act.sent ≡ [])) }
+        ensures left { IfSome result (λ act. act.left ≡ self.new) }
         ensures step { IfSome result (λ act. Turns self.old.core self.new.core) }
         ensures verifying { IfSome result (λ act. is_verifying self.old.core.meter.phase ≡ true) }
         ensures otherwise { IfNone result (is_verifying self.old.core.meter.phase ≡ false) }
@@ -156,7 +170,8 @@ impl<S: ImageStore + Drop> GuardedMeter<S> {
         }
         self.core.turn();
         let event = CoreEvent::Turn(meter);
-        Some(Act { event, room })
+        let left = Snapshot::of(self);
+        Some(Act { event, room, left })
     }
 
     /// Whether it goes on with a verification.
@@ -224,24 +239,27 @@ impl Shard {
         width: Width,
         meter: MeterId,
         room: Room,
-    ) -> Result<Act, fw_head::OutOfMemory>
+    ) -> Result<Act<Shard>, fw_head::OutOfMemory>
         requires { room ≡ [] }
         ensures event { IfOk result (λ act. act.event ≡ tick book.now.head meter) }
         ensures step { IfOk result (λ act. RowsTick book.now width meter self.old.rows.items act.sent self.new.rows.items) }
+        ensures left { IfOk result (λ act. act.left ≡ self.new) }
         ensures few { IfOk result (λ act. length act.sent ≤ 15) }
         ensures same { OnErr result (self.new.rows.items ≡ self.old.rows.items) }
     {
         let head = book.head();
         let event = CoreEvent::Tick(head, meter);
         let Some(at) = self.place(meter) else {
-            return Ok(Act { event, room });
+            let left = Snapshot::of(self);
+            return Ok(Act { event, room, left });
         };
         let row = &mut self.rows[at];
         let image = image_of(book, row.name().campaign);
         let sends = row.tick(alloc, image, width)?;
         let mut room = room;
         send(&mut room, head, meter, sends);
-        Ok(Act { event, room })
+        let left = Snapshot::of(self);
+        Ok(Act { event, room, left })
     }
 
     /// The live row of the meter that sent the datagram of this number, if it has one, hears it. A row that has ended hears nothing:
@@ -256,21 +274,25 @@ impl Shard {
         number: usize,
         datagram: &Datagram,
         room: Room,
-    ) -> Result<(Act, News), fw_head::OutOfMemory>
+    ) -> Result<(Act<Shard>, News), fw_head::OutOfMemory>
         requires { room ≡ [] }
-        ensures act { IfOk result (λ heard. heard.0 ≡ record { event = deliver number; sent = [] }) }
+        ensures act { IfOk result (λ heard. (heard.0.event ≡ deliver number) × (heard.0.sent ≡ [])) }
         ensures step { IfOk result (λ heard. RowsHear self.old.rows.items datagram.now heard.1 self.new.rows.items) }
+        ensures left { IfOk result (λ heard. heard.0.left ≡ self.new) }
         ensures same { OnErr result (self.new.rows.items ≡ self.old.rows.items) }
     {
         let event = CoreEvent::Deliver(number);
         let meter = datagram.meter;
         let Some(at) = self.place(meter) else {
-            return Ok((Act { event, room }, News::Nothing));
+            let left = Snapshot::of(self);
+            return Ok((Act { event, room, left }, News::Nothing));
         };
         let row = &mut self.rows[at];
         let campaign = row.name().campaign;
         let told = row.hear(alloc, &datagram.bytes)?;
-        Ok((Act { event, room }, news_of(campaign, meter, told)))
+        let left = Snapshot::of(self);
+        let act = Act { event, room, left };
+        Ok((act, news_of(campaign, meter, told)))
     }
 }
 

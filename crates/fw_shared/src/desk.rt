@@ -118,7 +118,7 @@ impl Desk {
         let room = log.reserve(alloc)?;
         let mut shard = self.shard(meter).lock(rt);
         let act = shard.tick(alloc, &self.book, self.width, meter, room)?;
-        Ok(act.record(rt, log, &mut seat.receipts))
+        Ok(act.record(rt, log, &shard, &mut seat.receipts))
     }
 
     /// Hears the datagram of this number, which is for this head end: a delivery, for which the seat has a receipt. Where a meter
@@ -147,7 +147,7 @@ impl Desk {
         let room = log.reserve(alloc)?;
         let mut shard = self.shard(datagram.meter).lock(rt);
         let (act, told) = shard.hear(alloc, number, &datagram, room)?;
-        act.record(rt, log, &mut seat.receipts);
+        act.record(rt, log, &shard, &mut seat.receipts);
         drop(shard);
         mark_done(board, seat, &told);
         Ok(told)

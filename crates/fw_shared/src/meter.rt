@@ -81,7 +81,7 @@ impl<S: ImageStore + Drop> SharedMeter<S> {
         let room = log.reserve(alloc)?;
         let mut core = self.core.lock(rt);
         let act = core.handle(alloc, self.meter, number, &datagram, room)?;
-        Ok(act.record(rt, log, &mut seat.receipts))
+        Ok(act.record(rt, log, &core, &mut seat.receipts))
     }
 
     /// A turn of the meter, where it verifies: the seat has a receipt for it. In every other status nothing is done, and no event
@@ -107,7 +107,7 @@ impl<S: ImageStore + Drop> SharedMeter<S> {
         let Some(act) = core.turn(self.meter, room) else {
             return Ok(false);
         };
-        act.record(rt, log, &mut seat.receipts);
+        act.record(rt, log, &core, &mut seat.receipts);
         Ok(true)
     }
 

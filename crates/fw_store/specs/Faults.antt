@@ -1,6 +1,7 @@
 -- Public vocabulary: when a call on a store fails, and what each call keeps.
 use Rattle.std.specs.Prelude.{◌≡◌, ◌↔◌, ℕ, ◌+◌, ◌-◌, ◌≤◌, ◌^◌, min, Bool, true, false, IsTrue, IsOk, is_ok, Result, Option, Some}
 use Rattle.fw_store.specs.declared.error.StoreFault.{StoreFault}
+use Rattle.fw_store.specs.declared.fuse.Fuse.{Fuse}
 
 -- the greatest count of faults: it stays there
 abbrev pub most_faults : ℕ
@@ -24,8 +25,8 @@ pub record HasCause {T : Type 0} (sound : Bool) (before after : ℕ) (result : R
   pub counted : after ≡ count_after (is_ok result) before
   pub never : IsTrue sound → IsOk result
 
--- What so many calls make of the number of calls that are left before all fail, where that is known: none of them failed just if as many
--- were left, and they are used up. Calls that end with one that failed are counted as many as there would have been.
-pub record Spends (calls : ℕ) (old new : Option ℕ) (faultless : Bool) : Type 0 where
-  pub told : (left : ℕ) → old ≡ Some left → IsTrue faultless ↔ (calls ≤ left)
-  pub used : (left : ℕ) → old ≡ Some left → new ≡ Some (left - calls)
+-- What N calls make of a fuse, where it is known: none of them failed just if as many were left, and they are used up. Calls that end
+-- with one that failed are counted as many as there would have been.
+pub record Spends (calls : ℕ) (old new : Option Fuse) (faultless : Bool) : Type 0 where
+  pub told : (fuse : Fuse) → old ≡ Some fuse → IsTrue faultless ↔ (calls ≤ fuse.calls)
+  pub used : (fuse : Fuse) → old ≡ Some fuse → new ≡ Some (record fuse { calls = fuse.calls - calls })

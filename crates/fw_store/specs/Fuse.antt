@@ -12,11 +12,6 @@ abbrev pub burnt : Option Fuse → Option Fuse
 burnt None = None
 burnt (Some fuse) = Some (record fuse { calls = fuse.calls - 1 })
 
--- how many calls succeed before all fail
-abbrev pub calls_in : Option Fuse → Option ℕ
-calls_in None = None
-calls_in (Some fuse) = Some fuse.calls
-
 -- the byte that a failing write leaves
 abbrev pub torn_of : Option Fuse → ℕ
 torn_of None = 0

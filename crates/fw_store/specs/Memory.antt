@@ -2,7 +2,7 @@
 use Rattle.std.specs.Prelude.{◌≡◌, ℕ, length, Bool, Option, is_none}
 use Rattle.fw_store.specs.Device.{Device, slot_bytes}
 use Rattle.fw_store.specs.Versions.{bytes_of}
-use Rattle.fw_store.specs.Fuse.{lets_through, burnt, calls_in}
+use Rattle.fw_store.specs.Fuse.{lets_through, burnt}
 use Rattle.fw_store.specs.declared.fuse.Fuse.{Fuse}
 use Rattle.fw_store.specs.declared.slot.Slot.{Slot}
 use Rattle.fw_store.specs.declared.slot.Slot.TheVariants.{First, Second}
@@ -22,10 +22,6 @@ faults_of m = m.fault_count
 
 abbrev pub fuse_of : MemoryStore → Option Fuse
 fuse_of m = m.fuse
-
--- how many of its calls succeed before all fail
-abbrev pub calls_left_of : MemoryStore → Option ℕ
-calls_left_of m = calls_in (fuse_of m)
 
 -- no fuse is set
 abbrev pub is_sound : MemoryStore → Bool

@@ -2,8 +2,10 @@
 use Rattle.std.specs.Prelude.{◌≡◌, ◌≢◌, ◌⊎◌, ℕ, ◌+◌, ◌<◌, ◌≤◌, Bool, true, false, List, Option, length, take, drop, slice_range}
 use Rattle.fw_store.specs.Device.{Device, slot_bytes, with_head, splice, written}
 use Rattle.fw_store.specs.Faults.{most_faults, count_after, Spends}
+use Rattle.fw_store.specs.Fuse.{half_torn}
 use Rattle.fw_store.specs.StoreBytes.{IsStore, HoldsStore, device_at}
 use Rattle.fw_store.specs.Versions.{header_size}
+use Rattle.fw_store.specs.declared.fuse.Fuse.{Fuse}
 use Rattle.fw_store.specs.declared.slot.Slot.{Slot}
 use Rattle.fw_store.specs.declared.version.HeaderVersion.{HeaderVersion}
 
@@ -55,11 +57,15 @@ DeviceIsRead = (d : Device) (version : HeaderVersion) (capacity : ℕ) (bytes : 
 abbrev pub FaultsShow : Type 0
 FaultsShow = (count : ℕ) → count < most_faults → count < count_after false count
 
+-- what a write that failed half way leaves has the size of what was to be written
+abbrev pub TornSize : Type 0
+TornSize = (bytes : List ℕ) (torn : ℕ) → length (half_torn bytes torn) ≡ length bytes
+
 -- calls behind calls of which none failed are so many calls together
 abbrev pub CallsAdd : Type 0
-CallsAdd = (calls more : ℕ) (old between new : Option ℕ) (faultless : Bool) → Spends calls old between true → Spends more between new faultless
+CallsAdd = (calls more : ℕ) (old between new : Option Fuse) (faultless : Bool) → Spends calls old between true → Spends more between new faultless
     → Spends (calls + more) old new faultless
 
 -- behind a call that failed, those that are not made are counted like it
 abbrev pub CallsEnd : Type 0
-CallsEnd = (calls all : ℕ) (old new : Option ℕ) → calls ≤ all → Spends calls old new false → Spends all old new false
+CallsEnd = (calls all : ℕ) (old new : Option Fuse) → calls ≤ all → Spends calls old new false → Spends all old new false

@@ -351,7 +351,7 @@ fn replace_header<D: ByteDevice>(
     device.replace_both(HEADER_AT, front, tail_at(capacity), last)
 }
 
-// How many calls a device has left is not known.
+// Of a device no fuse is known.
 impl<D: ByteDevice> ImageStore for DeviceStore<D> {
     ghost use Rattle.std.specs.Prelude.{◌&&◌, None};
     ghost use Rattle.fw_store.specs.Faults.{Keeps, HasCause, Spends};
@@ -367,7 +367,7 @@ impl<D: ByteDevice> ImageStore for DeviceStore<D> {
 
     ghost faults = { λ s. s.fault_count };
 
-    ghost calls_left = { λ _. None };
+    ghost fuse = { λ _. None };
 
     ghost sized = { λ s slot h. slot_size s.tail s.capacity (D.contents s.device) (s.laid_out h) slot };
 

@@ -3,15 +3,16 @@
 ghost use Rattle.std.specs.Prelude.{◌≡◌, ◌-◌, ◌≤◌, ◌+◌, length, replicate, is_ok, is_none, IsTrue, IsOk};
 ghost use Rattle.fw_store.specs.Device.{splice};
 ghost use Rattle.fw_store.specs.Faults.{count_after, Spends};
-ghost use Rattle.fw_store.specs.Fuse.{lets_through, burnt, calls_in, torn_of, half_torn};
+ghost use Rattle.fw_store.specs.Fuse.{lets_through, burnt, torn_of, half_torn};
 
 use crate::error::StoreFault;
 
-/// So many calls succeed, and then all fail. A write that fails fills the second half of its range with `torn`.
+/// What makes a store fail: `calls` calls of it succeed, and all later ones fail. A write that fails leaves the first half of its
+/// bytes, rounded down, and `torn` in the rest of its range.
 #[derive(Clone, Copy, Debug, PartialEq, Eq)]
-pub(crate) struct Fuse {
-    pub(crate) calls: u64,
-    pub(crate) torn: u8,
+pub struct Fuse {
+    pub calls: u64,
+    pub torn: u8,
 }
 
 /// One call of the device: it burns the fuse, and is counted where it fails.
@@ -19,7 +20,7 @@ pub(crate) fn burn(fuse: &mut Option<Fuse>, faults: &mut u64) -> Result<(), Stor
     ensures through { is_ok result ≡ lets_through fuse.old }
     ensures burns { fuse.new ≡ burnt fuse.old }
     ensures counts { faults.new ≡ count_after (is_ok result) faults.old }
-    ensures spends { Spends 1 (calls_in fuse.old) (calls_in fuse.new) (is_ok result) }
+    ensures spends { Spends 1 fuse.old fuse.new (is_ok result) }
 
     // So the count never falls, and without a fuse no call fails.
     ensures later { faults.old ≤ faults.new }

@@ -11,6 +11,7 @@ ghost use Rattle.fw_store.specs.StoreLaws.{
   FieldsJoin,
   DeviceIsRead,
   FaultsShow,
+  TornSize,
   CallsAdd,
   CallsEnd,
 };
@@ -94,7 +95,12 @@ pub fn faults_show()
     ensures { FaultsShow }
 {}
 
-/// Calls behind others are counted together with them.
+/// A write that failed half way leaves as many bytes as were to be written.
+pub fn torn_size()
+    ensures { TornSize }
+{}
+
+/// Calls after others are counted together with them.
 pub fn calls_add()
     ensures { CallsAdd }
 {}

@@ -23,6 +23,7 @@ pub use device::{ByteDevice, DeviceFault};
 pub use device_store::DeviceStore;
 pub use error::{FileStoreError, SetupError, StoreFault};
 pub use file::{FileDevice, FileStore};
+pub use fuse::Fuse;
 pub use header::{Goal, Header, StoredStatus};
 pub use memory::MemoryStore;
 pub use setup::{MAX_CAPACITY, is_setup};

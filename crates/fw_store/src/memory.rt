@@ -3,7 +3,7 @@
 ghost use Rattle.std.specs.Prelude.{◌≡◌, ◌+◌, ◌≤◌, length, IfOk, OnOk, OnErr, is_ok, slice_range};
 ghost use Rattle.fw_store.specs.Device.{slot_bytes, with_head, written, Torn};
 ghost use Rattle.fw_store.specs.Faults.{Keeps, HasCause, Spends};
-ghost use Rattle.fw_store.specs.Fuse.{torn_of, half_torn};
+ghost use Rattle.fw_store.specs.Fuse.{half_torn};
 ghost use Rattle.fw_store.specs.Versions.{bytes_of};
 
 use crate::error::{SetupError, StoreFault};
@@ -144,16 +144,15 @@ impl MemoryStore {
     }
 }
 
-// Each call of the device has two more clauses than any store's: `fused` says exactly when it fails, and `halves` what a
-// failing write leaves.
+// Each call of the device has one more clause than any store's: `fused` says exactly when it fails.
 impl ImageStore for MemoryStore {
-    ghost use Rattle.std.specs.Prelude.{true};
+    ghost use Rattle.std.specs.Prelude.{true, Some};
+    ghost use Rattle.fw_store.specs.declared.fuse.Fuse.{Fuse};
     ghost use Rattle.fw_store.specs.Memory.{
       device_of,
       capacity_of,
       faults_of,
       fuse_of,
-      calls_left_of,
       is_sound,
       slot_size,
       IsFused,
@@ -169,7 +168,7 @@ impl ImageStore for MemoryStore {
 
     ghost faults = { faults_of };
 
-    ghost calls_left = { calls_left_of };
+    ghost fuse = { fuse_of };
 
     ghost sized = { λ m slot _. slot_size m slot };
 
@@ -186,7 +185,7 @@ impl ImageStore for MemoryStore {
         ensures same { device_of self.new ≡ device_of self.old }
         ensures kept { Keeps (λ _. true) is_sound capacity_of faults_of self.old self.new }
         ensures cause { HasCause (is_sound self.old) (faults_of self.old) (faults_of self.new) result }
-        ensures spends { Spends 1 (calls_left_of self.old) (calls_left_of self.new) (is_ok result) }
+        ensures spends { Spends 1 (fuse_of self.old) (fuse_of self.new) (is_ok result) }
         ensures fused { IsFused self.old self.new (is_ok result) }
     {
         burn(&mut self.fuse, &mut self.fault_count)?;
@@ -198,7 +197,7 @@ impl ImageStore for MemoryStore {
         ensures same { OnErr result (device_of self.new ≡ device_of self.old) }
         ensures kept { Keeps (λ _. true) is_sound capacity_of faults_of self.old self.new }
         ensures cause { HasCause (is_sound self.old) (faults_of self.old) (faults_of self.new) result }
-        ensures spends { Spends 1 (calls_left_of self.old) (calls_left_of self.new) (is_ok result) }
+        ensures spends { Spends 1 (fuse_of self.old) (fuse_of self.new) (is_ok result) }
         ensures fused { IsFused self.old self.new (is_ok result) }
     {
         burn(&mut self.fuse, &mut self.fault_count)?;
@@ -212,7 +211,7 @@ impl ImageStore for MemoryStore {
         ensures same { device_of self.new ≡ device_of self.old }
         ensures kept { Keeps (λ _. true) is_sound capacity_of faults_of self.old self.new }
         ensures cause { HasCause (is_sound self.old) (faults_of self.old) (faults_of self.new) result }
-        ensures spends { Spends 1 (calls_left_of self.old) (calls_left_of self.new) (is_ok result) }
+        ensures spends { Spends 1 (fuse_of self.old) (fuse_of self.new) (is_ok result) }
         ensures fused { IsFused self.old self.new (is_ok result) }
     {
         burn(&mut self.fuse, &mut self.fault_count)?;
@@ -230,10 +229,10 @@ impl ImageStore for MemoryStore {
         ensures torn { OnErr result (Torn (device_of self.old) slot at (length bytes.now) (device_of self.new)) }
         ensures kept { Keeps (λ _. true) is_sound capacity_of faults_of self.old self.new }
         ensures cause { HasCause (is_sound self.old) (faults_of self.old) (faults_of self.new) result }
-        ensures spends { Spends 1 (calls_left_of self.old) (calls_left_of self.new) (is_ok result) }
+        ensures spends { Spends 1 (fuse_of self.old) (fuse_of self.new) (is_ok result) }
         ensures fused { IsFused self.old self.new (is_ok result) }
-        ensures halves { OnErr result (device_of self.new
-            ≡ written (device_of self.old) slot at (half_torn bytes.now (torn_of (fuse_of self.old)))) }
+        ensures halves { (set : Fuse) → fuse_of self.old ≡ Some set
+            → OnErr result (device_of self.new ≡ written (device_of self.old) slot at (half_torn bytes.now set.torn)) }
     {
         let torn = torn_byte(&self.fuse);
         let passed = burn(&mut self.fuse, &mut self.fault_count);

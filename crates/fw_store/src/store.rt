@@ -1,9 +1,11 @@
 //! What an image store is.
 
-ghost use Rattle.std.specs.Prelude.{◌≡◌, ◌+◌, ◌≤◌, ℕ, Bool, Option, IsTrue, IfOk, OnOk, OnErr, is_ok, length, slice_range};
+ghost use Rattle.std.specs.Prelude.{◌≡◌, ◌+◌, ◌≤◌, ℕ, Bool, Option, Some, IsTrue, IfOk, OnOk, OnErr, is_ok, length, slice_range};
 ghost use Rattle.fw_store.specs.Device.{Device, slot_bytes, with_head, written, Torn};
 ghost use Rattle.fw_store.specs.Faults.{Keeps, HasCause, Spends};
 ghost use Rattle.fw_store.specs.Versions.{bytes_of};
+ghost use Rattle.fw_store.specs.Fuse.{half_torn};
+ghost use Rattle.fw_store.specs.declared.fuse.Fuse.{Fuse};
 ghost use Rattle.fw_store.specs.declared.slot.Slot.{Slot};
 
 use crate::error::StoreFault;
@@ -32,8 +34,8 @@ pub trait ImageStore {
 
     ghost faults: { Self → ℕ };
 
-    /// How many calls succeed before all fail, where that is known.
-    ghost calls_left: { Self → Option ℕ };
+    /// How many calls succeed before all fail, and the byte that a failing write leaves, where that is known.
+    ghost fuse: { Self → Option Fuse };
 
     /// The size of each slot in bytes.
     fn capacity(&self) -> u32
@@ -53,7 +55,7 @@ pub trait ImageStore {
         ensures same { IsTrue (honest self.old) → device self.new ≡ device self.old }
         ensures kept { Keeps honest sound capacity faults self.old self.new }
         ensures cause { HasCause (sound self.old) (faults self.old) (faults self.new) result }
-        ensures spends { Spends 1 (calls_left self.old) (calls_left self.new) (is_ok result) };
+        ensures spends { Spends 1 (fuse self.old) (fuse self.new) (is_ok result) };
 
     /// Replaces the header, of either version, by one of either.
     ///
@@ -66,7 +68,7 @@ pub trait ImageStore {
         ensures same { IsTrue (honest self.old) → OnErr result (device self.new ≡ device self.old) }
         ensures kept { Keeps honest sound capacity faults self.old self.new }
         ensures cause { HasCause (sound self.old) (faults self.old) (faults self.new) result }
-        ensures spends { Spends 1 (calls_left self.old) (calls_left self.new) (is_ok result) };
+        ensures spends { Spends 1 (fuse self.old) (fuse self.new) (is_ok result) };
 
     /// Fills `out` with the bytes of a slot from `at` on.
     ///
@@ -80,22 +82,25 @@ pub trait ImageStore {
         ensures same { IsTrue (honest self.old) → device self.new ≡ device self.old }
         ensures kept { Keeps honest sound capacity faults self.old self.new }
         ensures cause { HasCause (sound self.old) (faults self.old) (faults self.new) result }
-        ensures spends { Spends 1 (calls_left self.old) (calls_left self.new) (is_ok result) };
+        ensures spends { Spends 1 (fuse self.old) (fuse self.new) (is_ok result) };
 
     /// Writes bytes into a slot from `at` on.
     ///
     /// # Errors
     ///
-    /// `StoreFault` where the device failed. Any bytes may then stand in their place.
+    /// `StoreFault` where the device failed. Any bytes may then stand in their place; those of a store with a fuse are the first half
+    /// of the bytes, rounded down, and the fuse's byte in the rest.
     fn write(&mut self, slot: Slot, at: u32, bytes: &[u8]) -> Result<(), StoreFault>
         requires { at + length bytes.now ≤ capacity self.old }
         ensures done { IsTrue (honest self.old)
             → OnOk result (device self.new ≡ written (device self.old) slot at bytes.now) }
         ensures torn { IsTrue (honest self.old)
             → OnErr result (Torn (device self.old) slot at (length bytes.now) (device self.new)) }
+        ensures halves { IsTrue (honest self.old) → (set : Fuse) → fuse self.old ≡ Some set
+            → OnErr result (device self.new ≡ written (device self.old) slot at (half_torn bytes.now set.torn)) }
         ensures kept { Keeps honest sound capacity faults self.old self.new }
         ensures cause { HasCause (sound self.old) (faults self.old) (faults self.new) result }
-        ensures spends { Spends 1 (calls_left self.old) (calls_left self.new) (is_ok result) };
+        ensures spends { Spends 1 (fuse self.old) (fuse self.new) (is_ok result) };
 
     /// Each slot of an honest store has the capacity.
     ghost sized: { (s : Self) (slot : Slot) → IsTrue (honest s) → length (slot_bytes (device s) slot) ≡ capacity s };

@@ -81,7 +81,7 @@ impl Digesting {
         ensures same { IsTrue (S.honest store.old) → S.device store.new ≡ S.device store.old }
         ensures kept { Keeps S.honest S.sound S.capacity S.faults store.old store.new }
         ensures cause { HasCause (S.sound store.old) (S.faults store.old) (S.faults store.new) result }
-        ensures spends { Spends (reads_left self.old) (S.calls_left store.old) (S.calls_left store.new) (is_ok result) }
+        ensures spends { Spends (reads_left self.old) (S.fuse store.old) (S.fuse store.new) (is_ok result) }
     {
         if self.taken == self.size {
             return Ok(true);
@@ -118,7 +118,7 @@ pub fn digest<S: ImageStore>(store: &mut S, slot: Slot, size: u32) -> Result<[u8
     ensures cause { HasCause (S.sound store.old) (S.faults store.old) (S.faults store.new) result }
 
     // Each slice is read once.
-    ensures spends { Spends (slice_count size) (S.calls_left store.old) (S.calls_left store.new) (is_ok result) }
+    ensures spends { Spends (slice_count size) (S.fuse store.old) (S.fuse store.new) (is_ok result) }
 {
     laws::calls_add();
     laws::calls_end();
@@ -144,7 +144,7 @@ fn take_slice<S: ImageStore>(
     ensures same { IsTrue (S.honest store.old) → S.device store.new ≡ S.device store.old }
     ensures kept { Keeps S.honest S.sound S.capacity S.faults store.old store.new }
     ensures cause { HasCause (S.sound store.old) (S.faults store.old) (S.faults store.new) result }
-    ensures spends { Spends 1 (S.calls_left store.old) (S.calls_left store.new) (is_ok result) }
+    ensures spends { Spends 1 (S.fuse store.old) (S.fuse store.new) (is_ok result) }
 {
     let mut buffer = [0; SLICE_SIZE as usize];
     let slice = &mut buffer[..count as usize];

@@ -38,6 +38,8 @@ struct Fated<'a> {
 }
 
 impl<'a> Hand for Fated<'a> {
+    ghost may_end = { λ _ _. Unit {0} };
+
     fn rounds<R: Wait, G: Gate>(
         &mut self,
         rt: &R,

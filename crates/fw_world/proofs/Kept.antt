@@ -1,6 +1,6 @@
 -- What every step keeps, and so every run.
 use Rattle.std.proofs.Common.{◌≡◌, ℕ, inl, inr, List, [], ◌∷◌, Some, refl, sym, ◌∙◌, ap, subst, arith, All, AllPairs, Contains}
-use Rattle.std.proofs.lemmas.List.Elements.{All-nil, All-contains}
+use Rattle.std.proofs.lemmas.List.Elements.{All-nil, All-contains, All-weaker}
 use Rattle.sha2.proofs.Facts256.{length-sha256}
 use Rattle.fw_names.specs.Laws as names
 use Rattle.fw_names.specs.Name.{Name, factory}
@@ -13,9 +13,9 @@ use Rattle.fw_image.specs.Meter.{Meter, reopened, restarted}
 use Rattle.fw_meter.specs.Laws.{TellsRunning}
 use Rattle.fw_world.specs.declared.datagram.Direction.{Direction}
 use Rattle.fw_world.specs.declared.datagram.Direction.TheVariants.{ToMeter, ToHead}
-use Rattle.fw_world.specs.World.{Activation, World}
+use Rattle.fw_world.specs.World.{Activation, Datagram, World}
 use Rattle.fw_world.specs.Step.{Event, open_campaign, cancel_campaign, tick, deliver, stop, restart_meter, stop_restart, restart_head, turn, Delivers, WorldStep, IsOpening, Run}
-use Rattle.fw_world.specs.Headline.{FirstNames, IsFactoryName, IsFirstName, InitiatesOffered, TellsOwn, IsSafe, NeverFalls, ActivationsAreEqual}
+use Rattle.fw_world.specs.Headline.{FirstNames, IsFactoryName, IsFirstName, IsOwn, InitiatesOffered, TellsOwn, IsSafe, NeverFalls, ActivationsAreEqual}
 use Rattle.fw_world.specs.Laws.{AfterEachRun, IsSafeWorld, EveryStepIsSafe}
 use Rattle.fw_world.proofs.SafeMeters.{IsSafeMeter, none_held, reopened_safe, restarted_safe, turn_safe}
 use Rattle.fw_world.proofs.Events.{at_number, world_of, meter_of, meter_safe, open_safe, tick_safe, serves_safe, stop_safe, marks_safe}
@@ -92,6 +92,31 @@ module _ (sizes : JoinedSize) (one_name : names.OneName) (size : names.SpellingS
 
   pub every_run_is_safe : AfterEachRun (λ opening w. IsSafeWorld (IsFirstName opening) w)
   every_run_is_safe opening w events o r = run_safe (IsFirstName opening) (first_is_factory opening o) opening w events r (opening_safe opening o)
+
+  -- a first name is a factory's, so that each further step keeps it
+  first_weaker : (opening : World) → IsOpening opening → (activations : List Activation) (number : ℕ) (name : Name) → IsOwn (IsFirstName opening) activations number name → IsOwn IsFactoryName activations number name
+  first_weaker opening o activations number name (inl f) = inl (first_is_factory opening o number name f)
+  first_weaker opening o activations number name (inr had) = inr had
+
+  told_weaker : (opening : World) → IsOpening opening → (activations : List Activation) (d : Datagram) → TellsOwn (IsFirstName opening) activations d → TellsOwn IsFactoryName activations d
+  told_weaker opening o activations d h invoke bytes way carries size =
+      let own = h invoke bytes way carries size in
+      (own.0, own.1, first_weaker opening o activations d.meter own.0 own.2)
+
+  pub every_run_is_safe_on : AfterEachRun (λ opening w. IsSafeWorld IsFactoryName w)
+  every_run_is_safe_on opening w events o r =
+      let k = every_run_is_safe opening w events o r in
+      record {
+        sound = k.sound;
+        initiates = k.initiates;
+        names = record {
+          running = λ number meter e. first_weaker opening o w.activations number meter.running.name (k.names.running number meter e);
+          told = All-weaker (TellsOwn (IsFirstName opening) w.activations) (TellsOwn IsFactoryName w.activations) (told_weaker opening o w.activations) w.sent k.names.told;
+        };
+        goals = k.goals;
+        activations = k.activations;
+        releases = k.releases;
+      }
 
   pub every_run_is_equal : AfterEachRun (λ opening w. ActivationsAreEqual w)
   every_run_is_equal opening w events o r free a h =

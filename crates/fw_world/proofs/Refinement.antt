@@ -28,6 +28,7 @@ use Rattle.fw_world.specs.declared.datagram.Direction.{Direction}
 use Rattle.fw_world.specs.declared.datagram.Direction.TheVariants.{ToMeter, ToHead}
 use Rattle.fw_world.specs.World.{Datagram, Offers, World, put, same_campaign, with_meter, with_done}
 use Rattle.fw_world.specs.Step.{open_campaign, cancel_campaign, tick, deliver, stop, restart_meter, stop_restart, restart_head, turn, replies, activated, MayAsk, Permits, Serves, Marks, Delivers, StopsAt, WorldStep}
+use Rattle.fw_meter.specs.Laws.{StopAfterIsStop}
 use Rattle.fw_world.specs.State.{State, head_at, meter_at, set_head, set_meter, IsState, is_done, world_of, OpensAt, CancelsAt, sent_to, TicksAt, ServesAt, HearsAt, DeliversAt, StopsIn}
 use Rattle.fw_world.specs.Laws.{StateStepsAsWorld}
 use Rattle.fw_world.proofs.Maps.{same_campaign_is}
@@ -204,7 +205,7 @@ meter_goes old number before after there =
 
 -- ---- each event
 
-module _ (stay : ImagesStay) (offers : OpeningOffers) (follow : StatesFollowCalls) (opens : AdmittedOpens) (keeps : RowKeepsGoal) where
+module _ (stay : ImagesStay) (offers : OpeningOffers) (follow : StatesFollowCalls) (opens : AdmittedOpens) (keeps : RowKeepsGoal) (stop_is : StopAfterIsStop) where
   opened_as : (old new : State) (campaign : Campaign) (release : ℕ) (image meters : List ℕ) → IsState old → OpensAt old campaign release image meters new
       → WorldStep (world_of old) (open_campaign campaign release image meters) (world_of new)
   opened_as old new campaign release image meters is o =
@@ -312,13 +313,13 @@ module _ (stay : ImagesStay) (offers : OpeningOffers) (follow : StatesFollowCall
     new_is = ap world_of o.new_is ∙ ap (λ (w : World). (let x : World = record w { sent = old.sent ++ replies d o.reply; activations = old.activations ++ activated d.meter o.name o.after } in x)) (meter_goes old d.meter o.before o.after o.there);
   }
 
-  stopped_as : (old new : State) (d : Datagram) → StopsIn old d new → StopsAt (world_of old) d (world_of new)
-  stopped_as old new d o = record {
+  stopped_as : (old new : State) (d : Datagram) (calls torn : ℕ) → StopsIn old d calls torn new → StopsAt (world_of old) d (world_of new)
+  stopped_as old new d calls torn o = record {
     before = o.before;
     after = o.after;
     name = o.name;
     there = o.there;
-    stops = o.stops;
+    stops = stop_is calls torn o.before o.after d.bytes o.name o.stops;
     new_is = ap world_of o.new_is ∙ ap (λ (w : World). (let x : World = record w { activations = old.activations ++ activated d.meter o.name o.after } in x)) (meter_goes old d.meter o.before (image.restarted o.after) o.there);
   }
 
@@ -452,7 +453,7 @@ module _ (stay : ImagesStay) (offers : OpeningOffers) (follow : StatesFollowCall
   state_steps old new (cancel_campaign campaign) is o = cancelled_as old new campaign is o
   state_steps old new (tick head meter) is o = ticked_as old new head meter is o
   state_steps old new (deliver number) is o = (o.0, o.1, delivered_as old new o.0 o.0.direction is o.2)
-  state_steps old new (stop number calls torn) is o = (o.0, o.1, o.2, stopped_as old new o.0 o.3)
+  state_steps old new (stop number calls torn) is o = (o.0, o.1, o.2, stopped_as old new o.0 calls torn o.3)
   state_steps old new (restart_meter number) is o = (o.0, o.1, ap world_of o.2 ∙ meter_goes old number o.0 (image.restarted o.0) o.1)
   state_steps old new (stop_restart number calls torn) is o =
       (o.0, o.1, within_as old new number o.0 o.1 (nat_le (restart_calls o.0) calls) o.2)

@@ -1,6 +1,8 @@
 -- Public vocabulary: the laws of the world. They speak of definitions alone.
 use Rattle.std.specs.Prelude.{◌≡◌, ℕ, List, [], ◌∷◌, ◌++◌, is_some}
 use Rattle.fw_world.specs.World.{World}
+use Rattle.fw_world.specs.declared.setup.Setup.{Setup}
+use Rattle.fw_world.specs.Setup.{IsSetup, opening_state}
 use Rattle.fw_world.specs.State.{State, head_at, meter_at, AreAddressed, IsState, StateStep, StateRun, world_of}
 use Rattle.fw_world.specs.Step.{Event, IsOpening, WorldStep, Run}
 use Rattle.fw_world.specs.Headline.{FirstNames, IsFactoryName, IsSound, InitiatesAreOffered, NamesAreOwn, GoalsAreOffered, ActivationsAreSafe, ReleasesNeverFall}
@@ -8,6 +10,10 @@ use Rattle.fw_world.specs.Headline.{FirstNames, IsFactoryName, IsSound, Initiate
 -- what holds of each world that a run leads to, with the opening one
 abbrev pub AfterEachRun : (World → World → Type 0) → Type 0
 AfterEachRun P = (opening w : World) (events : List Event) → IsOpening opening → Run opening events w → P opening w
+
+-- the world that a setup makes is an opening one
+abbrev pub SetupOpens : Type 0
+SetupOpens = (setup : Setup) → IsSetup setup → IsOpening (world_of (opening_state setup))
 
 -- the five parts, and what the types of the parts say of each world
 pub record IsSafeWorld (IsFirst : FirstNames) (w : World) : Type 0 where

@@ -8,6 +8,7 @@ pub mod View
 pub mod Headline
 pub mod Runs
 pub mod Parts
+pub mod Done
 pub mod Laws
 -- For private clauses and models alone: no public clause cites it.
 pub mod Inside

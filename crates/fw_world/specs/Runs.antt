@@ -6,8 +6,8 @@ use Rattle.fw_world.specs.declared.event.Event.{Event as Given}
 use Rattle.fw_world.specs.declared.runs.RunError.{RunError}
 use Rattle.fw_world.specs.declared.runs.RunError.TheVariants as stopped
 use Rattle.fw_world.specs.declared.setup.Setup.{Setup}
-use Rattle.fw_world.specs.Step.{Event}
-use Rattle.fw_world.specs.State.{State, StateRun}
+use Rattle.fw_world.specs.Step.{Event, Run}
+use Rattle.fw_world.specs.State.{State, StateRun, world_of}
 use Rattle.fw_world.specs.Setup.{IsSetup, opening_state}
 use Rattle.fw_world.specs.Refusals.{IsRefused}
 use Rattle.fw_world.specs.View.{event_of}
@@ -25,7 +25,7 @@ abbrev pub IsStopped : Setup → List Given → RunError → Type 0
 IsStopped setup events (stopped.Setup error) = IsUnmade setup error
 IsStopped setup events (stopped.Event number world cause) =
     (event : Given) × (slice_get events number ≡ Some event) × StateRun (opening_state setup) (events_of (take number events)) world
-    × IsRefused world (event_of event) cause
+    × IsRefused world (event_of event) cause × Run (world_of (opening_state setup)) (events_of (take number events)) (world_of world)
 
 -- where a world was made, this holds of the one that the run ended with
 abbrev pub EndsIn : Result State RunError → (State → Type 0) → Type 0

@@ -15,7 +15,7 @@ use Rattle.fw_head.specs.declared.news.News.{News}
 use Rattle.fw_head.specs.declared.news.News.TheVariants as news
 use Rattle.fw_head.specs.Head.{Head, IsHead, IsDoneBy, IsOfferedIn, HeadHears, opened_head, cancelled_head, ticked_head, restarted, sends_to}
 use Rattle.fw_meter.specs.Handling.{Handles}
-use Rattle.fw_meter.specs.Laws.{Stops}
+use Rattle.fw_meter.specs.Stopping.{StopsAfter}
 use Rattle.fw_world.specs.declared.datagram.Direction.{Direction}
 use Rattle.fw_world.specs.declared.datagram.Direction.TheVariants.{ToMeter, ToHead}
 use Rattle.fw_world.specs.World.{Datagram, Activation, World}
@@ -121,13 +121,14 @@ abbrev pub DeliversAt : Direction → State → Datagram → State → Type 0
 DeliversAt ToMeter old d new = ServesAt old d new
 DeliversAt ToHead old d new = HearsAt old d new
 
--- a meter stops while it handles a datagram, and is opened again
-pub record StopsIn (old : State) (d : Datagram) (new : State) : Type 0 where
+-- A meter stops while it handles a datagram, after this many calls of its store, with this byte in what was being written, and is opened
+-- again.
+pub record StopsIn (old : State) (d : Datagram) (calls torn : ℕ) (new : State) : Type 0 where
   pub before : Meter
   pub after : Meter
   pub name : Option Name
   pub there : meter_at old d.meter ≡ Some before
-  pub stops : Stops before d.bytes name after
+  pub stops : StopsAfter calls torn before d.bytes name after
   pub new_is : new ≡ record (set_meter old d.meter (image.restarted after)) { activations = old.activations ++ activated d.meter name after }
 
 -- a meter that stops after `calls` calls of its store while it restarts, and is opened with the header that is there
@@ -139,7 +140,7 @@ StateStep old (open_campaign campaign release image meters) new = OpensAt old ca
 StateStep old (cancel_campaign campaign) new = CancelsAt old campaign new
 StateStep old (tick head meter) new = TicksAt old head meter new
 StateStep old (deliver number) new = (d : Datagram) × (slice_get old.sent number ≡ Some d) × DeliversAt d.direction old d new
-StateStep old (stop number calls torn) new = (d : Datagram) × (slice_get old.sent number ≡ Some d) × (d.direction ≡ ToMeter) × StopsIn old d new
+StateStep old (stop number calls torn) new = (d : Datagram) × (slice_get old.sent number ≡ Some d) × (d.direction ≡ ToMeter) × StopsIn old d calls torn new
 StateStep old (restart_meter number) new = (meter : Meter) × (meter_at old number ≡ Some meter) × (new ≡ set_meter old number (image.restarted meter))
 StateStep old (stop_restart number calls torn) new =
     (meter : Meter) × (meter_at old number ≡ Some meter) × (new ≡ set_meter old number (restarted_within calls meter))

@@ -1,7 +1,17 @@
 //! Laws of the world, over the definitions alone. A caller cites a law by calling it: nothing is done.
 
-ghost use Rattle.fw_world.specs.Laws.{AfterEachRun, EveryStepIsSafe, StateStepsAsWorld, ActorsStay, SentStaysAddressed, RunGoesOn};
+ghost use Rattle.fw_world.specs.Laws.{
+  AfterEachRun,
+  IsSafeWorld,
+  SetupOpens,
+  EveryStepIsSafe,
+  StateStepsAsWorld,
+  ActorsStay,
+  SentStaysAddressed,
+  RunGoesOn,
+};
 ghost use Rattle.fw_world.specs.Headline.{
+  IsFactoryName,
   IsFirstName,
   InitiatesAreOffered,
   NamesAreOwn,
@@ -31,7 +41,13 @@ pub fn state_steps_as_world()
     fw_book::laws::states_follow();
     fw_book::laws::admitted_opens();
     fw_head::laws::row_keeps_goal();
+    fw_meter::laws::stop_after_is_stop();
 }
+
+/// The world that a setup makes is an opening one.
+pub fn setup_opens()
+    ensures { SetupOpens }
+{}
 
 /// No step changes which head ends and which meters are there.
 pub fn actors_stay()
@@ -57,6 +73,9 @@ pub fn every_run_is_safe()
     ensures activations { AfterEachRun (λ opening w. ActivationsAreSafe w) }
     ensures equal { AfterEachRun (λ opening w. ActivationsAreEqual w) }
     ensures releases { AfterEachRun (λ opening w. ReleasesNeverFall w) }
+
+    // So each further step keeps it: this is what `every_step_is_safe` asks of the world before.
+    ensures safe { AfterEachRun (λ opening w. IsSafeWorld IsFactoryName w) }
 {
     fw_names::laws::one_name();
     fw_names::laws::spelling_size();

@@ -2,6 +2,7 @@
 
 ghost use Rattle.std.specs.Prelude.{◌≡◌, IfErr, IfOk, map, take};
 ghost use Rattle.fw_world.specs.Headline.{
+  IsFactoryName,
   IsFirstName,
   InitiatesAreOffered,
   NamesAreOwn,
@@ -10,10 +11,11 @@ ghost use Rattle.fw_world.specs.Headline.{
   ActivationsAreEqual,
   ReleasesNeverFall,
 };
+ghost use Rattle.fw_world.specs.Laws.{IsSafeWorld};
 ghost use Rattle.fw_world.specs.Runs.{EndsIn, IsStopped, IsUnmade, events_of};
 ghost use Rattle.fw_world.specs.Setup.{IsSetup, opening_state};
 ghost use Rattle.fw_world.specs.State.{StateRun, world_of};
-ghost use Rattle.fw_world.specs.Step.{Run};
+ghost use Rattle.fw_world.specs.Step.{IsOpening, Run};
 
 use crate::error::{SetupError, StepError};
 use crate::event::Event;
@@ -75,6 +77,7 @@ pub fn run(alloc: Global, setup: &Setup, events: &[Event]) -> Result<World, RunE
     ensures runs { IfOk result (λ w. StateRun (opening_state setup.now) (events_of events.now) w) }
     ensures world { IfOk result (λ w. Run (world_of (opening_state setup.now)) (events_of events.now) (world_of w)) }
     ensures made { EndsIn result (λ w. IsSetup setup.now) }
+    ensures opening { EndsIn result (λ w. IsOpening (world_of (opening_state setup.now))) }
     ensures stopped { IfErr result (IsStopped setup.now events.now) }
     ensures initiates { EndsIn result (λ w. InitiatesAreOffered (world_of w)) }
     ensures names { EndsIn result (λ w. NamesAreOwn (IsFirstName (world_of (opening_state setup.now))) (world_of w)) }
@@ -82,6 +85,9 @@ pub fn run(alloc: Global, setup: &Setup, events: &[Event]) -> Result<World, RunE
     ensures activations { EndsIn result (λ w. ActivationsAreSafe (world_of w)) }
     ensures equal { EndsIn result (λ w. ActivationsAreEqual (world_of w)) }
     ensures releases { EndsIn result (λ w. ReleasesNeverFall (world_of w)) }
+
+    // So a step of that world keeps it, by the clause `safe` of `World::step`.
+    ensures safe { EndsIn result (λ w. IsSafeWorld IsFactoryName (world_of w)) }
 {
     laws::every_run_is_safe();
     let mut world = match World::new(alloc, setup) {

@@ -10,7 +10,7 @@ ghost use Rattle.fw_store.specs.Memory.{device_of, capacity_of, fuse_of};
 ghost use Rattle.fw_store.specs.Setup.{IsSetup};
 ghost use Rattle.fw_store.specs.declared.error.SetupError.TheVariants as not_made;
 ghost use Rattle.fw_meter.specs.Handling.{Handles, reply_bytes};
-ghost use Rattle.fw_meter.specs.Laws.{Stops};
+ghost use Rattle.fw_meter.specs.Stopping.{StopsAfter};
 ghost use Rattle.fw_world.specs.State.{restarted_within};
 ghost use Rattle.fw_world.specs.Inside.{IsSound, HasRoom, IsRunning, switched_name};
 
@@ -200,8 +200,8 @@ impl Seat {
         calls: u64,
         torn: u8,
     ) -> Result<Option<Switched>, OutOfMemory>
-        ensures stopped { IfOk result (λ switched. (after : Meter) × Stops self.old datagram.now (switched_name switched) after
-            × (self.new ≡ restarted after)) }
+        ensures stopped { IfOk result (λ switched. (after : Meter)
+            × StopsAfter calls torn self.old datagram.now (switched_name switched) after × (self.new ≡ restarted after)) }
         ensures switched { IfOk result (λ switched. IsRunning switched self.new) }
         ensures same { OnErr result (self.new ≡ self.old) }
     {
@@ -218,11 +218,10 @@ impl Seat {
         calls: u64,
         torn: u8,
     ) -> Result<Option<Switched>, OutOfMemory>
-        ensures stopped { IfOk result (λ switched. Stops self.old datagram.now (switched_name switched) self.new) }
+        ensures stopped { IfOk result (λ switched. StopsAfter calls torn self.old datagram.now (switched_name switched) self.new) }
         ensures switched { IfOk result (λ switched. IsRunning switched self.new) }
         ensures same { OnErr result (self.new ≡ self.old) }
     {
-        fw_meter::laws::fault_is_stop();
         fw_image::laws::joined_size();
         match &mut self.core {
             Some(core) => {

@@ -1,7 +1,7 @@
 //! A crew whose hands are of the test's own: links on which all that is sent comes at once; and how links are dealt. What is expected
 //! was worked out by hand, from the head end's and the meter's documents.
 
-ghost use Rattle.std.specs.Prelude.{◌≡◌};
+ghost use Rattle.std.specs.Prelude.{◌≡◌, MatchOption, Ok, Err};
 
 use crate::gates::Open;
 use fw_air::Sent;
@@ -45,6 +45,8 @@ impl GoodLink {
 }
 
 impl Hand for GoodLink {
+    ghost may_end = { λ _ _. Unit {0} };
+
     fn rounds<R: Wait, G: Gate>(
         &mut self,
         rt: &R,
@@ -109,6 +111,79 @@ const HANDS: &[((u32, u32), &str)] = &[
 fn hands_of_its_own(rt: HostRuntime) -> Result<(), Fail> {
     for (at, (numbers, want)) in HANDS.iter().enumerate() {
         let told = told(&rt, rt.alloc(), *numbers)?;
+        expect(rt.alloc(), at, told.as_str(), want)?;
+    }
+    Ok(())
+}
+
+/// A worker that is refused at once, for this reason, or for none.
+#[derive(Drop)]
+struct Refused(Option<Unaccounted>);
+
+impl Hand for Refused {
+    ghost may_end = { λ hand end. MatchOption hand.0 (end ≡ Ok tt) (λ reason. end ≡ Err reason) };
+
+    fn rounds<R: Wait, G: Gate>(
+        &mut self,
+        _rt: &R,
+        _alloc: Global,
+        _floor: &Floor,
+        _worker: &mut Worker<'_, G>,
+        _rounds: u32,
+    ) -> Result<(), Unaccounted> {
+        match self.0 {
+            Some(reason) => Err(reason),
+            None => Ok(()),
+        }
+    }
+}
+
+/// Why there is no report of these workers.
+fn refusal_of<R: Threads + Wait + Sync>(
+    rt: &R,
+    alloc: Global,
+    reasons: &[Option<Unaccounted>],
+) -> Result<String, Fail> {
+    let setup = setup_of(alloc, SMALL)?;
+    let given = events_of(alloc, &[OPENED])?;
+    let opening = begin(alloc, &setup, &given, 2)?;
+    let task = Task {
+        setup: &setup,
+        given: &given,
+        rounds: 9,
+        workers: 2,
+        gate: &Open,
+    };
+    let mut hands = Vec::new(alloc);
+    for reason in reasons {
+        hands.push(Refused(*reason))?;
+    }
+    match work(rt, alloc, &task, opening, hands) {
+        Ok(_) => Err("a report".into()),
+        Err(reason) => Ok(RehearseError::from(reason).to_string(alloc)?),
+    }
+}
+
+/// Why each worker is refused, from the lowest on, and what is told: the lowest worker's refusal. Where none is refused, the rounds that
+/// they didn't make are missed.
+const REFUSALS: &[(&[Option<Unaccounted>], &str)] = &[
+    (
+        &[Some(Unaccounted::GateShut), Some(Unaccounted::OutOfMemory)],
+        "GateShut",
+    ),
+    (
+        &[Some(Unaccounted::OutOfMemory), Some(Unaccounted::GateShut)],
+        "OutOfMemory",
+    ),
+    (&[None, Some(Unaccounted::GateShut)], "GateShut"),
+    (&[Some(Unaccounted::OutOfMemory), None], "OutOfMemory"),
+    (&[None, None], "Mismatch"),
+];
+
+#[test]
+fn the_lowest_workers_refusal_is_told(rt: HostRuntime) -> Result<(), Fail> {
+    for (at, (reasons, want)) in REFUSALS.iter().enumerate() {
+        let told = refusal_of(&rt, rt.alloc(), reasons)?;
         expect(rt.alloc(), at, told.as_str(), want)?;
     }
     Ok(())

@@ -6,6 +6,8 @@ mod calls;
 #[cfg(test)]
 mod campaigns;
 #[cfg(test)]
+mod large;
+#[cfg(test)]
 mod old_meters;
 #[cfg(test)]
 mod refusals;

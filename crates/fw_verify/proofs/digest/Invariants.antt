@@ -15,7 +15,7 @@ invariant-loop g l =
       whole : l.digesting.taken < l.fn.size → l.digesting.taken % 4096 ≡ 0;
       kept : Keeps s.honest s.sound s.capacity s.faults l.fn.store l.store;
       faultless : s.faults l.store ≡ s.faults l.fn.store;
-      spends : Spends (slice_count l.digesting.taken) (s.calls_left l.fn.store) (s.calls_left l.store) true;
+      spends : Spends (slice_count l.digesting.taken) (s.fuse l.fn.store) (s.fuse l.store) true;
       same : IsTrue (s.honest l.fn.store) → s.device l.store ≡ s.device l.fn.store;
       fed : IsTrue (s.honest l.fn.store) → IsDigesting l.digesting (slot_bytes (s.device l.fn.store) l.fn.slot);
     }

@@ -1,6 +1,6 @@
 use Rattle.std.proofs.Common.{◌≡◌, ◌+◌, ◌<◌, ◌^◌}
 use Rattle.std.specs.List.{sum_by}
-use Rattle.fw_accounts.specs.Accounts.{done_in, done_of}
+use Rattle.fw_world.specs.Done.{done_in, done_of}
 use Rattle.fw_accounts.proofs.accounts.done_in.Given as goal
 
 -- what was counted, and the rows of the campaigns that are left

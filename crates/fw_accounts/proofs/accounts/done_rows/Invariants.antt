@@ -1,6 +1,6 @@
 use Rattle.std.proofs.Common.{◌≡◌, ◌+◌, ◌<◌, ◌^◌, drop}
 use Rattle.std.specs.List.{sum_by}
-use Rattle.fw_accounts.specs.Accounts.{done_rows, done_with}
+use Rattle.fw_world.specs.Done.{done_rows, done_with}
 use Rattle.fw_accounts.proofs.accounts.done_rows.Given as goal
 
 -- what was counted, and the rows of the head ends that are left

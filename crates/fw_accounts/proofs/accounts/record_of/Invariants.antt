@@ -1,8 +1,9 @@
-use Rattle.std.proofs.Common.{◌≡◌, ◌++◌, List}
+use Rattle.std.proofs.Common.{◌≡◌, ◌++◌, map}
+use Rattle.fw_air.specs.Logs.{Entry}
 use Rattle.fw_world.specs.Runs.{events_of}
-use Rattle.fw_world.specs.Step.{Event}
 use Rattle.fw_accounts.proofs.accounts.record_of.Given as goal
 
--- the given events, and what was appended
+-- the given events, and those of the entries so far
 abbrev pub invariant-loop-entry : goal.invariant-loop-entry
-invariant-loop-entry l = (made : List Event) × (events_of l.events.items ≡ events_of l.given ++ made)
+invariant-loop-entry l =
+    events_of l.events.items ≡ events_of l.given ++ map (λ (entry : Entry). entry.event) l.yielded

@@ -2,10 +2,11 @@ use Rattle.std.proofs.Common.{◌≡◌, ◌<◌, [], ◌∷◌, Some, length, s
 use Rattle.std.proofs.lemmas.Option.{slice_get_read}
 use Rattle.fw_air.specs.Logs.{IsCounted}
 use Rattle.fw_world.specs.Setup.{opening_state}
+use Rattle.fw_world.specs.State.{world_of}
 use Rattle.fw_world.specs.View.{event_of}
 use Rattle.fw_crew.specs.declared.error.RehearseError.TheVariants as refused
 use Rattle.fw_crew.specs.Refusals.{TellsOfEvent}
-use Rattle.fw_crew.proofs.Playing.{counted_on, not_setup, runs_on, told}
+use Rattle.fw_crew.proofs.Playing.{counted_on, not_setup, runs_on, told, world_runs_on}
 use Rattle.fw_crew.proofs.given.play.Goals as goal
 
 pub returns-in-Err-clause-bad_setup : goal.returns-in-Err-clause-bad_setup
@@ -22,7 +23,7 @@ returns-in-Err-clause-event c =
     let inside : at < length events = omega (arith, c.loop-at-test.true) in
     let there : slice_get events at ≡ Some event = slice_get_read events (length events) at event refl inside c.index-events-at.is in
     subst (TellsOfEvent setup events) (sym c.barred.ensures)
-    (told setup events at c.loop-at.world c.in-Err.cause (event, there, c.loop-at.invariant.1, c.in-Err.ensures.refused))
+    (told setup events at c.loop-at.world c.in-Err.cause (event, there, c.loop-at.invariant.1, c.in-Err.ensures.refused, c.loop-at.invariant.2))
 
 pub overflow_sub-count : goal.overflow_sub-count
 overflow_sub-count c =
@@ -43,4 +44,5 @@ loop-at-preserved c =
       subst (λ entries. IsCounted (record { sent = new.sent; entries = entries })) (sym c.in_ok-push.ensures.items)
           (counted_on c.loop-at.entries.items _ (length old.sent) (length new.sent) c.loop-at.invariant.0 grew (omega (arith, before, after))),
       runs_on c.run_goes_on.ensures (opening_state c.args.setup.now) old new events c.loop-at.at event inside c.index-events-at.is c.loop-at.invariant.1 c.in_default.ensures.stepped,
+      world_runs_on (world_of (opening_state c.args.setup.now)) (world_of old) (world_of new) events c.loop-at.at event inside c.index-events-at.is c.loop-at.invariant.2 c.in_default.ensures.world,
     )

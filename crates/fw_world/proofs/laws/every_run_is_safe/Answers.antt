@@ -11,4 +11,5 @@ returns c =
       activations = λ opening w events o run. (safe opening w events o run).activations;
       equal = kept.every_run_is_equal c.joined_size.ensures c.one_name.ensures c.spelling_size.ensures c.one_request.ensures c.tells_running.ensures;
       releases = λ opening w events o run. (safe opening w events o run).releases;
+      safe = kept.every_run_is_safe_on c.joined_size.ensures c.one_name.ensures c.spelling_size.ensures c.one_request.ensures c.tells_running.ensures;
     }

@@ -98,4 +98,22 @@ returns-in-Err-step-clause-stopped c =
       at_index events at _ event inside c.index-events-at.is,
       subst (λ (w : State). StateRun (opening_state c.args.setup.now) (events_of (take at events)) w) (sym c.in-Err-step.ensures.same) c.loop-at.invariant.1,
       subst (λ (w : State). IsRefused w (event_of event) c.in-Err-step.cause) (sym c.in-Err-step.ensures.same) c.in-Err-step.ensures.refused,
+      subst (λ (w : State). Run (world_of (opening_state c.args.setup.now)) (events_of (take at events)) (world_of w)) (sym c.in-Err-step.ensures.same) c.loop-at.invariant.2,
     )
+
+pub returns-clause-opening : goal.returns-clause-opening
+returns-clause-opening c = is_opening c.args.setup.now c.loop-at.invariant.0
+
+pub returns-in-Err-step-clause-opening : goal.returns-in-Err-step-clause-opening
+returns-in-Err-step-clause-opening c = is_opening c.args.setup.now c.loop-at.invariant.0
+
+pub returns-clause-safe : goal.returns-clause-safe
+returns-clause-safe c =
+    c.every_run_is_safe.ensures.safe (world_of (opening_state c.args.setup.now)) (world_of c.loop-at.world) (events_of (take c.loop-at.at c.args.events.now)) (is_opening c.args.setup.now c.loop-at.invariant.0) c.loop-at.invariant.2
+
+pub returns-in-Err-step-clause-safe : goal.returns-in-Err-step-clause-safe
+returns-in-Err-step-clause-safe c =
+    let opening = world_of (opening_state c.args.setup.now) in
+    let so_far = events_of (take c.loop-at.at c.args.events.now) in
+    let run = subst (λ (w : State). Run opening so_far (world_of w)) (sym c.in-Err-step.ensures.same) c.loop-at.invariant.2 in
+    c.every_run_is_safe.ensures.safe opening (world_of c.step.new.self) so_far (is_opening c.args.setup.now c.loop-at.invariant.0) run

@@ -9,8 +9,8 @@ use Rattle.fw_image.specs.Stored.{meter_of, phase_of, phase_at, seen}
 use Rattle.fw_image.specs.declared.error.Refusal.TheVariants.{Fault}
 use Rattle.fw_image.proofs.Blocks.{mark_more, mark_again}
 use Rattle.fw_image.proofs.Meters.{seen_size, headed, none_digested}
-use Rattle.fw_image.proofs.Moves.{makes_served, keeps_twice, fault_told, is_receiving, counted_after}
-use Rattle.fw_image.proofs.Puts.{leaves_put, tears_put, calls_put, one_or_two, served_block, marks_in, valid_marked, wrote, wrote_then, wrote_head, holding_put}
+use Rattle.fw_image.proofs.Moves.{makes_served, no_fault, keeps_twice, fault_told, is_receiving, counted_after}
+use Rattle.fw_image.proofs.Puts.{leaves_put, left_torn, left_unmarked, tears_put, calls_put, one_or_two, served_block, marks_in, valid_marked, wrote, wrote_then, wrote_head, holding_put}
 use Rattle.fw_image.proofs.held.Held.block.Goals as goal
 
 pub returns-in_err-write-clause-makes : goal.returns-in_err-write-clause-makes
@@ -33,7 +33,9 @@ returns-in_err-write-clause-makes g c =
     (rw calls (c.calls_end.ensures 1 (cond (has h.marks c.args.number) 1 2) _ _ (one_or_two (has h.marks c.args.number)) told.spends))
     (served_block m place.goal c.args.number c.args.value.now c.if-not-self.false phase place.is_block)
     (tears_put c.other_blocks_stay.ensures c.begins_within.ensures c.splice_stands.ensures (s.honest store) (s.capacity store) h (s.device store) (s.device c.write.new.self) c.other-spare.result c.args.number c.in-Some.start c.args.value.now
-    valid sized place c.other-spare.ensures told.torn))
+    valid sized place c.other-spare.ensures told.torn)
+    (λ honest set is failed. left_torn c.other_blocks_stay.ensures c.begins_within.ensures c.splice_stands.ensures c.torn_size.ensures (s.honest store) (s.capacity store) h (s.device store) (s.device c.write.new.self) c.other-spare.result c.args.number c.in-Some.start c.args.value.now set.torn
+    valid sized place c.other-spare.ensures honest (told.halves honest set is)))
 
 pub returns-then-has-clause-makes : goal.returns-then-has-clause-makes
 returns-then-has-clause-makes g c =
@@ -59,7 +61,8 @@ returns-then-has-clause-makes g c =
     (rw (calls, marked) told.spends)
     (served_block m place.goal c.args.number c.args.value.now c.if-not-self.false phase place.is_block)
     (leaves_put c.other_blocks_stay.ensures c.begins_within.ensures c.splice_stands.ensures (s.honest store) (s.capacity store) h (s.device store) (s.device c.write.new.self) c.args.number c.in-Some.start c.args.value.now h.marks
-    valid valid sized sized' place (mark_again h.marks c.args.number marked) (λ honest. wrote h c.other-spare.result c.in-Some.start c.args.value.now _ _ c.other-spare.ensures (told.done honest))))
+    valid valid sized sized' place (mark_again h.marks c.args.number marked) (λ honest. wrote h c.other-spare.result c.in-Some.start c.args.value.now _ _ c.other-spare.ensures (told.done honest)))
+    (no_fault s store _ (block c.args.number c.args.value.now) done _ refl))
 
 pub returns-in_err-replace-clause-makes : goal.returns-in_err-replace-clause-makes
 returns-in_err-replace-clause-makes g c =
@@ -87,7 +90,9 @@ returns-in_err-replace-clause-makes g c =
     (rw (calls, unmarked) (c.calls_add.ensures 1 1 _ _ _ false first.spends told.spends))
     (served_block m place.goal c.args.number c.args.value.now c.if-not-self.false phase place.is_block)
     (tears_put c.other_blocks_stay.ensures c.begins_within.ensures c.splice_stands.ensures (s.honest store) (s.capacity store) h (s.device store) (s.device c.replace.new.store) c.other-spare.result c.args.number c.in-Some.start c.args.value.now
-    valid sized place c.other-spare.ensures torn))
+    valid sized place c.other-spare.ensures torn)
+    (λ honest set is failed. left_unmarked c.other_blocks_stay.ensures c.begins_within.ensures c.splice_stands.ensures (s.honest store) (s.capacity store) h (s.device store) (s.device c.replace.new.store) c.other-spare.result c.args.number c.in-Some.start c.args.value.now set.torn
+    valid sized place c.other-spare.ensures honest unmarked (told.same (still honest) ∙ first.done honest)))
 
 pub returns-clause-makes : goal.returns-clause-makes
 returns-clause-makes g c =
@@ -119,7 +124,8 @@ returns-clause-makes g c =
     (served_block m place.goal c.args.number c.args.value.now c.if-not-self.false phase place.is_block)
     (leaves_put c.other_blocks_stay.ensures c.begins_within.ensures c.splice_stands.ensures (s.honest store) (s.capacity store) h (s.device store) (s.device c.replace.new.store) c.args.number c.in-Some.start c.args.value.now c.mark.new.self
     valid valid' sized sized' place marked (λ honest.
-    wrote_then h c.in-Some.start c.args.value.now (s.device store) (s.device c.write.new.self) (s.device c.replace.new.store) (wrote h c.other-spare.result c.in-Some.start c.args.value.now (s.device store) (s.device c.write.new.self) c.other-spare.ensures (first.done honest)) (headed (s.device c.write.new.self) (s.device c.replace.new.store) _ (told.written (still honest))))))
+    wrote_then h c.in-Some.start c.args.value.now (s.device store) (s.device c.write.new.self) (s.device c.replace.new.store) (wrote h c.other-spare.result c.in-Some.start c.args.value.now (s.device store) (s.device c.write.new.self) c.other-spare.ensures (first.done honest)) (headed (s.device c.write.new.self) (s.device c.replace.new.store) _ (told.written (still honest)))))
+    (no_fault s store _ (block c.args.number c.args.value.now) done _ refl))
 
 -- the spare slot may have any bytes after a write that failed
 pub invariant_of-self : goal.invariant_of-self

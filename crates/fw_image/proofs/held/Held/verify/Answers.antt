@@ -12,7 +12,7 @@ use Rattle.fw_image.specs.Calls.{calls_for}
 use Rattle.fw_image.specs.Moves.{judged}
 use Rattle.fw_image.specs.Stored.{phase_of, phase_at, seen}
 use Rattle.fw_image.proofs.Meters.{seen_size, seen_same, whole_bytes, missing_bytes, none_digested}
-use Rattle.fw_image.proofs.Moves.{meter_in, seen_of, makes_refused, makes_served, makes_failed, makes_written, held_written, keeps_twice, is_receiving, written_after, counted_after}
+use Rattle.fw_image.proofs.Moves.{meter_in, seen_of, no_fault, makes_refused, makes_served, makes_failed, makes_written, held_written, keeps_twice, is_receiving, written_after, counted_after}
 use Rattle.fw_image.proofs.Judging.{goal_there, some_bytes, served_verify, refused_verify, calls_whole, calls_part, calls_some, reads_some, does_whole, does_part, judges, valid_judged, judged_keeps, trusted_judged, judged_faultless, verify_fault, verify_part, verify_whole, answered}
 use Rattle.fw_image.proofs.held.Held.verify.Goals as goal
 use Rattle.fw_image.proofs.held.Held.verify.Goals.{then-branch, else-branch}
@@ -52,7 +52,7 @@ returns-in_err-step-clause-makes g c =
     let told = c.in_err-step.ensures in
     rw (← c.self.view_is, verify_fault c.from_residual.result _ c.from_residual.ensures.1, none_digests)
     (makes_failed s store c.step.new.store h None verify told.kept told.same told.cause.counted told.cause.never
-    (c.calls_end.ensures 1 (calls_for (meter_in s store h None) verify) _ _ (calls_some (meter_in s store h None)) (rw one at told.spends)) serves (λ m m' l. l))
+    (c.calls_end.ensures 1 (calls_for (meter_in s store h None) verify) _ _ (calls_some (meter_in s store h None)) (rw one at told.spends)) serves (λ m m' l. l) (λ torn m. refl))
 
 pub returns-then-not-branch-clause-makes : goal.returns-then-not-branch-clause-makes
 returns-then-not-branch-clause-makes g c =
@@ -79,7 +79,8 @@ returns-then-not-branch-clause-makes g c =
     rw (← c.self.view_is, verify_part (phase_of h.status h.goal) wanted c.step.new.self.taken phase, none_digests)
     (makes_served s store c.step.new.store h h None (Some c.step.new.self) verify verification_initiated told.kept told.cause.counted (λ _. refl)
     (rw (calls_part (meter_in s store h None) wanted phase many) (rw one at told.spends)) serves
-    (does_part (s.honest store) (s.capacity store) h c.step.new.self (seen_of s store) (seen (s.honest store) (s.capacity store) (s.device c.step.new.store)) wanted phase many slice (seen_same (s.honest store) (s.capacity store) (s.device store) (s.device c.step.new.store) told.same)))
+    (does_part (s.honest store) (s.capacity store) h c.step.new.self (seen_of s store) (seen (s.honest store) (s.capacity store) (s.device c.step.new.store)) wanted phase many slice (seen_same (s.honest store) (s.capacity store) (s.device store) (s.device c.step.new.store) told.same))
+    (no_fault s store _ verify verification_initiated _ refl))
 
 pub returns-in_err-judge-clause-makes : goal.returns-in_err-judge-clause-makes
 returns-in_err-judge-clause-makes g c =
@@ -106,7 +107,7 @@ returns-in_err-judge-clause-makes g c =
     rw (← c.self.view_is, verify_fault c.from_residual-in_err-judge.result _ c.from_residual-in_err-judge.ensures.1, told.failed, none_digests)
     (makes_failed s store c.judge.new.store h None verify (keeps_twice s store c.step.new.store c.judge.new.store read.kept told.kept) (λ honest. told.same (still honest) ∙ read.same honest)
     (counted_after false _ _ _ read.cause.counted told.cause.counted) (λ sound. told.cause.never (read.kept.soundness sound))
-    (rw (calls_whole (meter_in s store h None) wanted phase few) (c.calls_add.ensures 1 1 _ _ _ false (rw one at read.spends) told.spends)) serves (λ m m' l. l))
+    (rw (calls_whole (meter_in s store h None) wanted phase few) (c.calls_add.ensures 1 1 _ _ _ false (rw one at read.spends) told.spends)) serves (λ m m' l. l) (λ torn m. refl))
 
 pub invariant_of-self-2 : goal.invariant_of-self-2
 invariant_of-self-2 g c =

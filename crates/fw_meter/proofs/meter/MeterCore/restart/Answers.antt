@@ -1,6 +1,7 @@
 use Rattle.std.proofs.Common.{◌≡◌, Option, ℕ, true, sym, ap, subst, ◌∙◌}
 use Rattle.std.proofs.lemmas.Result.{IfOk-weaker}
 use Rattle.fw_store.specs.Faults.{Spends}
+use Rattle.fw_store.specs.declared.fuse.Fuse.{Fuse}
 use Rattle.fw_image.specs.Calls.{restart_calls}
 use Rattle.fw_image.specs.State.{State, stored}
 use Rattle.fw_image.specs.Stored.{Holds, Opens}
@@ -15,8 +16,8 @@ returns-clause-same g c = λ honest.
     let self : State = c.args.self in
     let was = ap state_there (sym c.in-Some.is) ∙ c.self.view_is in
     let left : Holds s.honest s.capacity s.device store (stored self) = subst (λ (x : State). Holds s.honest s.capacity s.device store (stored x)) was (rw c.in-Some.phase-is at c.into_store.ensures.held) in
-    IfOk-weaker c.open_store.result (Opens s.honest s.capacity s.calls_left s.device store) _
-    (λ meter opened. goes_on s.honest s.capacity s.calls_left s.device store self meter c.one_meter.ensures left opened honest) c.open_store.ensures.opened
+    IfOk-weaker c.open_store.result (Opens s.honest s.capacity s.fuse s.device store) _
+    (λ meter opened. goes_on s.honest s.capacity s.fuse s.device store self meter c.one_meter.ensures left opened honest) c.open_store.ensures.opened
 
 pub returns-clause-spends : goal.returns-clause-spends
 returns-clause-spends g c =
@@ -25,10 +26,10 @@ returns-clause-spends g c =
     let self : State = c.args.self in
     let was = ap state_there (sym c.in-Some.is) ∙ c.self.view_is in
     let left : Holds s.honest s.capacity s.device store (stored self) = subst (λ (x : State). Holds s.honest s.capacity s.device store (stored x)) was (rw c.in-Some.phase-is at c.into_store.ensures.held) in
-    let calls : s.calls_left store ≡ self.calls_left = (rw c.in-Some.phase-is at c.into_store.ensures.calls_left) ∙ ap (λ (x : State). x.calls_left) was in
-    IfOk-weaker c.open_store.result (Opens s.honest s.capacity s.calls_left s.device store) _ (λ meter opened. (
+    let calls : s.fuse store ≡ self.fuse = (rw c.in-Some.phase-is at c.into_store.ensures.fuse) ∙ ap (λ (x : State). x.fuse) was in
+    IfOk-weaker c.open_store.result (Opens s.honest s.capacity s.fuse s.device store) _ (λ meter opened. (
       opened.was,
       opened.goes_on,
-      λ honest. found_calls s.honest s.capacity s.calls_left s.device store self meter c.one_meter.ensures left opened honest,
-      subst (λ (n : Option ℕ). Spends (restart_calls opened.was) n meter.calls_left true) calls opened.spends,
+      λ honest. found_calls s.honest s.capacity s.fuse s.device store self meter c.one_meter.ensures left opened honest,
+      subst (λ (n : Option Fuse). Spends (restart_calls opened.was) n meter.fuse true) calls opened.spends,
     )) c.open_store.ensures.opened

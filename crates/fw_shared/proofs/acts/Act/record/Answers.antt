@@ -10,4 +10,4 @@ returns-clause-noted g c =
     let spent = sym c.spend-number.ensures ∙ c.append-stub.ensures.stub in
     c.push_reserved.ensures.items
     ∙ ap (λ (a : Appended). (let all : List Receipt = receipts ++ (record { number = a.number; event = a.event }) ∷ [] in all)) spent
-    ∙ ap (λ (act : Act). (let all : List Receipt = receipts ++ (record { number = c.append-stub.result.0.event; event = act.event }) ∷ [] in all)) c.self.view_is
+    ∙ ap (λ (act : Act _). (let all : List Receipt = receipts ++ (record { number = c.append-stub.result.0.event; event = act.event }) ∷ [] in all)) c.self.view_is

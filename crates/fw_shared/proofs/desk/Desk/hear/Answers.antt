@@ -1,6 +1,6 @@
-use Rattle.std.proofs.Common.{ap, subst}
+use Rattle.std.proofs.Common.{subst}
 use Rattle.fw_world.specs.Step.{deliver}
-use Rattle.fw_shared.specs.Acts.{Act, MarksDone}
+use Rattle.fw_shared.specs.Acts.{MarksDone}
 use Rattle.fw_shared.specs.Seat.{Seat}
 use Rattle.fw_shared.proofs.Noted.{noted_as}
 use Rattle.fw_shared.proofs.desk.Desk.hear.Goals as goal
@@ -11,7 +11,7 @@ returns-clause-heard g c =
     let number = c.args.number in
     let event = c.record.result.event in
     let told = c.in_ok-act.told in
-    let made = ap (λ (act : Act). act.event) c.in_ok-act.ensures.act in
+    let made = c.in_ok-act.ensures.act.0 in
     let middle = noted_as _ old c.reserve.new.self.items c.record.new.receipts.items event c.in_ok-act.act.event (deliver number) c.seat.view_is c.reserve.ensures.items made c.record.ensures.noted in
     let P : Seat → Type 0 = λ seat. MarksDone told seat c.mark_done.new.seat in
     (event, subst P middle c.mark_done.ensures)

@@ -1,10 +1,11 @@
-use Rattle.std.proofs.Common.{◌≡◌, Bool, Option, true, IsTrue, length, sym, ap, subst, ◌∙◌}
+use Rattle.std.proofs.Common.{◌≡◌, Bool, Option, Some, true, IsTrue, length, sym, ap, subst, ◌∙◌}
 use Rattle.std.specs.Prelude.{IfSome}
 use Rattle.fw_names.specs.Name.{Name}
+use Rattle.fw_store.specs.declared.fuse.Fuse.{Fuse}
 use Rattle.fw_image.specs.Meter.{Meter}
 use Rattle.fw_image.specs.State.{State, Counts}
 use Rattle.fw_meter.specs.Handling.{Handles, reply_bytes}
-use Rattle.fw_meter.specs.Laws.{Stops}
+use Rattle.fw_meter.specs.Stopping.{StopsAfter}
 use Rattle.fw_world.specs.Inside.{IsSound, IsSeated, IsRunning, meter_in}
 use Rattle.fw_world.proofs.Room.{each_some, handled_room, switched_runs}
 use Rattle.fw_world.proofs.seat.Seat.cut.Goals as goal
@@ -27,7 +28,7 @@ running-requires-clause-room c =
     (subst Q was (subst P honest told.ensures.step)) name e
     ∙ ap (λ (m : Meter). length m.running.bytes) left)
 
--- a fuse and its removal leave the meter, so that what the fault left of it is what the stop leaves
+-- a fuse and its removal leave the meter, so that what the calls left of it is what the stop leaves
 pub returns-clause-stopped : goal.returns-clause-stopped
 returns-clause-stopped c =
     let fused = c.fuse.new.self in
@@ -37,10 +38,12 @@ returns-clause-stopped c =
     let was : fused.meter ≡ c.args.self.now = ap (λ (s : State). s.meter) c.fuse.ensures ∙ sym (ap meter_in c.in-Some.is) ∙ c.self.view_is in
     let left : handled.meter ≡ c.running.new.core.meter = sym (ap (λ (s : State). s.meter) c.unfuse.ensures) ∙ sym c.running.ensures.meter in
     let honest = subst (λ (s : State). IsTrue s.honest) (sym c.fuse.ensures) there.honest in
-    let stops = c.fault_is_stop.ensures fused handled c.args.datagram.now _ activated honest c.in_ok-handled-in-Some.ensures.step in
-    let P : Meter → Type 0 = λ m. Stops m c.args.datagram.now activated handled.meter in
-    let Q : Meter → Type 0 = λ m. Stops c.args.self.now c.args.datagram.now activated m in
-    let R : Option Name → Type 0 = λ name. Stops c.args.self.now c.args.datagram.now name c.running.new.core.meter in
+    let set : Fuse = record { calls = c.args.calls; torn = c.args.torn } in
+    let burns : fused.fuse ≡ Some set = ap (λ (s : State). s.fuse) c.fuse.ensures in
+    let stops = c.in_ok-handled-in-Some.ensures.cut honest set burns in
+    let P : Meter → Type 0 = λ m. StopsAfter set.calls set.torn m c.args.datagram.now activated handled.meter in
+    let Q : Meter → Type 0 = λ m. StopsAfter set.calls set.torn c.args.self.now c.args.datagram.now activated m in
+    let R : Option Name → Type 0 = λ name. StopsAfter set.calls set.torn c.args.self.now c.args.datagram.now name c.running.new.core.meter in
     subst R (sym c.running.ensures.name) (subst Q left (subst P was stops))
 
 pub returns-clause-switched : goal.returns-clause-switched

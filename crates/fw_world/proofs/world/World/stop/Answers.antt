@@ -1,7 +1,7 @@
 use Rattle.std.proofs.Common.{◌≡◌, ℕ, nat_eq, List, ◌++◌, Some, refl, sym, ap, subst, ◌∙◌, slice_get}
 use Rattle.std.specs.Map.{lookup}
 use Rattle.std.specs.Option.{option_copied, option_copied_mut}
-use Rattle.fw_meter.specs.Laws.{Stops}
+use Rattle.fw_meter.specs.Stopping.{StopsAfter}
 use Rattle.fw_world.specs.World.{Datagram}
 use Rattle.fw_world.specs.Inside.{switched_name}
 use Rattle.fw_world.proofs.Places.{told_err, meter_found, meter_notes, meter_same, noted_as}
@@ -33,7 +33,7 @@ returns-clause-stepped c =
     let here : slice_get c.args.self.now.sent c.args.number ≡ Some d = sent_here _ _ c.self.view_is c.deref.result.now c.args.number d c.deref.ensures.value (sym c.sent_at.ensures ∙ ap option_copied c.in-Some.is) in
     let meters : c.datagram.inside.meter ≡ d.meter = ap (λ (x : Datagram). x.meter) c.datagram.view_is in
     let carried : c.deref-2.result.now ≡ d.bytes = c.deref-2.ensures.value ∙ ap (λ (x : Datagram). x.bytes) c.datagram.view_is in
-    let Q : List ℕ → Type 0 = λ bytes. Stops seat bytes (switched_name switched) stopped.0 in (
+    let Q : List ℕ → Type 0 = λ bytes. StopsAfter c.args.calls c.args.torn seat bytes (switched_name switched) stopped.0 in (
       d,
       here,
       sym (ap (λ (x : Datagram). x.direction) c.datagram.view_is) ∙ c.in-ToMeter.is,
