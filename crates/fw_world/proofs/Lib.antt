@@ -16,3 +16,6 @@ mod Delivered
 mod NewStores
 mod Finding
 mod Keeping
+mod Joined
+mod Listed
+mod Counted

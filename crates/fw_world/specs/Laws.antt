@@ -1,10 +1,12 @@
 -- Public vocabulary: the laws of the world. They speak of definitions alone.
-use Rattle.std.specs.Prelude.{◌≡◌, ℕ, List, [], ◌∷◌, ◌++◌, is_some}
+use Rattle.std.specs.Prelude.{◌≡◌, ℕ, List, [], ◌∷◌, ◌++◌, length, is_some}
+use Rattle.fw_names.specs.Name.{Campaign}
 use Rattle.fw_world.specs.World.{World}
 use Rattle.fw_world.specs.declared.setup.Setup.{Setup}
 use Rattle.fw_world.specs.Setup.{IsSetup, opening_state}
 use Rattle.fw_world.specs.State.{State, head_at, meter_at, AreAddressed, IsState, StateStep, StateRun, world_of}
 use Rattle.fw_world.specs.Step.{Event, IsOpening, WorldStep, Run}
+use Rattle.fw_world.specs.Done.{AreDoneRows, done_rows}
 use Rattle.fw_world.specs.Headline.{FirstNames, IsFactoryName, IsSound, InitiatesAreOffered, NamesAreOwn, GoalsAreOffered, ActivationsAreSafe, ReleasesNeverFall}
 
 -- what holds of each world that a run leads to, with the opening one
@@ -46,3 +48,9 @@ SentStaysAddressed = (old new : State) (event : Event) → StateStep old event n
 abbrev pub RunGoesOn : Type 0
 RunGoesOn =
     (old mid new : State) (events : List Event) (event : Event) → StateRun old events mid → StateStep mid event new → StateRun old (events ++ event ∷ []) new
+
+-- after each run from the world that a setup makes, the number of done rows is how many of them there are
+abbrev pub DoneRowsAreCounted : Type 0
+DoneRowsAreCounted =
+    (setup : Setup) (events : List Event) (s : State) → IsSetup setup → StateRun (opening_state setup) events s
+    → (rows : List (Campaign × ℕ)) × AreDoneRows (world_of s) rows × (done_rows setup s ≡ length rows)

@@ -9,6 +9,7 @@ ghost use Rattle.fw_world.specs.Laws.{
   ActorsStay,
   SentStaysAddressed,
   RunGoesOn,
+  DoneRowsAreCounted,
 };
 ghost use Rattle.fw_world.specs.Headline.{
   IsFactoryName,
@@ -82,4 +83,12 @@ pub fn every_run_is_safe()
     fw_apdu::laws::one_request();
     fw_image::laws::joined_size();
     fw_meter::laws::tells_running();
+}
+
+/// Over every run from the world that a setup makes, the number of done rows is how many of them there are: one for each head end,
+/// serial number and meter that is done, and none counted twice.
+pub fn done_rows_are_counted()
+    ensures { DoneRowsAreCounted }
+{
+    fw_book::laws::admitted_opens();
 }
