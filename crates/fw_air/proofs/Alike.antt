@@ -6,7 +6,7 @@ use Rattle.std.specs.Option.{option_map}
 use Rattle.std.proofs.lemmas.Bool.{false≢true}
 use Rattle.std.proofs.lemmas.Cmp.{nat_eq_equiv}
 use Rattle.std.proofs.lemmas.List.{get_or-map, length-map}
-use Rattle.std.proofs.lemmas.List.Elements.{All-nil, All-cons, All-head, All-tail, All-contains_itself, All-from_all_within, same_from_all_zip}
+use Rattle.std.proofs.lemmas.List.Elements.{All-nil, All-cons, All-head, All-tail, All-contains_itself, All-from_all_within}
 use Rattle.std.proofs.lemmas.Map.Entries.{lookup_head, lookup_tail, lookup_from_place}
 use Rattle.std.proofs.lemmas.Option.{slice_get-get_or}
 use Rattle.fw_book.specs.declared.row.RowState.TheVariants as state
@@ -67,18 +67,6 @@ zipped_iff {A} {B} R r xs ys same m =
     let P : A × B → Type 0 = λ p. R p.0 p.1 in
     let by = all_iff P r (zip xs ys) m in
     (λ e. zip_all R xs ys same (by.0 e), λ a. by.1 (all_zip R xs ys a))
-
-pub zipped_same : {X : Type 0} (Other : X × X → Type 0) (r : Bool) (xs ys : List X) → length xs ≡ length ys
-    → MatchBool r (AllWithin (λ (p : X × X). p.0 ≡ p.1) (zip xs ys) 0 (length (zip xs ys))) ((k : ℕ) × (k < length (zip xs ys)) × HoldsAt Other (zip xs ys) k)
-    → IsTrue r → xs ≡ ys
-zipped_same {X} Other true xs ys same m e =
-    let E : X → X → Type 0 = λ x y. x ≡ y in
-    sym (same_from_all_zip E xs ys (zip_all E xs ys same (All-from_all_within (λ (p : X × X). p.0 ≡ p.1) (zip xs ys) m)) (λ x y is. sym is))
-zipped_same Other false xs ys same m e = absurd (false≢true e)
-
-pub zipped_other : {X : Type 0} (Same Other : X → Type 0) (r : Bool) (xs : List X) → MatchBool r (AllWithin Same xs 0 (length xs)) ((k : ℕ) × (k < length xs) × HoldsAt Other xs k) → r ≡ false → Any Other xs
-zipped_other Same Other true xs m e = absurd (false≢true (sym e))
-zipped_other Same Other false xs m e = any_at Other xs m.0 m.1 m.2
 
 pub behind : (ones others : List Head) → AllZip IsSameHead ones others → AreSameHeads (map head_behind ones) others
 behind [] [] h = tt

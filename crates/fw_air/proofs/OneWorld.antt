@@ -1,9 +1,6 @@
 -- A run has one end: what an event makes of a world is determined.
-use Rattle.std.proofs.Common.{◌≡◌, ℕ, zero, suc, Bool, true, false, IsTrue, ◌||◌, if◌then◌else◌, List, [], ◌∷◌, ◌++◌, map, take, replicate, Option, Some, None, inl, inr, refl, sym, ap, subst, ◌∙◌, slice_get}
-use Rattle.std.specs.List.{list_any}
+use Rattle.std.proofs.Common.{◌≡◌, ℕ, zero, suc, true, IsTrue, List, [], ◌∷◌, ◌++◌, map, take, replicate, Option, Some, None, inl, inr, sym, ap, subst, ◌∙◌, slice_get}
 use Rattle.std.specs.Option.{option_map}
-use Rattle.std.proofs.lemmas.Bool.{or_parts}
-use Rattle.std.proofs.lemmas.List.Folds.{list_any-append}
 use Rattle.std.proofs.lemmas.List.{take-map}
 use Rattle.std.proofs.lemmas.Option.{none-some, same_Some, slice_get-map}
 use Rattle.fw_head.specs.declared.news.News.{News}
@@ -30,7 +27,7 @@ use Rattle.fw_world.specs.Step.{Event, activated, cancel_campaign, deliver, open
 use Rattle.fw_world.specs.View.{event_of}
 use Rattle.fw_world.specs.World.{Datagram}
 use Rattle.fw_air.specs.Laws.{NoneRefused, OneWorld}
-use Rattle.fw_air.specs.Rounds.{AdmittedRun, IsLinkRound, IsRound, Link, OneByOne, is_verifying, last_turn, links, turn_of}
+use Rattle.fw_air.specs.Rounds.{AdmittedRun, IsLinkRound, IsRound, Link, OneByOne, last_turn, links}
 use Rattle.fw_air.specs.Schedules.{Schedules}
 use Rattle.fw_air.proofs.Runs.{run_append}
 

@@ -1,13 +1,11 @@
 -- Public vocabulary: when the parts that others were left with are those of a world.
-use Rattle.std.specs.Prelude.{◌≡◌, ◌≢◌, ◌⊎◌, ℕ, IsTrue, List, Option, length, take}
-use Rattle.std.specs.List.{AllZip, Any, zip}
+use Rattle.std.specs.Prelude.{◌≡◌, ◌≢◌, ◌⊎◌, ℕ, List, Option, take}
+use Rattle.std.specs.List.{AllZip}
 use Rattle.std.specs.Option.{option_map}
 use Rattle.fw_head.specs.declared.phase.Phase.{Phase}
 use Rattle.fw_head.specs.Head.{Head, row_of}
 use Rattle.fw_head.specs.Phase.{phase_of}
 use Rattle.fw_image.specs.Meter.{Meter}
-use Rattle.fw_image.specs.State as stored
-use Rattle.fw_image.specs.Stored.{IsSame}
 use Rattle.fw_world.specs.declared.error.StepError.{StepError}
 use Rattle.fw_world.specs.declared.error.StepError.TheVariants.{OutOfMemory}
 use Rattle.fw_world.specs.declared.setup.Setup.{Setup}
@@ -34,27 +32,9 @@ AreSameHeads ones others = AllZip (λ one other. IsSameHead one.1 other) ones ot
 
 -- ---- other parts
 
--- two meters are over stores that give what was written and don't fail, and these states of them aren't the same
-pub record HaveOtherStores (one other : Meter) : Type 0 where
-  pub here : stored.State
-  pub there : stored.State
-  pub of_one : here.meter ≡ one
-  pub of_other : there.meter ≡ other
-  pub honest : IsTrue here.honest × IsTrue there.honest
-  pub sound : IsTrue here.sound × IsTrue there.sound
-  pub differ : ¬ IsSame here there
-
--- two meters have other numbers, or other stores
-abbrev pub IsOtherMeter : ℕ × Meter → ℕ × Meter → Type 0
-IsOtherMeter one other = (one.0 ≢ other.0) ⊎ HaveOtherStores one.1 other.1
-
--- they are more or fewer, or two at one place are other meters
-abbrev pub AreOtherMeters : List (ℕ × Meter) → List (ℕ × Meter) → Type 0
-AreOtherMeters ones others = (length ones ≢ length others) ⊎ Any (λ both. IsOtherMeter both.0 both.1) (zip ones others)
-
 -- the parts of a world are others than these
 abbrev pub AreOtherParts : State → List Head → List (ℕ × Meter) → List Datagram → Type 0
-AreOtherParts w heads meters sent = (¬ AreSameHeads w.heads heads) ⊎ (AreOtherMeters w.meters meters ⊎ (w.sent ≢ sent))
+AreOtherParts w heads meters sent = (¬ AreSameHeads w.heads heads) ⊎ ((w.meters ≢ meters) ⊎ (w.sent ≢ sent))
 
 -- in the world of a run over the events before it, an event is refused for another cause than memory
 pub record IsBrokenOff (setup : Setup) (events : List Event) : Type 0 where

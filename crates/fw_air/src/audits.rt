@@ -40,9 +40,9 @@ pub enum AuditError {
 }
 
 /// Runs the events, and compares what they lead to with these parts of a world, in the order of its setup: the books of the head
-/// ends and the phases of their live rows, the meters with their stores, and all datagrams that were sent. Fuses and counts of
-/// faults of the stores may differ. What is answered is the world of the run. The comparison takes no memory; for the live rows of
-/// a head end its cost is that of the square of their number.
+/// ends and the phases of their live rows, the meters (`MeterCore::same`), and all datagrams that were sent. What is answered is
+/// the world of the run. The comparison takes no memory; for the live rows of a head end its cost is that of the square of their
+/// number.
 ///
 /// # Errors
 ///

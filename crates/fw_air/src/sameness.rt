@@ -2,7 +2,7 @@
 
 ghost use Rattle.std.specs.Prelude.{◌≡◌, ◌↔◌, false, All, IsTrue};
 ghost use Rattle.std.specs.List.{AllZip, Any};
-ghost use Rattle.fw_air.specs.Audits.{AreOtherMeters, AreOtherParts, AreSameHeads, IsOtherMeter, IsSameHead};
+ghost use Rattle.fw_air.specs.Audits.{AreOtherParts, AreSameHeads, IsSameHead};
 ghost use Rattle.fw_air.specs.Inside.{IsInPhase};
 ghost use Rattle.fw_world.specs.Parts.{state_of};
 
@@ -10,8 +10,7 @@ use fw_book::{Book, Campaigns, Offer};
 use fw_head::{HeadCore, RowCore};
 use fw_world::{Datagram, NumberedMeter, Parts};
 
-/// Whether the parts of a world are these: the books and the live rows' phases of its head ends, its meters with their stores, and
-/// what was sent.
+/// Whether the parts of a world are these: the books and the live rows' phases of its head ends, its meters, and what was sent.
 pub(crate) fn are_same_parts(
     parts: &Parts,
     heads: &[HeadCore],
@@ -93,8 +92,7 @@ fn is_same_offer(one: &Offer, other: &Offer) -> bool
 
 /// Whether each meter is as the other at its place.
 fn are_same_meters(ones: &[NumberedMeter], others: &[NumberedMeter]) -> bool
-    ensures same { IsTrue result → ones.now ≡ others.now }
-    ensures other { result ≡ false → AreOtherMeters ones.now others.now }
+    ensures { IsTrue result ↔ (ones.now ≡ others.now) }
 {
     ones.len() == others.len()
         && ones
@@ -103,10 +101,9 @@ fn are_same_meters(ones: &[NumberedMeter], others: &[NumberedMeter]) -> bool
             .all(|(one, other)| is_same_meter(one, other))
 }
 
-/// Whether two meters have one number, and stores that are the same.
+/// Whether two meters have one number and are the same.
 fn is_same_meter(one: &NumberedMeter, other: &NumberedMeter) -> bool
-    ensures same { IsTrue result → one.now ≡ other.now }
-    ensures other { result ≡ false → IsOtherMeter one.now other.now }
+    ensures { IsTrue result ↔ (one.now ≡ other.now) }
 {
     one.meter() == other.meter() && one.core().same(other.core())
 }

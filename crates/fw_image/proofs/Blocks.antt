@@ -45,7 +45,7 @@ not_below k = grind (arith, nat_tests)
 one_more : (n k : ℕ) (mn mk : Bool) (vn vk : List ℕ) → (k ≡ n → mk ≡ mn) → (k ≡ n → vk ≡ vn) → cond (mn && (k == n)) (Some vn) (cond (nat_lt k n && mk) (Some vk) None) ≡ cond (nat_lt k (suc n) && mk) (Some vk) None
 one_more n k mn mk vn vk same_mark same_cut = grind (arith, nat_tests)
 
-get-blocks : (b : ℕ) (marks : List Bool) (bytes : List ℕ) (n k : ℕ) → get (blocks_below b marks bytes n) k ≡ block_at b marks bytes n k
+pub get-blocks : (b : ℕ) (marks : List Bool) (bytes : List ℕ) (n k : ℕ) → get (blocks_below b marks bytes n) k ≡ block_at b marks bytes n k
 get-blocks b marks bytes zero k = get-empty nat_cmp k ∙ ap (λ t. cond (t && has marks k) (Some (cut b bytes k)) None) (sym (not_below k))
 get-blocks b marks bytes (suc n) k =
     get_step (has marks n) (blocks_below b marks bytes n) n (cut b bytes n) k
@@ -72,7 +72,7 @@ block_there b marks bytes n k cell e = there_here k n (has marks k) (cut b bytes
 unmarked_here : (k n : ℕ) (mark : Bool) (c : List ℕ) → mark ≡ false → cond (nat_lt k n && mark) (Some c) None ≡ None
 unmarked_here k n mark c e = grind (arith, nat_tests)
 
-get_unmarked : (b : ℕ) (marks : List Bool) (bytes : List ℕ) (n k : ℕ) → has marks k ≡ false → get (blocks_below b marks bytes n) k ≡ None
+pub get_unmarked : (b : ℕ) (marks : List Bool) (bytes : List ℕ) (n k : ℕ) → has marks k ≡ false → get (blocks_below b marks bytes n) k ≡ None
 get_unmarked b marks bytes n k unmarked = get-blocks b marks bytes n k ∙ unmarked_here k n (has marks k) (cut b bytes k) unmarked
 
 -- ---- a block that is written

@@ -1,5 +1,6 @@
 mod Blocks
 mod Meters
+mod Same
 mod Fits
 mod Moves
 mod Judging

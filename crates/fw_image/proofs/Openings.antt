@@ -19,19 +19,17 @@ use Rattle.fw_store.specs.declared.version.HeaderVersion.TheVariants.{One, Two}
 use Rattle.fw_store.specs.declared.store.ImageStore.{Ghosts}
 use Rattle.fw_store.specs.declared.header.Header.{Header}
 use Rattle.fw_store.specs.declared.header.Goal.{Goal}
-use Rattle.fw_store.specs.declared.header.StoredStatus.{StoredStatus}
 use Rattle.fw_store.specs.declared.header.StoredStatus.TheVariants as kept
-use Rattle.fw_verify.specs.Progress.{Progress}
 use Rattle.fw_image.specs.declared.status.TransferStatus.TheVariants.{VerificationSuccessful}
 use Rattle.fw_image.specs.Status.{shown_status}
-use Rattle.fw_image.specs.Meter.{Meter, verifying, IsTrusted, status_of, goal_of, goal_bytes}
+use Rattle.fw_image.specs.Meter.{Meter, IsTrusted, status_of, goal_of, goal_bytes}
 use Rattle.fw_image.specs.Calls.{verified_size, opening_calls}
 use Rattle.fw_verify.specs.Slices.{slice_count}
-use Rattle.fw_image.specs.Stored.{phase_of, phase_at, meter_of, seen, IsHeld, IsVerifying, IsDigested, IsMeterOf, Refused, is_opening_faultless}
-use Rattle.fw_image.specs.Moves.{IsVerifiedGenuine, digested_of}
+use Rattle.fw_image.specs.Stored.{phase_of, meter_of, seen, IsHeld, IsMeterOf, Refused, is_opening_faultless}
+use Rattle.fw_image.specs.Moves.{IsVerifiedGenuine}
 use Rattle.fw_image.specs.declared.error.OpenError.{OpenError}
 use Rattle.fw_image.specs.declared.error.OpenError.TheVariants.{Fault, BadHeader, BadImage}
-use Rattle.fw_image.proofs.Meters.{goal_again, status_again, seen_real, phase_verified}
+use Rattle.fw_image.proofs.Meters.{goal_again, status_again, seen_real}
 use Rattle.fw_image.proofs.Moves.{verified_bytes, genuine_with, genuine_from}
 
 -- ---- the marks that a view has
@@ -85,37 +83,6 @@ same_meter law capacity capacity' h h' d d' is is' spelled spelled' size e =
 pub one_meter : OneHeader → (capacity : ℕ) (d : Device) (a b : Meter) → IsMeterOf capacity d a → IsMeterOf capacity d b → a ≡ b
 one_meter law capacity d a b p q =
     p.means ∙ same_meter law capacity capacity p.header q.header d d p.valid q.valid p.spelled q.spelled refl refl ∙ sym q.means
-
--- ---- two meters of the same store
-
-none_digests : (status : StoredStatus) (goal : Option Goal) → digested_of (phase_of status goal) ≡ 0
-none_digests kept.NotInitiated goal = refl
-none_digests kept.Initiated None = refl
-none_digests kept.Initiated (Some goal) = refl
-none_digests kept.VerificationSuccessful None = refl
-none_digests kept.VerificationSuccessful (Some goal) = refl
-none_digests kept.VerificationFailed None = refl
-none_digests kept.VerificationFailed (Some goal) = refl
-none_digests kept.ActivationSuccessful goal = refl
-
--- a verification has digested a slice at least
-none_and_some : {S : Type 0} (honest : S → Bool) (device : S → Device) (b : S) (h h' : Header) (q : Progress) → IsVerifying honest device b h' q
-    → digested_of (phase_of h.status h.goal) ≡ digested_of (phase_at (Some q) (phase_of h'.status h'.goal)) → ⊥
-none_and_some honest device b h h' q is e =
-    let taken : 0 ≡ q.taken = sym (none_digests h.status h.goal) ∙ e ∙ ap digested_of (phase_verified honest device b h' q is) in
-    omega (arith, is.begun)
-
-pub same_phase : {S : Type 0} (honest : S → Bool) (device : S → Device) (a b : S) (h h' : Header) (digesting digesting' : Option Progress) → IsDigested honest device a h digesting → IsDigested honest device b h' digesting'
-    → h ≡ h' → digested_of (phase_at digesting (phase_of h.status h.goal)) ≡ digested_of (phase_at digesting' (phase_of h'.status h'.goal))
-    → phase_at digesting (phase_of h.status h.goal) ≡ phase_at digesting' (phase_of h'.status h'.goal)
-same_phase honest device a b h h' None None is is' same e = ap (λ (x : Header). phase_of x.status x.goal) same
-same_phase honest device a b h h' None (Some q) is is' same e = absurd (none_and_some honest device b h h' q is' e)
-same_phase honest device a b h h' (Some p) None is is' same e = absurd (none_and_some honest device a h' h p is (sym e))
-same_phase honest device a b h h' (Some p) (Some q) is is' same e =
-    let there : Some is.goal ≡ Some is'.goal = sym is.there ∙ ap (λ (x : Header). x.goal) same ∙ is'.there in
-    let goal : is.goal ≡ is'.goal = cc in
-    let taken : p.taken ≡ q.taken = sym (ap digested_of (phase_verified honest device a h p is)) ∙ e ∙ ap digested_of (phase_verified honest device b h' q is') in
-    phase_verified honest device a h p is ∙ (λ i. verifying (goal i) (taken i)) ∙ sym (phase_verified honest device b h' q is')
 
 -- ---- images
 

@@ -57,3 +57,11 @@ IsVerifiedGenuine m = status_of m.phase ≡ VerificationSuccessful → IsGenuine
 -- how many writes make a header one of version 2
 abbrev pub migrating_writes : Header → ℕ
 migrating_writes h = if block_limit h.version == max_blocks then 0 else 1
+
+-- all is the same in two meters but their transfers and the bytes that they have
+pub record HaveSameFields (a b : Meter) : Type 0 where
+  pub block_size : a.block_size ≡ b.block_size
+  pub capacity : a.capacity ≡ b.capacity
+  pub limit : a.limit ≡ b.limit
+  pub enabled : a.enabled ≡ b.enabled
+  pub name : a.running.name ≡ b.running.name

@@ -172,9 +172,3 @@ pub record Refused {S : Type 0} (honest sound : S → Bool) (capacity faults : S
   pub calls : ℕ
   pub spends : Spends calls (fuse store) (fuse back) (is_opening_faultless error)
   pub found : IsTrue (honest store) → IsFoundIn error (capacity store) (device store) calls
-
--- two stores have the same capacity, header and slots, and the transfers are in the same phase
-pub record IsSame (a b : State) : Type 0 where
-  pub size : a.meter.capacity ≡ b.meter.capacity
-  pub device : a.device ≡ b.device
-  pub phase : a.meter.phase ≡ b.meter.phase

@@ -24,6 +24,8 @@ ghost use Rattle.std.specs.Prelude.{
   length,
   take,
 };
+ghost use Rattle.std.specs.FinMap.{get};
+ghost use Rattle.std.specs.Option.{option_copied};
 ghost use Rattle.sha2.specs.Sha256.{sha256};
 ghost use Rattle.fw_blocks.specs.Cuts.{IsWithinLimits, block_count, max_blocks};
 ghost use Rattle.fw_store.specs.Device.{with_head, slot_bytes};
@@ -35,17 +37,18 @@ ghost use Rattle.fw_store.specs.declared.header.Goal.{Goal};
 ghost use Rattle.fw_verify.specs.Progress.{IsDigesting};
 ghost use Rattle.fw_verify.specs.Slices.{slice_count};
 ghost use Rattle.fw_image.specs.Calls.{verified_size, opening_calls, restart_calls};
-ghost use Rattle.fw_image.specs.Meter.{Meter, status_of, count_of, marks_of, reopened, migrated, IsTrusted};
+ghost use Rattle.fw_image.specs.Meter.{Meter, status_of, goal_of, count_of, marks_of, reopened, migrated, IsTrusted};
 ghost use Rattle.fw_image.specs.Shown.{shown_of, IsView};
 ghost use Rattle.fw_image.specs.Fits.{IsFit};
 ghost use Rattle.fw_image.specs.Step.{enable, initiate, block, verify, activate, IsOffer, IsBlock};
 ghost use Rattle.fw_image.specs.State.{Makes, Turns, Follows, IsOver, stored, outcome_of};
-ghost use Rattle.fw_image.specs.Stored.{meter_of, phase_of, state_of, IsHeld, IsMeterOf, Holds, Opens, Refused, IsSame};
+ghost use Rattle.fw_image.specs.Stored.{meter_of, phase_of, state_of, IsHeld, IsMeterOf, Holds, Opens, Refused};
 ghost use Rattle.fw_image.specs.Moves.{
   verify_outcome,
   judged,
   digested_of,
   migrating_writes,
+  HaveSameFields,
   IsVerifiedPhase,
   IsPlace,
   IsWholeGoal,
@@ -309,6 +312,13 @@ impl<S: ImageStore> Held<S> {
         }
     }
 
+    /// The image that is received, or was verified.
+    fn goal(&self) -> Option<Goal>
+        ensures { result ≡ goal_of self.now.meter.phase }
+    {
+        self.header.goal
+    }
+
     /// How many bytes are digested of an image that is verified, else 0.
     fn digested(&self) -> u32
         ensures { result ≡ digested_of self.now.meter.phase }
@@ -330,6 +340,7 @@ impl<S: ImageStore> Held<S> {
     pub(crate) fn block_count(&self) -> u32
         ensures value { result ≡ count_of self.now.meter }
         ensures few { result ≤ max_blocks }
+        ensures past { (number : ℕ) → result ≤ number → get self.now.meter.cells number ≡ None }
     {
         match self.header.goal {
             Some(goal) => goal.size.div_ceil(self.header.block_size),
@@ -417,13 +428,71 @@ impl Held<MemoryStore> {
         self.store.unfuse();
     }
 
-    /// Whether the two stores have the same capacity, header and slots, and as many bytes are digested.
+    /// Whether the two meters are the same. Bytes of the stores that belong to no image that runs and to no block may differ.
     pub(crate) fn same(&self, other: &Held<MemoryStore>) -> bool
-        ensures same { IsTrue result ↔ IsSame self.now other.now }
-        ensures meters { IsTrue result → self.now.meter ≡ other.now.meter }
+        ensures { IsTrue result ↔ (self.now.meter ≡ other.now.meter) }
     {
-        store_laws::one_header();
-        self.store.same(&other.store) && self.digested() == other.digested()
+        self.has_same_fields(other)
+            && self.has_same_phase(other)
+            && self.running() == other.running()
+            && self.has_same_cells(other)
+    }
+
+    /// Whether both have blocks and slots of the same sizes, headers for as many blocks, and images of one name that run, and are both
+    /// enabled or both disabled.
+    fn has_same_fields(&self, other: &Held<MemoryStore>) -> bool
+        ensures { IsTrue result ↔ HaveSameFields self.now.meter other.now.meter }
+    {
+        self.header.block_size == other.header.block_size
+            && self.store.capacity() == other.store.capacity()
+            && self.header.version.block_limit() == other.header.version.block_limit()
+            && self.header.enabled == other.header.enabled
+            && self.header.running_name == other.header.running_name
+    }
+
+    /// Whether both are in one status, with the same goal and as many bytes of it digested.
+    fn has_same_phase(&self, other: &Held<MemoryStore>) -> bool
+        ensures { IsTrue result ↔ (self.now.meter.phase ≡ other.now.meter.phase) }
+    {
+        self.status() == other.status()
+            && self.goal() == other.goal()
+            && self.digested() == other.digested()
+    }
+
+    /// Whether both have as many blocks, of which the same ones are there, with the same bytes.
+    fn has_same_cells(&self, other: &Held<MemoryStore>) -> bool
+        ensures { IsTrue result
+            ↔ (count_of self.now.meter ≡ count_of other.now.meter) × (self.now.meter.cells ≡ other.now.meter.cells) }
+    {
+        let count = self.block_count();
+        count == other.block_count() && (0..count).all(|number| self.has_same_cell(other, number))
+    }
+
+    /// Whether a block is there in both, with the same bytes, or in neither.
+    fn has_same_cell(&self, other: &Held<MemoryStore>, number: u32) -> bool
+        ensures { IsTrue result ↔ (get self.now.meter.cells number ≡ get other.now.meter.cells number) }
+    {
+        self.cell(number) == other.cell(number)
+    }
+
+    /// The bytes of a block that is there.
+    fn cell(&self, number: u32) -> Option<&[u8]>
+        ensures { option_copied result ≡ get self.now.meter.cells number }
+    {
+        let goal = self.header.goal?;
+        if !self.header.marks.has(number) {
+            return None;
+        }
+        let spare = self.store.slot(self.header.running_slot.other());
+        let image = &spare[..goal.size as usize];
+        Geometry::new(self.header.block_size, goal.size)?.cut(image, number)
+    }
+
+    /// The bytes of the image that runs.
+    fn running(&self) -> &[u8]
+        ensures { result.now ≡ self.now.meter.running.bytes }
+    {
+        &self.store.slot(self.header.running_slot)[..self.header.running_size as usize]
     }
 }
 

@@ -26,7 +26,7 @@ ghost use Rattle.fw_image.specs.Shown.{shown_of, IsView};
 ghost use Rattle.fw_image.specs.Fits.{IsFit};
 ghost use Rattle.fw_image.specs.State.{Makes, Turns, Follows, IsOver, stored, told};
 ghost use Rattle.fw_image.specs.Step.{enable, initiate};
-ghost use Rattle.fw_image.specs.Stored.{IsMeterOf, Holds, Opens, Refused, IsSame};
+ghost use Rattle.fw_image.specs.Stored.{IsMeterOf, Holds, Opens, Refused};
 ghost use Rattle.fw_image.specs.declared.status.TransferStatus.TheVariants as status;
 
 use crate::error::{OpenError, Refusal};
@@ -315,11 +315,11 @@ impl Phase<MemoryStore> {
         }
     }
 
-    /// Whether the two stores have the same capacity, header and slots, and as many bytes are digested where the image is
-    /// being verified. Then the two meters are the same.
+    /// Whether the two meters are the same: in block size, capacity and the most blocks that an image may have, in what runs with its
+    /// bytes, and in the transfer, with how much is digested and the bytes of each block that is there. Other bytes of the slots,
+    /// fuses and counts of faults may differ.
     pub fn same(&self, other: &Self) -> bool
-        ensures same { IsTrue result ↔ IsSame (state_in self.now) (state_in other.now) }
-        ensures meters { IsTrue result → (state_in self.now).meter ≡ (state_in other.now).meter }
+        ensures { IsTrue result ↔ ((state_in self.now).meter ≡ (state_in other.now).meter) }
     {
         self.held().same(other.held())
     }

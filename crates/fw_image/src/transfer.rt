@@ -8,7 +8,7 @@ ghost use Rattle.fw_image.specs.Shown.{shown_of, IsView};
 ghost use Rattle.fw_image.specs.Fits.{IsFit};
 ghost use Rattle.fw_image.specs.State.{Makes, Turns, Follows, IsOver, stored, outcome_of, told, left};
 ghost use Rattle.fw_image.specs.Step.{enable, initiate, block, verify, activate};
-ghost use Rattle.fw_image.specs.Stored.{Holds, IsSame};
+ghost use Rattle.fw_image.specs.Stored.{Holds};
 ghost use Rattle.fw_image.specs.declared.status.TransferStatus.TheVariants as status;
 
 use crate::error::Refusal;
@@ -280,11 +280,11 @@ impl<P: Status> Transfer<MemoryStore, P> {
         self.held.unfuse();
     }
 
-    /// Whether the two stores have the same capacity, header and slots, and as many bytes are digested where the image is
-    /// being verified. Then the two meters are the same.
+    /// Whether the two meters are the same: in block size, capacity and the most blocks that an image may have, in what runs with its
+    /// bytes, and in the transfer, with how much is digested and the bytes of each block that is there. Other bytes of the slots,
+    /// fuses and counts of faults may differ.
     pub fn same(&self, other: &Self) -> bool
-        ensures same { IsTrue result ↔ IsSame self.now other.now }
-        ensures meters { IsTrue result → self.now.meter ≡ other.now.meter }
+        ensures { IsTrue result ↔ (self.now.meter ≡ other.now.meter) }
     {
         self.held.same(&other.held)
     }

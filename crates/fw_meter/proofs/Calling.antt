@@ -1,5 +1,5 @@
 -- The calls of its store that a meter makes for a datagram, and what a fault leaves.
-use Rattle.std.proofs.Common.{◌≡◌, ◌⊎◌, ◌-◌, ◌≤◌, ◌<◌, ℕ, Bool, true, false, IsTrue, List, Option, Some, None, inl, inr, refl, sym, ap, subst, ◌∙◌, arith}
+use Rattle.std.proofs.Common.{◌≡◌, ◌⊎◌, ◌-◌, ◌≤◌, ℕ, Bool, true, false, IsTrue, List, Option, Some, None, inl, inr, refl, sym, ap, subst, ◌∙◌, arith}
 use Rattle.std.proofs.lemmas.Bool.{cases_Bool}
 use Rattle.std.specs.Prelude.{if◌then◌else◌}
 use Rattle.fw_apdu.specs.Laws as apdu
@@ -20,10 +20,10 @@ use Rattle.fw_image.specs.Step.{Operation, OperationOutcome, done, refused, veri
 use Rattle.fw_image.specs.declared.error.Refusal.{Refusal}
 use Rattle.fw_image.specs.declared.error.Refusal.TheVariants.{Disabled, BadInitiate, BadBlock, Missing, Fault, Differs}
 use Rattle.fw_meter.specs.Handling.{Brings, BringsNothing, Handles, Responds}
-use Rattle.fw_meter.specs.Inside.{CallsFor, CallsOf, IsCalled, IsLeftBy, IsMade, Steps, code_number as code_number_of}
+use Rattle.fw_meter.specs.Inside.{CallsOf, IsCalled, IsMade, Steps, code_number as code_number_of}
 use Rattle.fw_meter.specs.declared.code.Code.TheVariants as code
 use Rattle.fw_meter.specs.Step.{MeterResult, coded, tells_no_fault, operation_code, Operates, MeterStep, activation_of}
-use Rattle.fw_meter.specs.Stopping.{AsksFor, IsServed, MakesCalls, CallsStore, IsCutShort, IsWhole, StopsAfter}
+use Rattle.fw_meter.specs.Stopping.{AsksFor, IsServed, MakesCalls, CallsStore, StopsAfter}
 use Rattle.fw_meter.proofs.Made.{not_served}
 use Rattle.fw_meter.proofs.OneAnswer.{one_brought}
 use Rattle.fw_meter.proofs.Stops.{activates_none, fault_told_by}

@@ -1,5 +1,5 @@
 -- What a stop after some calls of the store leaves.
-use Rattle.std.proofs.Common.{◌≡◌, ◌<◌, ◌≤◌, ℕ, Bool, true, false, IsTrue, List, Option, Some, None, is_some, length, inl, inr, refl, sym, ap, subst, ◌∙◌, arith}
+use Rattle.std.proofs.Common.{◌≡◌, ℕ, List, Option, Some, None, is_some, inl, inr, refl, sym, ap, subst, ◌∙◌, arith}
 use Rattle.std.specs.Prelude.{if◌then◌else◌}
 use Rattle.std.specs.FinMap.{get}
 use Rattle.fw_apdu.specs.Laws as apdu
@@ -9,13 +9,13 @@ use Rattle.fw_wrapper.specs.Laws as wrapper
 use Rattle.fw_server.specs.Meaning.{Meaning, read, enable, initiate, block, verify, activate, refused as denied, meaning_of}
 use Rattle.fw_store.specs.Fuse.{half_torn}
 use Rattle.fw_store.specs.StoreLaws.{TornSize}
-use Rattle.fw_image.specs.Calls.{calls_for, left_by_fault}
+use Rattle.fw_image.specs.Calls.{left_by_fault}
 use Rattle.fw_image.specs.Laws as image
 use Rattle.fw_image.specs.Meter.{Meter}
 use Rattle.fw_image.specs.Step as operations
 use Rattle.fw_image.specs.Step.{Operation, with_cell}
-use Rattle.fw_meter.specs.Laws.{Stops, TearsBlock, StopAfterIsStop, OneStop}
-use Rattle.fw_meter.specs.Stopping.{AsksFor, IsServed, IsCutShort, IsWhole, StopsAfter}
+use Rattle.fw_meter.specs.Laws.{Stops, StopAfterIsStop, OneStop}
+use Rattle.fw_meter.specs.Stopping.{AsksFor, IsServed}
 use Rattle.fw_meter.proofs.Calling.{served_once}
 use Rattle.fw_meter.proofs.OneAnswer.{one_answer}
 use Rattle.fw_meter.proofs.Stops.{admits_block}

@@ -1,5 +1,5 @@
 -- From an operation and its reply to what a meter does with a request.
-use Rattle.std.proofs.Common.{◌≡◌, ℕ, Bool, true, List, Option, None, refl, subst, ap, ◌∙◌}
+use Rattle.std.proofs.Common.{◌≡◌, ℕ, true, List, Option, None, refl, subst, ap, ◌∙◌}
 use Rattle.fw_apdu.specs.Request.{RequestContent}
 use Rattle.fw_names.specs.Name.{Name}
 use Rattle.fw_server.specs.Meaning.{Meaning, read, refused, meaning_of, code_number}

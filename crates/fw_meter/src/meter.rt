@@ -32,7 +32,7 @@ ghost use Rattle.fw_image.specs.Meter.{Meter, reopened, migrated, restarted, IsT
 ghost use Rattle.fw_image.specs.Shown.{shown_of, IsView};
 ghost use Rattle.fw_image.specs.Fits.{IsFit};
 ghost use Rattle.fw_image.specs.State.{Follows, Counts, Turns, IsOver, stored};
-ghost use Rattle.fw_image.specs.Stored.{Holds, IsMeterOf, Opens, Refused, IsSame, is_opening_faultless};
+ghost use Rattle.fw_image.specs.Stored.{Holds, IsMeterOf, Opens, Refused, is_opening_faultless};
 ghost use Rattle.fw_image.specs.declared.error.OpenError.TheVariants as not_opened;
 ghost use Rattle.fw_meter.specs.Handling.{Handles, Responds, MayWantMemory, reply_to, reply_bytes};
 ghost use Rattle.fw_meter.specs.Stopping.{CallsStore, StopsAfter};
@@ -385,11 +385,11 @@ impl MeterCore<MemoryStore> {
         }
     }
 
-    /// Whether the two stores have the same capacity, header and slots, and as many bytes are digested where the image is
-    /// being verified. Then the two meters are the same. Fuses and counts of faults may differ.
+    /// Whether the two meters are the same: in block size, capacity and the most blocks that an image may have, in what runs with its
+    /// bytes, and in the transfer, with how much is digested and the bytes of each block that is there. Other bytes of the slots,
+    /// fuses and counts of faults may differ.
     pub fn same(&self, other: &Self) -> bool
-        ensures same { IsTrue result ↔ IsSame self.now other.now }
-        ensures meters { IsTrue result → self.now.meter ≡ other.now.meter }
+        ensures { IsTrue result ↔ (self.now.meter ≡ other.now.meter) }
     {
         match (&self.phase, &other.phase) {
             (Some(phase), Some(other)) => phase.same(other),

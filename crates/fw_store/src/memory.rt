@@ -133,6 +133,16 @@ impl MemoryStore {
         self.fuse = None;
     }
 
+    /// The bytes of a slot, as many as the capacity. That is no call of the device, and doesn't fail.
+    pub fn slot(&self, slot: Slot) -> &[u8]
+        ensures { result.now ≡ slot_bytes (device_of self.now) slot }
+    {
+        match slot {
+            Slot::First => self.first.as_slice(),
+            Slot::Second => self.second.as_slice(),
+        }
+    }
+
     /// Whether the two have the same capacity, header and slots. Their fuses and counts of faults may differ.
     pub fn same(&self, other: &MemoryStore) -> bool
         ensures { IsTrue result ↔ IsSame self.now other.now }

@@ -40,6 +40,19 @@ const PAIRS: &[(Compared, &str)] = &[
         ),
         "false",
     ),
+    // bytes that no block has make no difference
+    (
+        Compared(
+            &[Part::Says(&[(ENABLE, SET_DONE), (INITIATE_BBBB, DONE)])],
+            &[Part::Says(&[
+                (ENABLE, SET_DONE),
+                (INITIATE_BBBB, DONE),
+                (AA_AT_0, DONE),
+                (INITIATE_BBBB, DONE),
+            ])],
+        ),
+        "true",
+    ),
 ];
 
 #[test]

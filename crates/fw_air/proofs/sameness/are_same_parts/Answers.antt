@@ -2,7 +2,7 @@ use Rattle.std.proofs.Common.{List, sym, subst, ◌∙◌, inl, inr}
 use Rattle.std.specs.List.{AllZip}
 use Rattle.std.proofs.lemmas.Bool.{false≢true}
 use Rattle.fw_head.specs.Head.{Head}
-use Rattle.fw_air.specs.Audits.{AreOtherMeters, IsSameHead}
+use Rattle.fw_air.specs.Audits.{IsSameHead}
 use Rattle.fw_air.proofs.Alike.{behind, in_front}
 use Rattle.fw_air.proofs.sameness.are_same_parts.Goals.{then-are_same_heads, else-are_same_heads}
 use Rattle.fw_air.proofs.sameness.are_same_parts.Goals as goal
@@ -19,7 +19,7 @@ pub returns-else-are_same_meters-clause-other : goal.returns-else-are_same_meter
 returns-else-are_same_meters-clause-other c =
     λ differ. elim c.if-are_same_heads.branch [
       | then-are_same_heads w ↦
-          inr (inl (subst (λ ones. AreOtherMeters ones c.args.meters.now) w.deref-then-are_same_heads.ensures.value (w.are_same_meters.ensures.other (sym w.value-is ∙ differ))))
+          inr (inl (λ same. false≢true (sym differ ∙ w.value-is ∙ w.are_same_meters.ensures.1 (w.deref-then-are_same_heads.ensures.value ∙ same))))
       | else-are_same_heads w ↦
           inl (λ same. false≢true (sym w.if-are_same_heads.false ∙ c.are_same_heads.ensures.1 (subst (λ (ones : List Head). AllZip IsSameHead ones c.args.heads.now) (sym c.deref.ensures.value) (in_front c.args.parts.now.heads.items c.args.heads.now same))))
     ]

@@ -1,5 +1,5 @@
 use Rattle.std.proofs.Common.{◌≡◌, None, Some, refl, inl}
-use Rattle.fw_names.specs.Name.{Name, SpellsName}
+use Rattle.fw_names.specs.Name.{SpellsName}
 use Rattle.fw_server.specs.Meaning as meaning
 use Rattle.fw_image.specs.Phases.{state_in}
 use Rattle.fw_image.specs.Step as image

@@ -1,4 +1,4 @@
-use Rattle.std.proofs.Common.{◌≡◌, ℕ, Option, None, Some, IsTrue, sym, ap, subst}
+use Rattle.std.proofs.Common.{◌≡◌, Option, Some, IsTrue, sym, ap, subst}
 use Rattle.std.proofs.lemmas.Result.{IfOk-weaker}
 use Rattle.fw_apdu.specs.View.{request_content, request_invoke}
 use Rattle.fw_names.specs.Name.{Name}
