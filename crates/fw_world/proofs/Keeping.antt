@@ -1,5 +1,5 @@
 -- Which head ends and which meters are there stays, and so each number stands once.
-use Rattle.std.proofs.Common.{◌≡◌, ℕ, nat_eq, eqb-true, Bool, true, false, cond, ◌==◌, ◌||◌, List, [], ◌∷◌, ◌++◌, map, Some, refl, sym, ap, subst, ◌∙◌, All}
+use Rattle.std.proofs.Common.{◌≡◌, ℕ, nat_eq, eqb-true, Bool, true, false, cond, ◌==◌, ◌||◌, List, [], ◌∷◌, map, Some, refl, sym, ap, ◌∙◌}
 use Rattle.std.specs.List.{list_any}
 use Rattle.std.specs.Map.{lookup, set_value, keys_of}
 use Rattle.std.proofs.lemmas.Map.{keys-set_value}
@@ -9,7 +9,7 @@ use Rattle.fw_world.specs.declared.setup.HeadSetup.{HeadSetup}
 use Rattle.fw_world.specs.declared.setup.MeterSetup.{MeterSetup}
 use Rattle.fw_world.specs.World.{Datagram, Activation}
 use Rattle.fw_world.specs.Setup.{repeats, number_of_head, number_of_meter, head_entry, meter_entry}
-use Rattle.fw_world.specs.State.{State, IsAddressed}
+use Rattle.fw_world.specs.State.{State}
 use Rattle.fw_world.specs.Parts.{head_behind, number_of, IsOnce}
 use Rattle.fw_world.specs.Inside.{set_entry, IsWorld}
 use Rattle.fw_world.proofs.Places.{moved_own}

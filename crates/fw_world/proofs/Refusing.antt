@@ -13,9 +13,9 @@ use Rattle.fw_world.specs.declared.datagram.Direction.TheVariants.{ToMeter, ToHe
 use Rattle.fw_world.specs.declared.error.StepError.{StepError}
 use Rattle.fw_world.specs.declared.error.StepError.TheVariants.{NoSuchActor, OutOfMemory}
 use Rattle.fw_world.specs.World.{Datagram}
-use Rattle.fw_world.specs.Step.{Event, open_campaign, deliver, stop}
+use Rattle.fw_world.specs.Step.{Event, open_campaign, tick, deliver, stop}
 use Rattle.fw_world.specs.State.{State, head_at, meter_at}
-use Rattle.fw_world.specs.Refusals.{of_book, by_book, with_head, with_meter, with_datagram, no_addressee, no_stop, refusal_of, AddresseeMayWant, MayWantMemory, IsRefused}
+use Rattle.fw_world.specs.Refusals.{of_book, by_book, with_head, with_meter, with_datagram, no_addressee, no_stop, refusal_of, AddresseeMayWant, MeterMayWant, MayWantMemory, IsRefused}
 use Rattle.fw_world.proofs.Places.{head_found}
 
 -- what is told is this error
@@ -60,6 +60,15 @@ module _ (s old : State) (is : s ≡ old) (campaign : Campaign) (key : ℕ) (sam
         go (Some refusal) e h = inl (by_books ∙ ap by_book e ∙ ap (λ (x : BookError). Some (of_book x)) (sym h))
         go None e h = inr (by_books ∙ ap by_book e, ap of_book h, tt)
 
+-- ---- a tick
+
+pub tick_admitted : (s : State) (number meter : ℕ) (head : Head) → head_at s number ≡ Some head → is_some (meter_at s meter) ≡ true → refusal_of s (tick number meter) ≡ None
+tick_admitted s number meter head there here = ap (λ (o : Option Head). with_head o (λ head. with_meter (meter_at s meter))) there ∙ go (meter_at s meter) here
+  where
+    go : (o : Option Meter) → is_some o ≡ true → with_meter o ≡ None
+    go None e = absurd cc
+    go (Some m) e = refl
+
 -- ---- a delivery, and a stop
 
 module _ (s old : State) (is : s ≡ old) (number : ℕ) (d : Datagram) (at : slice_get s.sent number ≡ Some d) where
@@ -83,6 +92,9 @@ module _ (s old : State) (is : s ≡ old) (number : ℕ) (d : Datagram) (at : sl
   head_may_want head way found from bytes by carried may =
       let wants = subst (λ (m : ℕ). RowsMayWant head.rows m d.bytes) by (subst (RowsMayWant head.rows from) carried may) in
       (d, there, subst (λ (w : Direction). AddresseeMayWant old w d) (sym way) (head, found, wants))
+
+  pub stop_may_want : (calls torn : ℕ) (meter : Meter) → meter_at old d.meter ≡ Some meter → (bytes : List ℕ) → bytes ≡ d.bytes → MeterMayWant meter bytes → MayWantMemory old (stop number calls torn)
+  stop_may_want calls torn meter found bytes carried may = (d, meter, there, found, subst (MeterMayWant meter) carried may)
 
   pub stopped_meter : (calls torn : ℕ) (meter : Meter) → d.direction ≡ ToMeter → meter_at old d.meter ≡ Some meter → refusal_of old (stop number calls torn) ≡ None
   stopped_meter calls torn meter way found =

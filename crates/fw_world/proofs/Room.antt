@@ -1,22 +1,63 @@
 -- There is room for an image that a meter switches to.
-use Rattle.std.proofs.Common.{◌≡◌, ℕ, zero, suc, Bool, true, List, length, Option, Some, None, inl, inr, refl, sym, ◌∙◌, ap, subst}
+use Rattle.std.proofs.Common.{◌≡◌, ◌≤◌, ℕ, zero, suc, Bool, true, List, length, Option, Some, None, inl, inr, refl, sym, ◌∙◌, ap, subst}
 use Rattle.std.specs.Prelude.{IfSome}
 use Rattle.fw_names.specs.Name.{Name}
 use Rattle.fw_store.specs.Header.{goal_count}
 use Rattle.fw_store.specs.declared.header.Goal.{Goal}
 use Rattle.fw_server.specs.Meaning as meaning
 use Rattle.fw_server.specs.Meaning.{Meaning, meaning_of}
+use Rattle.fw_image.specs.Calls.{verified_size}
 use Rattle.fw_image.specs.Fits.{IsFit}
 use Rattle.fw_image.specs.Laws.{JoinedSize}
-use Rattle.fw_image.specs.Meter.{Image, Meter, sealed, status_of, goal_of, joined, goal_bytes, IsGenuine, IsTrusted}
+use Rattle.fw_image.specs.Meter.{Image, Meter, Phase, sealed, status_of, goal_of, joined, goal_bytes, IsGenuine, IsTrusted}
 use Rattle.fw_image.specs.Step as image
 use Rattle.fw_image.specs.Step.{OperationOutcome, done, refused, verification_initiated, Admits, switched_to, Step}
 use Rattle.fw_meter.specs.Step.{MeterResult, got, coded, MeterStep, activation_of}
 use Rattle.fw_meter.specs.Handling.{Handles}
 use Rattle.fw_world.specs.Inside.{HasRoom, IsRunning, switched_name}
+use Rattle.fw_world.specs.Refusals.{HoldsVerified}
 use Rattle.fw_world.proofs.SafeMeters.{admits_activate, genuine_bytes, switches}
 use Rattle.fw_world.proofs.Handled.{activate_switches}
 
+-- ---- a meter switches to an image only by an activate that its phase admits
+
+module _ (old new : Meter) (Q : Type 0) (so : Admits old old.phase image.activate → new ≡ switched_to old old.phase (goal_bytes old) → Q) where
+  outcome_switches : (made : OperationOutcome) (name : Name) → Step true old image.activate made new → switches image.activate made new ≡ Some name → Q
+  outcome_switches done name (inl h) e = let told = h.told in absurd cc
+  outcome_switches done name (inr h) e = so h.serves.1 (h.does.is refl)
+  outcome_switches (refused r) name step e = absurd cc
+  outcome_switches verification_initiated name step e = absurd cc
+
+  step_switches : (asked : Meaning) (result : MeterResult) (name : Name) → MeterStep true old asked result new → activation_of asked result new ≡ Some name → Q
+  step_switches (meaning.read reading) result name h e = absurd cc
+  step_switches (meaning.refused refusal) result name h e = absurd cc
+  step_switches (meaning.enable b) result name h e = absurd cc
+  step_switches (meaning.initiate identifier size) result name h e = absurd cc
+  step_switches (meaning.block number bytes) result name h e = absurd cc
+  step_switches meaning.verify result name h e = absurd cc
+  step_switches meaning.activate result name (made, step, told) e =
+      outcome_switches made name step (sym (activate_switches new made) ∙ ap (λ (r : MeterResult). activation_of meaning.activate r new) (sym told) ∙ e)
+
+  handled_switches : (Faults : Bool → Type 0) (datagram : List ℕ) (reply : Option (List ℕ)) (activated : Option Name) → Handles true Faults old datagram reply activated new
+      → (name : Name) → activated ≡ Some name → Q
+  handled_switches Faults datagram reply activated (inl h) name e = step_switches (meaning_of h.content) h.responds.result name h.responds.steps (sym h.responds.activates ∙ e)
+  handled_switches Faults datagram reply activated (inr h) name e = let none = h.none_activated in absurd cc
+
+-- it held a verified one
+module _ (old new : Meter) (fits : IsFit old) where
+  switched_held : Admits old old.phase image.activate → HoldsVerified old
+  switched_held admits =
+      let is_sealed = admits_activate old old.phase admits in
+      let goal : Goal = is_sealed.0 in
+      let phase : old.phase ≡ sealed goal = is_sealed.1 in
+      let offer = fits.goal goal (ap goal_of phase) in
+      subst (λ (p : Phase). 1 ≤ verified_size p) (sym phase) offer.limits.begins
+
+  pub handled_held : (Faults : Bool → Type 0) (datagram : List ℕ) (reply : Option (List ℕ)) (activated : Option Name) → Handles true Faults old datagram reply activated new
+      → (name : Name) → activated ≡ Some name → HoldsVerified old
+  handled_held Faults datagram reply activated = handled_switches old new (HoldsVerified old) (λ admits is. switched_held admits) Faults datagram reply activated
+
+-- and the room for that one is room for the one that runs
 module _ (sizes : JoinedSize) (old new : Meter) (fits : IsFit old) (trusted : IsTrusted old) (room : List ℕ) (has : HasRoom old room) where
   switched_room : Admits old old.phase image.activate → new ≡ switched_to old old.phase (goal_bytes old) → length room ≡ length new.running.bytes
   switched_room admits is =
@@ -33,30 +74,18 @@ module _ (sizes : JoinedSize) (old new : Meter) (fits : IsFit old) (trusted : Is
       let same : new ≡ switched_to old (sealed goal) (Some bytes.0) = is ∙ (λ i. switched_to old (phase i) (bytes.1 i)) in
       has goal phase ∙ sym size ∙ sym (ap (λ (m : Meter). length m.running.bytes) same)
 
-  outcome_room : (made : OperationOutcome) (name : Name) → Step true old image.activate made new → switches image.activate made new ≡ Some name → length room ≡ length new.running.bytes
-  outcome_room done name (inl h) e = let told = h.told in absurd cc
-  outcome_room done name (inr h) e = switched_room h.serves.1 (h.does.is refl)
-  outcome_room (refused r) name step e = absurd cc
-  outcome_room verification_initiated name step e = absurd cc
-
-  step_room : (asked : Meaning) (result : MeterResult) (name : Name) → MeterStep true old asked result new → activation_of asked result new ≡ Some name → length room ≡ length new.running.bytes
-  step_room (meaning.read reading) result name h e = absurd cc
-  step_room (meaning.refused refusal) result name h e = absurd cc
-  step_room (meaning.enable b) result name h e = absurd cc
-  step_room (meaning.initiate identifier size) result name h e = absurd cc
-  step_room (meaning.block number bytes) result name h e = absurd cc
-  step_room meaning.verify result name h e = absurd cc
-  step_room meaning.activate result name (made, step, told) e =
-      outcome_room made name step (sym (activate_switches new made) ∙ ap (λ (r : MeterResult). activation_of meaning.activate r new) (sym told) ∙ e)
-
   pub handled_room : (Faults : Bool → Type 0) (datagram : List ℕ) (reply : Option (List ℕ)) (activated : Option Name) → Handles true Faults old datagram reply activated new
       → (name : Name) → activated ≡ Some name → length room ≡ length new.running.bytes
-  handled_room Faults datagram reply activated (inl h) name e = step_room (meaning_of h.content) h.responds.result name h.responds.steps (sym h.responds.activates ∙ e)
-  handled_room Faults datagram reply activated (inr h) name e = let none = h.none_activated in absurd cc
+  handled_room Faults datagram reply activated = handled_switches old new (length room ≡ length new.running.bytes) switched_room Faults datagram reply activated
 
 pub each_some : {A : Type 0} (o : Option A) (P : A → Type 0) → ((x : A) → o ≡ Some x → P x) → IfSome o P
 each_some None P f = tt
 each_some (Some x) P f = f x refl
+
+-- so it is where an image was noted as switched to
+pub held_by : (Q : Type 0) (activated : Option Name) → ((name : Name) → activated ≡ Some name → Q) → (switched : Option Image) → switched_name switched ≡ activated → IfSome switched (λ _. Q)
+held_by Q activated held None named = tt
+held_by Q activated held (Some image) named = held image.name (sym named)
 
 -- ---- the name is that of the image that runs
 

@@ -6,7 +6,7 @@ use Rattle.fw_image.specs.Meter.{Meter}
 use Rattle.fw_head.specs.Head.{Head, sends_to}
 use Rattle.fw_world.specs.declared.datagram.Direction.{Direction}
 use Rattle.fw_world.specs.declared.datagram.Direction.TheVariants.{ToMeter, ToHead}
-use Rattle.fw_world.specs.World.{Datagram, Activation}
+use Rattle.fw_world.specs.World.{Datagram}
 use Rattle.fw_world.specs.Step.{Event, open_campaign, cancel_campaign, tick, deliver, stop, restart_meter, stop_restart, restart_head, turn, replies}
 use Rattle.fw_world.specs.State.{State, head_at, meter_at, set_head, IsAddressed, AreAddressed, sent_to, StateStep, DeliversAt}
 use Rattle.fw_world.specs.Laws.{ActorsStay, SentStaysAddressed}

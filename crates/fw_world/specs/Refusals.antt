@@ -1,11 +1,14 @@
 -- Public vocabulary: what an event is refused for, and which events may want memory.
-use Rattle.std.specs.Prelude.{◌≡◌, ◌⊎◌, is_some, Option, Some, None, slice_get, if◌then◌else◌}
+use Rattle.std.specs.Prelude.{◌≡◌, ◌⊎◌, ◌≤◌, ℕ, List, IsSomeAnd, is_some, Option, Some, None, slice_get, if◌then◌else◌}
 use Rattle.std.specs.List.{list_all}
 use Rattle.fw_book.specs.declared.error.BookError.{BookError}
 use Rattle.fw_book.specs.declared.error.BookError.TheVariants as book
 use Rattle.fw_book.specs.Changes.{opening_refusal, cancel_refusal}
-use Rattle.fw_head.specs.Head.{Head, RowsMayWant}
+use Rattle.fw_head.specs.Head.{Head, row_of, RowsMayWant}
+use Rattle.fw_head.specs.Phase.{IsLive}
+use Rattle.fw_image.specs.Calls.{verified_size}
 use Rattle.fw_image.specs.Meter.{Meter}
+use Rattle.fw_meter.specs.Handling as meter
 use Rattle.fw_world.specs.declared.datagram.Direction.{Direction}
 use Rattle.fw_world.specs.declared.datagram.Direction.TheVariants.{ToMeter, ToHead}
 use Rattle.fw_world.specs.declared.error.StepError.{StepError}
@@ -58,17 +61,31 @@ refusal_of s (stop_restart number calls torn) = with_meter (meter_at s number)
 refusal_of s (restart_head number) = with_head (head_at s number) (λ head. None)
 refusal_of s (turn number) = with_meter (meter_at s number)
 
+-- a meter has a live row of this head end
+abbrev pub HasLiveRow : Head → ℕ → Type 0
+HasLiveRow head meter = IsSomeAnd (row_of head.rows meter) (λ row. IsLive row.stage)
+
+-- a meter holds an image that it verified and may switch to
+abbrev pub HoldsVerified : Meter → Type 0
+HoldsVerified m = 1 ≤ verified_size m.phase
+
+-- a meter may want memory for a datagram, or for the image that it may switch to
+abbrev pub MeterMayWant : Meter → List ℕ → Type 0
+MeterMayWant m datagram = meter.MayWantMemory datagram ⊎ HoldsVerified m
+
 -- a meter may always want memory for a datagram, and a head end where the sender's live row may
 abbrev pub AddresseeMayWant : State → Direction → Datagram → Type 0
 AddresseeMayWant s ToMeter d = Unit {0}
 AddresseeMayWant s ToHead d = (head : Head) × (head_at s d.head ≡ Some head) × RowsMayWant head.rows d.meter d.bytes
 
--- an opening, a tick and a stop may want memory, and a delivery where its addressee may
+-- An opening may want memory, a tick where the meter has a live row, a delivery where its addressee may, and a stop where the datagram or
+-- the meter may.
 abbrev pub MayWantMemory : State → Event → Type 0
 MayWantMemory s (open_campaign campaign release image meters) = Unit {0}
-MayWantMemory s (tick head meter) = Unit {0}
+MayWantMemory s (tick number meter) = (head : Head) × (head_at s number ≡ Some head) × HasLiveRow head meter
 MayWantMemory s (deliver number) = (d : Datagram) × (slice_get s.sent number ≡ Some d) × AddresseeMayWant s d.direction d
-MayWantMemory s (stop number calls torn) = Unit {0}
+MayWantMemory s (stop number calls torn) =
+    (d : Datagram) × (m : Meter) × (slice_get s.sent number ≡ Some d) × (meter_at s d.meter ≡ Some m) × MeterMayWant m d.bytes
 MayWantMemory s event = ⊥
 
 -- memory is refused where nothing else is a reason

@@ -1,20 +1,27 @@
 //! What is appended to the lists of a world, for which there is room, and what is looked up among its meters.
 
-ghost use Rattle.std.specs.Prelude.{◌≡◌, ◌+◌, ◌≤◌, ◌<◌, ◌++◌, ◌∷◌, [], is_some, nat_eq, length, slice_get};
+ghost use Rattle.std.specs.Prelude.{◌≡◌, ◌+◌, ◌≤◌, ◌<◌, ◌++◌, ◌∷◌, [], IfSome, OnOk, OnErr, is_some, nat_eq, length, slice_get};
 ghost use Rattle.std.specs.List.{list_all};
 ghost use Rattle.std.specs.Map.{lookup};
 ghost use Rattle.std.specs.Option.{option_copied};
 ghost use Rattle.std.specs.Vec.{vec_len, vec_capacity};
+ghost use Rattle.fw_head.specs.Head.{sends_to};
 ghost use Rattle.fw_head.specs.Row.{bytes_of};
 ghost use Rattle.fw_meter.specs.Handling.{reply_bytes};
 ghost use Rattle.fw_world.specs.Inside.{noted, replied};
+ghost use Rattle.fw_world.specs.Refusals.{HasLiveRow, HoldsVerified};
 ghost use Rattle.fw_world.specs.State.{sent_to};
 
 use crate::activation::Activation;
 use crate::datagram::{Datagram, Direction};
 use crate::meters::Meters;
-use crate::seat::Switched;
+use crate::seat::{Seat, Switched};
+use fw_head::HeadCore;
 use fw_names::{HeadId, MeterId};
+use std::alloc::AllocError;
+
+/// The most datagrams that a tick sends.
+const MAX_SENDS: usize = 15;
 
 /// Whether each of these meters is there.
 pub(crate) fn all_there(there: &Meters, meters: &[MeterId]) -> bool
@@ -30,6 +37,35 @@ pub(crate) fn sent_at(sent: &[Datagram], number: usize) -> Option<&Datagram>
     ensures { option_copied result ≡ slice_get sent.now number }
 {
     sent.get(number)
+}
+
+/// Makes room for what a head end sends to a meter at a tick: none where the meter has no live row.
+pub(crate) fn room_to_send(
+    sent: &mut Vec<Datagram>,
+    head: &HeadCore,
+    meter: MeterId,
+) -> Result<(), AllocError>
+    ensures items { sent.new.items ≡ sent.old.items }
+    ensures room { OnOk result (length (sends_to head.now meter) ≤ 15
+        → vec_len sent.new + length (sends_to head.now meter) ≤ vec_capacity sent.new) }
+    ensures memory { OnErr result (HasLiveRow head.now meter) }
+{
+    if !head.has_row(meter) {
+        return Ok(());
+    }
+    sent.reserve(MAX_SENDS)
+}
+
+/// Makes room for a note of the image that a meter may switch to: none where it holds no verified one.
+pub(crate) fn room_to_note(activations: &mut Vec<Activation>, seat: &Seat) -> Result<(), AllocError>
+    ensures items { activations.new.items ≡ activations.old.items }
+    ensures room { OnOk result (HoldsVerified seat.now → vec_len activations.new < vec_capacity activations.new) }
+    ensures memory { OnErr result (HoldsVerified seat.now) }
+{
+    if seat.core().verified_size() == 0 {
+        return Ok(());
+    }
+    activations.reserve(1)
 }
 
 /// Appends one, for which there is room.
@@ -82,9 +118,9 @@ pub(crate) fn reply(sent: &mut Vec<Datagram>, head: HeadId, meter: MeterId, repl
     );
 }
 
-/// Notes the image that a meter switched to, if it did.
+/// Notes the image that a meter switched to, if it did. There is room then.
 pub(crate) fn note(activations: &mut Vec<Activation>, meter: MeterId, switched: Option<Switched>)
-    requires { vec_len activations.old < vec_capacity activations.old }
+    requires { IfSome switched (λ _. vec_len activations.old < vec_capacity activations.old) }
     ensures { activations.new.items ≡ activations.old.items ++ noted meter switched }
 {
     let Some(Switched { name, bytes }) = switched else {

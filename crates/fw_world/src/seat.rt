@@ -13,6 +13,7 @@ ghost use Rattle.fw_meter.specs.Handling.{Handles, reply_bytes};
 ghost use Rattle.fw_meter.specs.Stopping.{StopsAfter};
 ghost use Rattle.fw_world.specs.State.{restarted_within};
 ghost use Rattle.fw_world.specs.Inside.{IsSound, HasRoom, IsRunning, switched_name};
+ghost use Rattle.fw_world.specs.Refusals.{HoldsVerified, MeterMayWant};
 
 use crate::error::SetupError;
 use fw_meter::{MeterCore, OutOfMemory};
@@ -127,7 +128,9 @@ impl Seat {
     pub(crate) fn handle(&mut self, alloc: Global, datagram: &[u8]) -> Result<Served, OutOfMemory>
         ensures handled { IfOk result (λ s. Handles true IsTrue self.old datagram.now (reply_bytes s.reply) (switched_name s.switched) self.new) }
         ensures switched { IfOk result (λ s. IsRunning s.switched self.new) }
+        ensures held { IfOk result (λ s. IfSome s.switched (λ _. HoldsVerified self.old)) }
         ensures same { OnErr result (self.new ≡ self.old) }
+        ensures memory { OnErr result (MeterMayWant self.old datagram.now) }
     {
         fw_meter::laws::faultless();
         fw_image::laws::joined_size();
@@ -203,7 +206,9 @@ impl Seat {
         ensures stopped { IfOk result (λ switched. (after : Meter)
             × StopsAfter calls torn self.old datagram.now (switched_name switched) after × (self.new ≡ restarted after)) }
         ensures switched { IfOk result (λ switched. IsRunning switched self.new) }
+        ensures held { IfOk result (λ switched. IfSome switched (λ _. HoldsVerified self.old)) }
         ensures same { OnErr result (self.new ≡ self.old) }
+        ensures memory { OnErr result (MeterMayWant self.old datagram.now) }
     {
         let switched = self.cut(alloc, datagram, calls, torn)?;
         self.restart();
@@ -220,7 +225,9 @@ impl Seat {
     ) -> Result<Option<Switched>, OutOfMemory>
         ensures stopped { IfOk result (λ switched. StopsAfter calls torn self.old datagram.now (switched_name switched) self.new) }
         ensures switched { IfOk result (λ switched. IsRunning switched self.new) }
+        ensures held { IfOk result (λ switched. IfSome switched (λ _. HoldsVerified self.old)) }
         ensures same { OnErr result (self.new ≡ self.old) }
+        ensures memory { OnErr result (MeterMayWant self.old datagram.now) }
     {
         fw_image::laws::joined_size();
         match &mut self.core {
@@ -261,8 +268,13 @@ fn room_for(alloc: Global, core: &MeterCore<MemoryStore>) -> Result<Vec<u8>, Out
     ensures room { IfOk result (λ room. HasRoom core.now.meter room.items) }
     ensures fits { IsFit core.now.meter }
     ensures trusted { IsTrue core.now.honest → IsTrusted core.now.meter }
+    ensures memory { OnErr result (HoldsVerified core.now.meter) }
 {
-    Ok(vec![in alloc; 0; core.verified_size() as usize]?)
+    let size = core.verified_size();
+    if size == 0 {
+        return Ok(Vec::new(alloc));
+    }
+    Ok(vec![in alloc; 0; size as usize]?)
 }
 
 /// The image that a meter switched to, if it did, in room of its size.

@@ -10,7 +10,7 @@ use crate::error::{SetupError, StepError};
 use crate::event::Event;
 use crate::heads::Heads;
 use crate::laws;
-use crate::lists::{all_there, note, reply, send, sent_at};
+use crate::lists::{all_there, note, reply, room_to_note, room_to_send, send, sent_at};
 use crate::meters::Meters;
 use crate::opening::{heads_of, meters_of};
 use crate::parts::Parts;
@@ -21,9 +21,6 @@ use fw_names::{CampaignId, HeadId, MeterId};
 use fw_store::MemoryStore;
 use std::alloc::Global;
 use std::marker::Model;
-
-/// The most datagrams that a tick sends.
-const MAX_SENDS: usize = 15;
 
 /// Head ends and meters, in the order of their setup, with all that was ever sent and switched to.
 #[derive(Drop)]
@@ -99,9 +96,10 @@ impl World {
     ///
     /// # Errors
     ///
-    /// `NoSuchDatagram`, `NoSuchActor` or `Book`, the first that applies. Otherwise `OutOfMemory` alone, and only of an opening, a
-    /// tick, a delivery or a stop; of a delivery to a head end only where the sender's live row may want memory for it. The world
-    /// is then as it was.
+    /// `NoSuchDatagram`, `NoSuchActor` or `Book`, the first that applies. Otherwise `OutOfMemory` alone, and only of an opening; of
+    /// a tick for a meter with a live row; of a delivery to a meter, or to a head end where the sender's live row may want memory
+    /// for it; and of a stop where the meter may want memory for the datagram, or holds a verified image. The world is then as it
+    /// was.
     pub fn step(&mut self, alloc: Global, event: &Event) -> Result<(), StepError>
         ensures stepped { OnOk result (StateStep self.old (event_of event.now) self.new) }
         ensures world { OnOk result (WorldStep (world_of self.old) (event_of event.now) (world_of self.new)) }
@@ -201,7 +199,7 @@ impl World {
         if !self.meters.contains_key(meter.number()) {
             return Err(StepError::NoSuchActor);
         }
-        self.sent.reserve(MAX_SENDS)?;
+        room_to_send(&mut self.sent, core, meter)?;
         let sends = core.tick(alloc, meter)?;
         send(&mut self.sent, head, meter, sends);
         Ok(())
@@ -239,7 +237,7 @@ impl World {
             return Err(StepError::NoSuchActor);
         };
         self.sent.reserve(1)?;
-        self.activations.reserve(1)?;
+        room_to_note(&mut self.activations, seat)?;
         let Some(datagram) = sent_at(&self.sent, number) else {
             unreachable!()
         };
@@ -286,7 +284,7 @@ impl World {
         let Some(seat) = self.meters.get_mut(meter.number()) else {
             return Err(StepError::NoSuchActor);
         };
-        self.activations.reserve(1)?;
+        room_to_note(&mut self.activations, seat)?;
         let switched = seat.stop(alloc, &datagram.bytes, calls, torn)?;
         note(&mut self.activations, meter, switched);
         Ok(())

@@ -7,7 +7,8 @@ use Rattle.fw_image.specs.State.{State, Counts}
 use Rattle.fw_meter.specs.Handling.{Handles, reply_bytes}
 use Rattle.fw_meter.specs.Stopping.{StopsAfter}
 use Rattle.fw_world.specs.Inside.{IsSound, IsSeated, IsRunning, meter_in}
-use Rattle.fw_world.proofs.Room.{each_some, handled_room, switched_runs}
+use Rattle.fw_world.specs.Refusals.{HoldsVerified}
+use Rattle.fw_world.proofs.Room.{each_some, handled_room, handled_held, held_by, switched_runs}
 use Rattle.fw_world.proofs.seat.Seat.cut.Goals as goal
 
 pub running-requires-clause-room : goal.running-requires-clause-room
@@ -56,3 +57,20 @@ returns-clause-switched c =
     subst P (sym (c.running.ensures.meter ∙ left))
     (switched_runs fused.honest (Counts fused handled) fused.meter handled.meter c.args.datagram.now (reply_bytes told.field-0.reply) told.field-0.activated told.ensures.step c.running.result c.running.ensures.name
     (subst (λ (m : Meter). IfSome c.running.result (λ image. image.bytes ≡ m.running.bytes)) left c.running.ensures.bytes))
+
+pub returns-clause-held : goal.returns-clause-held
+returns-clause-held c =
+    let core = c.in-Some.core in
+    let fused = c.fuse.new.self in
+    let handled = c.handle-handled.new.self in
+    let told = c.in_ok-handled-in-Some in
+    let room = c.in_ok-room-in-Some in
+    let there : IsSound core = subst IsSeated c.in-Some.is c.self.invariant in
+    let honest = subst (λ (s : State). IsTrue s.honest) (sym c.fuse.ensures) there.honest in
+    let was : fused.meter ≡ core.meter = ap (λ (s : State). s.meter) c.fuse.ensures in
+    let seated : core.meter ≡ c.args.self.now = sym (ap meter_in c.in-Some.is) ∙ c.self.view_is in
+    let P : Bool → Type 0 = λ h. Handles h (Counts fused handled) fused.meter c.args.datagram.now (reply_bytes told.field-0.reply) told.field-0.activated handled.meter in
+    let Q : Meter → Type 0 = λ m. Handles true (Counts fused handled) m c.args.datagram.now (reply_bytes told.field-0.reply) told.field-0.activated handled.meter in
+    held_by (HoldsVerified c.args.self.now) told.field-0.activated
+    (λ name e. subst HoldsVerified seated (handled_held core.meter handled.meter room.ensures.fits (Counts fused handled) c.args.datagram.now _ _ (subst Q was (subst P honest told.ensures.step)) name e))
+    c.running.result c.running.ensures.name

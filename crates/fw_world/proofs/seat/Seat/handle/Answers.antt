@@ -4,7 +4,8 @@ use Rattle.fw_image.specs.Meter.{Meter}
 use Rattle.fw_image.specs.State.{Counts}
 use Rattle.fw_meter.specs.Handling.{Handles, reply_bytes}
 use Rattle.fw_world.specs.Inside.{IsSound, IsSeated, IsRunning, meter_in, switched_name}
-use Rattle.fw_world.proofs.Room.{each_some, handled_room, switched_runs}
+use Rattle.fw_world.specs.Refusals.{HoldsVerified}
+use Rattle.fw_world.proofs.Room.{each_some, handled_room, handled_held, held_by, switched_runs}
 use Rattle.fw_world.proofs.seat.Seat.handle.Goals as goal
 
 pub running-requires-clause-room : goal.running-requires-clause-room
@@ -40,3 +41,16 @@ returns-clause-switched c =
     let P : Meter → Type 0 = λ m. IsRunning c.running.result m in
     subst P (sym c.running.ensures.meter)
     (switched_runs core.honest (Counts core new) core.meter new.meter c.args.datagram.now (reply_bytes told.handled.reply) told.handled.activated told.ensures.step c.running.result c.running.ensures.name c.running.ensures.bytes)
+
+pub returns-clause-held : goal.returns-clause-held
+returns-clause-held c =
+    let core = c.in-Some.core in
+    let new = c.handle.new.self in
+    let told = c.in_ok-handled-in-Some in
+    let room = c.in_ok-room-in-Some in
+    let there : IsSound core = subst IsSeated c.in-Some.is c.self.invariant in
+    let seated : core.meter ≡ c.args.self.now = sym (ap meter_in c.in-Some.is) ∙ c.self.view_is in
+    let P : Bool → Type 0 = λ honest. Handles honest (Counts core new) core.meter c.args.datagram.now (reply_bytes told.handled.reply) told.handled.activated new.meter in
+    held_by (HoldsVerified c.args.self.now) told.handled.activated
+    (λ name e. subst HoldsVerified seated (handled_held core.meter new.meter room.ensures.fits (Counts core new) c.args.datagram.now _ _ (subst P there.honest told.ensures.step) name e))
+    c.running.result c.running.ensures.name

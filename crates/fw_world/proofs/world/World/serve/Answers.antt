@@ -4,9 +4,7 @@ use Rattle.std.specs.Option.{option_copied, option_copied_mut}
 use Rattle.fw_meter.specs.Handling.{Handles, reply_bytes}
 use Rattle.fw_world.specs.declared.datagram.Direction.TheVariants.{ToMeter}
 use Rattle.fw_world.specs.World.{Datagram}
-use Rattle.fw_world.specs.Step.{deliver, replies}
-use Rattle.fw_world.specs.State.{State, IsAddressed}
-use Rattle.fw_world.proofs.Events.{at_number}
+use Rattle.fw_world.specs.Step.{deliver}
 use Rattle.fw_world.proofs.Keeping.{keeps_meter, keeps_lists}
 use Rattle.fw_world.specs.Inside.{switched_name}
 use Rattle.fw_world.proofs.Places.{told_err, meter_found, meter_serves, meter_same, replied_is, noted_is}
@@ -33,8 +31,8 @@ returns-in_err-reserve-clause-refused c =
     (delivered_to_meter _ _ c.self.view_is c.args.number d at seat (way_of c.args.self.now.sent c.args.number ToMeter d c.requires here) (meter_found _ _ c.self.view_is key d.meter same seat found))
     (meter_may_want _ _ c.self.view_is c.args.number d at (way_of c.args.self.now.sent c.args.number ToMeter d c.requires here))
 
-pub returns-in_err-reserve-2-clause-refused : goal.returns-in_err-reserve-2-clause-refused
-returns-in_err-reserve-2-clause-refused c =
+pub returns-in_err-room_to_note-clause-refused : goal.returns-in_err-room_to_note-clause-refused
+returns-in_err-room_to_note-clause-refused c =
     let key = c.number.result in
     let d = c.in-Some.datagram.now in
     let seat = c.in-Some-get_mut.seat.now in
@@ -42,16 +40,16 @@ returns-in_err-reserve-2-clause-refused c =
     let at : slice_get c.self.inside.sent.items c.args.number ≡ Some d = ap (λ (xs : List Datagram). slice_get xs c.args.number) (sym c.deref.ensures.value) ∙ sym c.sent_at.ensures ∙ ap option_copied c.in-Some.is in
     let here : slice_get c.args.self.now.sent c.args.number ≡ Some d = sent_here _ _ c.self.view_is c.deref.result.now c.args.number d c.deref.ensures.value (sym c.sent_at.ensures ∙ ap option_copied c.in-Some.is) in
     let same : key ≡ d.meter = c.number.ensures ∙ ap (λ (x : Datagram). x.meter) c.datagram.view_is in
-    wants_memory c.from_residual-in_err-reserve-2.result c.args.self.now (deliver c.args.number) c.from_residual-in_err-reserve-2.ensures.1
+    wants_memory c.from_residual-in_err-room_to_note.result c.args.self.now (deliver c.args.number) c.from_residual-in_err-room_to_note.ensures.1
     (delivered_to_meter _ _ c.self.view_is c.args.number d at seat (way_of c.args.self.now.sent c.args.number ToMeter d c.requires here) (meter_found _ _ c.self.view_is key d.meter same seat found))
     (meter_may_want _ _ c.self.view_is c.args.number d at (way_of c.args.self.now.sent c.args.number ToMeter d c.requires here))
 
-pub returns-in_err-reserve-2-clause-same : goal.returns-in_err-reserve-2-clause-same
-returns-in_err-reserve-2-clause-same c =
+pub returns-in_err-room_to_note-clause-same : goal.returns-in_err-room_to_note-clause-same
+returns-in_err-room_to_note-clause-same c =
     let key = c.number.result in
     let found : lookup (nat_eq key) c.self.inside.meters ≡ Some c.in-Some-get_mut.seat.now = sym c.get_mut.ensures.value ∙ ap option_copied_mut c.in-Some-get_mut.is in
-    told_err c.from_residual-in_err-reserve-2.result _
-    (meter_same _ _ c.self.view_is key _ _ _ _ _ found refl refl c.reserve.ensures.items c.reserve-2.ensures.items)
+    told_err c.from_residual-in_err-room_to_note.result _
+    (meter_same _ _ c.self.view_is key _ _ _ _ _ found refl refl c.reserve.ensures.items c.room_to_note.ensures.items)
 
 pub returns-in_err-served-clause-refused : goal.returns-in_err-served-clause-refused
 returns-in_err-served-clause-refused c =
@@ -71,7 +69,7 @@ returns-in_err-served-clause-same c =
     let key = c.number.result in
     let found : lookup (nat_eq key) c.self.inside.meters ≡ Some c.in-Some-get_mut.seat.now = sym c.get_mut.ensures.value ∙ ap option_copied_mut c.in-Some-get_mut.is in
     told_err c.from_residual-in_err-served.result _
-    (meter_same _ _ c.self.view_is key _ _ _ _ _ found refl c.in_err-served.ensures.same c.reserve.ensures.items c.reserve-2.ensures.items)
+    (meter_same _ _ c.self.view_is key _ _ _ _ _ found refl c.in_err-served.ensures.same c.reserve.ensures.items c.room_to_note.ensures.items)
 
 pub returns-clause-stepped : goal.returns-clause-stepped
 returns-clause-stepped c =
@@ -99,7 +97,7 @@ returns-clause-stepped c =
         handles = subst Q carried c.in_ok-served.ensures.handled;
         new_is = meter_serves _ _ c.self.view_is key d.meter (c.number.ensures ∙ meters) _ _ _ _ _ _ _ refl refl
             (c.reply.ensures ∙ (λ i. c.reserve.ensures.items i ++ replied_is d _ _ (reply_bytes served.reply) heads meters i))
-            (c.note.ensures ∙ (λ i. c.reserve-2.ensures.items i ++ noted_is _ d.meter served.switched c.handle.new.self meters c.in_ok-served.ensures.switched i));
+            (c.note.ensures ∙ (λ i. c.room_to_note.ensures.items i ++ noted_is _ d.meter served.switched c.handle.new.self meters c.in_ok-served.ensures.switched i));
       }),
     )
 
@@ -120,8 +118,8 @@ invariant_of-self-2 c = keeps_meter _ (keeps_lists _ c.self.invariant c.reply.ne
 pub invariant_of-self-in_err-reserve : goal.invariant_of-self-in_err-reserve
 invariant_of-self-in_err-reserve c = keeps_meter _ (keeps_lists _ c.self.invariant c.reserve.new.self.items c.self.inside.activations.items) c.number.result c.in-Some-get_mut.seat.now
 
-pub invariant_of-self-in_err-reserve-2 : goal.invariant_of-self-in_err-reserve-2
-invariant_of-self-in_err-reserve-2 c = keeps_meter _ (keeps_lists _ c.self.invariant c.reserve.new.self.items c.reserve-2.new.self.items) c.number.result c.in-Some-get_mut.seat.now
+pub invariant_of-self-in_err-room_to_note : goal.invariant_of-self-in_err-room_to_note
+invariant_of-self-in_err-room_to_note c = keeps_meter _ (keeps_lists _ c.self.invariant c.reserve.new.self.items c.room_to_note.new.activations.items) c.number.result c.in-Some-get_mut.seat.now
 
 pub invariant_of-self-in_err-served : goal.invariant_of-self-in_err-served
-invariant_of-self-in_err-served c = keeps_meter _ (keeps_lists _ c.self.invariant c.reserve.new.self.items c.reserve-2.new.self.items) c.number.result c.handle.new.self
+invariant_of-self-in_err-served c = keeps_meter _ (keeps_lists _ c.self.invariant c.reserve.new.self.items c.room_to_note.new.activations.items) c.number.result c.handle.new.self
