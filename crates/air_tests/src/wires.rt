@@ -67,7 +67,7 @@ fn passes(rt: HostRuntime) -> Result<(), Fail> {
 
 #[test]
 fn udp_wires(rt: HostRuntime) -> Result<(), Fail> {
-    let (mut head, mut meter) = UdpWire::pair(&rt)?;
+    let (mut head, mut meter) = UdpWire::pair(&rt, rt.alloc())?;
     let mut buffer = [0; MAX_RECEIVED];
     assert!(rt; meter.receive(&mut buffer) == Ok(None));
     assert!(rt; head.send(b"ask") == Ok(3));
@@ -93,7 +93,7 @@ const SIZES: &[(usize, usize)] = &[
 
 #[test]
 fn long_datagrams(rt: HostRuntime) -> Result<(), Fail> {
-    let (mut head, mut meter) = UdpWire::pair(&rt)?;
+    let (mut head, mut meter) = UdpWire::pair(&rt, rt.alloc())?;
     let mut buffer = [0; MAX_RECEIVED];
     for (size, came) in SIZES {
         let sent = vec![in rt.alloc(); b'a'; *size]?;

@@ -23,5 +23,5 @@ pub use links::{Waiting, links_of};
 pub use log::{Entry, Log, MAX_ADDED, Room, Sent};
 pub use scheduling::schedule;
 pub use shared::{SharedLog, Stub};
-pub use udp::UdpWire;
+pub use udp::{PairError, UdpWire};
 pub use wire::{MAX_PASSED, MAX_RECEIVED, Pass, Wire, WireFault};

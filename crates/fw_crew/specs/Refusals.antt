@@ -35,6 +35,13 @@ IsLater refused.BadSetup = ⊥
 IsLater (refused.Event number) = ⊥
 IsLater other = Unit {0}
 
+-- it comes of the rounds: of their threads, of a gate, or of what was held against the record
+abbrev pub IsOfRounds : RehearseError → Type 0
+IsOfRounds refused.GateShut = Unit {0}
+IsOfRounds refused.Mismatch = Unit {0}
+IsOfRounds refused.ThreadRefused = Unit {0}
+IsOfRounds other = ⊥
+
 -- The given event of this number, from 0 on, is refused in the world of those before it, for another cause than memory.
 pub record IsBarred (setup : Setup) (events : List Given) (number : ℕ) : Type 0 where
   pub world : State

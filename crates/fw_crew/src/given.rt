@@ -5,7 +5,7 @@ ghost use Rattle.fw_air.specs.Logs.{IsCounted};
 ghost use Rattle.fw_world.specs.Runs.{events_of};
 ghost use Rattle.fw_world.specs.Setup.{IsSetup, opening_state};
 ghost use Rattle.fw_world.specs.State.{StateRun};
-ghost use Rattle.fw_crew.specs.Refusals.{TellsOfEvent, of_event};
+ghost use Rattle.fw_crew.specs.Refusals.{IsOfRounds, TellsOfEvent, of_event};
 
 use crate::error::RehearseError;
 use fw_air::Entry;
@@ -42,6 +42,7 @@ pub fn begin(
     ensures event { IfErr result (TellsOfEvent setup.now events.now) }
     ensures made { IfErr result (λ e. e ≢ RehearseError.BadSetup → IsSetup setup.now) }
     ensures wireless { IfErr result (λ e. e ≢ RehearseError.Socket) }
+    ensures roundless { IfErr result (λ e. ¬ IsOfRounds e) }
 {
     if (1..=MAX_WORKERS).contains(&workers) {
         play(alloc, setup, events)
@@ -58,6 +59,7 @@ fn play(alloc: Global, setup: &Setup, events: &[Event]) -> Result<Opening, Rehea
     ensures setup { OnOk result (IsSetup setup.now) }
     ensures made { IfErr result (λ e. e ≢ RehearseError.BadSetup → IsSetup setup.now) }
     ensures wireless { IfErr result (λ e. e ≢ RehearseError.Socket) }
+    ensures roundless { IfErr result (λ e. ¬ IsOfRounds e) }
 {
     fw_world::laws::run_goes_on();
     fw_air::laws::sent_grows();

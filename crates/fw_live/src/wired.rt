@@ -15,13 +15,13 @@ ghost use Rattle.fw_world.specs.Headline.{
 ghost use Rattle.fw_world.specs.Runs.{events_of};
 ghost use Rattle.fw_world.specs.Setup.{IsSetup, opening_state};
 ghost use Rattle.fw_world.specs.State.{world_of};
-ghost use Rattle.fw_crew.specs.Refusals.{IsLater, TellsOfEvent};
+ghost use Rattle.fw_crew.specs.Refusals.{IsLater, IsOfRounds, TellsOfEvent};
 ghost use Rattle.fw_live.specs.Wires.{HasLinks, HasOtherLinks};
 
 use crate::carrier::{Carrier, Post};
 use crate::lines::Lines;
 use fw_accounts::Report;
-use fw_air::{UdpWire, Waiting, Wire, links_of};
+use fw_air::{PairError, UdpWire, Waiting, Wire, links_of};
 use fw_crew::{
     Floor, Gate, Hand, Opening, RehearseError, Task, Unaccounted, Worker, begin, dealt, work,
 };
@@ -78,7 +78,8 @@ impl Hand for Wired {
 /// # Errors
 ///
 /// `BadSetup` first. Then those of the given events: `OutOfMemory`, or `Event` for any other cause. Then `Socket` for another number
-/// of wires than of links. Then the lowest worker's: `GateShut`, `OutOfMemory` or `Mismatch`; or `ThreadRefused`.
+/// of wires than of links. Then, where there is a wire for each link, the lowest worker's: `GateShut`, `OutOfMemory` or `Mismatch`; or
+/// `ThreadRefused`.
 pub fn live_over<R: Threads + Wait + Sync, G: Gate + Sync, W: Wire + Send + Drop>(
     rt: &R,
     alloc: Global,
@@ -104,6 +105,7 @@ pub fn live_over<R: Threads + Wait + Sync, G: Gate + Sync, W: Wire + Send + Drop
     ensures made { IfErr result (λ e. e ≢ RehearseError.BadSetup → IsSetup setup.now) }
     ensures wires { OnOk result (HasLinks setup.now (events_of events.now) (length wires.items)) }
     ensures socket { IsErrOf result RehearseError.Socket → HasOtherLinks setup.now (events_of events.now) (length wires.items) }
+    ensures rounds { IfErr result (λ e. IsOfRounds e → HasLinks setup.now (events_of events.now) (length wires.items)) }
 {
     let opening = begin(alloc, setup, events, workers)?;
     let links = links_of(alloc, setup, &opening.world)?;
@@ -171,6 +173,7 @@ fn with_wires<W: Wire + Drop>(
     ensures socket { IsErrOf result RehearseError.Socket → length links.items ≢ length wires.items }
     ensures memory { IsErrOf result RehearseError.OutOfMemory → length links.items ≡ length wires.items }
     ensures only { IfErr result IsLater }
+    ensures roundless { IfErr result (λ e. ¬ IsOfRounds e) }
 {
     if links.len() != wires.len() {
         return Err(RehearseError::Socket);
@@ -192,8 +195,10 @@ fn bound<N: Net>(
 {
     let mut lines = Vec::new(alloc);
     for link in links {
-        let Ok(ends) = UdpWire::pair(net) else {
-            return Err(RehearseError::Socket);
+        let ends = match UdpWire::pair(net, alloc) {
+            Ok(ends) => ends,
+            Err(PairError::Socket) => return Err(RehearseError::Socket),
+            Err(PairError::OutOfMemory) => return Err(RehearseError::OutOfMemory),
         };
         lines.push(WiredLink { link, ends })?;
     }

@@ -12,9 +12,9 @@ Runs a script with several workers over UDP sockets on this machine, and tells h
 Standard input has a script, as `replay` reads it; `replay --help` has its lines. Its events are made
 first. Then each link of a head end and a meter gets a pair of sockets on 127.0.0.1, one for each end,
 and the workers make R rounds on each link: the head end ticks the meter, what comes is handled until
-nothing more comes in 5 ms, and the meter takes its turn where it verifies. What the network loses is
-lost, and what nobody sent is dropped. Links go to workers as in `rehearse`, and what the workers did is
-recorded and held to account as there.
+nothing more does, and the meter takes its turn where it verifies. A datagram that was sent has 5 ms to
+come. What the network loses is lost, and what nobody sent is dropped. Links go to workers as in
+`rehearse`, and what the workers did is recorded and held to account as there.
 
 Standard output gets the report of that end, as of `replay`, and the line `board N`, the number of rows
 that are done. All input is read before anything is written.
