@@ -1,4 +1,4 @@
-//! Tests of the header of a store, of stores in memory, on devices and in files, of the digest of a slot, of Image transfer over a store
+//! Tests of the header of a store, of stores in memory, on devices and in files, of journals, of the digest of a slot, of Image transfer over a store
 //! in memory, and of what a meter makes of requests and how it spells answers, through their public calls alone, and two callers that are
 //! proved from the public contracts alone. Expected bytes are worked out by hand from the standards and the formats, and SHA-256 values
 //! are the published ones or those of `sha256sum`.
@@ -19,6 +19,8 @@ mod files;
 pub mod fresh;
 #[cfg(test)]
 mod headers;
+#[cfg(test)]
+mod journals;
 #[cfg(test)]
 mod memory;
 #[cfg(test)]

@@ -1,0 +1,6 @@
+mod Splices
+mod BookLemmas
+mod Cuts
+mod Ends
+mod Moments
+mod Kept

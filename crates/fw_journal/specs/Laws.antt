@@ -1,0 +1,15 @@
+-- Public vocabulary: the laws of the bytes of a journal. They speak of definitions alone.
+use Rattle.std.specs.Prelude.{◌≡◌, ℕ, List}
+use Rattle.fw_journal.specs.Book.{AreRecords, Stands, IsBadBook, book_bytes}
+
+-- bytes stand for one list of records at most
+abbrev pub OneReading : Type 0
+OneReading = (bytes : List ℕ) (some others : List (List ℕ)) → Stands bytes some → Stands bytes others → some ≡ others
+
+-- bad ones stand for none
+abbrev pub BadIsNone : Type 0
+BadIsNone = (bytes : List ℕ) (offset : ℕ) (records : List (List ℕ)) → IsBadBook bytes offset → Stands bytes records → ⊥
+
+-- a journal between two calls stands for its records
+abbrev pub BookStands : Type 0
+BookStands = (records : List (List ℕ)) → AreRecords records → Stands (book_bytes records) records

@@ -1,0 +1,289 @@
+//! A journal: records after gates. A block is a gate, and behind it a length, a record and its digest; it counts if its gate is open
+//! (1). A shut gate (0) stands after the last block, and is synced before anything is written behind it.
+
+ghost use Rattle.std.specs.Prelude.{
+  ◌≡◌,
+  ◌≢◌,
+  ◌⊎◌,
+  ◌≤◌,
+  ◌<◌,
+  ◌^◌,
+  ◌++◌,
+  [],
+  ◌∷◌,
+  List,
+  ℕ,
+  length,
+  IsTrue,
+  IfOk,
+  IfErr,
+  OnOk,
+  OnErr,
+  IsErrOf,
+};
+ghost use Rattle.fw_journal.specs.Device.{IsSynced, LeavesOnly, Keeps};
+ghost use Rattle.fw_journal.specs.Book.{blocks, book_front, book_bytes, contents_of, Stands, IsBadBook};
+ghost use Rattle.fw_journal.specs.Group.{Takes};
+
+use crate::device::JournalDevice;
+use crate::error::{DeviceError, JournalError};
+use crate::reading::read_book;
+use crate::steps::{read_synced, shorten_synced, write_synced};
+use sha2::{Digest, Sha256};
+use std::alloc::Global;
+
+/// A journal, and what waits in it, is never made longer from this size on.
+const MAX_SIZE: u64 = 1 << 60;
+
+const MAX_RECORD: usize = 1 << 32;
+
+/// An open journal: records of 0 to 4,294,967,295 bytes on a device. A record that is appended waits in memory; a commit puts all that
+/// waits on the device, in one group.
+#[derive(Drop)]
+pub struct Journal<D: JournalDevice> {
+    device: D,
+    /// Where the shut gate stands.
+    end: u64,
+    /// The blocks that wait for the next commit.
+    waiting: Vec<u8>,
+    /// A commit has failed.
+    broken: bool,
+}
+
+impl<D: JournalDevice> Journal<D> {
+    ghost use Rattle.fw_journal.specs.Journal.{device_of, end_of, waiting_of, is_broken, Has};
+
+    /// Makes a journal without records on a device without bytes, and syncs it. A power cut in the call leaves any bytes, so that a
+    /// file is made beside, and renamed then.
+    ///
+    /// # Errors
+    ///
+    /// `NotEmpty` where there are bytes, which are left as they are, else `BookFault` and `OutOfMemory`. The device is handed back.
+    pub fn create(alloc: Global, device: D) -> Result<Self, (JournalError, D)>
+        ensures made { IsTrue (D.honest device) → IfOk result (λ journal. Has D.honest D.contents D.may_leave journal [] []) }
+        ensures empty { IsTrue (D.honest device) → OnOk result (D.contents device ≡ []) }
+        ensures not_empty { IsTrue (D.honest device) → IfErr result (λ e. e.0 ≡ JournalError.NotEmpty
+            → (D.contents device ≢ []) × (D.contents e.1 ≡ D.contents device)) }
+        ensures never { IsTrue (D.sound device) → IfErr result (λ e. e.0 ≢ JournalError.BookFault) }
+        ensures kept { IfOk result (λ journal. Keeps D.honest D.sound device (device_of journal)) }
+    {
+        let mut device = device;
+        match lay_out(&mut device) {
+            Ok(end) => Ok(Journal {
+                device,
+                end,
+                waiting: Vec::new(alloc),
+                broken: false,
+            }),
+            Err(e) => Err((e, device)),
+        }
+    }
+
+    /// Opens a journal that a power cut, or a process that was killed, may have left. It syncs first, and gives all records that the device
+    /// holds, in their order. What stands from a shut gate on is cut off.
+    ///
+    /// # Errors
+    ///
+    /// `BadBook` where the bytes aren't a journal's: with the offset of the open gate behind which no whole record stands, or with 0
+    /// where they don't begin as one. Nothing is written then. Else `BookFault` and `OutOfMemory`. The device is handed back.
+    pub fn open(alloc: Global, device: D) -> Result<(Self, Vec<Vec<u8>>), (JournalError, D)>
+        ensures records { IsTrue (D.honest device) → IfOk result (λ r. Stands (D.contents device) (contents_of r.1.items)) }
+        ensures opened { IsTrue (D.honest device)
+            → IfOk result (λ r. Has D.honest D.contents D.may_leave r.0 (contents_of r.1.items) []) }
+        ensures bad { IsTrue (D.honest device) → IfErr result (λ e. (offset : ℕ) → e.0 ≡ JournalError.BadBook offset
+            → IsBadBook (D.contents device) offset × (D.contents e.1 ≡ D.contents device)) }
+
+        // A cut at any moment of the call leaves what one before it might have left, or a journal of the same records.
+        ensures any_moment { IsTrue (D.honest device) → IfOk result (λ r. LeavesOnly D.moment D.left_since device (device_of r.0)
+            (λ left. D.may_leave device left ⊎ ((records : List (List ℕ)) → Stands (D.contents device) records → Stands left records))) }
+        ensures any_moment_err { IsTrue (D.honest device) → IfErr result (λ e. LeavesOnly D.moment D.left_since device e.1
+            (λ left. D.may_leave device left ⊎ ((records : List (List ℕ)) → Stands (D.contents device) records → Stands left records))) }
+        ensures never { IsTrue (D.honest device) → IsTrue (D.sound device) → IfErr result (λ e. e.0 ≢ JournalError.BookFault) }
+        ensures kept { IfOk result (λ r. Keeps D.honest D.sound device (device_of r.0)) }
+    {
+        let mut device = device;
+        match recover(alloc, &mut device) {
+            Ok((records, end)) => Ok((
+                Journal {
+                    device,
+                    end,
+                    waiting: Vec::new(alloc),
+                    broken: false,
+                },
+                records,
+            )),
+            Err(e) => Err((e, device)),
+        }
+    }
+
+    /// The device.
+    pub fn device(&self) -> &D
+        ensures { result.now ≡ device_of self.now }
+    {
+        &self.device
+    }
+
+    /// The device, without what waits.
+    pub fn into_device(self) -> D
+        ensures { result ≡ device_of self }
+    {
+        self.device
+    }
+
+    /// How many bytes the journal has on the device, up to its shut gate.
+    pub fn size(&self) -> u64
+        ensures { result ≡ end_of self.now }
+    {
+        self.end
+    }
+
+    /// Adds a record to those that wait for the next commit. The device isn't touched.
+    ///
+    /// # Errors
+    ///
+    /// `TooLong` where it has 4,294,967,296 bytes or more, else `OutOfMemory`. The journal is then as before.
+    pub fn append(&mut self, alloc: Global, entry: &[u8]) -> Result<(), JournalError>
+        ensures waits { (done waiting : List (List ℕ)) → Has D.honest D.contents D.may_leave self.old done waiting
+            → OnOk result (Has D.honest D.contents D.may_leave self.new done (waiting ++ entry.now ∷ [])) }
+        ensures unchanged { (done waiting : List (List ℕ)) → Has D.honest D.contents D.may_leave self.old done waiting
+            → OnErr result (Has D.honest D.contents D.may_leave self.new done waiting) }
+        ensures device { device_of self.new ≡ device_of self.old }
+        ensures too_long { IsErrOf result JournalError.TooLong → 2 ^ 32 ≤ length entry.now }
+        ensures fits { OnOk result (length entry.now < 2 ^ 32) }
+        ensures refusals { IfErr result (λ e. (e ≡ JournalError.TooLong) ⊎ (e ≡ JournalError.OutOfMemory)) }
+    {
+        if entry.len() >= MAX_RECORD {
+            return Err(JournalError::TooLong);
+        }
+        let block = block_of(alloc, entry)?;
+        self.waiting.extend_from_slice(&block)?;
+        Ok(())
+    }
+
+    /// Puts all that waits on the device, in one group, with two syncs. From `Ok` on every power cut leaves it; a cut in the call leaves all
+    /// of it or nothing. Where nothing waits there is no call of the device.
+    ///
+    /// # Errors
+    ///
+    /// `Full` where the journal or what waits has 2^60 bytes or more, and `OutOfMemory`: the journal is as before, or it is broken as with
+    /// `BookFault`, where the device failed. Of a broken journal nothing more is told: each later commit is `BookFault`, and what is
+    /// read in the file before the machine has started again may be lost with a power cut.
+    pub fn commit(&mut self) -> Result<(), JournalError>
+        ensures acknowledged { (done waiting : List (List ℕ)) → Has D.honest D.contents D.may_leave self.old done waiting
+            → OnOk result (Has D.honest D.contents D.may_leave self.new (done ++ waiting) []) }
+        ensures each_cut { (done waiting : List (List ℕ)) → Has D.honest D.contents D.may_leave self.old done waiting
+            → OnOk result ((left : List ℕ) → D.may_leave (device_of self.new) left → Stands left (done ++ waiting)) }
+        ensures unchanged { (done waiting : List (List ℕ)) → Has D.honest D.contents D.may_leave self.old done waiting
+            → OnErr result (Has D.honest D.contents D.may_leave self.new done waiting ⊎ IsTrue (is_broken self.new)) }
+
+        // A cut at any moment of the call leaves the records from before it, with all that waited or with none of it.
+        ensures any_moment { (done waiting : List (List ℕ)) → Has D.honest D.contents D.may_leave self.old done waiting
+            → LeavesOnly D.moment D.left_since (device_of self.old) (device_of self.new)
+            (λ left. Stands left done ⊎ Stands left (done ++ waiting)) }
+
+        // What failed once stays failed.
+        ensures breaks { IsErrOf result JournalError.BookFault → IsTrue (is_broken self.new) }
+        ensures broken { IsTrue (is_broken self.old) → IsErrOf result JournalError.BookFault × (self.new ≡ self.old) }
+
+        // It doesn't give up by itself.
+        ensures never { IsTrue (D.sound (device_of self.old)) → IsErrOf result JournalError.BookFault → IsTrue (is_broken self.old) }
+        ensures full { IsErrOf result JournalError.Full → 2 ^ 60 ≤ end_of self.old ⊎ 2 ^ 60 ≤ length (waiting_of self.old) }
+        ensures kept { Keeps D.honest D.sound (device_of self.old) (device_of self.new) }
+    {
+        if self.broken {
+            return Err(JournalError::BookFault);
+        }
+        if self.waiting.is_empty() {
+            return Ok(());
+        }
+        if self.end >= MAX_SIZE || self.waiting.len() as u64 >= MAX_SIZE {
+            return Err(JournalError::Full);
+        }
+        self.waiting.push(0)?;
+        self.broken = true;
+        write_group(&mut self.device, self.end, &self.waiting)?;
+        self.end += self.waiting.len() as u64 - 1;
+        self.waiting.clear();
+        self.broken = false;
+        Ok(())
+    }
+}
+
+/// The bytes of a new journal.
+const NEW_BOOK: [u8; 5] = [0x46, 0x57, 0x4A, 0x31, 0];
+
+/// Makes a journal without records on a device without bytes, and says where its gate stands.
+fn lay_out<D: JournalDevice>(device: &mut D) -> Result<u64, JournalError>
+    ensures bytes { IsTrue (D.honest device.old) → OnOk result (D.contents device.new ≡ book_bytes []) }
+    ensures end { IfOk result (λ end. end ≡ length (book_front [])) }
+    ensures synced { IsTrue (D.honest device.old) → OnOk result (IsSynced D.contents D.may_leave device.new) }
+    ensures empty { IsTrue (D.honest device.old) → OnOk result (D.contents device.old ≡ []) }
+    ensures not_empty { IsTrue (D.honest device.old) → IsErrOf result JournalError.NotEmpty
+        → (D.contents device.old ≢ []) × (D.contents device.new ≡ D.contents device.old) }
+    ensures never { IsTrue (D.sound device.old) → ¬ IsErrOf result JournalError.BookFault }
+    ensures kept { Keeps D.honest D.sound device.old device.new }
+{
+    if device.len()? > 0 {
+        return Err(JournalError::NotEmpty);
+    }
+    write_synced(device, 0, &NEW_BOOK)?;
+    Ok(4)
+}
+
+/// A record after an open gate.
+fn block_of(alloc: Global, entry: &[u8]) -> Result<Vec<u8>, JournalError>
+    requires { length entry.now < 2 ^ 32 }
+    ensures block { IfOk result (λ block. block.items ≡ blocks (entry.now ∷ [])) }
+    ensures memory { IfErr result (λ e. e ≡ JournalError.OutOfMemory) }
+{
+    let mut block = Vec::new(alloc);
+    block.push(1)?;
+    block.extend_from_slice(&(entry.len() as u32).to_be_bytes())?;
+    block.extend_from_slice(entry)?;
+    block.extend_from_slice(&Sha256::digest(entry))?;
+    Ok(block)
+}
+
+/// Puts a group behind the shut gate at `end`: all of it but its first byte, and a shut gate after it. Once that is synced the gate in
+/// front is opened.
+fn write_group<D: JournalDevice>(device: &mut D, end: u64, group: &[u8]) -> Result<(), DeviceError>
+    requires within { end < 2 ^ 60 }
+    requires some { 1 ≤ length group.now }
+    ensures done { (done waiting : List (List ℕ)) → Takes D.honest D.contents D.may_leave device.old end group.now done waiting
+        → OnOk result (D.contents device.new ≡ book_bytes (done ++ waiting)) }
+    ensures synced { IsTrue (D.honest device.old) → OnOk result (IsSynced D.contents D.may_leave device.new) }
+    ensures any_moment { (done waiting : List (List ℕ)) → Takes D.honest D.contents D.may_leave device.old end group.now done waiting
+        → LeavesOnly D.moment D.left_since device.old device.new (λ left. Stands left done ⊎ Stands left (done ++ waiting)) }
+    ensures kept { Keeps D.honest D.sound device.old device.new }
+    ensures never { IsTrue (D.sound device.old) → ¬ IsErrOf result DeviceError.Fault }
+{
+    write_synced(device, end + 1, &group[1..])?;
+    write_synced(device, end, &[1])
+}
+
+/// Reads the records of a journal, and makes its end a shut gate. What a killed process wrote and didn't sync is read, though a power cut
+/// needn't leave it: so it is synced first. Bytes that aren't a journal's are not written to.
+fn recover<D: JournalDevice>(
+    alloc: Global,
+    device: &mut D,
+) -> Result<(Vec<Vec<u8>>, u64), JournalError>
+    ensures records { IsTrue (D.honest device.old) → IfOk result (λ r. Stands (D.contents device.old) (contents_of r.0.items)) }
+    ensures bytes { IsTrue (D.honest device.old) → IfOk result (λ r. D.contents device.new ≡ book_bytes (contents_of r.0.items)) }
+    ensures end { IfOk result (λ r. r.1 ≡ length (book_front (contents_of r.0.items))) }
+    ensures synced { IsTrue (D.honest device.old) → OnOk result (IsSynced D.contents D.may_leave device.new) }
+    ensures bad { IsTrue (D.honest device.old) → (offset : ℕ) → IsErrOf result (JournalError.BadBook offset)
+        → IsBadBook (D.contents device.old) offset × (D.contents device.new ≡ D.contents device.old) }
+
+    // A cut at any moment leaves what one before the call might have left, or the same records.
+    ensures any_moment { IsTrue (D.honest device.old) → LeavesOnly D.moment D.left_since device.old device.new
+        (λ left. D.may_leave device.old left ⊎ ((records : List (List ℕ)) → Stands (D.contents device.old) records → Stands left records)) }
+    ensures never { IsTrue (D.honest device.old) → IsTrue (D.sound device.old) → ¬ IsErrOf result JournalError.BookFault }
+    ensures kept { Keeps D.honest D.sound device.old device.new }
+{
+    let bytes = read_synced(alloc, device)?;
+    let (records, end) = read_book(alloc, &bytes)?;
+    // The cut has to be synced first: behind a gate that is torn open, what was there would count.
+    shorten_synced(device, end)?;
+    write_synced(device, end, &[0])?;
+    Ok((records, end))
+}

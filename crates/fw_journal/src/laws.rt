@@ -1,0 +1,18 @@
+//! Laws of the bytes of a journal, over the definitions alone.
+
+ghost use Rattle.fw_journal.specs.Laws.{OneReading, BadIsNone, BookStands};
+
+/// Bytes stand for one list of records at most.
+pub fn one_reading()
+    ensures { OneReading }
+{}
+
+/// Bytes with a bad record, or that don't begin as a journal does, stand for none, so no power cut in a call leaves such.
+pub fn bad_is_none()
+    ensures { BadIsNone }
+{}
+
+/// The bytes of a journal between two calls stand for its records.
+pub fn book_stands()
+    ensures { BookStands }
+{}

@@ -1,0 +1,23 @@
+//! A journal: records of any length on a device that is written at its end and synced. What a commit told of is there after every
+//! power cut.
+//!
+//! Its bytes are those of specs/Book.antt; the form is an own one. What a device promises is said at [`JournalDevice`]. There is one
+//! in memory, and one over a file.
+#![tactic(auto)]
+
+mod device;
+mod error;
+mod file;
+mod fuse;
+mod journal;
+pub mod laws;
+mod memory;
+mod reading;
+mod steps;
+
+pub use device::JournalDevice;
+pub use error::{DeviceError, JournalError};
+pub use file::{FileDevice, FileJournal};
+pub use fuse::Fuse;
+pub use journal::Journal;
+pub use memory::MemoryDevice;
