@@ -7,6 +7,7 @@ ghost use Rattle.clap.specs.Values.{kind_of};
 ghost use Rattle.dlmsfw.specs.Status.{EndsParse, EndsWith};
 
 mod options;
+mod streams;
 
 use clap::error::ErrorKind;
 use fw_cli::{
@@ -44,6 +45,7 @@ enum Ending {
 }
 
 fn main(rt: HostRuntime) -> ExitCode {
+    let _closed = streams::stand_ins(&rt);
     match run(&rt) {
         Ok(()) => ExitCode::from(GOOD),
         Err(ending) => report(&rt, ending),

@@ -30,6 +30,19 @@ Exit status:
   1  a fault: standard error has `dlmsfw: NAME`
   2  a wrong command line: standard error says what is wrong";
 
+/// What ends the program's own help.
+const ENDINGS: &str = "\
+Limits:
+  an image     16777216 bytes (16 MiB), in 16384 blocks of 1 to 1024 bytes
+  a campaign   256 meters
+  a script     16 head ends and 256 meters
+  input        67108864 bytes (64 MiB)
+
+Exit status:
+  0  the command did all its work
+  1  a fault: standard error has `dlmsfw: NAME`
+  2  a wrong command line: standard error says what is wrong";
+
 /// The command that the words of a command line ask for.
 ///
 /// Of each command the parser finds all that it must have, within its range. Where it found that not, it would be a wrong
@@ -64,7 +77,7 @@ fn dlmsfw<'a>(alloc: Global) -> Result<Command<'a>, AllocError> {
         .about(
             "COSEM firmware distribution: a meter that answers datagrams, names of images, and scripts of campaigns",
         )
-        .after_help(STATUSES)
+        .after_help(ENDINGS)
         .subcommand_required(true)
         .subcommand(answer::command(alloc)?)?
         .subcommand(name::command(alloc)?)?

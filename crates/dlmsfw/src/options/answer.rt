@@ -49,7 +49,7 @@ Exit status:
        BadSetup      the options describe no meter: a number is out of range, or HEX isn't pairs of
                      hexadecimal digits, is empty, or is longer than the capacity; with --store only
                      where FILE isn't there
-       Input         a read of standard input failed, as where it is a folder
+       Input         a read of standard input failed, as where it is closed or a folder
        TooMuchInput  standard input has more than 64 MiB
        BadLine L     line L, counted from 1, isn't pairs of hexadecimal digits: it has another
                      character, as a space, or a CR before its line feed, or an odd number of digits;

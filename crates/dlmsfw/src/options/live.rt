@@ -39,7 +39,7 @@ const ENDINGS: &str = "\
 Exit status:
   0  all rounds were made
   1  a fault: standard error has `dlmsfw: NAME`, with one of these names
-       Input          a read of standard input failed, as where it is a folder
+       Input          a read of standard input failed, as where it is closed or a folder
        TooMuchInput   standard input has more than 64 MiB
        BadLine L      line L, counted from 1, is none of a script; `replay --help` has the causes
        BadSetup       no world can be made of the setup; `replay --help` has the causes

@@ -30,7 +30,7 @@ const ENDINGS: &str = "\
 Exit status:
   0  the name was printed
   1  a fault: standard error has `dlmsfw: NAME`, with one of these names
-       Input         a read of standard input failed, as where it is a folder
+       Input         a read of standard input failed, as where it is closed or a folder
        TooMuchInput  standard input has more than 64 MiB
        EmptyImage    standard input has no byte
        ImageTooLong  standard input has more than 16777216 bytes

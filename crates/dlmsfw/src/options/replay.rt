@@ -87,7 +87,7 @@ Exit status:
      `dlmsfw: NAME`, with one of these names
        BadFates      --fates is empty, has more than 4096 letters, or another one than d, x, t and l;
                      nothing was read
-       Input         a read of standard input failed, as where it is a folder
+       Input         a read of standard input failed, as where it is closed or a folder
        TooMuchInput  standard input has more than 64 MiB
        BadLine L     line L, counted from 1, is none of the above: it has another word, a word too
                      many or too few, a number above 4294967295, a HEX with an odd number of digits,
