@@ -1,6 +1,6 @@
 """The loads that the programs of bench/ measure, and how they are measured.
 
-A load is a line of `crates/dlmsfw_bench/src/main.rt`. The bytes in it are spelled here as docs/FORMATS.md says.
+A load is a line of `crates/test_calls/src/loads.rt`. The bytes in it are spelled here as docs/FORMATS.md says.
 """
 
 import hashlib
@@ -10,8 +10,8 @@ import re
 import subprocess
 import sys
 
-CRATE = pathlib.Path(__file__).resolve().parent.parent / "crates" / "dlmsfw_bench"
-PROGRAM = CRATE / "out" / "dlmsfw_bench"
+CRATE = pathlib.Path(__file__).resolve().parent.parent / "crates" / "test_calls"
+PROGRAM = CRATE / "out" / "test_calls"
 OBJECT = bytes.fromhex("001200002c0000ff")
 
 
@@ -65,7 +65,7 @@ def build():
     """Proves and builds the program, where that was not done yet."""
     with open(CRATE / "stdin") as stdin:
         if subprocess.run(["rt", "run"], cwd=CRATE, stdin=stdin, capture_output=True).returncode != 0:
-            sys.exit("rt run of dlmsfw_bench failed")
+            sys.exit("rt run of test_calls failed")
 
 
 # The C library copies and sets by one instruction from some 2,048 bytes on, where the processor has it, and callgrind counts that once a

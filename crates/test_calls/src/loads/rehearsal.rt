@@ -1,0 +1,90 @@
+//! The campaign for many meters that `schedule` makes, made by workers in threads of their own; and what it is made of, its schedule and
+//! an audit. Times are by the clock.
+
+use crate::loads::schedule::{given, rounds_of};
+use anyhow::{Context, Result, bail};
+use fw_air::{Fate, Fates, audit, schedule};
+use fw_workers::{Gate, rehearse};
+use fw_world::{Event, Parts, Setup, run};
+use std::sync::Wait;
+use std::thread::Threads;
+use std::time::{Duration, Instant};
+
+/// Lets every worker go on.
+#[derive(Drop)]
+struct Open;
+
+impl Gate for Open {
+    fn pass(&self, _worker: u32, _step: u64, _done: u64) -> bool {
+        true
+    }
+}
+
+/// So many workers make the campaign. Counts its events.
+pub fn measure<R: Threads + Wait + Sync>(
+    rt: &HostRuntime,
+    threads: &R,
+    meters: u32,
+    size: u32,
+    workers: u32,
+    timed: bool,
+) -> Result<u64> {
+    let (setup, given) = given(rt.alloc(), meters, size)?;
+    let fates = Fates::new(&[Fate::Deliver]).context("a fate")?;
+    let start = Instant::now(rt)?;
+    let made = rehearse(
+        threads,
+        rt.alloc(),
+        &setup,
+        &given,
+        rounds_of(size),
+        workers,
+        &fates,
+        &Open,
+    )?;
+    let took = start.elapsed(rt)?;
+    if made.board != u64::from(meters) {
+        bail!("not every meter is done");
+    }
+    if timed {
+        println!(rt; "{}", took.as_nanos())?;
+    }
+    let mut count = given.len() as u64;
+    for receipts in &made.receipts {
+        count = count.saturating_add(receipts.as_slice().len() as u64);
+    }
+    Ok(count)
+}
+
+/// Makes the schedule of the campaign, and audits the parts of a run of it. Counts its events.
+pub fn audited(rt: &HostRuntime, meters: u32, size: u32, timed: bool) -> Result<u64> {
+    let (setup, given) = given(rt.alloc(), meters, size)?;
+    let fates = Fates::new(&[Fate::Deliver]).context("a fate")?;
+    let start = Instant::now(rt)?;
+    let made = schedule(rt.alloc(), &setup, &given, rounds_of(size), &fates);
+    let scheduled = start.elapsed(rt)?;
+    let Ok(events) = made else {
+        bail!("an event was refused");
+    };
+    let audited = time_audit(rt, &setup, &events)?;
+    if timed {
+        println!(rt; "{} {}", scheduled.as_nanos(), audited.as_nanos())?;
+    }
+    Ok(events.len() as u64)
+}
+
+/// How long an audit of the parts of a run takes.
+fn time_audit(rt: &HostRuntime, setup: &Setup, events: &[Event]) -> Result<Duration> {
+    let Ok(world) = run(rt.alloc(), setup, events) else {
+        bail!("an event was refused");
+    };
+    let Parts {
+        heads,
+        meters,
+        sent,
+        ..
+    } = world.into_parts();
+    let start = Instant::now(rt)?;
+    let _world = audit(rt.alloc(), setup, events, &heads, &meters, &sent)?;
+    Ok(start.elapsed(rt)?)
+}

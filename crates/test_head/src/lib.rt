@@ -1,0 +1,32 @@
+//! Tests of a client of a meter, of the book of campaigns and of the head end, through their public calls. Expected bytes are worked
+//! out by hand from the standards and the formats, and SHA-256 values are the published ones or those of `sha256sum`.
+#![tactic(auto)]
+
+#[cfg(test)]
+mod answers;
+#[cfg(test)]
+mod asks;
+#[cfg(test)]
+mod book;
+#[cfg(test)]
+mod books;
+#[cfg(test)]
+mod client;
+#[cfg(test)]
+mod ends;
+#[cfg(test)]
+mod head;
+#[cfg(test)]
+mod openings;
+#[cfg(test)]
+mod outstanding;
+#[cfg(test)]
+mod parts;
+#[cfg(test)]
+mod returns;
+#[cfg(test)]
+mod rows;
+#[cfg(test)]
+mod transfers;
+#[cfg(test)]
+mod views;

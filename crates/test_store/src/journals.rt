@@ -1,0 +1,355 @@
+//! Journals: what is kept, what a power cut leaves at each call of the device, and what is refused. A block of a record of three bytes
+//! has 40 bytes, and a journal begins with 4.
+
+use fw_journal::{FileDevice, FileJournal, Journal, JournalDevice, JournalError, MemoryDevice};
+use std::alloc::Global;
+use std::path::PathBuf;
+use std::test::Fail;
+use std::{env, fs};
+use test_support::{Case, Takes, each, expect, session};
+
+/// What is told of a journal that is opened: its records, each with a bar after it, or the refusal.
+fn told_of<D: JournalDevice + Drop>(
+    alloc: Global,
+    opened: &Result<(Journal<D>, Vec<Vec<u8>>), (JournalError, D)>,
+) -> Result<String, Fail> {
+    match opened {
+        Ok((_, records)) => records_text(alloc, records.as_slice()),
+        Err((refusal, _)) => Ok(refusal.to_string(alloc)?),
+    }
+}
+
+fn records_text(alloc: Global, records: &[Vec<u8>]) -> Result<String, Fail> {
+    let mut text = String::new(alloc);
+    for record in records {
+        text.push_str(str::from_utf8(record.as_slice())?)?;
+        text.push('|')?;
+    }
+    Ok(text)
+}
+
+/// What is told of these bytes, opened as a journal.
+fn read_text(alloc: Global, bytes: &[u8]) -> Result<String, Fail> {
+    let device = MemoryDevice::new(alloc, bytes.to_vec(alloc)?)?;
+    told_of(alloc, &Journal::open(alloc, device))
+}
+
+/// A step with a journal.
+enum Step {
+    Append(&'static str),
+    Commit,
+    /// How many bytes it has up to its shut gate.
+    Size,
+    /// All bytes of its device.
+    Bytes,
+    /// What is read where the device is opened again.
+    Again,
+}
+
+impl Takes<Step> for Journal<MemoryDevice> {
+    fn take(&mut self, alloc: Global, step: &Step) -> Result<String, Fail> {
+        match step {
+            Step::Append(record) => answer_text(alloc, self.append(alloc, record.as_bytes())),
+            Step::Commit => answer_text(alloc, self.commit()),
+            Step::Size => Ok(format!(in alloc; "{}", self.size())?),
+            Step::Bytes => Ok(hex::encode(alloc, self.device().bytes())?),
+            Step::Again => read_text(alloc, self.device().bytes()),
+        }
+    }
+}
+
+fn answer_text(alloc: Global, answer: Result<(), JournalError>) -> Result<String, Fail> {
+    Ok(match answer {
+        Ok(()) => String::from_str(alloc, "done")?,
+        Err(refusal) => refusal.to_string(alloc)?,
+    })
+}
+
+/// A new journal on a device in memory.
+fn new_journal(alloc: Global) -> Result<Journal<MemoryDevice>, Fail> {
+    let device = MemoryDevice::new(alloc, Vec::new(alloc))?;
+    match Journal::create(alloc, device) {
+        Ok(journal) => Ok(journal),
+        Err((refusal, _)) => Err(Fail::from(refusal.to_string(alloc)?)),
+    }
+}
+
+#[test]
+fn keeps_what_is_committed(rt: HostRuntime) -> Result<(), Fail> {
+    let alloc = rt.alloc();
+    let mut journal = new_journal(alloc)?;
+    session(alloc, &mut journal, KEPT)
+}
+
+const KEPT: &[(Step, &str)] = &[
+    (Step::Bytes, "46574a3100"),
+    (Step::Size, "4"),
+    (Step::Commit, "done"),
+    (Step::Bytes, "46574a3100"),
+    (Step::Append("one"), "done"),
+    (Step::Bytes, "46574a3100"),
+    (Step::Again, ""),
+    (Step::Commit, "done"),
+    (Step::Size, "44"),
+    (
+        Step::Bytes,
+        "46574a3101000000036f6e657692c3ad3540bb803c020b3aee66cd8887123234ea0c6e7143c0add73ff431ed00",
+    ),
+    (Step::Append("two"), "done"),
+    (Step::Append(""), "done"),
+    (Step::Commit, "done"),
+    (Step::Size, "121"),
+    (Step::Append("lost"), "done"),
+    (Step::Again, "one|two||"),
+];
+
+/// A device with the journal of `one`, which has no past.
+fn device_of_one(alloc: Global) -> Result<MemoryDevice, Fail> {
+    let mut journal = new_journal(alloc)?;
+    journal.append(alloc, b"one")?;
+    journal.commit()?;
+    let bytes = journal.device().bytes().to_vec(alloc)?;
+    Ok(MemoryDevice::new(alloc, bytes)?)
+}
+
+/// What is told where a device with the journal of `one` fails after so many calls: of opening it, and of a commit of `two` and `three`.
+/// Then what is left is told, as it is read, and as it was at the last sync.
+struct Cut {
+    calls: u64,
+    torn: u8,
+}
+
+impl Case for Cut {
+    fn told(&self, alloc: Global) -> Result<String, Fail> {
+        let mut device = device_of_one(alloc)?;
+        device.fuse(self.calls, self.torn);
+        match Journal::open(alloc, device) {
+            Ok((journal, records)) => {
+                let opened = records_text(alloc, records.as_slice())?;
+                committed(alloc, journal, opened.as_str())
+            }
+            Err((refusal, device)) => left_text(alloc, refusal.to_string(alloc)?.as_str(), &device),
+        }
+    }
+}
+
+fn committed(alloc: Global, journal: Journal<MemoryDevice>, opened: &str) -> Result<String, Fail> {
+    let mut journal = journal;
+    journal.append(alloc, b"two")?;
+    journal.append(alloc, b"three")?;
+    let answer = answer_text(alloc, journal.commit())?;
+    let again = answer_text(alloc, journal.commit())?;
+    let told = format!(in alloc; "{opened} {answer} {again}")?;
+    left_text(alloc, told.as_str(), journal.device())
+}
+
+fn left_text(alloc: Global, told: &str, device: &MemoryDevice) -> Result<String, Fail> {
+    let read = read_text(alloc, device.bytes())?;
+    let synced = read_text(alloc, device.synced())?;
+    for past in device.past() {
+        let earlier = read_text(alloc, past.as_slice())?;
+        if earlier.as_str() != "one|" && earlier.as_str() != "one|two|three|" {
+            return Err(Fail::from(earlier));
+        }
+    }
+    Ok(format!(in alloc; "{told}: {read} {synced}")?)
+}
+
+#[test]
+fn a_cut_leaves_all_of_a_group_or_nothing(rt: HostRuntime) -> Result<(), Fail> {
+    each(rt.alloc(), CUTS)
+}
+
+const CUTS: &[(Cut, &str)] = &[
+    (Cut { calls: 0, torn: 1 }, "BookFault: one| one|"),
+    (Cut { calls: 1, torn: 1 }, "BookFault: one| one|"),
+    (Cut { calls: 2, torn: 1 }, "BookFault: one| one|"),
+    (Cut { calls: 3, torn: 1 }, "BookFault: one| one|"),
+    (Cut { calls: 4, torn: 1 }, "BookFault: one| one|"),
+    (Cut { calls: 5, torn: 1 }, "BookFault: one| one|"),
+    (Cut { calls: 6, torn: 1 }, "BookFault: one| one|"),
+    (
+        Cut { calls: 7, torn: 1 },
+        "one| BookFault BookFault: one| one|",
+    ),
+    (
+        Cut { calls: 8, torn: 1 },
+        "one| BookFault BookFault: one| one|",
+    ),
+    (
+        Cut { calls: 9, torn: 0 },
+        "one| BookFault BookFault: one| one|",
+    ),
+    (
+        Cut { calls: 9, torn: 2 },
+        "one| BookFault BookFault: one| one|",
+    ),
+    (
+        Cut { calls: 9, torn: 1 },
+        "one| BookFault BookFault: one|two|three| one|",
+    ),
+    (
+        Cut { calls: 10, torn: 1 },
+        "one| BookFault BookFault: one|two|three| one|",
+    ),
+    (
+        Cut { calls: 11, torn: 1 },
+        "one| done done: one|two|three| one|two|three|",
+    ),
+];
+
+/// Bytes of a journal of `one` and `two` in which a byte is turned: what is read.
+struct Turned(usize);
+
+impl Case for Turned {
+    fn told(&self, alloc: Global) -> Result<String, Fail> {
+        let mut journal = new_journal(alloc)?;
+        journal.append(alloc, b"one")?;
+        journal.append(alloc, b"two")?;
+        journal.commit()?;
+        let mut bytes = journal.device().bytes().to_vec(alloc)?;
+        let byte = bytes.get_mut(self.0).ok_or("no such byte")?;
+        *byte ^= 8;
+        read_text(alloc, bytes.as_slice())
+    }
+}
+
+/// A turned gate ends the journal; any other byte is refused, with the offset of its record's gate.
+#[test]
+fn a_turned_byte_is_refused_or_ends_the_journal(rt: HostRuntime) -> Result<(), Fail> {
+    each(rt.alloc(), TURNED)
+}
+
+const TURNED: &[(Turned, &str)] = &[
+    (Turned(0), "BadBook 0"),
+    (Turned(3), "BadBook 0"),
+    (Turned(4), ""),
+    (Turned(5), "BadBook 4"),
+    (Turned(8), "BadBook 4"),
+    (Turned(9), "BadBook 4"),
+    (Turned(11), "BadBook 4"),
+    (Turned(12), "BadBook 4"),
+    (Turned(43), "BadBook 4"),
+    (Turned(44), "one|"),
+    (Turned(45), "BadBook 44"),
+    (Turned(83), "BadBook 44"),
+    (Turned(84), "one|two|"),
+];
+
+/// Bytes that are opened: what is told, and what the device then has.
+struct Opened(&'static str);
+
+impl Case for Opened {
+    fn told(&self, alloc: Global) -> Result<String, Fail> {
+        let device = MemoryDevice::new(alloc, hex::decode(alloc, self.0)?)?;
+        match Journal::open(alloc, device) {
+            Ok((journal, records)) => {
+                let told = records_text(alloc, records.as_slice())?;
+                device_text(alloc, told.as_str(), journal.device())
+            }
+            Err((refusal, device)) => {
+                let told = refusal.to_string(alloc)?;
+                device_text(alloc, told.as_str(), &device)
+            }
+        }
+    }
+}
+
+fn device_text(alloc: Global, told: &str, device: &MemoryDevice) -> Result<String, Fail> {
+    let bytes = hex::encode(alloc, device.bytes())?;
+    Ok(format!(in alloc; "{told}: {bytes}")?)
+}
+
+/// What stands from a shut gate on is cut off. What is no journal is left as it is.
+#[test]
+fn opens_journals_alone(rt: HostRuntime) -> Result<(), Fail> {
+    each(rt.alloc(), OPENED)
+}
+
+const OPENED: &[(Opened, &str)] = &[
+    (Opened(""), "BadBook 0: "),
+    (Opened("46574a"), "BadBook 0: 46574a"),
+    (Opened("68656c6c6f"), "BadBook 0: 68656c6c6f"),
+    (Opened("46574a31"), ": 46574a3100"),
+    (Opened("46574a3100"), ": 46574a3100"),
+    (Opened("46574a3101"), ": 46574a3100"),
+    (Opened("46574a310001000000"), ": 46574a3100"),
+    (Opened("46574a310101"), "BadBook 4: 46574a310101"),
+];
+
+/// A new journal on these bytes: what is told, and what the device then has.
+struct Created(&'static str);
+
+impl Case for Created {
+    fn told(&self, alloc: Global) -> Result<String, Fail> {
+        let device = MemoryDevice::new(alloc, hex::decode(alloc, self.0)?)?;
+        match Journal::create(alloc, device) {
+            Ok(journal) => device_text(alloc, "made", journal.device()),
+            Err((refusal, device)) => {
+                let told = refusal.to_string(alloc)?;
+                device_text(alloc, told.as_str(), &device)
+            }
+        }
+    }
+}
+
+#[test]
+fn makes_a_journal_where_no_byte_is(rt: HostRuntime) -> Result<(), Fail> {
+    each(rt.alloc(), CREATED)
+}
+
+const CREATED: &[(Created, &str)] = &[
+    (Created(""), "made: 46574a3100"),
+    (Created("00"), "NotEmpty: 00"),
+    (Created("46574a3100"), "NotEmpty: 46574a3100"),
+];
+
+/// A path of a test's own, and no file there.
+fn new_path(rt: &HostRuntime, name: &str) -> Result<PathBuf, Fail> {
+    let mut path = env::temp_dir(rt)?;
+    path.push(name)?;
+    let _ = fs::remove_file(rt, path.as_path());
+    Ok(path)
+}
+
+fn file_text(opened: Result<FileDevice, JournalError>) -> &'static str {
+    match opened {
+        Ok(_) => "a file",
+        Err(JournalError::Locked) => "Locked",
+        Err(JournalError::BookFault) => "BookFault",
+        Err(_) => "another refusal",
+    }
+}
+
+/// A file takes one journal at a time, and isn't made twice.
+#[test]
+fn keeps_what_is_committed_in_a_file(rt: HostRuntime) -> Result<(), Fail> {
+    let alloc = rt.alloc();
+    let path = new_path(&rt, "journals.fwj")?;
+    let made = Journal::create(alloc, FileDevice::create(&rt, path.as_path())?);
+    let Ok(journal) = made else {
+        return Err("not made".into());
+    };
+    let mut journal: FileJournal = journal;
+    expect(
+        alloc,
+        0,
+        file_text(FileDevice::create(&rt, path.as_path())),
+        "BookFault",
+    )?;
+    expect(
+        alloc,
+        1,
+        file_text(FileDevice::open(&rt, path.as_path())),
+        "Locked",
+    )?;
+    journal.append(alloc, b"one")?;
+    journal.commit()?;
+    drop(journal.into_device());
+    let told = told_of(
+        alloc,
+        &Journal::open(alloc, FileDevice::open(&rt, path.as_path())?),
+    )?;
+    fs::remove_file(&rt, path.as_path())?;
+    expect(alloc, 2, told.as_str(), "one|")
+}

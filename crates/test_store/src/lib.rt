@@ -1,0 +1,44 @@
+//! Tests of the header of a store, of stores in memory, on devices and in files, of journals, of the digest of a slot, of Image transfer over a store
+//! in memory, and of what a meter makes of requests and how it spells answers, through their public calls alone, and two callers that are
+//! proved from the public contracts alone. Expected bytes are worked out by hand from the standards and the formats, and SHA-256 values
+//! are the published ones or those of `sha256sum`.
+#![tactic(auto)]
+
+#[cfg(test)]
+mod answers;
+#[cfg(test)]
+mod calls;
+#[cfg(test)]
+mod devices;
+#[cfg(test)]
+mod digests;
+#[cfg(test)]
+mod faults;
+#[cfg(test)]
+mod files;
+pub mod fresh;
+#[cfg(test)]
+mod headers;
+#[cfg(test)]
+mod journals;
+#[cfg(test)]
+mod memory;
+#[cfg(test)]
+mod opening;
+#[cfg(test)]
+mod plans;
+#[cfg(test)]
+mod refusals;
+mod replying;
+#[cfg(test)]
+mod session;
+#[cfg(test)]
+mod slices;
+#[cfg(test)]
+mod test_device;
+#[cfg(test)]
+mod transfers;
+#[cfg(test)]
+mod types;
+
+pub use replying::wrapped_answer;

@@ -1,0 +1,22 @@
+//! What is told, and what is wanted.
+
+use std::alloc::Global;
+use std::test::Fail;
+
+/// What is told in a row is what is wanted there.
+pub fn expect(alloc: Global, row: usize, found: &str, want: &str) -> Result<(), Fail> {
+    if found == want {
+        return Ok(());
+    }
+    let told = format!(in alloc; "row {row}: {found} in place of {want}")?;
+    Err(Fail::from(told))
+}
+
+/// What is told at a place is what is wanted there.
+pub fn expect_at(alloc: Global, place: &str, found: &str, want: &str) -> Result<(), Fail> {
+    if found == want {
+        return Ok(());
+    }
+    let told = format!(in alloc; "{place}: {found} in place of {want}")?;
+    Err(Fail::from(told))
+}

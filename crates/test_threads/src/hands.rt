@@ -1,0 +1,222 @@
+//! A crew whose hands are of the test's own: links on which all that is sent comes at once; and how links are dealt. What is expected
+//! was worked out by hand, from the head end's and the meter's documents.
+
+ghost use Rattle.std.specs.Prelude.{◌≡◌, MatchOption, Ok, Err};
+
+use crate::gates::Open;
+use fw_air::Sent;
+use fw_crew::{Floor, Gate, Hand, RehearseError, Task, Unaccounted, Worker, begin, dealt, work};
+use fw_names::{HeadId, MeterId};
+use std::alloc::Global;
+use std::sync::Wait;
+use std::test::Fail;
+use std::thread::Threads;
+use test_support::{OPENED, SMALL, events_of, expect, head, meter, push, report, setup_of};
+
+/// A link on which all that is sent comes at once, in order.
+#[derive(Drop)]
+struct GoodLink {
+    head: HeadId,
+    meter: MeterId,
+}
+
+impl GoodLink {
+    /// What the head end sent comes to the meter, and each reply to the head end.
+    fn deliver<R: Wait, G: Gate>(
+        &self,
+        rt: &R,
+        alloc: Global,
+        floor: &Floor,
+        worker: &mut Worker<'_, G>,
+        asked: Sent,
+    ) -> Result<(), Unaccounted>
+        requires { worker.old.board ≡ floor.now.board.id }
+        ensures { worker.new.board ≡ worker.old.board }
+    {
+        let end = asked.first.saturating_add(asked.count);
+        'datagrams: for number in asked.first..end {
+            let reply = floor.serve(rt, alloc, worker, self.meter, number)?;
+            if reply.count == 1 {
+                floor.hear(rt, alloc, worker, self.head, reply.first)?;
+            }
+        }
+        Ok(())
+    }
+}
+
+impl Hand for GoodLink {
+    ghost may_end = { λ _ _. Unit {0} };
+
+    fn rounds<R: Wait, G: Gate>(
+        &mut self,
+        rt: &R,
+        alloc: Global,
+        floor: &Floor,
+        worker: &mut Worker<'_, G>,
+        rounds: u32,
+    ) -> Result<(), Unaccounted> {
+        'rounds: for _ in 0..rounds {
+            let asked = floor.tick(rt, alloc, worker, self.head, self.meter)?;
+            self.deliver(rt, alloc, floor, worker, asked)?;
+            floor.turn(rt, alloc, worker, self.meter)?;
+        }
+        Ok(())
+    }
+}
+
+/// What one worker makes in nine rounds of the link of this head end and this meter: the report and the board's count, or why there is
+/// none.
+fn told<R: Threads + Wait + Sync>(
+    rt: &R,
+    alloc: Global,
+    numbers: (u32, u32),
+) -> Result<String, Fail> {
+    let setup = setup_of(alloc, SMALL)?;
+    let given = events_of(alloc, &[OPENED])?;
+    let opening = begin(alloc, &setup, &given, 1)?;
+    let task = Task {
+        setup: &setup,
+        given: &given,
+        rounds: 9,
+        workers: 1,
+        gate: &Open,
+    };
+    let mut hands = Vec::new(alloc);
+    hands.push(GoodLink {
+        head: head(numbers.0)?,
+        meter: meter(numbers.1)?,
+    })?;
+    match work(rt, alloc, &task, opening, hands) {
+        Ok(made) => {
+            let mut text = report(alloc, &setup, &made.world)?;
+            let board = made.board;
+            push(&mut text, format!(in alloc; "board {board}")?.as_str())?;
+            Ok(text)
+        }
+        Err(reason) => Ok(RehearseError::from(reason).to_string(alloc)?),
+    }
+}
+
+/// Links by the numbers of their ends, and what is told of them: the campaign's own, and two of whose ends one isn't there.
+const HANDS: &[((u32, u32), &str)] = &[
+    (
+        (7, 1),
+        "row 7 1 1 done; meter 1 status 6 active 7 1 size 3; activations 1; sent 20; board 1",
+    ),
+    ((8, 1), "Mismatch"),
+    ((7, 2), "Mismatch"),
+];
+
+#[test]
+fn hands_of_its_own(rt: HostRuntime) -> Result<(), Fail> {
+    for (at, (numbers, want)) in HANDS.iter().enumerate() {
+        let told = told(&rt, rt.alloc(), *numbers)?;
+        expect(rt.alloc(), at, told.as_str(), want)?;
+    }
+    Ok(())
+}
+
+/// A worker that is refused at once, for this reason, or for none.
+#[derive(Drop)]
+struct Refused(Option<Unaccounted>);
+
+impl Hand for Refused {
+    ghost may_end = { λ hand end. MatchOption hand.0 (end ≡ Ok tt) (λ reason. end ≡ Err reason) };
+
+    fn rounds<R: Wait, G: Gate>(
+        &mut self,
+        _rt: &R,
+        _alloc: Global,
+        _floor: &Floor,
+        _worker: &mut Worker<'_, G>,
+        _rounds: u32,
+    ) -> Result<(), Unaccounted> {
+        match self.0 {
+            Some(reason) => Err(reason),
+            None => Ok(()),
+        }
+    }
+}
+
+/// Why there is no report of these workers.
+fn refusal_of<R: Threads + Wait + Sync>(
+    rt: &R,
+    alloc: Global,
+    reasons: &[Option<Unaccounted>],
+) -> Result<String, Fail> {
+    let setup = setup_of(alloc, SMALL)?;
+    let given = events_of(alloc, &[OPENED])?;
+    let opening = begin(alloc, &setup, &given, 2)?;
+    let task = Task {
+        setup: &setup,
+        given: &given,
+        rounds: 9,
+        workers: 2,
+        gate: &Open,
+    };
+    let mut hands = Vec::new(alloc);
+    for reason in reasons {
+        hands.push(Refused(*reason))?;
+    }
+    match work(rt, alloc, &task, opening, hands) {
+        Ok(_) => Err("a report".into()),
+        Err(reason) => Ok(RehearseError::from(reason).to_string(alloc)?),
+    }
+}
+
+/// Why each worker is refused, from the lowest on, and what is told: the lowest worker's refusal. Where none is refused, the rounds that
+/// they didn't make are missed.
+const REFUSALS: &[(&[Option<Unaccounted>], &str)] = &[
+    (
+        &[Some(Unaccounted::GateShut), Some(Unaccounted::OutOfMemory)],
+        "GateShut",
+    ),
+    (
+        &[Some(Unaccounted::OutOfMemory), Some(Unaccounted::GateShut)],
+        "OutOfMemory",
+    ),
+    (&[None, Some(Unaccounted::GateShut)], "GateShut"),
+    (&[Some(Unaccounted::OutOfMemory), None], "OutOfMemory"),
+    (&[None, None], "Mismatch"),
+];
+
+#[test]
+fn the_lowest_workers_refusal_is_told(rt: HostRuntime) -> Result<(), Fail> {
+    for (at, (reasons, want)) in REFUSALS.iter().enumerate() {
+        let told = refusal_of(&rt, rt.alloc(), reasons)?;
+        expect(rt.alloc(), at, told.as_str(), want)?;
+    }
+    Ok(())
+}
+
+/// Which of these links each of so many workers is dealt.
+fn dealt_to(alloc: Global, links: &[u32], workers: u32) -> Result<String, Fail> {
+    if workers == 0 {
+        return Err("no workers".into());
+    }
+    let mut text = String::new(alloc);
+    for hand in dealt(alloc, links.to_vec(alloc)?, workers)? {
+        push(
+            &mut text,
+            format!(in alloc; "{:?}", hand.as_slice())?.as_str(),
+        )?;
+    }
+    Ok(text)
+}
+
+/// Links, the number of workers, and what is told of them.
+const DEALT: &[(&[u32], u32, &str)] = &[
+    (&[7, 8, 9, 7, 6], 2, "[7, 9, 6]; [8, 7]"),
+    (&[7, 8], 3, "[7]; [8]; []"),
+    (&[7, 8], 1, "[7, 8]"),
+    (&[], 2, "[]; []"),
+];
+
+#[test]
+fn links_are_dealt_in_turn(rt: HostRuntime) -> Result<(), Fail> {
+    for (at, (links, workers, want)) in DEALT.iter().enumerate() {
+        let told = dealt_to(rt.alloc(), links, *workers)?;
+        expect(rt.alloc(), at, told.as_str(), want)?;
+    }
+    Ok(())
+}

@@ -1,0 +1,61 @@
+//! The command `live`, over a reader and a writer in memory and sockets on this machine.
+
+use crate::commands::{FOUR, NO_HEADS, TWICE};
+use fw_cli::{LiveOptions, run_live};
+use std::alloc::Global;
+use std::net::Net;
+use std::sync::Wait;
+use std::test::Fail;
+use std::thread::Threads;
+use test_support::expect;
+
+/// A script, the rounds and the workers.
+struct Live(&'static str, u32, u32);
+
+impl Live {
+    /// What is written, and behind it the fault.
+    fn told<T: Threads + Wait + Net + Sync>(&self, rt: &T, alloc: Global) -> Result<String, Fail> {
+        let Live(script, rounds, workers) = *self;
+        let options = LiveOptions { rounds, workers };
+        let mut written = Vec::new(alloc);
+        let result = run_live(rt, alloc, &mut script.as_bytes(), &mut written, &options);
+        let mut text = String::from_utf8(written)?;
+        if let Err(fault) = result {
+            text.push_str(format!(in alloc; "{fault}")?.as_str())?;
+        }
+        Ok(text)
+    }
+}
+
+/// What sockets lose isn't fixed, and so isn't how many rows are done: the board says how many.
+#[test]
+fn live_report_and_its_board(rt: HostRuntime) -> Result<(), Fail> {
+    let alloc = rt.alloc();
+    let text = Live(FOUR, 60, 2).told(&rt, alloc)?;
+    let done = text
+        .lines()
+        .filter(|line| line.starts_with("row ") && line.ends_with(" done"))
+        .count();
+    let board = format!(in alloc; "board {done}")?;
+    assert_eq!(rt; text.lines().last(), Some(board.as_str()));
+    assert_eq!(rt; text.lines().count(), 10);
+    Ok(())
+}
+
+/// Of none of these anything is written.
+const BAD: &[(Live, &str)] = &[
+    (Live("x\n", 1, 0), "BadLine 1"),
+    (Live(NO_HEADS, 1, 1), "BadSetup"),
+    (Live(FOUR, 1, 0), "BadSetup"),
+    (Live(FOUR, 1, 9), "BadSetup"),
+    (Live(TWICE, 1, 1), "Event"),
+];
+
+#[test]
+fn what_has_no_live_report(rt: HostRuntime) -> Result<(), Fail> {
+    for (at, (live, want)) in BAD.iter().enumerate() {
+        let told = live.told(&rt, rt.alloc())?;
+        expect(rt.alloc(), at, told.as_str(), want)?;
+    }
+    Ok(())
+}

@@ -1,0 +1,24 @@
+//! The runner of tables.
+
+use std::alloc::Global;
+use std::sync::Wait;
+use std::test::Fail;
+use std::thread::Threads;
+use test_support::expect;
+
+/// Something that is tried, and told of in a line.
+pub(crate) trait Case {
+    fn told<R: Threads + Wait + Sync>(&self, rt: &R, alloc: Global) -> Result<String, Fail>;
+}
+
+/// Of each case is told what stands beside it. What else is told is named with the place of its row.
+pub(crate) fn each<C: Case, R: Threads + Wait + Sync>(
+    rt: &R,
+    alloc: Global,
+    rows: &[(C, &str)],
+) -> Result<(), Fail> {
+    for (at, (case, want)) in rows.iter().enumerate() {
+        expect(alloc, at, case.told(rt, alloc)?.as_str(), want)?;
+    }
+    Ok(())
+}
