@@ -4,7 +4,7 @@ use Rattle.std.proofs.Math.Nat.{pow-suc}
 use Rattle.std.proofs.Math.Seq.{take-add}
 use Rattle.std.proofs.lemmas.Bool.{cases_lt, cases_eq, eq-eqb, ne_eqb}
 use Rattle.std.proofs.lemmas.Grind.{flat_map-append}
-use Rattle.std.proofs.lemmas.List.{ext_get_or, get_or_default, get_or_past, get_or_append_left, get_or-append_right, get_or-set_same, get_or-set_other, get_or-replicate, length-replicate, length-set, length-append, take_all, take_more, take_more_set}
+use Rattle.std.proofs.lemmas.List.{ext_get_or, get_or_default, get_or_past, get_or_append_left, get_or-append_right, get_or-set_same, get_or-set_other, get_or-replicate, length-replicate, length-set, length-append, length-drop, length-take-le, take_all, take_at, drop_at, take-append-drop, take_more, take_more_set}
 use Rattle.std.proofs.lemmas.List.FromFn.{length-map-range_with_len, get_or-map-range_with_len}
 use Rattle.std.proofs.lemmas.Nat.{shr-shr, shr_high, shr_split}
 use Rattle.std.proofs.lemmas.Nat.Bits.{bit_at-suc, bit_at-zero, bit_at_cat_low, bit_at_set_same, bit_at_set_other}
@@ -645,11 +645,41 @@ all_again marks size =
     let none : max_blocks - length marks ≡ 0 = omega arith in
     ap (λ (n : ℕ). marks ++ replicate n false) none ∙ append-nil marks
 
-pub written_all : (count : ℕ) (bytes words counts : List ℕ) → count ≤ max_blocks → AreWords count words counts → length bytes ≡ 8 * page_count → BytesPacked
-    → take (8 * page_count) bytes ≡ flat_map (to_be_bytes w64) (take page_count words) → bytes ≡ packed (all_marks (marks_of count words))
-written_all count bytes words counts few are long comes_back written =
-    let all : take page_count words ≡ words = take_all page_count words (omega (arith, are.words_size)) in
-    let every : take (8 * page_count) bytes ≡ bytes = take_all (8 * page_count) bytes (omega arith) in
-    let spelled : bytes ≡ flat_map (to_be_bytes w64) words = sym every ∙ written ∙ ap (flat_map (to_be_bytes w64)) all in
-    spelled ∙ sym (comes_back (flat_map (to_be_bytes w64) words) (small_bytes words))
+-- words that were all written
+pub written_all : (bytes words : List ℕ) (page : ℕ) → page ≡ length words → length bytes ≡ 8 * length words
+    → take (8 * page) bytes ≡ flat_map (to_be_bytes w64) (take page words) → bytes ≡ flat_map (to_be_bytes w64) words
+written_all bytes words page all size written =
+    sym (take_all (8 * page) bytes (omega arith)) ∙ written ∙ ap (flat_map (to_be_bytes w64)) (take_all page words (omega arith))
+
+-- the bytes of the marks are those of the words
+pub words_packed : (count : ℕ) (words counts : List ℕ) → count ≤ max_blocks → AreWords count words counts → BytesPacked
+    → flat_map (to_be_bytes w64) words ≡ packed (all_marks (marks_of count words))
+words_packed count words counts few are comes_back =
+    sym (comes_back (flat_map (to_be_bytes w64) words) (small_bytes words))
     ∙ ap packed (sym (marks_bits words are.words_size) ∙ sym (marks_grown count max_blocks words few are.past))
+
+-- and those of some words some of these
+words_from : (n : ℕ) (words : List ℕ) → n ≤ length words → drop (8 * n) (flat_map (to_be_bytes w64) words) ≡ flat_map (to_be_bytes w64) (drop n words)
+words_from n words within =
+    let front = take n words in
+    let size : length (flat_map (to_be_bytes w64) front) ≡ 8 * n = omega (arith, length-words_bytes front, length-take-le n words within) in
+    ap (λ (ws : List ℕ). drop (8 * n) (flat_map (to_be_bytes w64) ws)) (sym (take-append-drop n words))
+    ∙ ap (drop (8 * n)) (flat_map-append (to_be_bytes w64) front (drop n words))
+    ∙ drop_at (flat_map (to_be_bytes w64) front) (flat_map (to_be_bytes w64) (drop n words)) (8 * n) size
+
+words_to : (n : ℕ) (words : List ℕ) → n ≤ length words → take (8 * n) (flat_map (to_be_bytes w64) words) ≡ flat_map (to_be_bytes w64) (take n words)
+words_to n words within =
+    let front = take n words in
+    let size : length (flat_map (to_be_bytes w64) front) ≡ 8 * n = omega (arith, length-words_bytes front, length-take-le n words within) in
+    ap (λ (ws : List ℕ). take (8 * n) (flat_map (to_be_bytes w64) ws)) (sym (take-append-drop n words))
+    ∙ ap (take (8 * n)) (flat_map-append (to_be_bytes w64) front (drop n words))
+    ∙ take_at (flat_map (to_be_bytes w64) front) (flat_map (to_be_bytes w64) (drop n words)) (8 * n) size
+
+pub words_range : (words : List ℕ) (first end n : ℕ) → first ≤ end → end ≤ length words → first + n / 8 ≡ end → n % 8 ≡ 0
+    → flat_map (to_be_bytes w64) (slice_range words first end) ≡ slice_range (flat_map (to_be_bytes w64) words) (8 * first) (8 * first + n)
+words_range words first end n ordered within there whole =
+    let some : end - first ≤ length (drop first words) = omega (arith, length-drop first words) in
+    let size : 8 * (end - first) ≡ 8 * first + n - 8 * first = omega arith in
+    sym (words_to (end - first) (drop first words) some)
+    ∙ ap (take (8 * (end - first))) (sym (words_from first words (omega arith)))
+    ∙ ap (λ (k : ℕ). take k (drop (8 * first) (flat_map (to_be_bytes w64) words))) size

@@ -6,6 +6,7 @@ ghost use Rattle.std.specs.Prelude.{
   ◌+◌,
   ◌*◌,
   ◌/◌,
+  ◌%◌,
   ◌<◌,
   ◌≤◌,
   ◌||◌,
@@ -25,6 +26,7 @@ ghost use Rattle.std.specs.Prelude.{
   IfOk,
 };
 ghost use Rattle.std.specs.Int.{w64, to_be_bytes};
+ghost use Rattle.std.specs.List.{flat_map};
 ghost use Rattle.fw_axdr.specs.Bits.{bits, packed};
 ghost use Rattle.fw_blocks.specs.Cuts.{max_blocks};
 ghost use Rattle.fw_blocks.specs.Inside.{is_marked, page_size};
@@ -210,10 +212,21 @@ impl Pages {
     {
         laws::bytes_packed();
         let mut bytes = [0; MARKS_SIZE];
-        for page in 0..PAGES {
-            put_word(&mut bytes, page, self.words[page]);
-        }
+        put_words(&mut bytes, &self.words);
         bytes
+    }
+
+    /// Fills `out` with some of these bytes, those of whole pages, of 8 bytes each: from the page `first` on, as many as there
+    /// is room for.
+    pub fn put_bytes(&self, first: usize, out: &mut [u8])
+        requires whole { length out.old % 8 ≡ 0 }
+        requires within { 8 * first + length out.old ≤ MARKS_SIZE }
+        ensures value { out.new ≡ slice_range (packed (all_marks self.now)) (8 * first) (8 * first + length out.old) }
+        ensures size { length (all_marks self.now) ≡ max_blocks }
+    {
+        laws::bytes_packed();
+        let end = first + out.len() / 8;
+        put_words(out, &self.words[first..end]);
     }
 
     /// The pages that have these bytes, of all numbers that an image can have. All bytes are some pages'.
@@ -283,9 +296,19 @@ fn first_unmarked(words: &[u64; PAGES], from: u32) -> u32
     first
 }
 
+/// Writes the words of pages as bytes.
+fn put_words(bytes: &mut [u8], words: &[u64])
+    requires { length bytes.old ≡ 8 * length words.now }
+    ensures { bytes.new ≡ flat_map (to_be_bytes w64) words.now }
+{
+    for page in 0..words.len() {
+        put_word(bytes, page, words[page]);
+    }
+}
+
 /// Writes a page's word as bytes.
-fn put_word(bytes: &mut [u8; MARKS_SIZE], page: usize, word: u64)
-    requires { page < PAGES }
+fn put_word(bytes: &mut [u8], page: usize, word: u64)
+    requires { 8 * (page + 1) ≤ length bytes.old }
     ensures { take (8 * (page + 1)) bytes.new ≡ take (8 * page) bytes.old ++ to_be_bytes w64 word }
 {
     let at = 8 * page;

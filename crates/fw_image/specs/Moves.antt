@@ -1,5 +1,5 @@
 -- For private members alone: no public clause cites it.
-use Rattle.std.specs.Prelude.{◌≡◌, ℕ, ◌==◌, ◌<◌, ◌⊎◌, Bool, true, false, if◌then◌else◌, List, Result, Ok, Err, Some}
+use Rattle.std.specs.Prelude.{◌≡◌, ℕ, ◌==◌, ◌<◌, ◌⊎◌, Bool, true, false, if◌then◌else◌, List, Result, Ok, Err, Some, slice_set}
 use Rattle.fw_blocks.specs.Cuts.{block_start, block_count, max_blocks}
 use Rattle.fw_blocks.specs.Members.{has}
 use Rattle.fw_store.specs.Versions.{block_limit}
@@ -38,6 +38,10 @@ pub record IsPlace (h : Header) (number : ℕ) (value : List ℕ) (start : ℕ) 
   pub there : h.goal ≡ Some goal
   pub is_block : IsBlock h.block_size goal.size number value
   pub begins : start ≡ block_start h.block_size number
+
+-- a header with the mark of one more block
+abbrev pub with_mark : ℕ → Header → Header
+with_mark number h = record h { marks = slice_set h.marks number true }
 
 -- it is the goal, and each of its blocks is marked
 pub record IsWholeGoal (h : Header) (goal : Goal) : Type 0 where

@@ -4,6 +4,7 @@ ghost use Rattle.std.specs.Prelude.{
   ◌≡◌,
   ◌≢◌,
   ◌≤◌,
+  ◌<◌,
   ◌↔◌,
   IsTrue,
   IfSome,
@@ -51,6 +52,7 @@ ghost use Rattle.fw_image.specs.Moves.{
   HaveSameFields,
   IsVerifiedPhase,
   IsPlace,
+  with_mark,
   IsWholeGoal,
   LacksBlock,
   IsVerifiedGenuine,
@@ -159,9 +161,7 @@ impl<S: ImageStore> Held<S> {
         if self.header.marks.has(number) {
             return Ok(());
         }
-        let mut next = self.header;
-        next.marks.mark(number);
-        replace(&mut self.store, &mut self.header, next)?;
+        mark_block(&mut self.store, &mut self.header, number)?;
         Ok(())
     }
 
@@ -515,6 +515,32 @@ fn replace<S: ImageStore>(
 {
     store.write_header(&next.to_bytes())?;
     *header = next;
+    Ok(())
+}
+
+/// Marks a block in the header of a store, and in the one that is held where that succeeded.
+fn mark_block<S: ImageStore>(
+    store: &mut S,
+    header: &mut Header,
+    number: u32,
+) -> Result<(), StoreFault>
+    requires size { length header.old.marks ≡ block_limit header.old.version }
+    requires number { number < length header.old.marks }
+    ensures done { OnOk result (header.new ≡ with_mark number header.old) }
+    ensures failed { OnErr result (header.new ≡ header.old) }
+    ensures written { IsTrue (S.honest store.old)
+        → OnOk result (S.device store.new ≡ with_head (S.device store.old) (header_bytes (with_mark number header.old))) }
+    ensures same { IsTrue (S.honest store.old) → OnErr result (S.device store.new ≡ S.device store.old) }
+    ensures fits { FieldsFit (with_mark number header.old) }
+    ensures kept { Keeps S.honest S.sound S.capacity S.faults store.old store.new }
+    ensures cause { HasCause (S.sound store.old) (S.faults store.old) (S.faults store.new) result }
+    ensures spends { Spends 1 (S.fuse store.old) (S.fuse store.new) (is_ok result) }
+{
+    let mut next = *header;
+    next.marks.mark(number);
+    let bytes = next.to_bytes();
+    store.write_header(&bytes)?;
+    header.marks.mark(number);
     Ok(())
 }
 

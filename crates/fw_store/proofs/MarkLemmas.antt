@@ -1,11 +1,13 @@
 -- The bytes of marks: those of the first blocks, and those of the others.
-use Rattle.std.proofs.Common.{◌≡◌, ℕ, ◌+◌, ◌-◌, ◌*◌, ◌%◌, ◌<◌, ◌≤◌, Bool, false, cond, get_or, List, [], ◌∷◌, ◌++◌, length, take, drop, replicate, zero, suc, refl, sym, ap, ◌∙◌, arith, zero-add, append-nil, length-append, length-drop}
-use Rattle.std.proofs.lemmas.List.{get_or-take, length-take, length-take-le, length-replicate, drop-drop, drop-take, take_all, take_at, drop_at, take-append-drop, take-replicate}
+use Rattle.std.proofs.Common.{◌≡◌, ℕ, ◌+◌, ◌-◌, ◌*◌, ◌%◌, ◌<◌, ◌≤◌, Bool, false, cond, get_or, List, [], ◌∷◌, ◌++◌, length, take, drop, replicate, zero, suc, refl, sym, ap, ◌∙◌, inl, inr, arith, zero-add, append-nil, length-append, length-drop}
+use Rattle.std.proofs.Math.Seq.{take-append-add}
+use Rattle.std.proofs.lemmas.Bool.{cases_lt}
+use Rattle.std.proofs.lemmas.List.{get_or-take, length-take, length-take-le, length-replicate, drop-drop, drop-take, take_all, take_at, drop_at, take-append-drop, take-append-le, take-take, take-replicate}
 use Rattle.std.proofs.lemmas.Grind.{flat_map-append}
 use Rattle.fw_axdr.specs.Bits.{byte_bits, bits, bytes_for, byte_of, packed_into, packed}
 use Rattle.fw_axdr.specs.Laws.{BitsPacked}
 use Rattle.fw_blocks.specs.Cuts.{max_blocks}
-use Rattle.fw_blocks.specs.Members.{resized_marks}
+use Rattle.fw_blocks.specs.Members.{all_marks, resized_marks}
 use Rattle.fw_store.specs.Versions.{first_limit, block_limit, header_size}
 use Rattle.fw_store.specs.declared.version.HeaderVersion.{HeaderVersion}
 use Rattle.fw_store.specs.declared.version.HeaderVersion.TheVariants.{One, Two}
@@ -134,6 +136,39 @@ resized_marks_none most count within =
     ap (λ (n : ℕ). take count (replicate most false) ++ replicate n false) none
     ∙ append-nil (take count (replicate most false))
     ∙ take-replicate count most false within
+
+-- the first ones of more are the first ones
+take-resized_marks : (n count : ℕ) (marks : List Bool) → n ≤ count → take n (resized_marks count marks) ≡ resized_marks n marks
+take-resized_marks n count marks within =
+    let others = replicate (count - length marks) false in
+    elim (cases_lt (length marks) n) [
+      | inl less ↦
+          let more : length marks + (n - length marks) ≡ n = omega arith in
+          ap (λ (l : List Bool). take n (l ++ others)) (take_all count marks (omega arith))
+          ∙ ap (λ (k : ℕ). take k (marks ++ others)) (sym more)
+          ∙ take-append-add marks others (n - length marks)
+          ∙ ap (λ (l : List Bool). marks ++ l) (take-replicate (n - length marks) (count - length marks) false (omega arith))
+          ∙ ap (λ (l : List Bool). l ++ replicate (n - length marks) false) (sym (take_all n marks (omega arith)))
+      | inr enough ↦
+          let none : 0 ≡ n - length marks = omega arith in
+          take-append-le n (take count marks) others (omega (arith, length-take count marks))
+          ∙ take-take n count marks within
+          ∙ sym (append-nil (take n marks))
+          ∙ ap (λ (k : ℕ). take n marks ++ replicate k false) none
+    ]
+
+-- marks of all blocks that there can be
+pub all_resized : (marks : List Bool) → length marks ≤ max_blocks → all_marks marks ≡ resized_marks max_blocks marks
+all_resized marks few = ap (λ (l : List Bool). l ++ replicate (max_blocks - length marks) false) (sym (take_all max_blocks marks few))
+
+-- the first ones of them are those of a version
+pub first_resized : (version : HeaderVersion) (marks : List Bool) → length marks ≤ max_blocks
+    → take first_limit (all_marks marks) ≡ take first_limit (resized_marks (block_limit version) marks)
+first_resized One marks few =
+    ap (take first_limit) (all_resized marks few)
+    ∙ take-resized_marks first_limit max_blocks marks (omega arith)
+    ∙ sym (take_all first_limit (resized_marks first_limit marks) (omega (arith, length-resized_marks first_limit marks)))
+first_resized Two marks few = ap (take first_limit) (all_resized marks few)
 
 -- the bytes of the marks of the first blocks
 pub first_size : BitsPacked → (marks : List Bool) → first_limit ≤ length marks → length (packed (take first_limit marks)) ≡ 512

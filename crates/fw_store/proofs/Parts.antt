@@ -66,6 +66,21 @@ header_one h one size =
     let count : length h.marks ≤ first_limit = let limit : block_limit h.version ≡ first_limit = ap block_limit one in omega arith in
     header_is h ∙ ap (λ (marks : List Bool). front_of h ++ packed marks) (drop_all first_limit h.marks count) ∙ append-nil (front_of h)
 
+-- its first bytes have the first marks alone
+pub front_first : (h : Header) (marks marks' : List Bool) → take first_limit marks ≡ take first_limit marks'
+    → front_of (record h { marks = marks }) ≡ front_of (record h { marks = marks' })
+unfolding front_of
+front_first h marks marks' same = ap (λ (first : List Bool).
+    form h.version
+    ++ (flag h.enabled ∷ slot_number h.running_slot ∷ status_number h.status ∷ flag (is_some h.goal) ∷ [])
+    ++ to_be_bytes w32 h.block_size
+    ++ to_be_bytes w32 h.running_size
+    ++ stored_name_bytes h.running_name
+    ++ goal_bytes h.goal
+    ++ packed first
+    ++ to_be_bytes w32 h.running_name.release
+    ++ to_be_bytes w32 (goal_release h.goal)) same
+
 -- ---- its parts
 
 -- the first bytes of a header, part by part

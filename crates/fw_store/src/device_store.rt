@@ -101,7 +101,7 @@ impl<D: ByteDevice + Drop> DeviceStore<D> {
     /// # Errors
     ///
     /// `BadSetup` where one of these doesn't hold, and the device is as it was. Otherwise `StoreFault` alone, where the
-    /// device failed. It may then have any bytes.
+    /// device failed, or has no room for the store. It may then have any bytes.
     pub fn create_on(
         mut device: D,
         capacity: u32,
@@ -119,6 +119,10 @@ impl<D: ByteDevice + Drop> DeviceStore<D> {
         ensures bad_setup { IsErrOf result FileStoreError.BadSetup → ¬ IsSetup HeaderVersion.Two block_size capacity factory.now }
         ensures fault { IsErrOf result FileStoreError.StoreFault → IsSetup HeaderVersion.Two block_size capacity factory.now }
         ensures refusals { IfErr result IsCreateRefusal }
+
+        // A sound device that has room for the store doesn't fail.
+        ensures never { IsTrue (D.sound device) → store_size HeaderVersion.Two capacity ≤ D.room device
+            → ¬ IsErrOf result FileStoreError.StoreFault }
 
         // All of the header is there.
         ensures whole { IsTrue (D.honest device) → IfOk result (λ store. D.contents store.device
@@ -251,6 +255,7 @@ fn clear<D: ByteDevice>(device: &mut D, len: u64) -> Result<(), DeviceFault>
     ensures done { IsTrue (D.honest device.old) → OnOk result (D.contents device.new ≡ replicate len 0) }
     ensures kept { KeepsDevice D.honest D.sound D.room device.old device.new }
     ensures within { IsTrue (D.sound device.old) → OnOk result (len ≤ D.room device.old) }
+    ensures never { IsTrue (D.sound device.old) → len ≤ D.room device.old → IsOk result }
 {
     device.set_len(0)?;
     device.set_len(len)
@@ -270,6 +275,8 @@ fn lay_out<D: ByteDevice>(
     ensures kept { KeepsDevice D.honest D.sound D.room device.old device.new }
     ensures within { IsTrue (D.sound device.old)
         → OnOk result (store_size (version_of head.now) capacity ≤ D.room device.old) }
+    ensures never { IsTrue (D.sound device.old)
+        → store_size (version_of head.now) capacity ≤ D.room device.old → IsOk result }
 {
     clear(device, store_size(head.version(), capacity))?;
     device.write_at(SLOTS_AT, image)?;

@@ -25,7 +25,7 @@ ghost use Rattle.std.specs.Prelude.{
 ghost use Rattle.std.specs.Int.{w32, from_be_bytes, to_be_bytes};
 ghost use Rattle.fw_axdr.specs.Bits.{packed};
 ghost use Rattle.fw_blocks.specs.Cuts.{max_blocks};
-ghost use Rattle.fw_blocks.specs.Members.{has};
+ghost use Rattle.fw_blocks.specs.Members.{has, all_marks};
 ghost use Rattle.fw_names.specs.Name.{Name, IsName, IsOpened};
 ghost use Rattle.fw_store.specs.declared.header.Goal.{Goal};
 ghost use Rattle.fw_store.specs.declared.header.Header.{Header};
@@ -67,8 +67,10 @@ const RELEASES_AT: usize = 614;
 /// The bytes of these marks.
 const FIRST_MARKS_SIZE: usize = 512;
 
-/// The bytes of the marks of the other blocks.
+/// The bytes of the marks of the other blocks, and the page that they begin with.
 const LAST_MARKS_SIZE: usize = MARKS_SIZE - FIRST_MARKS_SIZE;
+
+const LAST_MARKS_PAGE: usize = 64;
 
 /// The bytes of a name in a header, which has its release elsewhere.
 const STORED_NAME_SIZE: usize = 41;
@@ -234,62 +236,40 @@ impl Header {
         // Where the header's marks count all these numbers, it is the header itself.
         ensures whole { length self.now.marks ≡ block_limit self.now.version → with_all_marks self.now ≡ self.now }
     {
-        let header = self.with_all_marks();
-        match header.version {
-            HeaderVersion::One => HeaderBytes::One(header.front()),
-            HeaderVersion::Two => HeaderBytes::Two(header.whole()),
+        let mut bytes = HeaderBytes::zeros(self.version);
+        match &mut bytes {
+            HeaderBytes::One(bytes) => self.put_front(bytes),
+            HeaderBytes::Two(bytes) => {
+                self.put_front(bytes);
+                put_last_marks(bytes, VERSION_ONE_SIZE, &self.marks);
+            }
         }
+        bytes
     }
 
-    /// The header with a mark for each block that its version has one for, and no other.
-    fn with_all_marks(&self) -> Header
-        ensures value { result ≡ with_all_marks self.now }
-        ensures size { length result.marks ≡ block_limit result.version }
-        ensures whole { length self.now.marks ≡ block_limit self.now.version → with_all_marks self.now ≡ self.now }
-    {
-        Header {
-            marks: self.marks.resized(self.version.block_limit()),
-            ..*self
-        }
-    }
-
-    /// The first 622 bytes.
+    /// Writes the first 622 bytes.
     #[tactic(auto, unfolding(crate::specs::Fronts::front_of))]
-    fn front(&self) -> [u8; VERSION_ONE_SIZE]
-        requires { length self.now.marks ≡ block_limit self.now.version }
-        ensures value { result ≡ front_of self.now }
-        ensures fields { FieldsFit self.now }
+    fn put_front(&self, bytes: &mut [u8])
+        requires { VERSION_ONE_SIZE ≤ length bytes.old }
+        ensures value { take VERSION_ONE_SIZE bytes.new ≡ front_of (record self.now { marks = all_marks self.now.marks }) }
+        ensures fields { FieldsFit (with_all_marks self.now) }
+        ensures size { length (all_marks self.now.marks) ≡ max_blocks }
     {
-        let mut bytes = [0; VERSION_ONE_SIZE];
-        let at = put(&mut bytes, 0, &self.version.form());
+        let at = put(bytes, 0, &self.version.form());
         let flags = [
             u8::from(self.enabled),
             slot_number(self.running_slot),
             self.status.number(),
             u8::from(self.goal.is_some()),
         ];
-        let at = put(&mut bytes, at, &flags);
-        let at = put(&mut bytes, at, &number_bytes(self.block_size));
-        let at = put(&mut bytes, at, &number_bytes(self.running_size));
-        let at = put(&mut bytes, at, stored_name(self.running_name).as_slice());
-        let at = put(&mut bytes, at, &goal_to_bytes(self.goal));
-        let at = put(&mut bytes, at, &first_marks(&self.marks));
-        let at = put(&mut bytes, at, &self.running_name.release.to_be_bytes());
-        put(&mut bytes, at, &goal_release(self.goal).to_be_bytes());
-        bytes
-    }
-
-    /// Those of version 2: the first 622, and the marks of the blocks from 4,096 on.
-    fn whole(&self) -> [u8; VERSION_TWO_SIZE]
-        requires version { self.now.version ≡ HeaderVersion.Two }
-        requires marks { length self.now.marks ≡ block_limit self.now.version }
-        ensures value { result ≡ front_of self.now ++ packed (drop first_limit self.now.marks) }
-        ensures fields { FieldsFit self.now }
-    {
-        let mut bytes = [0; VERSION_TWO_SIZE];
-        let at = put(&mut bytes, 0, &self.front());
-        put(&mut bytes, at, &last_marks(&self.marks));
-        bytes
+        let at = put(bytes, at, &flags);
+        let at = put(bytes, at, &number_bytes(self.block_size));
+        let at = put(bytes, at, &number_bytes(self.running_size));
+        let at = put(bytes, at, stored_name(self.running_name).as_slice());
+        let at = put(bytes, at, &goal_to_bytes(self.goal));
+        let at = put_first_marks(bytes, at, &self.marks);
+        let at = put(bytes, at, &self.running_name.release.to_be_bytes());
+        put(bytes, at, &goal_release(self.goal).to_be_bytes());
     }
 
     /// The header that has these bytes, and `None` where there is none that a store with this capacity, in bytes a
@@ -412,26 +392,42 @@ fn goal_to_bytes(goal: Option<Goal>) -> [u8; GOAL_SIZE]
     bytes
 }
 
-/// The bytes of the marks of the first 4,096 blocks.
-fn first_marks(marks: &Pages) -> [u8; FIRST_MARKS_SIZE]
-    requires { first_limit ≤ length marks.now }
-    ensures { result ≡ packed (take first_limit marks.now) }
+/// Writes the marks of the first 4,096 blocks after the parts that are there, and answers where they end.
+fn put_first_marks(bytes: &mut [u8], at: usize, marks: &Pages) -> usize
+    requires { at + FIRST_MARKS_SIZE ≤ length bytes.old }
+    ensures next { result ≡ at + FIRST_MARKS_SIZE }
+    ensures front { take result bytes.new ≡ take at bytes.old ++ packed (take first_limit (all_marks marks.now)) }
+    ensures size { length (all_marks marks.now) ≡ max_blocks }
 {
-    let all = marks.to_bytes();
-    let mut bytes = [0; FIRST_MARKS_SIZE];
-    bytes.copy_from_slice(&all[..FIRST_MARKS_SIZE]);
-    bytes
+    let end = at + FIRST_MARKS_SIZE;
+    fill_first_marks(&mut bytes[at..end], marks);
+    end
 }
 
-/// Those of the marks of the others.
-fn last_marks(marks: &Pages) -> [u8; LAST_MARKS_SIZE]
-    requires { length marks.now ≡ max_blocks }
-    ensures { result ≡ packed (drop first_limit marks.now) }
+/// Those of the other blocks.
+fn put_last_marks(bytes: &mut [u8], at: usize, marks: &Pages)
+    requires { at + LAST_MARKS_SIZE ≤ length bytes.old }
+    ensures { take (at + LAST_MARKS_SIZE) bytes.new ≡ take at bytes.old ++ packed (drop first_limit (all_marks marks.now)) }
 {
-    let all = marks.to_bytes();
-    let mut bytes = [0; LAST_MARKS_SIZE];
-    bytes.copy_from_slice(&all[FIRST_MARKS_SIZE..]);
-    bytes
+    let end = at + LAST_MARKS_SIZE;
+    fill_last_marks(&mut bytes[at..end], marks);
+}
+
+/// Fills `out` with the bytes of the marks of the first 4,096 blocks.
+fn fill_first_marks(out: &mut [u8], marks: &Pages)
+    requires { length out.old ≡ FIRST_MARKS_SIZE }
+    ensures value { out.new ≡ packed (take first_limit (all_marks marks.now)) }
+    ensures size { length (all_marks marks.now) ≡ max_blocks }
+{
+    marks.put_bytes(0, out);
+}
+
+/// Fills `out` with those of the marks of the others.
+fn fill_last_marks(out: &mut [u8], marks: &Pages)
+    requires { length out.old ≡ LAST_MARKS_SIZE }
+    ensures { out.new ≡ packed (drop first_limit (all_marks marks.now)) }
+{
+    marks.put_bytes(LAST_MARKS_PAGE, out);
 }
 
 /// Writes a part after those that are there, and answers where it ends.

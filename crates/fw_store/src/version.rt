@@ -86,6 +86,17 @@ pub enum HeaderBytes {
 }
 
 impl HeaderBytes {
+    /// As many zeros as a header of this version has bytes.
+    pub(crate) fn zeros(version: HeaderVersion) -> HeaderBytes
+        ensures value { bytes_of result ≡ replicate (header_size version) 0 }
+        ensures version { version_of result ≡ version }
+    {
+        match version {
+            HeaderVersion::One => HeaderBytes::One([0; VERSION_ONE_SIZE]),
+            HeaderVersion::Two => HeaderBytes::Two([0; VERSION_TWO_SIZE]),
+        }
+    }
+
     /// The bytes.
     pub fn as_slice(&self) -> &[u8]
         ensures value { result.now ≡ bytes_of self.now }

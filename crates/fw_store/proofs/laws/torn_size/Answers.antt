@@ -1,4 +1,4 @@
-use Rattle.std.proofs.Common.{◌+◌, ◌-◌, ◌/◌, ◌∙◌, length, take, replicate, length-append, arith}
+use Rattle.std.proofs.Common.{◌-◌, ◌/◌, ◌∙◌, length, take, replicate, length-append, arith}
 use Rattle.std.proofs.lemmas.List.{length-take-le, length-replicate}
 use Rattle.fw_store.specs.StoreLaws.{TornSize}
 use Rattle.fw_store.proofs.laws.torn_size.Goals as goal

@@ -1,20 +1,16 @@
-use Rattle.std.proofs.Common.{◌≡◌, ◌*◌, w64, length, take, ap, subst, ◌∙◌, arith}
-use Rattle.std.specs.Int.{to_be_bytes}
-use Rattle.std.specs.List.{flat_map}
+use Rattle.std.proofs.Common.{◌≡◌, length, ap, subst, ◌∙◌, arith}
 use Rattle.fw_axdr.specs.Bits.{packed}
 use Rattle.fw_blocks.specs.Cuts.{max_blocks}
-use Rattle.fw_blocks.specs.Inside.{page_count, marks_of}
+use Rattle.fw_blocks.specs.Inside.{marks_of}
 use Rattle.fw_blocks.specs.Members.{all_marks}
-use Rattle.fw_blocks.proofs.PageLemmas.{are_words, written_all, length-all_marks, all_again}
+use Rattle.fw_blocks.proofs.PageLemmas.{are_words, words_packed, length-all_marks, all_again}
 use Rattle.fw_blocks.proofs.pages.Pages.to_bytes.Goals as goal
 
 pub returns-clause-value : goal.returns-clause-value
 returns-clause-value c =
     let words = c.self.inside.words in
     let are = are_words c.self.inside.count words c.self.inside.counts c.self.invariant in
-    let all : c.loop-page.page ≡ page_count = omega arith in
-    let written = subst (λ page. take (8 * page) c.loop-page.bytes ≡ flat_map (to_be_bytes w64) (take page words)) all c.loop-page.invariant.0 in
-    written_all c.self.inside.count c.loop-page.bytes words c.self.inside.counts c.self.invariant.few are c.loop-page.invariant.1 c.bytes_packed.ensures written
+    c.put_words.ensures ∙ words_packed c.self.inside.count words c.self.inside.counts c.self.invariant.few are c.bytes_packed.ensures
     ∙ ap (λ marks. packed (all_marks marks)) c.self.view_is
 
 pub returns-clause-size : goal.returns-clause-size

@@ -1,10 +1,11 @@
-use Rattle.std.proofs.Common.{◌≡◌, None, IsTrue, true, false, cond, length, refl, sym, ap, ◌∙◌}
+use Rattle.std.proofs.Common.{◌≡◌, None, IsTrue, true, false, cond, set, length, refl, sym, ap, ◌∙◌}
 use Rattle.fw_blocks.specs.Members.{has}
 use Rattle.fw_store.specs.Device.{Device, slot_bytes, written, Torn}
 use Rattle.fw_store.specs.declared.slot.Slot.{Slot}
 use Rattle.fw_image.specs.declared.status.TransferStatus.TheVariants.{Initiated}
 use Rattle.fw_image.specs.Meter.{status_of}
 use Rattle.fw_image.specs.Step.{block, done, refused}
+use Rattle.fw_image.specs.Moves.{with_mark}
 use Rattle.fw_image.specs.Stored.{meter_of, phase_of, phase_at, seen}
 use Rattle.fw_image.specs.declared.error.Refusal.TheVariants.{Fault}
 use Rattle.fw_image.proofs.Blocks.{mark_more, mark_again}
@@ -64,8 +65,8 @@ returns-then-has-clause-makes g c =
     valid valid sized sized' place (mark_again h.marks c.args.number marked) (λ honest. wrote h c.other-spare.result c.in-Some.start c.args.value.now _ _ c.other-spare.ensures (told.done honest)))
     (no_fault s store _ (block c.args.number c.args.value.now) done _ refl))
 
-pub returns-in_err-replace-clause-makes : goal.returns-in_err-replace-clause-makes
-returns-in_err-replace-clause-makes g c =
+pub returns-in_err-mark_block-clause-makes : goal.returns-in_err-mark_block-clause-makes
+returns-in_err-mark_block-clause-makes g c =
     let s = g.S.ImageStore in
     let store = c.self.inside.store in
     let h = c.self.inside.header in
@@ -80,18 +81,18 @@ returns-in_err-replace-clause-makes g c =
     let sized = seen_size (s.honest store) (s.capacity store) (s.device store) (g.met.S.ImageStore.sized store) in
     let first = c.in_ok-write.ensures in
     let unmarked = sym c.has.ensures ∙ c.if-has.false in
-    let told = c.in_err-replace.ensures in
+    let told = c.in_err-mark_block.ensures in
     let still : IsTrue (s.honest store) → IsTrue (s.honest c.write.new.self) = λ honest. first.kept.honesty ∙ honest in
-    let torn : IsTrue (s.honest store) → Torn (s.device store) c.other-spare.result c.in-Some.start (length c.args.value.now) (s.device c.replace.new.store) =
+    let torn : IsTrue (s.honest store) → Torn (s.device store) c.other-spare.result c.in-Some.start (length c.args.value.now) (s.device c.mark_block.new.store) =
     λ honest. record { left = c.args.value.now; size = refl; stands = told.same (still honest) ∙ first.done honest } in
-    rw (← c.self.view_is, none_digests, fault_told c.from_residual-in_err-replace.result c.from_residual-in_err-replace.ensures.1, told.failed)
-    (makes_served s store c.replace.new.store h h None None (block c.args.number c.args.value.now) (refused Fault) (keeps_twice s store c.write.new.self c.replace.new.store first.kept told.kept)
+    rw (← c.self.view_is, none_digests, fault_told c.from_residual-in_err-mark_block.result c.from_residual-in_err-mark_block.ensures.1, told.failed)
+    (makes_served s store c.mark_block.new.store h h None None (block c.args.number c.args.value.now) (refused Fault) (keeps_twice s store c.write.new.self c.mark_block.new.store first.kept told.kept)
     (counted_after false _ _ _ first.cause.counted told.cause.counted) (λ sound. told.cause.never (first.kept.soundness sound))
     (rw (calls, unmarked) (c.calls_add.ensures 1 1 _ _ _ false first.spends told.spends))
     (served_block m place.goal c.args.number c.args.value.now c.if-not-self.false phase place.is_block)
-    (tears_put c.other_blocks_stay.ensures c.begins_within.ensures c.splice_stands.ensures (s.honest store) (s.capacity store) h (s.device store) (s.device c.replace.new.store) c.other-spare.result c.args.number c.in-Some.start c.args.value.now
+    (tears_put c.other_blocks_stay.ensures c.begins_within.ensures c.splice_stands.ensures (s.honest store) (s.capacity store) h (s.device store) (s.device c.mark_block.new.store) c.other-spare.result c.args.number c.in-Some.start c.args.value.now
     valid sized place c.other-spare.ensures torn)
-    (λ honest set is failed. left_unmarked c.other_blocks_stay.ensures c.begins_within.ensures c.splice_stands.ensures (s.honest store) (s.capacity store) h (s.device store) (s.device c.replace.new.store) c.other-spare.result c.args.number c.in-Some.start c.args.value.now set.torn
+    (λ honest set is failed. left_unmarked c.other_blocks_stay.ensures c.begins_within.ensures c.splice_stands.ensures (s.honest store) (s.capacity store) h (s.device store) (s.device c.mark_block.new.store) c.other-spare.result c.args.number c.in-Some.start c.args.value.now set.torn
     valid sized place c.other-spare.ensures honest unmarked (told.same (still honest) ∙ first.done honest)))
 
 pub returns-clause-makes : goal.returns-clause-makes
@@ -110,21 +111,21 @@ returns-clause-makes g c =
     let sized = seen_size (s.honest store) (s.capacity store) (s.device store) (g.met.S.ImageStore.sized store) in
     let first = c.in_ok-write.ensures in
     let unmarked = sym c.has.ensures ∙ c.if-has.false in
-    let told = c.in_ok-replace.ensures in
-    let kept = keeps_twice s store c.write.new.self c.replace.new.store first.kept told.kept in
+    let told = c.in_ok-mark_block.ensures in
+    let kept = keeps_twice s store c.write.new.self c.mark_block.new.store first.kept told.kept in
     let still : IsTrue (s.honest store) → IsTrue (s.honest c.write.new.self) = λ honest. first.kept.honesty ∙ honest in
-    let after : (slot : Slot) → IsTrue (s.honest store) → length (slot_bytes (s.device c.replace.new.store) slot) ≡ s.capacity store =
-    λ slot honest. g.met.S.ImageStore.sized c.replace.new.store slot (kept.honesty ∙ honest) ∙ kept.size in
-    let sized' = seen_size (s.honest store) (s.capacity store) (s.device c.replace.new.store) after in
-    let marked = mark_more h.marks c.mark.new.self c.args.number (marks_in _ h c.args.number c.in-Some.start c.args.value.now valid place) c.mark.ensures in
-    let valid' = valid_marked _ h c.args.number c.in-Some.start c.args.value.now c.mark.new.self valid status place marked told.fits in
+    let after : (slot : Slot) → IsTrue (s.honest store) → length (slot_bytes (s.device c.mark_block.new.store) slot) ≡ s.capacity store =
+    λ slot honest. g.met.S.ImageStore.sized c.mark_block.new.store slot (kept.honesty ∙ honest) ∙ kept.size in
+    let sized' = seen_size (s.honest store) (s.capacity store) (s.device c.mark_block.new.store) after in
+    let marked = mark_more h.marks (set h.marks c.args.number true) c.args.number (marks_in _ h c.args.number c.in-Some.start c.args.value.now valid place) refl in
+    let valid' = valid_marked _ h c.args.number c.in-Some.start c.args.value.now (set h.marks c.args.number true) valid status place marked told.fits in
     rw (← c.self.view_is, told.done, none_digests)
-    (makes_served s store c.replace.new.store h (record h { marks = c.mark.new.self }) None None (block c.args.number c.args.value.now) done kept (told.cause.counted ∙ first.cause.counted) (λ _. refl)
+    (makes_served s store c.mark_block.new.store h (with_mark c.args.number h) None None (block c.args.number c.args.value.now) done kept (told.cause.counted ∙ first.cause.counted) (λ _. refl)
     (rw (calls, unmarked) (c.calls_add.ensures 1 1 _ _ _ true first.spends told.spends))
     (served_block m place.goal c.args.number c.args.value.now c.if-not-self.false phase place.is_block)
-    (leaves_put c.other_blocks_stay.ensures c.begins_within.ensures c.splice_stands.ensures (s.honest store) (s.capacity store) h (s.device store) (s.device c.replace.new.store) c.args.number c.in-Some.start c.args.value.now c.mark.new.self
+    (leaves_put c.other_blocks_stay.ensures c.begins_within.ensures c.splice_stands.ensures (s.honest store) (s.capacity store) h (s.device store) (s.device c.mark_block.new.store) c.args.number c.in-Some.start c.args.value.now (set h.marks c.args.number true)
     valid valid' sized sized' place marked (λ honest.
-    wrote_then h c.in-Some.start c.args.value.now (s.device store) (s.device c.write.new.self) (s.device c.replace.new.store) (wrote h c.other-spare.result c.in-Some.start c.args.value.now (s.device store) (s.device c.write.new.self) c.other-spare.ensures (first.done honest)) (headed (s.device c.write.new.self) (s.device c.replace.new.store) _ (told.written (still honest)))))
+    wrote_then h c.in-Some.start c.args.value.now (s.device store) (s.device c.write.new.self) (s.device c.mark_block.new.store) (wrote h c.other-spare.result c.in-Some.start c.args.value.now (s.device store) (s.device c.write.new.self) c.other-spare.ensures (first.done honest)) (headed (s.device c.write.new.self) (s.device c.mark_block.new.store) _ (told.written (still honest)))))
     (no_fault s store _ (block c.args.number c.args.value.now) done _ refl))
 
 -- the spare slot may have any bytes after a write that failed
@@ -158,8 +159,8 @@ invariant_of-self-then-has g c =
     (λ honest. (wrote h c.other-spare.result c.in-Some.start c.args.value.now (s.device store) (s.device c.write.new.self) c.other-spare.ensures (told.done honest)).running)
     held
 
-pub invariant_of-self-in_err-replace : goal.invariant_of-self-in_err-replace
-invariant_of-self-in_err-replace g c =
+pub invariant_of-self-in_err-mark_block : goal.invariant_of-self-in_err-mark_block
+invariant_of-self-in_err-mark_block g c =
     let s = g.S.ImageStore in
     let store = c.self.inside.store in
     let h = c.self.inside.header in
@@ -168,12 +169,12 @@ invariant_of-self-in_err-replace g c =
     let none_digests = none_digested s.honest s.device store h c.self.inside.digesting c.self.invariant.digested Initiated at (λ e. cc) in
     let status : status_of (phase_of h.status h.goal) ≡ Initiated = rw none_digests at at in
     let first = c.in_ok-write.ensures in
-    let told = c.in_err-replace.ensures in
+    let told = c.in_err-mark_block.ensures in
     let still : IsTrue (s.honest store) → IsTrue (s.honest c.write.new.self) = λ honest. first.kept.honesty ∙ honest in
-    let done : IsTrue (s.honest store) → s.device c.replace.new.store ≡ written (s.device store) c.other-spare.result c.in-Some.start c.args.value.now = λ honest. told.same (still honest) ∙ first.done honest in
-    rw told.failed (holding_put s store c.replace.new.store h h.marks c.self.inside.digesting none_digests status (keeps_twice s store c.write.new.self c.replace.new.store first.kept told.kept) held.valid
-    (λ honest. held.stored honest ∙ sym (wrote_head (s.device store) (s.device c.replace.new.store) c.other-spare.result c.in-Some.start c.args.value.now (done honest)))
-    (λ honest. (wrote h c.other-spare.result c.in-Some.start c.args.value.now (s.device store) (s.device c.replace.new.store) c.other-spare.ensures (done honest)).running)
+    let done : IsTrue (s.honest store) → s.device c.mark_block.new.store ≡ written (s.device store) c.other-spare.result c.in-Some.start c.args.value.now = λ honest. told.same (still honest) ∙ first.done honest in
+    rw told.failed (holding_put s store c.mark_block.new.store h h.marks c.self.inside.digesting none_digests status (keeps_twice s store c.write.new.self c.mark_block.new.store first.kept told.kept) held.valid
+    (λ honest. held.stored honest ∙ sym (wrote_head (s.device store) (s.device c.mark_block.new.store) c.other-spare.result c.in-Some.start c.args.value.now (done honest)))
+    (λ honest. (wrote h c.other-spare.result c.in-Some.start c.args.value.now (s.device store) (s.device c.mark_block.new.store) c.other-spare.ensures (done honest)).running)
     held)
 
 pub invariant_of-self-2 : goal.invariant_of-self-2
@@ -187,13 +188,13 @@ invariant_of-self-2 g c =
     let status : status_of (phase_of h.status h.goal) ≡ Initiated = rw none_digests at at in
     let place = c.in-Some.ensures.found in
     let first = c.in_ok-write.ensures in
-    let told = c.in_ok-replace.ensures in
+    let told = c.in_ok-mark_block.ensures in
     let still : IsTrue (s.honest store) → IsTrue (s.honest c.write.new.self) = λ honest. first.kept.honesty ∙ honest in
-    let marked = mark_more h.marks c.mark.new.self c.args.number (marks_in _ h c.args.number c.in-Some.start c.args.value.now held.valid place) c.mark.ensures in
-    let valid = valid_marked _ h c.args.number c.in-Some.start c.args.value.now c.mark.new.self held.valid status place marked told.fits in
-    rw told.done (holding_put s store c.replace.new.store h c.mark.new.self c.self.inside.digesting none_digests status (keeps_twice s store c.write.new.self c.replace.new.store first.kept told.kept) valid
+    let marked = mark_more h.marks (set h.marks c.args.number true) c.args.number (marks_in _ h c.args.number c.in-Some.start c.args.value.now held.valid place) refl in
+    let valid = valid_marked _ h c.args.number c.in-Some.start c.args.value.now (set h.marks c.args.number true) held.valid status place marked told.fits in
+    rw told.done (holding_put s store c.mark_block.new.store h (set h.marks c.args.number true) c.self.inside.digesting none_digests status (keeps_twice s store c.write.new.self c.mark_block.new.store first.kept told.kept) valid
     (λ honest. sym (ap (λ (d : Device). d.head) (told.written (still honest))))
     (λ honest.
-    headed (s.device c.write.new.self) (s.device c.replace.new.store) _ (told.written (still honest)) h.running_slot
+    headed (s.device c.write.new.self) (s.device c.mark_block.new.store) _ (told.written (still honest)) h.running_slot
     ∙ (wrote h c.other-spare.result c.in-Some.start c.args.value.now (s.device store) (s.device c.write.new.self) c.other-spare.ensures (first.done honest)).running)
     held)

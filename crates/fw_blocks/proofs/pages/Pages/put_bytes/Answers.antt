@@ -1,0 +1,24 @@
+use Rattle.std.proofs.Common.{◌≡◌, ℕ, ◌+◌, ◌*◌, List, length, slice_range, ap, subst, ◌∙◌, arith}
+use Rattle.fw_axdr.specs.Bits.{packed}
+use Rattle.fw_blocks.specs.Cuts.{max_blocks}
+use Rattle.fw_blocks.specs.Inside.{marks_of}
+use Rattle.fw_blocks.specs.Members.{all_marks}
+use Rattle.fw_blocks.proofs.PageLemmas.{are_words, words_packed, words_range, length-all_marks}
+use Rattle.fw_blocks.proofs.pages.Pages.put_bytes.Goals as goal
+
+pub returns-clause-value : goal.returns-clause-value
+returns-clause-value c =
+    let words = c.self.inside.words in
+    let first = c.args.first in
+    let size = length c.args.out.now in
+    let are = are_words c.self.inside.count words c.self.inside.counts c.self.invariant in
+    c.put_words.ensures
+    ∙ words_range words first _ size (omega arith) (omega (arith, are.words_size)) (omega arith) c.requires.whole
+    ∙ ap (λ (bytes : List ℕ). slice_range bytes (8 * first) (8 * first + size))
+    (words_packed c.self.inside.count words c.self.inside.counts c.self.invariant.few are c.bytes_packed.ensures)
+    ∙ ap (λ marks. slice_range (packed (all_marks marks)) (8 * first) (8 * first + size)) c.self.view_is
+
+pub returns-clause-size : goal.returns-clause-size
+returns-clause-size c =
+    subst (λ marks. length (all_marks marks) ≡ max_blocks) c.self.view_is
+    (length-all_marks (marks_of c.self.inside.count c.self.inside.words) (omega (arith, c.self.invariant.few, c.self.invariant.size)))
