@@ -12,3 +12,4 @@ mod serving;
 
 pub use error::OutOfMemory;
 pub use meter::{Handled, MeterCore};
+pub use serving::asks_for_response;

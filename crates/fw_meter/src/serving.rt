@@ -6,7 +6,7 @@ ghost use Rattle.fw_apdu.specs.Request.{is_confirmed};
 ghost use Rattle.fw_apdu.specs.View.{request_content, request_invoke};
 ghost use Rattle.fw_server.specs.Answer.{bits_in};
 ghost use Rattle.fw_meter.specs.Step.{got, coded};
-ghost use Rattle.fw_meter.specs.Handling.{MayBringData, reply_to, reply_bytes};
+ghost use Rattle.fw_meter.specs.Handling.{AsksForResponse, MayBringData, reply_to, reply_bytes};
 ghost use Rattle.fw_meter.specs.Inside.{IsHeard, told_by};
 
 use crate::error::OutOfMemory;
@@ -44,6 +44,25 @@ pub(crate) fn hear(alloc: Global, datagram: &[u8]) -> Result<Option<Heard>, OutO
         })),
         Err(ApduError::OutOfMemory) => Err(OutOfMemory),
         Err(_) => Ok(None),
+    }
+}
+
+/// Whether a datagram brings a request to wPort 1 that asks for a response (IEC 62056-5-3, the service class of the invoke byte).
+/// A meter replies to no other datagram.
+///
+/// # Errors
+///
+/// `OutOfMemory`, only where an APDU to wPort 1 may hold a Data.
+pub fn asks_for_response(alloc: Global, datagram: &[u8]) -> Result<bool, OutOfMemory>
+    ensures asks { IfOk result (λ asks. IsTrue asks → AsksForResponse datagram.now) }
+    ensures only { AsksForResponse datagram.now → IfOk result IsTrue }
+    ensures memory { OnErr result (MayBringData datagram.now) }
+{
+    fw_wrapper::laws::one_frame();
+    fw_apdu::laws::one_request();
+    match hear(alloc, datagram)? {
+        Some(heard) => Ok(heard.request.invoke().confirmed()),
+        None => Ok(false),
     }
 }
 

@@ -84,8 +84,8 @@ module _ (s old : State) (is : s ≡ old) (number : ℕ) (d : Datagram) (at : sl
       ap (λ (o : Option Datagram). with_datagram o (λ d. no_addressee old d.direction d)) there ∙ ap (λ (w : Direction). no_addressee old w d) way
       ∙ ap (λ (o : Option Head). with_head o (λ head. None)) found
 
-  pub meter_may_want : d.direction ≡ ToMeter → MayWantMemory old (deliver number)
-  meter_may_want way = (d, there, subst (λ (w : Direction). AddresseeMayWant old w d) (sym way) tt)
+  pub meter_may_want : (meter : Meter) → d.direction ≡ ToMeter → meter_at old d.meter ≡ Some meter → (bytes : List ℕ) → bytes ≡ d.bytes → MeterMayWant meter bytes → MayWantMemory old (deliver number)
+  meter_may_want meter way found bytes carried may = (d, there, subst (λ (w : Direction). AddresseeMayWant old w d) (sym way) (meter, found, subst (MeterMayWant meter) carried may))
 
   pub head_may_want : (head : Head) → d.direction ≡ ToHead → head_at old d.head ≡ Some head → (from : ℕ) (bytes : List ℕ) → from ≡ d.meter → bytes ≡ d.bytes → RowsMayWant head.rows from bytes
       → MayWantMemory old (deliver number)

@@ -1,6 +1,8 @@
--- There is room for an image that a meter switches to.
-use Rattle.std.proofs.Common.{◌≡◌, ◌≤◌, ℕ, zero, suc, Bool, true, List, length, Option, Some, None, inl, inr, refl, sym, ◌∙◌, ap, subst}
-use Rattle.std.specs.Prelude.{IfSome}
+-- There is room for an image that a meter switches to, and for what it replies.
+use Rattle.std.proofs.Common.{◌≡◌, ◌≤◌, ℕ, zero, suc, Bool, true, false, IsTrue, List, length, Option, Some, None, inl, inr, refl, sym, ◌∙◌, ap, subst}
+use Rattle.std.specs.Global.{Vec}
+use Rattle.std.specs.Prelude.{IfSome, if◌then◌else◌}
+use Rattle.fw_apdu.specs.Request.{is_confirmed}
 use Rattle.fw_names.specs.Name.{Name}
 use Rattle.fw_store.specs.Header.{goal_count}
 use Rattle.fw_store.specs.declared.header.Goal.{Goal}
@@ -13,7 +15,7 @@ use Rattle.fw_image.specs.Meter.{Image, Meter, Phase, sealed, status_of, goal_of
 use Rattle.fw_image.specs.Step as image
 use Rattle.fw_image.specs.Step.{OperationOutcome, done, refused, verification_initiated, Admits, switched_to, Step}
 use Rattle.fw_meter.specs.Step.{MeterResult, got, coded, MeterStep, activation_of}
-use Rattle.fw_meter.specs.Handling.{Handles}
+use Rattle.fw_meter.specs.Handling.{AsksForResponse, Handles, reply_bytes}
 use Rattle.fw_world.specs.Inside.{HasRoom, IsRunning, switched_name}
 use Rattle.fw_world.specs.Refusals.{HoldsVerified}
 use Rattle.fw_world.proofs.SafeMeters.{admits_activate, genuine_bytes, switches}
@@ -111,3 +113,25 @@ switched_runs honest Faults old new datagram reply activated h None named bytes 
 switched_runs honest Faults old new datagram reply activated h (Some image) named bytes =
     let name : image.name ≡ new.running.name = handled_name honest Faults old new datagram reply activated h image.name (sym named) in
     λ i. record { name = name i; bytes = bytes i }
+
+-- ---- only what asks for a response has a reply
+
+told_where : (asked : Bool) (told bytes : List ℕ) → (if asked then Some told else None) ≡ Some bytes → IsTrue asked
+told_where true told bytes e = refl
+told_where false told bytes e = absurd cc
+
+handled_asks : (honest : Bool) (Faults : Bool → Type 0) (old new : Meter) (datagram : List ℕ) (reply : Option (List ℕ)) (activated : Option Name) → Handles honest Faults old datagram reply activated new
+    → (bytes : List ℕ) → reply ≡ Some bytes → AsksForResponse datagram
+handled_asks honest Faults old new datagram reply activated (inl h) bytes e = record {
+  source = h.source;
+  invoke = h.invoke;
+  content = h.content;
+  brings = h.brings;
+  confirmed = told_where (is_confirmed h.invoke) _ bytes (sym h.responds.replies ∙ e);
+}
+handled_asks honest Faults old new datagram reply activated (inr h) bytes e = let silent = h.silent in absurd cc
+
+pub replied_asks : (honest : Bool) (Faults : Bool → Type 0) (old new : Meter) (datagram : List ℕ) (reply : Option (Vec ℕ)) (activated : Option Name) → Handles honest Faults old datagram (reply_bytes reply) activated new
+    → IfSome reply (λ _. AsksForResponse datagram)
+replied_asks honest Faults old new datagram None activated h = tt
+replied_asks honest Faults old new datagram (Some v) activated h = handled_asks honest Faults old new datagram (Some v.items) activated h v.items refl

@@ -73,9 +73,9 @@ HoldsVerified m = 1 ≤ verified_size m.phase
 abbrev pub MeterMayWant : Meter → List ℕ → Type 0
 MeterMayWant m datagram = meter.MayWantMemory datagram ⊎ HoldsVerified m
 
--- a meter may always want memory for a datagram, and a head end where the sender's live row may
+-- a head end may want memory for a datagram where the sender's live row may
 abbrev pub AddresseeMayWant : State → Direction → Datagram → Type 0
-AddresseeMayWant s ToMeter d = Unit {0}
+AddresseeMayWant s ToMeter d = (m : Meter) × (meter_at s d.meter ≡ Some m) × MeterMayWant m d.bytes
 AddresseeMayWant s ToHead d = (head : Head) × (head_at s d.head ≡ Some head) × RowsMayWant head.rows d.meter d.bytes
 
 -- An opening may want memory, a tick where the meter has a live row, a delivery where its addressee may, and a stop where the datagram or

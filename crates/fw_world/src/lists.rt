@@ -1,13 +1,13 @@
 //! What is appended to the lists of a world, for which there is room, and what is looked up among its meters.
 
-ghost use Rattle.std.specs.Prelude.{◌≡◌, ◌+◌, ◌≤◌, ◌<◌, ◌++◌, ◌∷◌, [], IfSome, OnOk, OnErr, is_some, nat_eq, length, slice_get};
+ghost use Rattle.std.specs.Prelude.{◌≡◌, ◌+◌, ◌≤◌, ◌<◌, ◌++◌, ◌∷◌, [], IfSome, IfOk, IsSomeAnd, IsTrue, OnOk, OnErr, is_some, nat_eq, length, slice_get};
 ghost use Rattle.std.specs.List.{list_all};
 ghost use Rattle.std.specs.Map.{lookup};
 ghost use Rattle.std.specs.Option.{option_copied};
 ghost use Rattle.std.specs.Vec.{vec_len, vec_capacity};
 ghost use Rattle.fw_head.specs.Head.{sends_to};
 ghost use Rattle.fw_head.specs.Row.{bytes_of};
-ghost use Rattle.fw_meter.specs.Handling.{reply_bytes};
+ghost use Rattle.fw_meter.specs.Handling.{AsksForResponse, MayBringData, MayWantMemory, reply_bytes};
 ghost use Rattle.fw_world.specs.Inside.{noted, replied};
 ghost use Rattle.fw_world.specs.Refusals.{HasLiveRow, HoldsVerified};
 ghost use Rattle.fw_world.specs.State.{sent_to};
@@ -17,8 +17,9 @@ use crate::datagram::{Datagram, Direction};
 use crate::meters::Meters;
 use crate::seat::{Seat, Switched};
 use fw_head::HeadCore;
+use fw_meter::{OutOfMemory, asks_for_response};
 use fw_names::{HeadId, MeterId};
-use std::alloc::AllocError;
+use std::alloc::{AllocError, Global};
 
 /// The most datagrams that a tick sends.
 const MAX_SENDS: usize = 15;
@@ -54,6 +55,40 @@ pub(crate) fn room_to_send(
         return Ok(());
     }
     sent.reserve(MAX_SENDS)
+}
+
+/// Makes room for the reply to the datagram of this number: none where it asks for no response. It is read only where the list is
+/// full.
+pub(crate) fn room_to_reply(
+    alloc: Global,
+    sent: &mut Vec<Datagram>,
+    number: usize,
+) -> Result<(), OutOfMemory>
+    ensures items { sent.new.items ≡ sent.old.items }
+    ensures room { OnOk result (IfSome (slice_get sent.old.items number)
+        (λ d. AsksForResponse d.bytes → vec_len sent.new < vec_capacity sent.new)) }
+    ensures memory { OnErr result (IsSomeAnd (slice_get sent.old.items number) (λ d. MayWantMemory d.bytes)) }
+{
+    if sent.len() < sent.capacity() {
+        return Ok(());
+    }
+    if !asks(alloc, sent, number)? {
+        return Ok(());
+    }
+    sent.reserve(1)?;
+    Ok(())
+}
+
+/// Whether the datagram of this number asks a meter for a response.
+fn asks(alloc: Global, sent: &[Datagram], number: usize) -> Result<bool, OutOfMemory>
+    ensures asks { IfOk result (λ asks. IsTrue asks → IsSomeAnd (slice_get sent.now number) (λ d. AsksForResponse d.bytes)) }
+    ensures only { IfSome (slice_get sent.now number) (λ d. AsksForResponse d.bytes → IfOk result IsTrue) }
+    ensures memory { OnErr result (IsSomeAnd (slice_get sent.now number) (λ d. MayBringData d.bytes)) }
+{
+    match sent_at(sent, number) {
+        Some(datagram) => asks_for_response(alloc, &datagram.bytes),
+        None => Ok(false),
+    }
 }
 
 /// Makes room for a note of the image that a meter may switch to: none where it holds no verified one.
@@ -99,9 +134,9 @@ pub(crate) fn send(sent: &mut Vec<Datagram>, head: HeadId, meter: MeterId, sends
     }
 }
 
-/// Notes what a meter replies to a head end, if it does.
+/// Notes what a meter replies to a head end, if it does. There is room then.
 pub(crate) fn reply(sent: &mut Vec<Datagram>, head: HeadId, meter: MeterId, reply: Option<Vec<u8>>)
-    requires { vec_len sent.old < vec_capacity sent.old }
+    requires { IfSome reply (λ _. vec_len sent.old < vec_capacity sent.old) }
     ensures { sent.new.items ≡ sent.old.items ++ replied head meter (reply_bytes reply) }
 {
     let Some(bytes) = reply else {

@@ -9,7 +9,7 @@ ghost use Rattle.fw_store.specs.Fresh.{fresh_device};
 ghost use Rattle.fw_store.specs.Memory.{device_of, capacity_of, fuse_of};
 ghost use Rattle.fw_store.specs.Setup.{IsSetup};
 ghost use Rattle.fw_store.specs.declared.error.SetupError.TheVariants as not_made;
-ghost use Rattle.fw_meter.specs.Handling.{Handles, reply_bytes};
+ghost use Rattle.fw_meter.specs.Handling.{AsksForResponse, Handles, reply_bytes};
 ghost use Rattle.fw_meter.specs.Stopping.{StopsAfter};
 ghost use Rattle.fw_world.specs.State.{restarted_within};
 ghost use Rattle.fw_world.specs.Inside.{IsSound, HasRoom, IsRunning, switched_name};
@@ -128,6 +128,7 @@ impl Seat {
     pub(crate) fn handle(&mut self, alloc: Global, datagram: &[u8]) -> Result<Served, OutOfMemory>
         ensures handled { IfOk result (λ s. Handles true IsTrue self.old datagram.now (reply_bytes s.reply) (switched_name s.switched) self.new) }
         ensures switched { IfOk result (λ s. IsRunning s.switched self.new) }
+        ensures asked { IfOk result (λ s. IfSome s.reply (λ _. AsksForResponse datagram.now)) }
         ensures held { IfOk result (λ s. IfSome s.switched (λ _. HoldsVerified self.old)) }
         ensures same { OnErr result (self.new ≡ self.old) }
         ensures memory { OnErr result (MeterMayWant self.old datagram.now) }

@@ -10,7 +10,9 @@ use crate::error::{SetupError, StepError};
 use crate::event::Event;
 use crate::heads::Heads;
 use crate::laws;
-use crate::lists::{all_there, note, reply, room_to_note, room_to_send, send, sent_at};
+use crate::lists::{
+    all_there, note, reply, room_to_note, room_to_reply, room_to_send, send, sent_at,
+};
 use crate::meters::Meters;
 use crate::opening::{heads_of, meters_of};
 use crate::parts::Parts;
@@ -97,9 +99,9 @@ impl World {
     /// # Errors
     ///
     /// `NoSuchDatagram`, `NoSuchActor` or `Book`, the first that applies. Otherwise `OutOfMemory` alone, and only of an opening; of
-    /// a tick for a meter with a live row; of a delivery to a meter, or to a head end where the sender's live row may want memory
-    /// for it; and of a stop where the meter may want memory for the datagram, or holds a verified image. The world is then as it
-    /// was.
+    /// a tick for a meter with a live row; of a delivery to a head end where the sender's live row may want memory for it; and of a
+    /// delivery to a meter, or a stop, where the meter may want memory for the datagram, or holds a verified image. The world is
+    /// then as it was.
     pub fn step(&mut self, alloc: Global, event: &Event) -> Result<(), StepError>
         ensures stepped { OnOk result (StateStep self.old (event_of event.now) self.new) }
         ensures world { OnOk result (WorldStep (world_of self.old) (event_of event.now) (world_of self.new)) }
@@ -236,7 +238,7 @@ impl World {
         let Some(seat) = self.meters.get_mut(meter.number()) else {
             return Err(StepError::NoSuchActor);
         };
-        self.sent.reserve(1)?;
+        room_to_reply(alloc, &mut self.sent, number)?;
         room_to_note(&mut self.activations, seat)?;
         let Some(datagram) = sent_at(&self.sent, number) else {
             unreachable!()

@@ -5,7 +5,7 @@ use Rattle.fw_image.specs.State.{Counts}
 use Rattle.fw_meter.specs.Handling.{Handles, reply_bytes}
 use Rattle.fw_world.specs.Inside.{IsSound, IsSeated, IsRunning, meter_in, switched_name}
 use Rattle.fw_world.specs.Refusals.{HoldsVerified}
-use Rattle.fw_world.proofs.Room.{each_some, handled_room, handled_held, held_by, switched_runs}
+use Rattle.fw_world.proofs.Room.{each_some, handled_room, handled_held, held_by, replied_asks, switched_runs}
 use Rattle.fw_world.proofs.seat.Seat.handle.Goals as goal
 
 pub running-requires-clause-room : goal.running-requires-clause-room
@@ -54,3 +54,10 @@ returns-clause-held c =
     held_by (HoldsVerified c.args.self.now) told.handled.activated
     (λ name e. subst HoldsVerified seated (handled_held core.meter new.meter room.ensures.fits (Counts core new) c.args.datagram.now _ _ (subst P there.honest told.ensures.step) name e))
     c.running.result c.running.ensures.name
+
+pub returns-clause-asked : goal.returns-clause-asked
+returns-clause-asked c =
+    let core = c.in-Some.core in
+    let new = c.handle.new.self in
+    let told = c.in_ok-handled-in-Some in
+    replied_asks core.honest (Counts core new) core.meter new.meter c.args.datagram.now told.handled.reply told.handled.activated told.ensures.step
