@@ -1,87 +1,93 @@
 -- What the calls of a device in memory leave of it, and of its past.
-use Rattle.std.proofs.Common.{◌≡◌, ◌⊎◌, inl, inr, ⊎_elim, ℕ, zero, suc, ◌≤◌, List, [], ◌∷◌, ◌++◌, length, take, drop, Vec, refl, sym, ◌∙◌, ap, subst, arith, length-append}
-use Rattle.std.specs.declared.alloc.Global.{Global}
+use Rattle.std.proofs.Common.{◌≡◌, ◌⊎◌, inl, inr, ⊎_elim, ℕ, zero, suc, ◌≤◌, List, [], ◌∷◌, ◌++◌, length, take, drop, refl, sym, ◌∙◌, ap, subst, arith, length-append}
 use Rattle.fw_journal.specs.Device.{splice, IsTorn, IsShortened, Elapses}
-use Rattle.fw_journal.specs.Past.{HadBeen, IsEither}
+use Rattle.fw_journal.specs.Past.{Held, LeavesOf, LeavesOfAll, MayLeave, MightHaveLeft}
 use Rattle.fw_journal.specs.Fuse.{half_torn}
-use Rattle.fw_journal.specs.Memory.{bytes_of, synced_of, past_of, leaves, left_since}
+use Rattle.fw_journal.specs.Memory.{held_of, past_of, leaves, left_since}
+use Rattle.fw_journal.specs.declared.disk.Change.{Change}
+use Rattle.fw_journal.specs.declared.disk.Change.TheVariants.{Write, Shorten}
 use Rattle.fw_journal.specs.declared.memory.MemoryDevice.{MemoryDevice}
 use Rattle.fw_journal.proofs.Splices.{torn_refl, torn_splice, shortened_refl, shortened_take, length-half_torn}
 
-abbrev Contents : Type 0
-Contents = List (Vec ℕ Global)
+keeps : (past : List Held) (d : Held) (c : List ℕ) → MightHaveLeft past c → MightHaveLeft (past ++ d ∷ []) c
+keeps [] d c had = absurd had
+keeps (p ∷ past) d c (inl here) = inl here
+keeps (p ∷ past) d c (inr there) = inr (keeps past d c there)
 
-keeps : (past : Contents) (v : Vec ℕ Global) (c : List ℕ) → HadBeen past c → HadBeen (past ++ v ∷ []) c
-keeps [] v c had = absurd had
-keeps (p ∷ past) v c (inl here) = inl here
-keeps (p ∷ past) v c (inr there) = inr (keeps past v c there)
+adds : (past : List Held) (d : Held) (c : List ℕ) → MightHaveLeft (past ++ d ∷ []) c → MightHaveLeft past c ⊎ MayLeave d c
+adds [] d c (inl here) = inr here
+adds [] d c (inr none) = absurd none
+adds (p ∷ past) d c (inl here) = inl (inl here)
+adds (p ∷ past) d c (inr there) = ⊎_elim (λ had. inl (inr had)) (λ new. inr new) (adds past d c there)
 
-adds : (past : Contents) (v : Vec ℕ Global) (c : List ℕ) → HadBeen (past ++ v ∷ []) c → HadBeen past c ⊎ (c ≡ v.items)
-adds [] v c (inl here) = inr here
-adds [] v c (inr none) = absurd none
-adds (p ∷ past) v c (inl here) = inl (inl here)
-adds (p ∷ past) v c (inr there) = ⊎_elim (λ had. inl (inr had)) (λ new. inr new) (adds past v c there)
+newest : (past : List Held) (d : Held) (c : List ℕ) → MayLeave d c → MightHaveLeft (past ++ d ∷ []) c
+newest [] d c is = inl is
+newest (p ∷ past) d c is = inr (newest past d c is)
 
-newest : (past : Contents) (v : Vec ℕ Global) (c : List ℕ) → c ≡ v.items → HadBeen (past ++ v ∷ []) c
-newest [] v c is = inl is
-newest (p ∷ past) v c is = inr (newest past v c is)
+drop_push : (t : ℕ) (past : List Held) (d : Held) → t ≤ length past → drop t (past ++ d ∷ []) ≡ drop t past ++ d ∷ []
+drop_push zero past d le = refl
+drop_push (suc t) [] d le = absurd (omega arith)
+drop_push (suc t) (p ∷ past) d le = drop_push t past d (omega arith)
 
-drop_push : (t : ℕ) (past : Contents) (v : Vec ℕ Global) → t ≤ length past → drop t (past ++ v ∷ []) ≡ drop t past ++ v ∷ []
-drop_push zero past v le = refl
-drop_push (suc t) [] v le = absurd (omega arith)
-drop_push (suc t) (p ∷ past) v le = drop_push t past v (omega arith)
+-- the past with one moment more, since a moment
+module _ (past later : List Held) (d : Held) (pushed : later ≡ past ++ d ∷ []) (t : ℕ) (le : t ≤ length past) where
+  since : drop t later ≡ drop t past ++ d ∷ []
+  since = ap (λ (l : List Held). drop t l) pushed ∙ drop_push t past d le
 
--- the past with one content more, since a moment
-module _ (past later : Contents) (v : Vec ℕ Global) (pushed : later ≡ past ++ v ∷ []) (t : ℕ) (le : t ≤ length past) where
-  since : drop t later ≡ drop t past ++ v ∷ []
-  since = ap (λ (l : Contents). drop t l) pushed ∙ drop_push t past v le
+  was : (c : List ℕ) → MightHaveLeft (drop t later) c → MightHaveLeft (drop t past) c ⊎ MayLeave d c
+  was c had = adds (drop t past) d c (subst (λ (l : List Held). MightHaveLeft l c) since had)
 
-  was : (c : List ℕ) → HadBeen (drop t later) c → HadBeen (drop t past) c ⊎ (c ≡ v.items)
-  was c had = adds (drop t past) v c (subst (λ (l : Contents). HadBeen l c) since had)
+  stays : (c : List ℕ) → MightHaveLeft (drop t past) c → MightHaveLeft (drop t later) c
+  stays c had = subst (λ (l : List Held). MightHaveLeft l c) (sym since) (keeps (drop t past) d c had)
 
-  stays : (c : List ℕ) → HadBeen (drop t past) c → HadBeen (drop t later) c
-  stays c had = subst (λ (l : Contents). HadBeen l c) (sym since) (keeps (drop t past) v c had)
+  added : (c : List ℕ) → MayLeave d c → MightHaveLeft (drop t later) c
+  added c is = subst (λ (l : List Held). MightHaveLeft l c) (sym since) (newest (drop t past) d c is)
 
-  added : (c : List ℕ) → c ≡ v.items → HadBeen (drop t later) c
-  added c is = subst (λ (l : Contents). HadBeen l c) (sym since) (newest (drop t past) v c is)
-
--- the one content that is no more left joins the past
-elapses : (old new : MemoryDevice) (v : Vec ℕ Global) → past_of new ≡ past_of old ++ v ∷ [] → leaves old v.items → ((c : List ℕ) → leaves old c → (c ≡ v.items) ⊎ leaves new c)
-    → Elapses (λ m. length (past_of m)) left_since leaves old new
-elapses old new v pushed left rest = record {
-  later = omega (arith, ap length pushed, length-append (past_of old) (v ∷ []));
-  nothing_else = λ t c le some. ⊎_elim (λ now. inr now) (λ had. inl (⊎_elim (λ earlier. inr earlier) (λ is. inl (subst (λ (l : List ℕ). leaves old l) (sym is) left)) (was (past_of old) (past_of new) v pushed t le c had))) some;
-  keeps = λ t c le some. ⊎_elim (λ now. ⊎_elim (λ is. inr (added (past_of old) (past_of new) v pushed t le c is)) (λ still. inl still) (rest c now)) (λ had. inr (stays (past_of old) (past_of new) v pushed t le c had)) some;
+-- what it held joins the past
+pub elapses : (old new : MemoryDevice) → past_of new ≡ past_of old ++ held_of old ∷ [] → Elapses (λ m. length (past_of m)) left_since leaves old new
+elapses old new pushed = record {
+  later = omega (arith, ap length pushed, length-append (past_of old) (held_of old ∷ []));
+  nothing_else = λ t c le some. ⊎_elim (λ now. inr now) (λ had. inl (⊎_elim (λ earlier. inr earlier) (λ is. inl is) (was (past_of old) (past_of new) (held_of old) pushed t le c had))) some;
+  keeps = λ t c le some. ⊎_elim (λ now. inr (added (past_of old) (past_of new) (held_of old) pushed t le c now)) (λ had. inr (stays (past_of old) (past_of new) (held_of old) pushed t le c had)) some;
 }
 
-pub elapses_bytes : (old new : MemoryDevice) (v : Vec ℕ Global) → v.items ≡ bytes_of old → past_of new ≡ past_of old ++ v ∷ [] → synced_of new ≡ synced_of old → Elapses (λ m. length (past_of m)) left_since leaves old new
-elapses_bytes old new v is pushed same =
-    elapses old new v pushed (inl is) (λ c now. ⊎_elim (λ e. inl (e ∙ sym is)) (λ e. inr (inr (e ∙ sym same))) now)
-
-pub elapses_synced : (old new : MemoryDevice) (v : Vec ℕ Global) → v.items ≡ synced_of old → past_of new ≡ past_of old ++ v ∷ [] → bytes_of new ≡ bytes_of old → Elapses (λ m. length (past_of m)) left_since leaves old new
-elapses_synced old new v is pushed same =
-    elapses old new v pushed (inr is) (λ c now. ⊎_elim (λ e. inr (inl (e ∙ sym same))) (λ e. inl (e ∙ sym is)) now)
+-- what may be left of the last change
+last_change : (changes : List Change) (change : Change) (old new : List ℕ) → LeavesOfAll (changes ++ change ∷ []) old new
+    → (between : List ℕ) × LeavesOfAll changes old between × LeavesOf change between new
+last_change [] change old new left = (old, refl, subst (λ (l : List ℕ). LeavesOf change old l) (sym left.2) left.1)
+last_change (c ∷ changes) change old new left =
+    let last = last_change changes change left.0 new left.2 in
+    (last.0, (left.0, left.1, last.1), last.2)
 
 -- what may be left is made, by such a step, of what might have been left before
-abbrev By : (List ℕ → List ℕ → Type 0) → List ℕ → List ℕ → List ℕ → List ℕ → Type 0
-By Step a b read synced = (left : List ℕ) → IsEither read synced left → (earlier : List ℕ) × IsEither a b earlier × Step earlier left
+abbrev pub By : (List ℕ → List ℕ → Type 0) → Held → Held → Type 0
+By Step old new = (left : List ℕ) → MayLeave new left → (earlier : List ℕ) × MayLeave old earlier × Step earlier left
 
-by : (Step : List ℕ → List ℕ → Type 0) (a b read : List ℕ) → Step a read → Step b b → By Step a b read b
-by Step a b read first second = λ left now.
-    ⊎_elim (λ e. (a, inl refl, subst (λ (l : List ℕ). Step a l) (sym e) first)) (λ e. (b, inr refl, subst (λ (l : List ℕ). Step b l) (sym e) second)) now
+by : (change : Change) (old : Held) (bytes : List ℕ) → LeavesOf change old.bytes bytes → By (LeavesOf change) old (record { bytes = bytes; synced = old.synced; changes = old.changes ++ change ∷ [] })
+by change old bytes first = λ left now.
+    ⊎_elim (λ e. (old.bytes, inl refl, subst (λ (l : List ℕ). LeavesOf change old.bytes l) (sym e) first))
+    (λ had. let last = last_change old.changes change old.synced left had in (last.0, inr last.1, last.2)) now
 
-pub written : (at : ℕ) (a b read bytes : List ℕ) → read ≡ splice a at bytes → at ≤ length a → By (IsTorn at (length bytes)) a b read b
-written at a b read bytes is within =
-    by (IsTorn at (length bytes)) a b read (subst (λ (l : List ℕ). IsTorn at (length bytes) a l) (sym is) (torn_splice at a bytes within)) (torn_refl at (length bytes) b)
+pub written : (at : ℕ) (old new : Held) (bytes : List ℕ) → new ≡ record { bytes = splice old.bytes at bytes; synced = old.synced; changes = old.changes ++ Write at (length bytes) ∷ [] } → at ≤ length old.bytes → By (IsTorn at (length bytes)) old new
+written at old new bytes is within =
+    subst (λ (h : Held). By (IsTorn at (length bytes)) old h) (sym is) (by (Write at (length bytes)) old (splice old.bytes at bytes) (torn_splice at old.bytes bytes within))
 
-pub half_written : (at torn : ℕ) (a b read bytes half : List ℕ) → half ≡ half_torn bytes torn → read ≡ splice a at half → at ≤ length a → By (IsTorn at (length bytes)) a b read b
-half_written at torn a b read bytes half torn_is is within =
-    subst (λ (n : ℕ). By (IsTorn at n) a b read b) (ap (λ (l : List ℕ). length l) torn_is ∙ length-half_torn bytes torn) (written at a b read half is within)
+pub half_written : (at torn : ℕ) (old new : Held) (bytes half : List ℕ) → half ≡ half_torn bytes torn → new ≡ record { bytes = splice old.bytes at half; synced = old.synced; changes = old.changes ++ Write at (length half) ∷ [] } → at ≤ length old.bytes → By (IsTorn at (length bytes)) old new
+half_written at torn old new bytes half torn_is is within =
+    subst (λ (n : ℕ). By (IsTorn at n) old new) (ap (λ (l : List ℕ). length l) torn_is ∙ length-half_torn bytes torn) (written at old new half is within)
 
-pub shortened : (len : ℕ) (a b read : List ℕ) → read ≡ take len a → By (IsShortened len) a b read b
-shortened len a b read is =
-    by (IsShortened len) a b read (subst (λ (l : List ℕ). IsShortened len a l) (sym is) (shortened_take len a)) (shortened_refl len b)
+pub shortened : (len : ℕ) (old new : Held) (bytes : List ℕ) → new ≡ record { bytes = bytes; synced = old.synced; changes = old.changes ++ Shorten len ∷ [] } → bytes ≡ take len old.bytes → By (IsShortened len) old new
+shortened len old new bytes is cut =
+    subst (λ (h : Held). By (IsShortened len) old h) (sym is)
+    (by (Shorten len) old bytes (subst (λ (l : List ℕ). IsShortened len old.bytes l) (sym cut) (shortened_take len old.bytes)))
 
-pub not_shortened : (len : ℕ) (a b read : List ℕ) → read ≡ a → By (IsShortened len) a b read b
-not_shortened len a b read is =
-    by (IsShortened len) a b read (subst (λ (l : List ℕ). IsShortened len a l) (sym is) (shortened_refl len a)) (shortened_refl len b)
+-- where nothing changed
+pub not_written : (at count : ℕ) (old new : Held) → new ≡ old → By (IsTorn at count) old new
+not_written at count old new same = λ left now. (left, subst (λ (h : Held). MayLeave h left) same now, torn_refl at count left)
+
+pub not_shortened : (len : ℕ) (old new : Held) → new ≡ old → By (IsShortened len) old new
+not_shortened len old new same = λ left now. (left, subst (λ (h : Held). MayLeave h left) same now, shortened_refl len left)
+
+-- after a sync there is what is read
+pub synced_leaves : (old new : Held) → new ≡ record { bytes = old.bytes; synced = old.bytes; changes = [] } → (left : List ℕ) → MayLeave new left → left ≡ old.bytes
+synced_leaves old new is left now = ⊎_elim (λ e. e) (λ e. e) (subst (λ (h : Held). MayLeave h left) is now)

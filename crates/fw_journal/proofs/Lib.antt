@@ -4,3 +4,4 @@ mod Cuts
 mod Ends
 mod Moments
 mod Kept
+mod Mends

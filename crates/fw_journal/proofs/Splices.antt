@@ -1,6 +1,6 @@
 -- What a write leaves is what may be left of it when it is cut.
-use Rattle.std.proofs.Common.{◌≡◌, ℕ, ◌+◌, ◌-◌, ◌/◌, ◌≤◌, List, ◌++◌, length, take, drop, refl, ◌∙◌, ap, arith, replicate, append_assoc, length-append, length-drop}
-use Rattle.std.proofs.lemmas.List.{take_min, take_at, drop_at, take_all, length-take, length-take-le, length-replicate}
+use Rattle.std.proofs.Common.{◌≡◌, ℕ, ◌+◌, ◌-◌, ◌/◌, ◌≤◌, List, ◌++◌, length, take, drop, min, refl, sym, ◌∙◌, ap, arith, replicate, append_assoc, length-append, length-drop}
+use Rattle.std.proofs.lemmas.List.{take_min, take_at, drop_at, drop-drop, take_all, length-take, length-take-le, length-replicate}
 use Rattle.fw_journal.specs.Device.{splice, IsTorn, IsShortened}
 use Rattle.fw_journal.specs.Fuse.{half_torn}
 
@@ -32,3 +32,23 @@ shortened_take len old =
 pub length-half_torn : (bytes : List ℕ) (torn : ℕ) → length (half_torn bytes torn) ≡ length bytes
 length-half_torn bytes torn =
     omega (arith, length-append (take (length bytes / 2) bytes) (replicate (length bytes - length bytes / 2) torn), length-take-le (length bytes / 2) bytes (omega arith), length-replicate (length bytes - length bytes / 2) torn)
+
+-- so does a write of fewer bytes
+pub torn_part : (at count : ℕ) (old bytes : List ℕ) → at ≤ length old → length bytes ≤ count → IsTorn at count old (splice old at bytes)
+torn_part at count old bytes within fewer =
+    let whole = torn_splice at old bytes within in
+    let more : at + count ≡ at + length bytes + (count - length bytes) = omega (arith, fewer) in
+    let past : (l : List ℕ) → drop (at + count) l ≡ drop (count - length bytes) (drop (at + length bytes) l) =
+    λ l. ap (λ (n : ℕ). drop n l) more ∙ sym (drop-drop (count - length bytes) (at + length bytes) l) in
+    record {
+      before = whole.before;
+      after = past (splice old at bytes) ∙ ap (λ (l : List ℕ). drop (count - length bytes) l) whole.after ∙ sym (past old);
+      no_shorter = whole.no_shorter;
+      no_longer = omega (arith, whole.no_longer, fewer);
+    }
+
+-- and a shortening to that length or a later one
+pub shortened_later : (len kept : ℕ) (old : List ℕ) → min len (length old) ≤ kept → kept ≤ length old → IsShortened len old (take kept old)
+shortened_later len kept old enough within =
+    let long = length-take-le kept old within in
+    record { no_shorter = omega (arith, long, enough); front = ap (λ (n : ℕ). take n old) long }

@@ -1,7 +1,7 @@
--- Of private functions: when a device takes a group of records.
+-- Of private functions: when a device takes a group of records, and when its end can be mended.
 use Rattle.std.specs.Prelude.{◌≡◌, ◌≤◌, ℕ, List, [], ◌∷◌, ◌++◌, length, Bool, IsTrue}
 use Rattle.fw_journal.specs.Device.{IsSynced}
-use Rattle.fw_journal.specs.Book.{blocks, book_front, book_bytes, AreRecords}
+use Rattle.fw_journal.specs.Book.{blocks, book_front, book_bytes, AreRecords, Stands}
 
 -- the device is honest and has these records, its gate stands at the end of them, and the group is some records and a shut gate
 pub record Takes {D : Type 0} (honest : D → Bool) (contents : D → List ℕ) (may_leave : D → List ℕ → Type 0) (device : D) (end : ℕ) (group : List ℕ) (done waiting : List (List ℕ)) : Type 0 where
@@ -12,4 +12,11 @@ pub record Takes {D : Type 0} (honest : D → Bool) (contents : D → List ℕ) 
   pub ends : end ≡ length (book_front done)
   pub group_is : group ≡ blocks waiting ++ 0 ∷ []
   pub some : 1 ≤ length (blocks waiting)
+  pub synced : IsSynced contents may_leave device
+
+-- the device is honest and synced, and its bytes are a journal of these records, which end there
+pub record EndsAt {D : Type 0} (honest : D → Bool) (contents : D → List ℕ) (may_leave : D → List ℕ → Type 0) (device : D) (end : ℕ) (records : List (List ℕ)) : Type 0 where
+  pub honesty : IsTrue (honest device)
+  pub stands : Stands (contents device) records
+  pub ends : end ≡ length (book_front records)
   pub synced : IsSynced contents may_leave device

@@ -1,5 +1,5 @@
 -- Public vocabulary: what an open journal holds.
-use Rattle.std.specs.Prelude.{◌≡◌, ℕ, List, length, Bool, IsTrue, false}
+use Rattle.std.specs.Prelude.{◌≡◌, ◌≢◌, ◌<◌, ◌^◌, ℕ, List, [], length, Bool, IsTrue, false}
 use Rattle.fw_journal.specs.Device.{IsSynced}
 use Rattle.fw_journal.specs.Book.{blocks, book_front, book_bytes, AreRecords}
 use Rattle.fw_journal.specs.declared.journal.Journal.{Journal}
@@ -18,6 +18,13 @@ waiting_of journal = journal.waiting.items
 -- a commit has failed
 abbrev pub is_broken : {D : Type 0} → Journal D → Bool
 is_broken journal = journal.broken
+
+-- a commit isn't refused, except for want of memory or by its device: no commit has failed, something waits, and there is room for it
+pub record MayCommit {D : Type 0} (journal : Journal D) : Type 0 where
+  pub works : journal.broken ≡ false
+  pub some : journal.waiting.items ≢ []
+  pub end_fits : journal.end < 2 ^ 60
+  pub waiting_fits : length journal.waiting.items < 2 ^ 60
 
 -- its device is honest, has these records whatever a power cut leaves, and those wait for the next commit
 pub record Has {D : Type 0} (honest : D → Bool) (contents : D → List ℕ) (may_leave : D → List ℕ → Type 0) (journal : Journal D) (done waiting : List (List ℕ)) : Type 0 where

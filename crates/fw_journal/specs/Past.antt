@@ -1,26 +1,44 @@
--- Public vocabulary: the contents that a device in memory has had, each at some moment.
-use Rattle.std.specs.Prelude.{◌≡◌, ◌⊎◌, ℕ, List, [], ◌∷◌, length, drop, Vec}
+-- Public vocabulary: what a device in memory holds, and what a power cut may leave of it.
+use Rattle.std.specs.Prelude.{◌≡◌, ◌⊎◌, ℕ, List, [], ◌∷◌, length, drop}
 use mathlib.Core.Logic.{inl, inr}
-use Rattle.std.specs.declared.alloc.Global.{Global}
+use Rattle.fw_journal.specs.Device.{IsTorn, IsShortened}
+use Rattle.fw_journal.specs.declared.disk.Change.{Change}
+use Rattle.fw_journal.specs.declared.disk.Change.TheVariants.{Write, Shorten}
 
--- one of them is this
-abbrev pub HadBeen : List (Vec ℕ Global) → List ℕ → Type 0
-HadBeen [] bytes = ⊥
-HadBeen (v ∷ past) bytes = (bytes ≡ v.items) ⊎ HadBeen past bytes
+-- what reads give, what they gave at the last sync, and how that was changed since then
+pub record Held : Type 0 where
+  pub bytes : List ℕ
+  pub synced : List ℕ
+  pub changes : List Change
 
--- this is one of two
-abbrev pub IsEither : List ℕ → List ℕ → List ℕ → Type 0
-IsEither some others bytes = (bytes ≡ some) ⊎ (bytes ≡ others)
+-- what may be left of one change
+abbrev pub LeavesOf : Change → List ℕ → List ℕ → Type 0
+LeavesOf (Write at size) old new = IsTorn at size old new
+LeavesOf (Shorten len) old new = IsShortened len old new
 
--- this is one of two, or of those past from so many on
-abbrev pub IsSince : List (Vec ℕ Global) → List ℕ → List ℕ → ℕ → List ℕ → Type 0
-IsSince past some others since bytes = IsEither some others bytes ⊎ HadBeen (drop since past) bytes
+-- what may be left of several, in their order
+abbrev pub LeavesOfAll : List Change → List ℕ → List ℕ → Type 0
+LeavesOfAll [] old new = new ≡ old
+LeavesOfAll (change ∷ changes) old new = (between : List ℕ) × LeavesOf change old between × LeavesOfAll changes between new
 
-none_left : (past : List (Vec ℕ Global)) (c : List ℕ) → HadBeen (drop (length past) past) c → ⊥
+-- a power cut leaves what is read, or what may be left of the changes since the last sync
+abbrev pub MayLeave : Held → List ℕ → Type 0
+MayLeave held left = (left ≡ held.bytes) ⊎ LeavesOfAll held.changes held.synced left
+
+-- at one of these moments a power cut might have left this
+abbrev pub MightHaveLeft : List Held → List ℕ → Type 0
+MightHaveLeft [] left = ⊥
+MightHaveLeft (held ∷ past) left = MayLeave held left ⊎ MightHaveLeft past left
+
+-- it may leave this now, or might have at one of the past moments from this one on
+abbrev pub IsSince : List Held → Held → ℕ → List ℕ → Type 0
+IsSince past held since left = MayLeave held left ⊎ MightHaveLeft (drop since past) left
+
+none_left : (past : List Held) (c : List ℕ) → MightHaveLeft (drop (length past) past) c → ⊥
 none_left [] c had = had
 none_left (v ∷ past) c had = none_left past c had
 
--- since the last of the past ones there are these two
-pub only_either : (past : List (Vec ℕ Global)) (some others c : List ℕ) → IsSince past some others (length past) c → IsEither some others c
-only_either past some others c (inl now) = now
-only_either past some others c (inr had) = absurd (none_left past c had)
+-- since the last of the past moments there is this one alone
+pub only_now : (past : List Held) (held : Held) (c : List ℕ) → IsSince past held (length past) c → MayLeave held c
+only_now past held c (inl now) = now
+only_now past held c (inr had) = absurd (none_left past c had)

@@ -1,6 +1,6 @@
 //! What a device is that a journal stands on.
 
-ghost use Rattle.std.specs.Prelude.{◌≡◌, ◌+◌, ◌≤◌, ℕ, Bool, List, IsTrue, IfOk, OnOk, IsErrOf, length, take, slice_range};
+ghost use Rattle.std.specs.Prelude.{◌≡◌, ◌+◌, ◌≤◌, ℕ, Bool, List, IsTrue, IfOk, IfErr, OnOk, IsErrOf, length, take, slice_range};
 ghost use Rattle.fw_journal.specs.declared.error.DeviceError.TheVariants.{Fault};
 ghost use Rattle.fw_journal.specs.Device.{
   splice,
@@ -48,6 +48,7 @@ pub trait JournalDevice {
         ensures crash { IsTrue (honest self.old) → LeavesNoMore may_leave self.old self.new }
         ensures time { IsTrue (honest self.old) → Elapses moment left_since may_leave self.old self.new }
         ensures kept { Keeps honest sound self.old self.new }
+        ensures fault { IfErr result (λ e. e ≡ Fault) }
         ensures never { IsTrue (sound self.old) → ¬ IsErrOf result Fault };
 
     /// Fills `out` with the bytes from `at` on. Where there are fewer nothing is said of it.
@@ -62,6 +63,7 @@ pub trait JournalDevice {
         ensures crash { IsTrue (honest self.old) → LeavesNoMore may_leave self.old self.new }
         ensures time { IsTrue (honest self.old) → Elapses moment left_since may_leave self.old self.new }
         ensures kept { Keeps honest sound self.old self.new }
+        ensures fault { IfErr result (λ e. e ≡ Fault) }
         ensures never { IsTrue (sound self.old) → at + length out.old ≤ length (contents self.old) → ¬ IsErrOf result Fault };
 
     /// Writes bytes over those from `at` on, and past the end. Where that is after the end nothing is said of it.

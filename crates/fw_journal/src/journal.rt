@@ -14,16 +14,19 @@ ghost use Rattle.std.specs.Prelude.{
   List,
   ℕ,
   length,
+  drop,
   IsTrue,
+  false,
   IfOk,
   IfErr,
   OnOk,
   OnErr,
+  IsOk,
   IsErrOf,
 };
 ghost use Rattle.fw_journal.specs.Device.{IsSynced, LeavesOnly, Keeps};
 ghost use Rattle.fw_journal.specs.Book.{blocks, book_front, book_bytes, contents_of, Stands, IsBadBook};
-ghost use Rattle.fw_journal.specs.Group.{Takes};
+ghost use Rattle.fw_journal.specs.Group.{Takes, EndsAt};
 
 use crate::device::JournalDevice;
 use crate::error::{DeviceError, JournalError};
@@ -51,19 +54,21 @@ pub struct Journal<D: JournalDevice> {
 }
 
 impl<D: JournalDevice> Journal<D> {
-    ghost use Rattle.fw_journal.specs.Journal.{device_of, end_of, waiting_of, is_broken, Has};
+    ghost use Rattle.fw_journal.specs.Journal.{device_of, end_of, waiting_of, is_broken, Has, MayCommit};
 
     /// Makes a journal without records on a device without bytes, and syncs it. A power cut in the call leaves any bytes, so that a
     /// file is made beside, and renamed then.
     ///
     /// # Errors
     ///
-    /// `NotEmpty` where there are bytes, which are left as they are, else `BookFault` and `OutOfMemory`. The device is handed back.
+    /// `NotEmpty` where there are bytes, which are left as they are and reported before memory is wanted; else `BookFault` and `OutOfMemory`.
+    /// The device is handed back.
     pub fn create(alloc: Global, device: D) -> Result<Self, (JournalError, D)>
         ensures made { IsTrue (D.honest device) → IfOk result (λ journal. Has D.honest D.contents D.may_leave journal [] []) }
         ensures empty { IsTrue (D.honest device) → OnOk result (D.contents device ≡ []) }
         ensures not_empty { IsTrue (D.honest device) → IfErr result (λ e. e.0 ≡ JournalError.NotEmpty
             → (D.contents device ≢ []) × (D.contents e.1 ≡ D.contents device)) }
+        ensures memory { IsTrue (D.honest device) → IfErr result (λ e. e.0 ≡ JournalError.OutOfMemory → D.contents device ≡ []) }
         ensures never { IsTrue (D.sound device) → IfErr result (λ e. e.0 ≢ JournalError.BookFault) }
         ensures kept { IfOk result (λ journal. Keeps D.honest D.sound device (device_of journal)) }
     {
@@ -80,12 +85,13 @@ impl<D: JournalDevice> Journal<D> {
     }
 
     /// Opens a journal that a power cut, or a process that was killed, may have left. It syncs first, and gives all records that the device
-    /// holds, in their order. What stands from a shut gate on is cut off.
+    /// holds, in their order. What stands from a shut gate on is cut off. A journal as a commit left it isn't written to.
     ///
     /// # Errors
     ///
     /// `BadBook` where the bytes aren't a journal's: with the offset of the open gate behind which no whole record stands, or with 0
-    /// where they don't begin as one. Nothing is written then. Else `BookFault` and `OutOfMemory`. The device is handed back.
+    /// where they don't begin as one. Nothing is written then. Else `BookFault` and `OutOfMemory`, which may come in place of `BadBook`,
+    /// since the bytes and the records in front of that offset are read first. The device is handed back.
     pub fn open(alloc: Global, device: D) -> Result<(Self, Vec<Vec<u8>>), (JournalError, D)>
         ensures records { IsTrue (D.honest device) → IfOk result (λ r. Stands (D.contents device) (contents_of r.1.items)) }
         ensures opened { IsTrue (D.honest device)
@@ -141,7 +147,8 @@ impl<D: JournalDevice> Journal<D> {
     ///
     /// # Errors
     ///
-    /// `TooLong` where it has 4,294,967,296 bytes or more, else `OutOfMemory`. The journal is then as before.
+    /// `TooLong` where it has 4,294,967,296 bytes or more, which is reported before memory is wanted; else `OutOfMemory`. The journal is
+    /// then as before.
     pub fn append(&mut self, alloc: Global, entry: &[u8]) -> Result<(), JournalError>
         ensures waits { (done waiting : List (List ℕ)) → Has D.honest D.contents D.may_leave self.old done waiting
             → OnOk result (Has D.honest D.contents D.may_leave self.new done (waiting ++ entry.now ∷ [])) }
@@ -150,6 +157,7 @@ impl<D: JournalDevice> Journal<D> {
         ensures device { device_of self.new ≡ device_of self.old }
         ensures too_long { IsErrOf result JournalError.TooLong → 2 ^ 32 ≤ length entry.now }
         ensures fits { OnOk result (length entry.now < 2 ^ 32) }
+        ensures memory { IsErrOf result JournalError.OutOfMemory → length entry.now < 2 ^ 32 }
         ensures refusals { IfErr result (λ e. (e ≡ JournalError.TooLong) ⊎ (e ≡ JournalError.OutOfMemory)) }
     {
         if entry.len() >= MAX_RECORD {
@@ -161,12 +169,12 @@ impl<D: JournalDevice> Journal<D> {
     }
 
     /// Puts all that waits on the device, in one group, with two syncs. From `Ok` on every power cut leaves it; a cut in the call leaves all
-    /// of it or nothing. Where nothing waits there is no call of the device.
+    /// of it or nothing. Where nothing waits there is no call of the device, and no memory is taken.
     ///
     /// # Errors
     ///
-    /// `Full` where the journal or what waits has 2^60 bytes or more, and `OutOfMemory`: the journal is as before, or it is broken as with
-    /// `BookFault`, where the device failed. Of a broken journal nothing more is told: each later commit is `BookFault`, and what is
+    /// `Full` where the journal or what waits has 2^60 bytes or more, else `OutOfMemory`: the journal is as before, or it is broken as with
+    /// `BookFault`, where the device failed. Of a broken journal nothing more is reported: each later commit is `BookFault`, and what is
     /// read in the file before the machine has started again may be lost with a power cut.
     pub fn commit(&mut self) -> Result<(), JournalError>
         ensures acknowledged { (done waiting : List (List ℕ)) → Has D.honest D.contents D.may_leave self.old done waiting
@@ -188,6 +196,10 @@ impl<D: JournalDevice> Journal<D> {
         // It doesn't give up by itself.
         ensures never { IsTrue (D.sound (device_of self.old)) → IsErrOf result JournalError.BookFault → IsTrue (is_broken self.old) }
         ensures full { IsErrOf result JournalError.Full → 2 ^ 60 ≤ end_of self.old ⊎ 2 ^ 60 ≤ length (waiting_of self.old) }
+
+        // A commit of nothing takes no memory, and what is refused is reported before memory is wanted.
+        ensures nothing { is_broken self.old ≡ false → waiting_of self.old ≡ [] → IsOk result × (self.new ≡ self.old) }
+        ensures memory { IsErrOf result JournalError.OutOfMemory → MayCommit self.old }
         ensures kept { Keeps D.honest D.sound (device_of self.old) (device_of self.new) }
     {
         if self.broken {
@@ -220,6 +232,7 @@ fn lay_out<D: JournalDevice>(device: &mut D) -> Result<u64, JournalError>
     ensures empty { IsTrue (D.honest device.old) → OnOk result (D.contents device.old ≡ []) }
     ensures not_empty { IsTrue (D.honest device.old) → IsErrOf result JournalError.NotEmpty
         → (D.contents device.old ≢ []) × (D.contents device.new ≡ D.contents device.old) }
+    ensures memory { IsTrue (D.honest device.old) → IsErrOf result JournalError.OutOfMemory → D.contents device.old ≡ [] }
     ensures never { IsTrue (D.sound device.old) → ¬ IsErrOf result JournalError.BookFault }
     ensures kept { Keeps D.honest D.sound device.old device.new }
 {
@@ -261,7 +274,7 @@ fn write_group<D: JournalDevice>(device: &mut D, end: u64, group: &[u8]) -> Resu
     write_synced(device, end, &[1])
 }
 
-/// Reads the records of a journal, and makes its end a shut gate. What a killed process wrote and didn't sync is read, though a power cut
+/// Reads the records of a journal, and makes its end a shut gate where it isn't one. What a killed process wrote and didn't sync is read, though a power cut
 /// needn't leave it: so it is synced first. Bytes that aren't a journal's are not written to.
 fn recover<D: JournalDevice>(
     alloc: Global,
@@ -282,8 +295,33 @@ fn recover<D: JournalDevice>(
 {
     let bytes = read_synced(alloc, device)?;
     let (records, end) = read_book(alloc, &bytes)?;
+    if is_whole(&bytes, end) {
+        return Ok((records, end));
+    }
+    shut(device, end)?;
+    Ok((records, end))
+}
+
+/// Whether a journal whose records end there is as it is between two calls: one shut gate follows, and nothing after it.
+fn is_whole(bytes: &[u8], end: u64) -> bool
+    requires { end ≤ length bytes.now }
+    ensures { IsTrue result → drop end bytes.now ≡ 0 ∷ [] }
+{
+    let (_, behind) = bytes.split_at(end as usize);
+    matches!(behind, [0])
+}
+
+/// Cuts off what stands from the end of the records on, and writes a shut gate there.
+fn shut<D: JournalDevice>(device: &mut D, end: u64) -> Result<(), DeviceError>
+    ensures done { (records : List (List ℕ)) → EndsAt D.honest D.contents D.may_leave device.old end records
+        → OnOk result (D.contents device.new ≡ book_bytes records) }
+    ensures synced { IsTrue (D.honest device.old) → OnOk result (IsSynced D.contents D.may_leave device.new) }
+    ensures any_moment { (records : List (List ℕ)) → EndsAt D.honest D.contents D.may_leave device.old end records
+        → LeavesOnly D.moment D.left_since device.old device.new (λ left. Stands left records) }
+    ensures kept { Keeps D.honest D.sound device.old device.new }
+    ensures never { IsTrue (D.sound device.old) → ¬ IsErrOf result DeviceError.Fault }
+{
     // The cut has to be synced first: behind a gate that is torn open, what was there would count.
     shorten_synced(device, end)?;
-    write_synced(device, end, &[0])?;
-    Ok((records, end))
+    write_synced(device, end, &[0])
 }

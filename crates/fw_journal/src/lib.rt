@@ -1,4 +1,4 @@
-//! A journal: records of any length on a device that is written at its end and synced. What a commit told of is there after every
+//! A journal: records of any length on a device that is written at its end and synced. What a commit reported is there after every
 //! power cut.
 //!
 //! Its bytes are those of specs/Book.antt; the form is an own one. What a device promises is said at [`JournalDevice`]. There is one
@@ -6,6 +6,7 @@
 #![tactic(auto)]
 
 mod device;
+mod disk;
 mod error;
 mod file;
 mod fuse;
@@ -16,6 +17,7 @@ mod reading;
 mod steps;
 
 pub use device::JournalDevice;
+pub use disk::{Change, Disk};
 pub use error::{DeviceError, JournalError};
 pub use file::{FileDevice, FileJournal};
 pub use fuse::Fuse;

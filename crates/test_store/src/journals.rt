@@ -1,7 +1,9 @@
 //! Journals: what is kept, what a power cut leaves at each call of the device, and what is refused. A block of a record of three bytes
 //! has 40 bytes, and a journal begins with 4.
 
-use fw_journal::{FileDevice, FileJournal, Journal, JournalDevice, JournalError, MemoryDevice};
+use fw_journal::{
+    Disk, FileDevice, FileJournal, Journal, JournalDevice, JournalError, MemoryDevice,
+};
 use std::alloc::Global;
 use std::path::PathBuf;
 use std::test::Fail;
@@ -145,15 +147,72 @@ fn committed(alloc: Global, journal: Journal<MemoryDevice>, opened: &str) -> Res
 
 fn left_text(alloc: Global, told: &str, device: &MemoryDevice) -> Result<String, Fail> {
     let read = read_text(alloc, device.bytes())?;
-    let synced = read_text(alloc, device.synced())?;
+    let synced = read_text(alloc, device.disk().synced())?;
+    judge_cuts(alloc, device.disk())?;
     for past in device.past() {
-        let earlier = read_text(alloc, past.as_slice())?;
-        if earlier.as_str() != "one|" && earlier.as_str() != "one|two|three|" {
-            return Err(Fail::from(earlier));
-        }
+        judge_cuts(alloc, past)?;
     }
     Ok(format!(in alloc; "{told}: {read} {synced}")?)
 }
+
+/// Fails where a power cut may leave anything but the journal of `one` or that of all three records. Each change has a fate of as many
+/// bytes, all the same.
+fn judge_cuts(alloc: Global, disk: &Disk) -> Result<(), Fail> {
+    for byte in [0, 1, 2, 255] {
+        for size in [0, 1, 4, 43, 85] {
+            let left = disk.cut(alloc, &fates(alloc, disk.changes().len(), size, byte)?)?;
+            let told = read_text(alloc, &left)?;
+            if told.as_str() != "one|" && told.as_str() != "one|two|three|" {
+                return Err(Fail::from(told));
+            }
+        }
+    }
+    Ok(())
+}
+
+fn fates(alloc: Global, changes: usize, size: usize, byte: u8) -> Result<Vec<Vec<u8>>, Fail> {
+    let mut fates = Vec::new(alloc);
+    for _ in 0..changes {
+        let mut fate = Vec::new(alloc);
+        fate.resize(size, byte)?;
+        fates.push(fate)?;
+    }
+    Ok(fates)
+}
+
+/// What a power cut leaves of a device with the bytes 00 11 22 33, after a write of four bytes at 2 and a shortening to five, where both
+/// changes have these fates.
+struct Fates(&'static [&'static str]);
+
+impl Case for Fates {
+    fn told(&self, alloc: Global) -> Result<String, Fail> {
+        let mut device = MemoryDevice::new(alloc, hex::decode(alloc, "00112233")?)?;
+        device.write_at(2, &[0xAA, 0xBB, 0xCC, 0xDD])?;
+        device.shorten(5)?;
+        let mut fates = Vec::new(alloc);
+        for fate in self.0 {
+            fates.push(hex::decode(alloc, fate)?)?;
+        }
+        let left = device.disk().cut(alloc, &fates)?;
+        Ok(hex::encode(alloc, &left)?)
+    }
+}
+
+/// Any bytes stand in the range of a write that isn't synced, some or all of those past the old end.
+#[test]
+fn a_cut_leaves_any_bytes_of_what_is_not_synced(rt: HostRuntime) -> Result<(), Fail> {
+    each(rt.alloc(), LEFT)
+}
+
+const LEFT: &[(Fates, &str)] = &[
+    (Fates(&[]), "00112233"),
+    (Fates(&["ff"]), "0011ff33"),
+    (Fates(&["ffee"]), "0011ffee"),
+    (Fates(&["ffeedd"]), "0011ffeedd"),
+    (Fates(&["ffeeddcc"]), "0011ffeedd"),
+    (Fates(&["ffeeddcc", "00"]), "0011ffeeddcc"),
+    (Fates(&["ffeeddccbb", "0000"]), "0011ffeeddcc"),
+];
 
 #[test]
 fn a_cut_leaves_all_of_a_group_or_nothing(rt: HostRuntime) -> Result<(), Fail> {
@@ -164,36 +223,32 @@ const CUTS: &[(Cut, &str)] = &[
     (Cut { calls: 0, torn: 1 }, "BookFault: one| one|"),
     (Cut { calls: 1, torn: 1 }, "BookFault: one| one|"),
     (Cut { calls: 2, torn: 1 }, "BookFault: one| one|"),
-    (Cut { calls: 3, torn: 1 }, "BookFault: one| one|"),
-    (Cut { calls: 4, torn: 1 }, "BookFault: one| one|"),
-    (Cut { calls: 5, torn: 1 }, "BookFault: one| one|"),
-    (Cut { calls: 6, torn: 1 }, "BookFault: one| one|"),
+    (
+        Cut { calls: 3, torn: 1 },
+        "one| BookFault BookFault: one| one|",
+    ),
+    (
+        Cut { calls: 4, torn: 1 },
+        "one| BookFault BookFault: one| one|",
+    ),
+    (
+        Cut { calls: 5, torn: 0 },
+        "one| BookFault BookFault: one| one|",
+    ),
+    (
+        Cut { calls: 5, torn: 2 },
+        "one| BookFault BookFault: one| one|",
+    ),
+    (
+        Cut { calls: 5, torn: 1 },
+        "one| BookFault BookFault: one|two|three| one|",
+    ),
+    (
+        Cut { calls: 6, torn: 1 },
+        "one| BookFault BookFault: one|two|three| one|",
+    ),
     (
         Cut { calls: 7, torn: 1 },
-        "one| BookFault BookFault: one| one|",
-    ),
-    (
-        Cut { calls: 8, torn: 1 },
-        "one| BookFault BookFault: one| one|",
-    ),
-    (
-        Cut { calls: 9, torn: 0 },
-        "one| BookFault BookFault: one| one|",
-    ),
-    (
-        Cut { calls: 9, torn: 2 },
-        "one| BookFault BookFault: one| one|",
-    ),
-    (
-        Cut { calls: 9, torn: 1 },
-        "one| BookFault BookFault: one|two|three| one|",
-    ),
-    (
-        Cut { calls: 10, torn: 1 },
-        "one| BookFault BookFault: one|two|three| one|",
-    ),
-    (
-        Cut { calls: 11, torn: 1 },
         "one| done done: one|two|three| one|two|three|",
     ),
 ];
