@@ -1,6 +1,7 @@
 pub mod Described
 pub mod Digits
 pub mod FateLetters
+pub mod Floatless
 pub mod Honest
 pub mod LineLemmas
 pub mod NewStores

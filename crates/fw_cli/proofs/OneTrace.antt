@@ -2,7 +2,7 @@
 use Rattle.std.proofs.Common.{◌≡◌, inl, inr, ℕ, ◌+◌, List, [], ◌∷◌, ◌++◌, length, Option, Some, None, refl, sym, ap, subst, ◌∙◌}
 use Rattle.fw_axdr.specs.Value.{Value, octet_string}
 use Rattle.fw_wrapper.specs.Laws.{OneFrame}
-use Rattle.fw_names.specs.Name.{Campaign, Name}
+use Rattle.fw_names.specs.Name.{Name}
 use Rattle.fw_names.specs.Laws.{OneName}
 use Rattle.fw_apdu.specs.Request.{SpellsRequest}
 use Rattle.fw_apdu.specs.Response.{GetResult, ResponseContent, value, code, get_response, set_response, action_response, SpellsResponse}
@@ -14,20 +14,21 @@ use Rattle.fw_world.specs.World.{Datagram}
 use Rattle.fw_cli.specs.declared.saying.Brief.{Brief}
 use Rattle.fw_cli.specs.declared.saying.Saying.{Saying}
 use Rattle.fw_cli.specs.declared.saying.Saying.TheVariants as saying
-use Rattle.fw_cli.specs.Trace.{NamesCampaign, initiate_saying, SaysAsk, octets_brief, IsBrief, SaysAnswer, Carries, SaysCarried, Says, line_of, TracesFrom}
+use Rattle.fw_cli.specs.declared.saying.Title.{Title}
+use Rattle.fw_cli.specs.Trace.{title_of, NamesImage, initiate_saying, SaysAsk, octets_brief, IsBrief, SaysAnswer, Carries, SaysCarried, Says, line_of, TracesFrom}
 
-one_campaign : OneName → (bytes : List ℕ) (a b : Option Campaign) → NamesCampaign bytes a → NamesCampaign bytes b → a ≡ b
-one_campaign one bytes None None h k = refl
-one_campaign one bytes None (Some campaign) h (name, spells, is) = absurd (h name spells)
-one_campaign one bytes (Some campaign) None (name, spells, is) k = absurd (k name spells)
-one_campaign one bytes (Some campaign) (Some other) (name, spells, is) (second, spelled, same) =
-    ap Some (sym is ∙ ap (λ (n : Name). n.campaign) (one bytes name second spells spelled) ∙ same)
+one_title : OneName → (bytes : List ℕ) (a b : Option Title) → NamesImage bytes a → NamesImage bytes b → a ≡ b
+one_title one bytes None None h k = refl
+one_title one bytes None (Some title) h (name, spells, is) = absurd (h name spells)
+one_title one bytes (Some title) None (name, spells, is) k = absurd (k name spells)
+one_title one bytes (Some title) (Some other) (name, spells, is) (second, spelled, same) =
+    ap Some (sym is ∙ ap (λ (n : Name). title_of n) (one bytes name second spells spelled) ∙ same)
 
 one_ask : OneName → (size : ℕ) (m : Meaning) (s t : Saying) → SaysAsk size m s → SaysAsk size m t → s ≡ t
 one_ask one size (read attribute) s t h k = h ∙ sym k
 one_ask one size (enable enabled) s t h k = h ∙ sym k
 one_ask one size (initiate identifier n) s t (a, named, is) (b, others, same) =
-    is ∙ ap (λ (campaign : Option Campaign). initiate_saying n campaign) (one_campaign one identifier a b named others) ∙ sym same
+    is ∙ ap (λ (title : Option Title). initiate_saying n title) (one_title one identifier a b named others) ∙ sym same
 one_ask one size (block number bytes) s t h k = h ∙ sym k
 one_ask one size verify s t h k = h ∙ sym k
 one_ask one size activate s t h k = h ∙ sym k
@@ -35,7 +36,7 @@ one_ask one size (refused refusal) s t h k = h ∙ sym k
 
 one_brief : OneName → (v : Value) (s t : Brief) → IsBrief v s → IsBrief v t → s ≡ t
 one_brief one (octet_string bytes) s t (a, named, is) (b, others, same) =
-    is ∙ ap (λ (campaign : Option Campaign). octets_brief (length bytes) campaign) (one_campaign one bytes a b named others) ∙ sym same
+    is ∙ ap (λ (title : Option Title). octets_brief (length bytes) title) (one_title one bytes a b named others) ∙ sym same
 one_brief one v s t h k = h ∙ sym k
 
 one_result : OneName → (r : GetResult) (s t : Saying) → SaysAnswer (get_response r) s → SaysAnswer (get_response r) t → s ≡ t

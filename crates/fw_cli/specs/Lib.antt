@@ -10,6 +10,11 @@ pub mod Words
 pub mod Script
 pub mod Fates
 pub mod Report
+pub mod Refusal
+pub mod Summary
+pub mod Table
+pub mod Json
+pub mod Forms
 pub mod Trace
 pub mod Replaying
 pub mod Rehearsing

@@ -1,13 +1,10 @@
 -- Public vocabulary: what the command `replay` tells of a script, and what it does to its reader and its writer, where the bytes that these
 -- hold are known: what the reader has left before and after, and what the writer holds at first and at last.
-use Rattle.std.specs.Prelude.{◌≡◌, ◌≢◌, ◌≤◌, ◌⊎◌, ℕ, Bool, true, false, List, [], ◌++◌, Option, Some, None, codes, decimal}
+use Rattle.std.specs.Prelude.{◌≡◌, ◌≢◌, ◌≤◌, ◌⊎◌, ℕ, Bool, true, false, List, [], ◌++◌, Option, Some, None}
 use Rattle.std.specs.Option.{option_map}
 use Rattle.std.specs.Io.KnownBytes.{Appends, Keeps}
-use Rattle.fw_book.specs.declared.error.BookError.{BookError}
-use Rattle.fw_book.specs.declared.error.BookError.TheVariants as book
 use Rattle.fw_world.specs.declared.error.SetupError.TheVariants as unmade
-use Rattle.fw_world.specs.declared.error.StepError.{StepError}
-use Rattle.fw_world.specs.declared.error.StepError.TheVariants.{NoSuchDatagram, NoSuchActor, Book, OutOfMemory}
+use Rattle.fw_world.specs.declared.error.StepError.TheVariants.{OutOfMemory}
 use Rattle.fw_world.specs.declared.event.Event.{Event as Given}
 use Rattle.fw_world.specs.declared.runs.RunError.{RunError}
 use Rattle.fw_world.specs.declared.runs.RunError.TheVariants as stopped
@@ -18,57 +15,35 @@ use Rattle.fw_world.specs.State.{State, StateRun}
 use Rattle.fw_world.specs.Step.{Event}
 use Rattle.fw_world.specs.World.{Datagram}
 use Rattle.fw_air.specs.Schedules.{IsUnscheduled, Schedules}
+use Rattle.fw_cli.specs.declared.forms.Style.{Style}
+use Rattle.fw_cli.specs.declared.refusal.Refusal.{Refusal}
 use Rattle.fw_cli.specs.declared.replay.Ended.{Ended}
 use Rattle.fw_cli.specs.declared.replay.Ended.TheVariants.{Whole, Refused}
 use Rattle.fw_cli.specs.declared.replay.ReplayOptions.{ReplayOptions}
 use Rattle.fw_cli.specs.declared.replay.Rounds.{Rounds}
 use Rattle.fw_cli.specs.Fates.{SpellsSome}
 use Rattle.fw_cli.specs.Reading.{Gives, ReadsAll, max_input}
-use Rattle.fw_cli.specs.Report.{report_of}
+use Rattle.fw_cli.specs.Forms.{report_in}
 use Rattle.fw_cli.specs.Trace.{IsTrace}
 use Rattle.fw_cli.specs.Script.{SpellsScript, BeginsScript, script_of}
 
 -- ---- what is told
-
-abbrev pub refusal_name : BookError → List ℕ
-refusal_name book.ForeignHead = codes "ForeignHead"
-refusal_name book.SerialUsed = codes "SerialUsed"
-refusal_name book.EmptyImage = codes "EmptyImage"
-refusal_name book.ImageTooLong = codes "ImageTooLong"
-refusal_name book.NoMeters = codes "NoMeters"
-refusal_name book.TooManyMeters = codes "TooManyMeters"
-refusal_name book.MeterTwice = codes "MeterTwice"
-refusal_name book.MeterBusy = codes "MeterBusy"
-refusal_name book.NoSuchCampaign = codes "NoSuchCampaign"
-refusal_name book.WrongCampaign = codes "WrongCampaign"
-refusal_name book.NotLive = codes "NotLive"
-refusal_name book.BadBook = codes "BadBook"
-refusal_name book.OutOfMemory = codes "OutOfMemory"
-
-abbrev pub cause_name : StepError → List ℕ
-cause_name NoSuchDatagram = codes "NoSuchDatagram"
-cause_name NoSuchActor = codes "NoSuchActor"
-cause_name (Book refusal) = refusal_name refusal
-cause_name OutOfMemory = codes "OutOfMemory"
-
--- the number of the event, from 0 on, and why it was refused
-abbrev pub refusal_line : ℕ → StepError → List ℕ
-refusal_line at cause = codes "refused " ++ (decimal at ++ (codes " " ++ (cause_name cause ++ codes "\n")))
 
 -- the trace of what was sent, where it is asked for
 abbrev pub IsTraceIf : Bool → List Datagram → List ℕ → Type 0
 IsTraceIf true sent text = IsTrace sent text
 IsTraceIf false sent text = text ≡ []
 
--- the report of a world behind that
-abbrev pub TellsWorld : Bool → Setup → State → List ℕ → Type 0
-TellsWorld traced setup world text = (trace : List ℕ) × IsTraceIf traced world.sent trace × (text ≡ trace ++ report_of setup world)
+-- the report of a world after that, with the event that was refused there
+abbrev pub TellsWorld : Style → Setup → State → Option Refusal → List ℕ → Type 0
+TellsWorld style setup world refusal text =
+    (trace : List ℕ) × IsTraceIf style.trace world.sent trace × (text ≡ trace ++ report_in style.report setup world refusal)
 
--- what is told of the world there, and that line, where the cause isn't want of memory
-abbrev pub TellsRefusal : Bool → Setup → RunError → List ℕ → Type 0
-TellsRefusal traced setup (stopped.Setup error) text = ⊥
-TellsRefusal traced setup (stopped.Event at world cause) text =
-    (cause ≢ OutOfMemory) × ((there : List ℕ) × TellsWorld traced setup world there × (text ≡ there ++ refusal_line at cause))
+-- what is told of the world there, where the cause isn't want of memory
+abbrev pub TellsRefusal : Style → Setup → RunError → List ℕ → Type 0
+TellsRefusal style setup (stopped.Setup error) text = ⊥
+TellsRefusal style setup (stopped.Event at world cause) text =
+    (cause ≢ OutOfMemory) × TellsWorld style setup world (Some (record { at = at; cause = cause })) text
 
 -- memory was wanted
 abbrev pub WantsMemory : RunError → Type 0
@@ -86,34 +61,34 @@ abbrev pub GoesOn : Option ℕ → Setup → List Event → List Event → Type 
 GoesOn None setup given events = events ≡ given
 GoesOn (Some rounds) setup given events = Schedules setup given rounds events ⊎ ((events ≡ given) × HasNoRound setup given)
 
--- From a new world no event is refused, and the text tells of the world behind the last one.
-pub record RunsWhole (traced : Bool) (setup : Setup) (events : List Given) (text : List ℕ) : Type 0 where
+-- From a new world no event is refused, and the text tells of the world after the last one.
+pub record RunsWhole (style : Style) (setup : Setup) (events : List Given) (text : List ℕ) : Type 0 where
   pub world : State
   pub run : StateRun (opening_state setup) (events_of events) world
-  pub told : TellsWorld traced setup world text
+  pub told : TellsWorld style setup world None text
 
 -- An event is refused, and the text tells so.
-pub record IsRefusedIn (traced : Bool) (setup : Setup) (events : List Given) (text : List ℕ) : Type 0 where
+pub record IsRefusedIn (style : Style) (setup : Setup) (events : List Given) (text : List ℕ) : Type 0 where
   pub error : RunError
   pub stopped : IsStopped setup events error
-  pub told : TellsRefusal traced setup error text
+  pub told : TellsRefusal style setup error text
 
-abbrev pub EndsSo : Ended → Bool → Setup → List Given → List ℕ → Type 0
-EndsSo Whole traced setup events text = RunsWhole traced setup events text
-EndsSo Refused traced setup events text = IsRefusedIn traced setup events text
+abbrev pub EndsSo : Ended → Style → Setup → List Given → List ℕ → Type 0
+EndsSo Whole style setup events text = RunsWhole style setup events text
+EndsSo Refused style setup events text = IsRefusedIn style setup events text
 
 -- a world is made, and the run ends so
-abbrev pub TellsRun : Bool → Setup → List Given → Ended → List ℕ → Type 0
-TellsRun traced setup events ended text = IsSetup setup × EndsSo ended traced setup events text
+abbrev pub TellsRun : Style → Setup → List Given → Ended → List ℕ → Type 0
+TellsRun style setup events ended text = IsSetup setup × EndsSo ended style setup events text
 
 -- The input is a script, and its run ends so.
-pub record Tells (rounds : Option ℕ) (traced : Bool) (input : List ℕ) (ended : Ended) (text : List ℕ) : Type 0 where
+pub record Tells (rounds : Option ℕ) (style : Style) (input : List ℕ) (ended : Ended) (text : List ℕ) : Type 0 where
   pub setup : Setup
   pub given : List Given
   pub events : List Given
   pub spelled : SpellsScript input (script_of setup given)
   pub goes_on : GoesOn rounds setup (events_of given) (events_of events)
-  pub run : TellsRun traced setup events ended text
+  pub run : TellsRun style setup events ended text
 
 -- the input is a script of which no world can be made
 abbrev pub MakesNone : List ℕ → Type 0
@@ -140,11 +115,11 @@ HasGoodFates None = ⊥
 HasGoodFates (Some rounds) = SpellsSome rounds.fates.now
 
 -- All input was read, and what is told of it was written.
-pub record WritesRun (rounds : Option ℕ) (traced : Bool) (ended : Ended) (before after first last : Option (List ℕ)) : Type 0 where
+pub record WritesRun (rounds : Option ℕ) (style : Style) (ended : Ended) (before after first last : Option (List ℕ)) : Type 0 where
   pub input : List ℕ
   pub text : List ℕ
   pub read : ReadsAll before after input
-  pub tells : Tells rounds traced input ended text
+  pub tells : Tells rounds style input ended text
   pub written : Appends first last text
 
 -- how many rounds are asked for
@@ -152,7 +127,7 @@ abbrev pub rounds_asked : ReplayOptions → Option ℕ
 rounds_asked options = option_map (λ (asked : Rounds). asked.rounds) options.rounds
 
 abbrev pub Replays : ReplayOptions → Ended → Option (List ℕ) → Option (List ℕ) → Option (List ℕ) → Option (List ℕ) → Type 0
-Replays options ended before after first last = WritesRun (rounds_asked options) options.trace ended before after first last
+Replays options ended before after first last = WritesRun (rounds_asked options) options.style ended before after first last
 
 -- all input was read, and P holds of it
 abbrev pub ReadsOne : Option (List ℕ) → Option (List ℕ) → (List ℕ → Type 0) → Type 0

@@ -1,10 +1,10 @@
 -- Public vocabulary: the trace of a run, a line for each datagram that was sent: its number, who sent it and who it is for, and in plain
 -- words what it says. A datagram to a meter says what it asks of the meter, one to a head end what it answers (IEC 62056-5-3; IEC 62056-6-2,
 -- Image transfer). What carries nothing of the kind, or asks for nothing that a meter has, can't be read.
-use Rattle.std.specs.Prelude.{◌≡◌, ◌⊎◌, ℕ, ◌+◌, true, false, List, [], ◌∷◌, ◌++◌, length, Option, Some, None, codes, decimal}
+use Rattle.std.specs.Prelude.{◌≡◌, ◌⊎◌, ℕ, ◌+◌, ◌==◌, if◌then◌else◌, true, false, List, [], ◌∷◌, ◌++◌, length, Option, Some, None, codes, decimal}
 use Rattle.fw_axdr.specs.Value.{Value, array, boolean, bit_string, double_long_unsigned, octet_string, enumerated, count}
 use Rattle.fw_wrapper.specs.Wrapper.{Wraps}
-use Rattle.fw_names.specs.Name.{Campaign, Name, SpellsName}
+use Rattle.fw_names.specs.Name.{Name, SpellsName}
 use Rattle.fw_apdu.specs.Request.{SpellsRequest}
 use Rattle.fw_apdu.specs.Response.{ResponseContent, value, code, get_response, set_response, action_response, SpellsResponse}
 use Rattle.fw_server.specs.declared.object.Reading.{Reading}
@@ -20,33 +20,38 @@ use Rattle.fw_cli.specs.declared.saying.Brief.{Brief}
 use Rattle.fw_cli.specs.declared.saying.Brief.TheVariants as brief
 use Rattle.fw_cli.specs.declared.saying.Saying.{Saying}
 use Rattle.fw_cli.specs.declared.saying.Saying.TheVariants as saying
+use Rattle.fw_cli.specs.declared.saying.Title.{Title}
 
 -- ---- what a datagram says
 
--- the campaign in the name that the bytes spell, if they spell one
-abbrev pub NamesCampaign : List ℕ → Option Campaign → Type 0
-NamesCampaign bytes None = (name : Name) → ¬ SpellsName bytes name
-NamesCampaign bytes (Some campaign) = (name : Name) × SpellsName bytes name × (name.campaign ≡ campaign)
+-- what a name tells beside the digest
+abbrev pub title_of : Name → Title
+title_of name = record { campaign = name.campaign; release = name.release }
+
+-- what the name tells that the bytes spell, if they spell one
+abbrev pub NamesImage : List ℕ → Option Title → Type 0
+NamesImage bytes None = (name : Name) → ¬ SpellsName bytes name
+NamesImage bytes (Some title) = (name : Name) × SpellsName bytes name × (title_of name ≡ title)
 
 -- an initiate of an image with a name, or with none
-abbrev pub initiate_saying : ℕ → Option Campaign → Saying
+abbrev pub initiate_saying : ℕ → Option Title → Saying
 initiate_saying size None = saying.InitiateUnnamed size
-initiate_saying size (Some campaign) = saying.Initiate campaign size
+initiate_saying size (Some title) = saying.Initiate title size
 
 -- a request to a meter, in a datagram of so many bytes
 abbrev pub SaysAsk : ℕ → Meaning → Saying → Type 0
 SaysAsk size (read attribute) s = s ≡ saying.Get attribute
 SaysAsk size (enable enabled) s = s ≡ saying.Enable enabled
-SaysAsk size (initiate identifier n) s = (campaign : Option Campaign) × NamesCampaign identifier campaign × (s ≡ initiate_saying n campaign)
+SaysAsk size (initiate identifier n) s = (title : Option Title) × NamesImage identifier title × (s ≡ initiate_saying n title)
 SaysAsk size (block number bytes) s = s ≡ saying.Block number (length bytes)
 SaysAsk size verify s = s ≡ saying.Verify
 SaysAsk size activate s = s ≡ saying.Activate
 SaysAsk size (refused refusal) s = s ≡ saying.Unread size
 
--- an octet-string in short: the campaign of a name, or how many bytes there are
-abbrev pub octets_brief : ℕ → Option Campaign → Brief
+-- an octet-string in short: what a name tells, or how many bytes there are
+abbrev pub octets_brief : ℕ → Option Title → Brief
 octets_brief size None = brief.Octets size
-octets_brief size (Some campaign) = brief.Campaign campaign
+octets_brief size (Some title) = brief.Name title
 
 -- a value in short; that of image_to_activate_info is an array with an element for each image
 abbrev pub IsBrief : Value → Brief → Type 0
@@ -54,7 +59,7 @@ IsBrief (double_long_unsigned n) b = b ≡ brief.Number n
 IsBrief (boolean flag) b = b ≡ brief.Flag flag
 IsBrief (bit_string bits) b = b ≡ brief.Bits (length bits)
 IsBrief (enumerated n) b = b ≡ brief.Status n
-IsBrief (octet_string bytes) b = (campaign : Option Campaign) × NamesCampaign bytes campaign × (b ≡ octets_brief (length bytes) campaign)
+IsBrief (octet_string bytes) b = (title : Option Title) × NamesImage bytes title × (b ≡ octets_brief (length bytes) title)
 IsBrief (array vs) b = b ≡ brief.Images (count vs)
 IsBrief v b = b ≡ brief.Other
 
@@ -101,9 +106,14 @@ attribute_name reading.ActiveDigest = codes "active firmware signature"
 abbrev pub in_bytes : ℕ → List ℕ
 in_bytes size = codes "(" ++ (decimal size ++ codes " bytes)")
 
--- the numbers of a campaign
-abbrev pub campaign_words : Campaign → List ℕ
-campaign_words campaign = codes "campaign " ++ (decimal campaign.head ++ (codes " " ++ decimal campaign.serial))
+-- a release, and nothing for 0, which is none
+abbrev pub release_words : ℕ → List ℕ
+release_words release = if release == 0 then [] else (codes " release " ++ decimal release)
+
+-- the numbers of a campaign, and the release
+abbrev pub title_words : Title → List ℕ
+title_words title =
+    codes "campaign " ++ (decimal title.campaign.head ++ (codes " " ++ (decimal title.campaign.serial ++ release_words title.release)))
 
 abbrev pub brief_words : Brief → List ℕ
 brief_words (brief.Number n) = decimal n
@@ -111,7 +121,7 @@ brief_words (brief.Flag true) = codes "true"
 brief_words (brief.Flag false) = codes "false"
 brief_words (brief.Status n) = codes "status " ++ decimal n
 brief_words (brief.Bits n) = codes "bits " ++ decimal n
-brief_words (brief.Campaign campaign) = campaign_words campaign
+brief_words (brief.Name title) = title_words title
 brief_words (brief.Octets size) = codes "? " ++ in_bytes size
 brief_words (brief.Images n) = codes "images " ++ decimal n
 brief_words brief.Other = codes "?"
@@ -120,7 +130,7 @@ abbrev pub saying_words : Saying → List ℕ
 saying_words (saying.Get attribute) = codes "get " ++ attribute_name attribute
 saying_words (saying.Enable true) = codes "enable"
 saying_words (saying.Enable false) = codes "disable"
-saying_words (saying.Initiate campaign size) = codes "initiate " ++ (campaign_words campaign ++ (codes " " ++ in_bytes size))
+saying_words (saying.Initiate title size) = codes "initiate " ++ (title_words title ++ (codes " " ++ in_bytes size))
 saying_words (saying.InitiateUnnamed size) = codes "initiate ? " ++ in_bytes size
 saying_words (saying.Block number size) = codes "block " ++ (decimal number ++ (codes " " ++ in_bytes size))
 saying_words saying.Verify = codes "verify"

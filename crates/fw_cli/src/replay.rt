@@ -7,14 +7,13 @@ ghost use Rattle.std.specs.Prelude.{
   ◌≤◌,
   ◌⊎◌,
   ◌↔◌,
-  ◌++◌,
   ℕ,
   List,
+  None,
   length,
   IsTrue,
   IfOk,
   IfErr,
-  OnOk,
   OnErr,
   IfSome,
   string_bytes,
@@ -43,21 +42,18 @@ ghost use Rattle.fw_cli.specs.Replaying.{
   TellsRefusal,
   GoesOn,
   WantsMemory,
-  refusal_line,
-  refusal_name,
-  cause_name,
 };
 
 use crate::fates::read_fates;
 use crate::fault::Fault;
+use crate::forms::{Style, append_report_in};
 use crate::input::read_input;
 use crate::output::write_text;
 use crate::reads::Reads;
-use crate::report::append_report;
+use crate::refusal::Refusal;
 use crate::script::{Script, read_script};
 use crate::trace::append_trace;
 use fw_air::{Fate, Fates, schedule};
-use fw_book::BookError;
 use fw_world::{Event, RunError, Setup, SetupError, StepError, World, run};
 use std::alloc::{AllocError, Global};
 use std::io::{Read, Write};
@@ -67,8 +63,8 @@ use std::io::{Read, Write};
 pub struct ReplayOptions<'a> {
     /// The rounds that follow the events of the script, if any do.
     pub rounds: Option<Rounds<'a>>,
-    /// Whether a line for each datagram that was sent stands before the report.
-    pub trace: bool,
+    /// How the run is told.
+    pub style: Style,
 }
 
 /// Rounds of all links: in each of them a head end sends to a meter, and each datagram has its fate.
@@ -104,9 +100,10 @@ struct Told {
     text: String,
 }
 
-/// Runs the script that the reader has, and behind its events the rounds that are asked for. The writer gets the report of the world
-/// behind the last event. Where an event is refused, it gets that of the world there, and the line `refused AT NAME`. A trace, where it is
-/// asked for, stands before the report: a line for each datagram that was sent, with its number, who sent it to whom, and what it says.
+/// Runs the script that the reader has, and after its events the rounds that are asked for. The writer gets the report of the world
+/// after the last event, in the form that is asked for. Where an event is refused, it gets that of the world there, which tells the number
+/// of the event and why it was refused. A trace, where it is asked for, stands before the report: a line for each datagram that was sent,
+/// with its number, who sent it to whom, and what it says.
 ///
 /// All input is read before anything is written, and what is written is flushed.
 ///
@@ -152,7 +149,7 @@ pub fn run_replay<R: Read, W: Write>(
         Some(rounds) => Some(air_of(alloc, rounds)?),
         None => None,
     };
-    replay_from(alloc, reader, writer, &air, options.trace)
+    replay_from(alloc, reader, writer, &air, options.style)
 }
 
 /// The rounds with their fates.
@@ -176,10 +173,10 @@ fn replay_from<R: Read, W: Write>(
     reader: &mut R,
     writer: &mut W,
     air: &Option<Air>,
-    trace: bool,
+    style: Style,
 ) -> Result<Ended, Fault>
     requires fates { IfSome air.now (λ air. IsFates air.fates.items) }
-    ensures ok { IfOk result (λ ended. WritesRun (rounds_in air.now) trace ended (R.remaining reader.old) (R.remaining reader.new)
+    ensures ok { IfOk result (λ ended. WritesRun (rounds_in air.now) style ended (R.remaining reader.old) (R.remaining reader.new)
         (W.contents writer.old) (W.contents writer.new)) }
     ensures not_fates { result ≢ Err Fault.BadFates }
     ensures bad_line { (number : ℕ) → result ≡ Err (Fault.BadLine number)
@@ -192,16 +189,16 @@ fn replay_from<R: Read, W: Write>(
 {
     let mut reads = Reads::none();
     let input = read_input(alloc, reader, &mut reads)?;
-    let told = replay(alloc, &input, air, trace)?;
+    let told = replay(alloc, &input, air, style)?;
     write_text(writer, told.text.as_str())?;
     Ok(told.ended)
 }
 
 /// What is told of a script.
-fn replay(alloc: Global, input: &[u8], air: &Option<Air>, trace: bool) -> Result<Told, Fault>
+fn replay(alloc: Global, input: &[u8], air: &Option<Air>, style: Style) -> Result<Told, Fault>
     requires size { length input.now ≤ max_input }
     requires fates { IfSome air.now (λ air. IsFates air.fates.items) }
-    ensures ok { IfOk result (λ told. Tells (rounds_in air.now) trace input.now told.ended (string_bytes told.text)) }
+    ensures ok { IfOk result (λ told. Tells (rounds_in air.now) style input.now told.ended (string_bytes told.text)) }
     ensures bad_line { (number : ℕ) → result ≡ Err (Fault.BadLine number) → IsBadLine input.now number }
     ensures bad_setup { result ≡ Err Fault.BadSetup → MakesNone input.now }
     ensures memory { result ≡ Err Fault.OutOfMemory → MayTakeMemory input.now }
@@ -209,7 +206,7 @@ fn replay(alloc: Global, input: &[u8], air: &Option<Air>, trace: bool) -> Result
 {
     let Script { setup, events } = read_script(alloc, input)?;
     let events = with_rounds(alloc, &setup, events, air)?;
-    tell_run(alloc, &setup, &events, trace)
+    tell_run(alloc, &setup, &events, style)
 }
 
 /// The events of a script, and behind them those of the rounds. Where a given event is refused no round is made: the run is refused there.
@@ -252,8 +249,8 @@ fn wants_memory(error: &RunError) -> bool
 }
 
 /// What is told of a run over these events.
-fn tell_run(alloc: Global, setup: &Setup, events: &[Event], trace: bool) -> Result<Told, Fault>
-    ensures ok { IfOk result (λ told. TellsRun trace setup.now events.now told.ended (string_bytes told.text)) }
+fn tell_run(alloc: Global, setup: &Setup, events: &[Event], style: Style) -> Result<Told, Fault>
+    ensures ok { IfOk result (λ told. TellsRun style setup.now events.now told.ended (string_bytes told.text)) }
     ensures bad_setup { result ≡ Err Fault.BadSetup → ¬ IsSetup setup.now }
     ensures memory { result ≡ Err Fault.OutOfMemory → IsSetup setup.now }
     ensures only { IfErr result (λ f. (f ≡ Fault.OutOfMemory) ⊎ (f ≡ Fault.BadSetup)) }
@@ -261,32 +258,33 @@ fn tell_run(alloc: Global, setup: &Setup, events: &[Event], trace: bool) -> Resu
     match run(alloc, setup, events) {
         Ok(world) => Ok(Told {
             ended: Ended::Whole,
-            text: tell_world(alloc, setup, &world, trace)?,
+            text: tell_world(alloc, setup, &world, style, None)?,
         }),
-        Err(error) => tell_refusal(alloc, setup, error, trace),
+        Err(error) => tell_refusal(alloc, setup, error, style),
     }
 }
 
-/// What is told of a world: the trace of what was sent, where it is asked for, and the report.
+/// What is told of a world: the trace of what was sent, where it is asked for, and the report, with the event that was refused there.
 fn tell_world(
     alloc: Global,
     setup: &Setup,
     world: &World,
-    trace: bool,
+    style: Style,
+    refusal: Option<Refusal>,
 ) -> Result<String, AllocError>
-    ensures { IfOk result (λ text. TellsWorld trace setup.now world.now (string_bytes text)) }
+    ensures { IfOk result (λ text. TellsWorld style setup.now world.now refusal (string_bytes text)) }
 {
     let mut text = String::new(alloc);
-    if trace {
+    if style.trace {
         append_trace(alloc, &mut text, world.sent())?;
     }
-    append_report(&mut text, setup, world)?;
+    append_report_in(alloc, &mut text, setup, world, style.report, refusal)?;
     Ok(text)
 }
 
 /// What is told of a run that ended early.
-fn tell_refusal(alloc: Global, setup: &Setup, error: RunError, trace: bool) -> Result<Told, Fault>
-    ensures ok { IfOk result (λ told. (told.ended ≡ Ended.Refused) × TellsRefusal trace setup.now error (string_bytes told.text)) }
+fn tell_refusal(alloc: Global, setup: &Setup, error: RunError, style: Style) -> Result<Told, Fault>
+    ensures ok { IfOk result (λ told. (told.ended ≡ Ended.Refused) × TellsRefusal style setup.now error (string_bytes told.text)) }
     ensures bad_setup { result ≡ Err Fault.BadSetup → error ≡ RunError.Setup SetupError.BadSetup }
     ensures memory { result ≡ Err Fault.OutOfMemory → error ≢ RunError.Setup SetupError.BadSetup }
     ensures only { IfErr result (λ f. (f ≡ Fault.OutOfMemory) ⊎ (f ≡ Fault.BadSetup)) }
@@ -299,53 +297,11 @@ fn tell_refusal(alloc: Global, setup: &Setup, error: RunError, trace: bool) -> R
             ..
         } => Err(Fault::OutOfMemory),
         RunError::Event { at, world, cause } => {
-            let mut text = tell_world(alloc, setup, &world, trace)?;
-            append_refusal(&mut text, at, cause)?;
+            let refusal = Some(Refusal { at, cause });
             Ok(Told {
                 ended: Ended::Refused,
-                text,
+                text: tell_world(alloc, setup, &world, style, refusal)?,
             })
         }
-    }
-}
-
-/// Appends the line that tells which event was refused, and why.
-fn append_refusal(text: &mut String, at: usize, cause: StepError) -> Result<(), AllocError>
-    ensures { OnOk result (string_bytes text.new ≡ string_bytes text.old ++ refusal_line at cause) }
-{
-    let name = cause_name(cause);
-    write!(text, "refused {at} {name}\n")
-}
-
-/// The name of what an event was refused for.
-fn cause_name(cause: StepError) -> &'static str
-    ensures { result.now ≡ cause_name cause }
-{
-    match cause {
-        StepError::NoSuchDatagram => "NoSuchDatagram",
-        StepError::NoSuchActor => "NoSuchActor",
-        StepError::Book(refusal) => refusal_name(refusal),
-        StepError::OutOfMemory => "OutOfMemory",
-    }
-}
-
-/// The name of a book's refusal.
-fn refusal_name(refusal: BookError) -> &'static str
-    ensures { result.now ≡ refusal_name refusal }
-{
-    match refusal {
-        BookError::ForeignHead => "ForeignHead",
-        BookError::SerialUsed => "SerialUsed",
-        BookError::EmptyImage => "EmptyImage",
-        BookError::ImageTooLong => "ImageTooLong",
-        BookError::NoMeters => "NoMeters",
-        BookError::TooManyMeters => "TooManyMeters",
-        BookError::MeterTwice => "MeterTwice",
-        BookError::MeterBusy => "MeterBusy",
-        BookError::NoSuchCampaign => "NoSuchCampaign",
-        BookError::WrongCampaign => "WrongCampaign",
-        BookError::NotLive => "NotLive",
-        BookError::BadBook => "BadBook",
-        BookError::OutOfMemory => "OutOfMemory",
     }
 }

@@ -88,7 +88,7 @@ fn append_row(text: &mut String, head: u32, serial: u32, row: &Row) -> Result<()
 }
 
 /// The word for the state of a row.
-fn state_word(state: RowState) -> &'static str
+pub(crate) fn state_word(state: RowState) -> &'static str
     ensures { result.now ≡ state_word state }
 {
     match state {

@@ -8,7 +8,7 @@ ghost use Rattle.fw_apdu.specs.Response.{SpellsResponse};
 ghost use Rattle.fw_apdu.specs.View.{response_content};
 ghost use Rattle.fw_server.specs.Meaning.{meaning_of};
 ghost use Rattle.fw_server.specs.View.{planned_meaning, operation_meaning};
-ghost use Rattle.fw_cli.specs.Trace.{Says, SaysCarried, SaysAsk, SaysAnswer, IsBrief, NamesCampaign};
+ghost use Rattle.fw_cli.specs.Trace.{Says, SaysCarried, SaysAsk, SaysAnswer, IsBrief, NamesImage};
 
 use fw_apdu::{ApduError, GetDataResult, Response, read_request, read_response};
 use fw_axdr::Data;
@@ -18,6 +18,13 @@ use fw_world::{Datagram, Direction};
 use fw_wrapper::split;
 use std::alloc::{AllocError, Global};
 
+/// What the name of an image tells: its campaign, and its release, which is 0 where it has none.
+#[derive(Clone, Copy, Debug)]
+pub(crate) struct Title {
+    pub(crate) campaign: CampaignId,
+    pub(crate) release: u32,
+}
+
 /// What a datagram says, in short.
 #[derive(Clone, Copy, Debug)]
 pub(crate) enum Saying {
@@ -25,8 +32,8 @@ pub(crate) enum Saying {
     Get(Reading),
     /// A SET of image_transfer_enabled.
     Enable(bool),
-    /// An image_transfer_initiate: the campaign in the name of the image, and its size in bytes.
-    Initiate { campaign: CampaignId, size: u32 },
+    /// An image_transfer_initiate: what the name of the image tells, and its size in bytes.
+    Initiate { title: Title, size: u32 },
     /// One of an image whose identifier is no name, with its size.
     InitiateUnnamed(u32),
     /// An image_block_transfer: the number of the block, and how many bytes it has.
@@ -56,8 +63,8 @@ pub(crate) enum Brief {
     Status(u8),
     /// How many bits there are.
     Bits(usize),
-    /// The campaign in the name of an image.
-    Campaign(CampaignId),
+    /// What the name of an image tells.
+    Name(Title),
     /// So many bytes that are no name.
     Octets(usize),
     /// How many images image_to_activate_info tells of.
@@ -107,8 +114,8 @@ fn operation_of(operation: Operation<'_>, size: usize) -> Saying
 {
     match operation {
         Operation::Enable(enabled) => Saying::Enable(enabled),
-        Operation::Initiate { identifier, size } => match campaign_in(identifier) {
-            Some(campaign) => Saying::Initiate { campaign, size },
+        Operation::Initiate { identifier, size } => match title_in(identifier) {
+            Some(title) => Saying::Initiate { title, size },
             None => Saying::InitiateUnnamed(size),
         },
         Operation::Block { number, value } => Saying::Block {
@@ -120,12 +127,15 @@ fn operation_of(operation: Operation<'_>, size: usize) -> Saying
     }
 }
 
-/// The campaign in the name that the bytes spell, if they spell one.
-fn campaign_in(bytes: &[u8]) -> Option<CampaignId>
-    ensures { NamesCampaign bytes.now result }
+/// What the name tells that the bytes spell, if they spell one.
+fn title_in(bytes: &[u8]) -> Option<Title>
+    ensures { NamesImage bytes.now result }
 {
     match ImageName::from_bytes(bytes) {
-        Some(name) => Some(name.campaign),
+        Some(name) => Some(Title {
+            campaign: name.campaign,
+            release: name.release,
+        }),
         None => None,
     }
 }
@@ -190,8 +200,8 @@ fn brief_of(value: &Data) -> Brief
 fn octets_brief(bytes: &[u8]) -> Brief
     ensures { IsBrief (octet_string bytes.now) result }
 {
-    match campaign_in(bytes) {
-        Some(campaign) => Brief::Campaign(campaign),
+    match title_in(bytes) {
+        Some(title) => Brief::Name(title),
         None => Brief::Octets(bytes.len()),
     }
 }

@@ -10,14 +10,14 @@ ghost use Rattle.fw_cli.specs.Trace.{
   number_of,
   saying_words,
   brief_words,
-  campaign_words,
+  release_words,
+  title_words,
   attribute_name,
 };
 ghost use Rattle.fw_cli.specs.declared.saying.Saying.{Saying};
 
 use crate::report::head_number;
-use crate::saying::{Brief, Saying, saying_of};
-use fw_names::CampaignId;
+use crate::saying::{Brief, Saying, Title, saying_of};
 use fw_server::Reading;
 use fw_world::{Actor, Datagram};
 use std::alloc::{AllocError, Global};
@@ -105,7 +105,7 @@ fn append_saying(text: &mut String, saying: Saying) -> Result<(), AllocError>
         Saying::Get(attribute) => append_attribute(text, attribute),
         Saying::Enable(true) => text.push_str("enable"),
         Saying::Enable(false) => text.push_str("disable"),
-        Saying::Initiate { campaign, size } => append_initiate(text, campaign, size),
+        Saying::Initiate { title, size } => append_initiate(text, title, size),
         Saying::InitiateUnnamed(size) => write!(text, "initiate ? ({size} bytes)"),
         Saying::Block { number, size } => write!(text, "block {number} ({size} bytes)"),
         Saying::Verify => text.push_str("verify"),
@@ -144,20 +144,31 @@ fn attribute_name(attribute: Reading) -> &'static str
 }
 
 /// Appends which image is initiated.
-fn append_initiate(text: &mut String, campaign: CampaignId, size: u32) -> Result<(), AllocError>
-    ensures { OnOk result (string_bytes text.new ≡ string_bytes text.old ++ saying_words (Saying.Initiate campaign size)) }
+fn append_initiate(text: &mut String, title: Title, size: u32) -> Result<(), AllocError>
+    ensures { OnOk result (string_bytes text.new ≡ string_bytes text.old ++ saying_words (Saying.Initiate title size)) }
 {
     text.push_str("initiate ")?;
-    append_campaign(text, campaign)?;
+    append_title(text, title)?;
     write!(text, " ({size} bytes)")
 }
 
-/// Appends the numbers of a campaign.
-fn append_campaign(text: &mut String, campaign: CampaignId) -> Result<(), AllocError>
-    ensures { OnOk result (string_bytes text.new ≡ string_bytes text.old ++ campaign_words campaign) }
+/// Appends the numbers of a campaign, and the release, if there is one.
+fn append_title(text: &mut String, title: Title) -> Result<(), AllocError>
+    ensures { OnOk result (string_bytes text.new ≡ string_bytes text.old ++ title_words title) }
 {
-    let (head, serial) = (head_number(campaign), campaign.serial());
-    write!(text, "campaign {head} {serial}")
+    let (head, serial) = (head_number(title.campaign), title.campaign.serial());
+    write!(text, "campaign {head} {serial}")?;
+    append_release(text, title.release)
+}
+
+/// Appends a release, and nothing for 0, which is none.
+fn append_release(text: &mut String, release: u32) -> Result<(), AllocError>
+    ensures { OnOk result (string_bytes text.new ≡ string_bytes text.old ++ release_words release) }
+{
+    if release == 0 {
+        return Ok(());
+    }
+    write!(text, " release {release}")
 }
 
 /// Appends the answer to a GET.
@@ -178,7 +189,7 @@ fn append_brief(text: &mut String, brief: Brief) -> Result<(), AllocError>
         Brief::Flag(false) => text.push_str("false"),
         Brief::Status(status) => write!(text, "status {status}"),
         Brief::Bits(count) => write!(text, "bits {count}"),
-        Brief::Campaign(campaign) => append_campaign(text, campaign),
+        Brief::Name(title) => append_title(text, title),
         Brief::Octets(size) => write!(text, "? ({size} bytes)"),
         Brief::Images(count) => write!(text, "images {count}"),
         Brief::Other => text.push_str("?"),

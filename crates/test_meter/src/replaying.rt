@@ -2,7 +2,7 @@
 //! head end's and the meter's documents.
 
 use crate::answering::{BrokenReader, EndlessReader, FullWriter};
-use fw_cli::{Ended, ReplayOptions, Rounds, run_replay};
+use fw_cli::{Ended, ReplayOptions, ReportForm, Rounds, Style, run_replay};
 use std::alloc::{AllocError, Global};
 use std::io::Read;
 use std::test::Fail;
@@ -14,6 +14,12 @@ pub(crate) type Given = Option<(u32, &'static str)>;
 /// No rounds.
 pub(crate) const ALONE: Given = None;
 
+/// The report in lines, without a trace.
+const LINES: Style = Style {
+    trace: false,
+    report: ReportForm::Lines,
+};
+
 /// The options with these rounds.
 pub(crate) fn options(given: Option<(u32, &str)>) -> ReplayOptions<'_> {
     ReplayOptions {
@@ -21,7 +27,7 @@ pub(crate) fn options(given: Option<(u32, &str)>) -> ReplayOptions<'_> {
             Some((rounds, fates)) => Some(Rounds { rounds, fates }),
             None => None,
         },
-        trace: false,
+        style: LINES,
     }
 }
 
@@ -390,7 +396,10 @@ impl Case for Traced {
         let script = joined(alloc, self.0)?;
         let options = ReplayOptions {
             rounds: None,
-            trace: true,
+            style: Style {
+                trace: true,
+                report: ReportForm::Lines,
+            },
         };
         replayed(alloc, &mut script.as_bytes(), &options)
     }
@@ -409,7 +418,7 @@ const TRACES: &[(Traced, &str)] = &[
         ]),
         TRACE,
     ),
-    // a name is told by its campaign, whatever its release
+    // the names of an image with a release
     (
         Traced(&[
             SETUP,
@@ -419,7 +428,7 @@ const TRACES: &[(Traced, &str)] = &[
             UP_TO_ACTIVATE,
             UP_TO_DONE,
         ]),
-        TRACE,
+        TRACE_5,
     ),
     (
         Traced(&[SETUP]),
@@ -464,9 +473,117 @@ meter 1 status 6 active 7 1 size 3
 activations 1
 ";
 
+const TRACE_5: &str = "\
+0 head 7 -> meter 1  get block size
+1 meter 1 -> head 7  get 2
+2 head 7 -> meter 1  enable
+3 meter 1 -> head 7  set 0
+4 head 7 -> meter 1  initiate campaign 7 1 release 5 (3 bytes)
+5 meter 1 -> head 7  action 0
+6 head 7 -> meter 1  block 0 (2 bytes)
+7 head 7 -> meter 1  block 1 (1 bytes)
+8 meter 1 -> head 7  action 0
+9 meter 1 -> head 7  action 0
+10 head 7 -> meter 1  get first not transferred block
+11 meter 1 -> head 7  get 2
+12 head 7 -> meter 1  verify
+13 meter 1 -> head 7  action 0
+14 head 7 -> meter 1  get image to activate
+15 meter 1 -> head 7  get images 1
+16 head 7 -> meter 1  activate
+17 meter 1 -> head 7  action 0
+18 head 7 -> meter 1  get active firmware identifier
+19 meter 1 -> head 7  get campaign 7 1 release 5
+row 7 1 1 done
+meter 1 status 6 active 7 1 size 3
+activations 1
+";
+
 #[test]
 fn traces(rt: HostRuntime) -> Result<(), Fail> {
     each(rt.alloc(), TRACES)
+}
+
+/// A script in parts, whose report is told in this form.
+struct Formed(&'static [&'static str], ReportForm);
+
+impl Case for Formed {
+    fn told(&self, alloc: Global) -> Result<String, Fail> {
+        let script = joined(alloc, self.0)?;
+        let options = ReplayOptions {
+            rounds: None,
+            style: Style {
+                trace: false,
+                report: self.1,
+            },
+        };
+        replayed(alloc, &mut script.as_bytes(), &options)
+    }
+}
+
+/// A campaign with a release, and an event that is refused.
+const FORMS: &[(Formed, &str)] = &[
+    (
+        Formed(
+            &[
+                SETUP,
+                OPEN_5,
+                UP_TO_BLOCKS,
+                UP_TO_VERIFY,
+                UP_TO_ACTIVATE,
+                UP_TO_DONE,
+            ],
+            ReportForm::Table,
+        ),
+        "\
+head end    campaign    meter       state
+7           1           1           done
+
+meter       status                   head end    campaign    release     bytes
+1           activation successful    7           1           5           3
+
+images activated: 1
+",
+    ),
+    (
+        Formed(
+            &[
+                SETUP,
+                OPEN_5,
+                UP_TO_BLOCKS,
+                UP_TO_VERIFY,
+                UP_TO_ACTIVATE,
+                UP_TO_DONE,
+            ],
+            ReportForm::Json,
+        ),
+        "{\"activations\":1,\"meters\":[{\"active\":{\"campaign\":1,\"head\":7,\"release\":5,\"size\":3},\"meter\":1,\"status\":6}],\
+         \"refused\":null,\"rows\":[{\"campaign\":1,\"head\":7,\"meter\":1,\"state\":\"done\"}]}\n",
+    ),
+    (
+        Formed(&[SETUP, OPEN, "tick 7 1\ndeliver 0 2\n"], ReportForm::Table),
+        "\
+head end    campaign    meter       state
+7           1           1           live
+
+meter       status                   head end    campaign    release     bytes
+1           not initiated            0           0           0           1
+
+images activated: 0
+event 3 refused: NoSuchDatagram
+status 1",
+    ),
+    (
+        Formed(&[SETUP, OPEN, "tick 7 1\ndeliver 0 2\n"], ReportForm::Json),
+        "{\"activations\":0,\"meters\":[{\"active\":{\"campaign\":0,\"head\":0,\"release\":0,\"size\":1},\"meter\":1,\"status\":0}],\
+         \"refused\":{\"cause\":\"NoSuchDatagram\",\"event\":3},\
+         \"rows\":[{\"campaign\":1,\"head\":7,\"meter\":1,\"state\":\"live\"}]}\nstatus 1",
+    ),
+];
+
+#[test]
+fn forms_of_reports(rt: HostRuntime) -> Result<(), Fail> {
+    each(rt.alloc(), FORMS)
 }
 
 /// Stops behind so many calls of the store: in a block that is written again, and in verify.

@@ -2,8 +2,11 @@
 
 use super::{STATUSES, option};
 use clap::{Arg, ArgAction, ArgMatches, Command};
-use fw_cli::{ReplayOptions, Rounds};
+use fw_cli::{ReplayOptions, ReportForm, Rounds, Style};
 use std::alloc::{AllocError, Global};
+
+/// The forms of a report.
+const FORMS: &[&str] = &["lines", "table", "json"];
 
 /// What the long help begins with.
 const ABOUT: &str = "\
@@ -60,10 +63,20 @@ where AT is the number of the event, from 0 on. All input is read before anythin
   NoSuchCampaign  a `cancel` names a campaign that wasn't opened
   NotLive         it names a campaign of which no row is live
 
+With --report table the same stands in two tables with headings, for people, which have the release of
+the image that a meter runs besides. With --report json it is one object on one line:
+
+  {\"activations\":N,\"meters\":[..],\"refused\":null,\"rows\":[..]}
+
+Of `rows` each is {\"campaign\":S,\"head\":H,\"meter\":M,\"state\":\"done\"}, of `meters` each
+{\"active\":{\"campaign\":S,\"head\":H,\"release\":R,\"size\":N},\"meter\":M,\"status\":X}, and `refused` is
+{\"cause\":\"NAME\",\"event\":AT} where an event is refused.
+
 With --trace a line for each datagram that was sent stands before the report: its number, who sent it to
 whom, and what it says. A head end says `get ATTRIBUTE`, `enable`, `initiate campaign H S (N bytes)`,
 `block K (N bytes)`, `verify` or `activate`. A meter says `get VALUE`, in short, or `get code C`, `set C`
-or `action C`. `? (N bytes)` is what can't be read.
+or `action C`. `? (N bytes)` is what can't be read. Where a name has a release, ` release R` stands after
+`campaign H S`.
 
   0 head 7 -> meter 1  get block size
   1 meter 1 -> head 7  get 2
@@ -123,6 +136,12 @@ pub(super) fn command<'a>(alloc: Global) -> Result<Command<'a>, AllocError> {
                 .long("trace")
                 .action(ArgAction::SetTrue)
                 .help("Tells each datagram that was sent before the report, in a line"),
+        )?
+        .arg(
+            option(alloc, "report", "FORM")
+                .default_value("lines")
+                .help("The form of the report")
+                .value_parser(FORMS),
         )
 }
 
@@ -133,6 +152,19 @@ pub(super) fn options<'a>(given: &ArgMatches<'a>) -> Option<ReplayOptions<'a>> {
         (None, None) => None,
         _ => return None,
     };
-    let trace = given.get_flag("trace");
-    Some(ReplayOptions { rounds, trace })
+    let style = Style {
+        trace: given.get_flag("trace"),
+        report: form(given.get_str("report")?)?,
+    };
+    Some(ReplayOptions { rounds, style })
+}
+
+/// The form of this name.
+fn form(name: &str) -> Option<ReportForm> {
+    match name {
+        "lines" => Some(ReportForm::Lines),
+        "table" => Some(ReportForm::Table),
+        "json" => Some(ReportForm::Json),
+        _ => None,
+    }
 }
