@@ -160,7 +160,7 @@ fn left_text(alloc: Global, told: &str, device: &MemoryDevice) -> Result<String,
 fn judge_cuts(alloc: Global, disk: &Disk) -> Result<(), Fail> {
     for byte in [0, 1, 2, 255] {
         for size in [0, 1, 4, 43, 85] {
-            let left = disk.cut(alloc, &fates(alloc, disk.changes().len(), size, byte)?)?;
+            let left = disk.cut(alloc, &same_fates(alloc, disk.changes().len(), size, byte)?)?;
             let told = read_text(alloc, &left)?;
             if told.as_str() != "one|" && told.as_str() != "one|two|three|" {
                 return Err(Fail::from(told));
@@ -170,7 +170,7 @@ fn judge_cuts(alloc: Global, disk: &Disk) -> Result<(), Fail> {
     Ok(())
 }
 
-fn fates(alloc: Global, changes: usize, size: usize, byte: u8) -> Result<Vec<Vec<u8>>, Fail> {
+fn same_fates(alloc: Global, changes: usize, size: usize, byte: u8) -> Result<Vec<Vec<u8>>, Fail> {
     let mut fates = Vec::new(alloc);
     for _ in 0..changes {
         let mut fate = Vec::new(alloc);
