@@ -1,4 +1,5 @@
 pub mod Described
+pub mod DigitLemmas
 pub mod Digits
 pub mod FateLetters
 pub mod Floatless

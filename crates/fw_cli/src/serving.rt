@@ -10,7 +10,7 @@ ghost use Rattle.fw_cli.specs.Faults.{ComesBeforeInput, ComesBeforeOutput, IsOfA
 ghost use Rattle.fw_cli.specs.Answering.{WritesSession};
 
 use crate::fault::Fault;
-use crate::hexadecimal::put_bytes;
+use crate::hexadecimal::{put_bytes, put_digits};
 use crate::input::read_input;
 use crate::lines::first_line;
 use crate::reads::Reads;
@@ -111,10 +111,8 @@ fn append_digits(text: &mut Vec<u8>, bytes: &[u8]) -> Result<(), AllocError>
         return Err(AllocError);
     };
     text.resize(end + 1, b'\n')?;
-    match hex::encode_to_slice(bytes, &mut text[start..end]) {
-        Ok(()) => Ok(()),
-        Err(_) => unreachable!(),
-    }
+    put_digits(bytes, &mut text[start..end]);
+    Ok(())
 }
 
 /// Where the digits of so many bytes end that begin here, if a line feed has room there.

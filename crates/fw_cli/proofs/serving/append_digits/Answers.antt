@@ -46,8 +46,8 @@ pub returns : goal.returns
 returns c =
     let room = c.in_ok-resize.ensures in
     let seen = c.deref_mut.ensures in
-    let spelled = c.in-Ok.ensures.written in
-    let size : length c.encode_to_slice.new.output ≡ 2 * length c.args.bytes.now = ap length spelled ∙ length-encode_with lower_digits c.args.bytes.now in
-    written c.args.text.now.items c.resize.new.self.items c.deref_mut.result.now c.encode_to_slice.new.output c.len-start.result _ (length c.args.bytes.now) c.in-Some.end _ c.len-start.ensures
+    let spelled = c.put_digits.ensures in
+    let size : length c.put_digits.new.digits ≡ 2 * length c.args.bytes.now = ap length spelled ∙ length-encode_with lower_digits c.args.bytes.now in
+    written c.args.text.now.items c.resize.new.self.items c.deref_mut.result.now c.put_digits.new.digits c.len-start.result _ (length c.args.bytes.now) c.in-Some.end _ c.len-start.ensures
     seen.value room.items (seen.len ∙ room.len) c.in-Some.ensures.0 size room.len
     ∙ rw spelled refl
