@@ -1,6 +1,6 @@
 //! Stores in files of the operating system.
 
-ghost use Rattle.std.specs.Prelude.{◌≡◌, IfOk, IfErr, OnOk, IsErrOf};
+ghost use Rattle.std.specs.Prelude.{◌≡◌, ◌+◌, ◌<◌, ◌^◌, length, IfOk, IfErr, OnOk, IsErrOf};
 ghost use Rattle.fw_store.specs.Refusals.{IsCreateRefusal, IsReopenRefusal};
 ghost use Rattle.fw_store.specs.Setup.{IsCapacity, IsSetup};
 
@@ -61,7 +61,9 @@ impl FileDevice {
     }
 
     /// Cuts a file to this length, or adds zeros up to it, where it has another.
-    fn fit(&mut self, len: u64) -> Result<(), DeviceFault> {
+    fn fit(&mut self, len: u64) -> Result<(), DeviceFault>
+        ensures { OnOk result (self.new.size ≡ len) }
+    {
         if self.size != len {
             self.set_len(len)?;
         }
@@ -120,6 +122,7 @@ impl DeviceStore<FileDevice> {
     }
 }
 
+// Of a file nothing is known, so each clause of a device holds of these. What is kept of its length is known.
 impl ByteDevice for FileDevice {
     ghost use Rattle.std.specs.Prelude.{false, []};
 
@@ -136,7 +139,9 @@ impl ByteDevice for FileDevice {
         Ok(metadata.len())
     }
 
-    fn set_len(&mut self, len: u64) -> Result<(), DeviceFault> {
+    fn set_len(&mut self, len: u64) -> Result<(), DeviceFault>
+        ensures sized { OnOk result (self.new.size ≡ len) }
+    {
         self.file.set_len(len).map_err(refused)?;
         self.size = len;
         Ok(())
@@ -164,7 +169,9 @@ impl ByteDevice for FileDevice {
         bytes: &[u8],
         last_at: u64,
         last: &[u8],
-    ) -> Result<(), DeviceFault> {
+    ) -> Result<(), DeviceFault>
+        ensures sized { last_at + length last.now < 2 ^ 64 → OnOk result (self.new.size ≡ last_at + length last.now) }
+    {
         self.file.sync_data().map_err(refused)?;
         let size = self.size;
         self.fit(last_at.saturating_add(last.len() as u64))?;

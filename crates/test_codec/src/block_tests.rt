@@ -359,6 +359,25 @@ impl Case for AllMarked {
     }
 }
 
+/// The marks with these numbers: the bytes of two pages, from this one on.
+struct TwoPages(&'static [u32], usize);
+
+impl Case for TwoPages {
+    fn told(&self, alloc: Global) -> Result<String, Fail> {
+        let mut bytes = [0xff; 16];
+        if self.1 <= 254 {
+            marks_of(self.0).put_bytes(self.1, &mut bytes);
+        }
+        Ok(nonzero(alloc, &bytes)?)
+    }
+}
+
+const TWO_PAGES: &[(TwoPages, &str)] = &[
+    (TwoPages(&[0, 63, 64, 128], 0), " 0:80 7:01 8:80"),
+    (TwoPages(&[0, 63, 64, 191, 192], 1), " 0:80 15:01"),
+    (TwoPages(&[16255, 16256, 16383], 254), " 0:80 15:01"),
+];
+
 /// The marks with these numbers below a count: the first that is missing, and the bits that are shown.
 struct Below(&'static [u32], u32);
 
@@ -504,6 +523,7 @@ fn blocks_and_sets(rt: HostRuntime) -> Result<(), Fail> {
 fn marks_and_windows(rt: HostRuntime) -> Result<(), Fail> {
     each(rt.alloc(), MARKED)?;
     each(rt.alloc(), &[(AllMarked(17), "(16384, true, false) true")])?;
+    each(rt.alloc(), TWO_PAGES)?;
     each(rt.alloc(), BELOW)?;
     each(rt.alloc(), PAGED_BELOW)?;
     each(rt.alloc(), RESIZED)?;

@@ -1,7 +1,7 @@
 //! The datagrams round requests: ports, invoke bytes, confirmation, and what brings no request.
 
 use crate::apdus::*;
-use crate::wire::{Exchange, Part, session, sessions};
+use crate::wire::{Exchange, Part, asking, session, sessions};
 use std::test::Fail;
 
 /// Datagrams to a meter, and what it replies.
@@ -131,6 +131,15 @@ fn datagrams_served_dropped_and_silent(rt: HostRuntime) -> Result<(), Fail> {
     session(rt.alloc(), DROPS)?;
     session(rt.alloc(), SILENT)?;
     session(rt.alloc(), &[Part::Says(OTHER_FORMS)])
+}
+
+/// What is replied to asks for a response, and what has no reply asks for none.
+#[test]
+fn what_asks_for_a_response(rt: HostRuntime) -> Result<(), Fail> {
+    asking(rt.alloc(), SERVED)?;
+    asking(rt.alloc(), DROPPED)?;
+    asking(rt.alloc(), UNCONFIRMED)?;
+    asking(rt.alloc(), OTHER_FORMS)
 }
 
 /// A GET of the active firmware identifier, and its reply.

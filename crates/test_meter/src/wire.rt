@@ -2,7 +2,7 @@
 
 use crate::apdus::DONE;
 use fw_image::MeterView;
-use fw_meter::MeterCore;
+use fw_meter::{MeterCore, asks_for_response};
 use fw_names::ImageName;
 use fw_store::{Goal, MemoryStore};
 use std::alloc::{AllocError, Global};
@@ -81,6 +81,21 @@ pub(crate) fn old_session_with(
 ) -> Result<(), Fail> {
     let store = MemoryStore::new_old(alloc, capacity, block_size, b"abc")?;
     played_by(alloc, kept(store)?, parts)?;
+    Ok(())
+}
+
+/// Just those requests that are replied to ask for a response.
+pub(crate) fn asking(alloc: Global, exchanges: &[Exchange]) -> Result<(), Fail> {
+    for exchange in exchanges {
+        let request = hex::decode(alloc, datagram(alloc, exchange.0)?.as_str())?;
+        let asks = if asks_for_response(alloc, &request)? {
+            "asks"
+        } else {
+            "-"
+        };
+        let want = if exchange.1 == "-" { "-" } else { "asks" };
+        expect_at(alloc, exchange.0, asks, want)?;
+    }
     Ok(())
 }
 
