@@ -6,6 +6,7 @@ ghost use Rattle.std.specs.Process.{exit_status};
 ghost use Rattle.clap.specs.Values.{kind_of};
 ghost use Rattle.dlmsfw.specs.Status.{EndsParse, EndsWith};
 
+mod cause;
 mod options;
 mod streams;
 
@@ -90,7 +91,7 @@ fn words<R: AllocGlobal + Env>(rt: &R) -> Result<Vec<String>, Ending> {
 }
 
 /// Prints why the program ends, and gives its status. Where standard error can't be written, the status alone tells.
-fn report(rt: &(impl Print + Eprint), ending: Ending) -> ExitCode
+fn report(rt: &(impl Print + Eprint + Net), ending: Ending) -> ExitCode
     ensures { EndsWith ending (exit_status result) }
 {
     match ending {
@@ -105,7 +106,7 @@ fn report(rt: &(impl Print + Eprint), ending: Ending) -> ExitCode
 }
 
 /// Prints what the parser of the command line ended with: the help, the version or what is wrong.
-fn report_parse(rt: &(impl Print + Eprint), error: clap::Error) -> ExitCode
+fn report_parse(rt: &(impl Print + Eprint + Net), error: clap::Error) -> ExitCode
     ensures { EndsParse (kind_of error) (exit_status result) }
 {
     match error.kind() {
@@ -121,10 +122,13 @@ fn report_parse(rt: &(impl Print + Eprint), error: clap::Error) -> ExitCode
     }
 }
 
-/// Prints the fault's name, and gives its status.
-fn fail(rt: &impl Eprint, fault: Fault) -> ExitCode
+/// Prints the fault's name, and its cause on a second line where there is more to say, and gives its status.
+fn fail(rt: &(impl Eprint + Net), fault: Fault) -> ExitCode
     ensures { exit_status result ≡ 1 }
 {
     let _ = eprintln!(rt; "dlmsfw: {fault}");
+    if let Some(cause) = cause::of(rt, fault) {
+        let _ = eprintln!(rt; "{cause}");
+    }
     ExitCode::from(FAULT)
 }

@@ -44,8 +44,8 @@ Exit status:
        BadLine L      line L, counted from 1, is none of a script; `replay --help` has the causes
        BadSetup       no world can be made of the setup; `replay --help` has the causes
        Event          an event of the script was refused; `replay` prints which, and why
-       Socket         no socket can be bound on 127.0.0.1, as where a process may not have two open
-                      files for each link (`ulimit -n`)
+       Socket         no socket can be bound on 127.0.0.1, or not two for each link, as where a process
+                      may have fewer open files (`ulimit -n`); a second line says which
        Mismatch       what the workers left isn't what their record says: an error of the program
        ThreadRefused  a thread can't be started, as where this user has too many of them
        Output         standard output can't be written, as on a full disk
