@@ -227,12 +227,25 @@ impl Book {
         ensures refused { IfErr result (λ e. cancel_refusal self.old campaign ≡ Some e) }
         ensures kept { OnErr result (self.new ≡ self.old) }
     {
+        self.check_cancel(campaign)?;
+        if let Some(offer) = self.campaigns.get_mut(&campaign.serial()) {
+            offer.cancel();
+        }
+        Ok(())
+    }
+
+    /// What a cancelling is refused for.
+    ///
+    /// # Errors
+    ///
+    /// Those of `cancel`, the first that applies.
+    pub fn check_cancel(&self, campaign: CampaignId) -> Result<(), BookError>
+        ensures admitted { OnOk result (cancel_refusal self.now campaign ≡ None) }
+        ensures refused { IfErr result (λ e. cancel_refusal self.now campaign ≡ Some e) }
+    {
         let offer = self.offer(campaign).ok_or(BookError::NoSuchCampaign)?;
         if !offer.has_live() {
             return Err(BookError::NotLive);
-        }
-        if let Some(offer) = self.campaigns.get_mut(&campaign.serial()) {
-            offer.cancel();
         }
         Ok(())
     }
@@ -250,6 +263,21 @@ impl Book {
         ensures refused { IfErr result (DoneRefused self.old campaign claim) }
         ensures kept { OnErr result (self.new ≡ self.old) }
     {
+        self.check_done(campaign, claim)?;
+        self.mark(campaign, claim.meter(), RowState::Done);
+        Ok(())
+    }
+
+    /// What marking the row of a claim's meter as done is refused for.
+    ///
+    /// # Errors
+    ///
+    /// Those of `mark_done`, the first that applies.
+    pub fn check_done(&self, campaign: CampaignId, claim: ActiveClaim) -> Result<(), BookError>
+        ensures claimed { OnOk result (Confirms self.now campaign claim) }
+        ensures confirmed { Confirms self.now campaign claim → IsOk result }
+        ensures refused { IfErr result (DoneRefused self.now campaign claim) }
+    {
         let meter = claim.meter();
         if self.state(campaign, meter).is_none() {
             return Err(BookError::NoSuchCampaign);
@@ -257,7 +285,7 @@ impl Book {
         if self.name(campaign) != Some(claim.name()) {
             return Err(BookError::WrongCampaign);
         }
-        self.mark(campaign, meter, RowState::Done)
+        self.check_mark(campaign, meter)
     }
 
     /// Marks the row of a meter as failed.
@@ -271,21 +299,35 @@ impl Book {
         ensures refused { IfErr result (λ e. mark_refusal self.old campaign meter ≡ Some e) }
         ensures kept { OnErr result (self.new ≡ self.old) }
     {
-        self.mark(campaign, meter, RowState::Failed)
+        self.end(campaign, meter, RowState::Failed)
     }
 
     /// Gives the row of a meter, which is live, the state in which it ends.
-    fn mark(
+    pub(crate) fn end(
         &mut self,
         campaign: CampaignId,
         meter: MeterId,
         state: RowState,
     ) -> Result<(), BookError>
         requires { is_live state ≡ false }
-        ensures marked { OnOk result (self.new ≡ marked self.old campaign.serial meter state) }
+        ensures ended { OnOk result (self.new ≡ marked self.old campaign.serial meter state) }
         ensures admitted { OnOk result (mark_refusal self.old campaign meter ≡ None) }
         ensures refused { IfErr result (λ e. mark_refusal self.old campaign meter ≡ Some e) }
         ensures kept { OnErr result (self.new ≡ self.old) }
+    {
+        self.check_mark(campaign, meter)?;
+        self.mark(campaign, meter, state);
+        Ok(())
+    }
+
+    /// What marking the row of a meter as failed is refused for.
+    ///
+    /// # Errors
+    ///
+    /// Those of `mark_failed`, the first that applies.
+    pub fn check_mark(&self, campaign: CampaignId, meter: MeterId) -> Result<(), BookError>
+        ensures admitted { OnOk result (mark_refusal self.now campaign meter ≡ None) }
+        ensures refused { IfErr result (λ e. mark_refusal self.now campaign meter ≡ Some e) }
     {
         let now = self
             .state(campaign, meter)
@@ -293,10 +335,17 @@ impl Book {
         if !now.is_live() {
             return Err(BookError::NotLive);
         }
+        Ok(())
+    }
+
+    /// Gives the row of a meter, where there is one, the state in which it ends.
+    fn mark(&mut self, campaign: CampaignId, meter: MeterId, state: RowState)
+        requires { is_live state ≡ false }
+        ensures { self.new ≡ marked self.old campaign.serial meter state }
+    {
         if let Some(offer) = self.campaigns.get_mut(&campaign.serial()) {
             offer.mark(meter, state);
         }
-        Ok(())
     }
 
     /// The bytes of the book, version 2: it has one spelling. Memory is taken for every book.

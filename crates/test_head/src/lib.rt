@@ -1,4 +1,4 @@
-//! Tests of a client of a meter, of the book of campaigns and of the head end, through their public calls. Expected bytes are worked
+//! Tests of a client of a meter, of the book of campaigns and its records, and of the head end, through their public calls. Expected bytes are worked
 //! out by hand from the standards and the formats, and SHA-256 values are the published ones or those of `sha256sum`.
 #![tactic(auto)]
 
@@ -22,6 +22,8 @@ mod openings;
 mod outstanding;
 #[cfg(test)]
 mod parts;
+#[cfg(test)]
+mod records;
 #[cfg(test)]
 mod returns;
 #[cfg(test)]

@@ -36,8 +36,8 @@ invariant_of-self c =
     let e = changes c in
     subst (λ (b : Contents). IsBook b) (sym (same_contents _ _ _ _ e.0 e.1)) (IsBook-changed book c.serial.result (with_state c.args.meter c.args.state) (Keeps-with_state c.args.meter c.args.state c.requires) c.self.invariant)
 
-pub returns-clause-marked : goal.returns-clause-marked
-returns-clause-marked c =
+pub returns : goal.returns
+returns c =
     let e = changes c in
     same_contents _ _ _ _ e.0 (e.1 ∙ ap (λ (s : ℕ). at_serial s (with_state c.args.meter c.args.state) c.self.inside.campaigns.entries) c.serial.ensures)
     ∙ ap (λ (b : Contents). marked b c.args.campaign.serial c.args.meter c.args.state) c.self.view_is

@@ -1,0 +1,46 @@
+use Rattle.std.proofs.Common.{rules, ◌≡◌, ⊎_elim, ℕ, List, [], ◌∷◌, ◌++◌, length, refl, sym, ap, subst, ◌∙◌, arith, append_assoc, length-append}
+use Rattle.std.proofs.lemmas.List.{append-nil}
+use Rattle.fw_book.specs.Changes.{empty_book}
+use Rattle.fw_ledger.specs.Replay.{IsBookOf, FailsAt, records_of}
+use Rattle.fw_ledger.proofs.Books.{all_push, book_unique, failed_none, first_of, none_of}
+use Rattle.fw_ledger.proofs.replay.read_records.Goals as goal
+
+pub loop-bytes-preserved : goal.loop-bytes-preserved
+loop-bytes-preserved c =
+    let i = c.loop-bytes.invariant in
+    let bytes = c.as_slice.result.now in
+    let others = records_of c.in-Some.others.now in
+    let same : bytes ≡ c.in-Some.bytes.now.items = search rules in
+    let next = first_of c.loop-bytes.rest.now c.in-Some.others.now c.in-Some.bytes.now bytes c.in-Some.ensures.cases.0 same in
+    record {
+      front = i.front ++ bytes ∷ [];
+      split = i.split ∙ ap (λ (l : List (List ℕ)). i.front ++ l) next ∙ sym (append_assoc i.front (bytes ∷ []) others);
+      count = omega (arith, i.count, c.in-Some.ensures.cases.1, length-append i.front (bytes ∷ []));
+      is_book = all_push i.front bytes (empty_book c.args.head) c.loop-bytes.book c.add.new.book i.is_book c.in-Ok.ensures.made;
+    }
+
+pub returns-in-Err-clause-only : goal.returns-in-Err-clause-only
+returns-in-Err-clause-only c = λ book is.
+    let i = c.loop-bytes.invariant in
+    let bytes = c.as_slice.result.now in
+    let same : bytes ≡ c.in-Some.bytes.now.items = search rules in
+    let next = first_of c.loop-bytes.rest.now c.in-Some.others.now c.in-Some.bytes.now bytes c.in-Some.ensures.cases.0 same in
+    ⊎_elim (λ out. out.1)
+    (λ bad.
+    let fails : FailsAt c.args.head (records_of c.args.records.now) (length i.front) bytes = record {
+      front = i.front;
+      rest = records_of c.in-Some.others.now;
+      split = i.split ∙ ap (λ (l : List (List ℕ)). i.front ++ l) next;
+      index_is = refl;
+      book = c.loop-bytes.book;
+      is_book = i.is_book;
+      nothing = c.in-Err.ensures.refused bad.0;
+    } in
+    absurd (failed_none c.args.head (records_of c.args.records.now) (length i.front) bytes book fails is)) c.replay_error.ensures
+
+pub returns-clause-only : goal.returns-clause-only
+returns-clause-only c = λ book is.
+    let i = c.loop-bytes.invariant in
+    let none = none_of c.loop-bytes.rest.now c.in_default.ensures.cases in
+    let all : records_of c.args.records.now ≡ i.front = i.split ∙ ap (λ (l : List (List ℕ)). i.front ++ l) none ∙ append-nil i.front in
+    c.into_book.ensures ∙ book_unique c.args.head i.front c.loop-bytes.book book i.is_book (subst (λ (l : List (List ℕ)). IsBookOf c.args.head l book) all is)

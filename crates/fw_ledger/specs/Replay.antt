@@ -1,0 +1,69 @@
+-- Public vocabulary: the book of a list of records. It is that which fw_book's own operations make of a book without campaigns, one record
+-- after the other.
+use Rattle.std.specs.Prelude.{◌≡◌, ℕ, ◌≤◌, List, [], ◌∷◌, ◌++◌, length, Some, None, Vec}
+use Rattle.std.specs.declared.alloc.Global.{Global}
+use Rattle.fw_names.specs.Name.{Campaign}
+use Rattle.fw_book.specs.declared.row.RowState.{RowState}
+use Rattle.fw_book.specs.declared.row.RowState.TheVariants as row
+use Rattle.fw_book.specs.Contents.{Contents, image_in}
+use Rattle.fw_book.specs.Changes.{empty_book, opened, marked, cancelled, opening_refusal, mark_refusal, cancel_refusal}
+use Rattle.fw_ledger.specs.declared.record.Ending.{Ending}
+use Rattle.fw_ledger.specs.declared.record.Ending.TheVariants as ending
+use Rattle.fw_ledger.specs.Entry.{Source, whole, earlier, Entry, opening, mark, cancelling, Spells}
+
+-- the state in which a row ends
+abbrev pub state_of : Ending → RowState
+state_of ending.Done = row.Done
+state_of ending.Failed = row.Failed
+
+-- the image of an opening: that in the record, or the one that the earlier campaign offers in this book
+abbrev pub IsImage : Contents → Source → List ℕ → Type 0
+IsImage book (whole bytes) image = image ≡ bytes
+IsImage book (earlier serial) image = (1 ≤ serial) × (image_in book (record { head = book.head; serial = serial }) ≡ Some image)
+
+-- a book takes the campaign, and has it then
+pub record MakesOpened (book : Contents) (campaign : Campaign) (release : ℕ) (source : Source) (meters : List ℕ) (next : Contents) : Type 0 where
+  pub image : List ℕ
+  pub is_image : IsImage book source image
+  pub admitted : opening_refusal book campaign image meters ≡ None
+  pub next_is : next ≡ opened book campaign.serial release image meters
+
+-- what a record makes of a book
+abbrev pub Makes : Entry → Contents → Contents → Type 0
+Makes (opening campaign release source meters) book next = MakesOpened book campaign release source meters next
+Makes (mark campaign meter e) book next = (mark_refusal book campaign meter ≡ None) × (next ≡ marked book campaign.serial meter (state_of e))
+Makes (cancelling campaign) book next = (cancel_refusal book campaign ≡ None) × (next ≡ cancelled book campaign.serial)
+
+-- the record that these bytes spell makes this of a book
+pub record Adds (bytes : List ℕ) (book next : Contents) : Type 0 where
+  pub entry : Entry
+  pub spells : Spells bytes entry
+  pub makes : Makes entry book next
+
+-- what these records make of a book, one after the other
+abbrev pub AddsAll : List (List ℕ) → Contents → Contents → Type 0
+AddsAll [] book next = next ≡ book
+AddsAll (bytes ∷ records) book next = (between : Contents) × Adds bytes book between × AddsAll records between next
+
+-- the book of a head end that has these records
+abbrev pub IsBookOf : ℕ → List (List ℕ) → Contents → Type 0
+IsBookOf head records book = AddsAll records (empty_book head) book
+
+-- the bytes make nothing of this book: they spell no record, or it refuses what the record tells
+abbrev pub AddsNothing : List ℕ → Contents → Type 0
+AddsNothing bytes book = (next : Contents) → ¬ Adds bytes book next
+
+-- the records before this one have a book, of which it makes nothing
+pub record FailsAt (head : ℕ) (records : List (List ℕ)) (index : ℕ) (bytes : List ℕ) : Type 0 where
+  pub front : List (List ℕ)
+  pub rest : List (List ℕ)
+  pub split : records ≡ front ++ bytes ∷ rest
+  pub index_is : index ≡ length front
+  pub book : Contents
+  pub is_book : IsBookOf head front book
+  pub nothing : AddsNothing bytes book
+
+-- what the vectors hold
+abbrev pub records_of : List (Vec ℕ Global) → List (List ℕ)
+records_of [] = []
+records_of (v ∷ vs) = v.items ∷ records_of vs

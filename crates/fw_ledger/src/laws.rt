@@ -1,0 +1,23 @@
+//! Laws of records and of their book, over the definitions alone.
+
+ghost use Rattle.fw_ledger.specs.Laws.{OneRecord, OneBook, FailedHaveNone, FrontsHaveBooks};
+
+/// A byte string spells at most one record.
+pub fn one_record()
+    ensures { OneRecord }
+{}
+
+/// Records have at most one book.
+pub fn one_book()
+    ensures { OneBook }
+{}
+
+/// Records of which one makes nothing of the book before it have none.
+pub fn failed_have_none()
+    ensures { FailedHaveNone }
+{}
+
+/// The first ones of records that have a book have one too: that of an earlier moment.
+pub fn fronts_have_books()
+    ensures { FrontsHaveBooks }
+{}
