@@ -19,5 +19,6 @@ pub mod PutBack
 mod NewRows
 mod Cancelling
 mod Openings
+mod Reopened
 mod DoneIn
 mod HasRow

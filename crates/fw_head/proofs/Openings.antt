@@ -24,7 +24,7 @@ use Rattle.fw_head.proofs.NewRows.{flipped}
 
 -- ---- entries behind others
 
-found_before : {X : Type 0} (k : ℕ) (es fs : List (ℕ × X)) (x : X) → lookup (nat_eq k) es ≡ Some x → lookup (nat_eq k) (es ++ fs) ≡ Some x
+pub found_before : {X : Type 0} (k : ℕ) (es fs : List (ℕ × X)) (x : X) → lookup (nat_eq k) es ≡ Some x → lookup (nat_eq k) (es ++ fs) ≡ Some x
 found_before k [] fs x found = absurd (none_some x found)
   where
     none_some : {X : Type 0} (x : X) → (let o : Option X = None in o ≡ Some x) → ⊥
@@ -47,13 +47,13 @@ none_first true x o e = absurd (some_none x e)
     some_none x e = cc
 none_first false x o e = (refl, e)
 
-found_behind : {X : Type 0} (k : ℕ) (es fs : List (ℕ × X)) → lookup (nat_eq k) es ≡ None → lookup (nat_eq k) (es ++ fs) ≡ lookup (nat_eq k) fs
+pub found_behind : {X : Type 0} (k : ℕ) (es fs : List (ℕ × X)) → lookup (nat_eq k) es ≡ None → lookup (nat_eq k) (es ++ fs) ≡ lookup (nat_eq k) fs
 found_behind k [] fs none = refl
 found_behind k (entry ∷ entries) fs none =
     let parts = none_first (nat_eq k entry.0) entry.1 (lookup (nat_eq k) entries) none in
     cond-false (nat_eq k entry.0) (Some entry.1) (lookup (nat_eq k) (entries ++ fs)) parts.0 ∙ found_behind k entries fs parts.1
 
-either : {X : Type 0} (o : Option X) → (o ≡ None) ⊎ ((x : X) × (o ≡ Some x))
+pub either : {X : Type 0} (o : Option X) → (o ≡ None) ⊎ ((x : X) × (o ≡ Some x))
 either None = inl refl
 either (Some x) = inr (x, refl)
 
@@ -61,7 +61,7 @@ is_none : {X : Type 0} (o : Option X) → is_some o ≡ false → o ≡ None
 is_none None h = refl
 is_none (Some x) h = absurd (false≢true (sym h))
 
-none_row : (row : Row) → (let o : Option Row = None in o ≡ Some row) → ⊥
+pub none_row : (row : Row) → (let o : Option Row = None in o ≡ Some row) → ⊥
 none_row row e = cc
 
 none_state : (s : RowState) → (let o : Option RowState = None in o ≡ Some s) → ⊥
@@ -69,11 +69,11 @@ none_state s e = cc
 
 -- ---- the rows of the new campaign
 
-abbrev among : List ℕ → ℕ → Bool
+abbrev pub among : List ℕ → ℕ → Bool
 among meters m = list_any (λ other. other == m) meters
 
 -- a new row that is found is that of the meter
-new_found : (name : Name) (size : ℕ) (meters : List ℕ) (m : ℕ) (row : Row) → row_of (new_rows name size meters) m ≡ Some row → (row ≡ new_row m name size) × (among meters m ≡ true)
+pub new_found : (name : Name) (size : ℕ) (meters : List ℕ) (m : ℕ) (row : Row) → row_of (new_rows name size meters) m ≡ Some row → (row ≡ new_row m name size) × (among meters m ≡ true)
 new_found name size [] m row found = absurd (none_row row found)
 new_found name size (meter ∷ meters) m row found =
     let new : Row = new_row meter name size in
@@ -88,7 +88,7 @@ new_found name size (meter ∷ meters) m row found =
     (cases_Bool (nat_eq m meter))
 
 -- and each of the meters has one
-new_there : (name : Name) (size : ℕ) (meters : List ℕ) (m : ℕ) → among meters m ≡ true → row_of (new_rows name size meters) m ≡ Some (new_row m name size)
+pub new_there : (name : Name) (size : ℕ) (meters : List ℕ) (m : ℕ) → among meters m ≡ true → row_of (new_rows name size meters) m ≡ Some (new_row m name size)
 new_there name size [] m there = absurd (false≢true there)
 new_there name size (meter ∷ meters) m there =
     let new : Row = new_row meter name size in
@@ -177,13 +177,13 @@ one_of P (meter ∷ meters) m all there =
 
 -- ---- no meter has two rows then
 
-all_among : (meter : ℕ) (meters : List ℕ) → among meters meter ≡ false → AllByRecursion (λ m. nat_eq meter m ≡ false) meters
+pub all_among : (meter : ℕ) (meters : List ℕ) → among meters meter ≡ false → AllByRecursion (λ m. nat_eq meter m ≡ false) meters
 all_among meter [] none = tt
 all_among meter (other ∷ others) none =
     let parts = or_parts (other == meter) (among others meter) none in
     (flipped other meter parts.0, all_among meter others parts.1)
 
-distinct_meters : (meters : List ℕ) → repeats meters ≡ false → IsDistinct nat_eq meters
+pub distinct_meters : (meters : List ℕ) → repeats meters ≡ false → IsDistinct nat_eq meters
 unfolding IsDistinct
 distinct_meters [] once = tt
 distinct_meters (meter ∷ meters) once =
@@ -194,11 +194,11 @@ all_map : (P Q : ℕ → Type 0) (ms : List ℕ) → ((m : ℕ) → P m → Q m)
 all_map P Q [] f h = tt
 all_map P Q (m ∷ ms) f h = (f m h.0, all_map P Q ms f h.1)
 
-all_append : (P : ℕ → Type 0) (xs ys : List ℕ) → AllByRecursion P xs → AllByRecursion P ys → AllByRecursion P (xs ++ ys)
+pub all_append : (P : ℕ → Type 0) (xs ys : List ℕ) → AllByRecursion P xs → AllByRecursion P ys → AllByRecursion P (xs ++ ys)
 all_append P [] ys h k = k
 all_append P (x ∷ xs) ys h k = (h.0, all_append P xs ys h.1 k)
 
-once_behind : (rows : Rows) (meters : List ℕ) → IsDistinct nat_eq (keys_of rows) → IsDistinct nat_eq meters → AllByRecursion (λ m. row_of rows m ≡ None) meters → IsDistinct nat_eq (keys_of rows ++ meters)
+pub once_behind : (rows : Rows) (meters : List ℕ) → IsDistinct nat_eq (keys_of rows) → IsDistinct nat_eq meters → AllByRecursion (λ m. row_of rows m ≡ None) meters → IsDistinct nat_eq (keys_of rows ++ meters)
 once_behind [] meters once apart none = apart
 once_behind (entry ∷ entries) meters once apart none =
     let N : ℕ → Type 0 = λ m. row_of (entry ∷ entries) m ≡ None in
@@ -212,7 +212,7 @@ pub all_once : (book : Contents) (width : ℕ) (rows : Rows) (campaign : Campaig
 all_once book width rows campaign image meters is o =
     once_behind rows meters is.once (distinct_meters meters o.meters_once) (all_free book width rows meters is o.meters_free)
 
-keys_new : (name : Name) (size : ℕ) (meters : List ℕ) → keys_of (new_rows name size meters) ≡ meters
+pub keys_new : (name : Name) (size : ℕ) (meters : List ℕ) → keys_of (new_rows name size meters) ≡ meters
 keys_new name size [] = refl
 keys_new name size (meter ∷ meters) = ap (λ (ms : List ℕ). (let all : List ℕ = meter ∷ ms in all)) (keys_new name size meters)
 

@@ -1,12 +1,13 @@
 -- Public vocabulary: a head end, its book and the live rows, and what each call makes of it.
-use Rattle.std.specs.Prelude.{◌≡◌, ℕ, ◌==◌, nat_eq, not, ◌⊎◌, List, [], ◌∷◌, ◌++◌, map, filter, length, Option, Some, None, unwrap_or, if◌then◌else◌}
-use Rattle.std.specs.List.{IsDistinct}
+use Rattle.std.specs.Prelude.{◌≡◌, ℕ, Bool, ◌==◌, nat_eq, not, ◌⊎◌, List, [], ◌∷◌, ◌++◌, map, filter, length, Option, Some, None, unwrap_or, if◌then◌else◌}
+use Rattle.std.specs.List.{IsDistinct, list_any}
 use Rattle.std.specs.Map.{lookup, keys_of}
 use Rattle.std.specs.Option.{option_map, option_map_or}
 use Rattle.fw_names.specs.Name.{Name, Campaign, IsRelease, name_of}
 use Rattle.fw_client.specs.Claim.{Claim}
 use Rattle.fw_client.specs.Hearing.{IsClaimed}
 use Rattle.fw_book.specs.declared.row.RowState.TheVariants as state
+use Rattle.fw_book.specs.Rows.{has_live}
 use Rattle.fw_book.specs.Contents.{Contents, Offered, offered_in, image_in, name_in, state_in}
 use Rattle.fw_book.specs.Changes.{empty_book, opened, cancelled, marked}
 use Rattle.fw_head.specs.declared.news.News.{News}
@@ -160,6 +161,17 @@ pub record AreRowsOf (book : Contents) (rows : Rows) : Type 0 where
 
 abbrev pub IsHead : Head → Type 0
 IsHead head = AreRowsOf head.book head.rows
+
+-- A head end begins with this book: each meter that is live in the book has a new row, and no other meter has one.
+pub record BeginsWith (book : Contents) (width : ℕ) (head : Head) : Type 0 where
+  pub book_is : head.book ≡ book
+  pub width_is : head.width ≡ width
+  pub live : AreRowsOf book head.rows
+  pub new : renewed head.rows ≡ head.rows
+
+-- whether a campaign of the book has a row that is live
+abbrev pub has_live_row : Contents → Bool
+has_live_row book = list_any (λ (entry : ℕ × Offered). has_live entry.1.rows) book.campaigns
 
 -- ---- what a head end may send: of an image that its book offers, under its name with the release that it is offered with
 

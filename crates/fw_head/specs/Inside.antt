@@ -1,9 +1,9 @@
 -- For private clauses, and for the models of the head end's types.
-use Rattle.std.specs.Prelude.{◌≡◌, ℕ, ◌+◌, ◌%◌, ◌<◌, ◌≤◌, ◌==◌, Bool, false, not, ◌||◌, List, [], ◌∷◌, length, Option, IsSome}
+use Rattle.std.specs.Prelude.{◌≡◌, ℕ, ◌+◌, ◌%◌, ◌<◌, ◌≤◌, ◌==◌, Bool, false, not, ◌||◌, List, [], ◌∷◌, ◌++◌, length, Option, IsSome, if◌then◌else◌}
 use Rattle.std.specs.List.{list_any, list_all}
 use Rattle.std.specs.Option.{option_map_or}
 use Rattle.std.specs.FinMap.{get}
-use Rattle.fw_names.specs.Name.{Name}
+use Rattle.fw_names.specs.Name.{Name, Campaign, name_of}
 use Rattle.fw_blocks.specs.Cuts.{Partition, IsWithinLimits}
 use Rattle.fw_client.specs.Claim.{Claim}
 use Rattle.fw_client.specs.Ask.{Ask, request_of, kind_of, CarriesRequest}
@@ -16,7 +16,7 @@ use Rattle.fw_head.specs.declared.news.RowNews.{RowNews}
 use Rattle.fw_head.specs.declared.news.RowNews.TheVariants as news
 use Rattle.fw_head.specs.Phase.{count}
 use Rattle.fw_head.specs.Row.{Row, max_returns, new_row, IsClaimOf}
-use Rattle.fw_head.specs.Head.{Rows, row_of, IsRowOf}
+use Rattle.fw_head.specs.Head.{Rows, row_of, new_rows, IsRowOf}
 use Rattle.fw_book.specs.declared.row.Row as book_row
 use Rattle.fw_book.specs.Rows.{is_live}
 use Rattle.fw_book.specs.Contents.{Contents, Offered}
@@ -100,3 +100,21 @@ has_rows entries serial rows = list_all (λ (row : book_row.Row). not (is_live r
 -- and so for each campaign
 abbrev pub has_each : Rows → List (ℕ × Offered) → Bool
 has_each entries campaigns = list_all (λ (campaign : ℕ × Offered). has_rows entries campaign.0 campaign.1.rows) campaigns
+
+-- ---- the rows of a book that is opened again
+
+-- the meters that are live in these rows
+abbrev pub live_meters : List book_row.Row → List ℕ
+live_meters [] = []
+live_meters (row ∷ rows) = if is_live row.state then row.meter ∷ live_meters rows else live_meters rows
+
+-- a new row for each meter that is live in this campaign
+abbrev pub rows_in : ℕ → ℕ × Offered → Rows
+rows_in head entry =
+    let campaign : Campaign = record { head = head; serial = entry.0 } in
+    new_rows (name_of campaign entry.1.release entry.1.image) (length entry.1.image) (live_meters entry.1.rows)
+
+-- and so for each of these campaigns
+abbrev pub live_rows : ℕ → List (ℕ × Offered) → Rows
+live_rows head [] = []
+live_rows head (entry ∷ entries) = rows_in head entry ++ live_rows head entries

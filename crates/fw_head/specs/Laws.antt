@@ -14,7 +14,7 @@ use Rattle.fw_head.specs.declared.news.RowNews.{RowNews}
 use Rattle.fw_head.specs.declared.news.RowNews.TheVariants as news
 use Rattle.fw_head.specs.Phase.{phase_of}
 use Rattle.fw_head.specs.Row.{Row, RowHears}
-use Rattle.fw_head.specs.Head.{Head, IsHead, row_of}
+use Rattle.fw_head.specs.Head.{Head, IsHead, row_of, restarted, BeginsWith}
 use Rattle.fw_head.specs.Parts.{AreLiveRows, by_meter, with_ends, joined}
 
 -- a row and a datagram determine what is told, and the row afterwards
@@ -82,3 +82,9 @@ pub record MarksEnds (before after : Contents) (rows : List Row) : Type 0 where
 -- A head end that is put together marks the ends of its rows in the book, and nothing else.
 abbrev pub EndsAreMarked : Type 0
 EndsAreMarked = (book : Contents) (rows : List Row) → AreLiveRows book rows → MarksEnds book (with_ends book rows) rows
+
+-- ---- a head end that begins with a book that was kept
+
+-- It is the head end of this book and width once it has started again, the order of its live rows aside.
+abbrev pub BeginsRestarted : Type 0
+BeginsRestarted = (head begun : Head) → IsHead head → BeginsWith head.book head.width begun → IsAsBefore (restarted head) begun

@@ -1,6 +1,6 @@
 //! A head end: the book of its campaigns, and a row for each meter that is live in one of them.
 
-ghost use Rattle.std.specs.Prelude.{◌≡◌, ◌≤◌, ◌↔◌, ℕ, length, All, None, is_some, IsTrue, IsSomeAnd, IfOk, IfErr, IsOk, OnOk, OnErr};
+ghost use Rattle.std.specs.Prelude.{◌≡◌, ◌≤◌, ◌↔◌, ℕ, true, length, All, None, is_some, IsTrue, IsSomeAnd, IfOk, IfErr, IsOk, OnOk, OnErr};
 ghost use Rattle.std.specs.Map.{values_of};
 ghost use Rattle.fw_names.specs.Name.{Campaign, name_of};
 ghost use Rattle.fw_blocks.specs.Width.{IsWidth};
@@ -50,6 +50,7 @@ impl HeadCore {
     ghost use Rattle.fw_head.specs.Row.{bytes_of};
     ghost use Rattle.fw_head.specs.Parts.{AreLiveRows, PutRefused, joined};
     ghost use Rattle.fw_head.specs.Head.{IsHead, row_of, RowsMayWant, new_head, campaign_at, opened_head, cancelled_head};
+    ghost use Rattle.fw_head.specs.Head.{BeginsWith, has_live_row};
     ghost use Rattle.fw_head.specs.Head.{restarted, sends_to, ticked_head, HeadHears, IsDoneBy, IsOfferedIn};
 
     /// A head end of no campaign, that sends so many blocks at a time. It keeps the allocator, and takes no memory.
@@ -61,6 +62,20 @@ impl HeadCore {
             width,
             rows: Rows::new(alloc),
         }
+    }
+
+    /// A head end that begins with a book that was kept: each meter that is live in it has a new row, as after a restart of the head
+    /// end that had the book. It sends so many blocks at a time.
+    ///
+    /// # Errors
+    ///
+    /// `OutOfMemory` alone, and only where a campaign of the book has a live row. The book is lost.
+    pub fn of_book(alloc: Global, book: Book, width: Width) -> Result<HeadCore, OutOfMemory>
+        ensures begun { IfOk result (BeginsWith book width) }
+        ensures memory { OnErr result (has_live_row book ≡ true) }
+    {
+        let rows = Rows::live_in(alloc, &book)?;
+        Ok(HeadCore { book, width, rows })
     }
 
     /// Opens the campaign of this serial number: it offers the image to the meters under the name that is answered, which has this

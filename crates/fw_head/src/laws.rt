@@ -1,6 +1,6 @@
 //! Laws of a row and of a head end, over the definitions alone. A caller cites a law by calling it: nothing is done.
 
-ghost use Rattle.fw_head.specs.Laws.{OneRow, RowKeepsGoal, DoneByClaim, PutBack, PutBackInOrder, EndsAreMarked};
+ghost use Rattle.fw_head.specs.Laws.{OneRow, RowKeepsGoal, DoneByClaim, PutBack, PutBackInOrder, EndsAreMarked, BeginsRestarted};
 
 /// A row and a datagram determine what is told, and the row afterwards.
 pub fn one_row()
@@ -40,3 +40,9 @@ pub fn ends_are_marked()
     fw_book::laws::states_follow();
     fw_book::laws::images_stay();
 }
+
+/// A head end that begins with the book of another one, under the same width, is that one once it has started again, the order of its
+/// live rows aside.
+pub fn begins_restarted()
+    ensures { BeginsRestarted }
+{}

@@ -1,6 +1,6 @@
 //! The live rows of a head end.
 
-ghost use Rattle.std.specs.Prelude.{◌≡◌, ◌≤◌, ◌==◌, nat_eq, not, true, [], ◌++◌, length};
+ghost use Rattle.std.specs.Prelude.{◌≡◌, ◌≤◌, ◌==◌, nat_eq, not, true, None, [], ◌∷◌, ◌++◌, length};
 ghost use Rattle.std.specs.Prelude.{All, IsTrue, MatchBool, IsSomeAnd, IfOk, IfErr, IsOk, OnOk, OnErr};
 ghost use Rattle.std.specs.List.{IsDistinct, AllByRecursion};
 ghost use Rattle.std.specs.Map.{keys_of, values_of};
@@ -8,9 +8,12 @@ ghost use Rattle.indexmap.specs.IndexMap.{spare};
 ghost use Rattle.std.specs.Option.{option_copied, option_map_or};
 ghost use Rattle.fw_head.specs.Phase.{IsLive, has_ended};
 ghost use Rattle.fw_head.specs.Row.{Row, bytes_of, new_row, sends, ticked, IsPermitted};
-ghost use Rattle.fw_head.specs.Inside.{IsOwnNews, IsOfBook, is_row_in, has_rows, has_each};
+ghost use Rattle.fw_head.specs.Inside.{IsOwnNews, IsOfBook, is_row_in, has_rows, has_each, live_meters, live_rows};
 ghost use Rattle.fw_head.specs.Parts.{by_meter, still_live, with_ends, AreLiveRows, PutRefused};
 ghost use Rattle.fw_head.specs.Head.{row_of, at_meter, without_meter, without_serial, new_rows, renewed, RowsHear, RowsMayWant};
+ghost use Rattle.fw_head.specs.Head.{has_live_row};
+ghost use Rattle.fw_book.specs.Rows.{has_live};
+ghost use Rattle.fw_book.specs.Contents.{IsBook};
 
 use crate::error::PutError;
 use crate::matching::{are_of_book, refusal};
@@ -19,7 +22,7 @@ use crate::row::RowCore;
 use fw_blocks::Width;
 use fw_book::Book;
 use fw_client::OutOfMemory;
-use fw_names::{ImageName, MeterId};
+use fw_names::{CampaignId, ImageName, MeterId};
 use indexmap::IndexMap;
 use indexmap::map::{IntoValues, Values};
 use std::alloc::{AllocError, Global};
@@ -66,6 +69,64 @@ impl Rows {
         ensures { result ≡ values_of self.rows.entries }
     {
         self.rows.into_values()
+    }
+
+    /// A new row for each meter that is live in the book.
+    ///
+    /// # Errors
+    ///
+    /// `OutOfMemory` alone, and only where a campaign of the book has a live row.
+    pub(crate) fn live_in(alloc: Global, book: &Book) -> Result<Rows, OutOfMemory>
+        ensures is_book { IsBook book.now }
+        ensures rows { IfOk result (λ live. live.rows.entries ≡ live_rows book.now.head book.now.campaigns) }
+        ensures memory { OnErr result (has_live_row book.now ≡ true) }
+    {
+        let head = book.head();
+        let mut live = Rows::new(alloc);
+        for (serial, offer) in book.rows() {
+            let Some(campaign) = CampaignId::new(head, *serial) else {
+                unreachable!();
+            };
+            let name = offer.name(campaign);
+            let size = offer.image().len() as u32;
+            live.add_live(name, size, offer.rows())?;
+        }
+        Ok(live)
+    }
+
+    /// A new row for each meter that is live in these rows, and has none.
+    ///
+    /// # Errors
+    ///
+    /// `OutOfMemory` alone, and only where one of the rows is live.
+    fn add_live(
+        &mut self,
+        name: ImageName,
+        size: u32,
+        rows: &[fw_book::Row],
+    ) -> Result<(), OutOfMemory>
+        requires once { IsDistinct nat_eq (keys_of self.old.rows.entries ++ live_meters rows.now) }
+        ensures added { OnOk result (self.new.rows.entries ≡ self.old.rows.entries ++ new_rows name size (live_meters rows.now)) }
+        ensures memory { OnErr result (has_live rows.now ≡ true) }
+    {
+        for row in rows {
+            if !row.state.is_live() {
+                continue;
+            }
+            self.add_row(RowCore::new(row.meter, name, size))?;
+        }
+        Ok(())
+    }
+
+    /// Adds the row of a meter that has none.
+    fn add_row(&mut self, row: RowCore) -> Result<(), OutOfMemory>
+        requires none { row_of self.old.rows.entries row.client.meter ≡ None }
+        ensures { OnOk result (self.new.rows.entries ≡ self.old.rows.entries ++ (row.client.meter, row) ∷ []) }
+    {
+        match self.rows.insert(row.meter().number(), row) {
+            Ok(_) => Ok(()),
+            Err(_) => Err(OutOfMemory),
+        }
     }
 
     /// Rows that are the live ones of the book.

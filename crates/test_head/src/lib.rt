@@ -7,6 +7,8 @@ mod answers;
 #[cfg(test)]
 mod asks;
 #[cfg(test)]
+mod begun;
+#[cfg(test)]
 mod book;
 #[cfg(test)]
 mod books;

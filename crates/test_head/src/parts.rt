@@ -97,7 +97,7 @@ impl Case for Confirm {
 }
 
 /// The head end with no campaign.
-fn fresh(alloc: Global) -> Result<Kept<HeadCore>, Fail> {
+pub(crate) fn fresh(alloc: Global) -> Result<Kept<HeadCore>, Fail> {
     let number = HeadId::new(7).ok_or("a head end's number begins at 1")?;
     let width = Width::new(4).ok_or("a width")?;
     Ok(Kept(HeadCore::new(alloc, number, width)))
@@ -117,7 +117,7 @@ fn new_row(serial: u32, number: u32, size: u32) -> Result<RowCore, Fail> {
 }
 
 /// The bytes of the book, and each live row with its phase.
-fn shown(alloc: Global, head: Kept<HeadCore>) -> Result<String, Fail> {
+pub(crate) fn shown(alloc: Global, head: Kept<HeadCore>) -> Result<String, Fail> {
     let view = head.0.view();
     let book = hex::encode(alloc, &view.book.write(alloc)?)?;
     let mut rows = Vec::new(alloc);
