@@ -19,3 +19,4 @@ mod Keeping
 mod Joined
 mod Listed
 mod Counted
+mod Missing

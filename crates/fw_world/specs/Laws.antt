@@ -1,11 +1,12 @@
 -- Public vocabulary: the laws of the world. They speak of definitions alone.
-use Rattle.std.specs.Prelude.{◌≡◌, ℕ, List, [], ◌∷◌, ◌++◌, length, is_some}
+use Rattle.std.specs.Prelude.{◌≡◌, ℕ, Bool, not, ◌&&◌, ◌⊎◌, List, [], ◌∷◌, ◌++◌, length, Some, slice_get, is_some}
 use Rattle.fw_names.specs.Name.{Campaign}
-use Rattle.fw_world.specs.World.{World}
+use Rattle.fw_world.specs.declared.datagram.Direction.TheVariants.{ToHead}
+use Rattle.fw_world.specs.World.{Datagram, World}
 use Rattle.fw_world.specs.declared.setup.Setup.{Setup}
 use Rattle.fw_world.specs.Setup.{IsSetup, opening_state}
 use Rattle.fw_world.specs.State.{State, head_at, meter_at, AreAddressed, IsState, StateStep, StateRun, world_of}
-use Rattle.fw_world.specs.Step.{Event, IsOpening, WorldStep, Run}
+use Rattle.fw_world.specs.Step.{Event, deliver, IsOpening, WorldStep, Run}
 use Rattle.fw_world.specs.Done.{AreDoneRows, done_rows}
 use Rattle.fw_world.specs.Headline.{FirstNames, IsFactoryName, IsSound, InitiatesAreOffered, NamesAreOwn, GoalsAreOffered, ActivationsAreSafe, ReleasesNeverFall}
 
@@ -54,3 +55,27 @@ abbrev pub DoneRowsAreCounted : Type 0
 DoneRowsAreCounted =
     (setup : Setup) (events : List Event) (s : State) → IsSetup setup → StateRun (opening_state setup) events s
     → (rows : List (Campaign × ℕ)) × AreDoneRows (world_of s) rows × (done_rows setup s ≡ length rows)
+
+-- ---- marks that are missing, as where a head end's book was kept without the last of them
+
+-- a delivery of a datagram to a head end: it marks a meter done, or does nothing
+abbrev pub IsToHead : List Datagram → Event → Type 0
+IsToHead sent (deliver number) = (d : Datagram) × (slice_get sent number ≡ Some d) × (d.direction ≡ ToHead)
+IsToHead sent event = ⊥
+
+-- these events without some deliveries to head ends
+abbrev pub AreLess : List Datagram → List Event → List Event → Type 0
+AreLess sent [] less = less ≡ []
+AreLess sent (event ∷ events) less =
+    ((rest : List Event) × (less ≡ event ∷ rest) × AreLess sent events rest) ⊎ (IsToHead sent event × AreLess sent events less)
+
+-- the same world, but for these marks
+pub record LacksMarks (missing : Campaign → ℕ → Bool) (w less : World) : Type 0 where
+  pub same : less ≡ record w { done = less.done }
+  pub done : (campaign : Campaign) (meter : ℕ) → less.done campaign meter ≡ (w.done campaign meter && not (missing campaign meter))
+
+-- whichever marks are taken out of a run, there is a run to the world without them: the deliveries that made them are taken out
+abbrev pub MarksMayBeMissing : Type 0
+MarksMayBeMissing =
+    (opening w : World) (events : List Event) (missing : Campaign → ℕ → Bool) → IsOpening opening → Run opening events w
+    → (kept : List Event) × AreLess w.sent events kept × (less : World) × Run opening kept less × LacksMarks missing w less

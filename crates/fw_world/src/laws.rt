@@ -10,6 +10,7 @@ ghost use Rattle.fw_world.specs.Laws.{
   SentStaysAddressed,
   RunGoesOn,
   DoneRowsAreCounted,
+  MarksMayBeMissing,
 };
 ghost use Rattle.fw_world.specs.Headline.{
   IsFactoryName,
@@ -92,3 +93,9 @@ pub fn done_rows_are_counted()
 {
     fw_book::laws::admitted_opens();
 }
+
+/// Whichever marks of done meters are taken out of the world that a run leads to, there is a run to the world without them: it lacks the
+/// deliveries that made them. So what holds after each run holds where a head end starts again with a book that lacks its last marks.
+pub fn marks_may_be_missing()
+    ensures { MarksMayBeMissing }
+{}
