@@ -1,11 +1,14 @@
 -- The asks at the places of a list are a map from their places.
-use Rattle.std.proofs.Common.{◌≡◌, ℕ, zero, suc, ◌+◌, ◌<◌, ◌≤◌, ◌==◌, Bool, true, false, cond, List, [], ◌∷◌, length, slice_set, get_or, Some, None, Option, refl, sym, ap, ◌∙◌, arith, zero-add}
+use Rattle.std.proofs.Common.{◌≡◌, ℕ, zero, suc, ◌+◌, ◌<◌, ◌≤◌, ◌==◌, Bool, true, false, cond, List, [], ◌∷◌, length, slice_set, get_or, Some, None, Option, is_some, IsSome, MatchBool, refl, sym, ap, subst, ◌∙◌, arith, zero-add}
 use Rattle.std.proofs.lemmas.Bool.Decides.{nat_tests}
 use Rattle.std.proofs.lemmas.Grind.{common_steps}
+use Rattle.std.specs.List.{list_any}
+use Rattle.std.proofs.lemmas.Bool.{false≢true}
 use Rattle.std.specs.Ordering.{nat_cmp, eq_by_cmp}
 use Rattle.std.specs.Cmp.{nat_cmp_total}
 use Rattle.std.specs.FinMap.{insert, remove, get, get-insert, get-remove, get-empty, same_map, nat_cmp-IsAntisymmetric}
 use Rattle.fw_client.specs.declared.ask.Asked.{Asked}
+use Rattle.fw_client.specs.State.{Asks}
 use Rattle.fw_client.specs.Inside.{asks_from}
 
 nat_tie : (k n : ℕ) → eq_by_cmp nat_cmp k n ≡ (k == n)
@@ -72,3 +75,23 @@ asks_out os i h =
     get_asks (slice_set os i None) q ∙ set_at os i q None h
     ∙ sym (get-remove nat_cmp_total (asks_from 0 os) i q
     ∙ (λ x. cond (nat_tie q i x) None (get_asks os q x))))
+
+-- ---- whether any place has an ask
+
+some_there : (os : List (Option Asked)) → list_any (λ o. is_some o) os ≡ true → (q : ℕ) × IsSome (get_or os q None)
+some_there [] h = absurd (false≢true h)
+some_there (Some a ∷ os) h = (0, refl)
+some_there (None ∷ os) h = let later = some_there os h in (suc later.0, later.1)
+
+none_there : (os : List (Option Asked)) → list_any (λ o. is_some o) os ≡ false → (q : ℕ) → get_or os q None ≡ None
+none_there [] h q = refl
+none_there (Some a ∷ os) h q = absurd (false≢true (sym h))
+none_there (None ∷ os) h zero = refl
+none_there (None ∷ os) h (suc q) = none_there os h q
+
+pub any_asks : (r : Bool) (os : List (Option Asked)) (asks : Asks) → r ≡ list_any (λ o. is_some o) os → asks_from 0 os ≡ asks → MatchBool r ((q : ℕ) × IsSome (get asks q)) ((q : ℕ) → get asks q ≡ None)
+any_asks true os asks e is =
+    let found = some_there os (sym e) in
+    let P : Option Asked → Type 0 = λ o. IsSome o in
+    (found.0, subst P (sym (ap (λ (a : Asks). get a found.0) (sym is) ∙ get_asks os found.0)) found.1)
+any_asks false os asks e is = λ q. ap (λ (a : Asks). get a q) (sym is) ∙ get_asks os q ∙ none_there os (sym e) q

@@ -1,7 +1,7 @@
 -- Public vocabulary: what a client is, and what an ask, an answer and forgetting change of it.
-use Rattle.std.specs.Prelude.{ℕ, ◌+◌, ◌%◌}
+use Rattle.std.specs.Prelude.{ℕ, ◌+◌, ◌%◌, IsSome}
 use Rattle.std.specs.Ordering.{nat_cmp}
-use Rattle.std.specs.FinMap.{FinMap, empty, insert, remove}
+use Rattle.std.specs.FinMap.{FinMap, empty, get, insert, remove}
 use Rattle.fw_client.specs.declared.ask.Asked.{Asked}
 
 -- the asks that no answer came to yet, by their invoke-ids
@@ -33,3 +33,7 @@ without c id = record { meter = c.meter; next = c.next; asks = remove c.asks id 
 -- the client once its asks are forgotten: the next id stays
 abbrev pub forgetting : State → State
 forgetting c = record { meter = c.meter; next = c.next; asks = empty }
+
+-- an ask is outstanding
+abbrev pub IsWaiting : State → Type 0
+IsWaiting c = (id : ℕ) × IsSome (get c.asks id)

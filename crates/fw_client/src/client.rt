@@ -1,13 +1,13 @@
 //! A client of one meter.
 
-ghost use Rattle.std.specs.Prelude.{◌≡◌, ◌↔◌, ◌<◌, IsSome, IfSome, IfOk, OnErr};
+ghost use Rattle.std.specs.Prelude.{◌≡◌, ◌↔◌, ◌<◌, IsSome, IfSome, IfOk, OnErr, MatchBool};
 ghost use Rattle.std.specs.FinMap.{get};
 ghost use Rattle.fw_apdu.specs.Request.{request_bytes};
 ghost use Rattle.fw_apdu.specs.View.{response_content, response_invoke};
 ghost use Rattle.fw_wrapper.specs.Wrapper.{wrapped};
 ghost use Rattle.fw_client.specs.Claim.{Claim};
 ghost use Rattle.fw_client.specs.Ask.{request_of, kind_of, Fits, CarriesRequest};
-ghost use Rattle.fw_client.specs.State.{fresh, asking, forgetting, invoke_byte};
+ghost use Rattle.fw_client.specs.State.{fresh, asking, forgetting, invoke_byte, IsWaiting};
 ghost use Rattle.fw_client.specs.Hearing.{Answers, Hears, IsClaimed, MayCarryData};
 ghost use Rattle.fw_client.specs.View.{ask_of};
 ghost use Rattle.fw_client.specs.Inside.{Finds, AnsweredBy};
@@ -79,6 +79,13 @@ impl Client {
             next: self.next,
             outstanding: self.outstanding.duplicate(),
         }
+    }
+
+    /// Whether an ask is outstanding: no answer to it came yet, and it was not forgotten.
+    pub fn is_waiting(&self) -> bool
+        ensures { MatchBool result (IsWaiting self.now) (¬ IsWaiting self.now) }
+    {
+        self.outstanding.has_any()
     }
 
     /// Asks under the next invoke-id, which rises by one modulo 16, and gives the datagram to send, which goes from and to wPort 1

@@ -1,6 +1,7 @@
 //! The asks that no answer came to yet.
 
-ghost use Rattle.std.specs.Prelude.{◌≡◌, ◌<◌, IfSome};
+ghost use Rattle.std.specs.Prelude.{◌≡◌, ◌<◌, ℕ, None, is_some, IsSome, IfSome, MatchBool, Option};
+ghost use Rattle.std.specs.List.{list_any};
 ghost use Rattle.std.specs.FinMap.{empty, get, insert, remove};
 
 use crate::ask::Asked;
@@ -64,6 +65,13 @@ impl Outstanding {
         }
     }
 
+    /// Whether anything is outstanding.
+    pub(crate) fn has_any(&self) -> bool
+        ensures { MatchBool result ((id : ℕ) × IsSome (get self.now id)) ((id : ℕ) → get self.now id ≡ None) }
+    {
+        is_any_asked(&self.places)
+    }
+
     /// The ask is outstanding at this id, in place of any other.
     #[tactic(auto, using(crate::proofs::Places::asks_put))]
     pub(crate) fn put(&mut self, id: u8, asked: Asked)
@@ -81,4 +89,11 @@ impl Outstanding {
     {
         self.places[usize::from(id)] = None;
     }
+}
+
+/// Whether there is an ask at any of the places.
+fn is_any_asked(places: &[Option<Asked>]) -> bool
+    ensures { result ≡ list_any (λ (place : Option Asked). is_some place) places.now }
+{
+    places.iter().any(|place| place.is_some())
 }

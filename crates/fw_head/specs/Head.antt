@@ -5,6 +5,7 @@ use Rattle.std.specs.Map.{lookup, keys_of}
 use Rattle.std.specs.Option.{option_map, option_map_or}
 use Rattle.fw_names.specs.Name.{Name, Campaign, IsRelease, name_of}
 use Rattle.fw_client.specs.Claim.{Claim}
+use Rattle.fw_client.specs.State.{IsWaiting}
 use Rattle.fw_client.specs.Hearing.{IsClaimed}
 use Rattle.fw_book.specs.declared.row.RowState.TheVariants as state
 use Rattle.fw_book.specs.Rows.{has_live}
@@ -63,6 +64,10 @@ RowsHear old meter datagram told new =
 -- the meter has a live row, which may want memory for the datagram
 abbrev pub RowsMayWant : Rows → ℕ → List ℕ → Type 0
 RowsMayWant rows meter datagram = (row : Row) × (row_of rows meter ≡ Some row) × RowMayWant row datagram
+
+-- the meter has a live row of which an ask is outstanding
+abbrev pub HasOutstanding : Head → ℕ → Type 0
+HasOutstanding head meter = (row : Row) × (row_of head.rows meter ≡ Some row) × IsWaiting row.client
 
 -- ---- what each call makes of a head end
 

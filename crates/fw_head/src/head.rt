@@ -1,6 +1,6 @@
 //! A head end: the book of its campaigns, and a row for each meter that is live in one of them.
 
-ghost use Rattle.std.specs.Prelude.{◌≡◌, ◌≤◌, ◌↔◌, ℕ, true, length, All, None, is_some, IsTrue, IsSomeAnd, IfOk, IfErr, IsOk, OnOk, OnErr};
+ghost use Rattle.std.specs.Prelude.{◌≡◌, ◌≤◌, ◌↔◌, ℕ, true, length, All, None, is_some, MatchBool, IsTrue, IsSomeAnd, IfOk, IfErr, IsOk, OnOk, OnErr};
 ghost use Rattle.std.specs.Map.{values_of};
 ghost use Rattle.fw_names.specs.Name.{Campaign, name_of};
 ghost use Rattle.fw_blocks.specs.Width.{IsWidth};
@@ -50,7 +50,7 @@ impl HeadCore {
     ghost use Rattle.fw_head.specs.Row.{bytes_of};
     ghost use Rattle.fw_head.specs.Parts.{AreLiveRows, PutRefused, joined};
     ghost use Rattle.fw_head.specs.Head.{IsHead, row_of, RowsMayWant, new_head, campaign_at, opened_head, cancelled_head};
-    ghost use Rattle.fw_head.specs.Head.{BeginsWith, has_live_row};
+    ghost use Rattle.fw_head.specs.Head.{BeginsWith, has_live_row, HasOutstanding};
     ghost use Rattle.fw_head.specs.Head.{restarted, sends_to, ticked_head, HeadHears, IsDoneBy, IsOfferedIn};
 
     /// A head end of no campaign, that sends so many blocks at a time. It keeps the allocator, and takes no memory.
@@ -205,6 +205,16 @@ impl HeadCore {
         ensures live { IsTrue result → IsSomeAnd (row_of self.now.rows meter) (λ row. IsLive row.stage) }
     {
         self.rows.get(meter).is_some()
+    }
+
+    /// Whether a meter has a live row of which an ask is outstanding.
+    pub fn is_waiting(&self, meter: MeterId) -> bool
+        ensures { MatchBool result (HasOutstanding self.now meter) (¬ HasOutstanding self.now meter) }
+    {
+        match self.rows.get(meter) {
+            Some(row) => row.is_waiting(),
+            None => false,
+        }
     }
 
     /// Makes the datagrams that are sent to a meter now: none where it has no live row.

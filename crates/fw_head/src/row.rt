@@ -1,7 +1,8 @@
 //! One row of a campaign: a head end's work on one meter.
 
-ghost use Rattle.std.specs.Prelude.{◌≡◌, ◌<◌, ◌≤◌, All, length, IfSome, IfOk, OnOk, OnErr};
+ghost use Rattle.std.specs.Prelude.{◌≡◌, ◌<◌, ◌≤◌, All, length, IfSome, IfOk, OnOk, OnErr, MatchBool};
 ghost use Rattle.std.specs.FinMap.{empty};
+ghost use Rattle.fw_client.specs.State.{IsWaiting};
 
 use crate::answers::{Step, next_step};
 use crate::asks::{ask_blocks, ask_one};
@@ -112,6 +113,13 @@ impl RowCore {
         ensures own { IfSome result (IsClaimOf self.now.client.meter self.now.name) }
     {
         self.stage.claim()
+    }
+
+    /// Whether an ask of the row is outstanding: no answer to it came since the last tick or move.
+    pub fn is_waiting(&self) -> bool
+        ensures { MatchBool result (IsWaiting self.now.client) (¬ IsWaiting self.now.client) }
+    {
+        self.client.is_waiting()
     }
 
     /// The size of that image in bytes.

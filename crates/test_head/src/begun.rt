@@ -1,7 +1,7 @@
 //! A head end that begins with a book that was kept. It is head end 7, and sends four blocks at a time.
 
 use crate::book::{Call, after};
-use crate::head::apdus_text;
+use crate::head::{Step, apdus_text, head_session};
 use crate::parts::{fresh, shown};
 use crate::transfers::TO_CONFIRM;
 use fw_blocks::Width;
@@ -60,6 +60,31 @@ fn a_row_begins_anew(rt: HostRuntime) -> Result<(), Fail> {
     let sent = apdus_text(alloc, &begun.0.tick(alloc, meter)?)?;
     assert_eq!(rt; sent.as_str(), "c001c0001200002c0000ff0200");
     Ok(())
+}
+
+/// An ask is outstanding from the tick that makes it until its answer comes, or the head end starts again. An answer to no ask changes
+/// nothing.
+const WAITS: &[(Step, &str)] = &[
+    (Step::Waits, "false"),
+    (
+        Step::Open(1, b"abc"),
+        "010000000700000001ba7816bf8f01cfea414140de5dae2223b00361a396177a9cb410ff61f20015ad",
+    ),
+    (Step::Waits, "false"),
+    (Step::Tick, "c001c0001200002c0000ff0200"),
+    (Step::Waits, "true"),
+    (Step::Hear("c401c1000600000002"), "Nothing, Some(Size)"),
+    (Step::Waits, "true"),
+    (Step::Hear("c401c0000600000002"), "Moved, Some(Enable)"),
+    (Step::Waits, "false"),
+    (Step::Tick, "c101c1001200002c0000ff05000301"),
+    (Step::Restart, ""),
+    (Step::Waits, "false"),
+];
+
+#[test]
+fn an_ask_is_outstanding(rt: HostRuntime) -> Result<(), Fail> {
+    head_session(rt.alloc(), 4, &[WAITS])
 }
 
 fn width() -> Result<Width, Fail> {

@@ -25,6 +25,8 @@ pub(crate) enum Step {
     Cancel(u32),
     /// How often the row of meter 1 returned to `Start`.
     Returns,
+    /// Whether an ask of meter 1 is outstanding.
+    Waits,
 }
 
 impl Takes<Step> for HeadCore {
@@ -40,6 +42,7 @@ impl Takes<Step> for HeadCore {
             }
             Step::Cancel(serial) => cancel(alloc, self, serial),
             Step::Returns => returns(alloc, self),
+            Step::Waits => Ok(format!(in alloc; "{}", self.is_waiting(meter()?))?),
         }
     }
 }
