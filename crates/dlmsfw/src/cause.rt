@@ -1,6 +1,6 @@
 //! The cause of a fault that the fault's name doesn't tell.
 
-ghost use Rattle.std.specs.Prelude.{◌≡◌, ◌≢◌};
+ghost use Rattle.std.specs.Prelude.{◌≡◌, ◌≢◌, MatchBool};
 
 use fw_cli::Fault;
 use std::net::{Ipv4Addr, Net, UdpSocket};
@@ -23,15 +23,21 @@ pub(crate) fn of(net: &impl Net, fault: Fault) -> Option<Cause>
     ensures socket { fault ≡ Fault.Socket → result ≢ None }
 {
     match fault {
-        Fault::Socket => Some(socket_cause(net)),
+        Fault::Socket => {
+            let probe = UdpSocket::bind(net, (Ipv4Addr::LOCALHOST, 0));
+            Some(socket_cause(probe.is_ok()))
+        }
         _ => None,
     }
 }
 
-/// Why the sockets of a command could not be bound: whether one can be, now that there is no other.
-fn socket_cause(net: &impl Net) -> Cause {
-    match UdpSocket::bind(net, (Ipv4Addr::LOCALHOST, 0)) {
-        Ok(_socket) => Cause::TooManySockets,
-        Err(_) => Cause::NoLoopback,
+/// Why the sockets of a command could not be bound, by whether one can be, now that there is no other.
+fn socket_cause(one_is_bound: bool) -> Cause
+    ensures { MatchBool one_is_bound (result ≡ Cause.TooManySockets) (result ≡ Cause.NoLoopback) }
+{
+    if one_is_bound {
+        Cause::TooManySockets
+    } else {
+        Cause::NoLoopback
     }
 }

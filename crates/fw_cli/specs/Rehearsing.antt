@@ -20,7 +20,7 @@ use Rattle.fw_cli.specs.Script.{SpellsScript, script_of}
 abbrev pub AreWorkers : ℕ → Type 0
 AreWorkers workers = (1 ≤ workers) × (workers ≤ 8)
 
--- Workers made so many rounds behind these events, and are accounted for. The text is the report of their world, and the line of their
+-- Workers made this number of rounds after these events, and are accounted for. The text is the report of their world, and the line of their
 -- board.
 pub record TellsRehearsal (rounds workers : ℕ) (setup : Setup) (events : List Given) (text : List ℕ) : Type 0 where
   pub world : State
@@ -36,7 +36,7 @@ pub record RehearsesScript (rounds workers : ℕ) (input text : List ℕ) : Type
   pub spelled : SpellsScript input (script_of setup events)
   pub tells : TellsRehearsal rounds workers setup events text
 
--- The input is a script, and one of its events is refused, for another cause than want of memory.
+-- The input is a script, and one of its events is refused, and not because it is out of memory.
 abbrev pub IsBarredIn : List ℕ → Type 0
 IsBarredIn input =
     (setup : Setup) × (events : List Given) × (number : ℕ) × SpellsScript input (script_of setup events) × IsBarred setup events number
@@ -47,7 +47,7 @@ pub record ReadsScript (before after : Option (List ℕ)) (setup : Setup) (event
   pub read : ReadsAll before after input
   pub spelled : SpellsScript input (script_of setup events)
 
--- All input was read, and what is told of it was written.
+-- All input was read, and the report of it was written.
 pub record WritesRehearsal (rounds workers : ℕ) (before after first last : Option (List ℕ)) : Type 0 where
   pub input : List ℕ
   pub text : List ℕ

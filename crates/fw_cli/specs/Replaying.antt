@@ -27,7 +27,7 @@ use Rattle.fw_cli.specs.Forms.{report_in}
 use Rattle.fw_cli.specs.Trace.{IsTrace}
 use Rattle.fw_cli.specs.Script.{SpellsScript, BeginsScript, script_of}
 
--- ---- what is told
+-- ---- what is written
 
 -- the trace of what was sent, where it is asked for
 abbrev pub IsTraceIf : Bool → List Datagram → List ℕ → Type 0
@@ -39,7 +39,7 @@ abbrev pub TellsWorld : Style → Setup → State → Option Refusal → List �
 TellsWorld style setup world refusal text =
     (trace : List ℕ) × IsTraceIf style.trace world.sent trace × (text ≡ trace ++ report_in style.report setup world refusal)
 
--- what is told of the world there, where the cause isn't want of memory
+-- what is written of the world there, where the run isn't out of memory
 abbrev pub TellsRefusal : Style → Setup → RunError → List ℕ → Type 0
 TellsRefusal style setup (stopped.Setup error) text = ⊥
 TellsRefusal style setup (stopped.Event at world cause) text =
@@ -50,13 +50,13 @@ abbrev pub WantsMemory : RunError → Type 0
 WantsMemory (stopped.Setup error) = error ≡ unmade.OutOfMemory
 WantsMemory (stopped.Event number world cause) = cause ≡ OutOfMemory
 
--- No world is made, or an event is refused before there is a round, and not for want of memory.
+-- No world is made, or an event is refused before there is a round, and not because it is out of memory.
 pub record HasNoRound (setup : Setup) (given : List Event) : Type 0 where
   pub error : RunError
   pub stopped : IsUnscheduled setup given error
   pub other : ¬ WantsMemory error
 
--- the events that are run: those of the script, and so many rounds behind them where rounds are asked for
+-- the events that are run: those of the script, and after them the rounds that are asked for
 abbrev pub GoesOn : Option ℕ → Setup → List Event → List Event → Type 0
 GoesOn None setup given events = events ≡ given
 GoesOn (Some rounds) setup given events = Schedules setup given rounds events ⊎ ((events ≡ given) × HasNoRound setup given)
@@ -114,7 +114,7 @@ abbrev pub HasGoodFates : Option Rounds → Type 0
 HasGoodFates None = ⊥
 HasGoodFates (Some rounds) = SpellsSome rounds.fates.now
 
--- All input was read, and what is told of it was written.
+-- All input was read, and the report of it was written.
 pub record WritesRun (rounds : Option ℕ) (style : Style) (ended : Ended) (before after first last : Option (List ℕ)) : Type 0 where
   pub input : List ℕ
   pub text : List ℕ
@@ -133,7 +133,7 @@ Replays options ended before after first last = WritesRun (rounds_asked options)
 abbrev pub ReadsOne : Option (List ℕ) → Option (List ℕ) → (List ℕ → Type 0) → Type 0
 ReadsOne before after P = (input : List ℕ) × ReadsAll before after input × P input
 
--- Memory may be wanted for the input while it is read, and behind its end for what may take some.
+-- Memory may be taken for the input while it is read, and after its end for what may take some.
 abbrev pub MayWantFor : Option (List ℕ) → Option (List ℕ) → Type 0
 MayWantFor before after = Gives before after (λ count. (1 ≤ count) × (count ≤ max_input)) ⊎ ReadsOne before after MayTakeMemory
 

@@ -22,7 +22,7 @@ pub enum ReportForm {
     Json,
 }
 
-/// How a run is told.
+/// How a run is reported.
 #[derive(Clone, Copy, Debug)]
 pub struct Style {
     /// Whether a line for each datagram that was sent stands before the report.

@@ -9,7 +9,7 @@ ghost use Rattle.hex.specs.Hex.{decode_of, encode_lower, hex_digit_value, is_hex
 
 use std::alloc::{AllocError, Global};
 
-/// The bytes that hexadecimal digits spell, if the text is such digits. No memory is wanted for any other text.
+/// The bytes that hexadecimal digits spell, if the text is such digits. No memory is taken for any other text.
 pub(crate) fn bytes_of(alloc: Global, text: &[u8]) -> Result<Option<Vec<u8>>, AllocError>
     ensures bytes { IfOk result (λ r. MatchOption r (IsErr (decode_of text.now)) (λ bytes. decode_of text.now ≡ Ok bytes.items)) }
     ensures memory { OnErr result (IsOk (decode_of text.now)) }
@@ -22,7 +22,7 @@ pub(crate) fn bytes_of(alloc: Global, text: &[u8]) -> Result<Option<Vec<u8>>, Al
     }
 }
 
-/// Whether a text is hexadecimal digits. Then `out` has the bytes that they spell, in place of all that it had. No memory is wanted
+/// Whether a text is hexadecimal digits. Then `out` has the bytes that they spell, in place of all that it had. No memory is taken
 /// for any other text.
 pub(crate) fn put_bytes(out: &mut Vec<u8>, text: &[u8]) -> Result<bool, AllocError>
     ensures bytes { IfOk result (λ are. OnTrue are (decode_of text.now ≡ Ok out.new.items)) }

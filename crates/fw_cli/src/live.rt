@@ -1,4 +1,4 @@
-//! The command `live`: several workers make rounds over UDP sockets behind the events of a script, and the report of the world is told.
+//! The command `live`: several workers make rounds over UDP sockets after the events of a script, and the report of the world is written.
 
 ghost use Rattle.std.specs.Prelude.{◌≡◌, ◌≢◌, ℕ, IfOk, IfErr, OnOk, string_bytes};
 ghost use Rattle.std.specs.Io.KnownBytes.{Keeps};
@@ -25,20 +25,20 @@ use std::thread::Threads;
 /// The options of the command.
 #[derive(Clone, Copy, Debug)]
 pub struct LiveOptions {
-    /// How many rounds the workers make behind the events of the script.
+    /// How many rounds the workers make after the events of the script.
     pub rounds: u32,
     /// How many workers there are, 1 to 8, each in a thread of its own, and with another for its sockets.
     pub workers: u32,
 }
 
-/// Runs the script that the reader has, and lets workers make rounds over UDP sockets on this machine behind its events. The writer gets
+/// Runs the script that the reader has, and lets workers make rounds over UDP sockets on this machine after its events. The writer gets
 /// the report of the world at the end, and the line `board N` with the number of rows that the workers counted as done.
 ///
 /// All input is read before anything is written, and what is written is flushed.
 ///
 /// # Errors
 ///
-/// As of `run_rehearse`, but for `BadFates`, and besides
+/// As of `run_rehearse`, except `BadFates`, and besides
 ///
 /// - `Socket`: no socket could be bound.
 pub fn run_live<T: Threads + Wait + Net + Sync, R: Read, W: Write>(
@@ -75,7 +75,7 @@ pub fn run_live<T: Threads + Wait + Net + Sync, R: Read, W: Write>(
     write_text(writer, text.as_str())
 }
 
-/// What is told of a live rollout: the report of its world, and the line of its board.
+/// What is written of a live rollout: the report of its world, and the line of its board.
 fn tell_live<T: Threads + Wait + Net + Sync>(
     rt: &T,
     alloc: Global,

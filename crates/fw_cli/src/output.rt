@@ -1,4 +1,4 @@
-//! Writing what a command tells.
+//! Writing what a command prints.
 
 ghost use Rattle.std.specs.Prelude.{◌≡◌, OnOk, IfErr};
 ghost use Rattle.std.specs.Io.KnownBytes.{Appends};

@@ -16,7 +16,7 @@ pub struct Refusal {
     pub cause: StepError,
 }
 
-/// Appends the line that tells which event was refused, and why, if one was.
+/// Appends the line that says which event was refused, and why, if one was.
 pub(crate) fn append_refusal(text: &mut String, refusal: Option<Refusal>) -> Result<(), AllocError>
     ensures { OnOk result (string_bytes text.new ≡ string_bytes text.old ++ refusal_line_if refusal) }
 {
@@ -26,7 +26,7 @@ pub(crate) fn append_refusal(text: &mut String, refusal: Option<Refusal>) -> Res
     }
 }
 
-/// Appends the line that tells which event was refused, and why.
+/// Appends the line that says which event was refused, and why.
 fn append_refusal_line(text: &mut String, refusal: Refusal) -> Result<(), AllocError>
     ensures { OnOk result (string_bytes text.new ≡ string_bytes text.old ++ refusal_line refusal) }
 {

@@ -1,4 +1,4 @@
-//! The command `rehearse`: several workers make rounds behind the events of a script, and the report of the world is told.
+//! The command `rehearse`: several workers make rounds after the events of a script, and the report of the world is written.
 
 ghost use Rattle.std.specs.Prelude.{◌≡◌, ◌≢◌, ◌<◌, ◌≤◌, ◌⊎◌, ◌++◌, ℕ, List, length, IfOk, IfErr, OnOk, string_bytes};
 ghost use Rattle.std.specs.Io.KnownBytes.{Keeps};
@@ -37,13 +37,13 @@ use std::thread::Threads;
 /// The options of the command.
 #[derive(Clone, Copy, Debug)]
 pub struct RehearseOptions<'a> {
-    /// The rounds that the workers make behind the events of the script.
+    /// The rounds that the workers make after the events of the script.
     pub rounds: Rounds<'a>,
     /// How many workers there are, 1 to 8, each in a thread of its own.
     pub workers: u32,
 }
 
-/// Runs the script that the reader has, and lets workers make rounds behind its events. The writer gets the report of the world at the
+/// Runs the script that the reader has, and lets workers make rounds after its events. The writer gets the report of the world at the
 /// end, and the line `board N` with the number of rows that the workers counted as done.
 ///
 /// All input is read before anything is written, and what is written is flushed.
@@ -99,7 +99,7 @@ pub fn run_rehearse<T: Threads + Wait + Sync, R: Read, W: Write>(
     rehearse_from(rt, alloc, reader, writer, &air, options.workers)
 }
 
-/// Rehearses the script that the reader has, and writes what is told of it.
+/// Rehearses the script that the reader has, and writes the report of it.
 fn rehearse_from<T: Threads + Wait + Sync, R: Read, W: Write>(
     rt: &T,
     alloc: Global,
@@ -128,7 +128,7 @@ fn rehearse_from<T: Threads + Wait + Sync, R: Read, W: Write>(
     write_text(writer, text.as_str())
 }
 
-/// What is told of a rehearsal: the report of its world, and the line of its board.
+/// What is written of a rehearsal: the report of its world, and the line of its board.
 fn tell_rehearsal<T: Threads + Wait + Sync>(
     rt: &T,
     alloc: Global,

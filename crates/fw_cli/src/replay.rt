@@ -1,4 +1,4 @@
-//! The command `replay`: a script is run, and the report of its world is told.
+//! The command `replay`: a script is run, and the report of its world is written.
 
 ghost use Rattle.std.specs.Prelude.{
   ◌≡◌,
@@ -63,7 +63,7 @@ use std::io::{Read, Write};
 pub struct ReplayOptions<'a> {
     /// The rounds that follow the events of the script, if any do.
     pub rounds: Option<Rounds<'a>>,
-    /// How the run is told.
+    /// How the run is reported.
     pub style: Style,
 }
 
@@ -82,7 +82,7 @@ pub struct Rounds<'a> {
 pub enum Ended {
     /// With its last event.
     Whole,
-    /// With an event that was refused, for another cause than want of memory.
+    /// With an event that was refused, and not because it was out of memory.
     Refused,
 }
 
@@ -93,7 +93,7 @@ pub(crate) struct Air {
     pub(crate) fates: Vec<Fate>,
 }
 
-/// What is told of a run.
+/// What is written of a run.
 #[derive(Drop)]
 struct Told {
     ended: Ended,
@@ -167,7 +167,7 @@ pub(crate) fn air_of(alloc: Global, rounds: &Rounds<'_>) -> Result<Air, Fault>
     })
 }
 
-/// Runs the script that the reader has, and writes what is told of it.
+/// Runs the script that the reader has, and writes the report of it.
 fn replay_from<R: Read, W: Write>(
     alloc: Global,
     reader: &mut R,
@@ -194,7 +194,7 @@ fn replay_from<R: Read, W: Write>(
     Ok(told.ended)
 }
 
-/// What is told of a script.
+/// What is written of a script.
 fn replay(alloc: Global, input: &[u8], air: &Option<Air>, style: Style) -> Result<Told, Fault>
     requires size { length input.now ≤ max_input }
     requires fates { IfSome air.now (λ air. IsFates air.fates.items) }
@@ -209,7 +209,7 @@ fn replay(alloc: Global, input: &[u8], air: &Option<Air>, style: Style) -> Resul
     tell_run(alloc, &setup, &events, style)
 }
 
-/// The events of a script, and behind them those of the rounds. Where a given event is refused no round is made: the run is refused there.
+/// The events of a script, and after them those of the rounds. Where a given event is refused no round is made: the run is refused there.
 fn with_rounds(
     alloc: Global,
     setup: &Setup,
@@ -234,7 +234,7 @@ fn with_rounds(
     }
 }
 
-/// Whether a run ended for want of memory.
+/// Whether a run ended since it was out of memory.
 fn wants_memory(error: &RunError) -> bool
     ensures { IsTrue result ↔ WantsMemory error.now }
 {
@@ -248,7 +248,7 @@ fn wants_memory(error: &RunError) -> bool
     )
 }
 
-/// What is told of a run over these events.
+/// What is written of a run over these events.
 fn tell_run(alloc: Global, setup: &Setup, events: &[Event], style: Style) -> Result<Told, Fault>
     ensures ok { IfOk result (λ told. TellsRun style setup.now events.now told.ended (string_bytes told.text)) }
     ensures bad_setup { result ≡ Err Fault.BadSetup → ¬ IsSetup setup.now }
@@ -264,7 +264,7 @@ fn tell_run(alloc: Global, setup: &Setup, events: &[Event], style: Style) -> Res
     }
 }
 
-/// What is told of a world: the trace of what was sent, where it is asked for, and the report, with the event that was refused there.
+/// What is written of a world: the trace of what was sent, where it is asked for, and the report, with the event that was refused there.
 fn tell_world(
     alloc: Global,
     setup: &Setup,
@@ -282,7 +282,7 @@ fn tell_world(
     Ok(text)
 }
 
-/// What is told of a run that ended early.
+/// What is written of a run that ended early.
 fn tell_refusal(alloc: Global, setup: &Setup, error: RunError, style: Style) -> Result<Told, Fault>
     ensures ok { IfOk result (λ told. (told.ended ≡ Ended.Refused) × TellsRefusal style setup.now error (string_bytes told.text)) }
     ensures bad_setup { result ≡ Err Fault.BadSetup → error ≡ RunError.Setup SetupError.BadSetup }

@@ -143,7 +143,7 @@ fn append_activations(text: &mut String, count: usize) -> Result<(), AllocError>
     write!(text, "activations {count}\n")
 }
 
-/// Appends the line of the board, which has so many rows as done.
+/// Appends the line of the board, which has this number of rows as done.
 pub(crate) fn append_board(text: &mut String, board: u64) -> Result<(), AllocError>
     ensures { OnOk result (string_bytes text.new ≡ string_bytes text.old ++ board_line board) }
 {

@@ -164,7 +164,7 @@ fn push_meter(meters: &mut Vec<MeterEntry>, meter: MeterId, world: &World) -> Re
     Ok(())
 }
 
-/// What is told of a meter that shows this.
+/// What a report has of a meter that shows this.
 fn meter_entry(meter: MeterId, view: &MeterView) -> MeterEntry
     ensures { result ≡ record {
       meter = meter;

@@ -143,7 +143,7 @@ fn append_number(text: &mut String, number: u32) -> Result<(), AllocError>
     append_spaces(text, COLUMN.saturating_sub(filled))
 }
 
-/// Appends so many spaces.
+/// Appends this number of spaces.
 fn append_spaces(text: &mut String, count: usize) -> Result<(), AllocError>
     ensures { OnOk result (string_bytes text.new ≡ string_bytes text.old ++ replicate count 32) }
 {

@@ -41,7 +41,7 @@ pub(crate) fn script_from<R: Read>(alloc: Global, reader: &mut R) -> Result<Scri
     read_script(alloc, &input)
 }
 
-/// The report of the world that workers led to, and behind it the line of the board.
+/// The report of the world that workers led to, and after it the line of the board.
 pub(crate) fn tell_report(
     alloc: Global,
     setup: &Setup,

@@ -35,3 +35,12 @@ opened_leaves moment left_since honest contents may_leave records end old read n
     let stands : Stands (contents old) records = subst (λ (l : List ℕ). Stands l records) same at.stands in
     follow moment left_since old read new P (weaker moment left_since old read (may_leave old) P reads (λ left now. inl now))
     (weaker moment left_since read new (λ left. Stands left records) P mends (λ left is. same_records (contents old) records end at.ends stands (may_leave old) left is))
+
+-- and that of bytes which were read of it, whose records they have
+pub recovered_leaves : {D : Type 0} (moment : D → ℕ) (left_since : D → ℕ → List ℕ → Type 0) (honest : D → Bool) (contents : D → List ℕ) (may_leave : D → List ℕ → Type 0) (old read new : D) (bytes : List ℕ) (records : List (List ℕ)) (end : ℕ)
+    → IsTrue (honest old) → honest read ≡ honest old → contents read ≡ contents old → IsSynced contents may_leave read → bytes ≡ contents old → Stands bytes records → end ≡ length (book_front records)
+    → LeavesOnly moment left_since old read (may_leave old) → (EndsAt honest contents may_leave read end records → LeavesOnly moment left_since read new (λ left. Stands left records))
+    → LeavesOnly moment left_since old new (λ left. may_leave old left ⊎ ((others : List (List ℕ)) → Stands (contents old) others → Stands left others))
+recovered_leaves moment left_since honest contents may_leave old read new bytes records end honestly keeps same synced is stands ends reads mends =
+    let at = ends_at honest contents may_leave old read bytes records end honestly keeps same synced is stands ends in
+    opened_leaves moment left_since honest contents may_leave records end old read new at same reads (mends at)

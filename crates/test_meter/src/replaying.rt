@@ -196,34 +196,45 @@ meter 1 status 6 active 7 1 size 3
 activations 1
 ";
 
-const REPORTS: &[(Script, &str)] = &[
+/// The lines of a campaign, and those after them.
+struct After(&'static [&'static str], &'static [&'static str]);
+
+impl Case for After {
+    fn told(&self, alloc: Global) -> Result<String, Fail> {
+        let mut script = joined(alloc, self.0)?;
+        script.push_str(joined(alloc, self.1)?.as_str())?;
+        replayed(alloc, &mut script.as_bytes(), &options(ALONE))
+    }
+}
+
+/// A campaign up to where the meter is asked to activate.
+const TO_ACTIVATE: &[&str] = &[SETUP, OPEN, UP_TO_BLOCKS, UP_TO_VERIFY, UP_TO_ACTIVATE];
+
+/// A campaign up to where its row is done.
+const TO_DONE: &[&str] = &[
+    SETUP,
+    OPEN,
+    UP_TO_BLOCKS,
+    UP_TO_VERIFY,
+    UP_TO_ACTIVATE,
+    UP_TO_DONE,
+];
+
+/// One of release 5.
+const TO_DONE_5: &[&str] = &[
+    SETUP,
+    OPEN_5,
+    UP_TO_BLOCKS,
+    UP_TO_VERIFY,
+    UP_TO_ACTIVATE,
+    UP_TO_DONE,
+];
+
+/// What is left where a campaign stops or is done, and by what comes after it.
+const CAMPAIGNS: &[(After, &str)] = &[
+    (After(TO_DONE, &[]), DONE),
     (
-        Script(
-            &[
-                SETUP,
-                OPEN,
-                UP_TO_BLOCKS,
-                UP_TO_VERIFY,
-                UP_TO_ACTIVATE,
-                UP_TO_DONE,
-            ],
-            ALONE,
-        ),
-        DONE,
-    ),
-    (
-        Script(
-            &[
-                SETUP,
-                OPEN,
-                UP_TO_BLOCKS,
-                UP_TO_VERIFY,
-                UP_TO_ACTIVATE,
-                UP_TO_DONE,
-                SECOND,
-            ],
-            ALONE,
-        ),
+        After(TO_DONE, &[SECOND]),
         "\
 row 7 1 1 done
 row 7 2 1 live
@@ -232,17 +243,7 @@ activations 2
 ",
     ),
     (
-        Script(
-            &[
-                SETUP,
-                OPEN,
-                UP_TO_BLOCKS,
-                UP_TO_VERIFY,
-                UP_TO_ACTIVATE,
-                "stop 16 0 0\n",
-            ],
-            ALONE,
-        ),
+        After(TO_ACTIVATE, &["stop 16 0 0\n"]),
         "\
 row 7 1 1 live
 meter 1 status 3 active 0 0 size 1
@@ -250,23 +251,34 @@ activations 0
 ",
     ),
     (
-        Script(
-            &[
-                SETUP,
-                OPEN,
-                UP_TO_BLOCKS,
-                UP_TO_VERIFY,
-                UP_TO_ACTIVATE,
-                "stop 16 1 0\n",
-            ],
-            ALONE,
-        ),
+        After(TO_ACTIVATE, &["stop 16 1 0\n"]),
         "\
 row 7 1 1 live
 meter 1 status 6 active 7 1 size 3
 activations 1
 ",
     ),
+    // a meter that runs release 5 takes none below it, and takes an equal one
+    (
+        After(TO_DONE_5, &["open 7 2 616263 1\n", UP_TO_START]),
+        OLDER_FAILED,
+    ),
+    (
+        After(TO_DONE_5, &["open-release 7 2 4 616264 1\n", UP_TO_START]),
+        OLDER_FAILED,
+    ),
+    (
+        After(TO_DONE_5, &["open-release 7 2 5 616264 1\n", UP_TO_START]),
+        "\
+row 7 1 1 done
+row 7 2 1 live
+meter 1 status 1 active 7 1 size 3
+activations 1
+",
+    ),
+];
+
+const REPORTS: &[(Script, &str)] = &[
     (
         Script(&[FOUR], Some((40, "ddxtdxdtxddx"))),
         "\
@@ -288,60 +300,6 @@ row 1 1 1 live
 row 2 1 1 live
 meter 1 status 4 active 0 0 size 1
 activations 0
-",
-    ),
-    // a meter that runs release 5 takes none below it, and takes an equal one
-    (
-        Script(
-            &[
-                SETUP,
-                OPEN_5,
-                UP_TO_BLOCKS,
-                UP_TO_VERIFY,
-                UP_TO_ACTIVATE,
-                UP_TO_DONE,
-                "open 7 2 616263 1\n",
-                UP_TO_START,
-            ],
-            ALONE,
-        ),
-        OLDER_FAILED,
-    ),
-    (
-        Script(
-            &[
-                SETUP,
-                OPEN_5,
-                UP_TO_BLOCKS,
-                UP_TO_VERIFY,
-                UP_TO_ACTIVATE,
-                UP_TO_DONE,
-                "open-release 7 2 4 616264 1\n",
-                UP_TO_START,
-            ],
-            ALONE,
-        ),
-        OLDER_FAILED,
-    ),
-    (
-        Script(
-            &[
-                SETUP,
-                OPEN_5,
-                UP_TO_BLOCKS,
-                UP_TO_VERIFY,
-                UP_TO_ACTIVATE,
-                UP_TO_DONE,
-                "open-release 7 2 5 616264 1\n",
-                UP_TO_START,
-            ],
-            ALONE,
-        ),
-        "\
-row 7 1 1 done
-row 7 2 1 live
-meter 1 status 1 active 7 1 size 3
-activations 1
 ",
     ),
     // release 0 is none
@@ -385,7 +343,8 @@ activations 1
 
 #[test]
 fn scripts_and_their_reports(rt: HostRuntime) -> Result<(), Fail> {
-    each(rt.alloc(), REPORTS)
+    each(rt.alloc(), REPORTS)?;
+    each(rt.alloc(), CAMPAIGNS)
 }
 
 /// A script in parts, of which the trace is told too.
@@ -407,29 +366,9 @@ impl Case for Traced {
 
 /// A campaign, no datagram, and an event that is refused.
 const TRACES: &[(Traced, &str)] = &[
-    (
-        Traced(&[
-            SETUP,
-            OPEN,
-            UP_TO_BLOCKS,
-            UP_TO_VERIFY,
-            UP_TO_ACTIVATE,
-            UP_TO_DONE,
-        ]),
-        TRACE,
-    ),
+    (Traced(TO_DONE), TRACE),
     // the names of an image with a release
-    (
-        Traced(&[
-            SETUP,
-            OPEN_5,
-            UP_TO_BLOCKS,
-            UP_TO_VERIFY,
-            UP_TO_ACTIVATE,
-            UP_TO_DONE,
-        ]),
-        TRACE_5,
-    ),
+    (Traced(TO_DONE_5), TRACE_5),
     (
         Traced(&[SETUP]),
         "meter 1 status 0 active 0 0 size 1\nactivations 0\n",
@@ -524,17 +463,7 @@ impl Case for Formed {
 /// A campaign with a release, and an event that is refused.
 const FORMS: &[(Formed, &str)] = &[
     (
-        Formed(
-            &[
-                SETUP,
-                OPEN_5,
-                UP_TO_BLOCKS,
-                UP_TO_VERIFY,
-                UP_TO_ACTIVATE,
-                UP_TO_DONE,
-            ],
-            ReportForm::Table,
-        ),
+        Formed(TO_DONE_5, ReportForm::Table),
         "\
 head end    campaign    meter       state
 7           1           1           done
@@ -546,17 +475,7 @@ images activated: 1
 ",
     ),
     (
-        Formed(
-            &[
-                SETUP,
-                OPEN_5,
-                UP_TO_BLOCKS,
-                UP_TO_VERIFY,
-                UP_TO_ACTIVATE,
-                UP_TO_DONE,
-            ],
-            ReportForm::Json,
-        ),
+        Formed(TO_DONE_5, ReportForm::Json),
         "{\"activations\":1,\"meters\":[{\"active\":{\"campaign\":1,\"head\":7,\"release\":5,\"size\":3},\"meter\":1,\"status\":6}],\
          \"refused\":null,\"rows\":[{\"campaign\":1,\"head\":7,\"meter\":1,\"state\":\"done\"}]}\n",
     ),

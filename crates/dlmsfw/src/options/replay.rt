@@ -5,8 +5,15 @@ use clap::{Arg, ArgAction, ArgMatches, Command};
 use fw_cli::{ReplayOptions, ReportForm, Rounds, Style};
 use std::alloc::{AllocError, Global};
 
+/// The names of the forms.
+const LINES: &str = "lines";
+
+const TABLE: &str = "table";
+
+const JSON: &str = "json";
+
 /// The forms of a report.
-const FORMS: &[&str] = &["lines", "table", "json"];
+const FORMS: &[&str] = &[LINES, TABLE, JSON];
 
 /// What the long help begins with.
 const ABOUT: &str = "\
@@ -139,7 +146,7 @@ pub(super) fn command<'a>(alloc: Global) -> Result<Command<'a>, AllocError> {
         )?
         .arg(
             option(alloc, "report", "FORM")
-                .default_value("lines")
+                .default_value(LINES)
                 .help("The form of the report")
                 .value_parser(FORMS),
         )
@@ -162,9 +169,9 @@ pub(super) fn options<'a>(given: &ArgMatches<'a>) -> Option<ReplayOptions<'a>> {
 /// The form of this name.
 fn form(name: &str) -> Option<ReportForm> {
     match name {
-        "lines" => Some(ReportForm::Lines),
-        "table" => Some(ReportForm::Table),
-        "json" => Some(ReportForm::Json),
+        LINES => Some(ReportForm::Lines),
+        TABLE => Some(ReportForm::Table),
+        JSON => Some(ReportForm::Json),
         _ => None,
     }
 }
