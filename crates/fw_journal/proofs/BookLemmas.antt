@@ -1,9 +1,10 @@
 -- That the bytes of records stand for them alone.
-use Rattle.std.proofs.Common.{◌≡◌, ◌≢◌, inl, inr, ℕ, ◌<◌, ◌≤◌, ◌^◌, List, [], ◌∷◌, ◌++◌, length, take, drop, refl, sym, ◌∙◌, ap, subst, arith, append_assoc, length-append, take-append-drop, Vec}
+use Rattle.std.proofs.Common.{◌≡◌, ◌≢◌, inl, inr, ℕ, ◌+◌, ◌<◌, ◌≤◌, ◌^◌, List, [], ◌∷◌, ◌++◌, length, take, drop, refl, sym, ◌∙◌, ap, subst, arith, append_assoc, length-append, take-append-drop, Vec}
 use Rattle.std.specs.Int.{w32, to_be_bytes, from_be_bytes}
 use Rattle.std.proofs.lemmas.Nat.{from_be_bytes-to_be_bytes_4}
 use Rattle.std.proofs.lemmas.List.{take_at, drop_at, append-nil}
 use Rattle.sha2.specs.Sha256.{sha256}
+use Rattle.sha2.proofs.Facts256.{length-sha256}
 use Rattle.std.specs.declared.alloc.Global.{Global}
 use Rattle.fw_journal.specs.Book.{mark, contents_of, body, blocks, book_front, AreRecords, IsShut, IsNoBody, Stands, IsBadRecord, IsBadBook}
 
@@ -45,9 +46,18 @@ pub blocks-append : (xs ys : List (List ℕ)) → blocks (xs ++ ys) ≡ blocks x
 blocks-append [] ys = refl
 blocks-append (x ∷ xs) ys = ap (λ (l : List ℕ). 1 ∷ (body x ++ l)) (blocks-append xs ys) ∙ ap (λ (l : List ℕ). 1 ∷ l) (sym (append_assoc (body x) (blocks xs) (blocks ys)))
 
+pub length-block : (entry : List ℕ) → length (blocks (entry ∷ [])) ≡ length entry + 37
+length-block entry =
+    let four : length (to_be_bytes w32 (length entry)) ≡ 4 = refl in
+    omega (arith, four, length-append (body entry) [], length-append (to_be_bytes w32 (length entry)) (entry ++ sha256 entry), length-append entry (sha256 entry), length-sha256 entry)
+
 pub are-append : (xs ys : List (List ℕ)) → AreRecords xs → AreRecords ys → AreRecords (xs ++ ys)
 are-append [] ys hx hy = hy
 are-append (x ∷ xs) ys hx hy = (hx.0, are-append xs ys hx.1 hy)
+
+pub are-front : (xs ys : List (List ℕ)) → AreRecords (xs ++ ys) → AreRecords xs
+are-front [] ys are = tt
+are-front (x ∷ xs) ys are = (are.0, are-front xs ys are.1)
 
 not_open : (end bytes : List ℕ) → 1 ≤ length bytes → IsShut end → end ≡ 1 ∷ bytes → ⊥
 not_open [] bytes some shut is = cc is

@@ -17,3 +17,33 @@ IsFileRefusal journal.Full = ⊥
 IsFileRefusal journal.Locked = Unit {0}
 IsFileRefusal journal.BookFault = Unit {0}
 IsFileRefusal journal.OutOfMemory = ⊥
+
+-- what a making is refused for
+abbrev pub IsMakingRefusal : JournalError → Type 0
+IsMakingRefusal (journal.BadBook offset) = ⊥
+IsMakingRefusal journal.NotEmpty = Unit {0}
+IsMakingRefusal journal.TooLong = ⊥
+IsMakingRefusal journal.Full = ⊥
+IsMakingRefusal journal.Locked = ⊥
+IsMakingRefusal journal.BookFault = Unit {0}
+IsMakingRefusal journal.OutOfMemory = Unit {0}
+
+-- what an opening is refused for
+abbrev pub IsOpeningRefusal : JournalError → Type 0
+IsOpeningRefusal (journal.BadBook offset) = Unit {0}
+IsOpeningRefusal journal.NotEmpty = ⊥
+IsOpeningRefusal journal.TooLong = ⊥
+IsOpeningRefusal journal.Full = ⊥
+IsOpeningRefusal journal.Locked = ⊥
+IsOpeningRefusal journal.BookFault = Unit {0}
+IsOpeningRefusal journal.OutOfMemory = Unit {0}
+
+-- what a commit is refused for
+abbrev pub IsCommitRefusal : JournalError → Type 0
+IsCommitRefusal (journal.BadBook offset) = ⊥
+IsCommitRefusal journal.NotEmpty = ⊥
+IsCommitRefusal journal.TooLong = ⊥
+IsCommitRefusal journal.Full = Unit {0}
+IsCommitRefusal journal.Locked = ⊥
+IsCommitRefusal journal.BookFault = Unit {0}
+IsCommitRefusal journal.OutOfMemory = Unit {0}

@@ -8,6 +8,7 @@ ghost use Rattle.std.specs.Prelude.{
   ◌≤◌,
   ◌<◌,
   ◌^◌,
+  ◌+◌,
   ◌++◌,
   [],
   ◌∷◌,
@@ -27,6 +28,7 @@ ghost use Rattle.std.specs.Prelude.{
 ghost use Rattle.fw_journal.specs.Device.{IsSynced, LeavesOnly, Keeps};
 ghost use Rattle.fw_journal.specs.Book.{blocks, book_front, book_bytes, contents_of, Stands, IsBadBook};
 ghost use Rattle.fw_journal.specs.Group.{Takes, EndsAt};
+ghost use Rattle.fw_journal.specs.Refusals.{IsMakingRefusal, IsOpeningRefusal, IsCommitRefusal};
 
 use crate::device::JournalDevice;
 use crate::error::{DeviceError, JournalError};
@@ -70,6 +72,7 @@ impl<D: JournalDevice> Journal<D> {
             → (D.contents device ≢ []) × (D.contents e.1 ≡ D.contents device)) }
         ensures memory { IsTrue (D.honest device) → IfErr result (λ e. e.0 ≡ JournalError.OutOfMemory → D.contents device ≡ []) }
         ensures never { IsTrue (D.sound device) → IfErr result (λ e. e.0 ≢ JournalError.BookFault) }
+        ensures refusals { IfErr result (λ e. IsMakingRefusal e.0) }
         ensures kept { IfOk result (λ journal. Keeps D.honest D.sound device (device_of journal)) }
     {
         let mut device = device;
@@ -105,6 +108,7 @@ impl<D: JournalDevice> Journal<D> {
         ensures any_moment_err { IsTrue (D.honest device) → IfErr result (λ e. LeavesOnly D.moment D.left_since device e.1
             (λ left. D.may_leave device left ⊎ ((records : List (List ℕ)) → Stands (D.contents device) records → Stands left records))) }
         ensures never { IsTrue (D.honest device) → IsTrue (D.sound device) → IfErr result (λ e. e.0 ≢ JournalError.BookFault) }
+        ensures refusals { IfErr result (λ e. IsOpeningRefusal e.0) }
         ensures kept { IfOk result (λ r. Keeps D.honest D.sound device (device_of r.0)) }
     {
         let mut device = device;
@@ -136,6 +140,13 @@ impl<D: JournalDevice> Journal<D> {
         self.device
     }
 
+    /// Whether a commit has failed, so that nothing more is committed.
+    pub fn is_broken(&self) -> bool
+        ensures { result ≡ is_broken self.now }
+    {
+        self.broken
+    }
+
     /// How many bytes the journal has on the device, up to its shut gate.
     pub fn size(&self) -> u64
         ensures { result ≡ end_of self.now }
@@ -155,6 +166,9 @@ impl<D: JournalDevice> Journal<D> {
         ensures unchanged { (done waiting : List (List ℕ)) → Has D.honest D.contents D.may_leave self.old done waiting
             → OnErr result (Has D.honest D.contents D.may_leave self.new done waiting) }
         ensures device { device_of self.new ≡ device_of self.old }
+        ensures works { is_broken self.new ≡ is_broken self.old }
+        ensures end { end_of self.new ≡ end_of self.old }
+        ensures added { OnOk result (waiting_of self.new ≡ waiting_of self.old ++ blocks (entry.now ∷ [])) }
         ensures too_long { IsErrOf result JournalError.TooLong → 2 ^ 32 ≤ length entry.now }
         ensures fits { OnOk result (length entry.now < 2 ^ 32) }
         ensures memory { IsErrOf result JournalError.OutOfMemory → length entry.now < 2 ^ 32 }
@@ -200,6 +214,7 @@ impl<D: JournalDevice> Journal<D> {
         // A commit of nothing takes no memory, and what is refused is reported before memory is wanted.
         ensures nothing { is_broken self.old ≡ false → waiting_of self.old ≡ [] → IsOk result × (self.new ≡ self.old) }
         ensures memory { IsErrOf result JournalError.OutOfMemory → MayCommit self.old }
+        ensures refusals { IfErr result IsCommitRefusal }
         ensures kept { Keeps D.honest D.sound (device_of self.old) (device_of self.new) }
     {
         if self.broken {
@@ -219,6 +234,58 @@ impl<D: JournalDevice> Journal<D> {
         self.broken = false;
         Ok(())
     }
+
+    /// Puts this record on the device after all that waits, in one group. From `Ok` on every power cut leaves it and them; a cut in the call
+    /// leaves all of it or nothing.
+    ///
+    /// # Errors
+    ///
+    /// `BookFault` where the journal is broken; else `TooLong`, as `append`, and then those of `commit`. The record doesn't wait then: the
+    /// journal is as before, or broken.
+    pub fn commit_with(&mut self, alloc: Global, entry: &[u8]) -> Result<(), JournalError>
+        ensures acknowledged { (done waiting : List (List ℕ)) → Has D.honest D.contents D.may_leave self.old done waiting
+            → OnOk result (Has D.honest D.contents D.may_leave self.new (done ++ (waiting ++ entry.now ∷ [])) []) }
+        ensures unchanged { (done waiting : List (List ℕ)) → Has D.honest D.contents D.may_leave self.old done waiting
+            → OnErr result (Has D.honest D.contents D.may_leave self.new done waiting ⊎ IsTrue (is_broken self.new)) }
+
+        // A cut at any moment of the call leaves the records from before it, with all that waited and this one, or with none of it.
+        ensures any_moment { (done waiting : List (List ℕ)) → Has D.honest D.contents D.may_leave self.old done waiting
+            → LeavesOnly D.moment D.left_since (device_of self.old) (device_of self.new)
+            (λ left. Stands left done ⊎ Stands left (done ++ (waiting ++ entry.now ∷ []))) }
+
+        // What failed once stays failed.
+        ensures breaks { IsErrOf result JournalError.BookFault → IsTrue (is_broken self.new) }
+        ensures broken { IsTrue (is_broken self.old) → IsErrOf result JournalError.BookFault × (self.new ≡ self.old) }
+
+        // It doesn't give up by itself.
+        ensures never { IsTrue (D.sound (device_of self.old)) → IsErrOf result JournalError.BookFault → IsTrue (is_broken self.old) }
+        ensures too_long { IsErrOf result JournalError.TooLong → 2 ^ 32 ≤ length entry.now }
+        ensures full { IsErrOf result JournalError.Full
+            → 2 ^ 60 ≤ end_of self.old ⊎ 2 ^ 60 ≤ length (waiting_of self.old) + (length entry.now + 37) }
+        ensures refusals { IfErr result (λ e. IsCommitRefusal e ⊎ (e ≡ JournalError.TooLong)) }
+        ensures kept { Keeps D.honest D.sound (device_of self.old) (device_of self.new) }
+    {
+        if self.broken {
+            return Err(JournalError::BookFault);
+        }
+        let size = self.waiting.len();
+        self.append(alloc, entry)?;
+        if let Err(refusal) = self.commit() {
+            self.take_back(size);
+            return Err(refusal);
+        }
+        Ok(())
+    }
+
+    /// Takes back what was added after the first `size` bytes that wait.
+    fn take_back(&mut self, size: usize)
+        ensures back { (done waiting added : List (List ℕ)) → Has D.honest D.contents D.may_leave self.old done (waiting ++ added)
+            → size ≡ length (blocks waiting) → Has D.honest D.contents D.may_leave self.new done waiting }
+        ensures broken { is_broken self.new ≡ is_broken self.old }
+        ensures device { device_of self.new ≡ device_of self.old }
+    {
+        self.waiting.truncate(size);
+    }
 }
 
 /// The bytes of a new journal.
@@ -234,6 +301,7 @@ fn lay_out<D: JournalDevice>(device: &mut D) -> Result<u64, JournalError>
         → (D.contents device.old ≢ []) × (D.contents device.new ≡ D.contents device.old) }
     ensures memory { IsTrue (D.honest device.old) → IsErrOf result JournalError.OutOfMemory → D.contents device.old ≡ [] }
     ensures never { IsTrue (D.sound device.old) → ¬ IsErrOf result JournalError.BookFault }
+    ensures refusals { IfErr result IsMakingRefusal }
     ensures kept { Keeps D.honest D.sound device.old device.new }
 {
     if device.len()? > 0 {
@@ -291,6 +359,7 @@ fn recover<D: JournalDevice>(
     ensures any_moment { IsTrue (D.honest device.old) → LeavesOnly D.moment D.left_since device.old device.new
         (λ left. D.may_leave device.old left ⊎ ((records : List (List ℕ)) → Stands (D.contents device.old) records → Stands left records)) }
     ensures never { IsTrue (D.honest device.old) → IsTrue (D.sound device.old) → ¬ IsErrOf result JournalError.BookFault }
+    ensures refusals { IfErr result IsOpeningRefusal }
     ensures kept { Keeps D.honest D.sound device.old device.new }
 {
     let bytes = read_synced(alloc, device)?;

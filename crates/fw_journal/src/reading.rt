@@ -1,6 +1,6 @@
 //! The records of a journal's bytes.
 
-ghost use Rattle.std.specs.Prelude.{◌≡◌, ◌++◌, ◌∷◌, ◌<◌, ◌≤◌, ◌^◌, ℕ, length, IfOk, IfSome, IfNone, IsErrOf};
+ghost use Rattle.std.specs.Prelude.{◌≡◌, ◌++◌, ◌∷◌, ◌<◌, ◌≤◌, ◌^◌, ℕ, length, IfOk, IfErr, IfSome, IfNone, IsErrOf};
 ghost use Rattle.std.specs.Int.{w32, to_be_bytes};
 ghost use Rattle.fw_journal.specs.Book.{
   mark,
@@ -13,6 +13,7 @@ ghost use Rattle.fw_journal.specs.Book.{
   IsBadBook,
   IsNoBody,
 };
+ghost use Rattle.fw_journal.specs.Refusals.{IsOpeningRefusal};
 
 use crate::error::JournalError;
 use sha2::{Digest, Sha256};
@@ -80,6 +81,7 @@ pub(crate) fn read_book(alloc: Global, bytes: &[u8]) -> Result<(Vec<Vec<u8>>, u6
     ensures within { IfOk result (λ r. r.1 ≤ length bytes.now) }
     ensures bad { (offset : ℕ) → IsErrOf result (JournalError.BadBook offset) → IsBadBook bytes.now offset }
     ensures no_fault { ¬ IsErrOf result JournalError.BookFault }
+    ensures refusals { IfErr result IsOpeningRefusal }
 {
     let Some(mut rest) = after_mark(bytes) else {
         return Err(JournalError::BadBook { offset: 0 });

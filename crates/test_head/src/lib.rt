@@ -1,4 +1,4 @@
-//! Tests of a client of a meter, of the book of campaigns and its records, and of the head end, through their public calls. Expected bytes are worked
+//! Tests of a client of a meter, of the book of campaigns, its records and how it is kept, and of the head end, through their public calls. Expected bytes are worked
 //! out by hand from the standards and the formats, and SHA-256 values are the published ones or those of `sha256sum`.
 #![tactic(auto)]
 
@@ -18,6 +18,8 @@ mod client;
 mod ends;
 #[cfg(test)]
 mod head;
+#[cfg(test)]
+mod kept;
 #[cfg(test)]
 mod openings;
 #[cfg(test)]

@@ -1,0 +1,2 @@
+mod Books
+mod Moments

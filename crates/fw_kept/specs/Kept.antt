@@ -1,0 +1,80 @@
+-- Public vocabulary: a book that is kept in a journal, and what a power cut leaves of it.
+use Rattle.std.specs.Prelude.{◌≡◌, ◌≢◌, ℕ, ◌≤◌, ◌^◌, ◌+◌, ◌⊎◌, List, [], ◌∷◌, length, Bool, IsTrue, false, ◌||◌}
+use Rattle.fw_names.specs.Name.{Campaign}
+use Rattle.fw_book.specs.Contents.{Contents}
+use Rattle.fw_journal.specs.Book.{Stands}
+use Rattle.fw_journal.specs.Journal as journal
+use Rattle.fw_journal.specs.declared.journal.Journal.{Journal}
+use Rattle.fw_ledger.specs.Entry.{Entry, opening, mark, cancelling, Spells}
+use Rattle.fw_ledger.specs.Replay.{AddsAll, IsBookOf, FailsAt}
+use Rattle.fw_kept.specs.declared.kept.KeptBook.{KeptBook}
+
+-- ---- what bytes hold
+
+-- the bytes are a journal of records that have this book of the head end
+pub record HasBook (head : ℕ) (bytes : List ℕ) (book : Contents) : Type 0 where
+  pub records : List (List ℕ)
+  pub stands : Stands bytes records
+  pub is_book : IsBookOf head records book
+
+abbrev pub campaign_of : Entry → Campaign
+campaign_of (opening campaign release image meters) = campaign
+campaign_of (mark campaign meter ending) = campaign
+campaign_of (cancelling campaign) = campaign
+
+-- the first record is of a campaign of another head end
+pub record IsForeign (head : ℕ) (records : List (List ℕ)) : Type 0 where
+  pub first : List ℕ
+  pub rest : List (List ℕ)
+  pub split : records ≡ first ∷ rest
+  pub entry : Entry
+  pub spells : Spells first entry
+  pub foreign : (campaign_of entry).head ≢ head
+
+-- the bytes are a journal of another head end's records
+pub record HasForeign (head : ℕ) (bytes : List ℕ) : Type 0 where
+  pub records : List (List ℕ)
+  pub stands : Stands bytes records
+  pub foreign : IsForeign head records
+
+-- The bytes are a journal of records of which the one with this index has no place in the book of those before it, and the first isn't
+-- another head end's.
+pub record HasBadRecord (head : ℕ) (bytes : List ℕ) (index : ℕ) : Type 0 where
+  pub records : List (List ℕ)
+  pub stands : Stands bytes records
+  pub bad : List ℕ
+  pub fails : FailsAt head records index bad
+  pub own : ¬ IsForeign head records
+
+-- ---- a kept book
+
+-- the book in memory
+abbrev pub book_of : {D : Type 0} → KeptBook D → Contents
+book_of kept = kept.book
+
+abbrev pub journal_of : {D : Type 0} → KeptBook D → Journal D
+journal_of kept = kept.journal
+
+abbrev pub device_of : {D : Type 0} → KeptBook D → D
+device_of kept = journal.device_of kept.journal
+
+-- nothing is committed any more
+abbrev pub is_broken : {D : Type 0} → KeptBook D → Bool
+is_broken kept = kept.broken || journal.is_broken kept.journal
+
+-- the journal, or what waits in it with a record more, has 2^60 bytes or more
+abbrev pub IsFull : {D : Type 0} → Journal D → Type 0
+IsFull kept = (2 ^ 60 ≤ journal.end_of kept) ⊎ (2 ^ 60 ≤ length (journal.waiting_of kept) + 2 ^ 33)
+
+-- Every power cut leaves records of the book `synced` in this journal, and with those that wait they are records of the book `book`.
+pub record Keeps {D : Type 0} (honest : D → Bool) (contents : D → List ℕ) (may_leave : D → List ℕ → Type 0) (head : ℕ) (kept : Journal D) (synced book : Contents) : Type 0 where
+  pub done : List (List ℕ)
+  pub waiting : List (List ℕ)
+  pub has : journal.Has honest contents may_leave kept done waiting
+  pub of_done : IsBookOf head done synced
+  pub of_waiting : AddsAll waiting synced book
+
+-- Every power cut leaves the book `synced`, and what waits for the next commit makes the book in memory of it.
+pub record Holds {D : Type 0} (honest : D → Bool) (contents : D → List ℕ) (may_leave : D → List ℕ → Type 0) (kept : KeptBook D) (synced : Contents) : Type 0 where
+  pub works : kept.broken ≡ false
+  pub keeps : Keeps honest contents may_leave kept.book.head kept.journal synced kept.book

@@ -1,0 +1,84 @@
+//! Why a kept book isn't opened, or refuses a call.
+
+ghost use Rattle.std.specs.Prelude.{◌≡◌};
+ghost use Rattle.fw_kept.specs.declared.error.KeptError.TheVariants.{Refused};
+ghost use Rattle.fw_kept.specs.Refusals.{kept_error, open_error};
+
+use fw_book::BookError;
+use fw_journal::JournalError;
+use thiserror::Error;
+
+/// Why what a device holds is no book of the head end.
+#[derive(Clone, Copy, Debug, PartialEq, Eq, Error)]
+pub enum OpenError {
+    /// The bytes from this offset on are no journal's.
+    #[error("BadBook {offset}")]
+    BadBook { offset: u64 },
+    /// The record with this index, the first being 0, has no place in the book of those before it.
+    #[error("BadRecord {index}")]
+    BadRecord { index: usize },
+    /// The book is another head end's.
+    #[error("ForeignHead")]
+    ForeignHead,
+    /// The device failed.
+    #[error("BookFault")]
+    BookFault,
+    /// Memory was refused.
+    #[error("OutOfMemory")]
+    OutOfMemory,
+}
+
+/// What a refusal to open the journal is for the book.
+pub(crate) fn open_error(error: JournalError) -> OpenError
+    ensures { result ≡ open_error error }
+{
+    match error {
+        JournalError::BadBook { offset } => OpenError::BadBook { offset },
+        JournalError::OutOfMemory => OpenError::OutOfMemory,
+        JournalError::NotEmpty
+        | JournalError::TooLong
+        | JournalError::Full
+        | JournalError::Locked
+        | JournalError::BookFault => OpenError::BookFault,
+    }
+}
+
+/// Why a kept book refused a call.
+#[derive(Clone, Copy, Debug, PartialEq, Eq, Error)]
+pub enum KeptError {
+    /// The book doesn't take it.
+    #[error("{0}")]
+    Refused(BookError),
+    /// The journal, or what waits, has 2^60 bytes or more.
+    #[error("Full")]
+    Full,
+    /// The device failed, in this call or in an earlier one.
+    #[error("BookFault")]
+    BookFault,
+    /// Memory was refused.
+    #[error("OutOfMemory")]
+    OutOfMemory,
+}
+
+impl From<BookError> for KeptError {
+    ghost from_gives = { λ error e. e ≡ Refused error };
+
+    fn from(error: BookError) -> KeptError {
+        KeptError::Refused(error)
+    }
+}
+
+impl From<JournalError> for KeptError {
+    ghost from_gives = { λ error e. e ≡ kept_error error };
+
+    fn from(error: JournalError) -> KeptError {
+        match error {
+            JournalError::TooLong | JournalError::Full => KeptError::Full,
+            JournalError::OutOfMemory => KeptError::OutOfMemory,
+            JournalError::BadBook { .. }
+            | JournalError::NotEmpty
+            | JournalError::Locked
+            | JournalError::BookFault => KeptError::BookFault,
+        }
+    }
+}

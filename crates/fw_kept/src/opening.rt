@@ -1,0 +1,71 @@
+//! The book of a journal's records, or why they have none.
+
+ghost use Rattle.std.specs.Prelude.{◌≡◌, ◌≢◌, ◌⊎◌, ℕ, List, IfOk, IfErr, IsErrOf, MatchBool, MatchResult};
+ghost use Rattle.fw_book.specs.Contents.{Contents};
+ghost use Rattle.fw_ledger.specs.Replay.{IsBookOf, FailsAt, records_of};
+ghost use Rattle.fw_ledger.specs.View.{entry_of};
+ghost use Rattle.fw_kept.specs.Kept.{IsForeign, campaign_of};
+ghost use Rattle.fw_kept.specs.Inside.{IsRecordsRefusal};
+
+use crate::error::OpenError;
+use fw_book::Book;
+use fw_ledger::{Record, RecordError, ReplayError, read_record, read_records};
+use fw_names::{CampaignId, HeadId};
+use std::alloc::Global;
+
+/// The book of a head end that has these records.
+///
+/// # Errors
+///
+/// `ForeignHead` where the first is of another head end; else `BadRecord` with the index of the first that has no place in the book of
+/// those before it. Otherwise `OutOfMemory` alone.
+pub(crate) fn book_of(alloc: Global, head: HeadId, records: &[Vec<u8>]) -> Result<Book, OpenError>
+    ensures found { IfOk result (λ book. IsBookOf head (records_of records.now) book) }
+    ensures only { (book : Contents) → IsBookOf head (records_of records.now) book
+        → MatchResult result (λ found. found ≡ book) (λ e. e ≡ OpenError.OutOfMemory) }
+    ensures refused { IfErr result (IsRecordsRefusal head (records_of records.now)) }
+{
+    match read_records(alloc, head, records) {
+        Ok(book) => Ok(book),
+        Err(ReplayError::BadRecord { index }) => Err(bad_record(alloc, head, records, index)),
+        Err(ReplayError::OutOfMemory) => Err(OpenError::OutOfMemory),
+    }
+}
+
+/// What records are refused for of which the one with this index is bad.
+fn bad_record(alloc: Global, head: HeadId, records: &[Vec<u8>], index: usize) -> OpenError
+    requires { (bad : List ℕ) × FailsAt head (records_of records.now) index bad }
+    ensures { IsRecordsRefusal head (records_of records.now) result }
+{
+    match is_foreign(alloc, head, records) {
+        Ok(true) => OpenError::ForeignHead,
+        Ok(false) => OpenError::BadRecord { index },
+        Err(_) => OpenError::OutOfMemory,
+    }
+}
+
+/// Whether the first record is of a campaign of another head end.
+fn is_foreign(alloc: Global, head: HeadId, records: &[Vec<u8>]) -> Result<bool, RecordError>
+    ensures { IfOk result (λ is. MatchBool is (IsForeign head (records_of records.now)) (¬ IsForeign head (records_of records.now))) }
+{
+    fw_ledger::laws::one_record();
+    let Some(first) = records.first() else {
+        return Ok(false);
+    };
+    match read_record(alloc, first.as_slice()) {
+        Ok(record) => Ok(campaign_of(&record).head() != Some(head)),
+        Err(RecordError::BadRecord) => Ok(false),
+        Err(RecordError::OutOfMemory) => Err(RecordError::OutOfMemory),
+    }
+}
+
+/// The campaign that a record tells of.
+fn campaign_of(told: &Record<'_>) -> CampaignId
+    ensures { result ≡ campaign_of (entry_of told.now) }
+{
+    match told {
+        Record::Opening { campaign, .. }
+        | Record::Mark { campaign, .. }
+        | Record::Cancelling { campaign } => *campaign,
+    }
+}

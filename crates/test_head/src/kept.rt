@@ -1,0 +1,322 @@
+//! Kept books: what is kept, what a power cut leaves, and what is refused.
+
+use crate::book::{RELEASE_ANSWER, bytes_of, campaign, claim, meter, meters};
+use fw_journal::{Disk, Journal, MemoryDevice};
+use fw_kept::{KeptBook, KeptError, OpenError};
+use fw_names::HeadId;
+use std::alloc::Global;
+use std::test::Fail;
+use test_support::{Case, Takes, each, session};
+
+/// A call of a book of head end 7, or a look at it.
+#[derive(Clone, Copy)]
+enum Step {
+    /// Opens a campaign of this serial number and release, for an image and meters.
+    Open(u32, u32, &'static [u8], &'static [u32]),
+    /// Marks a meter of the campaign of this serial number as done, by a claim of campaign 1, release 5 and image `abc`.
+    Done(u32, u32),
+    /// Marks a meter of the campaign of this serial number as failed.
+    Fail(u32, u32),
+    Cancel(u32),
+    Commit,
+    /// The bytes of the book in memory.
+    Memory,
+    /// The bytes of the book that a power cut leaves.
+    Left,
+    /// The records that a power cut leaves, each with a bar after it.
+    Records,
+}
+
+impl Takes<Step> for KeptBook<MemoryDevice> {
+    fn take(&mut self, alloc: Global, step: &Step) -> Result<String, Fail> {
+        match *step {
+            Step::Open(serial, release, image, numbers) => {
+                opened_text(alloc, self, serial, release, image, numbers)
+            }
+            Step::Done(serial, number) => {
+                let claim = claim(alloc, number, RELEASE_ANSWER)?;
+                answer_text(
+                    alloc,
+                    self.mark_done(alloc, campaign(7, serial)?, claim),
+                )
+            }
+            Step::Fail(serial, number) => answer_text(
+                alloc,
+                self.mark_failed(alloc, campaign(7, serial)?, meter(number)?),
+            ),
+            Step::Cancel(serial) => answer_text(alloc, self.cancel(alloc, campaign(7, serial)?)),
+            Step::Commit => answer_text(alloc, self.commit()),
+            Step::Memory => bytes_of(alloc, self.book()),
+            Step::Left => read_text(alloc, 7, self.device().disk().synced()),
+            Step::Records => records_text(alloc, self.device().disk().synced()),
+        }
+    }
+}
+
+fn answer_text(alloc: Global, answer: Result<(), KeptError>) -> Result<String, Fail> {
+    Ok(match answer {
+        Ok(()) => String::from_str(alloc, "done")?,
+        Err(refusal) => refusal.to_string(alloc)?,
+    })
+}
+
+fn opened_text(
+    alloc: Global,
+    book: &mut KeptBook<MemoryDevice>,
+    serial: u32,
+    release: u32,
+    image: &[u8],
+    numbers: &[u32],
+) -> Result<String, Fail> {
+    let meters = meters(alloc, numbers)?;
+    match book.open_campaign(alloc, campaign(7, serial)?, release, image, &meters) {
+        Ok(_) => answer_text(alloc, Ok(())),
+        Err(refusal) => answer_text(alloc, Err(refusal)),
+    }
+}
+
+fn device_of(alloc: Global, bytes: &[u8]) -> Result<MemoryDevice, Fail> {
+    Ok(MemoryDevice::new(alloc, bytes.to_vec(alloc)?)?)
+}
+
+/// The bytes of the book of a head end that these bytes hold, or what they are refused for.
+fn read_text(alloc: Global, head: u32, bytes: &[u8]) -> Result<String, Fail> {
+    let head = HeadId::new(head).ok_or("no head end")?;
+    match KeptBook::open(alloc, head, device_of(alloc, bytes)?) {
+        Ok(book) => bytes_of(alloc, book.book()),
+        Err((refusal, _)) => refused_text(alloc, refusal),
+    }
+}
+
+fn refused_text(alloc: Global, refusal: OpenError) -> Result<String, Fail> {
+    Ok(refusal.to_string(alloc)?)
+}
+
+fn records_text(alloc: Global, bytes: &[u8]) -> Result<String, Fail> {
+    match Journal::open(alloc, device_of(alloc, bytes)?) {
+        Ok((_, records)) => joined_text(alloc, &records),
+        Err((refusal, _)) => Err(Fail::from(refusal.to_string(alloc)?)),
+    }
+}
+
+fn joined_text(alloc: Global, records: &[Vec<u8>]) -> Result<String, Fail> {
+    let mut text = String::new(alloc);
+    for record in records {
+        text.push_str(hex::encode(alloc, record.as_slice())?.as_str())?;
+        text.push('|')?;
+    }
+    Ok(text)
+}
+
+/// A new book of a head end on a device in memory.
+fn new_book(alloc: Global, head: u32) -> Result<KeptBook<MemoryDevice>, Fail> {
+    let head = HeadId::new(head).ok_or("no head end")?;
+    match KeptBook::create(alloc, head, device_of(alloc, &[])?) {
+        Ok(book) => Ok(book),
+        Err((refusal, _)) => Err(Fail::from(refusal.to_string(alloc)?)),
+    }
+}
+
+#[test]
+fn a_kept_book_outlives_a_cut(rt: HostRuntime) -> Result<(), Fail> {
+    let alloc = rt.alloc();
+    let mut book = new_book(alloc, 7)?;
+    session(alloc, &mut book, KEPT)
+}
+
+/// The book with campaign 1, of release 5 and image `abc`, for meters 1 to 3.
+const ONE: &str =
+    "46574232000000070000000100000005000000036162630003000000010000000002000000000300";
+
+/// The same with meter 2 failed.
+const FAILED: &str =
+    "46574232000000070000000100000005000000036162630003000000010000000002020000000300";
+
+/// With meter 1 done as well.
+const DONE: &str =
+    "46574232000000070000000100000005000000036162630003000000010100000002020000000300";
+
+/// With campaign 2 too, of the same image, for meter 4.
+const TWO: &str =
+    "4657423200000007000000010000000500000003616263000300000001010000000202000000030000000002000000000000000361626300010000000400";
+
+/// With campaign 1 cancelled.
+const CANCELLED: &str =
+    "4657423200000007000000010000000500000003616263000300000001010000000202000000030300000002000000000000000361626300010000000400";
+
+const KEPT: &[(Step, &str)] = &[
+    (Step::Left, "4657423200000007"),
+    (Step::Fail(1, 2), "NoSuchCampaign"),
+    (Step::Open(1, 5, b"abc", &[1, 2, 3]), "done"),
+    (Step::Left, ONE),
+    (Step::Open(1, 5, b"abc", &[4]), "SerialUsed"),
+    (Step::Open(2, 5, b"", &[4]), "EmptyImage"),
+    (Step::Open(2, 5, b"abd", &[4, 1]), "MeterBusy"),
+    (Step::Fail(1, 2), "done"),
+    (Step::Memory, FAILED),
+    (Step::Left, ONE),
+    (Step::Commit, "done"),
+    (Step::Left, FAILED),
+    (Step::Fail(1, 2), "NotLive"),
+    (Step::Done(1, 1), "done"),
+    (Step::Done(1, 1), "NotLive"),
+    (Step::Memory, DONE),
+    (Step::Left, FAILED),
+    (Step::Open(2, 0, b"abc", &[4]), "done"),
+    (Step::Left, TWO),
+    (
+        Step::Records,
+        "010000000700000001000000050100000003616263000000010000000200000003|0200000007000000010000000202|0200000007000000010000000101|01000000070000000200000000020000000100000004|",
+    ),
+    (Step::Done(2, 4), "WrongCampaign"),
+    (Step::Cancel(1), "done"),
+    (Step::Left, CANCELLED),
+    (Step::Memory, CANCELLED),
+    (Step::Cancel(1), "NotLive"),
+    (Step::Cancel(3), "NoSuchCampaign"),
+];
+
+/// What is told of an opening of campaign 2, for meter 4 with image `abc`, where meters 2 and 1 were marked and wait, and the device fails
+/// after so many calls. Then the book in memory, and what is read of the device.
+struct Cut {
+    calls: u64,
+    torn: u8,
+}
+
+impl Case for Cut {
+    fn told(&self, alloc: Global) -> Result<String, Fail> {
+        let mut book = new_book(alloc, 7)?;
+        book.take(alloc, &Step::Open(1, 5, b"abc", &[1, 2, 3]))?;
+        let mut device = device_of(alloc, book.device().bytes())?;
+        device.fuse(self.calls.saturating_add(3), self.torn);
+        let head = HeadId::new(7).ok_or("no head end")?;
+        match KeptBook::open(alloc, head, device) {
+            Ok(book) => opened_again_text(alloc, book),
+            Err((refusal, _)) => refused_text(alloc, refusal),
+        }
+    }
+}
+
+/// What is told of marks that wait and of an opening.
+fn opened_again_text(alloc: Global, book: KeptBook<MemoryDevice>) -> Result<String, Fail> {
+    let mut book = book;
+    book.take(alloc, &Step::Fail(1, 2))?;
+    book.take(alloc, &Step::Done(1, 1))?;
+    let answer = book.take(alloc, &Step::Open(2, 0, b"abc", &[4]))?;
+    let again = book.take(alloc, &Step::Commit)?;
+    judge_cuts(alloc, book.device())?;
+    let memory = name_of(alloc, &bytes_of(alloc, book.book())?)?;
+    let read = name_of(alloc, &read_text(alloc, 7, book.device().bytes())?)?;
+    Ok(format!(in alloc; "{answer} {again}: {memory} {read}")?)
+}
+
+fn name_of(alloc: Global, text: &String) -> Result<String, Fail> {
+    for (bytes, name) in [(ONE, "one"), (DONE, "marked"), (TWO, "two")] {
+        if text.as_str() == bytes {
+            return Ok(String::from_str(alloc, name)?);
+        }
+    }
+    Ok(String::from_str(alloc, text.as_str())?)
+}
+
+/// Fails where a power cut at any moment leaves another book than that of one campaign without its marks, or that of both with them.
+fn judge_cuts(alloc: Global, device: &MemoryDevice) -> Result<(), Fail> {
+    judge_disk(alloc, device.disk())?;
+    for past in device.past() {
+        judge_disk(alloc, past)?;
+    }
+    Ok(())
+}
+
+fn judge_disk(alloc: Global, disk: &Disk) -> Result<(), Fail> {
+    for byte in [0, 1, 2, 255] {
+        for size in [0, 1, 51, 160] {
+            let mut fate = Vec::new(alloc);
+            fate.resize(size, byte)?;
+            let mut fates = Vec::new(alloc);
+            fates.push(fate)?;
+            let told = read_text(alloc, 7, &disk.cut(alloc, &fates)?)?;
+            if told.as_str() != ONE && told.as_str() != TWO {
+                return Err(Fail::from(told));
+            }
+        }
+    }
+    Ok(())
+}
+
+const CUTS: &[(Cut, &str)] = &[
+    (Cut { calls: 0, torn: 1 }, "BookFault BookFault: marked one"),
+    (Cut { calls: 1, torn: 1 }, "BookFault BookFault: marked one"),
+    (Cut { calls: 2, torn: 0 }, "BookFault BookFault: marked one"),
+    (Cut { calls: 2, torn: 1 }, "BookFault BookFault: marked two"),
+    (Cut { calls: 3, torn: 1 }, "BookFault BookFault: marked two"),
+    (Cut { calls: 4, torn: 1 }, "done done: two two"),
+];
+
+/// An opening is there with all marks that waited, or none of it is.
+#[test]
+fn a_cut_leaves_an_opening_or_nothing_of_it(rt: HostRuntime) -> Result<(), Fail> {
+    each(rt.alloc(), CUTS)
+}
+
+/// Records in a journal: what is told of it where head end 7 opens it.
+struct Opened(&'static [&'static str]);
+
+impl Case for Opened {
+    fn told(&self, alloc: Global) -> Result<String, Fail> {
+        match Journal::create(alloc, device_of(alloc, &[])?) {
+            Ok(journal) => opened_text_of(alloc, journal, self.0),
+            Err((refusal, _)) => Err(Fail::from(refusal.to_string(alloc)?)),
+        }
+    }
+}
+
+fn opened_text_of(
+    alloc: Global,
+    journal: Journal<MemoryDevice>,
+    records: &[&str],
+) -> Result<String, Fail> {
+    let mut journal = journal;
+    for record in records {
+        journal.append(alloc, &hex::decode(alloc, record)?)?;
+    }
+    journal.commit()?;
+    read_text(alloc, 7, journal.device().bytes())
+}
+
+const OPENED: &[(Opened, &str)] = &[
+    (Opened(&[]), "4657423200000007"),
+    (
+        Opened(&[
+            "010000000700000001000000050100000003616263000000010000000200000003",
+        ]),
+        ONE,
+    ),
+    (
+        Opened(&[
+            "010000000800000001000000050100000003616263000000010000000200000003",
+        ]),
+        "ForeignHead",
+    ),
+    (Opened(&["030000000800000001"]), "ForeignHead"),
+    (Opened(&["030000000700000001"]), "BadRecord 0"),
+    (Opened(&["04"]), "BadRecord 0"),
+    (
+        Opened(&[
+            "010000000700000001000000050100000003616263000000010000000200000003",
+            "030000000800000001",
+        ]),
+        "BadRecord 1",
+    ),
+];
+
+#[test]
+fn a_device_is_opened_as_the_book_that_it_holds(rt: HostRuntime) -> Result<(), Fail> {
+    let alloc = rt.alloc();
+    each(alloc, OPENED)?;
+    let told = read_text(alloc, 7, b"FWJ2")?;
+    if told.as_str() != "BadBook 0" {
+        return Err(Fail::from(told));
+    }
+    Ok(())
+}
