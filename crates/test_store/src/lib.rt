@@ -9,6 +9,8 @@ mod answers;
 #[cfg(test)]
 mod calls;
 #[cfg(test)]
+mod cuts;
+#[cfg(test)]
 mod devices;
 #[cfg(test)]
 mod digests;

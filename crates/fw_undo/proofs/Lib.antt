@@ -1,0 +1,3 @@
+mod Spellings
+mod Splices
+mod Mending

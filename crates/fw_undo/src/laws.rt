@@ -1,0 +1,13 @@
+//! Laws of the journal and of what a power cut leaves, over the definitions alone.
+
+ghost use Rattle.fw_undo.specs.Laws.{OneWrite, EachCutIsMended};
+
+/// A byte string is at most one write's journal.
+pub fn one_write()
+    ensures { OneWrite }
+{}
+
+/// Whatever sectors of a write are on the disk: what its recovery makes of the file is the file before the write, or the one after it.
+pub fn each_cut_is_mended()
+    ensures { EachCutIsMended }
+{}

@@ -1,0 +1,15 @@
+//! The journal of a write to two places of a file, and what a power cut in such a write leaves of it.
+//!
+//! The journal has the bytes before the write and after it, and their place. A disk writes whole sectors of 512 bytes. So where each
+//! sector of the file is the one of before or the one of after, the write was cut, and the bytes of before are put back. The form is an
+//! own one.
+#![tactic(auto)]
+
+mod bytes;
+pub mod laws;
+mod reading;
+mod sectors;
+mod write;
+
+pub use bytes::{JournalBytes, MAX_JOURNAL_SIZE};
+pub use write::{HeaderWrite, MAX_PART_SIZE};

@@ -1,0 +1,83 @@
+//! What a power cut leaves of a part of a write, sector by sector.
+
+ghost use Rattle.std.specs.Prelude.{◌≡◌, ◌≤◌, ◌<◌, ◌+◌, ◌^◌, false, IsTrue, length};
+ghost use Rattle.fw_undo.specs.Cut.{IsEither, IsCut, IsCutAtEnd, in_sector, resized};
+
+use crate::write::MAX_PART_SIZE;
+
+/// How many bytes a disk writes at once.
+const SECTOR_SIZE: u64 = 512;
+
+/// The bytes of a part that stand in a sector of the disk, where the part begins at this offset of the file.
+fn in_sector(at: u64, sector: u64, part: &[u8]) -> &[u8]
+    requires few { length part.now ≤ 2048 }
+    requires sector { sector < 2 ^ 54 + 5 }
+    ensures { result.now ≡ in_sector at sector part.now }
+{
+    let from = (sector * SECTOR_SIZE).saturating_sub(at);
+    let to = (sector * SECTOR_SIZE + SECTOR_SIZE).saturating_sub(at);
+    let end = to.min(part.len() as u64);
+    &part[from.min(end) as usize..end as usize]
+}
+
+/// Whether a sector of what stands there now is the one of before or the one of after.
+fn is_either(at: u64, sector: u64, now: &[u8], before: &[u8], after: &[u8]) -> bool
+    requires now { length now.now ≤ 2048 }
+    requires before { length before.now ≤ 2048 }
+    requires after { length after.now ≤ 2048 }
+    requires sector { sector < 2 ^ 54 + 5 }
+    ensures either { IsTrue result → IsEither at now.now before.now after.now sector }
+    ensures neither { result ≡ false → ¬ IsEither at now.now before.now after.now sector }
+{
+    let found = in_sector(at, sector, now);
+    found == in_sector(at, sector, before) || found == in_sector(at, sector, after)
+}
+
+/// Whether each sector of what stands there now is the one of before or the one of after. All three have the same number of bytes.
+pub(crate) fn is_cut(at: u64, now: &[u8], before: &[u8], after: &[u8]) -> bool
+    requires place { at < 2 ^ 63 }
+    requires few { length now.now ≤ 2048 }
+    requires before { length before.now ≡ length now.now }
+    requires after { length after.now ≡ length now.now }
+    ensures cut { IsTrue result → IsCut at now.now before.now after.now }
+    ensures other { result ≡ false → ¬ IsCut at now.now before.now after.now }
+{
+    let first = at / SECTOR_SIZE;
+    for sector in first..first + 5 {
+        if !is_either(at, sector, now, before, after) {
+            return false;
+        }
+    }
+    true
+}
+
+/// The same of a part with which the file ends: its length is the one of before or the one of after, too. Where before or after has fewer
+/// bytes, zeros stand for those that it lacks.
+pub(crate) fn is_cut_at_end(at: u64, now: &[u8], before: &[u8], after: &[u8]) -> bool
+    requires place { at < 2 ^ 63 }
+    requires few { length now.now ≤ 2048 }
+    requires before { length before.now ≤ 2048 }
+    requires after { length after.now ≤ 2048 }
+    ensures cut { IsTrue result → IsCutAtEnd at now.now before.now after.now }
+    ensures other { result ≡ false → ¬ IsCutAtEnd at now.now before.now after.now }
+{
+    if now.len() != before.len() && now.len() != after.len() {
+        return false;
+    }
+    let mut old = [0; MAX_PART_SIZE];
+    let mut new = [0; MAX_PART_SIZE];
+    let old = &mut old[..now.len()];
+    let new = &mut new[..now.len()];
+    fill(old, before);
+    fill(new, after);
+    is_cut(at, now, old, new)
+}
+
+/// Fills a part with the first bytes of another, and with zeros where that has fewer.
+fn fill(out: &mut [u8], part: &[u8])
+    ensures { out.new ≡ resized part.now (length out.old) }
+{
+    let size = out.len().min(part.len());
+    out[..size].copy_from_slice(&part[..size]);
+    out[size..].fill(0);
+}

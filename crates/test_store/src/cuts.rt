@@ -1,0 +1,70 @@
+//! The journal of a header write, and what is taken for a cut of one. The digest is that of `sha256sum`.
+
+use fw_undo::{HeaderWrite, MAX_PART_SIZE};
+use std::alloc::Global;
+use std::test::Fail;
+use test_support::{Case, each, expect};
+
+/// A write of two bytes at place 511, across the end of a sector, and of some after place 513 where there were none.
+fn write() -> HeaderWrite<'static> {
+    HeaderWrite {
+        at: 511,
+        before: b"ab",
+        after: b"cd",
+        last_at: 513,
+        last_before: b"",
+        last_after: b"e",
+    }
+}
+
+/// Its journal: the mark, both places, and each part after its length, and their digest.
+const JOURNAL: &str =
+    "4657553100000000000001ff00000000000002010000000261620000000263640000000000000001653996e207b05b9abd15c24a618c7298c6e6f2497505983279be4c937e5cf4e514";
+
+#[test]
+fn the_bytes_of_a_journal(rt: HostRuntime) -> Result<(), Fail> {
+    let alloc = rt.alloc();
+    let bytes = write().to_bytes().ok_or("a journal")?;
+    let text = hex::encode(alloc, bytes.as_slice())?;
+    expect(alloc, 0, text.as_str(), JOURNAL)?;
+    let read = HeaderWrite::from_bytes(bytes.as_slice()).ok_or("a write")?;
+    let again = read.to_bytes().ok_or("a journal")?;
+    let text = hex::encode(alloc, again.as_slice())?;
+    expect(alloc, 1, text.as_str(), JOURNAL)
+}
+
+/// What stands in the places of both parts.
+struct Found(&'static [u8], &'static [u8]);
+
+impl Case for Found {
+    fn told(&self, alloc: Global) -> Result<String, Fail> {
+        let write = write();
+        if !write.fits() || self.0.len() != write.before.len() || self.1.len() > MAX_PART_SIZE {
+            return Err("no such write".into());
+        }
+        let told = if write.is_torn(self.0, self.1) {
+            "torn"
+        } else {
+            "-"
+        };
+        Ok(String::from_str(alloc, told)?)
+    }
+}
+
+/// Either byte of the first part is in a sector of its own. Where the file has its new length already, a zero stands for what isn't written.
+const FOUND: &[(Found, &str)] = &[
+    (Found(b"ab", b""), "torn"),
+    (Found(b"ad", b""), "torn"),
+    (Found(b"cb", b"e"), "torn"),
+    (Found(b"cd", b"\0"), "torn"),
+    (Found(b"cd", b""), "torn"),
+    (Found(b"cd", b"e"), "-"),
+    (Found(b"xb", b""), "-"),
+    (Found(b"ab", b"f"), "-"),
+    (Found(b"ab", b"e\0"), "-"),
+];
+
+#[test]
+fn what_a_cut_leaves(rt: HostRuntime) -> Result<(), Fail> {
+    each(rt.alloc(), FOUND)
+}
