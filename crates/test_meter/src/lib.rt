@@ -9,6 +9,8 @@ mod apdus;
 #[cfg(test)]
 mod comparing;
 #[cfg(test)]
+mod daemons;
+#[cfg(test)]
 mod faults;
 #[cfg(test)]
 mod handling;

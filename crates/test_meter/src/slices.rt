@@ -12,9 +12,9 @@ use test_support::expect_at;
 /// The blocks of 4,096, 4,097 and 8,193 bytes.
 const FOUR: &[u32] = &[1_024, 1_024, 1_024, 1_024];
 
-const FIVE: &[u32] = &[1_024, 1_024, 1_024, 1_024, 1];
+pub(crate) const FIVE: &[u32] = &[1_024, 1_024, 1_024, 1_024, 1];
 
-const NINE: &[u32] = &[1_024, 1_024, 1_024, 1_024, 1_024, 1_024, 1_024, 1_024, 1];
+pub(crate) const NINE: &[u32] = &[1_024, 1_024, 1_024, 1_024, 1_024, 1_024, 1_024, 1_024, 1];
 
 /// Up to where a meter has all blocks of an image of 8,193 bytes, and up to where the first slice is digested.
 const RECEIVED: &[Exchange] = &[(ENABLE, SET_DONE), (INITIATE_8193, DONE)];

@@ -22,6 +22,8 @@ mod live_commands;
 #[cfg(test)]
 mod log;
 #[cfg(test)]
+mod ports;
+#[cfg(test)]
 mod rehearsing;
 #[cfg(test)]
 mod sharing;

@@ -1,0 +1,4 @@
+mod Going
+mod Replying
+mod Hushing
+mod Steps

@@ -1,0 +1,21 @@
+use Rattle.std.proofs.Common.{rules, ◌≡◌, ◌++◌, List, Bool, IsTrue, sym, ap, subst, append_assoc, ◌∙◌}
+use Rattle.fw_daemon.specs.Acts.{Act}
+use Rattle.fw_daemon.proofs.Going.{goes_on}
+use Rattle.fw_daemon.proofs.Steps.{round_on}
+use Rattle.fw_daemon.proofs.serving.serve.Goals as goal
+
+pub step-requires : goal.step-requires
+step-requires g c = λ h done now s.
+    let honest : IsTrue (g.P.Port.honest c.args.port.now) = subst (λ (b : Bool). IsTrue b) c.loop.invariant.3 h in
+    let served = c.loop.invariant.2 honest in
+    subst (λ (l : List Act). g.P.Port.legal c.loop.port l)
+    (append_assoc done served.done (g.P.Port.acts c.args.port.now) ∙ ap (λ (l : List Act). done ++ l) (sym served.adds))
+    (c.loop.invariant.4 _ (c.requires honest (done ++ served.done) now (goes_on _ _ now served.done done served.serving s)))
+
+pub loop-preserved : goal.loop-preserved
+loop-preserved g c =
+    let was = c.loop.invariant in
+    (search rules, search rules, round_on _ _ _ _ _ _ _ _ was.3 was.2 c.step.ensures.serves, c.step.ensures.honesty ∙ was.3, λ done legal. c.step.ensures.law done (was.4 done legal))
+
+pub returns-in-Err-clause-serves : goal.returns-in-Err-clause-serves
+returns-in-Err-clause-serves g c = round_on _ _ _ _ _ _ _ _ c.loop.invariant.3 c.loop.invariant.2 c.step.ensures.serves

@@ -1,0 +1,44 @@
+use Rattle.std.proofs.Common.{rules, ◌≡◌, ◌∷◌, List, [], Some, None, Bool, IsTrue, take, sym, subst}
+use Rattle.fw_meter.specs.Handling.{reply_bytes}
+use Rattle.fw_daemon.specs.Acts.{Act, came, quiet, sent}
+use Rattle.fw_daemon.specs.Daemon.{daemon_of}
+use Rattle.fw_daemon.proofs.Steps.{quiet_round, strange_round, unserved_round, silent_round, replied_round, replies}
+use Rattle.fw_daemon.proofs.serving.step.Goals as goal
+
+pub returns-in_default-clause-serves : goal.returns-in_default-clause-serves
+returns-in_default-clause-serves g c = λ honest.
+    let is : g.P.Port.acts c.receive.new.self ≡ quiet ∷ g.P.Port.acts c.args.port.now = search rules in
+    quiet_round _ _ _ _ is c.turn.ensures
+
+pub send-requires : goal.send-requires
+send-requires g c = λ h.
+    let honest : IsTrue (g.P.Port.honest c.args.port.now) = subst (λ (b : Bool). IsTrue b) c.receive.ensures.honesty h in
+    let is : g.P.Port.acts c.receive.new.self ≡ came c.in-Some.arrival.from (take c.in-Some.arrival.count c.receive.new.buffer) ∷ g.P.Port.acts c.args.port.now = search rules in
+    let reply : reply_bytes c.in-Handled.handled.reply ≡ Some c.deref.result.now = search rules in
+    subst (λ (l : List Act). g.P.Port.legal c.receive.new.self (sent c.in-Some.arrival.from c.deref.result.now ∷ l)) (sym is)
+    (c.receive.ensures.law _ (c.requires honest
+    (sent c.in-Some.arrival.from c.deref.result.now ∷ came c.in-Some.arrival.from (take c.in-Some.arrival.count c.receive.new.buffer) ∷ []) (daemon_of c.heard.new.self)
+    (replies _ _ _ _ _ _ c.in-Handled.ensures reply)))
+
+pub returns-in-Some-reply-clause-serves : goal.returns-in-Some-reply-clause-serves
+returns-in-Some-reply-clause-serves g c = λ honest.
+    let is : g.P.Port.acts c.receive.new.self ≡ came c.in-Some.arrival.from (take c.in-Some.arrival.count c.receive.new.buffer) ∷ g.P.Port.acts c.args.port.now = search rules in
+    let sends : g.P.Port.acts c.send.new.self ≡ sent c.in-Some.arrival.from c.deref.result.now ∷ g.P.Port.acts c.receive.new.self = search rules in
+    let reply : reply_bytes c.in-Handled.handled.reply ≡ Some c.deref.result.now = search rules in
+    replied_round _ _ _ _ _ _ _ _ _ is sends c.in-Handled.ensures reply
+
+pub returns-in-None-clause-serves : goal.returns-in-None-clause-serves
+returns-in-None-clause-serves g c = λ honest.
+    let is : g.P.Port.acts c.receive.new.self ≡ came c.in-Some.arrival.from (take c.in-Some.arrival.count c.receive.new.buffer) ∷ g.P.Port.acts c.args.port.now = search rules in
+    let reply : reply_bytes c.in-Handled.handled.reply ≡ None = search rules in
+    silent_round _ _ _ _ _ _ _ is c.in-Handled.ensures reply
+
+pub returns-in-Stranger-clause-serves : goal.returns-in-Stranger-clause-serves
+returns-in-Stranger-clause-serves g c = λ honest.
+    let is : g.P.Port.acts c.receive.new.self ≡ came c.in-Some.arrival.from (take c.in-Some.arrival.count c.receive.new.buffer) ∷ g.P.Port.acts c.args.port.now = search rules in
+    strange_round _ _ _ _ _ _ _ is c.in-Stranger.ensures c.turn-in-Stranger.ensures
+
+pub returns-in-OutOfMemory-clause-serves : goal.returns-in-OutOfMemory-clause-serves
+returns-in-OutOfMemory-clause-serves g c = λ honest.
+    let is : g.P.Port.acts c.receive.new.self ≡ came c.in-Some.arrival.from (take c.in-Some.arrival.count c.receive.new.buffer) ∷ g.P.Port.acts c.args.port.now = search rules in
+    unserved_round _ _ _ _ _ _ is c.in-OutOfMemory.ensures

@@ -1,0 +1,5 @@
+-- Public vocabulary: the words of public clauses, for callers and readers.
+pub mod Acts
+pub mod Daemon
+pub mod Serving
+pub mod Laws

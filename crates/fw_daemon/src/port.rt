@@ -1,0 +1,79 @@
+//! Ports: where the datagrams of a daemon come from and go to.
+
+ghost use Rattle.std.specs.Prelude.{
+  ◌≡◌,
+  ◌≤◌,
+  ◌∷◌,
+  Bool,
+  List,
+  IsTrue,
+  IfOk,
+  IfSome,
+  MatchOption,
+  OnErr,
+  length,
+  take,
+};
+ghost use Rattle.fw_daemon.specs.Acts.{Act, came, quiet, sent};
+
+use std::net::SocketAddr;
+use thiserror::Error;
+
+/// The bytes of the buffer that a daemon receives into: one more than a datagram of this profile can have, so a longer one, which is
+/// cut, is none.
+pub const MAX_RECEIVED: usize = 2313;
+
+/// The port is closed: nothing comes any more.
+#[derive(Clone, Copy, Debug, PartialEq, Eq, Error)]
+#[error("Closed")]
+pub struct Closed;
+
+/// Whether a receive waits for a datagram where none is there.
+#[derive(Clone, Copy, Debug, PartialEq, Eq)]
+pub enum Patience {
+    /// It waits, as long as the port does.
+    Waits,
+    /// It doesn't.
+    Polls,
+}
+
+/// A datagram that came.
+#[derive(Clone, Copy, Debug, PartialEq, Eq)]
+pub struct Arrival {
+    /// The address that it came from.
+    pub from: SocketAddr,
+    /// How many bytes of the buffer it has.
+    pub count: usize,
+}
+
+/// Where datagrams come from and go to. What an honest port did is known, and it lets through only what is legal.
+pub trait Port {
+    /// Whether the port does what is said below.
+    ghost honest: { Self → Bool };
+
+    /// What came and was sent, and when nothing came, the newest first.
+    ghost acts: { Self → List Act };
+
+    /// What may have been done once a datagram was sent.
+    ghost legal: { Self → List Act → Type 0 };
+
+    /// Receives the next datagram into the buffer, cut to its length. `None` says that none came in time.
+    ///
+    /// # Errors
+    ///
+    /// `Closed` where nothing comes any more.
+    fn receive(&mut self, patience: Patience, buffer: &mut [u8]) -> Result<Option<Arrival>, Closed>
+        ensures bound { IfOk result (λ came. IfSome came (λ a. a.count ≤ length buffer.new)) }
+        ensures came { IsTrue (honest self.old) → IfOk result (λ r. MatchOption r (acts self.new ≡ quiet ∷ acts self.old)
+            (λ a. acts self.new ≡ came a.from (take a.count buffer.new) ∷ acts self.old)) }
+        ensures closed { IsTrue (honest self.old) → OnErr result (acts self.new ≡ acts self.old) }
+        ensures honesty { honest self.new ≡ honest self.old }
+        ensures law { (done : List Act) → legal self.old done → legal self.new done };
+
+    /// Sends a datagram, which has to be legal after all that was done. A datagram that can't be sent is lost.
+    fn send(&mut self, to: SocketAddr, bytes: &[u8])
+        requires { IsTrue (honest self.old) → legal self.old (sent to bytes.now ∷ acts self.old) }
+        ensures sent { IsTrue (honest self.old) → acts self.new ≡ sent to bytes.now ∷ acts self.old }
+        ensures honesty { honest self.new ≡ honest self.old }
+        ensures law { (done : List Act) → legal self.old done → legal self.new done };
+}

@@ -1,0 +1,94 @@
+//! The loop of a meter's daemon over a port. A port asks at each send whether it may be, so a loop that never ends is held to it too.
+
+ghost use Rattle.std.specs.Prelude.{◌≡◌, ◌++◌, IsTrue, List, OnErr};
+ghost use Rattle.fw_daemon.specs.Acts.{Act};
+ghost use Rattle.fw_daemon.specs.Daemon.{Daemon, daemon_of};
+ghost use Rattle.fw_daemon.specs.Serving.{Serving, Serves};
+
+use crate::daemon::{Dropped, Heard, MeterDaemon};
+use crate::port::{Closed, MAX_RECEIVED, Patience, Port};
+use fw_meter::Handled;
+use fw_names::ImageName;
+use fw_store::ImageStore;
+use std::alloc::Global;
+use std::sync::Wait;
+
+/// What looks at a daemon while it serves.
+pub trait Watch {
+    /// It is called after each round, with the name of the image that the meter switched to in it, where it did, and with how many
+    /// datagrams were dropped so far.
+    fn round(&mut self, activated: Option<ImageName>, dropped: Dropped);
+}
+
+/// One round: what comes is handled and replied to. Where nothing came, or a stranger's datagram did, the meter takes a turn. While an
+/// image is verified nothing is waited for. It returns the name of the image that the meter switched to, where it did.
+///
+/// # Errors
+///
+/// `Closed` where the port is closed. Nothing was done then.
+pub fn step<P: Port, S: ImageStore + Drop>(
+    alloc: Global,
+    port: &mut P,
+    daemon: &mut MeterDaemon<S>,
+) -> Result<Option<ImageName>, Closed>
+    // What a daemon does that is as this one may be done.
+    requires { IsTrue (P.honest port.old) → (done : List Act) (now : Daemon) → Serving (daemon_of daemon.old) done now
+        → P.legal port.old (done ++ P.acts port.old) }
+    ensures serves { IsTrue (P.honest port.old)
+        → Serves (daemon_of daemon.old) (P.acts port.old) (P.acts port.new) (daemon_of daemon.new) }
+    ensures closed { OnErr result (daemon_of daemon.new ≡ daemon_of daemon.old) }
+    ensures honesty { P.honest port.new ≡ P.honest port.old }
+    ensures law { (done : List Act) → P.legal port.old done → P.legal port.new done }
+{
+    let mut buffer = [0u8; MAX_RECEIVED];
+    let patience = if daemon.is_verifying() {
+        Patience::Polls
+    } else {
+        Patience::Waits
+    };
+    let Some(arrival) = port.receive(patience, &mut buffer)? else {
+        daemon.turn();
+        return Ok(None);
+    };
+    match daemon.heard(alloc, arrival.from, &buffer[..arrival.count]) {
+        Heard::Handled(handled) => {
+            let Handled { reply, activated } = handled;
+            match reply {
+                Some(reply) => {
+                    port.send(arrival.from, &reply);
+                    Ok(activated)
+                }
+                None => Ok(activated),
+            }
+        }
+        Heard::Stranger => {
+            daemon.turn();
+            Ok(None)
+        }
+        Heard::OutOfMemory => Ok(None),
+    }
+}
+
+/// Serves until the port is closed.
+pub fn serve<R: Wait, P: Port, S: ImageStore + Drop, W: Watch>(
+    rt: &R,
+    alloc: Global,
+    port: &mut P,
+    daemon: &mut MeterDaemon<S>,
+    watch: &mut W,
+) -> Closed
+    // What a daemon does that is as this one may be done.
+    requires { IsTrue (P.honest port.old) → (done : List Act) (now : Daemon) → Serving (daemon_of daemon.old) done now
+        → P.legal port.old (done ++ P.acts port.old) }
+    ensures serves { IsTrue (P.honest port.old)
+        → Serves (daemon_of daemon.old) (P.acts port.old) (P.acts port.new) (daemon_of daemon.new) }
+    ensures honesty { P.honest port.new ≡ P.honest port.old }
+{
+    for _ in rt.forever() {
+        match step(alloc, port, daemon) {
+            Ok(activated) => watch.round(activated, daemon.dropped()),
+            Err(closed) => return closed,
+        }
+    }
+    unreachable!()
+}
