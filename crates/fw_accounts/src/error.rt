@@ -1,5 +1,9 @@
 //! Why what workers did is not accounted for.
 
+ghost use Rattle.std.specs.Prelude.{◌≡◌};
+ghost use Rattle.fw_accounts.specs.Refusals.{of_audit};
+ghost use Rattle.fw_accounts.specs.declared.error.AccountError.TheVariants as refused;
+
 use fw_air::AuditError;
 use std::alloc::{AllocError, AllocFailed};
 use thiserror::Error;
@@ -16,18 +20,24 @@ pub enum AccountError {
 }
 
 impl From<AllocError> for AccountError {
+    ghost from_gives = { λ _ e. e ≡ refused.OutOfMemory };
+
     fn from(_error: AllocError) -> AccountError {
         AccountError::OutOfMemory
     }
 }
 
 impl<T: Drop> From<AllocFailed<T>> for AccountError {
+    ghost from_gives = { λ _ e. e ≡ refused.OutOfMemory };
+
     fn from(_error: AllocFailed<T>) -> AccountError {
         AccountError::OutOfMemory
     }
 }
 
 impl From<AuditError> for AccountError {
+    ghost from_gives = { λ refusal e. e ≡ of_audit refusal };
+
     fn from(refusal: AuditError) -> AccountError {
         match refusal {
             AuditError::BadSetup | AuditError::Mismatch => AccountError::Mismatch,

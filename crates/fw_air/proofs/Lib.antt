@@ -1,8 +1,10 @@
 pub mod Adding
 pub mod Alike
+pub mod Fated
 pub mod Finding
 pub mod Making
 pub mod OneWorld
+pub mod Passing
 pub mod Present
 pub mod Refused
 pub mod Runs

@@ -1,5 +1,5 @@
 -- The links of a world, as they are made one after another.
-use Rattle.std.proofs.Common.{◌≡◌, ℕ, Bool, true, false, IsTrue, is_some, ◌&&◌, List, [], ◌∷◌, ◌++◌, map, filter, cond, Option, Some, None, refl, sym, ap, subst, ◌∙◌, append_assoc}
+use Rattle.std.proofs.Common.{◌≡◌, ℕ, zero, suc, ◌<◌, ◌≤◌, Bool, true, false, IsTrue, is_some, ◌&&◌, List, length, get_or, arith, [], ◌∷◌, ◌++◌, map, filter, cond, Option, Some, None, refl, sym, ap, subst, ◌∙◌, append_assoc}
 use Rattle.std.proofs.lemmas.List.{map-append}
 use Rattle.std.proofs.lemmas.List.Elements.{All-nil}
 use Rattle.fw_head.specs.Head.{Head}
@@ -56,3 +56,20 @@ module _ (s : State) (head : ℕ) where
   no_link meters rest meter made whole next is before =
       let passed : links_with s head (meter ∷ rest) ≡ links_with s head rest = ap (by rest meter) is in
       ap (λ (l : List Link). map link_of made ++ l) (sym (ap (links_with s head) next ∙ passed)) ∙ before
+
+  -- a link of a meter is one of those with the head end
+  longer : (rest : List MeterSetup) (meter : MeterSetup) (b : Bool) → length (links_with s head rest) ≤ length (by rest meter b)
+  longer rest meter true = omega arith
+  longer rest meter false = omega arith
+
+  pub some_link : (meters : List MeterSetup) (i : ℕ) (meter : MeterSetup) → i < length meters → meter ≡ get_or meters i meter → is_link s head (number_of_meter meter) ≡ true
+      → 1 ≤ length (links_with s head meters)
+  some_link [] i meter inside is there = absurd (omega arith)
+  some_link (first ∷ rest) zero meter inside is there =
+      let taken : links_with s head (first ∷ rest) ≡ link first ∷ links_with s head rest = ap (by rest first) (subst (λ (m : MeterSetup). is_with m ≡ true) is there) in
+      let long = ap (λ (l : List Link). length l) taken in
+      omega arith
+  some_link (first ∷ rest) (suc i) meter inside is there =
+      let others = some_link rest i meter (omega arith) is there in
+      let more = longer rest first (is_with first) in
+      omega arith

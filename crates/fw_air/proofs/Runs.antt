@@ -1,6 +1,6 @@
 -- Runs that nothing refuses: what they keep, and how they follow one another.
 use Rattle.std.proofs.Common.{◌≡◌, ℕ, zero, suc, ◌+◌, ◌<◌, ◌≤◌, length, slice_get, slice_index_or, drop, take, arith, List, [], ◌∷◌, ◌++◌, map, Some, inl, inr, Result, Ok, Err, refl, sym, ap, subst, ◌∙◌, append_assoc}
-use Rattle.std.proofs.lemmas.List.{append-nil, drop_all, drop_more, get_or-map, length-map, map-append, take_all}
+use Rattle.std.proofs.lemmas.List.{append-nil, drop_all, drop_more, get_or-map, length-map, take_all}
 use Rattle.std.specs.List.{AllZip}
 use Rattle.std.specs.Prelude.{OnOk, OnErr, IfErr, IsErrAnd}
 use Rattle.fw_world.specs.declared.error.StepError.{StepError}
@@ -12,11 +12,12 @@ use Rattle.fw_world.specs.Refusals.{IsRefused}
 use Rattle.fw_world.specs.Runs.{events_of}
 use Rattle.fw_world.specs.Setup.{opening_state}
 use Rattle.fw_world.specs.State.{State}
-use Rattle.fw_world.specs.Step.{Event, deliver, tick}
+use Rattle.fw_world.specs.Step.{Event}
 use Rattle.fw_world.specs.View.{event_of}
+use Rattle.fw_air.specs.declared.fates.Fate.{Fate}
 use Rattle.fw_air.specs.Inside.{Recorded, Follows, GoesOn, MakesRounds}
-use Rattle.fw_air.specs.Rounds.{Admits, AdmittedRun, Link, IsLinkRound, OneByOne, last_turn}
-use Rattle.fw_air.specs.Schedules.{IsUnscheduled, Runs, Schedules}
+use Rattle.fw_air.specs.Rounds.{Admits, AdmittedRun, OneByOne}
+use Rattle.fw_air.specs.Schedules.{IsUnscheduled, Runs, ScheduleHasFates, Schedules}
 
 pub run_append : (old mid new : State) (xs ys : List Event) → AdmittedRun old xs mid → AdmittedRun mid ys new → AdmittedRun old (xs ++ ys) new
 run_append old mid new [] ys r s = subst (λ (w : State). AdmittedRun w ys new) r s
@@ -56,30 +57,15 @@ pub leads_there : {A : Type 0} (Does : A → State → List Event → State → 
 leads_there Does all left old now so_far is leads =
     subst (λ (l : List Event). OneByOne Does all old l now) (append-nil so_far) (leads [] now (subst (λ l. OneByOne Does l now [] now) (sym is) (refl, refl)))
 
--- ---- a round of a link
-
-pub one_round : (link : Link) (a b c d e : Recorded) (late first second : List ℕ) → Follows a (map deliver late ++ tick link.head link.meter ∷ []) b
-    → Follows b (map deliver first) c → Follows c (map deliver second) d → Follows d (last_turn d.world link.meter) e
-    → (events : List Event) × Follows a events e × IsLinkRound link a.world events e.world
-one_round link a b c d e late first second begins one other ends =
-    let begun : List Event = map deliver late ++ tick link.head link.meter ∷ [] in
-    let comes : List Event = map deliver late ++ tick link.head link.meter ∷ map deliver (first ++ second) in
-    let joined : (begun ++ map deliver first) ++ map deliver second ≡ comes =
-    append_assoc begun (map deliver first) (map deliver second)
-    ∙ ap (λ (l : List Event). begun ++ l) (sym (map-append deliver first second))
-    ∙ append_assoc (map deliver late) (tick link.head link.meter ∷ []) (map deliver (first ++ second)) in
-    let all : Follows a comes d =
-    subst (λ (l : List Event). Follows a l d) joined (follows_on a c d (begun ++ map deliver first) (map deliver second) (follows_on a b c begun (map deliver first) begins one) other) in (
-      comes ++ last_turn d.world link.meter,
-      follows_on a d e comes (last_turn d.world link.meter) all ends,
-      record { late = late; waiting = first ++ second; middle = d.world; comes = all.run; turns = ends.run; events_are = refl },
-    )
-
 -- ---- the end of a call
 
 pub on_ok : {X E : Type 0} (r : Result X E) (P Q : Type 0) → (P → Q) → OnOk r P → OnOk r Q
 on_ok (Ok x) P Q f h = f h
 on_ok (Err e) P Q f h = h
+
+pub err_has : {X E : Type 0} (r : Result X E) (P : Type 0) → P → OnErr r P
+err_has (Ok x) P p = tt
+err_has (Err e) P p = p
 
 -- an event happened, or the world is as it was
 pub at_last : {X E : Type 0} (r : Result X E) (a b c : Recorded) (xs ys : List Event) → Follows a xs b → OnOk r (Follows b ys c) → OnErr r (c ≡ b) → GoesOn a c
@@ -148,12 +134,13 @@ same_events (event ∷ events) (copy ∷ copies) h = ap (λ e. e ∷ events_of c
 
 -- ---- behind the given events
 
-pub scheduled : (setup : Setup) (given : List Event) (rounds : ℕ) (world : State) (list : List Event) (old new : Recorded) → old ≡ record { world = world; events = given } → AdmittedRun (opening_state setup) given world
-    → MakesRounds setup rounds old new → list ≡ new.events → Schedules setup given rounds list × Runs setup list
-scheduled setup given rounds world list old new is run made same =
+pub scheduled : (setup : Setup) (given : List Event) (rounds : ℕ) (fates : List Fate) (world : State) (list : List Event) (old new : Recorded) → old ≡ record { world = world; events = given } → AdmittedRun (opening_state setup) given world
+    → MakesRounds setup rounds fates old new → list ≡ new.events → Schedules setup given rounds list × ScheduleHasFates setup given rounds fates list × Runs setup list
+scheduled setup given rounds fates world list old new is run made same =
     let all : list ≡ given ++ made.events = same ∙ made.follows.noted ∙ ap (λ (r : Recorded). r.events ++ made.events) is in
     let before : AdmittedRun (opening_state setup) given old.world = subst (AdmittedRun (opening_state setup) given) (sym (ap (λ (r : Recorded). r.world) is)) run in (
       record { middle = old.world; end = new.world; behind = made.events; begins = all; given_run = before; rounds_run = made.rounds_run },
+      record { middle = old.world; end = new.world; behind = made.events; begins = all; given_run = before; rounds_run = made.have_fates },
       (new.world, subst (λ es. AdmittedRun (opening_state setup) es new.world) (sym all) (run_append (opening_state setup) old.world new.world given made.events before made.follows.run)),
     )
 

@@ -1,5 +1,5 @@
 -- Private vocabulary: a world with the events that made it, and the steps of an audit.
-use Rattle.std.specs.Prelude.{◌≡◌, ℕ, List, ◌++◌, replicate}
+use Rattle.std.specs.Prelude.{◌≡◌, ℕ, List, ◌++◌, map, replicate}
 use Rattle.fw_head.specs.Phase.{phase_of}
 use Rattle.fw_head.specs.Row.{Row}
 use Rattle.fw_world.specs.declared.error.SetupError.TheVariants as unmade
@@ -11,6 +11,8 @@ use Rattle.fw_world.specs.State.{State}
 use Rattle.fw_world.specs.Step.{Event}
 use Rattle.fw_air.specs.declared.audits.AuditError.{AuditError}
 use Rattle.fw_air.specs.declared.audits.AuditError.TheVariants as audit
+use Rattle.fw_air.specs.declared.fates.Fate.{Fate}
+use Rattle.fw_air.specs.Queues.{RoundsHaveFates, new_queue}
 use Rattle.fw_air.specs.Rounds.{AdmittedRun, OneByOne, IsRound, links}
 
 -- a world that events led to, and these events
@@ -27,11 +29,12 @@ pub record Follows (old : Recorded) (events : List Event) (new : Recorded) : Typ
 abbrev pub GoesOn : Recorded → Recorded → Type 0
 GoesOn old new = (events : List Event) × Follows old events new
 
--- so many rounds happened, of the links that there were before them
-pub record MakesRounds (setup : Setup) (rounds : ℕ) (old new : Recorded) : Type 0 where
+-- so many rounds happened, of the links that there were before them, with these fates
+pub record MakesRounds (setup : Setup) (rounds : ℕ) (fates : List Fate) (old new : Recorded) : Type 0 where
   pub events : List Event
   pub follows : Follows old events new
   pub rounds_run : OneByOne IsRound (replicate rounds (links setup old.world)) old.world events new.world
+  pub have_fates : RoundsHaveFates fates rounds (map new_queue (links setup old.world)) old.world events new.world
 
 -- ---- audits
 

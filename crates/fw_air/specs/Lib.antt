@@ -1,6 +1,7 @@
 -- Public vocabulary: the words of public clauses, for callers and readers.
 pub mod Fates
 pub mod Rounds
+pub mod Queues
 pub mod Schedules
 pub mod Ticks
 pub mod Laws

@@ -1,7 +1,8 @@
 -- Public vocabulary: the links of a world with what waits on them.
-use Rattle.std.specs.Prelude.{ℕ, ◌<◌, IsTrue, is_some, List, length, All}
+use Rattle.std.specs.Prelude.{◌≡◌, ℕ, ◌<◌, IsTrue, is_some, List, [], length, All}
 use Rattle.fw_world.specs.State.{State, head_at, meter_at}
 use Rattle.fw_air.specs.declared.links.Waiting.{Waiting}
+use Rattle.fw_air.specs.Queues.{Queue}
 use Rattle.fw_air.specs.Rounds.{Link}
 
 -- the link of what waits
@@ -11,6 +12,19 @@ link_of waiting = record { head = waiting.head; meter = waiting.meter }
 -- the datagrams that are late
 abbrev pub late_of : Waiting → List ℕ
 late_of waiting = waiting.late.items
+
+-- how many datagrams had their fates
+abbrev pub passed_of : Waiting → ℕ
+passed_of waiting = waiting.passed
+
+-- what waits on a link, without its memory
+abbrev pub queue_of : Waiting → Queue
+queue_of waiting = record { link = link_of waiting; passed = passed_of waiting; late = late_of waiting }
+
+-- nothing was sent on it
+pub record IsNew (waiting : Waiting) : Type 0 where
+  pub passed : passed_of waiting ≡ 0
+  pub late : late_of waiting ≡ []
 
 -- these datagrams were sent
 abbrev pub AreSent : State → List ℕ → Type 0

@@ -1,5 +1,5 @@
 -- Public vocabulary: what a schedule answers.
-use Rattle.std.specs.Prelude.{◌≡◌, ◌⊎◌, ℕ, List, ◌++◌, length, take, replicate, slice_get, Some}
+use Rattle.std.specs.Prelude.{◌≡◌, ◌⊎◌, ℕ, List, ◌++◌, length, map, take, replicate, slice_get, Some}
 use Rattle.fw_world.specs.declared.error.StepError.{StepError}
 use Rattle.fw_world.specs.declared.error.StepError.TheVariants.{OutOfMemory}
 use Rattle.fw_world.specs.declared.runs.RunError.{RunError}
@@ -10,6 +10,8 @@ use Rattle.fw_world.specs.Runs.{IsUnmade}
 use Rattle.fw_world.specs.Setup.{IsSetup, opening_state}
 use Rattle.fw_world.specs.State.{State}
 use Rattle.fw_world.specs.Step.{Event}
+use Rattle.fw_air.specs.declared.fates.Fate.{Fate}
+use Rattle.fw_air.specs.Queues.{RoundsHaveFates, new_queue}
 use Rattle.fw_air.specs.Rounds.{AdmittedRun, OneByOne, IsRound, links}
 
 -- The given events, and behind them so many rounds of the links that there are then.
@@ -20,6 +22,16 @@ pub record Schedules (setup : Setup) (given : List Event) (rounds : ℕ) (events
   pub begins : events ≡ given ++ behind
   pub given_run : AdmittedRun (opening_state setup) given middle
   pub rounds_run : OneByOne IsRound (replicate rounds (links setup middle)) middle behind end
+
+-- The given events, and after them N rounds of the links that there are then, on which nothing was sent. In these rounds the datagrams
+-- of each link have the fates of this list, one after another, in both directions, and the list is repeated.
+pub record ScheduleHasFates (setup : Setup) (given : List Event) (rounds : ℕ) (fates : List Fate) (events : List Event) : Type 0 where
+  pub middle : State
+  pub end : State
+  pub behind : List Event
+  pub begins : events ≡ given ++ behind
+  pub given_run : AdmittedRun (opening_state setup) given middle
+  pub rounds_run : RoundsHaveFates fates rounds (map new_queue (links setup middle)) middle behind end
 
 -- a run over all events, none of which is refused
 abbrev pub Runs : Setup → List Event → Type 0

@@ -1,7 +1,9 @@
 //! The links of a world, and what waits on each.
 
-ghost use Rattle.std.specs.Prelude.{◌≡◌, ◌<◌, ◌++◌, [], All, IfOk, OnOk, map};
-ghost use Rattle.fw_air.specs.Links.{IsThere, late_of, link_of};
+ghost use Rattle.std.specs.Prelude.{◌≡◌, ◌+◌, ◌-◌, ◌<◌, ◌≤◌, ◌++◌, [], All, Some, IfOk, OnOk, OnErr, length, map};
+ghost use Rattle.fw_air.specs.Fates.{by_fates, comes, fate_of, waits};
+ghost use Rattle.fw_air.specs.Links.{IsNew, IsThere, late_of, link_of, passed_of};
+ghost use Rattle.fw_air.specs.Logs.{capped};
 ghost use Rattle.fw_air.specs.Rounds.{is_link, links, links_with, stands_in};
 
 use crate::fates::{Fate, Fates};
@@ -42,6 +44,7 @@ impl Waiting {
         ensures late { result.items ≡ late_of self.old }
         ensures none { late_of self.new ≡ [] }
         ensures link { link_of self.new ≡ link_of self.old }
+        ensures passed { passed_of self.new ≡ passed_of self.old }
     {
         mem::replace(&mut self.late, Vec::new(alloc))
     }
@@ -52,7 +55,7 @@ impl Waiting {
     ///
     /// # Errors
     ///
-    /// Want of memory alone. Some of the datagrams have then had their fates, and those that were to come are lost.
+    /// Out of memory alone, and only where a datagram comes or is late. Some of the datagrams are then late, and the others are lost.
     pub fn pass(
         &mut self,
         alloc: Global,
@@ -60,6 +63,13 @@ impl Waiting {
         from: usize,
         end: usize,
     ) -> Result<Vec<usize>, AllocError>
+        ensures comes { IfOk result (λ coming. coming.items
+            ≡ by_fates comes fates.now (passed_of self.old) from end) }
+        ensures waits { OnOk result (late_of self.new
+            ≡ late_of self.old ++ by_fates waits fates.now (passed_of self.old) from end) }
+        ensures passed { OnOk result (passed_of self.new ≡ capped (passed_of self.old + (end - from))) }
+        ensures memory { OnErr result (1 ≤ length (by_fates comes fates.now (passed_of self.old) from end)
+            + length (by_fates waits fates.now (passed_of self.old) from end)) }
         ensures coming { IfOk result (λ coming. All (λ number. number < end) coming.items) }
         ensures late { All (λ number. number < end) (late_of self.old)
             → OnOk result (All (λ number. number < end) (late_of self.new)) }
@@ -67,8 +77,7 @@ impl Waiting {
     {
         let mut coming = Vec::new(alloc);
         for datagram in from..end {
-            let fate = fates.of(self.passed);
-            self.passed = self.passed.saturating_add(1);
+            let fate = self.fate_at(fates, datagram - from);
             match fate {
                 Fate::Deliver => coming.push(datagram)?,
                 Fate::Drop => {}
@@ -79,20 +88,30 @@ impl Waiting {
                 Fate::Late => self.late.push(datagram)?,
             }
         }
+        self.passed = self.passed.saturating_add(end.saturating_sub(from) as u64);
         Ok(coming)
+    }
+
+    /// The fate of the datagram after so many others, from here on.
+    fn fate_at(&self, fates: &Fates<'_>, others: usize) -> Fate
+        ensures { fate_of fates.now (capped (passed_of self.now + others)) ≡ Some result }
+    {
+        fates.of(self.passed.saturating_add(others as u64))
     }
 }
 
 /// The links of a world: by head ends, and then by meters, in the order of the setup. A link is a head end and a meter that stands in
-/// its book, also where its rows have all ended. Nothing waits on them. Each end of a link is looked for as `World::book` and
-/// `World::meter` do.
+/// its book, also where its rows have all ended. Nothing was sent on them, and nothing waits. Each end of a link is looked for as
+/// `World::book` and `World::meter` do.
 ///
 /// # Errors
 ///
-/// Want of memory alone.
+/// Out of memory alone, and only where there is a link.
 pub fn links_of(alloc: Global, setup: &Setup, world: &World) -> Result<Vec<Waiting>, AllocError>
     ensures all { IfOk result (λ made. map link_of made.items ≡ links setup.now world.now) }
     ensures there { IfOk result (λ made. All (IsThere world.now) made.items) }
+    ensures unsent { IfOk result (λ made. All IsNew made.items) }
+    ensures memory { OnErr result (1 ≤ length (links setup.now world.now)) }
 {
     let mut made = Vec::new(alloc);
     for head in &setup.heads {
@@ -109,10 +128,13 @@ fn push_links(
     head: HeadId,
     meters: &[MeterSetup],
 ) -> Result<(), AllocError>
-    requires { All (IsThere world.now) made.old.items }
+    requires there { All (IsThere world.now) made.old.items }
+    requires unsent { All IsNew made.old.items }
     ensures all { OnOk result (map link_of made.new.items
         ≡ map link_of made.old.items ++ links_with world.now head meters.now) }
     ensures there { OnOk result (All (IsThere world.now) made.new.items) }
+    ensures unsent { OnOk result (All IsNew made.new.items) }
+    ensures memory { OnErr result (1 ≤ length (links_with world.now head meters.now)) }
 {
     for meter in meters {
         if has_link(world, head, meter.meter) {

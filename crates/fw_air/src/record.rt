@@ -2,7 +2,8 @@
 
 ghost use Rattle.std.specs.Prelude.{
   ◌≡◌,
-  ℕ,
+  ◌+◌,
+  ◌-◌,
   ◌<◌,
   ◌≤◌,
   ◌++◌,
@@ -28,8 +29,11 @@ ghost use Rattle.fw_world.specs.Runs.{events_of};
 ghost use Rattle.fw_world.specs.State.{meter_at};
 ghost use Rattle.fw_world.specs.Step.{Event as Given, deliver, tick, turn};
 ghost use Rattle.fw_world.specs.View.{event_of};
+ghost use Rattle.fw_air.specs.Fates.{by_fates, comes, waits};
 ghost use Rattle.fw_air.specs.Inside.{Follows, GoesOn};
-ghost use Rattle.fw_air.specs.Links.{AreSent, IsThere, link_of};
+ghost use Rattle.fw_air.specs.Links.{AreSent, IsThere, late_of, link_of, passed_of, queue_of};
+ghost use Rattle.fw_air.specs.Logs.{capped};
+ghost use Rattle.fw_air.specs.Queues.{HasFates, RoundHasFates, RoundsHaveFates};
 ghost use Rattle.fw_air.specs.Rounds.{IsLinkRound, IsRound, OneByOne, last_turn};
 
 use crate::fates::Fates;
@@ -153,7 +157,8 @@ impl Record {
     ) -> Result<(), StepError>
         requires { All (IsThere self.old.world) links.old }
         ensures all { OnOk result ((events : List Given) × Follows self.old events self.new
-            × OneByOne IsRound (replicate rounds (map link_of links.old)) self.old.world events self.new.world) }
+            × OneByOne IsRound (replicate rounds (map link_of links.old)) self.old.world events self.new.world
+            × RoundsHaveFates fates.now rounds (map queue_of links.old) self.old.world events self.new.world) }
         ensures memory { IfErr result (λ e. e ≡ OutOfMemory) }
         ensures goes_on { GoesOn self.old self.new }
     {
@@ -172,7 +177,8 @@ impl Record {
     ) -> Result<(), StepError>
         requires { All (IsThere self.old.world) links.old }
         ensures all { OnOk result ((events : List Given) × Follows self.old events self.new
-            × IsRound (map link_of links.old) self.old.world events self.new.world) }
+            × IsRound (map link_of links.old) self.old.world events self.new.world
+            × RoundHasFates fates.now (map queue_of links.old) self.old.world events (map queue_of links.new) self.new.world) }
         ensures there { OnOk result (All (IsThere self.new.world) links.new) }
         ensures links { OnOk result (map link_of links.new ≡ map link_of links.old) }
         ensures memory { IfErr result (λ e. e ≡ OutOfMemory) }
@@ -194,7 +200,8 @@ impl Record {
     ) -> Result<(), StepError>
         requires { IsThere self.old.world link.old }
         ensures all { OnOk result ((events : List Given) × Follows self.old events self.new
-            × IsLinkRound (link_of link.old) self.old.world events self.new.world) }
+            × IsLinkRound (link_of link.old) self.old.world events self.new.world
+            × HasFates fates.now (queue_of link.old) self.old.world events (queue_of link.new) self.new.world) }
         ensures late { OnOk result (AreSent self.new.world link.new.late.items) }
         ensures link { OnOk result (link_of link.new ≡ link_of link.old) }
         ensures memory { IfErr result (λ e. e ≡ OutOfMemory) }
@@ -217,6 +224,7 @@ impl Record {
             (map deliver link.old.late.items ++ tick link.old.head link.old.meter ∷ []) self.new) }
         ensures late { link.new.late.items ≡ [] }
         ensures link { link_of link.new ≡ link_of link.old }
+        ensures passed { passed_of link.new ≡ passed_of link.old }
         ensures memory { IfErr result (λ e. e ≡ OutOfMemory) }
         ensures goes_on { GoesOn self.old self.new }
     {
@@ -236,7 +244,11 @@ impl Record {
         end: usize,
     ) -> Result<(), StepError>
         requires { end ≤ length self.old.world.sent }
-        ensures all { OnOk result ((waiting : List ℕ) × Follows self.old (map deliver waiting) self.new) }
+        ensures all { OnOk result (Follows self.old
+            (map deliver (by_fates comes fates.now (passed_of link.old) from end)) self.new) }
+        ensures waits { OnOk result (late_of link.new
+            ≡ late_of link.old ++ by_fates waits fates.now (passed_of link.old) from end) }
+        ensures passed { OnOk result (passed_of link.new ≡ capped (passed_of link.old + (end - from))) }
         ensures late { All (λ number. number < end) link.old.late.items
             → OnOk result (All (λ number. number < end) link.new.late.items) }
         ensures link { OnOk result (link_of link.new ≡ link_of link.old) }

@@ -6,7 +6,7 @@ ghost use Rattle.fw_world.specs.Setup.{IsSetup, opening_state};
 ghost use Rattle.fw_world.specs.declared.error.StepError.TheVariants.{OutOfMemory};
 ghost use Rattle.fw_air.specs.Inside.{GoesOn, MakesRounds};
 ghost use Rattle.fw_air.specs.Rounds.{AdmittedRun};
-ghost use Rattle.fw_air.specs.Schedules.{IsOfWorld, IsUnscheduled, Runs, Schedules};
+ghost use Rattle.fw_air.specs.Schedules.{IsOfWorld, IsUnscheduled, Runs, ScheduleHasFates, Schedules};
 
 use crate::fates::Fates;
 use crate::links::links_of;
@@ -18,7 +18,8 @@ use std::alloc::Global;
 /// ends and then by meters, in the order of the setup. A link is a head end and a meter that stands in its book after the given
 /// events, also where its rows have all ended. `run` over the list is refused at no event, but for want of memory, and ends in the
 /// world of these rounds: `laws::none_refused` and `laws::one_world` say so. Behind the given events
-/// each link has as many ticks as there are rounds, and any other two numbers have none: `laws::ticks_each`.
+/// each link has as many ticks as there are rounds, and any other two numbers have none: `laws::ticks_each`. In a round of a link
+/// each datagram that is sent has the next of the fates, in the order of sending.
 ///
 /// # Errors
 ///
@@ -31,6 +32,7 @@ pub fn schedule(
     fates: &Fates<'_>,
 ) -> Result<Vec<Event>, RunError>
     ensures schedule { IfOk result (λ list. Schedules setup.now (events_of events.now) rounds (events_of list.items)) }
+    ensures fates { IfOk result (λ list. ScheduleHasFates setup.now (events_of events.now) rounds fates.now (events_of list.items)) }
     ensures runs { IfOk result (λ list. Runs setup.now (events_of list.items)) }
     ensures refused { IfErr result (IsUnscheduled setup.now (events_of events.now)) }
     ensures made { IfErr result (IsOfWorld setup.now) }
@@ -78,7 +80,7 @@ fn make_rounds(
     rounds: u32,
     fates: &Fates<'_>,
 ) -> Result<(), StepError>
-    ensures all { OnOk result (MakesRounds setup.now rounds made.old made.new) }
+    ensures all { OnOk result (MakesRounds setup.now rounds fates.now made.old made.new) }
     ensures memory { IfErr result (λ e. e ≡ OutOfMemory) }
     ensures goes_on { GoesOn made.old made.new }
 {

@@ -1,6 +1,7 @@
 //! Wires of UDP sockets (RFC 768) on the loopback address.
 
-ghost use Rattle.std.specs.Prelude.{◌≤◌, length, IfOk, IfSome};
+ghost use Rattle.std.specs.Prelude.{◌≡◌, ◌≤◌, length, IfOk, IfSome};
+ghost use Rattle.fw_air.specs.declared.udp.PairError.TheVariants as refused;
 
 use crate::wire::{Wire, WireFault};
 use std::alloc::{AllocError, AllocFailed, Global};
@@ -27,18 +28,24 @@ pub enum PairError {
 }
 
 impl From<io::Error> for PairError {
+    ghost from_gives = { λ _ e. e ≡ refused.Socket };
+
     fn from(_error: io::Error) -> PairError {
         PairError::Socket
     }
 }
 
 impl From<AllocError> for PairError {
+    ghost from_gives = { λ _ e. e ≡ refused.OutOfMemory };
+
     fn from(_error: AllocError) -> PairError {
         PairError::OutOfMemory
     }
 }
 
 impl<T: Drop> From<AllocFailed<T>> for PairError {
+    ghost from_gives = { λ _ e. e ≡ refused.OutOfMemory };
+
     fn from(_error: AllocFailed<T>) -> PairError {
         PairError::OutOfMemory
     }

@@ -11,14 +11,21 @@ returns-in-Ok-make_rounds-clause-schedule c =
     let world = c.in_ok-world.world in
     let given = events_of c.args.events.now in
     let made : c.new-made.result ≡ record { world = world; events = given } = c.new-made.ensures ∙ ap (λ events. record { world = world; events = events }) (same_events c.args.events.now c.in-Ok.list.items c.in-Ok.ensures.ok) in
-    (scheduled c.args.setup.now given c.args.rounds world _ c.new-made.result c.make_rounds.new.made made c.in_ok-world.ensures.run c.in-Ok-make_rounds.ensures.all c.into_events.ensures).0
+    (scheduled c.args.setup.now given c.args.rounds c.args.fates.now world _ c.new-made.result c.make_rounds.new.made made c.in_ok-world.ensures.run c.in-Ok-make_rounds.ensures.all c.into_events.ensures).0
+
+pub returns-in-Ok-make_rounds-clause-fates : goal.returns-in-Ok-make_rounds-clause-fates
+returns-in-Ok-make_rounds-clause-fates c =
+    let world = c.in_ok-world.world in
+    let given = events_of c.args.events.now in
+    let made : c.new-made.result ≡ record { world = world; events = given } = c.new-made.ensures ∙ ap (λ events. record { world = world; events = events }) (same_events c.args.events.now c.in-Ok.list.items c.in-Ok.ensures.ok) in
+    (scheduled c.args.setup.now given c.args.rounds c.args.fates.now world _ c.new-made.result c.make_rounds.new.made made c.in_ok-world.ensures.run c.in-Ok-make_rounds.ensures.all c.into_events.ensures).1
 
 pub returns-in-Ok-make_rounds-clause-runs : goal.returns-in-Ok-make_rounds-clause-runs
 returns-in-Ok-make_rounds-clause-runs c =
     let world = c.in_ok-world.world in
     let given = events_of c.args.events.now in
     let made : c.new-made.result ≡ record { world = world; events = given } = c.new-made.ensures ∙ ap (λ events. record { world = world; events = events }) (same_events c.args.events.now c.in-Ok.list.items c.in-Ok.ensures.ok) in
-    (scheduled c.args.setup.now given c.args.rounds world _ c.new-made.result c.make_rounds.new.made made c.in_ok-world.ensures.run c.in-Ok-make_rounds.ensures.all c.into_events.ensures).1
+    (scheduled c.args.setup.now given c.args.rounds c.args.fates.now world _ c.new-made.result c.make_rounds.new.made made c.in_ok-world.ensures.run c.in-Ok-make_rounds.ensures.all c.into_events.ensures).2
 
 pub returns-in-Err-clause-refused : goal.returns-in-Err-clause-refused
 returns-in-Err-clause-refused c =

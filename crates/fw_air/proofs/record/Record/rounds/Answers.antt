@@ -1,6 +1,7 @@
 use Rattle.std.proofs.Common.{◌≡◌, ◌+◌, ◌-◌, ◌∷◌, suc, map, replicate, subst, ap, ◌∙◌, arith, zero}
-use Rattle.fw_air.specs.Links.{link_of}
+use Rattle.fw_air.specs.Links.{link_of, queue_of}
 use Rattle.fw_air.specs.Rounds.{IsRound}
+use Rattle.fw_air.proofs.Fated.{leads_rounds, rounds_led}
 use Rattle.fw_air.proofs.Runs.{follows_on, goes_on, leads_on, leads_there}
 use Rattle.fw_air.proofs.record.Record.rounds.Goals as goal
 
@@ -24,6 +25,7 @@ loop-round-preserved c =
         _,
         follows_on old now new inv.2.0 made.0 inv.2.1 made.1,
         leads_on IsRound _ _ _ all old.world now.world new.world inv.2.0 made.0 is inv.2.2 round,
+        leads_rounds c.args.fates.now c.args.rounds _ _ (map queue_of c.args.links.now) (map queue_of c.loop-round.links) (map queue_of c.round.new.links) old.world now.world new.world inv.2.0 made.0 left inv.2.3 made.3,
       ),
     )
 
@@ -31,5 +33,9 @@ pub returns-clause-all : goal.returns-clause-all
 returns-clause-all c =
     let all = map link_of c.args.links.now in
     let inv = c.loop-round.invariant in
-    let none : c.args.rounds - c.loop-round.round ≡ zero = omega (arith, c.loop-round-test.false) in
-    (inv.2.0, inv.2.1, leads_there IsRound _ _ c.args.self.now.world c.loop-round.self.world inv.2.0 (ap (λ n. replicate n all) none) inv.2.2)
+    let none : c.args.rounds - c.loop-round.round ≡ zero = omega (arith, c.loop-round-test.false) in (
+      inv.2.0,
+      inv.2.1,
+      leads_there IsRound _ _ c.args.self.now.world c.loop-round.self.world inv.2.0 (ap (λ n. replicate n all) none) inv.2.2,
+      rounds_led c.args.fates.now c.args.rounds _ (map queue_of c.args.links.now) (map queue_of c.loop-round.links) c.args.self.now.world c.loop-round.self.world inv.2.0 none inv.2.3,
+    )
