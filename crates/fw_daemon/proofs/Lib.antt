@@ -2,3 +2,4 @@ mod Going
 mod Replying
 mod Hushing
 mod Steps
+mod Rounds

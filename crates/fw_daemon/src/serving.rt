@@ -1,8 +1,9 @@
 //! The loop of a meter's daemon over a port. A port asks at each send whether it may be, so a loop that never ends is held to it too.
 
-ghost use Rattle.std.specs.Prelude.{◌≡◌, ◌++◌, IsTrue, List, OnErr};
+ghost use Rattle.std.specs.Prelude.{◌≡◌, ◌++◌, IfOk, IsTrue, List, OnErr};
 ghost use Rattle.fw_daemon.specs.Acts.{Act};
 ghost use Rattle.fw_daemon.specs.Daemon.{Daemon, daemon_of};
+ghost use Rattle.fw_daemon.specs.Rounds.{IsRound};
 ghost use Rattle.fw_daemon.specs.Serving.{Serving, Serves};
 
 use crate::daemon::{Dropped, Heard, MeterDaemon};
@@ -36,6 +37,8 @@ pub fn step<P: Port, S: ImageStore + Drop>(
         → P.legal port.old (done ++ P.acts port.old) }
     ensures serves { IsTrue (P.honest port.old)
         → Serves (daemon_of daemon.old) (P.acts port.old) (P.acts port.new) (daemon_of daemon.new) }
+    ensures round { IsTrue (P.honest port.old) → IfOk result (λ activated. IsRound (daemon_of daemon.old)
+        (P.acts port.old) (P.acts port.new) activated (daemon_of daemon.new)) }
     ensures closed { OnErr result (daemon_of daemon.new ≡ daemon_of daemon.old) }
     ensures honesty { P.honest port.new ≡ P.honest port.old }
     ensures law { (done : List Act) → P.legal port.old done → P.legal port.new done }

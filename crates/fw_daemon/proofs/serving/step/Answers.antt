@@ -1,7 +1,9 @@
-use Rattle.std.proofs.Common.{rules, ◌≡◌, ◌∷◌, List, [], Some, None, Bool, IsTrue, take, sym, subst}
+use Rattle.std.proofs.Common.{rules, ◌≡◌, ◌∷◌, List, [], Some, None, Bool, IsTrue, take, sym, subst, refl, inl, inr}
 use Rattle.fw_meter.specs.Handling.{reply_bytes}
 use Rattle.fw_daemon.specs.Acts.{Act, came, quiet, sent}
 use Rattle.fw_daemon.specs.Daemon.{daemon_of}
+use Rattle.fw_daemon.proofs.Rounds.{replied, silent}
+use Rattle.fw_daemon.specs.declared.daemon.Heard.TheVariants as heard
 use Rattle.fw_daemon.proofs.Steps.{quiet_round, strange_round, unserved_round, silent_round, replied_round, replies}
 use Rattle.fw_daemon.proofs.serving.step.Goals as goal
 
@@ -42,3 +44,49 @@ pub returns-in-OutOfMemory-clause-serves : goal.returns-in-OutOfMemory-clause-se
 returns-in-OutOfMemory-clause-serves g c = λ honest.
     let is : g.P.Port.acts c.receive.new.self ≡ came c.in-Some.arrival.from (take c.in-Some.arrival.count c.receive.new.buffer) ∷ g.P.Port.acts c.args.port.now = search rules in
     unserved_round _ _ _ _ _ _ is c.in-OutOfMemory.ensures
+
+pub returns-in_default-clause-round : goal.returns-in_default-clause-round
+returns-in_default-clause-round g c = λ honest.
+    let is : g.P.Port.acts c.receive.new.self ≡ quiet ∷ g.P.Port.acts c.args.port.now = search rules in
+    inl (is, refl, c.turn.ensures)
+
+pub returns-in-Some-reply-clause-round : goal.returns-in-Some-reply-clause-round
+returns-in-Some-reply-clause-round g c = λ honest.
+    let is : g.P.Port.acts c.receive.new.self ≡ came c.in-Some.arrival.from (take c.in-Some.arrival.count c.receive.new.buffer) ∷ g.P.Port.acts c.args.port.now = search rules in
+    let sends : g.P.Port.acts c.send.new.self ≡ sent c.in-Some.arrival.from c.deref.result.now ∷ g.P.Port.acts c.receive.new.self = search rules in
+    let reply : reply_bytes c.in-Handled.handled.reply ≡ Some c.deref.result.now = search rules in
+    replied _ _ _ _ _ _ _ _ _ is sends c.in-Handled.ensures reply
+
+pub returns-in-None-clause-round : goal.returns-in-None-clause-round
+returns-in-None-clause-round g c = λ honest.
+    let is : g.P.Port.acts c.receive.new.self ≡ came c.in-Some.arrival.from (take c.in-Some.arrival.count c.receive.new.buffer) ∷ g.P.Port.acts c.args.port.now = search rules in
+    let reply : reply_bytes c.in-Handled.handled.reply ≡ None = search rules in
+    silent _ _ _ _ _ _ _ is c.in-Handled.ensures reply
+
+pub returns-in-Stranger-clause-round : goal.returns-in-Stranger-clause-round
+returns-in-Stranger-clause-round g c = λ honest.
+    let is : g.P.Port.acts c.receive.new.self ≡ came c.in-Some.arrival.from (take c.in-Some.arrival.count c.receive.new.buffer) ∷ g.P.Port.acts c.args.port.now = search rules in
+    inr (record {
+      from = c.in-Some.arrival.from;
+      datagram = take c.in-Some.arrival.count c.receive.new.buffer;
+      what = heard.Stranger;
+      middle = daemon_of c.heard.new.self;
+      hears = c.in-Stranger.ensures;
+      acts = is;
+      activates = refl;
+      goes_on = c.turn-in-Stranger.ensures;
+    })
+
+pub returns-in-OutOfMemory-clause-round : goal.returns-in-OutOfMemory-clause-round
+returns-in-OutOfMemory-clause-round g c = λ honest.
+    let is : g.P.Port.acts c.receive.new.self ≡ came c.in-Some.arrival.from (take c.in-Some.arrival.count c.receive.new.buffer) ∷ g.P.Port.acts c.args.port.now = search rules in
+    inr (record {
+      from = c.in-Some.arrival.from;
+      datagram = take c.in-Some.arrival.count c.receive.new.buffer;
+      what = heard.OutOfMemory;
+      middle = daemon_of c.heard.new.self;
+      hears = c.in-OutOfMemory.ensures;
+      acts = is;
+      activates = refl;
+      goes_on = refl;
+    })

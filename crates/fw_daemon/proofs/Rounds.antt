@@ -1,0 +1,36 @@
+-- One round in which a datagram was handled.
+use Rattle.std.proofs.Common.{◌≡◌, List, ◌∷◌, inl, inr, refl, sym, ap, subst, ◌∙◌}
+use Rattle.std.specs.declared.net.socket_addr.SocketAddr.{SocketAddr}
+use Rattle.std.specs.Prelude.{ℕ, Option, Some, None}
+use Rattle.fw_meter.specs.declared.meter.Handled.{Handled}
+use Rattle.fw_meter.specs.Handling.{reply_bytes}
+use Rattle.fw_daemon.specs.Acts.{Act, came, sent}
+use Rattle.fw_daemon.specs.Daemon.{Daemon, Hears}
+use Rattle.fw_daemon.specs.Rounds.{IsRound, with_reply}
+use Rattle.fw_daemon.specs.declared.daemon.Heard.TheVariants as heard
+
+handled : (start now : Daemon) (before after : List Act) (from : SocketAddr) (datagram : List ℕ) (h : Handled) → after ≡ with_reply from datagram (reply_bytes h.reply) before
+    → Hears start from datagram (heard.Handled h) now → IsRound start before after h.activated now
+handled start now before after from datagram h is hears = inr (record {
+  from = from;
+  datagram = datagram;
+  what = heard.Handled h;
+  middle = now;
+  hears = hears;
+  acts = is;
+  activates = refl;
+  goes_on = refl;
+})
+
+-- it has no reply
+pub silent : (start now : Daemon) (before after : List Act) (from : SocketAddr) (datagram : List ℕ) (h : Handled) → after ≡ came from datagram ∷ before
+    → Hears start from datagram (heard.Handled h) now → reply_bytes h.reply ≡ None → IsRound start before after h.activated now
+silent start now before after from datagram h is hears none =
+    handled start now before after from datagram h (is ∙ ap (λ (r : Option (List ℕ)). with_reply from datagram r before) (sym none)) hears
+
+-- it has one, which is sent
+pub replied : (start now : Daemon) (before middle after : List Act) (from : SocketAddr) (datagram bytes : List ℕ) (h : Handled) → middle ≡ came from datagram ∷ before
+    → after ≡ sent from bytes ∷ middle → Hears start from datagram (heard.Handled h) now → reply_bytes h.reply ≡ Some bytes → IsRound start before after h.activated now
+replied start now before middle after from datagram bytes h is sends hears reply =
+    handled start now before after from datagram h
+    (sends ∙ ap (λ (l : List Act). sent from bytes ∷ l) is ∙ ap (λ (r : Option (List ℕ)). with_reply from datagram r before) (sym reply)) hears

@@ -1,0 +1,48 @@
+-- Public vocabulary: one round of a daemon, with what its meter switched to in it.
+use Rattle.std.specs.Prelude.{◌≡◌, ◌⊎◌, ℕ, List, ◌∷◌, Option, Some, None}
+use Rattle.std.specs.declared.net.socket_addr.SocketAddr.{SocketAddr}
+use Rattle.fw_names.specs.Name.{Name}
+use Rattle.fw_meter.specs.Handling.{reply_bytes}
+use Rattle.fw_daemon.specs.Acts.{Act, came, quiet, sent}
+use Rattle.fw_daemon.specs.Daemon.{Daemon, Hears, TakesTurn}
+use Rattle.fw_daemon.specs.declared.daemon.Heard.{Heard}
+use Rattle.fw_daemon.specs.declared.daemon.Heard.TheVariants as heard
+
+-- the reply to what was heard
+abbrev pub reply_of : Heard → Option (List ℕ)
+reply_of (heard.Handled h) = reply_bytes h.reply
+reply_of heard.Stranger = None
+reply_of heard.OutOfMemory = None
+
+-- and the name of the image that the meter switched to by it
+abbrev pub activated_by : Heard → Option Name
+activated_by (heard.Handled h) = h.activated
+activated_by heard.Stranger = None
+activated_by heard.OutOfMemory = None
+
+-- after what a stranger sent the meter takes a turn
+abbrev pub GoesOnAfter : Heard → Daemon → Daemon → Type 0
+GoesOnAfter (heard.Handled h) middle new = new ≡ middle
+GoesOnAfter heard.Stranger middle new = TakesTurn middle new
+GoesOnAfter heard.OutOfMemory middle new = new ≡ middle
+
+-- a datagram came, and its reply was sent, if it has one
+abbrev pub with_reply : SocketAddr → List ℕ → Option (List ℕ) → List Act → List Act
+with_reply from datagram (Some bytes) acts = sent from bytes ∷ came from datagram ∷ acts
+with_reply from datagram None acts = came from datagram ∷ acts
+
+-- a datagram came and was heard
+pub record IsExchange (old : Daemon) (before after : List Act) (activated : Option Name) (new : Daemon) : Type 0 where
+  pub from : SocketAddr
+  pub datagram : List ℕ
+  pub what : Heard
+  pub middle : Daemon
+  pub hears : Hears old from datagram what middle
+  pub acts : after ≡ with_reply from datagram (reply_of what) before
+  pub activates : activated ≡ activated_by what
+  pub goes_on : GoesOnAfter what middle new
+
+-- From old, a daemon makes one round and goes on to new: nothing came, and it took a turn, or a datagram came.
+abbrev pub IsRound : Daemon → List Act → List Act → Option Name → Daemon → Type 0
+IsRound old before after activated new =
+    ((after ≡ quiet ∷ before) × (activated ≡ None) × TakesTurn old new) ⊎ IsExchange old before after activated new
