@@ -1,5 +1,5 @@
 -- Rounds in which each datagram has its own fate.
-use Rattle.std.proofs.Common.{◌≡◌, ℕ, zero, suc, ◌+◌, ◌-◌, ◌%◌, ◌≤◌, List, [], ◌∷◌, ◌++◌, map, length, Option, Some, None, Bool, true, false, if◌then◌else◌, slice_get, refl, sym, ap, subst, ◌∙◌, arith, append_assoc, All}
+use Rattle.std.proofs.Common.{◌≡◌, ℕ, zero, suc, ◌+◌, ◌-◌, ◌≤◌, List, [], ◌∷◌, ◌++◌, map, length, Option, Some, None, Bool, true, false, if◌then◌else◌, slice_get, refl, sym, ap, subst, ◌∙◌, arith, append_assoc, All}
 use Rattle.std.specs.List.{flat_map, range_with_len}
 use Rattle.std.proofs.lemmas.List.{append-nil, map-append}
 use Rattle.fw_image.specs.Meter.{Meter}
@@ -15,7 +15,7 @@ use Rattle.fw_air.specs.Fates.{by_fates, comes, fate_of, waits}
 use Rattle.fw_air.specs.Inside.{Recorded, Follows}
 use Rattle.fw_air.specs.Links.{IsNew, late_of, link_of, passed_of, queue_of}
 use Rattle.fw_air.specs.Logs.{capped}
-use Rattle.fw_air.specs.Queues.{Queue, HasFates, RoundHasFates, RoundsHaveFates, beginning, coming, left_of, new_queue}
+use Rattle.fw_air.specs.Queues.{Queue, HasFates, RoundHasFates, RoundsHaveFates, beginning, coming, new_queue}
 use Rattle.fw_air.specs.Rounds.{AdmittedRun, IsLinkRound, Link, is_verifying, last_turn, turn_of}
 use Rattle.fw_air.proofs.Passing.{joined}
 use Rattle.fw_air.proofs.Runs.{follows_on}

@@ -1,6 +1,6 @@
 -- Entries for events that happened in a world, and the events of entries.
-use Rattle.std.proofs.Common.{◌≡◌, ℕ, ◌+◌, ◌-◌, ◌<◌, ◌≤◌, List, [], ◌∷◌, ◌++◌, length, get_or, take, refl, ap, sym, subst, ◌∙◌, arith}
-use Rattle.std.proofs.lemmas.List.{map_more}
+use Rattle.std.proofs.Common.{◌≡◌, ℕ, ◌+◌, ◌-◌, ◌<◌, ◌≤◌, List, [], ◌∷◌, ◌++◌, length, get_or, map, take, refl, ap, sym, subst, ◌∙◌, arith}
+use Rattle.std.proofs.lemmas.List.{map_more, map_push}
 use Rattle.std.proofs.lemmas.List.Sums.{sum_by_push}
 use Rattle.std.specs.List.{sum_by}
 use Rattle.fw_world.specs.declared.error.StepError.{StepError}
@@ -15,6 +15,7 @@ use Rattle.fw_world.specs.Step.{Event, Run, WorldStep}
 use Rattle.fw_world.specs.World.{World}
 use Rattle.fw_world.specs.View.{event_of}
 use Rattle.fw_air.specs.Logs.{Entry}
+use Rattle.fw_crew.specs.Recorded.{AreEntered, IsEntered}
 use Rattle.fw_crew.specs.declared.error.RehearseError.TheVariants as refused
 use Rattle.fw_crew.specs.Refusals.{TellsOfEvent, of_event}
 
@@ -24,6 +25,30 @@ pub counted_on : (entries : List Entry) (entry : Entry) (old new : ℕ) → sum_
 counted_on entries entry old new was grew is =
     let more = sum_by_push (λ (e : Entry). e.count) entries entry in
     omega arith
+
+-- an entry more, of the next event
+pub noted_on : (entries : List Entry) (entry : Entry) (events : List Given) (at : ℕ) (event : Given) → at < length events → event ≡ get_or events at event
+    → entry.event ≡ event_of event → map (λ (e : Entry). e.event) entries ≡ events_of (take at events)
+    → map (λ (e : Entry). e.event) (entries ++ entry ∷ []) ≡ events_of (take (at + 1) events)
+noted_on entries entry events at event inside is same were =
+    let more : events_of (take (at + 1) events) ≡ events_of (take at events) ++ event_of event ∷ [] =
+    map_more event_of events at event inside ∙ ap (λ (e : Given). events_of (take at events) ++ event_of e ∷ []) (sym is) in
+    map_push (λ (e : Entry). e.event) entries entry
+    ∙ ap (λ (es : List Event). es ++ entry.event ∷ []) were
+    ∙ ap (λ (e : Event). events_of (take at events) ++ e ∷ []) same
+    ∙ sym more
+
+-- an entry more, of an event that was made
+pub entered_on : (opening old new : State) (entries : List Entry) (entry : Entry) → AreEntered opening entries old → IsEntered old entry new → AreEntered opening (entries ++ entry ∷ []) new
+entered_on opening old new [] entry are is = (new, subst (λ (s : State). IsEntered s entry new) are is, refl)
+entered_on opening old new (first ∷ entries) entry are is = (are.0, are.1, entered_on are.0 old new entries entry are.2 is)
+
+pub entered : (old new : State) (entry : Entry) (event : Event) → StateStep old event new → entry.event ≡ event → length old.sent ≤ length new.sent
+    → entry.count ≡ length new.sent - length old.sent → IsEntered old entry new
+entered old new entry event step same grew is = record {
+  step = subst (λ (e : Event). StateStep old e new) (sym same) step;
+  added = omega arith;
+}
 
 -- the next event
 pub runs_on : RunGoesOn → (opening old new : State) (events : List Given) (at : ℕ) (event : Given) → at < length events → event ≡ get_or events at event

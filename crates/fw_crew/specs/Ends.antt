@@ -24,6 +24,11 @@ abbrev pub IsOfCrew : Unaccounted → Type 0
 IsOfCrew unaccounted.GateShut = ⊥
 IsOfCrew other = Unit {0}
 
+-- a reason of an event of a worker: no thread is started for one
+abbrev pub IsOfEvent : Unaccounted → Type 0
+IsOfEvent unaccounted.ThreadRefused = ⊥
+IsOfEvent other = Unit {0}
+
 -- a worker with this hand ends as its hand may end, or was told not to begin
 abbrev pub EndsAs : {H : Type 0} → (H → End → Type 0) → H → End → Type 0
 EndsAs may_end hand end = may_end hand end ⊎ (end ≡ Err unaccounted.ThreadRefused)

@@ -1,5 +1,9 @@
 -- Public vocabulary: why a rehearsal or a live rollout has no report.
-use Rattle.std.specs.Prelude.{◌≡◌, ◌≢◌, ℕ, List}
+use Rattle.std.specs.Prelude.{◌≢◌, ℕ, List}
+use Rattle.fw_accounts.specs.declared.error.AccountError.{AccountError}
+use Rattle.fw_accounts.specs.declared.error.AccountError.TheVariants as account
+use Rattle.fw_head.specs.declared.error.PutError.{PutError}
+use Rattle.fw_head.specs.declared.error.PutError.TheVariants as put
 use Rattle.fw_world.specs.declared.error.SetupError.{SetupError}
 use Rattle.fw_world.specs.declared.error.SetupError.TheVariants as unmade
 use Rattle.fw_world.specs.declared.error.StepError.{StepError}
@@ -28,6 +32,23 @@ of_event number other = refused.Event number
 abbrev pub of_step : StepError → Unaccounted
 of_step cause.OutOfMemory = unaccounted.OutOfMemory
 of_step other = unaccounted.Mismatch
+
+-- why head ends were not put back together
+abbrev pub of_put : PutError → Unaccounted
+of_put put.WrongRows = unaccounted.Mismatch
+of_put put.OutOfMemory = unaccounted.OutOfMemory
+
+-- why what the workers left is not accounted for
+abbrev pub of_account : AccountError → Unaccounted
+of_account account.Mismatch = unaccounted.Mismatch
+of_account account.OutOfMemory = unaccounted.OutOfMemory
+
+-- why there is no report of the rounds
+abbrev pub of_rounds : Unaccounted → RehearseError
+of_rounds unaccounted.Mismatch = refused.Mismatch
+of_rounds unaccounted.ThreadRefused = refused.ThreadRefused
+of_rounds unaccounted.OutOfMemory = refused.OutOfMemory
+of_rounds unaccounted.GateShut = refused.GateShut
 
 -- it is told behind the given events, not of the setup or of one of them
 abbrev pub IsLater : RehearseError → Type 0

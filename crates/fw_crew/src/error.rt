@@ -1,8 +1,8 @@
 //! Why a rehearsal or a live rollout has no report.
 
 ghost use Rattle.std.specs.Prelude.{◌≡◌, ◌≢◌};
-ghost use Rattle.fw_crew.specs.Ends.{IsOfCrew};
-ghost use Rattle.fw_crew.specs.Refusals.{IsLater, of_setup, of_step};
+ghost use Rattle.fw_crew.specs.Ends.{IsOfCrew, IsOfEvent};
+ghost use Rattle.fw_crew.specs.Refusals.{IsLater, of_account, of_put, of_rounds, of_setup, of_step};
 ghost use Rattle.fw_crew.specs.declared.error.RehearseError.TheVariants as refused;
 ghost use Rattle.fw_crew.specs.declared.error.Unaccounted.TheVariants as unaccounted;
 
@@ -80,7 +80,8 @@ pub enum Unaccounted {
 }
 
 impl From<Unaccounted> for RehearseError {
-    ghost from_gives = { λ _ e. IsLater e × (e ≢ refused.Socket) };
+    ghost from_gives = { λ reason e.
+        (e ≡ of_rounds reason) × (e ≡ refused.GateShut → reason ≡ unaccounted.GateShut) × IsLater e × (e ≢ refused.Socket) };
 
     fn from(reason: Unaccounted) -> RehearseError {
         match reason {
@@ -117,7 +118,7 @@ impl From<OutOfMemory> for Unaccounted {
 }
 
 impl From<StepError> for Unaccounted {
-    ghost from_gives = { λ refusal e. e ≡ of_step refusal };
+    ghost from_gives = { λ refusal e. (e ≡ of_step refusal) × IsOfEvent e };
 
     fn from(refusal: StepError) -> Unaccounted {
         match refusal {
@@ -128,7 +129,7 @@ impl From<StepError> for Unaccounted {
 }
 
 impl From<PutError> for Unaccounted {
-    ghost from_gives = { λ _ e. IsOfCrew e };
+    ghost from_gives = { λ refusal e. (e ≡ of_put refusal) × IsOfCrew e };
 
     fn from(refusal: PutError) -> Unaccounted {
         match refusal {
@@ -139,7 +140,7 @@ impl From<PutError> for Unaccounted {
 }
 
 impl From<AccountError> for Unaccounted {
-    ghost from_gives = { λ _ e. IsOfCrew e };
+    ghost from_gives = { λ refusal e. (e ≡ of_account refusal) × IsOfCrew e };
 
     fn from(refusal: AccountError) -> Unaccounted {
         match refusal {

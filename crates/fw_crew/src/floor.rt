@@ -1,11 +1,11 @@
 //! What workers share, and the events that they make there. What a worker makes is a receipt of its seat; what comes of it no clause
 //! tells, since the receipts are compared with the log behind it.
 
-ghost use Rattle.std.specs.Prelude.{◌≡◌, ◌≤◌, IsTrue, None, IfOk, IfErr, IfSome, IsErrOf, OnOk, OnErr};
+ghost use Rattle.std.specs.Prelude.{◌≡◌, ◌≤◌, false, IsTrue, None, IfOk, IfErr, IfSome, IsErrOf, OnOk, OnErr};
 ghost use Rattle.std.specs.Option.{option_copied};
 ghost use Rattle.fw_air.specs.Rounds.{stands_in};
 ghost use Rattle.fw_world.specs.Step.{deliver, tick};
-ghost use Rattle.fw_crew.specs.Ends.{IsOfCrew};
+ghost use Rattle.fw_crew.specs.Ends.{IsOfCrew, IsOfEvent};
 ghost use Rattle.fw_crew.specs.Seated.{HasLetHear, HasLooked, HasMade, HasTurned, desk_of, meter_of};
 
 use crate::error::Unaccounted;
@@ -81,7 +81,9 @@ impl Floor {
     }
 
     /// The log of what was sent, and of what happened.
-    pub fn log(&self) -> &SharedLog {
+    pub fn log(&self) -> &SharedLog
+        ensures { result.now ≡ self.now.log }
+    {
         &self.log
     }
 
@@ -104,8 +106,12 @@ impl Floor {
         ensures made { IfOk result (λ sent. HasMade worker.old sent.event (tick head meter) worker.new) }
         ensures few { IfOk result (λ sent. sent.count ≤ 15) }
         ensures unknown { desk_of self.now.desks.items head ≡ None → IsErrOf result Unaccounted.Mismatch }
+        ensures mismatch { IsErrOf result Unaccounted.Mismatch
+            → IfSome (desk_of self.now.desks.items head) (λ desk. stands_in desk.book meter ≡ false) }
         ensures memory { IsErrOf result Unaccounted.OutOfMemory
             → IfSome (desk_of self.now.desks.items head) (λ desk. IsTrue (stands_in desk.book meter)) }
+        ensures shut { IsErrOf result Unaccounted.GateShut → G.may_shut }
+        ensures threadless { IfErr result IsOfEvent }
         ensures refused { OnErr result (HasLooked worker.old worker.new) }
     {
         let desk = self.desk(head).ok_or(Unaccounted::Mismatch)?;
@@ -133,6 +139,8 @@ impl Floor {
         ensures made { IfOk result (λ sent. HasMade worker.old sent.event (deliver number) worker.new) }
         ensures few { IfOk result (λ sent. sent.count ≤ 1) }
         ensures unknown { meter_of self.now.meters.items meter ≡ None → IsErrOf result Unaccounted.Mismatch }
+        ensures shut { IsErrOf result Unaccounted.GateShut → G.may_shut }
+        ensures threadless { IfErr result IsOfEvent }
         ensures refused { OnErr result (HasLooked worker.old worker.new) }
     {
         let meter = self.meter(meter).ok_or(Unaccounted::Mismatch)?;
@@ -159,6 +167,8 @@ impl Floor {
         ensures board { worker.new.board ≡ worker.old.board }
         ensures heard { OnOk result (HasLetHear worker.old number worker.new) }
         ensures unknown { desk_of self.now.desks.items head ≡ None → IsErrOf result Unaccounted.Mismatch }
+        ensures shut { IsErrOf result Unaccounted.GateShut → G.may_shut }
+        ensures threadless { IfErr result IsOfEvent }
         ensures refused { OnErr result (HasLooked worker.old worker.new) }
     {
         let desk = self.desk(head).ok_or(Unaccounted::Mismatch)?;
@@ -188,6 +198,8 @@ impl Floor {
         ensures turned { OnOk result (HasTurned worker.old meter worker.new) }
         ensures unknown { meter_of self.now.meters.items meter ≡ None → IsErrOf result Unaccounted.Mismatch }
         ensures mismatch { IsErrOf result Unaccounted.Mismatch → meter_of self.now.meters.items meter ≡ None }
+        ensures shut { IsErrOf result Unaccounted.GateShut → G.may_shut }
+        ensures threadless { IfErr result IsOfEvent }
         ensures refused { OnErr result (HasLooked worker.old worker.new) }
     {
         let meter = self.meter(meter).ok_or(Unaccounted::Mismatch)?;

@@ -1,10 +1,11 @@
 //! The given events, which stand before all that workers make.
 
-ghost use Rattle.std.specs.Prelude.{◌≡◌, ◌≢◌, ◌≤◌, IfOk, IfErr, OnOk, IsErrOf};
+ghost use Rattle.std.specs.Prelude.{◌≡◌, ◌≢◌, ◌≤◌, IfOk, IfErr, OnOk, IsErrOf, map};
 ghost use Rattle.fw_air.specs.Logs.{IsCounted};
 ghost use Rattle.fw_world.specs.Runs.{events_of};
 ghost use Rattle.fw_world.specs.Setup.{IsSetup, opening_state};
 ghost use Rattle.fw_world.specs.State.{StateRun};
+ghost use Rattle.fw_crew.specs.Recorded.{AreEntered};
 ghost use Rattle.fw_crew.specs.Refusals.{IsOfRounds, TellsOfEvent, of_event};
 
 use crate::error::RehearseError;
@@ -35,6 +36,8 @@ pub fn begin(
     workers: u32,
 ) -> Result<Opening, RehearseError>
     ensures runs { IfOk result (λ made. StateRun (opening_state setup.now) (events_of events.now) made.world) }
+    ensures entries { IfOk result (λ made. map (λ entry. entry.event) made.entries.items ≡ events_of events.now) }
+    ensures counts { IfOk result (λ made. AreEntered (opening_state setup.now) made.entries.items made.world) }
     ensures workers { OnOk result ((1 ≤ workers) × (workers ≤ 8)) }
     ensures setup { OnOk result (IsSetup setup.now) }
     ensures bad_setup { IsErrOf result RehearseError.BadSetup → (1 ≤ workers) × (workers ≤ 8) → ¬ IsSetup setup.now }
@@ -54,6 +57,8 @@ pub fn begin(
 /// The opening behind the given events.
 fn play(alloc: Global, setup: &Setup, events: &[Event]) -> Result<Opening, RehearseError>
     ensures runs { IfOk result (λ made. StateRun (opening_state setup.now) (events_of events.now) made.world) }
+    ensures entries { IfOk result (λ made. map (λ entry. entry.event) made.entries.items ≡ events_of events.now) }
+    ensures counts { IfOk result (λ made. AreEntered (opening_state setup.now) made.entries.items made.world) }
     ensures bad_setup { IsErrOf result RehearseError.BadSetup → ¬ IsSetup setup.now }
     ensures event { IfErr result (TellsOfEvent setup.now events.now) }
     ensures setup { OnOk result (IsSetup setup.now) }

@@ -44,7 +44,7 @@ impl<'a, G: Gate> Worker<'a, G> {
     pub(crate) fn enter(&mut self, board: &Board) -> Result<(), Unaccounted>
         requires { self.old.board ≡ board.now.id }
         ensures looked { HasLooked self.old self.new }
-        ensures shut { IfErr result (λ e. e ≡ Unaccounted.GateShut) }
+        ensures shut { IfErr result (λ e. (e ≡ Unaccounted.GateShut) × G.may_shut) }
     {
         let done = board.seen(&mut self.seat);
         let is_open = self.gate.pass(self.number, self.step, done);

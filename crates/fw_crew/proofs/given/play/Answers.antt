@@ -1,12 +1,14 @@
-use Rattle.std.proofs.Common.{◌≡◌, ◌<◌, [], ◌∷◌, Some, length, slice_get, refl, ap, sym, subst, ◌∙◌, arith}
+use Rattle.std.proofs.Common.{◌≡◌, ◌+◌, ◌<◌, [], ◌∷◌, Some, length, map, take, slice_get, refl, ap, sym, subst, ◌∙◌, arith, rules}
 use Rattle.std.proofs.lemmas.Option.{slice_get_read}
-use Rattle.fw_air.specs.Logs.{IsCounted}
+use Rattle.fw_air.specs.Logs.{Entry, IsCounted}
+use Rattle.fw_world.specs.Runs.{events_of}
 use Rattle.fw_world.specs.Setup.{opening_state}
 use Rattle.fw_world.specs.State.{world_of}
 use Rattle.fw_world.specs.View.{event_of}
 use Rattle.fw_crew.specs.declared.error.RehearseError.TheVariants as refused
+use Rattle.fw_crew.specs.Recorded.{AreEntered}
 use Rattle.fw_crew.specs.Refusals.{TellsOfEvent}
-use Rattle.fw_crew.proofs.Playing.{counted_on, not_setup, runs_on, told, world_runs_on}
+use Rattle.fw_crew.proofs.Playing.{counted_on, entered, entered_on, noted_on, not_setup, runs_on, told, world_runs_on}
 use Rattle.fw_crew.proofs.given.play.Goals as goal
 
 pub returns-in-Err-clause-bad_setup : goal.returns-in-Err-clause-bad_setup
@@ -45,4 +47,9 @@ loop-at-preserved c =
           (counted_on c.loop-at.entries.items _ (length old.sent) (length new.sent) c.loop-at.invariant.0 grew (omega (arith, before, after))),
       runs_on c.run_goes_on.ensures (opening_state c.args.setup.now) old new events c.loop-at.at event inside c.index-events-at.is c.loop-at.invariant.1 c.in_default.ensures.stepped,
       world_runs_on (world_of (opening_state c.args.setup.now)) (world_of old) (world_of new) events c.loop-at.at event inside c.index-events-at.is c.loop-at.invariant.2 c.in_default.ensures.world,
+      subst (λ entries. map (λ (entry : Entry). entry.event) entries ≡ events_of (take (c.loop-at.at + 1) events)) (sym c.in_ok-push.ensures.items)
+          (noted_on c.loop-at.entries.items _ events c.loop-at.at event inside c.index-events-at.is (search rules) c.loop-at.invariant.3),
+      subst (λ entries. AreEntered (opening_state c.args.setup.now) entries new) (sym c.in_ok-push.ensures.items)
+          (entered_on (opening_state c.args.setup.now) old new c.loop-at.entries.items _ c.loop-at.invariant.4
+          (entered old new _ (event_of event) c.in_default.ensures.stepped (search rules) grew (omega (arith, before, after)))),
     )
