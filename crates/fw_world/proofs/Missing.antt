@@ -116,18 +116,22 @@ marks missing old new done number d agrees at to_head m =
     }))
     (λ there. inl (record {
       after = marked done m.campaign d.meter;
-      step = (d, at, subst P (sym to_head) (inr (record {
-        campaign = m.campaign;
-        release = m.release;
-        image = m.image;
-        invoke = m.invoke;
-        bytes = m.bytes;
-        own = m.own;
-        offers = m.offers;
-        carries = m.carries;
-        spells = m.spells;
-        new_is = ap (λ w. but w (marked done m.campaign d.meter)) m.new_is;
-      })));
+      step = (
+        d,
+        at,
+        subst P (sym to_head) (inr (record {
+          campaign = m.campaign;
+          release = m.release;
+          image = m.image;
+          invoke = m.invoke;
+          bytes = m.bytes;
+          own = m.own;
+          offers = m.offers;
+          carries = m.carries;
+          spells = m.spells;
+          new_is = ap (λ w. but w (marked done m.campaign d.meter)) m.new_is;
+        })),
+      );
       agrees = subst to (sym m.new_is) (mark_kept missing old done m.campaign d.meter there agrees);
     }))
     (cases_Bool (missing m.campaign d.meter))
@@ -138,15 +142,19 @@ delivered missing old new done number d agrees at ToMeter is s =
     let P : Direction → Type 0 = λ direction. Delivers direction (but old done) d (but new done) in
     inl (record {
       after = done;
-      step = (d, at, subst P (sym is) (record {
-        before = s.before;
-        after = s.after;
-        reply = s.reply;
-        name = s.name;
-        there = s.there;
-        handles = s.handles;
-        new_is = ap (λ w. but w done) s.new_is;
-      }));
+      step = (
+        d,
+        at,
+        subst P (sym is) (record {
+          before = s.before;
+          after = s.after;
+          reply = s.reply;
+          name = s.name;
+          there = s.there;
+          handles = s.handles;
+          new_is = ap (λ w. but w done) s.new_is;
+        }),
+      );
       agrees = same_marks missing old new done (ap (λ (w : World). w.done) s.new_is) agrees;
     })
 delivered missing old new done number d agrees at ToHead is (inl nothing) =
@@ -170,14 +178,19 @@ follows missing old new done (stop number calls torn) agrees s =
     let st = s.3 in
     inl (record {
       after = done;
-      step = (s.0, s.1, s.2, record {
-        before = st.before;
-        after = st.after;
-        name = st.name;
-        there = st.there;
-        stops = st.stops;
-        new_is = ap (λ w. but w done) st.new_is;
-      });
+      step = (
+        s.0,
+        s.1,
+        s.2,
+        record {
+          before = st.before;
+          after = st.after;
+          name = st.name;
+          there = st.there;
+          stops = st.stops;
+          new_is = ap (λ w. but w done) st.new_is;
+        },
+      );
       agrees = same_marks missing old new done (ap (λ (w : World). w.done) st.new_is) agrees;
     })
 follows missing old new done (restart_meter number) agrees s =

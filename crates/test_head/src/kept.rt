@@ -35,10 +35,7 @@ impl Takes<Step> for KeptBook<MemoryDevice> {
             }
             Step::Done(serial, number) => {
                 let claim = claim(alloc, number, RELEASE_ANSWER)?;
-                answer_text(
-                    alloc,
-                    self.mark_done(alloc, campaign(7, serial)?, claim),
-                )
+                answer_text(alloc, self.mark_done(alloc, campaign(7, serial)?, claim))
             }
             Step::Fail(serial, number) => answer_text(
                 alloc,
@@ -287,15 +284,11 @@ fn opened_text_of(
 const OPENED: &[(Opened, &str)] = &[
     (Opened(&[]), "4657423200000007"),
     (
-        Opened(&[
-            "010000000700000001000000050100000003616263000000010000000200000003",
-        ]),
+        Opened(&["010000000700000001000000050100000003616263000000010000000200000003"]),
         ONE,
     ),
     (
-        Opened(&[
-            "010000000800000001000000050100000003616263000000010000000200000003",
-        ]),
+        Opened(&["010000000800000001000000050100000003616263000000010000000200000003"]),
         "ForeignHead",
     ),
     (Opened(&["030000000800000001"]), "ForeignHead"),
