@@ -9,8 +9,6 @@ mod apdus;
 #[cfg(test)]
 mod comparing;
 #[cfg(test)]
-mod daemons;
-#[cfg(test)]
 mod faults;
 #[cfg(test)]
 mod handling;
