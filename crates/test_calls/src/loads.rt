@@ -17,18 +17,12 @@
 //!   `rehearsed` does the same, with a line before: the time of that by the clock, in nanoseconds.
 //! - `audit METERS SIZE`: that schedule is made, and the parts of a run of it are audited. `audited` does the same, with a line before:
 //!   the times by the clock of the schedule and of the audit, in nanoseconds.
-//! - `make BLOCK_SIZE CAPACITY`: a store is made in the file `store`.
-//! - `serve KEPT SENT DATAGRAM ..`: the meter in the file `store` handles so many of the datagrams, with a line before for its opening and
-//!   for each reply. With KEPT as 1 its header stays in its version.
-//! - `view FILES 0 DATAGRAM ..`: the meters in the files `0`, `1` and so on handle the datagrams, with a line before for the replies of
-//!   each, or for why it isn't opened.
 
 mod campaign;
 mod codec;
 mod meter;
 mod rehearsal;
 mod schedule;
-mod stored;
 mod verify;
 mod world;
 
@@ -75,9 +69,6 @@ fn measure<R: Threads + Wait + Sync>(rt: &HostRuntime, threads: &R, line: &str) 
         "rehearsed" => rehearsal::measure(rt, threads, first, second, workers(&bytes)?, true),
         "audit" => rehearsal::audited(rt, first, second, false),
         "audited" => rehearsal::audited(rt, first, second, true),
-        "make" => stored::make(rt, first, second),
-        "serve" => stored::serve(rt, first, second, &bytes),
-        "view" => stored::view(rt, first, &bytes),
         _ => bail!("no load has this name"),
     }
 }

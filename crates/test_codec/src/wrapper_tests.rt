@@ -1,7 +1,7 @@
 //! Datagrams of the wrapper over UDP (IEC 62056-4-7).
 
 use crate::split_back;
-use crate::ways::{Way, each_by, joined};
+use crate::support::{Way, each_by, joined};
 use fw_wrapper::{Frame, join, split};
 use std::alloc::Global;
 use std::test::Fail;

@@ -1,6 +1,6 @@
 //! The services GET, SET and ACTION in their normal forms (IEC 62056-5-3).
 
-use crate::ways::{Way, deepened, each_by};
+use crate::support::{Way, deepened, each_by};
 use fw_apdu::{
     ApduError, GetDataResult, Invoke, LogicalName, Request, Response, read_request, read_response,
     write_request, write_response,

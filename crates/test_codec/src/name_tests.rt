@@ -1,7 +1,7 @@
 //! Names of images: 01, the head end's number, the campaign's serial number, and the SHA-256 (FIPS 180-4) of the image; with a
 //! release 02 in place of 01, and the release before the SHA-256.
 
-use crate::ways::{Way, each_by};
+use crate::support::{Way, each_by};
 use fw_names::{CampaignId, HeadId, ImageName, MeterId, digest_of, factory_name, name_of};
 use std::alloc::Global;
 use std::test::Fail;

@@ -1,6 +1,6 @@
 //! Each type of Data, read and written. The tags are those of IEC 62056-6-2, Common data types, the contents A-XDR's.
 
-use crate::ways::{Way, deepened, each_by, joined};
+use crate::support::{Way, deepened, each_by, joined};
 use fw_axdr::{AxdrError, Data, read, unwritable, write_to};
 use std::alloc::Global;
 use std::test::Fail;

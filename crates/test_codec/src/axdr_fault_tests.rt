@@ -1,6 +1,6 @@
 //! Faults of byte strings that are made up: of each tag, of each size, and at each depth.
 
-use crate::ways::joined;
+use crate::support::joined;
 use fw_axdr::{AxdrError, read};
 use std::alloc::{AllocError, Global};
 use std::test::Fail;

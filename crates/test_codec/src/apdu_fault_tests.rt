@@ -1,6 +1,6 @@
 //! Faults of byte strings that are no request or no response: which one, and that the leftmost one decides.
 
-use crate::ways::{Way, each_by};
+use crate::support::{Way, each_by};
 use fw_apdu::{ApduError, read_request, read_response};
 use fw_axdr::AxdrError;
 use fw_wrapper::WrapError;
