@@ -9,7 +9,7 @@ use Rattle.fw_world.specs.Runs.{events_of}
 use Rattle.fw_world.specs.Step.{Event}
 use Rattle.fw_world.specs.View.{event_of}
 use Rattle.fw_accounts.specs.Accounts.{AreNumbered, all_of, numbered}
-use Rattle.fw_shared.specs.Seat.{Receipt}
+use Rattle.fw_air.specs.Events.{Receipt}
 
 behind : (given events : List Given) (made : List Event) → events_of events ≡ events_of given ++ made → events_of events ≡ events_of given ++ events_of (drop (length given) events)
 behind [] events made e = refl

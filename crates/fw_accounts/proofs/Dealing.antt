@@ -5,10 +5,10 @@ use Rattle.std.proofs.lemmas.Option.{get_or_from_slice_get, slice_get_within}
 use Rattle.std.specs.Prelude.{slice_get, Some}
 use mathlib.Core.Logic.{dite}
 use native.Mathlib.Decide.{ℕ_discrete}
-use Rattle.fw_air.specs.declared.links.Waiting.{Waiting}
+use Rattle.fw_air.specs.declared.links.LinkQueue.{LinkQueue}
 use Rattle.fw_air.specs.Links.{link_of}
 use Rattle.fw_air.specs.Rounds.{Link}
-use Rattle.fw_shared.specs.Seat.{Receipt}
+use Rattle.fw_air.specs.Events.{Receipt}
 use Rattle.fw_accounts.specs.Accounts.{ticks_of, its_ticks, HasItsTicks}
 
 -- each link before the one of this place has its ticks
@@ -16,11 +16,11 @@ abbrev pub HasTicksBelow : List Link → ℕ → ℕ → ℕ → List Receipt �
 HasTicksBelow links rounds workers worker receipts end =
     (j : ℕ) (link : Link) → j < end → slice_get links j ≡ Some link → ticks_of link.head link.meter receipts ≡ its_ticks rounds workers worker j
 
-link_at : (links : List Waiting) (k : ℕ) (d : Waiting) (link : Link) → k < length links → slice_get (map link_of links) k ≡ Some link
+link_at : (links : List LinkQueue) (k : ℕ) (d : LinkQueue) (link : Link) → k < length links → slice_get (map link_of links) k ≡ Some link
     → link ≡ link_of (get_or links k d)
 link_at links k d link lt at = sym (get_or_from_slice_get (map link_of links) k link (link_of d) at) ∙ get_or-map link_of links k d (link_of d) lt
 
-pub below_more : (links : List Waiting) (rounds workers worker : ℕ) (receipts : List Receipt) (j : ℕ) (waiting : Waiting) → j < length links → waiting ≡ get_or links j waiting
+pub below_more : (links : List LinkQueue) (rounds workers worker : ℕ) (receipts : List Receipt) (j : ℕ) (waiting : LinkQueue) → j < length links → waiting ≡ get_or links j waiting
     → ticks_of waiting.head waiting.meter receipts ≡ its_ticks rounds workers worker j
     → HasTicksBelow (map link_of links) rounds workers worker receipts j
     → HasTicksBelow (map link_of links) rounds workers worker receipts (j + 1)

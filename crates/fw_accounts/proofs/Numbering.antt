@@ -6,7 +6,7 @@ use Rattle.fw_world.specs.Runs.{events_of}
 use Rattle.fw_world.specs.Step.{Event}
 use Rattle.fw_world.specs.View.{event_of}
 use Rattle.fw_accounts.specs.Accounts.{numbered}
-use Rattle.fw_shared.specs.Seat.{Receipt}
+use Rattle.fw_air.specs.Events.{Receipt}
 
 abbrev pub receipt : ℕ → Event → Receipt
 receipt number event = record { number = number; event = event }

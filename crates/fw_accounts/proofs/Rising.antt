@@ -3,7 +3,7 @@ use Rattle.std.proofs.Common.{◌≡◌, ℕ, ◌+◌, ◌-◌, ◌<◌, ◌≤�
 use Rattle.std.proofs.lemmas.List.{get_or_default}
 use mathlib.Core.Logic.{dite}
 use native.Mathlib.Decide.{ℕ_discrete}
-use Rattle.fw_shared.specs.Seat.{Receipt}
+use Rattle.fw_air.specs.Events.{Receipt}
 use Rattle.fw_accounts.specs.Accounts.{IsRising}
 
 -- the number of a receipt that a place has

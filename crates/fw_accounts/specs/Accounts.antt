@@ -10,7 +10,7 @@ use Rattle.fw_world.specs.Step.{Event}
 use Rattle.fw_air.specs.Logs.{Entry}
 use Rattle.fw_air.specs.Rounds.{Link, links}
 use Rattle.fw_air.specs.Ticks.{is_tick}
-use Rattle.fw_shared.specs.Seat.{Receipt}
+use Rattle.fw_air.specs.Events.{Receipt}
 
 -- receipts for these events, numbered from n on
 abbrev pub numbered : ℕ → List Event → List Receipt

@@ -6,7 +6,7 @@ use Rattle.fw_world.specs.Setup.{IsSetup, opening_state}
 use Rattle.fw_world.specs.State.{State, world_of}
 use Rattle.fw_world.specs.Step.{Event}
 use Rattle.fw_accounts.specs.Accounts.{IsAccounted}
-use Rattle.fw_shared.specs.Seat.{Receipt}
+use Rattle.fw_air.specs.Events.{Receipt}
 
 -- A run of workers is accounted for, a world can be made of its setup, and what the product is for holds of its world.
 pub record IsReported (setup : Setup) (given : List Event) (rounds workers : ℕ) (world : State) (board : ℕ) (receipts : List (List Receipt)) : Type 0 where

@@ -41,16 +41,15 @@ ghost use Rattle.fw_accounts.specs.Reported.{IsReported};
 use crate::error::AccountError;
 use crate::receipts::Receipts;
 use crate::report::Report;
-use fw_air::{CoreEvent, Entry, Waiting, audit, links_of};
+use fw_air::{CoreEvent, Entry, LinkQueue, Receipt, audit, links_of};
 use fw_book::{Book, Row, RowState};
 use fw_head::HeadCore;
-use fw_shared::Receipt;
 use fw_world::{Datagram, Event, NumberedMeter, Setup, World};
 use std::alloc::{AllocError, Global};
 
 /// What workers left: the parts of a world, the log, the board's count and the receipts.
 #[derive(Drop)]
-pub struct Left {
+pub struct LeftByWorkers {
     /// The head ends.
     pub heads: Vec<HeadCore>,
     /// The meters, with their numbers.
@@ -77,14 +76,14 @@ pub fn account(
     given: &[Event],
     rounds: u32,
     workers: u32,
-    left: Left,
+    left: LeftByWorkers,
 ) -> Result<Report, AccountError>
     requires { 1 ≤ workers }
     ensures reported { IfOk result (λ r. IsReported setup.now (events_of given.now) rounds workers r.world r.board r.receipts.items) }
     ensures log { IfOk result (λ r. IsOfLog setup.now (events_of given.now) left.entries.items r.world r.receipts.items) }
     ensures kept { IfOk result (λ r. (r.board ≡ left.board) × (r.receipts ≡ left.receipts)) }
 {
-    let Left {
+    let LeftByWorkers {
         heads,
         meters,
         sent,
@@ -199,7 +198,7 @@ fn is_event(made: CoreEvent, event: &Event) -> bool
 }
 
 /// Whether each worker made as many ticks of each link as it should have.
-fn are_dealt(links: &[Waiting], rounds: u32, workers: u32, receipts: &[Receipts]) -> bool
+fn are_dealt(links: &[LinkQueue], rounds: u32, workers: u32, receipts: &[Receipts]) -> bool
     requires { 1 ≤ workers }
     ensures { IsTrue result → AreDealt (map link_of links.now) rounds workers receipts.now }
 {
@@ -213,7 +212,7 @@ fn are_dealt(links: &[Waiting], rounds: u32, workers: u32, receipts: &[Receipts]
 
 /// Whether a worker made as many ticks of each link as it should have.
 fn has_its_ticks(
-    links: &[Waiting],
+    links: &[LinkQueue],
     rounds: u32,
     workers: u32,
     worker: usize,
@@ -244,7 +243,7 @@ fn its_ticks(rounds: u32, workers: u32, worker: usize, j: usize) -> usize
 }
 
 /// Whether there are so many ticks of a link among these receipts.
-fn has_ticks(link: &Waiting, wanted: usize, receipts: &Receipts) -> bool
+fn has_ticks(link: &LinkQueue, wanted: usize, receipts: &Receipts) -> bool
     ensures { IsTrue result → ticks_of (link_of link.now).head (link_of link.now).meter receipts.now ≡ wanted }
 {
     receipts.ticks(link.head(), link.meter()) == wanted

@@ -6,7 +6,7 @@ mod error;
 mod receipts;
 mod report;
 
-pub use accounts::{Left, account, done_rows};
+pub use accounts::{LeftByWorkers, account, done_rows};
 pub use error::AccountError;
 pub use receipts::Receipts;
 pub use report::Report;

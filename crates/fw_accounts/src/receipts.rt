@@ -5,9 +5,8 @@ ghost use Rattle.fw_air.specs.Events.{core_event_of};
 ghost use Rattle.fw_air.specs.Ticks.{is_tick};
 ghost use Rattle.fw_accounts.specs.Accounts.{IsRising, ticks_of};
 
-use fw_air::CoreEvent;
+use fw_air::{CoreEvent, Receipt};
 use fw_names::{HeadId, MeterId};
-use fw_shared::Receipt;
 use std::marker::Model;
 
 /// What one worker made, event by event.
@@ -18,9 +17,9 @@ pub struct Receipts {
 
 impl Model for Receipts {
     ghost use Rattle.std.specs.Prelude.{List};
-    ghost use Rattle.fw_shared.specs.Seat as seat;
+    ghost use Rattle.fw_air.specs.Events as events;
 
-    ghost Value = { List seat.Receipt };
+    ghost Value = { List events.Receipt };
 
     ghost view = { λ r. r.all.items };
 }

@@ -10,7 +10,7 @@ use Rattle.fw_world.specs.Step.{Event, deliver, replies, tick, turn}
 use Rattle.fw_world.specs.World.{Datagram}
 use Rattle.fw_air.specs.declared.fates.Fate.{Fate}
 use Rattle.fw_air.specs.declared.fates.Fate.TheVariants as fate
-use Rattle.fw_air.specs.declared.links.Waiting.{Waiting}
+use Rattle.fw_air.specs.declared.links.LinkQueue.{LinkQueue}
 use Rattle.fw_air.specs.Fates.{by_fates, comes, fate_of, waits}
 use Rattle.fw_air.specs.Inside.{Recorded, Follows}
 use Rattle.fw_air.specs.Links.{IsNew, late_of, link_of, passed_of, queue_of}
@@ -208,14 +208,14 @@ module _ (fates : List Fate) (queue next : Queue) (a b c d e : Recorded) (from m
 
 -- ---- what waits on a link
 
-pub queue_is : (waiting : Waiting) (link : Link) (passed : ℕ) (late : List ℕ) → link_of waiting ≡ link → passed_of waiting ≡ passed → late_of waiting ≡ late
+pub queue_is : (waiting : LinkQueue) (link : Link) (passed : ℕ) (late : List ℕ) → link_of waiting ≡ link → passed_of waiting ≡ passed → late_of waiting ≡ late
     → queue_of waiting ≡ record { link = link; passed = passed; late = late }
 queue_is waiting link passed late link_is passed_is late_is =
     ap (λ (l : Link). record { link = l; passed = passed_of waiting; late = late_of waiting }) link_is
     ∙ ap (λ (n : ℕ). record { link = link; passed = n; late = late_of waiting }) passed_is
     ∙ ap (λ (l : List ℕ). record { link = link; passed = passed; late = l }) late_is
 
-pub new_queues : (made : List Waiting) → All IsNew made → map queue_of made ≡ map new_queue (map link_of made)
+pub new_queues : (made : List LinkQueue) → All IsNew made → map queue_of made ≡ map new_queue (map link_of made)
 new_queues [] all = refl
 new_queues (one ∷ made) all =
     let here : IsNew one = all 0 one (omega arith) in

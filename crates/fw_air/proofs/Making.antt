@@ -6,7 +6,7 @@ use Rattle.fw_head.specs.Head.{Head}
 use Rattle.fw_world.specs.declared.setup.MeterSetup.{MeterSetup}
 use Rattle.fw_world.specs.Setup.{number_of_meter}
 use Rattle.fw_world.specs.State.{State, head_at, meter_at}
-use Rattle.fw_air.specs.declared.links.Waiting.{Waiting}
+use Rattle.fw_air.specs.declared.links.LinkQueue.{LinkQueue}
 use Rattle.fw_air.specs.Links.{AreSent, IsThere, link_of}
 use Rattle.fw_air.specs.Rounds.{Link, is_link, stands_with, links_with}
 
@@ -23,7 +23,7 @@ has_head None meter e = absurd cc
 has_head (Some head) meter e = refl
 
 -- nothing waits on a new link, and both its ends are in the world
-pub new_there : (s : State) (waiting : Waiting) → is_link s waiting.head waiting.meter ≡ true → waiting.late.items ≡ [] → IsThere s waiting
+pub new_there : (s : State) (waiting : LinkQueue) → is_link s waiting.head waiting.meter ≡ true → waiting.late.items ≡ [] → IsThere s waiting
 new_there s waiting is none = record {
   head = has_head (head_at s waiting.head) waiting.meter (second_true (is_some (meter_at s waiting.meter)) (stands_with (head_at s waiting.head) waiting.meter) is);
   meter = first_true (is_some (meter_at s waiting.meter)) (stands_with (head_at s waiting.head) waiting.meter) is;
@@ -41,7 +41,7 @@ module _ (s : State) (head : ℕ) where
   by rest meter b = map link (cond b (meter ∷ filter is_with rest) (filter is_with rest))
 
   -- the links that were made, and those of the meters that are left
-  pub one_link : (meters rest : List MeterSetup) (meter : MeterSetup) (made : List Waiting) (one : Waiting) (whole : List Link) → meters ≡ meter ∷ rest → is_link s head (number_of_meter meter) ≡ true
+  pub one_link : (meters rest : List MeterSetup) (meter : MeterSetup) (made : List LinkQueue) (one : LinkQueue) (whole : List Link) → meters ≡ meter ∷ rest → is_link s head (number_of_meter meter) ≡ true
       → link_of one ≡ record { head = head; meter = number_of_meter meter } → map link_of made ++ links_with s head meters ≡ whole → map link_of (made ++ one ∷ []) ++ links_with s head rest ≡ whole
   one_link meters rest meter made one whole next is same before =
       let taken : links_with s head (meter ∷ rest) ≡ link meter ∷ links_with s head rest = ap (by rest meter) is in
@@ -51,7 +51,7 @@ module _ (s : State) (head : ℕ) where
       ∙ ap (λ (l : List Link). map link_of made ++ l) (sym (ap (links_with s head) next ∙ taken))
       ∙ before
 
-  pub no_link : (meters rest : List MeterSetup) (meter : MeterSetup) (made : List Waiting) (whole : List Link) → meters ≡ meter ∷ rest → is_link s head (number_of_meter meter) ≡ false
+  pub no_link : (meters rest : List MeterSetup) (meter : MeterSetup) (made : List LinkQueue) (whole : List Link) → meters ≡ meter ∷ rest → is_link s head (number_of_meter meter) ≡ false
       → map link_of made ++ links_with s head meters ≡ whole → map link_of made ++ links_with s head rest ≡ whole
   no_link meters rest meter made whole next is before =
       let passed : links_with s head (meter ∷ rest) ≡ links_with s head rest = ap (by rest meter) is in

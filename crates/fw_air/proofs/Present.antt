@@ -15,7 +15,7 @@ use Rattle.fw_world.specs.Step.{Event, open_campaign, cancel_campaign, tick, del
 use Rattle.fw_world.specs.World.{Datagram}
 use Rattle.fw_world.specs.declared.setup.Setup.{Setup}
 use Rattle.fw_world.specs.Setup.{opening_state}
-use Rattle.fw_air.specs.declared.links.Waiting.{Waiting}
+use Rattle.fw_air.specs.declared.links.LinkQueue.{LinkQueue}
 use Rattle.fw_air.specs.Links.{AreSent, IsThere, link_of}
 use Rattle.fw_air.specs.Rounds.{AdmittedRun, Link}
 
@@ -93,14 +93,14 @@ module _ (stay : ActorsStay) where
   meter_stays old new [] number r = ap (λ (w : State). is_some (meter_at w number)) r
   meter_stays old new (event ∷ events) number r = meter_stays r.0 new events number r.2 ∙ (stay old r.0 event r.1.1 number).1
 
-  pub still_there : (old new : State) (events : List Event) (waiting : Waiting) → AdmittedRun old events new → IsThere old waiting → IsThere new waiting
+  pub still_there : (old new : State) (events : List Event) (waiting : LinkQueue) → AdmittedRun old events new → IsThere old waiting → IsThere new waiting
   still_there old new events waiting r there = record {
     head = subst IsTrue (sym (head_stays old new events waiting.head r)) there.head;
     meter = subst IsTrue (sym (meter_stays old new events waiting.meter r)) there.meter;
     late = still_sent old new events waiting.late.items r there.late;
   }
 
-  pub all_still_there : (old new : State) (events : List Event) (links : List Waiting) → AdmittedRun old events new → All (IsThere old) links → All (IsThere new) links
+  pub all_still_there : (old new : State) (events : List Event) (links : List LinkQueue) → AdmittedRun old events new → All (IsThere old) links → All (IsThere new) links
   all_still_there old new events links r there k d inside = still_there old new events (slice_index_or links k d) r (there k d inside)
 
 -- ---- both ends of what was sent are there
@@ -124,7 +124,7 @@ pub none_below : (end : ℕ) (numbers : List ℕ) → numbers ≡ [] → All (λ
 none_below end numbers e = subst (λ (l : List ℕ). All (λ n. n < end) l) (sym e) (All-nil (λ n. n < end))
 
 -- the same link, with other datagrams that are late
-pub same_link_there : (s : State) (old new : Waiting) → link_of new ≡ link_of old → IsThere s old → AreSent s new.late.items → IsThere s new
+pub same_link_there : (s : State) (old new : LinkQueue) → link_of new ≡ link_of old → IsThere s old → AreSent s new.late.items → IsThere s new
 same_link_there s old new same there late = record {
   head = subst (λ (l : Link). IsTrue (is_some (head_at s l.head))) (sym same) there.head;
   meter = subst (λ (l : Link). IsTrue (is_some (meter_at s l.meter))) (sym same) there.meter;

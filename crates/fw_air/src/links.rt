@@ -15,7 +15,7 @@ use std::mem;
 
 /// The link of a head end and a meter that stands in its book, and what waits on it.
 #[derive(Drop)]
-pub struct Waiting {
+pub struct LinkQueue {
     pub(crate) head: HeadId,
     pub(crate) meter: MeterId,
     /// How many datagrams had their fates since its first round.
@@ -24,7 +24,7 @@ pub struct Waiting {
     pub(crate) late: Vec<usize>,
 }
 
-impl Waiting {
+impl LinkQueue {
     /// The head end.
     pub fn head(&self) -> HeadId
         ensures { result ≡ (link_of self.now).head }
@@ -107,7 +107,7 @@ impl Waiting {
 /// # Errors
 ///
 /// Out of memory alone, and only where there is a link.
-pub fn links_of(alloc: Global, setup: &Setup, world: &World) -> Result<Vec<Waiting>, AllocError>
+pub fn links_of(alloc: Global, setup: &Setup, world: &World) -> Result<Vec<LinkQueue>, AllocError>
     ensures all { IfOk result (λ made. map link_of made.items ≡ links setup.now world.now) }
     ensures there { IfOk result (λ made. All (IsThere world.now) made.items) }
     ensures unsent { IfOk result (λ made. All IsNew made.items) }
@@ -123,7 +123,7 @@ pub fn links_of(alloc: Global, setup: &Setup, world: &World) -> Result<Vec<Waiti
 /// Appends the links of a head end.
 fn push_links(
     alloc: Global,
-    made: &mut Vec<Waiting>,
+    made: &mut Vec<LinkQueue>,
     world: &World,
     head: HeadId,
     meters: &[MeterSetup],
@@ -138,7 +138,7 @@ fn push_links(
 {
     for meter in meters {
         if has_link(world, head, meter.meter) {
-            made.push(Waiting {
+            made.push(LinkQueue {
                 head,
                 meter: meter.meter,
                 passed: 0,

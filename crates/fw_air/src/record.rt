@@ -37,7 +37,7 @@ ghost use Rattle.fw_air.specs.Queues.{HasFates, RoundHasFates, RoundsHaveFates};
 ghost use Rattle.fw_air.specs.Rounds.{IsLinkRound, IsRound, OneByOne, last_turn};
 
 use crate::fates::Fates;
-use crate::links::Waiting;
+use crate::links::LinkQueue;
 use fw_image::TransferStatus;
 use fw_names::MeterId;
 use fw_world::{Event, RunError, StepError, World, laws};
@@ -151,7 +151,7 @@ impl Record {
     pub(crate) fn rounds(
         &mut self,
         alloc: Global,
-        links: &mut [Waiting],
+        links: &mut [LinkQueue],
         rounds: u32,
         fates: &Fates<'_>,
     ) -> Result<(), StepError>
@@ -172,7 +172,7 @@ impl Record {
     fn round(
         &mut self,
         alloc: Global,
-        links: &mut [Waiting],
+        links: &mut [LinkQueue],
         fates: &Fates<'_>,
     ) -> Result<(), StepError>
         requires { All (IsThere self.old.world) links.old }
@@ -195,7 +195,7 @@ impl Record {
     fn link_round(
         &mut self,
         alloc: Global,
-        link: &mut Waiting,
+        link: &mut LinkQueue,
         fates: &Fates<'_>,
     ) -> Result<(), StepError>
         requires { IsThere self.old.world link.old }
@@ -218,7 +218,7 @@ impl Record {
     }
 
     /// What is late comes, and the head end ticks the meter.
-    fn begin_round(&mut self, alloc: Global, link: &mut Waiting) -> Result<(), StepError>
+    fn begin_round(&mut self, alloc: Global, link: &mut LinkQueue) -> Result<(), StepError>
         requires { IsThere self.old.world link.old }
         ensures all { OnOk result (Follows self.old
             (map deliver link.old.late.items ++ tick link.old.head link.old.meter ∷ []) self.new) }
@@ -238,7 +238,7 @@ impl Record {
     fn pass(
         &mut self,
         alloc: Global,
-        link: &mut Waiting,
+        link: &mut LinkQueue,
         fates: &Fates<'_>,
         from: usize,
         end: usize,

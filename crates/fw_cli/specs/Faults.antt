@@ -3,8 +3,8 @@ use Rattle.fw_store.specs.declared.error.FileStoreError.{FileStoreError}
 use Rattle.fw_store.specs.declared.error.FileStoreError.TheVariants as file
 use Rattle.fw_image.specs.declared.error.OpenError.{OpenError}
 use Rattle.fw_image.specs.declared.error.OpenError.TheVariants as opening
-use Rattle.fw_crew.specs.declared.error.RehearseError.{RehearseError}
-use Rattle.fw_crew.specs.declared.error.RehearseError.TheVariants as workers
+use Rattle.fw_workers.specs.declared.error.RehearseError.{RehearseError}
+use Rattle.fw_workers.specs.declared.error.RehearseError.TheVariants as workers
 use Rattle.fw_cli.specs.declared.fault.Fault.{Fault}
 use Rattle.fw_cli.specs.declared.fault.Fault.TheVariants.{BadFates, BadSetup, StoreFault, Device, BadFile, BadHeader, BadImage, Input, TooMuchInput, BadLine, EmptyImage, ImageTooLong, Event, Mismatch, ThreadRefused, Socket, GateShut, Output, OutOfMemory}
 

@@ -6,9 +6,9 @@ use Rattle.fw_world.specs.declared.event.Event.{Event as Given}
 use Rattle.fw_world.specs.declared.setup.Setup.{Setup}
 use Rattle.fw_world.specs.Runs.{events_of}
 use Rattle.fw_world.specs.State.{State}
-use Rattle.fw_workers.specs.Accounts.{IsAccounted}
+use Rattle.fw_accounts.specs.Accounts.{IsAccounted}
 use Rattle.fw_workers.specs.Refusals.{IsBarred}
-use Rattle.fw_workers.specs.Seat.{Receipt}
+use Rattle.fw_air.specs.Events.{Receipt}
 use Rattle.fw_cli.specs.declared.rehearse.RehearseOptions.{RehearseOptions}
 use Rattle.fw_cli.specs.Fates.{SpellsSome}
 use Rattle.fw_cli.specs.Reading.{ReadsAll}

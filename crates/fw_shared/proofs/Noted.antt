@@ -1,7 +1,8 @@
 -- What an event leaves at the seat of its worker.
 use Rattle.std.proofs.Common.{◌≡◌, ℕ, List, [], ◌∷◌, ◌++◌, ap, ◌∙◌}
 use Rattle.fw_world.specs.Step.{Event}
-use Rattle.fw_shared.specs.Seat.{Receipt, Seat, noted}
+use Rattle.fw_shared.specs.Seat.{Seat, noted}
+use Rattle.fw_air.specs.Events.{Receipt}
 
 -- the seat that was seen as the old one, with one receipt more
 pub noted_as : (seen old : Seat) (before after : List Receipt) (number : ℕ) (made event : Event) → seen ≡ old → before ≡ seen.receipts → made ≡ event

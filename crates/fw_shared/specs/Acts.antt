@@ -56,7 +56,7 @@ pub record IsPutBack (desk : Desk) (head : Head) : Type 0 where
 -- ---- what is done behind a lock
 
 -- what a core did: the event, the datagrams that it sends, and what it left behind its lock
-pub record Act (T : Type 0) : Type 0 where
+pub record Recording (T : Type 0) : Type 0 where
   pub event : Event
   pub sent : List Datagram
   pub left : T

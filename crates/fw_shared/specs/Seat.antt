@@ -1,12 +1,8 @@
--- Public vocabulary: what contracts see of boards, seats and receipts.
+-- Public vocabulary: what contracts see of boards and seats.
 use Rattle.std.specs.Prelude.{ℕ, List, [], ◌∷◌, ◌++◌}
 use Rattle.fw_tally.specs.Tally.{TallyId}
 use Rattle.fw_world.specs.Step.{Event}
-
--- an event, under its number in the record
-pub record Receipt : Type 0 where
-  pub number : ℕ
-  pub event : Event
+use Rattle.fw_air.specs.Events.{Receipt}
 
 -- a board: which one it is, and the count that it began with
 pub record Board : Type 0 where

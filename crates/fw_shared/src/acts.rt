@@ -1,8 +1,8 @@
 //! What is done behind the locks, each step of which comes into the record.
 //!
-//! A meter, or a shard of the rows of a head end, stands behind its lock in a type of this file, whose steps leave an `Act`. An act
-//! can't be let go of, and nothing but `Act::record` ends it: that appends the event to the log, once, and notes the receipt. So a
-//! step of a core, an event in the record and a receipt are made one for one. `Act::record` borrows the guard of the lock, and asks
+//! A meter, or a shard of the rows of a head end, stands behind its lock in a type of this file, whose steps leave an `Recording`. An act
+//! can't be let go of, and nothing but `Recording::record` ends it: that appends the event to the log, once, and notes the receipt. So a
+//! step of a core, an event in the record and a receipt are made one for one. `Recording::record` borrows the guard of the lock, and asks
 //! that what the step left stands behind it. So the lock is held from the step until the event stands in the record.
 //!
 //! The lock of a meter or of a shard is taken first, and that of the log inside it. No two meters or shards are ever held by one
@@ -44,8 +44,7 @@ ghost use Rattle.fw_world.specs.View.{addressee};
 ghost use Rattle.fw_world.specs.declared.datagram.Actor.TheVariants as actor;
 ghost use Rattle.fw_shared.specs.Acts.{IsCoreRefusal, MeterServes, RowsHear, RowsTick, is_live_of};
 
-use crate::receipt::Receipt;
-use fw_air::{CoreEvent, Room, Sent, SharedLog};
+use fw_air::{CoreEvent, Receipt, Room, Sent, SharedLog};
 use fw_blocks::Width;
 use fw_book::Book;
 use fw_head::{News, Phase, RowCore, RowNews};
@@ -61,22 +60,22 @@ use std::sync::{MutexGuard, Wait};
 
 /// What a core did under its lock, and what isn't in the record yet: the event, room with the datagrams that it sends, and, for
 /// contracts alone, what it left behind the lock. It can't be let go of but by `record`.
-pub(crate) struct Act<T> {
+pub(crate) struct Recording<T> {
     event: CoreEvent,
     room: Room,
     left: Snapshot<T>,
 }
 
-impl<T> Model for Act<T> {
+impl<T> Model for Recording<T> {
     ghost use Rattle.fw_air.specs.Events.{core_event_of};
     ghost use Rattle.fw_shared.specs.Acts as acts;
 
-    ghost Value = { acts.Act T };
+    ghost Value = { acts.Recording T };
 
     ghost view = { λ a. record { event = core_event_of a.event; sent = a.room; left = a.left.value } };
 }
 
-impl<T> Act<T> {
+impl<T> Recording<T> {
     /// Appends it to the log, once, and notes the receipt under the number that it has there. It asks for room for the receipt, and
     /// that what the core left stands behind the lock of this guard, which is held until the event stands in the log.
     pub(crate) fn record<R: Wait>(
@@ -92,7 +91,7 @@ impl<T> Act<T> {
             ≡ receipts.old.items ++ (record { number = result.event; event = self.event }) ∷ [] }
         ensures sent { result.count ≡ length self.sent }
     {
-        let Act {
+        let Recording {
             event,
             room,
             left: _left,
@@ -138,7 +137,7 @@ impl<S: ImageStore + Drop> GuardedMeter<S> {
         number: usize,
         datagram: &Datagram,
         room: Room,
-    ) -> Result<Act<GuardedMeter<S>>, fw_meter::OutOfMemory>
+    ) -> Result<Recording<GuardedMeter<S>>, fw_meter::OutOfMemory>
         requires addressee { addressee datagram.now ≡ actor.Meter meter }
         requires empty { room ≡ [] }
         ensures event { IfOk result (λ act. act.event ≡ deliver number) }
@@ -152,11 +151,11 @@ impl<S: ImageStore + Drop> GuardedMeter<S> {
         reply(&mut room, datagram, meter, handled.reply);
         let event = CoreEvent::Deliver(number);
         let left = Snapshot::of(self);
-        Ok(Act { event, room, left })
+        Ok(Recording { event, room, left })
     }
 
     /// A turn of this meter, where it verifies. In every other status it is left as it is, and there is no act.
-    pub(crate) fn turn(&mut self, meter: MeterId, room: Room) -> Option<Act<GuardedMeter<S>>>
+    pub(crate) fn turn(&mut self, meter: MeterId, room: Room) -> Option<Recording<GuardedMeter<S>>>
         requires { room ≡ [] }
         ensures made { IfSome result (λ act. (act.event ≡ turn meter) × (act.sent ≡ [])) }
         ensures left { IfSome result (λ act. act.left ≡ self.new) }
@@ -171,7 +170,7 @@ impl<S: ImageStore + Drop> GuardedMeter<S> {
         self.core.turn();
         let event = CoreEvent::Turn(meter);
         let left = Snapshot::of(self);
-        Some(Act { event, room, left })
+        Some(Recording { event, room, left })
     }
 
     /// Whether it goes on with a verification.
@@ -239,7 +238,7 @@ impl Shard {
         width: Width,
         meter: MeterId,
         room: Room,
-    ) -> Result<Act<Shard>, fw_head::OutOfMemory>
+    ) -> Result<Recording<Shard>, fw_head::OutOfMemory>
         requires { room ≡ [] }
         ensures event { IfOk result (λ act. act.event ≡ tick book.now.head meter) }
         ensures step { IfOk result (λ act. RowsTick book.now width meter self.old.rows.items act.sent self.new.rows.items) }
@@ -251,7 +250,7 @@ impl Shard {
         let event = CoreEvent::Tick(head, meter);
         let Some(at) = self.place(meter) else {
             let left = Snapshot::of(self);
-            return Ok(Act { event, room, left });
+            return Ok(Recording { event, room, left });
         };
         let row = &mut self.rows[at];
         let image = image_of(book, row.name().campaign);
@@ -259,7 +258,7 @@ impl Shard {
         let mut room = room;
         send(&mut room, head, meter, sends);
         let left = Snapshot::of(self);
-        Ok(Act { event, room, left })
+        Ok(Recording { event, room, left })
     }
 
     /// The live row of the meter that sent the datagram of this number, if it has one, hears it. A row that has ended hears nothing:
@@ -274,7 +273,7 @@ impl Shard {
         number: usize,
         datagram: &Datagram,
         room: Room,
-    ) -> Result<(Act<Shard>, News), fw_head::OutOfMemory>
+    ) -> Result<(Recording<Shard>, News), fw_head::OutOfMemory>
         requires { room ≡ [] }
         ensures act { IfOk result (λ heard. (heard.0.event ≡ deliver number) × (heard.0.sent ≡ [])) }
         ensures step { IfOk result (λ heard. RowsHear self.old.rows.items datagram.now heard.1 self.new.rows.items) }
@@ -285,13 +284,13 @@ impl Shard {
         let meter = datagram.meter;
         let Some(at) = self.place(meter) else {
             let left = Snapshot::of(self);
-            return Ok((Act { event, room, left }, News::Nothing));
+            return Ok((Recording { event, room, left }, News::Nothing));
         };
         let row = &mut self.rows[at];
         let campaign = row.name().campaign;
         let told = row.hear(alloc, &datagram.bytes)?;
         let left = Snapshot::of(self);
-        let act = Act { event, room, left };
+        let act = Recording { event, room, left };
         Ok((act, news_of(campaign, meter, told)))
     }
 }

@@ -3,8 +3,8 @@
 ghost use Rattle.std.specs.Prelude.{◌≡◌, ◌+◌, ◌-◌, ◌^◌, ◌<◌, ◌≤◌, [], max, IfOk, IsOkAnd};
 
 use crate::error::OutOfMemory;
-use crate::receipt::Receipt;
 use crate::seat::Seat;
+use fw_air::Receipt;
 use fw_tally::Tally;
 use std::alloc::Global;
 use std::marker::Model;

@@ -6,12 +6,10 @@ mod board;
 mod desk;
 mod error;
 mod meter;
-mod receipt;
 mod seat;
 
 pub use board::Board;
 pub use desk::Desk;
 pub use error::OutOfMemory;
 pub use meter::SharedMeter;
-pub use receipt::Receipt;
 pub use seat::Seat;

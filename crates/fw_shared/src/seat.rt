@@ -2,7 +2,7 @@
 
 ghost use Rattle.std.specs.Prelude.{◌≡◌};
 
-use crate::receipt::Receipt;
+use fw_air::Receipt;
 use fw_tally::Share;
 use std::marker::Model;
 

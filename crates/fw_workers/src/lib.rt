@@ -1,12 +1,27 @@
-//! Rehearsals: workers that share head ends and meters make rounds together by fates, and are held to account. Names of live rollouts
-//! and of the crates below are handed on.
+//! Workers in threads: they share the head ends and meters of a world, make rounds together by fates or over wires, and are held to account.
 #![tactic(auto)]
 
+mod beginning;
+mod carrier;
+mod crew;
+mod deal;
+mod error;
+mod gate;
+mod lines;
 mod rehearsal;
 mod rollout;
+mod shared_world;
+mod stage;
+mod start;
+mod wired;
+mod worker;
 
-pub use fw_accounts::{Receipts, Report};
-pub use fw_crew::{Gate, RehearseError};
-pub use fw_live::{live, live_over};
-pub use fw_shared::{Board, Desk, OutOfMemory, Receipt, Seat, SharedMeter};
+pub use beginning::{Beginning, begin};
+pub use crew::{Hand, Task, work};
+pub use deal::dealt;
+pub use error::{RehearseError, RoundsError};
+pub use gate::Gate;
 pub use rehearsal::rehearse;
+pub use shared_world::SharedWorld;
+pub use wired::{live, live_over};
+pub use worker::Worker;

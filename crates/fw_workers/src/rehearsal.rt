@@ -16,14 +16,18 @@ ghost use Rattle.fw_world.specs.Headline.{
 ghost use Rattle.fw_world.specs.Runs.{events_of};
 ghost use Rattle.fw_world.specs.Setup.{IsSetup, opening_state};
 ghost use Rattle.fw_world.specs.State.{world_of};
-ghost use Rattle.fw_crew.specs.Refusals.{TellsOfEvent};
+ghost use Rattle.fw_workers.specs.Refusals.{TellsOfEvent};
 
-use crate::rollout::{Line, Rollout};
+use crate::beginning::{Beginning, begin};
+use crate::crew::{Hand, Task, work};
+use crate::deal::dealt;
+use crate::error::{RehearseError, RoundsError};
+use crate::gate::Gate;
+use crate::rollout::{FatedLink, FatedRounds};
+use crate::shared_world::SharedWorld;
+use crate::worker::Worker;
 use fw_accounts::Report;
 use fw_air::{Fate, Fates, links_of};
-use fw_crew::{
-    Floor, Gate, Hand, Opening, RehearseError, Task, Unaccounted, Worker, begin, dealt, work,
-};
 use fw_world::{Event, Setup, World};
 use std::alloc::Global;
 use std::sync::Wait;
@@ -31,28 +35,28 @@ use std::thread::Threads;
 
 /// The links of a worker, and the fates of what is sent on them.
 #[derive(Drop)]
-struct Fated<'a> {
-    lines: Vec<Line>,
+struct FatedLinks<'a> {
+    lines: Vec<FatedLink>,
     fates: &'a [Fate],
     ghost are_fates: { IsFates fates.now },
 }
 
-impl<'a> Hand for Fated<'a> {
+impl<'a> Hand for FatedLinks<'a> {
     ghost may_end = { λ _ _. Unit {0} };
 
     fn rounds<R: Wait, G: Gate>(
         &mut self,
         rt: &R,
         alloc: Global,
-        floor: &Floor,
+        shared: &SharedWorld,
         worker: &mut Worker<'_, G>,
         rounds: u32,
-    ) -> Result<(), Unaccounted> {
+    ) -> Result<(), RoundsError> {
         let Some(fates) = Fates::new(self.fates) else {
             unreachable!();
         };
-        let rollout = Rollout {
-            floor,
+        let rollout = FatedRounds {
+            shared,
             fates: &fates,
             rounds,
         };
@@ -112,9 +116,9 @@ fn by_fates<R: Threads + Wait + Sync, G: Gate + Sync>(
     rt: &R,
     alloc: Global,
     task: &Task<'_, G>,
-    opening: Opening,
+    opening: Beginning,
     fates: &Fates<'_>,
-) -> Result<Report, Unaccounted>
+) -> Result<Report, RoundsError>
     requires { 1 ≤ task.now.workers }
     ensures { IfOk result (λ r. IsReported task.now.setup.now (events_of task.now.given.now) task.now.rounds task.now.workers
         r.world r.board r.receipts.items) }
@@ -123,16 +127,16 @@ fn by_fates<R: Threads + Wait + Sync, G: Gate + Sync>(
     let mut hands = Vec::new(alloc);
     for lines in dealt(alloc, lines, task.workers)? {
         let fates = fates.as_slice();
-        hands.push(Fated { lines, fates })?;
+        hands.push(FatedLinks { lines, fates })?;
     }
     work(rt, alloc, task, opening, hands)
 }
 
 /// The links of a world, on which nothing was sent.
-fn lines_of(alloc: Global, setup: &Setup, world: &World) -> Result<Vec<Line>, Unaccounted> {
+fn lines_of(alloc: Global, setup: &Setup, world: &World) -> Result<Vec<FatedLink>, RoundsError> {
     let mut lines = Vec::new(alloc);
     for link in links_of(alloc, setup, world)? {
-        lines.push(Line::new(link))?;
+        lines.push(FatedLink::new(link))?;
     }
     Ok(lines)
 }

@@ -2,23 +2,26 @@
 
 ghost use Rattle.std.specs.Prelude.{◌≡◌};
 
-use fw_air::{Fates, Sent, Waiting};
-use fw_crew::{Floor, Gate, Unaccounted, Worker};
+use crate::error::RoundsError;
+use crate::gate::Gate;
+use crate::shared_world::SharedWorld;
+use crate::worker::Worker;
+use fw_air::{Fates, LinkQueue, Sent};
 use std::alloc::Global;
 use std::sync::Wait;
 
 /// A link that was dealt to a worker.
 #[derive(Drop)]
-pub(crate) struct Line {
-    waiting: Waiting,
+pub(crate) struct FatedLink {
+    waiting: LinkQueue,
     /// What the head end sent when it last ticked the meter. All else that comes on the link are replies.
     asked: Sent,
 }
 
-impl Line {
+impl FatedLink {
     /// A link on which nothing was sent.
-    pub(crate) fn new(waiting: Waiting) -> Line {
-        Line {
+    pub(crate) fn new(waiting: LinkQueue) -> FatedLink {
+        FatedLink {
             waiting,
             asked: Sent {
                 event: 0,
@@ -36,22 +39,22 @@ impl Line {
 
 /// What the rounds of a rehearsal are made with.
 #[derive(Drop)]
-pub(crate) struct Rollout<'a> {
-    pub(crate) floor: &'a Floor,
+pub(crate) struct FatedRounds<'a> {
+    pub(crate) shared: &'a SharedWorld,
     pub(crate) fates: &'a Fates<'a>,
     pub(crate) rounds: u32,
 }
 
-impl<'a> Rollout<'a> {
+impl<'a> FatedRounds<'a> {
     /// So many rounds of these links.
     pub(crate) fn rounds<R: Wait, G: Gate>(
         &self,
         rt: &R,
         alloc: Global,
         worker: &mut Worker<'_, G>,
-        lines: &mut [Line],
-    ) -> Result<(), Unaccounted>
-        requires { worker.old.board ≡ self.now.floor.now.board.id }
+        lines: &mut [FatedLink],
+    ) -> Result<(), RoundsError>
+        requires { worker.old.board ≡ self.now.shared.now.board.id }
         ensures { worker.new.board ≡ worker.old.board }
     {
         'rounds: for _ in 0..self.rounds {
@@ -69,15 +72,15 @@ impl<'a> Rollout<'a> {
         rt: &R,
         alloc: Global,
         worker: &mut Worker<'_, G>,
-        line: &mut Line,
-    ) -> Result<(), Unaccounted>
-        requires { worker.old.board ≡ self.now.floor.now.board.id }
+        line: &mut FatedLink,
+    ) -> Result<(), RoundsError>
+        requires { worker.old.board ≡ self.now.shared.now.board.id }
         ensures { worker.new.board ≡ worker.old.board }
     {
         let sent = self.open_round(rt, alloc, worker, line)?;
         let replies = self.deliver_passed(rt, alloc, worker, line, &sent)?;
         self.deliver_passed(rt, alloc, worker, line, &replies)?;
-        self.floor.turn(rt, alloc, worker, line.waiting.meter())
+        self.shared.turn(rt, alloc, worker, line.waiting.meter())
     }
 
     /// What was late comes, and then the head end ticks: what was sent in return, and what the tick sent.
@@ -86,15 +89,15 @@ impl<'a> Rollout<'a> {
         rt: &R,
         alloc: Global,
         worker: &mut Worker<'_, G>,
-        line: &mut Line,
-    ) -> Result<Vec<Sent>, Unaccounted>
-        requires { worker.old.board ≡ self.now.floor.now.board.id }
+        line: &mut FatedLink,
+    ) -> Result<Vec<Sent>, RoundsError>
+        requires { worker.old.board ≡ self.now.shared.now.board.id }
         ensures { worker.new.board ≡ worker.old.board }
     {
         let late = line.waiting.take_late(alloc);
         let mut sent = self.deliver_all(rt, alloc, worker, line, &late)?;
         let (head, meter) = (line.waiting.head(), line.waiting.meter());
-        let asked = self.floor.tick(rt, alloc, worker, head, meter)?;
+        let asked = self.shared.tick(rt, alloc, worker, head, meter)?;
         line.asked = asked;
         sent.push(asked)?;
         Ok(sent)
@@ -106,10 +109,10 @@ impl<'a> Rollout<'a> {
         rt: &R,
         alloc: Global,
         worker: &mut Worker<'_, G>,
-        line: &mut Line,
+        line: &mut FatedLink,
         sent: &[Sent],
-    ) -> Result<Vec<Sent>, Unaccounted>
-        requires { worker.old.board ≡ self.now.floor.now.board.id }
+    ) -> Result<Vec<Sent>, RoundsError>
+        requires { worker.old.board ≡ self.now.shared.now.board.id }
         ensures { worker.new.board ≡ worker.old.board }
     {
         let coming = self.pass(alloc, line, sent)?;
@@ -120,9 +123,9 @@ impl<'a> Rollout<'a> {
     fn pass(
         &self,
         alloc: Global,
-        line: &mut Line,
+        line: &mut FatedLink,
         sent: &[Sent],
-    ) -> Result<Vec<usize>, Unaccounted> {
+    ) -> Result<Vec<usize>, RoundsError> {
         let mut all = Vec::new(alloc);
         for part in sent {
             let end = part.first.saturating_add(part.count);
@@ -138,20 +141,20 @@ impl<'a> Rollout<'a> {
         rt: &R,
         alloc: Global,
         worker: &mut Worker<'_, G>,
-        line: &Line,
+        line: &FatedLink,
         numbers: &[usize],
-    ) -> Result<Vec<Sent>, Unaccounted>
-        requires { worker.old.board ≡ self.now.floor.now.board.id }
+    ) -> Result<Vec<Sent>, RoundsError>
+        requires { worker.old.board ≡ self.now.shared.now.board.id }
         ensures { worker.new.board ≡ worker.old.board }
     {
         let mut sent = Vec::new(alloc);
         for number in numbers {
             if line.is_for_meter(*number) {
                 let meter = line.waiting.meter();
-                sent.push(self.floor.serve(rt, alloc, worker, meter, *number)?)?;
+                sent.push(self.shared.serve(rt, alloc, worker, meter, *number)?)?;
             } else {
                 let head = line.waiting.head();
-                self.floor.hear(rt, alloc, worker, head, *number)?;
+                self.shared.hear(rt, alloc, worker, head, *number)?;
             }
         }
         Ok(sent)

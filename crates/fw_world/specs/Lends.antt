@@ -8,7 +8,7 @@ use Rattle.fw_head.specs.contracts.head.HeadCore.{the_row as head_row}
 use Rattle.fw_world.specs.contracts.heads.Heads.{the_row as heads_row}
 use Rattle.fw_world.specs.contracts.meters.Meters.{the_row as meters_row}
 use Rattle.fw_world.specs.contracts.meters.NumberedMeter.{the_row as numbered_row}
-use Rattle.fw_world.specs.contracts.seat.Seat.{the_row as seat_row}
+use Rattle.fw_world.specs.contracts.world_meter.WorldMeter.{the_row as world_meter_row}
 use Rattle.fw_world.specs.Parts.{head_behind}
 use Rattle.fw_world.specs.Inside.{set_entry}
 
@@ -17,9 +17,9 @@ abbrev pub lends_head : MutBor (List (ℕ × Head)) → ℕ → Option (MutBor H
 lends_head s number r = LendsIf heads_row head_row s r (λ w. set_entry (nat_eq number) s.now (head_behind w)) s.now
 
 -- the meter ends as it is left, behind its number
-abbrev pub lends_seat : MutBor (ℕ × Meter) → MutBor Meter → Fml
-lends_seat s r = Lends numbered_row seat_row s r (λ w. (s.now.0, w))
+abbrev pub lends_world_meter : MutBor (ℕ × Meter) → MutBor Meter → Fml
+lends_world_meter s r = Lends numbered_row world_meter_row s r (λ w. (s.now.0, w))
 
 -- so does the meter of this number
 abbrev pub lends_meter : MutBor (List (ℕ × Meter)) → ℕ → Option (MutBor Meter) → Fml
-lends_meter s number r = LendsIf meters_row seat_row s r (set_value (nat_eq number) s.now) s.now
+lends_meter s number r = LendsIf meters_row world_meter_row s r (set_value (nat_eq number) s.now) s.now

@@ -12,9 +12,9 @@ mod meters;
 mod opening;
 mod parts;
 mod runs;
-mod seat;
 mod setup;
 mod world;
+mod world_meter;
 
 pub use activation::Activation;
 pub use datagram::{Actor, Datagram, Direction};

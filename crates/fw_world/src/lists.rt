@@ -15,7 +15,7 @@ ghost use Rattle.fw_world.specs.State.{sent_to};
 use crate::activation::Activation;
 use crate::datagram::{Datagram, Direction};
 use crate::meters::Meters;
-use crate::seat::{Seat, Switched};
+use crate::world_meter::{Switched, WorldMeter};
 use fw_head::HeadCore;
 use fw_meter::{OutOfMemory, asks_for_response};
 use fw_names::{HeadId, MeterId};
@@ -92,7 +92,10 @@ fn asks(alloc: Global, sent: &[Datagram], number: usize) -> Result<bool, OutOfMe
 }
 
 /// Makes room for a note of the image that a meter may switch to: none where it holds no verified one.
-pub(crate) fn room_to_note(activations: &mut Vec<Activation>, seat: &Seat) -> Result<(), AllocError>
+pub(crate) fn room_to_note(
+    activations: &mut Vec<Activation>,
+    seat: &WorldMeter,
+) -> Result<(), AllocError>
     ensures items { activations.new.items ≡ activations.old.items }
     ensures room { OnOk result (HoldsVerified seat.now → vec_len activations.new < vec_capacity activations.new) }
     ensures memory { OnErr result (HoldsVerified seat.now) }

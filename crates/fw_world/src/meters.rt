@@ -6,7 +6,7 @@ ghost use Rattle.std.specs.Map.{lookup};
 ghost use Rattle.std.specs.Option.{option_copied, option_copied_mut};
 ghost use Rattle.fw_world.specs.Inside.{IsSound};
 
-use crate::seat::Seat;
+use crate::world_meter::WorldMeter;
 use fw_meter::MeterCore;
 use fw_names::MeterId;
 use fw_store::MemoryStore;
@@ -16,7 +16,7 @@ use std::marker::Model;
 #[derive(Drop)]
 pub struct NumberedMeter {
     meter: MeterId,
-    seat: Seat,
+    seat: WorldMeter,
 }
 
 impl Model for NumberedMeter {
@@ -32,18 +32,18 @@ impl Model for NumberedMeter {
 }
 
 impl NumberedMeter {
-    ghost use Rattle.fw_world.specs.Lends.{lends_seat};
+    ghost use Rattle.fw_world.specs.Lends.{lends_world_meter};
 
     /// This meter behind this number.
     pub fn new(meter: MeterId, core: MeterCore<MemoryStore>) -> NumberedMeter
         requires unfused { IsTrue core.sound }
         ensures { result ≡ (meter, core.meter) }
     {
-        NumberedMeter::seated(meter, Seat::of(core))
+        NumberedMeter::seated(meter, WorldMeter::of(core))
     }
 
     /// The meter in this seat behind this number.
-    pub(crate) fn seated(meter: MeterId, seat: Seat) -> NumberedMeter
+    pub(crate) fn seated(meter: MeterId, seat: WorldMeter) -> NumberedMeter
         ensures { result ≡ (meter, seat) }
     {
         NumberedMeter { meter, seat }
@@ -73,8 +73,8 @@ impl NumberedMeter {
     }
 
     /// The meter, to change it.
-    fn seat_mut(&mut self) -> &mut Seat
-        ensures* writes_back { sem 𝓛 (lends_seat self.entry result) }
+    fn seat_mut(&mut self) -> &mut WorldMeter
+        ensures* writes_back { sem 𝓛 (lends_world_meter self.entry result) }
         ensures value { result.now ≡ self.old.1 }
     {
         &mut self.seat
@@ -124,7 +124,7 @@ impl Meters {
     }
 
     /// The meter of this number, if there is one.
-    pub(crate) fn get(&self, number: u32) -> Option<&Seat>
+    pub(crate) fn get(&self, number: u32) -> Option<&WorldMeter>
         ensures { option_copied result ≡ lookup (nat_eq number) self.now }
     {
         match place(&self.items, number) {
@@ -134,7 +134,7 @@ impl Meters {
     }
 
     /// The meter of this number, if there is one, to change it.
-    pub(crate) fn get_mut(&mut self, number: u32) -> Option<&mut Seat>
+    pub(crate) fn get_mut(&mut self, number: u32) -> Option<&mut WorldMeter>
         ensures* writes_back { sem 𝓛 (lends_meter self.entry number result) }
         ensures value { option_copied_mut result ≡ lookup (nat_eq number) self.old }
     {

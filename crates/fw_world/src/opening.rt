@@ -7,8 +7,8 @@ ghost use Rattle.fw_world.specs.declared.error.SetupError.TheVariants.{OutOfMemo
 use crate::error::SetupError;
 use crate::heads::Heads;
 use crate::meters::{Meters, NumberedMeter};
-use crate::seat::Seat;
 use crate::setup::{HeadSetup, MeterSetup, width_of};
+use crate::world_meter::WorldMeter;
 use fw_head::HeadCore;
 use std::alloc::Global;
 
@@ -39,7 +39,7 @@ pub(crate) fn meters_of(alloc: Global, meters: &[MeterSetup]) -> Result<Meters, 
 {
     let mut made = Vec::with_capacity(alloc, meters.len())?;
     for meter in meters {
-        let seat = Seat::new(
+        let seat = WorldMeter::new(
             alloc,
             meter.version(),
             meter.block_size,

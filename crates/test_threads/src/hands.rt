@@ -5,8 +5,10 @@ ghost use Rattle.std.specs.Prelude.{◌≡◌, MatchOption, Ok, Err};
 
 use crate::gates::Open;
 use fw_air::Sent;
-use fw_crew::{Floor, Gate, Hand, RehearseError, Task, Unaccounted, Worker, begin, dealt, work};
 use fw_names::{HeadId, MeterId};
+use fw_workers::{
+    Gate, Hand, RehearseError, RoundsError, SharedWorld, Task, Worker, begin, dealt, work,
+};
 use std::alloc::Global;
 use std::sync::Wait;
 use std::test::Fail;
@@ -26,18 +28,18 @@ impl GoodLink {
         &self,
         rt: &R,
         alloc: Global,
-        floor: &Floor,
+        shared: &SharedWorld,
         worker: &mut Worker<'_, G>,
         asked: Sent,
-    ) -> Result<(), Unaccounted>
-        requires { worker.old.board ≡ floor.now.board.id }
+    ) -> Result<(), RoundsError>
+        requires { worker.old.board ≡ shared.now.board.id }
         ensures { worker.new.board ≡ worker.old.board }
     {
         let end = asked.first.saturating_add(asked.count);
         'datagrams: for number in asked.first..end {
-            let reply = floor.serve(rt, alloc, worker, self.meter, number)?;
+            let reply = shared.serve(rt, alloc, worker, self.meter, number)?;
             if reply.count == 1 {
-                floor.hear(rt, alloc, worker, self.head, reply.first)?;
+                shared.hear(rt, alloc, worker, self.head, reply.first)?;
             }
         }
         Ok(())
@@ -51,14 +53,14 @@ impl Hand for GoodLink {
         &mut self,
         rt: &R,
         alloc: Global,
-        floor: &Floor,
+        shared: &SharedWorld,
         worker: &mut Worker<'_, G>,
         rounds: u32,
-    ) -> Result<(), Unaccounted> {
+    ) -> Result<(), RoundsError> {
         'rounds: for _ in 0..rounds {
-            let asked = floor.tick(rt, alloc, worker, self.head, self.meter)?;
-            self.deliver(rt, alloc, floor, worker, asked)?;
-            floor.turn(rt, alloc, worker, self.meter)?;
+            let asked = shared.tick(rt, alloc, worker, self.head, self.meter)?;
+            self.deliver(rt, alloc, shared, worker, asked)?;
+            shared.turn(rt, alloc, worker, self.meter)?;
         }
         Ok(())
     }
@@ -118,7 +120,7 @@ fn hands_of_its_own(rt: HostRuntime) -> Result<(), Fail> {
 
 /// A worker that is refused at once, for this reason, or for none.
 #[derive(Drop)]
-struct Refused(Option<Unaccounted>);
+struct Refused(Option<RoundsError>);
 
 impl Hand for Refused {
     ghost may_end = { λ hand end. MatchOption hand.0 (end ≡ Ok tt) (λ reason. end ≡ Err reason) };
@@ -127,10 +129,10 @@ impl Hand for Refused {
         &mut self,
         _rt: &R,
         _alloc: Global,
-        _floor: &Floor,
+        _floor: &SharedWorld,
         _worker: &mut Worker<'_, G>,
         _rounds: u32,
-    ) -> Result<(), Unaccounted> {
+    ) -> Result<(), RoundsError> {
         match self.0 {
             Some(reason) => Err(reason),
             None => Ok(()),
@@ -142,7 +144,7 @@ impl Hand for Refused {
 fn refusal_of<R: Threads + Wait + Sync>(
     rt: &R,
     alloc: Global,
-    reasons: &[Option<Unaccounted>],
+    reasons: &[Option<RoundsError>],
 ) -> Result<String, Fail> {
     let setup = setup_of(alloc, SMALL)?;
     let given = events_of(alloc, &[OPENED])?;
@@ -166,17 +168,17 @@ fn refusal_of<R: Threads + Wait + Sync>(
 
 /// Why each worker is refused, from the lowest on, and what is told: the lowest worker's refusal. Where none is refused, the rounds that
 /// they didn't make are missed.
-const REFUSALS: &[(&[Option<Unaccounted>], &str)] = &[
+const REFUSALS: &[(&[Option<RoundsError>], &str)] = &[
     (
-        &[Some(Unaccounted::GateShut), Some(Unaccounted::OutOfMemory)],
+        &[Some(RoundsError::GateShut), Some(RoundsError::OutOfMemory)],
         "GateShut",
     ),
     (
-        &[Some(Unaccounted::OutOfMemory), Some(Unaccounted::GateShut)],
+        &[Some(RoundsError::OutOfMemory), Some(RoundsError::GateShut)],
         "OutOfMemory",
     ),
-    (&[None, Some(Unaccounted::GateShut)], "GateShut"),
-    (&[Some(Unaccounted::OutOfMemory), None], "OutOfMemory"),
+    (&[None, Some(RoundsError::GateShut)], "GateShut"),
+    (&[Some(RoundsError::OutOfMemory), None], "OutOfMemory"),
     (&[None, None], "Mismatch"),
 ];
 

@@ -1,6 +1,6 @@
 //! The links of a world, and what waits on one.
 
-use fw_air::{Fate, Fates, Waiting, links_of};
+use fw_air::{Fate, Fates, LinkQueue, links_of};
 use fw_world::World;
 use std::alloc::{AllocError, Global};
 use std::test::Fail;
@@ -20,7 +20,7 @@ const PASSED: &[(usize, usize, &[usize], &[usize])] = &[
 const FATES: &[Fate] = &[Fate::Deliver, Fate::Drop, Fate::Twice, Fate::Late];
 
 /// The links of two head ends.
-fn all_links(alloc: Global) -> Result<Vec<Waiting>, Fail> {
+fn all_links(alloc: Global) -> Result<Vec<LinkQueue>, Fail> {
     let setup = setup_of(alloc, TWO_HEADS)?;
     let mut world = World::new(alloc, &setup)?;
     for event in &events_of(alloc, &[OPENED_FOR_SOME])? {
@@ -30,14 +30,14 @@ fn all_links(alloc: Global) -> Result<Vec<Waiting>, Fail> {
 }
 
 /// Whether a link is that of these numbers.
-fn is_of(link: &Waiting, numbers: (u32, u32)) -> bool {
+fn is_of(link: &LinkQueue, numbers: (u32, u32)) -> bool {
     (link.head().number(), link.meter().number()) == numbers
 }
 
 /// Whether just these come of the datagrams from a number to behind another, and just those are late.
 fn passes(
     alloc: Global,
-    link: &mut Waiting,
+    link: &mut LinkQueue,
     fates: &Fates<'_>,
     part: &(usize, usize, &[usize], &[usize]),
 ) -> Result<bool, AllocError> {

@@ -4,8 +4,9 @@ ghost use Rattle.std.specs.Prelude.{◌≤◌, length, IfOk, IfSome};
 
 use crate::gates::{Meet, Open};
 use crossbeam_channel::{Receiver, Sender, unbounded};
+use fw_accounts::Report;
 use fw_air::{Wire, WireFault};
-use fw_workers::{Gate, RehearseError, Report, live, live_over};
+use fw_workers::{Gate, RehearseError, live, live_over};
 use std::alloc::{AllocError, Global};
 use std::net::Net;
 use std::sync::Wait;

@@ -2,8 +2,9 @@
 //! out by hand from the head end's and the meter's documents.
 
 use crate::gates::{Below, Counts, Held, Meet, Open};
-use fw_air::{CoreEvent, Fate, Fates, schedule};
-use fw_workers::{Gate, Receipt, RehearseError, Report, rehearse};
+use fw_accounts::Report;
+use fw_air::{CoreEvent, Fate, Fates, Receipt, schedule};
+use fw_workers::{Gate, RehearseError, rehearse};
 use fw_world::{Activation, Event};
 use std::alloc::Global;
 use std::sync::Wait;

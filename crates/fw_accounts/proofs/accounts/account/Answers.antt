@@ -9,7 +9,7 @@ use Rattle.fw_world.specs.Setup.{opening_state}
 use Rattle.fw_world.specs.State.{StateRun}
 use Rattle.fw_world.specs.Step.{Event}
 use Rattle.fw_accounts.specs.Accounts.{AreDealt, AreNumbered, IsAccounted, IsRising, all_of, numbered}
-use Rattle.fw_shared.specs.Seat.{Receipt}
+use Rattle.fw_air.specs.Events.{Receipt}
 use Rattle.fw_accounts.proofs.Accounting.{numbered_are}
 use Rattle.fw_accounts.proofs.accounts.account.Goals as goal
 

@@ -1,7 +1,7 @@
 use Rattle.std.proofs.Common.{◌≡◌, ℕ, List, ◌<◌, map}
 use Rattle.std.specs.Prelude.{slice_get, Some}
 use Rattle.fw_air.specs.Links.{link_of}
-use Rattle.fw_shared.specs.Seat.{Receipt}
+use Rattle.fw_air.specs.Events.{Receipt}
 use Rattle.fw_accounts.specs.Accounts.{HasItsTicks}
 use Rattle.fw_accounts.proofs.accounts.are_dealt.Given as goal
 

@@ -1,5 +1,5 @@
 use Rattle.std.proofs.Common.{◌≡◌, ◌+◌, ◌<◌, length, refl, ap, sym, ◌∙◌, arith}
-use Rattle.fw_shared.specs.Seat.{Receipt}
+use Rattle.fw_air.specs.Events.{Receipt}
 use Rattle.fw_accounts.proofs.Numbering.{is_next}
 use Rattle.fw_accounts.proofs.accounts.are_for.Goals as goal
 

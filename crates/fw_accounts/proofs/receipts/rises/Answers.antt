@@ -1,5 +1,5 @@
 use Rattle.std.proofs.Common.{◌<◌, ◌≤◌, ap, arith}
-use Rattle.fw_shared.specs.Seat.{Receipt}
+use Rattle.fw_air.specs.Events.{Receipt}
 use Rattle.fw_accounts.proofs.Rising.{rising_more, not_rising}
 use Rattle.fw_accounts.proofs.receipts.rises.Goals as goal
 

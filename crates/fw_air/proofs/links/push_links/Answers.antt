@@ -1,7 +1,7 @@
 use Rattle.std.proofs.Common.{◌≡◌, ◌+◌, ◌<◌, false, true, [], ◌∷◌, ◌++◌, map, drop, length, refl, sym, ap, subst, ◌∙◌, arith, All}
 use Rattle.std.proofs.lemmas.List.{drop_more}
 use Rattle.std.proofs.lemmas.List.Elements.{All-push}
-use Rattle.fw_air.specs.declared.links.Waiting.{Waiting}
+use Rattle.fw_air.specs.declared.links.LinkQueue.{LinkQueue}
 use Rattle.fw_air.specs.Links.{IsNew, IsThere, link_of}
 use Rattle.fw_air.specs.Rounds.{is_link, links_with}
 use Rattle.fw_air.proofs.Making.{new_there, one_link, no_link, some_link}
@@ -22,7 +22,7 @@ loop-meter-preserved c =
     elim c.if-has_link.branch [
       | then-has_link+in_ok-push w ↦
           let is : is_link s c.args.head meter.meter ≡ true = sym w.if-has_link.ensures in
-          let one : Waiting = record { head = c.args.head; meter = meter.meter; passed = 0; late = w.new.result } in
+          let one : LinkQueue = record { head = c.args.head; meter = meter.meter; passed = 0; late = w.new.result } in
           let items : c.if-has_link.made.items ≡ made ++ one ∷ [] = ap (λ v. v.items) w.made-is ∙ w.in_ok-push.ensures.items in (
             ap (λ l. map link_of l ++ links_with s c.args.head rest) items ∙ one_link s c.args.head (drop i meters) rest meter made one _ next is refl c.loop-meter.invariant.0,
             subst (All (IsThere s)) (sym items) (All-push (IsThere s) made one c.loop-meter.invariant.1 (new_there s one is w.new.ensures.items)),

@@ -1,6 +1,0 @@
--- Public vocabulary: the words of public clauses, for callers and readers.
-pub mod Deals
-pub mod Ends
-pub mod Recorded
-pub mod Refusals
-pub mod Seated

@@ -1,0 +1,17 @@
+use Rattle.std.proofs.Common.{List, map, subst}
+use Rattle.std.specs.List.{AllZip}
+use Rattle.fw_workers.specs.Ends.{End, EndsAs}
+use Rattle.fw_workers.proofs.Ending.{lowest_told, well_told}
+use Rattle.fw_workers.proofs.crew.work.Goals as goal
+
+pub returns-clause-ended : goal.returns-clause-ended
+returns-clause-ended g c =
+    let ends : List End = map (λ outcome. outcome.ended) c.in_ok-outcomes.outcomes.items in
+    let each = subst (λ hands. AllZip (EndsAs g.H.Hand.may_end) hands ends) c.in_ok-jobs.ensures.hands c.in_ok-outcomes.ensures.ends in
+    well_told g.H.Hand.may_end c.args.hands.items ends c.account.result each c.account.ensures.refused
+
+pub returns-clause-lowest : goal.returns-clause-lowest
+returns-clause-lowest g c =
+    let ends : List End = map (λ outcome. outcome.ended) c.in_ok-outcomes.outcomes.items in
+    let each = subst (λ hands. AllZip (EndsAs g.H.Hand.may_end) hands ends) c.in_ok-jobs.ensures.hands c.in_ok-outcomes.ensures.ends in
+    lowest_told g.H.Hand.may_end c.args.hands.items ends c.account.result each c.account.ensures.refused c.account.ensures.otherwise

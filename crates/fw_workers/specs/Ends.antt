@@ -1,0 +1,34 @@
+-- Public vocabulary: how workers end.
+use Rattle.std.specs.Prelude.{◌≡◌, ◌⊎◌, List, [], ◌∷◌, Option, None, Some, Result, Ok, Err}
+use Rattle.fw_workers.specs.declared.error.RoundsError.{RoundsError}
+use Rattle.fw_workers.specs.declared.error.RoundsError.TheVariants as unaccounted
+
+-- how the rounds of a worker end
+abbrev pub End : Type 0
+End = Result (Unit {0}) RoundsError
+
+-- the refusal of the lowest worker that was refused, where the ends stand in the order of the workers' numbers
+abbrev pub lowest_refusal : List End → Option RoundsError
+lowest_refusal [] = None
+lowest_refusal (Err refusal ∷ ends) = Some refusal
+lowest_refusal (Ok done ∷ ends) = lowest_refusal ends
+
+-- Of these hands, in the order of their workers' numbers, the rounds of one may be refused so, and those of all lower ones may end
+-- well. How the rounds of a hand may end, `may_end` says.
+abbrev pub IsLowestRefusal : {H : Type 0} → (H → End → Type 0) → List H → RoundsError → Type 0
+IsLowestRefusal may_end [] refusal = ⊥
+IsLowestRefusal may_end (hand ∷ hands) refusal = may_end hand (Err refusal) ⊎ (may_end hand (Ok tt) × IsLowestRefusal may_end hands refusal)
+
+-- a reason of the crew itself: nothing but a worker is refused by a gate
+abbrev pub IsOfCrew : RoundsError → Type 0
+IsOfCrew unaccounted.GateShut = ⊥
+IsOfCrew other = Unit {0}
+
+-- a reason of an event of a worker: no thread is started for one
+abbrev pub IsOfEvent : RoundsError → Type 0
+IsOfEvent unaccounted.ThreadRefused = ⊥
+IsOfEvent other = Unit {0}
+
+-- a worker with this hand ends as its hand may end, or was told not to begin
+abbrev pub EndsAs : {H : Type 0} → (H → End → Type 0) → H → End → Type 0
+EndsAs may_end hand end = may_end hand end ⊎ (end ≡ Err unaccounted.ThreadRefused)

@@ -1,0 +1,172 @@
+//! The wires of a worker's links, in a thread of their own. What is lost there is loss on the wire: no clause speaks of it.
+
+use crate::error::RoundsError;
+use crossbeam_channel::{Receiver, SendError, Sender, unbounded};
+use fw_air::{MAX_RECEIVED, Pass, Wire};
+use fw_world::Direction;
+use std::alloc::{AllocError, Global};
+use std::sync::Wait;
+
+/// A datagram on a link of a worker.
+#[derive(Drop)]
+pub(crate) struct LinkDatagram {
+    /// The place of the link among those of the worker.
+    pub(crate) link: usize,
+    pub(crate) direction: Direction,
+    pub(crate) bytes: Vec<u8>,
+}
+
+/// What a worker asks its wire thread for.
+#[derive(Drop)]
+enum Order {
+    /// To send a datagram.
+    Send(LinkDatagram),
+    /// To read each wire, and to bring what came.
+    Pass,
+}
+
+/// What a wire thread brings.
+#[derive(Drop)]
+pub(crate) enum Arrival {
+    /// A datagram that came.
+    Came(LinkDatagram),
+    /// The pass is over.
+    Over,
+}
+
+/// A worker's end of what stands between it and its wire thread.
+#[derive(Drop)]
+pub(crate) struct WireThread {
+    orders: Sender<Order>,
+    pub(crate) brought: Receiver<Arrival>,
+}
+
+/// The wires of a worker's links: of each the head end's end and the meter's. It does what it is asked for in a thread of its own.
+#[derive(Drop)]
+pub(crate) struct Carrier<W: Wire + Drop> {
+    wires: Vec<(W, W)>,
+    orders: Receiver<Order>,
+    brought: Sender<Arrival>,
+}
+
+impl WireThread {
+    /// Both ends, for these wires.
+    pub(crate) fn with<W: Wire + Drop>(
+        alloc: Global,
+        wires: Vec<(W, W)>,
+    ) -> Result<(WireThread, Carrier<W>), AllocError> {
+        let (orders, asked) = unbounded(alloc)?;
+        let (bringing, brought) = unbounded(alloc)?;
+        let carrier = Carrier {
+            wires,
+            orders: asked,
+            brought: bringing,
+        };
+        Ok((WireThread { orders, brought }, carrier))
+    }
+
+    /// Hands a datagram over, to be sent. It is lost where the wire thread has ended.
+    pub(crate) fn send<R: Wait>(&self, rt: &R, letter: LinkDatagram) -> Result<(), RoundsError> {
+        self.order(rt, Order::Send(letter))
+    }
+
+    /// Asks for a pass: what came is brought, and then that the pass is over.
+    pub(crate) fn pass<R: Wait>(&self, rt: &R) -> Result<(), RoundsError> {
+        self.order(rt, Order::Pass)
+    }
+
+    /// Gives an order, which is lost where the wire thread has ended.
+    fn order<R: Wait>(&self, rt: &R, order: Order) -> Result<(), RoundsError> {
+        match self.orders.send(rt, order) {
+            Ok(()) | Err(SendError::Disconnected(_)) => Ok(()),
+            Err(SendError::OutOfMemory(_)) => Err(RoundsError::OutOfMemory),
+        }
+    }
+}
+
+/// The worker is gone, or memory was refused: the wire thread ends.
+#[derive(Clone, Copy)]
+struct Ended;
+
+impl From<AllocError> for Ended {
+    fn from(_error: AllocError) -> Ended {
+        Ended
+    }
+}
+
+impl From<SendError<Arrival>> for Ended {
+    fn from(_error: SendError<Arrival>) -> Ended {
+        Ended
+    }
+}
+
+impl<W: Wire + Drop> Carrier<W> {
+    /// Does what it is asked for, in order, until nobody asks any more. It ends before where memory is refused: nothing is sent and
+    /// nothing comes then any more.
+    pub(crate) fn run<R: Wait>(self, rt: &R, alloc: Global) {
+        let Carrier {
+            mut wires,
+            orders,
+            brought,
+        } = self;
+        'orders: for order in orders.iter(rt) {
+            match order {
+                Order::Send(letter) => send(&mut wires, &letter),
+                Order::Pass => {
+                    if pass(rt, alloc, &mut wires, &brought).is_err() {
+                        return;
+                    }
+                }
+            }
+        }
+    }
+}
+
+/// Sends a datagram from its sender's end. Where the wire fails or takes fewer bytes, it is lost.
+fn send<W: Wire>(wires: &mut [(W, W)], letter: &LinkDatagram) {
+    let Some(ends) = wires.get_mut(letter.link) else {
+        return;
+    };
+    let _taken = match letter.direction {
+        Direction::ToMeter => ends.0.send(&letter.bytes),
+        Direction::ToHead => ends.1.send(&letter.bytes),
+    };
+}
+
+/// A pass over these wires: each end is read in turn, and what came is brought.
+fn pass<W: Wire, R: Wait>(
+    rt: &R,
+    alloc: Global,
+    wires: &mut [(W, W)],
+    brought: &Sender<Arrival>,
+) -> Result<(), Ended> {
+    for (link, (head, meter)) in wires.iter_mut().enumerate() {
+        read(rt, alloc, meter, link, Direction::ToMeter, brought)?;
+        read(rt, alloc, head, link, Direction::ToHead, brought)?;
+    }
+    brought.send(rt, Arrival::Over)?;
+    Ok(())
+}
+
+/// Brings what came to an end of a wire, in a pass.
+fn read<W: Wire, R: Wait>(
+    rt: &R,
+    alloc: Global,
+    wire: &mut W,
+    link: usize,
+    direction: Direction,
+    brought: &Sender<Arrival>,
+) -> Result<(), Ended> {
+    let mut buffer = [0; MAX_RECEIVED];
+    let mut pass = Pass::new();
+    'datagrams: while let Some(count) = pass.next(wire, &mut buffer) {
+        let bytes = buffer[..count].to_vec(alloc)?;
+        let letter = LinkDatagram {
+            link,
+            direction,
+            bytes,
+        };
+        brought.send(rt, Arrival::Came(letter))?;
+    }
+    Ok(())
+}

@@ -1,0 +1,173 @@
+//! Workers, each in a thread of its own.
+
+ghost use Rattle.std.specs.Prelude.{◌≡◌, ◌≤◌, ◌⊎◌, All, IfOk, IfErr, map};
+ghost use Rattle.std.specs.List.{AllZip};
+ghost use Rattle.fw_accounts.specs.Reported.{IsReported};
+ghost use Rattle.fw_world.specs.Runs.{events_of};
+ghost use Rattle.fw_workers.specs.Ends.{End, EndsAs, IsLowestRefusal, IsOfCrew};
+
+use crate::beginning::Beginning;
+use crate::error::RoundsError;
+use crate::gate::Gate;
+use crate::shared_world::SharedWorld;
+use crate::stage::{Job, OfWorker, Outcome, Stage};
+use crate::start::{Start, Starter};
+use crate::worker::Worker;
+use fw_accounts::Report;
+use fw_world::{Event, Setup};
+use std::alloc::Global;
+use std::snapshot::Snapshot;
+use std::sync::Wait;
+use std::thread;
+use std::thread::Threads;
+
+/// What workers are asked to do: so many rounds of what is dealt to them, behind the given events.
+#[derive(Drop)]
+pub struct Task<'a, G: Gate> {
+    pub setup: &'a Setup,
+    pub given: &'a [Event],
+    pub rounds: u32,
+    pub workers: u32,
+    pub gate: &'a G,
+}
+
+/// What is dealt to a worker.
+pub trait Hand {
+    /// How its rounds may end.
+    ghost may_end: { Self → End → Type 0 };
+
+    /// So many rounds of its links.
+    fn rounds<R: Wait, G: Gate>(
+        &mut self,
+        rt: &R,
+        alloc: Global,
+        shared: &SharedWorld,
+        worker: &mut Worker<'_, G>,
+        rounds: u32,
+    ) -> Result<(), RoundsError>
+        requires { worker.old.board ≡ shared.now.board.id }
+        ensures board { worker.new.board ≡ worker.old.board }
+        ensures end { may_end self.old result };
+}
+
+/// Lets a worker for each hand make its rounds from this opening on, each in a thread of its own, and accounts for what they left.
+/// No worker begins before the threads of all are there.
+///
+/// # Errors
+///
+/// `ThreadRefused` where a thread could not be started: no worker began. Then the lowest worker's: `GateShut`, `OutOfMemory` or
+/// `Mismatch`. `Mismatch` too where what they left isn't what their receipts say.
+pub fn work<R: Threads + Wait + Sync, G: Gate + Sync, H: Hand + Send + Drop>(
+    rt: &R,
+    alloc: Global,
+    task: &Task<'_, G>,
+    opening: Beginning,
+    hands: Vec<H>,
+) -> Result<Report, RoundsError>
+    requires { 1 ≤ task.now.workers }
+    ensures reported { IfOk result (λ r. IsReported task.now.setup.now (events_of task.now.given.now) task.now.rounds task.now.workers
+        r.world r.board r.receipts.items) }
+    ensures ended { IfOk result (λ _. All (λ hand. H.may_end hand (Ok tt)) hands.items) }
+    ensures lowest { IfErr result (λ e. IsOfCrew e ⊎ IsLowestRefusal H.may_end hands.items e) }
+{
+    let mut stage = Stage::of(alloc, task.setup, opening)?;
+    let jobs = stage.seat(alloc, hands)?;
+    let outcomes = spawned(rt, alloc, &stage.shared, task.gate, task.rounds, jobs)?;
+    stage.account(
+        alloc,
+        task.setup,
+        task.given,
+        task.rounds,
+        task.workers,
+        outcomes,
+    )
+}
+
+/// Each worker in a thread of its own. None begins before the threads of all are there; where one is refused, the others end. What
+/// they leave stands in the order of the jobs.
+fn spawned<R: Threads + Wait + Sync, G: Gate + Sync, H: Hand + Send + Drop>(
+    rt: &R,
+    alloc: Global,
+    shared: &SharedWorld,
+    gate: &G,
+    rounds: u32,
+    jobs: Vec<Job<H>>,
+) -> Result<Vec<Outcome>, RoundsError>
+    requires { All (λ job. job.seat.board ≡ shared.now.board.id) jobs.items }
+    ensures seats { IfOk result (λ v. All (λ outcome. outcome.seat.board ≡ shared.now.board.id) v.items) }
+    ensures ends { IfOk result (λ v. AllZip (EndsAs H.may_end) (map (λ job. job.hand) jobs.items) (map (λ outcome. outcome.ended) v.items)) }
+    ensures cause { IfErr result IsOfCrew }
+{
+    let start = Start::new();
+    let start = &start;
+    thread::scope(
+        thread::scope_env(),
+        rt,
+        move |scope| -> Result<Vec<Outcome>, RoundsError>
+            requires { All (λ job. job.seat.board ≡ shared.now.board.id) jobs.items }
+            ensures seats { IfOk result (λ v. All (λ outcome. outcome.seat.board ≡ shared.entry.now.board.id) v.items) }
+            ensures ends { IfOk result (λ v. AllZip (EndsAs H.may_end) (map (λ job. job.hand) jobs.items) (map (λ outcome. outcome.ended) v.items)) }
+            ensures cause { IfErr result IsOfCrew }
+        {
+            let starter = Starter::of(start);
+            let mut rest = jobs;
+            let mut children = Vec::new(alloc);
+            'starts: while !rest.is_empty() {
+                let job = rest.remove(0);
+                let promise = OfWorker {
+                    board: &shared.board,
+                    hand: Snapshot::of(&job.hand),
+                };
+                let work = move || -> Outcome
+                    requires { job.seat.board ≡ shared.now.board.id }
+                    ensures seat { result.seat.board ≡ shared.entry.now.board.id }
+                    ensures end { EndsAs H.may_end job.hand result.ended }
+                { work_off(rt, alloc, shared, start, gate, rounds, job) };
+                let Ok(child) = scope.spawn_with(promise, work) else {
+                    return Err(starter.refuse(rt, RoundsError::ThreadRefused));
+                };
+                let Ok(()) = children.push(child) else {
+                    return Err(starter.refuse(rt, RoundsError::OutOfMemory));
+                };
+            }
+            starter.begin(rt, &rest);
+            match thread::join_promised(rt, children) {
+                Ok(outcomes) => Ok(outcomes),
+                Err(_) => Err(RoundsError::OutOfMemory),
+            }
+        },
+    )
+}
+
+/// What a worker does in its thread, once it is told to begin.
+fn work_off<R: Wait, G: Gate, H: Hand + Drop>(
+    rt: &R,
+    alloc: Global,
+    shared: &SharedWorld,
+    start: &Start,
+    gate: &G,
+    rounds: u32,
+    job: Job<H>,
+) -> Outcome
+    requires { job.seat.board ≡ shared.now.board.id }
+    ensures seat { result.seat.board ≡ shared.now.board.id }
+    ensures end { EndsAs H.may_end job.hand result.ended }
+{
+    let Job {
+        number,
+        seat,
+        mut hand,
+    } = job;
+    if !start.waits(rt) {
+        return Outcome {
+            seat,
+            ended: Err(RoundsError::ThreadRefused),
+        };
+    }
+    let mut worker = Worker::new(number, seat, gate);
+    let ended = hand.rounds(rt, alloc, shared, &mut worker, rounds);
+    Outcome {
+        seat: worker.into_seat(),
+        ended,
+    }
+}

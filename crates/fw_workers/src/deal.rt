@@ -1,0 +1,25 @@
+//! What is dealt to which worker.
+
+ghost use Rattle.std.specs.Prelude.{◌≡◌, ◌≤◌, IfOk, map};
+ghost use Rattle.fw_workers.specs.Deals.{hands};
+
+use std::alloc::{AllocError, Global};
+
+/// What is dealt to each worker, in order: that of place j to worker j modulo the number of workers.
+///
+/// # Errors
+///
+/// Want of memory alone. The links are then lost.
+pub fn dealt<L: Drop>(alloc: Global, links: Vec<L>, workers: u32) -> Result<Vec<Vec<L>>, AllocError>
+    requires { 1 ≤ workers }
+    ensures dealt { IfOk result (λ all. map (λ hand. hand.items) all.items ≡ hands workers links.items) }
+{
+    let mut hands = Vec::new(alloc);
+    for _ in 0..workers {
+        hands.push(Vec::new(alloc))?;
+    }
+    for (j, link) in links.into_iter().enumerate() {
+        hands[j % workers as usize].push(link)?;
+    }
+    Ok(hands)
+}

@@ -1,0 +1,153 @@
+//! The rounds of a worker over wires.
+
+ghost use Rattle.std.specs.Prelude.{◌≡◌};
+
+use crate::carrier::{Arrival, LinkDatagram, WireThread};
+use crate::error::RoundsError;
+use crate::gate::Gate;
+use crate::shared_world::SharedWorld;
+use crate::worker::Worker;
+use fw_air::{LinkQueue, Sent};
+use fw_world::{Actor, Direction};
+use std::alloc::Global;
+use std::sync::Wait;
+
+/// The most passes of a round of a link.
+const MAX_PASSES: u32 = 64;
+
+/// The links of a worker, and what stands between it and their wires.
+#[derive(Drop)]
+pub(crate) struct WiredLinks<'a> {
+    pub(crate) shared: &'a SharedWorld,
+    pub(crate) links: &'a [LinkQueue],
+    pub(crate) post: &'a WireThread,
+}
+
+impl<'a> WiredLinks<'a> {
+    /// So many rounds of the links.
+    pub(crate) fn rounds<R: Wait, G: Gate>(
+        &self,
+        rt: &R,
+        alloc: Global,
+        worker: &mut Worker<'_, G>,
+        rounds: u32,
+    ) -> Result<(), RoundsError>
+        requires { worker.old.board ≡ self.now.shared.now.board.id }
+        ensures { worker.new.board ≡ worker.old.board }
+    {
+        'rounds: for _ in 0..rounds {
+            'links: for (place, link) in self.links.iter().enumerate() {
+                self.link_round(rt, alloc, worker, place, link)?;
+            }
+        }
+        Ok(())
+    }
+
+    /// A round of a link: the head end ticks, what comes on any link of the worker is handled until a pass brings nothing, and the
+    /// meter takes its turn.
+    fn link_round<R: Wait, G: Gate>(
+        &self,
+        rt: &R,
+        alloc: Global,
+        worker: &mut Worker<'_, G>,
+        place: usize,
+        link: &LinkQueue,
+    ) -> Result<(), RoundsError>
+        requires { worker.old.board ≡ self.now.shared.now.board.id }
+        ensures { worker.new.board ≡ worker.old.board }
+    {
+        let asked = self
+            .shared
+            .tick(rt, alloc, worker, link.head(), link.meter())?;
+        self.send(rt, alloc, place, Direction::ToMeter, asked)?;
+        'passes: for _ in 0..MAX_PASSES {
+            if !self.pass(rt, alloc, worker)? {
+                break;
+            }
+        }
+        self.shared.turn(rt, alloc, worker, link.meter())
+    }
+
+    /// Handles what a pass over the wires brings: whether it brings anything. A wire thread that has ended brings nothing.
+    fn pass<R: Wait, G: Gate>(
+        &self,
+        rt: &R,
+        alloc: Global,
+        worker: &mut Worker<'_, G>,
+    ) -> Result<bool, RoundsError>
+        requires { worker.old.board ≡ self.now.shared.now.board.id }
+        ensures { worker.new.board ≡ worker.old.board }
+    {
+        self.post.pass(rt)?;
+        let mut has_come = false;
+        'letters: for brought in self.post.brought.iter(rt) {
+            let Arrival::Came(letter) = brought else {
+                break;
+            };
+            has_come = true;
+            self.receive(rt, alloc, worker, &letter)?;
+        }
+        Ok(has_come)
+    }
+
+    /// A datagram came: it is handled under its number. One that nobody sent on this link is dropped.
+    fn receive<R: Wait, G: Gate>(
+        &self,
+        rt: &R,
+        alloc: Global,
+        worker: &mut Worker<'_, G>,
+        letter: &LinkDatagram,
+    ) -> Result<(), RoundsError>
+        requires { worker.old.board ≡ self.now.shared.now.board.id }
+        ensures { worker.new.board ≡ worker.old.board }
+    {
+        let Some(link) = self.links.get(letter.link) else {
+            return Ok(());
+        };
+        let Some(number) = self.number(rt, link, letter) else {
+            return Ok(());
+        };
+        match letter.direction {
+            Direction::ToMeter => {
+                let replies = self.shared.serve(rt, alloc, worker, link.meter(), number)?;
+                self.send(rt, alloc, letter.link, Direction::ToHead, replies)
+            }
+            Direction::ToHead => self.shared.hear(rt, alloc, worker, link.head(), number),
+        }
+    }
+
+    /// The number under which a datagram was sent, and `None` where it wasn't.
+    fn number<R: Wait>(&self, rt: &R, link: &LinkQueue, letter: &LinkDatagram) -> Option<usize> {
+        let log = self.shared.log();
+        let head = Actor::Head(link.head());
+        let meter = Actor::Meter(link.meter());
+        let number = match letter.direction {
+            Direction::ToMeter => log.find(rt, head, meter, &letter.bytes)?,
+            Direction::ToHead => log.find(rt, meter, head, &letter.bytes)?,
+        };
+        usize::try_from(number).ok()
+    }
+
+    /// Hands over to be sent what was sent on a link.
+    fn send<R: Wait>(
+        &self,
+        rt: &R,
+        alloc: Global,
+        link: usize,
+        direction: Direction,
+        sent: Sent,
+    ) -> Result<(), RoundsError> {
+        let end = sent.first.saturating_add(sent.count);
+        'datagrams: for number in sent.first..end {
+            if let Some(datagram) = self.shared.log().get(rt, alloc, number)? {
+                let letter = LinkDatagram {
+                    link,
+                    direction,
+                    bytes: datagram.bytes,
+                };
+                self.post.send(rt, letter)?;
+            }
+        }
+        Ok(())
+    }
+}

@@ -1,0 +1,312 @@
+//! Live rollouts: the rounds of links over wires, made by several workers.
+
+ghost use Rattle.std.specs.Prelude.{◌≡◌, ◌≢◌, ◌≤◌, length, IfOk, IfErr, OnOk, IsErrOf};
+ghost use Rattle.fw_accounts.specs.Accounts.{IsAccounted};
+ghost use Rattle.fw_accounts.specs.Reported.{IsReported};
+ghost use Rattle.fw_world.specs.Headline.{
+  IsFirstName,
+  InitiatesAreOffered,
+  NamesAreOwn,
+  GoalsAreOffered,
+  ActivationsAreSafe,
+  ActivationsAreEqual,
+  ReleasesNeverFall,
+};
+ghost use Rattle.fw_world.specs.Runs.{events_of};
+ghost use Rattle.fw_world.specs.Setup.{IsSetup, opening_state};
+ghost use Rattle.fw_world.specs.State.{world_of};
+ghost use Rattle.fw_workers.specs.Refusals.{IsLater, IsOfRounds, TellsOfEvent};
+ghost use Rattle.fw_workers.specs.Wires.{HasLinks, HasOtherLinks};
+
+use crate::beginning::{Beginning, begin};
+use crate::carrier::{Carrier, WireThread};
+use crate::crew::{Hand, Task, work};
+use crate::deal::dealt;
+use crate::error::{RehearseError, RoundsError};
+use crate::gate::Gate;
+use crate::lines::WiredLinks;
+use crate::shared_world::SharedWorld;
+use crate::worker::Worker;
+use fw_accounts::Report;
+use fw_air::{LinkQueue, PairError, UdpWire, Wire, links_of};
+use fw_world::{Event, Setup};
+use std::alloc::{AllocError, Global};
+use std::net::Net;
+use std::sync::Wait;
+use std::thread;
+use std::thread::Threads;
+
+/// A link, and both ends of its wire: the head end's and the meter's.
+#[derive(Drop)]
+struct WiredLink<W: Wire + Drop> {
+    link: LinkQueue,
+    ends: (W, W),
+}
+
+/// Links over wires, and what stands between their worker and these.
+#[derive(Drop)]
+struct Wired {
+    links: Vec<LinkQueue>,
+    post: WireThread,
+}
+
+impl Hand for Wired {
+    ghost may_end = { λ _ _. Unit {0} };
+
+    fn rounds<R: Wait, G: Gate>(
+        &mut self,
+        rt: &R,
+        alloc: Global,
+        shared: &SharedWorld,
+        worker: &mut Worker<'_, G>,
+        rounds: u32,
+    ) -> Result<(), RoundsError> {
+        let lines = WiredLinks {
+            shared,
+            links: &self.links,
+            post: &self.post,
+        };
+        lines.rounds(rt, alloc, worker, rounds)
+    }
+}
+
+/// Makes the given events, and behind them rounds of all links over these wires, by 1 to 8 workers in threads of their own. There is
+/// a wire for each link, in the order of the setup: the head end's end and the meter's. Link j is dealt to worker j modulo the number
+/// of workers, each of which has one thread more, for the wires of its links. In a round of a link the head end ticks the meter, then
+/// what comes is handled until a pass over the worker's wires brings nothing, after 64 passes at the latest, and then the meter takes
+/// a turn where it verifies. What a wire loses is lost, and what nobody sent is dropped. Before each of its events a worker asks the
+/// gate.
+///
+/// What is answered is accounted for, as in `rehearse`.
+///
+/// # Errors
+///
+/// `BadSetup` first. Then those of the given events: `OutOfMemory`, or `Event` for any other cause. Then `Socket` for another number
+/// of wires than of links. Then, where there is a wire for each link, the lowest worker's: `GateShut`, `OutOfMemory` or `Mismatch`; or
+/// `ThreadRefused`.
+pub fn live_over<R: Threads + Wait + Sync, G: Gate + Sync, W: Wire + Send + Drop>(
+    rt: &R,
+    alloc: Global,
+    setup: &Setup,
+    events: &[Event],
+    rounds: u32,
+    workers: u32,
+    gate: &G,
+    wires: Vec<(W, W)>,
+) -> Result<Report, RehearseError>
+    ensures accounted { IfOk result (λ r. IsAccounted setup.now (events_of events.now) rounds workers r.world r.board r.receipts.items) }
+    ensures initiates { IfOk result (λ r. InitiatesAreOffered (world_of r.world)) }
+    ensures names { IfOk result (λ r. NamesAreOwn (IsFirstName (world_of (opening_state setup.now))) (world_of r.world)) }
+    ensures goals { IfOk result (λ r. GoalsAreOffered (world_of r.world)) }
+    ensures activations { IfOk result (λ r. ActivationsAreSafe (world_of r.world)) }
+    ensures equal { IfOk result (λ r. ActivationsAreEqual (world_of r.world)) }
+    ensures releases { IfOk result (λ r. ReleasesNeverFall (world_of r.world)) }
+    ensures workers { OnOk result ((1 ≤ workers) × (workers ≤ 8)) }
+    ensures setup { OnOk result (IsSetup setup.now) }
+    ensures bad_setup { IsErrOf result RehearseError.BadSetup → (1 ≤ workers) × (workers ≤ 8) → ¬ IsSetup setup.now }
+    ensures few { ¬ ((1 ≤ workers) × (workers ≤ 8)) → IsErrOf result RehearseError.BadSetup }
+    ensures event { IfErr result (TellsOfEvent setup.now events.now) }
+    ensures made { IfErr result (λ e. e ≢ RehearseError.BadSetup → IsSetup setup.now) }
+    ensures wires { OnOk result (HasLinks setup.now (events_of events.now) (length wires.items)) }
+    ensures socket { IsErrOf result RehearseError.Socket → HasOtherLinks setup.now (events_of events.now) (length wires.items) }
+    ensures rounds { IfErr result (λ e. IsOfRounds e → HasLinks setup.now (events_of events.now) (length wires.items)) }
+{
+    let opening = begin(alloc, setup, events, workers)?;
+    let links = links_of(alloc, setup, &opening.world)?;
+    let lines = with_wires(alloc, links, wires)?;
+    let task = Task {
+        setup,
+        given: events,
+        rounds,
+        workers,
+        gate,
+    };
+    let report = over_wires(rt, alloc, &task, opening, lines)?;
+    Ok(report)
+}
+
+/// `live_over` wires of UDP sockets on 127.0.0.1, each of which takes datagrams from the other end alone and waits 5 ms for one.
+///
+/// # Errors
+///
+/// As of `live_over`; `Socket` where a socket can't be bound.
+pub fn live<R: Threads + Wait + Net + Sync, G: Gate + Sync>(
+    rt: &R,
+    alloc: Global,
+    setup: &Setup,
+    events: &[Event],
+    rounds: u32,
+    workers: u32,
+    gate: &G,
+) -> Result<Report, RehearseError>
+    ensures accounted { IfOk result (λ r. IsAccounted setup.now (events_of events.now) rounds workers r.world r.board r.receipts.items) }
+    ensures initiates { IfOk result (λ r. InitiatesAreOffered (world_of r.world)) }
+    ensures names { IfOk result (λ r. NamesAreOwn (IsFirstName (world_of (opening_state setup.now))) (world_of r.world)) }
+    ensures goals { IfOk result (λ r. GoalsAreOffered (world_of r.world)) }
+    ensures activations { IfOk result (λ r. ActivationsAreSafe (world_of r.world)) }
+    ensures equal { IfOk result (λ r. ActivationsAreEqual (world_of r.world)) }
+    ensures releases { IfOk result (λ r. ReleasesNeverFall (world_of r.world)) }
+    ensures workers { OnOk result ((1 ≤ workers) × (workers ≤ 8)) }
+    ensures setup { OnOk result (IsSetup setup.now) }
+    ensures bad_setup { IsErrOf result RehearseError.BadSetup → (1 ≤ workers) × (workers ≤ 8) → ¬ IsSetup setup.now }
+    ensures few { ¬ ((1 ≤ workers) × (workers ≤ 8)) → IsErrOf result RehearseError.BadSetup }
+    ensures event { IfErr result (TellsOfEvent setup.now events.now) }
+    ensures made { IfErr result (λ e. e ≢ RehearseError.BadSetup → IsSetup setup.now) }
+{
+    let opening = begin(alloc, setup, events, workers)?;
+    let links = links_of(alloc, setup, &opening.world)?;
+    let lines = bound(rt, alloc, links)?;
+    let task = Task {
+        setup,
+        given: events,
+        rounds,
+        workers,
+        gate,
+    };
+    let report = over_wires(rt, alloc, &task, opening, lines)?;
+    Ok(report)
+}
+
+/// Each link with its wire.
+fn with_wires<W: Wire + Drop>(
+    alloc: Global,
+    links: Vec<LinkQueue>,
+    wires: Vec<(W, W)>,
+) -> Result<Vec<WiredLink<W>>, RehearseError>
+    ensures count { OnOk result (length links.items ≡ length wires.items) }
+    ensures socket { IsErrOf result RehearseError.Socket → length links.items ≢ length wires.items }
+    ensures memory { IsErrOf result RehearseError.OutOfMemory → length links.items ≡ length wires.items }
+    ensures only { IfErr result IsLater }
+    ensures roundless { IfErr result (λ e. ¬ IsOfRounds e) }
+{
+    if links.len() != wires.len() {
+        return Err(RehearseError::Socket);
+    }
+    let mut lines = Vec::new(alloc);
+    for (link, ends) in links.into_iter().zip(wires) {
+        lines.push(WiredLink { link, ends })?;
+    }
+    Ok(lines)
+}
+
+/// Each link with a wire of UDP sockets.
+fn bound<N: Net>(
+    net: &N,
+    alloc: Global,
+    links: Vec<LinkQueue>,
+) -> Result<Vec<WiredLink<UdpWire>>, RehearseError>
+    ensures { IfErr result IsLater }
+{
+    let mut lines = Vec::new(alloc);
+    for link in links {
+        let ends = match UdpWire::pair(net, alloc) {
+            Ok(ends) => ends,
+            Err(PairError::Socket) => return Err(RehearseError::Socket),
+            Err(PairError::OutOfMemory) => return Err(RehearseError::OutOfMemory),
+        };
+        lines.push(WiredLink { link, ends })?;
+    }
+    Ok(lines)
+}
+
+/// Lets the workers make their rounds over these wires.
+fn over_wires<R: Threads + Wait + Sync, G: Gate + Sync, W: Wire + Send + Drop>(
+    rt: &R,
+    alloc: Global,
+    task: &Task<'_, G>,
+    opening: Beginning,
+    lines: Vec<WiredLink<W>>,
+) -> Result<Report, RoundsError>
+    requires { 1 ≤ task.now.workers }
+    ensures { IfOk result (λ r. IsReported task.now.setup.now (events_of task.now.given.now) task.now.rounds task.now.workers
+        r.world r.board r.receipts.items) }
+{
+    let lines = dealt(alloc, lines, task.workers)?;
+    let (hands, carriers) = crews(alloc, lines)?;
+    carried(
+        rt,
+        alloc,
+        task.setup,
+        task.given,
+        task.rounds,
+        task.workers,
+        task.gate,
+        opening,
+        hands,
+        carriers,
+    )
+}
+
+/// What each worker is dealt, and what its wire thread does.
+fn crews<W: Wire + Drop>(
+    alloc: Global,
+    hands: Vec<Vec<WiredLink<W>>>,
+) -> Result<(Vec<Wired>, Vec<Carrier<W>>), AllocError> {
+    let mut crews = Vec::new(alloc);
+    let mut carriers = Vec::new(alloc);
+    for lines in hands {
+        let (hand, carrier) = parted(alloc, lines)?;
+        crews.push(hand)?;
+        carriers.push(carrier)?;
+    }
+    Ok((crews, carriers))
+}
+
+/// What a worker is dealt, and what its wire thread does.
+fn parted<W: Wire + Drop>(
+    alloc: Global,
+    lines: Vec<WiredLink<W>>,
+) -> Result<(Wired, Carrier<W>), AllocError> {
+    let mut links = Vec::new(alloc);
+    let mut wires = Vec::new(alloc);
+    for WiredLink { link, ends } in lines {
+        links.push(link)?;
+        wires.push(ends)?;
+    }
+    let (post, carrier) = WireThread::with(alloc, wires)?;
+    Ok((Wired { links, post }, carrier))
+}
+
+/// The wires of each worker in a thread of their own, and behind them the workers. Each wire thread ends when its worker has. The task
+/// is passed part by part, since a closure's clauses are lost where it captures a value whose type has a lifetime.
+fn carried<R: Threads + Wait + Sync, G: Gate + Sync, W: Wire + Send + Drop>(
+    rt: &R,
+    alloc: Global,
+    setup: &Setup,
+    given: &[Event],
+    rounds: u32,
+    workers: u32,
+    gate: &G,
+    opening: Beginning,
+    hands: Vec<Wired>,
+    carriers: Vec<Carrier<W>>,
+) -> Result<Report, RoundsError>
+    requires { 1 ≤ workers }
+    ensures { IfOk result (λ r. IsReported setup.now (events_of given.now) rounds workers r.world r.board r.receipts.items) }
+{
+    thread::scope(
+        thread::scope_env(),
+        rt,
+        move |scope| -> Result<Report, RoundsError>
+            requires { 1 ≤ workers }
+            ensures { IfOk result (λ r. IsReported setup.entry.now (events_of given.entry.now) rounds workers
+                r.world r.board r.receipts.items) }
+        {
+            let mut rest = carriers;
+            'carriers: while !rest.is_empty() {
+                let carrier = rest.remove(0);
+                if scope.spawn(move || carrier.run(rt, alloc)).is_err() {
+                    return Err(RoundsError::ThreadRefused);
+                }
+            }
+            let task = Task {
+                setup,
+                given,
+                rounds,
+                workers,
+                gate,
+            };
+            work(rt, alloc, &task, opening, hands)
+        },
+    )
+}
