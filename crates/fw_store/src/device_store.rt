@@ -243,6 +243,13 @@ fn find<D: ByteDevice>(device: &mut D) -> Result<Option<Found>, DeviceFault>
     Ok(Found::of(capacity, len))
 }
 
+/// Whether the bytes of a device are a store.
+pub(crate) fn holds_store<D: ByteDevice>(device: &mut D) -> Result<bool, DeviceFault>
+    ensures kept { KeepsDevice D.honest D.sound D.room device.old device.new }
+{
+    Ok(find(device)?.is_some())
+}
+
 /// The number whose bytes these are, high byte first.
 fn number(bytes: [u8; 4]) -> u32
     ensures { to_be_bytes w32 result ≡ bytes }

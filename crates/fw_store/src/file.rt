@@ -5,70 +5,179 @@ ghost use Rattle.fw_store.specs.Refusals.{IsCreateRefusal, IsReopenRefusal};
 ghost use Rattle.fw_store.specs.Setup.{IsCapacity, IsSetup};
 
 use crate::device::{ByteDevice, DeviceFault};
-use crate::device_store::DeviceStore;
+use crate::device_store::{DeviceStore, holds_store};
 use crate::error::FileStoreError;
+use crate::names::{Beside, JOURNAL, NEW, sync_folder};
+use crate::open_file::{OpenFile, options, refused};
+use crate::recovery::{prepare_journal, recover};
 use crate::setup::is_setup;
 use crate::store::ImageStore;
 use crate::version::HeaderVersion;
-use std::fs::{File, OpenOptions};
-use std::io;
-use std::os::unix::fs::FileExt;
+use fw_undo::{HeaderWrite, MAX_JOURNAL_SIZE};
+use std::fs;
+use std::fs::File;
+use std::io::ErrorKind;
 use std::path::AsPath;
 use std::rt::Files;
 
-/// The bytes of an open file, which no other store has open: it is under an exclusive lock. Nothing is known of what a file
-/// holds or gives, so it is neither honest nor sound.
+/// The bytes of an open file, which no other store has open: it is under an exclusive lock. Before a header write they stand in a
+/// journal beside it. Nothing is known of what a file holds or gives, so it is neither honest nor sound.
 #[derive(Drop)]
 pub struct FileDevice {
-    file: File,
-    /// How many bytes it had when it was opened, or when its length was last set.
-    size: u64,
+    store: OpenFile,
+    journal: OpenFile,
+    /// Whether a header write failed, so that the file may have a part of it. The journal is then that of this write.
+    torn: bool,
 }
 
 /// A store in a file.
 pub type FileStore = DeviceStore<FileDevice>;
 
-/// What the operating system refused.
-fn refused(_error: io::Error) -> DeviceFault {
-    DeviceFault
-}
-
 impl FileDevice {
-    /// Makes a file where there is none.
-    fn create<R: Files<File = File>, P: AsPath>(
-        rt: &R,
-        path: P,
-    ) -> Result<FileDevice, DeviceFault> {
-        let mut options = OpenOptions::new();
-        options.read(true).write(true).create_new(true);
-        FileDevice::locked(options.open(rt, path).map_err(refused)?)
-    }
-
-    /// Opens a file that is there.
-    fn open<R: Files<File = File>, P: AsPath>(rt: &R, path: P) -> Result<FileDevice, DeviceFault> {
-        let mut options = OpenOptions::new();
-        options.read(true).write(true);
-        FileDevice::locked(options.open(rt, path).map_err(refused)?)
-    }
-
-    /// The file under the lock, which ends when it is closed.
-    fn locked(file: File) -> Result<FileDevice, DeviceFault> {
-        if file.try_lock().is_err() {
-            return Err(DeviceFault);
+    /// Makes a file under another name, where there is none under this one. Where one was left under the other name, which nobody has
+    /// open, it is taken. Its journal is empty.
+    fn create<R: Files<File = File>>(rt: &R, path: &str) -> Result<FileDevice, DeviceFault> {
+        absent(rt, path)?;
+        let name = Beside::of(path, NEW)?;
+        let store = OpenFile::open(rt, name.text()?, &options(true)).map_err(refused)?;
+        store.lock()?;
+        // Who had the lock before may have given the file this name meanwhile.
+        absent(rt, path)?;
+        match empty_journal(rt, path) {
+            Ok(journal) => Ok(FileDevice {
+                store,
+                journal,
+                torn: false,
+            }),
+            Err(fault) => {
+                abandon(rt, path);
+                Err(fault)
+            }
         }
-        let size = file.metadata().map_err(refused)?.len();
-        Ok(FileDevice { file, size })
     }
 
-    /// Cuts a file to this length, or adds zeros up to it, where it has another.
-    fn fit(&mut self, len: u64) -> Result<(), DeviceFault>
-        ensures { OnOk result (self.new.size ≡ len) }
+    /// Opens a file that is there. What a power cut left of a header write is put right by its journal. Where the file is a store and
+    /// has no journal, it gets an empty one. The names of both are where a power cut leaves them.
+    fn open<R: Files<File = File>>(rt: &R, path: &str) -> Result<FileDevice, FileStoreError>
+        ensures refusals { IfErr result IsReopenRefusal }
     {
-        if self.size != len {
-            self.set_len(len)?;
+        let mut store = OpenFile::open(rt, path, &options(false)).map_err(refused)?;
+        store.lock()?;
+        let journal = match journal_of(rt, path)? {
+            Some(mut journal) => {
+                put_right(&mut store, &mut journal)?;
+                Some(journal)
+            }
+            None => None,
+        };
+        if !holds_store(&mut store)? {
+            return Err(FileStoreError::BadFile);
+        }
+        let journal = match journal {
+            Some(journal) => journal,
+            None => empty_journal(rt, path)?,
+        };
+        sync_folder(rt, path)?;
+        Ok(FileDevice {
+            store,
+            journal,
+            torn: false,
+        })
+    }
+
+    /// Takes back a header write that failed.
+    fn mend(&mut self) -> Result<(), DeviceFault> {
+        if self.torn {
+            put_back(&mut self.store, &mut self.journal)?;
+            self.torn = false;
         }
         Ok(())
     }
+}
+
+/// Nothing has this name.
+fn absent<R: Files<File = File>>(rt: &R, path: &str) -> Result<(), DeviceFault> {
+    match fs::symlink_metadata(rt, path) {
+        Err(error) if error.kind() == ErrorKind::NotFound => Ok(()),
+        _ => Err(DeviceFault),
+    }
+}
+
+/// The journal beside a file, if there is one.
+fn journal_of<R: Files<File = File>>(rt: &R, path: &str) -> Result<Option<OpenFile>, DeviceFault> {
+    let name = Beside::of(path, JOURNAL)?;
+    match OpenFile::open(rt, name.text()?, &options(false)) {
+        Ok(journal) => Ok(Some(journal)),
+        Err(error) if error.kind() == ErrorKind::NotFound => Ok(None),
+        Err(_) => Err(DeviceFault),
+    }
+}
+
+/// The journal beside a file, without a byte.
+fn empty_journal<R: Files<File = File>>(rt: &R, path: &str) -> Result<OpenFile, DeviceFault> {
+    let name = Beside::of(path, JOURNAL)?;
+    let mut journal = OpenFile::open(rt, name.text()?, &options(true)).map_err(refused)?;
+    journal.replace_both(0, &[], 0, &[])?;
+    Ok(journal)
+}
+
+/// Takes back what a power cut left of a header write, by its journal.
+fn put_right(store: &mut OpenFile, journal: &mut OpenFile) -> Result<(), DeviceFault> {
+    let mut bytes = [0; MAX_JOURNAL_SIZE];
+    match read_journal(journal, &mut bytes)? {
+        Some(bytes) => recover(store, bytes),
+        None => Ok(()),
+    }
+}
+
+/// Takes back a header write that failed, whatever of it stands in the file. Where the journal has no write, it changed one sector.
+fn put_back(store: &mut OpenFile, journal: &mut OpenFile) -> Result<(), DeviceFault> {
+    let mut bytes = [0; MAX_JOURNAL_SIZE];
+    let Some(bytes) = read_journal(journal, &mut bytes)? else {
+        return Ok(());
+    };
+    match HeaderWrite::from_bytes(bytes) {
+        Some(write) => store.replace_both(write.at, write.before, write.last_at, write.last_before),
+        None => Ok(()),
+    }
+}
+
+/// The bytes of a journal, if they aren't more than a journal has.
+fn read_journal<'a>(
+    journal: &mut OpenFile,
+    out: &'a mut [u8],
+) -> Result<Option<&'a [u8]>, DeviceFault> {
+    let len = journal.len()?;
+    if len > out.len() as u64 {
+        return Ok(None);
+    }
+    let bytes = &mut out[..len as usize];
+    journal.read_at(0, bytes)?;
+    Ok(Some(bytes))
+}
+
+/// Gives a store that is made its name.
+fn settle<R: Files<File = File>>(rt: &R, path: &str) -> Result<(), DeviceFault> {
+    absent(rt, path)?;
+    let name = Beside::of(path, NEW)?;
+    fs::rename(rt, name.text()?, path).map_err(refused)?;
+    let synced = sync_folder(rt, path);
+    if synced.is_err() {
+        let _ = fs::remove_file(rt, path);
+    }
+    synced
+}
+
+/// Takes away what was made of a store.
+fn abandon<R: Files<File = File>>(rt: &R, path: &str) {
+    let _ = remove(rt, path, NEW);
+    let _ = remove(rt, path, JOURNAL);
+}
+
+/// Removes a file beside another.
+fn remove<R: Files<File = File>>(rt: &R, path: &str, ending: &str) -> Result<(), DeviceFault> {
+    let name = Beside::of(path, ending)?;
+    fs::remove_file(rt, name.text()?).map_err(refused)
 }
 
 impl DeviceStore<FileDevice> {
@@ -79,8 +188,7 @@ impl DeviceStore<FileDevice> {
     /// # Errors
     ///
     /// `BadSetup` where one of these doesn't hold, and no file is made. Otherwise `StoreFault` alone: where a file is there
-    /// already, which is left as it is, and where the file can't be made, locked or written. One that was made may then be
-    /// left with any bytes.
+    /// already, which is left as it is, and where the file can't be made, locked or written. Nothing that was made is left then.
     pub fn create<R: Files<File = File>, P: AsPath>(
         rt: &R,
         path: P,
@@ -98,8 +206,21 @@ impl DeviceStore<FileDevice> {
         if !is_setup(HeaderVersion::Two, capacity, block_size, factory) {
             return Err(FileStoreError::BadSetup);
         }
-        let device = FileDevice::create(rt, path)?;
-        DeviceStore::create_on(device, capacity, block_size, factory)
+        let place = path.path_text();
+        let device = FileDevice::create(rt, place)?;
+        match DeviceStore::create_on(device, capacity, block_size, factory) {
+            Ok(store) => match settle(rt, place) {
+                Ok(()) => Ok(store),
+                Err(fault) => {
+                    abandon(rt, place);
+                    Err(FileStoreError::from(fault))
+                }
+            },
+            Err(error) => {
+                abandon(rt, place);
+                Err(error)
+            }
+        }
     }
 
     /// The store in a file that is there, with a header of either version, or of version 1 without releases: they are 0. The next
@@ -117,7 +238,7 @@ impl DeviceStore<FileDevice> {
         ensures faultless { IfOk result (λ store. ⟦<DeviceStore<FileDevice> as ImageStore>⟧.faults store ≡ 0) }
         ensures refusals { IfErr result IsReopenRefusal }
     {
-        let device = FileDevice::open(rt, path)?;
+        let device = FileDevice::open(rt, path.path_text())?;
         DeviceStore::reopen_on(device)
     }
 }
@@ -135,34 +256,30 @@ impl ByteDevice for FileDevice {
     ghost contents = { λ _. [] };
 
     fn len(&mut self) -> Result<u64, DeviceFault> {
-        let metadata = self.file.metadata().map_err(refused)?;
-        Ok(metadata.len())
+        self.store.len()
     }
 
     fn set_len(&mut self, len: u64) -> Result<(), DeviceFault>
-        ensures sized { OnOk result (self.new.size ≡ len) }
+        ensures sized { OnOk result (self.new.store.size ≡ len) }
     {
-        self.file.set_len(len).map_err(refused)?;
-        self.size = len;
-        Ok(())
+        self.store.set_len(len)
     }
 
     fn read_at(&mut self, at: u64, out: &mut [u8]) -> Result<(), DeviceFault> {
-        self.file.read_exact_at(out, at).map_err(refused)
+        self.mend()?;
+        self.store.read_at(at, out)
     }
 
     fn write_at(&mut self, at: u64, bytes: &[u8]) -> Result<(), DeviceFault> {
-        self.file.write_all_at(bytes, at).map_err(refused)
+        self.store.write_at(at, bytes)
     }
 
-    /// The disk has all that was written before these bytes when they are written, and has them when the call ends.
     fn replace_at(&mut self, at: u64, bytes: &[u8]) -> Result<(), DeviceFault> {
-        self.file.sync_data().map_err(refused)?;
-        self.file.write_all_at(bytes, at).map_err(refused)?;
-        self.file.sync_data().map_err(refused)
+        self.store.replace_at(at, bytes)
     }
 
-    /// As above. The file gets its length first, so that it is never cut within the bytes that are added.
+    /// The journal has the bytes of before and of after when they are written, except where they change one sector alone. The disk has them
+    /// when the call ends.
     fn replace_both(
         &mut self,
         at: u64,
@@ -170,17 +287,14 @@ impl ByteDevice for FileDevice {
         last_at: u64,
         last: &[u8],
     ) -> Result<(), DeviceFault>
-        ensures sized { last_at + length last.now < 2 ^ 64 → OnOk result (self.new.size ≡ last_at + length last.now) }
+        ensures sized { last_at + length last.now < 2 ^ 64 → OnOk result (self.new.store.size ≡ last_at + length last.now) }
     {
-        self.file.sync_data().map_err(refused)?;
-        let size = self.size;
-        self.fit(last_at.saturating_add(last.len() as u64))?;
-        if self.file.write_all_at(last, last_at).is_err() {
-            // The header that is there stays, and the file's length says its version.
-            let _ = self.set_len(size);
-            return Err(DeviceFault);
-        }
-        self.file.write_all_at(bytes, at).map_err(refused)?;
-        self.file.sync_data().map_err(refused)
+        self.mend()?;
+        // What the journal gets as the bytes of before is on the disk.
+        self.store.sync()?;
+        prepare_journal(&mut self.store, &mut self.journal, at, bytes, last_at, last)?;
+        let replaced = self.store.replace_both(at, bytes, last_at, last);
+        self.torn = replaced.is_err();
+        replaced
     }
 }

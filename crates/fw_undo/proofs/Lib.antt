@@ -1,3 +1,4 @@
 mod Spellings
 mod Splices
 mod Mending
+mod OneSector

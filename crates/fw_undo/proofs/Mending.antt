@@ -1,10 +1,10 @@
 -- That recovery makes whole what a power cut left.
-use Rattle.std.proofs.Common.{◌≡◌, ◌⊎◌, inl, inr, Bool, true, false, ℕ, ◌+◌, ◌≤◌, List, length, drop, slice_range, refl, sym, subst, ◌∙◌, ap, arith}
+use Rattle.std.proofs.Common.{◌≡◌, ◌⊎◌, inl, inr, true, false, ℕ, ◌+◌, ◌≤◌, List, length, drop, slice_range, sym, subst, ◌∙◌, ap, arith}
 use Rattle.std.specs.Str.{bytes_eq}
 use Rattle.std.proofs.lemmas.Bool.{cases_Bool}
 use Rattle.std.proofs.lemmas.Slice.Eq.{bytes_eq-Decides}
 use Rattle.fw_undo.specs.Write.{Write, IsWrite}
-use Rattle.fw_undo.specs.Cut.{IsCut, IsCutAtEnd, IsOn, Leaves, IsTorn, IsTornIn, Mends, before_of, after_of, replaced}
+use Rattle.fw_undo.specs.Cut.{IsCut, IsCutAtEnd, IsOn, Leaves, IsTorn, Mends, after_of, replaced}
 use Rattle.fw_undo.specs.Laws.{EachCutIsMended}
 use Rattle.fw_undo.proofs.Splices.{replaced_last, replaced_front, replaced_again, replaced_same, length-replaced}
 

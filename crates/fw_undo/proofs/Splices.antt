@@ -1,6 +1,6 @@
 -- Bytes in place of others, and what stands before them and after them.
 use Rattle.std.proofs.Common.{◌≡◌, ℕ, ◌+◌, ◌-◌, ◌≤◌, List, ◌++◌, length, take, drop, slice_range, refl, sym, ap, ◌∙◌, arith, append_assoc, length-append, length-drop}
-use Rattle.std.proofs.lemmas.List.{length-take, length-take-le, drop-drop, take-append-le, take-append-drop, take-take, drop-take, drop_at, take_at}
+use Rattle.std.proofs.lemmas.List.{length-take-le, drop-drop, take-append-le, take-append-drop, take-take, drop-take, drop_at, take_at}
 use Rattle.std.proofs.Math.Seq.{take-append-add, drop-append-add}
 use Rattle.fw_undo.specs.Cut.{replaced}
 

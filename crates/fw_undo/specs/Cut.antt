@@ -1,5 +1,5 @@
 -- Public vocabulary: what a power cut in a write leaves on a disk that writes whole sectors of 512 bytes, and what is made of it.
-use Rattle.std.specs.Prelude.{◌≡◌, ◌≤◌, ◌⊎◌, ℕ, ◌+◌, ◌-◌, ◌*◌, List, ◌++◌, length, take, drop, replicate, slice_range}
+use Rattle.std.specs.Prelude.{◌≡◌, ◌≢◌, ◌≤◌, ◌⊎◌, ℕ, ◌+◌, ◌-◌, ◌*◌, List, ◌++◌, length, take, drop, replicate, slice_range}
 use Rattle.fw_undo.specs.Write.{Write}
 
 -- the bytes of a part that stand in the k-th sector of the disk, where the part begins at an offset of the file
@@ -65,3 +65,13 @@ pub record IsTornIn (w : Write) (file : List ℕ) : Type 0 where
 pub record Mends (w : Write) (file made : List ℕ) : Type 0 where
   pub torn : IsTornIn w file → made ≡ before_of w file
   pub whole : ¬ IsTornIn w file → made ≡ file
+
+-- the bytes of a part before the write and after it differ in one sector at most
+abbrev pub DifferInOneSector : ℕ → List ℕ → List ℕ → Type 0
+DifferInOneSector at before after = (j k : ℕ) → in_sector at j before ≢ in_sector at j after → in_sector at k before ≢ in_sector at k after → j ≡ k
+
+-- the write leaves the file's length, and changes one part of it alone, in one sector at most
+pub record ChangesOneSector (w : Write) : Type 0 where
+  pub size : length w.last_after ≡ length w.last_before
+  pub change : ((w.last_after ≡ w.last_before) × DifferInOneSector w.at w.before w.after)
+      ⊎ ((w.after ≡ w.before) × DifferInOneSector w.last_at w.last_before w.last_after)

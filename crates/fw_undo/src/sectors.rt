@@ -1,7 +1,7 @@
 //! What a power cut leaves of a part of a write, sector by sector.
 
-ghost use Rattle.std.specs.Prelude.{◌≡◌, ◌≤◌, ◌<◌, ◌+◌, ◌^◌, false, IsTrue, length};
-ghost use Rattle.fw_undo.specs.Cut.{IsEither, IsCut, IsCutAtEnd, in_sector, resized};
+ghost use Rattle.std.specs.Prelude.{◌≡◌, ◌≢◌, ◌≤◌, ◌<◌, ◌+◌, ◌^◌, ℕ, false, IsTrue, IfSome, IfNone, length};
+ghost use Rattle.fw_undo.specs.Cut.{IsEither, IsCut, IsCutAtEnd, DifferInOneSector, in_sector, resized};
 
 use crate::write::MAX_PART_SIZE;
 
@@ -80,4 +80,41 @@ fn fill(out: &mut [u8], part: &[u8])
     let size = out.len().min(part.len());
     out[..size].copy_from_slice(&part[..size]);
     out[size..].fill(0);
+}
+
+/// Whether the bytes of a part before a write and after it differ in one sector at most. There are as many of both.
+pub(crate) fn differ_in_one_sector(at: u64, before: &[u8], after: &[u8]) -> bool
+    requires place { at < 2 ^ 63 }
+    requires few { length before.now ≤ 2048 }
+    requires after { length after.now ≡ length before.now }
+    ensures one { IsTrue result → DifferInOneSector at before.now after.now }
+    ensures more { result ≡ false → ¬ DifferInOneSector at before.now after.now }
+{
+    let Some(first) = difference(at, at / SECTOR_SIZE, before, after) else {
+        return true;
+    };
+    match difference(at, first + 1, before, after) {
+        Some(_second) => false,
+        None => true,
+    }
+}
+
+/// The first sector from this one on in which they differ. There is none from the fifth after the one in which the part begins.
+fn difference(at: u64, from: u64, before: &[u8], after: &[u8]) -> Option<u64>
+    requires place { at < 2 ^ 63 }
+    requires few { length before.now ≤ 2048 }
+    requires size { length after.now ≡ length before.now }
+    requires from { from < 2 ^ 54 + 5 }
+    ensures differ { IfSome result (λ sector. in_sector at sector before.now ≢ in_sector at sector after.now) }
+    ensures first { IfSome result (λ sector. (k : ℕ) → from ≤ k → k < sector → in_sector at k before.now ≡ in_sector at k after.now) }
+    ensures after { IfSome result (λ sector. from ≤ sector) }
+    ensures within { IfSome result (λ sector. sector < 2 ^ 54 + 4) }
+    ensures none { IfNone result ((k : ℕ) → from ≤ k → in_sector at k before.now ≡ in_sector at k after.now) }
+{
+    for sector in from..at / SECTOR_SIZE + 5 {
+        if in_sector(at, sector, before) != in_sector(at, sector, after) {
+            return Some(sector);
+        }
+    }
+    None
 }

@@ -3,11 +3,11 @@
 ghost use Rattle.std.specs.Prelude.{◌≡◌, ◌≢◌, ◌↔◌, ◌++◌, ◌≤◌, false, IsTrue, IfSome, IfNone, length};
 ghost use Rattle.fw_undo.specs.Write.{Write, IsWrite, part, payload, journal_bytes};
 ghost use Rattle.fw_undo.specs.Reading.{HasSizes, IsNoPayload};
-ghost use Rattle.fw_undo.specs.Cut.{IsTorn};
+ghost use Rattle.fw_undo.specs.Cut.{IsTorn, ChangesOneSector};
 
 use crate::bytes::JournalBytes;
 use crate::reading::{after_mark, before_digest, number, two_parts};
-use crate::sectors::{is_cut, is_cut_at_end};
+use crate::sectors::{differ_in_one_sector, is_cut, is_cut_at_end};
 use sha2::{Digest, Sha256};
 use std::marker::Model;
 
@@ -142,6 +142,21 @@ impl<'a> HeaderWrite<'a> {
         is_cut(self.at, now, self.before, self.after)
             && is_cut_at_end(self.last_at, last_now, self.last_before, self.last_after)
             && !(now == self.after && last_now == self.last_after)
+    }
+
+    /// Whether the write changes one sector at most: the file's length stays, and of its parts one alone changes, in one sector. A disk has
+    /// all of such a write or nothing, so that it needs no journal.
+    pub fn changes_one_sector(&self) -> bool
+        requires { IsWrite self.now }
+        ensures one { IsTrue result → ChangesOneSector self.now }
+        ensures more { result ≡ false → ¬ ChangesOneSector self.now }
+    {
+        if self.last_after == self.last_before {
+            return differ_in_one_sector(self.at, self.before, self.after);
+        }
+        self.after == self.before
+            && self.last_after.len() == self.last_before.len()
+            && differ_in_one_sector(self.last_at, self.last_before, self.last_after)
     }
 }
 

@@ -1,4 +1,4 @@
-use Rattle.std.proofs.Common.{rules, ◌≡◌, ℕ, ◌-◌, ◌++◌, List, length, take, drop, sym, ap, ◌∙◌, arith, take-append-drop}
+use Rattle.std.proofs.Common.{rules, ◌≡◌, ℕ, ◌-◌, ◌++◌, List, length, take, sym, ap, ◌∙◌, arith, take-append-drop}
 use Rattle.sha2.specs.Sha256.{sha256}
 use Rattle.fw_undo.proofs.Spellings.{short_none, unsealed}
 use Rattle.fw_undo.proofs.reading.before_digest.Goals as goal

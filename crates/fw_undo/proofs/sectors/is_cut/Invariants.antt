@@ -1,4 +1,4 @@
-use Rattle.std.proofs.Common.{◌≡◌, ◌≤◌, ◌<◌, ℕ}
+use Rattle.std.proofs.Common.{◌≤◌, ◌<◌, ℕ}
 use Rattle.fw_undo.specs.Cut.{IsEither}
 use Rattle.fw_undo.proofs.sectors.is_cut.Given as goal
 

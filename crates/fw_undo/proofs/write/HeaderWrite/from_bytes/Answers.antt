@@ -1,5 +1,5 @@
-use Rattle.std.proofs.Common.{rules, ◌≡◌, ◌≢◌, Bool, true, false, IsTrue, sym, subst, ◌∙◌}
-use Rattle.fw_undo.specs.Write.{Write, IsWrite, payload, journal_bytes}
+use Rattle.std.proofs.Common.{rules, ◌≡◌, ◌≢◌, Bool, false, IsTrue, sym, subst, ◌∙◌}
+use Rattle.fw_undo.specs.Write.{Write, IsWrite, journal_bytes}
 use Rattle.fw_undo.proofs.Spellings.{is_sizes, payload_unique, sealed_payload, told_none}
 use Rattle.fw_undo.proofs.write.HeaderWrite.from_bytes.Goals as goal
 
