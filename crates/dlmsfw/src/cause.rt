@@ -1,4 +1,4 @@
-//! The cause of a fault that the fault's name doesn't tell.
+//! The cause of a fault, where the fault's name doesn't say it.
 
 ghost use Rattle.std.specs.Prelude.{◌≡◌, ◌≢◌, MatchBool};
 
@@ -9,7 +9,7 @@ use thiserror::Error;
 /// Why no wires could be made. It prints what the user reads after the fault's name.
 #[derive(Clone, Copy, Debug, PartialEq, Eq, Error)]
 pub(crate) enum Cause {
-    /// One socket can be bound, so it is their number that the system refuses.
+    /// One socket can be bound, so the system refuses the number of them.
     #[error("too many open files: each link takes two sockets; ulimit -n prints how many open files a process may have")]
     TooManySockets,
     /// Not even one socket can be bound.
@@ -31,7 +31,7 @@ pub(crate) fn of(net: &impl Net, fault: Fault) -> Option<Cause>
     }
 }
 
-/// Why the sockets of a command could not be bound, by whether one can be, now that there is no other.
+/// Why the sockets of a command could not be bound. It depends on whether one can be bound, now that there is no other.
 fn socket_cause(one_is_bound: bool) -> Cause
     ensures { MatchBool one_is_bound (result ≡ Cause.TooManySockets) (result ≡ Cause.NoLoopback) }
 {

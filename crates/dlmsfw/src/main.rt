@@ -37,11 +37,11 @@ const WRONG_COMMAND_LINE: u8 = 2;
 enum Ending {
     /// A fault of the command.
     Fault(Fault),
-    /// An event of a script that was refused, which the command has told.
+    /// An event of a script was refused, and the command has reported it.
     Refused,
     /// A wrong command line, or one that asks for help or the version.
     CommandLine(clap::Error),
-    /// A command line that is no UTF-8 text.
+    /// A command line that isn't UTF-8 text.
     NoText,
 }
 
@@ -90,7 +90,7 @@ fn words<R: AllocGlobal + Env>(rt: &R) -> Result<Vec<String>, Ending> {
         .map_err(|_| Ending::Fault(Fault::OutOfMemory))
 }
 
-/// Prints why the program ends, and gives its status. Where standard error can't be written, the status alone tells.
+/// Prints why the program ends, and returns its exit status. Where standard error can't be written, the status alone says why.
 fn report(rt: &(impl Print + Eprint + Net), ending: Ending) -> ExitCode
     ensures { EndsWith ending (exit_status result) }
 {
@@ -122,7 +122,7 @@ fn report_parse(rt: &(impl Print + Eprint + Net), error: clap::Error) -> ExitCod
     }
 }
 
-/// Prints the fault's name, and its cause on a second line where there is more to say, and gives its status.
+/// Prints the fault's name, and its cause on a second line where there is more to say. Returns its exit status.
 fn fail(rt: &(impl Eprint + Net), fault: Fault) -> ExitCode
     ensures { exit_status result ≡ 1 }
 {

@@ -45,8 +45,7 @@ Exit status:
 
 /// The command that the words of a command line ask for.
 ///
-/// Of each command the parser finds all that it must have, within its range. Where it found that not, it would be a wrong
-/// command line.
+/// The parser has found all that a command must have, within its range. Otherwise this would be a wrong command line.
 pub(crate) fn parse<'a>(alloc: Global, words: &'a [String]) -> Result<Invocation<'a>, Error> {
     let mut command = dlmsfw(alloc)?;
     let matches = command.try_get_matches_from_mut(words)?;

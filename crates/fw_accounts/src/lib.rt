@@ -1,4 +1,4 @@
-//! What workers are held to: whether what they left is what they made, one run of the world.
+//! The account of what workers did: whether what they left is what they made, in one run of the world.
 #![tactic(auto)]
 
 mod accounts;

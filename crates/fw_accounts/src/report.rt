@@ -1,4 +1,4 @@
-//! What workers come to who are accounted for.
+//! The report of workers whose work is accounted for.
 
 use crate::receipts::Receipts;
 use fw_world::World;

@@ -143,7 +143,7 @@ go_to_heads : (xs more : List Datagram) (numbers : List ℕ) → AllToHeads more
 go_to_heads xs more [] all from = tt
 go_to_heads xs more (number ∷ numbers) all from = (λ d there. later_to_head xs more number d from.0 there all, go_to_heads xs more numbers all from.1)
 
--- what comes behind the replies sends nothing
+-- what comes after the replies sends nothing
 answered : (first numbers : List ℕ) (begun replied new : State) → AdmittedRun begun (map deliver first) replied → AllFrom (length begun.sent) numbers → AdmittedRun replied (map deliver numbers) new
     → new.sent ≡ replied.sent
 answered first numbers begun replied new one from other =

@@ -74,7 +74,7 @@ at_last (Err e) a b c xs ys f ok err = (xs, subst (Follows a xs) (sym err) f)
 
 -- ---- what a loop has left
 
--- the element of a place, and those behind it
+-- the element of a place, and those after it
 pub left_at : {X Y : Type 0} (f : X → Y) (xs : List X) (all : List Y) (i : ℕ) (x : X) → map f xs ≡ all → i < length xs → x ≡ slice_index_or xs i x → drop i all ≡ f x ∷ drop (i + 1) all
 left_at f xs all i x e inside is =
     let long : i < length all = let same = ap (λ l. length l) e in omega (arith, same, inside, length-map xs f) in
@@ -132,7 +132,7 @@ same_events [] (copy ∷ copies) h = absurd h
 same_events (event ∷ events) [] h = absurd h
 same_events (event ∷ events) (copy ∷ copies) h = ap (λ e. e ∷ events_of copies) h.0 ∙ ap (λ es. event_of event ∷ es) (same_events events copies h.1)
 
--- ---- behind the given events
+-- ---- after the given events
 
 pub scheduled : (setup : Setup) (given : List Event) (rounds : ℕ) (fates : List Fate) (world : State) (list : List Event) (old new : Recorded) → old ≡ record { world = world; events = given } → AdmittedRun (opening_state setup) given world
     → MakesRounds setup rounds fates old new → list ≡ new.events → Schedules setup given rounds list × ScheduleHasFates setup given rounds fates list × Runs setup list
@@ -155,7 +155,7 @@ cut_behind setup given number world cause old new is run on long memory =
       inr (on.0, all, memory),
     )
 
--- ---- what is told of an error
+-- ---- what is said of an error
 
 pub refused_by : {X : Type 0} (r : Result X StepError) (error : StepError) (Q : StepError → Type 0) → IsErrAnd r (λ e. e ≡ error) → Q error → IfErr r Q
 refused_by (Ok x) error Q h q = tt

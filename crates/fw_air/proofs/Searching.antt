@@ -4,7 +4,7 @@ use Rattle.std.proofs.lemmas.List.Elements.{All-append}
 use Rattle.fw_world.specs.World.{Datagram}
 use Rattle.fw_air.specs.Logs.{IsLast, capped}
 
--- what stands in the newer parts begins behind the others
+-- what stands in the newer parts begins after the others
 pub starts_behind : (older newer all : List Datagram) (end : ℕ) → older ++ newer ≡ all → end ≡ capped (length (older ++ newer)) → length all < 2 ^ 64 - 1 → end ≡ length older + length newer
 starts_behind older newer all end is capped_is few =
     let long = length-append older newer in
@@ -38,7 +38,7 @@ module _ (P : Datagram → Type 0) where
     none_later = All-append (λ e. ¬ P e) l.later newer l.none_later none;
   }
 
-  -- it stands in the second of three lists, and none in the third: the number of the first element is known, and so is what stands behind the
+  -- it stands in the second of three lists, and none in the third: the number of the first element is known, and so is what stands after the
   -- second list
   pub last_between : (all older here newer : List Datagram) (first end start at : ℕ) → all ≡ (older ++ here) ++ newer → end ≡ first + length (older ++ here)
       → start ≡ end - length here → IsLast here P at → All (λ e. ¬ P e) newer → (first ≤ start + at) × IsLast all P (start + at - first)

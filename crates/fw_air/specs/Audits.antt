@@ -26,7 +26,7 @@ pub record IsSameHead (one other : Head) : Type 0 where
   pub book : one.book ≡ other.book
   pub phases : (meter : ℕ) → live_phase one meter ≡ live_phase other meter
 
--- the head ends of a world, each behind its number, are these, in this order
+-- the head ends of a world, each under its number, are these, in this order
 abbrev pub AreSameHeads : List (ℕ × Head) → List Head → Type 0
 AreSameHeads ones others = AllZip (λ one other. IsSameHead one.1 other) ones others
 

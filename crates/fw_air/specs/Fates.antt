@@ -29,8 +29,8 @@ abbrev pub waits : Option Fate → ℕ → List ℕ
 waits (Some Late) number = number ∷ []
 waits fate number = []
 
--- The datagrams from one number up to another, each as its fate says. So many had their fates on the link before them; a number of a
--- fate stays at 2^64 - 1 once it is there.
+-- The datagrams from one number up to another, each as its fate says. `passed` datagrams had their fates on the link before them. The
+-- number of a fate stays at 2^64 - 1 once it is there.
 abbrev pub by_fates : (Option Fate → ℕ → List ℕ) → List Fate → ℕ → ℕ → ℕ → List ℕ
 by_fates says fates passed from end =
     flat_map (λ (number : ℕ). says (fate_of fates (capped (passed + (number - from)))) number) (range_with_len from (end - from))

@@ -29,7 +29,7 @@ pub record Follows (old : Recorded) (events : List Event) (new : Recorded) : Typ
 abbrev pub GoesOn : Recorded → Recorded → Type 0
 GoesOn old new = (events : List Event) × Follows old events new
 
--- so many rounds happened, of the links that there were before them, with these fates
+-- `rounds` rounds happened, of the links that there were before them, with these fates
 pub record MakesRounds (setup : Setup) (rounds : ℕ) (fates : List Fate) (old new : Recorded) : Type 0 where
   pub events : List Event
   pub follows : Follows old events new

@@ -13,7 +13,7 @@ use Rattle.fw_air.specs.Rounds.{AdmittedRun}
 use Rattle.fw_air.specs.Schedules.{Schedules}
 use Rattle.fw_air.specs.Ticks.{IsLink, ticks}
 
--- behind the given events each link has as many ticks as there are rounds, and any other two numbers have none
+-- after the given events each link has as many ticks as there are rounds, and any other two numbers have none
 abbrev pub TicksEach : Type 0
 TicksEach =
     (setup : Setup) (given : List Event) (rounds : ℕ) (events : List Event) (s : Schedules setup given rounds events) → IsSetup setup

@@ -25,7 +25,7 @@ pub record Appended : Type 0 where
 abbrev pub IsCounted : Log → Type 0
 IsCounted log = sum_by (λ e. e.count) log.entries ≡ length log.sent
 
--- A copy of the datagram that is wanted, or nothing where there is none; memory is wanted for a copy alone.
+-- A copy of the datagram that is wanted, or nothing where there is none. Only a copy takes memory.
 abbrev pub IsCopy : {E : Type 0} → Result (Option Datagram) E → Option Datagram → Type 0
 IsCopy result wanted = MatchResult result (λ found. found ≡ wanted) (λ _. IsSome wanted)
 
@@ -39,7 +39,7 @@ pub record IsSent (from to : Actor) (bytes : List ℕ) (datagram : Datagram) : T
   pub goes_to : addressee datagram ≡ to
   pub says : datagram.bytes ≡ bytes
 
--- P holds of the datagram of this number, from 0 on, and of none behind it
+-- P holds of the datagram of this number, from 0 on, and of none after it
 pub record IsLast (all : List Datagram) (P : Datagram → Type 0) (number : ℕ) : Type 0 where
   pub before : List Datagram
   pub found : Datagram

@@ -74,7 +74,7 @@ pub record IsLinkRound (link : Link) (old : State) (events : List Event) (new : 
   pub events_are : events
       ≡ (map deliver late ++ tick link.head link.meter ∷ map deliver waiting) ++ last_turn middle link.meter
 
--- the events of these, one behind another
+-- the events of these, one after another
 abbrev pub OneByOne : {A : Type 0} → (A → State → List Event → State → Type 0) → List A → State → List Event → State → Type 0
 OneByOne Does [] old events new = (events ≡ []) × (new ≡ old)
 OneByOne Does (x ∷ xs) old events new =

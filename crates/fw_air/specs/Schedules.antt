@@ -14,7 +14,7 @@ use Rattle.fw_air.specs.declared.fates.Fate.{Fate}
 use Rattle.fw_air.specs.Queues.{RoundsHaveFates, new_queue}
 use Rattle.fw_air.specs.Rounds.{AdmittedRun, OneByOne, IsRound, links}
 
--- The given events, and behind them so many rounds of the links that there are then.
+-- The given events, and after them `rounds` rounds of the links that there are then.
 pub record Schedules (setup : Setup) (given : List Event) (rounds : ℕ) (events : List Event) : Type 0 where
   pub middle : State
   pub end : State
@@ -43,14 +43,14 @@ pub record IsCutAt (given : List Event) (number : ℕ) (world : State) (cause : 
   pub there : slice_get given number ≡ Some event
   pub refused : IsRefused world event cause
 
--- The world is that of these events. They are the given ones before one that is refused, or all given ones, which may go on; there memory
--- alone is refused.
+-- The world is that of these events. They are the given ones before one that is refused; or they are all given ones, and maybe more after
+-- them, and memory ran out.
 abbrev pub IsCut : List Event → List Event → State → StepError → Type 0
 IsCut given events world cause =
     ((events ≡ take (length events) given) × IsCutAt given (length events) world cause)
     ⊎ ((behind : List Event) × (events ≡ given ++ behind) × (cause ≡ OutOfMemory))
 
--- no world was made; or the world is that of so many events
+-- no world was made; or the world is that of `number` events
 abbrev pub IsUnscheduled : Setup → List Event → RunError → Type 0
 IsUnscheduled setup given (stopped.Setup error) = IsUnmade setup error
 IsUnscheduled setup given (stopped.Event number world cause) =

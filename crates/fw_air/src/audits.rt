@@ -1,4 +1,4 @@
-//! Whether parts that others were left with are those of a run.
+//! Whether the parts that others ended with are those of a run.
 
 ghost use Rattle.std.specs.Prelude.{◌≡◌, IfOk, OnOk, IsErrOf};
 ghost use Rattle.fw_air.specs.Audits.{AreSameHeads, Differs};
@@ -40,14 +40,13 @@ pub enum AuditError {
 }
 
 /// Runs the events, and compares what they lead to with these parts of a world, in the order of its setup: the books of the head
-/// ends and the phases of their live rows, the meters (`MeterCore::same`), and all datagrams that were sent. What is answered is
-/// the world of the run. The comparison takes no memory; for the live rows of a head end its cost is that of the square of their
-/// number.
+/// ends and the phases of their live rows, the meters (`MeterCore::same`), and all datagrams that were sent. Returns the world of
+/// the run. The comparison takes no memory. Its cost grows with the square of the number of live rows of a head end.
 ///
 /// # Errors
 ///
 /// `BadSetup` where no world can be made with the setup. `Mismatch` where the run is refused an event for another cause than memory,
-/// or leads to other parts. Otherwise `OutOfMemory` alone, which is told where the run was refused memory.
+/// or leads to other parts. Otherwise `OutOfMemory` alone, which is returned where the run was out of memory.
 pub fn audit(
     alloc: Global,
     setup: &Setup,
@@ -84,7 +83,7 @@ pub fn audit(
     Ok(World::from_parts(parts))
 }
 
-/// What is told where the run was stopped.
+/// What an audit returns where the run was stopped.
 fn refusal(error: RunError) -> AuditError
     ensures { result ≡ audit_error_of error }
 {

@@ -7,8 +7,8 @@ ghost use Rattle.fw_world.specs.View.{event_of};
 use fw_names::{HeadId, MeterId};
 use fw_world::Event;
 
-/// An event that a worker makes while others make theirs: all of it is done at one head end or at one meter, and no campaign is
-/// opened or cancelled by it, and nothing stops.
+/// An event that a worker makes while others make theirs. All of it is done at one head end or at one meter. It opens or cancels no
+/// campaign, and stops nothing.
 #[derive(Clone, Copy, Debug, PartialEq, Eq)]
 pub enum CoreEvent {
     /// A head end sends to a meter what it has for it now.

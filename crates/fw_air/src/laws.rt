@@ -2,7 +2,7 @@
 
 ghost use Rattle.fw_air.specs.Laws.{NoneRefused, OneWorld, SentGrows, TicksEach};
 
-/// Behind the given events of a schedule each link has as many ticks as there are rounds, and any other two numbers have none.
+/// After the given events of a schedule each link has as many ticks as there are rounds, and any other two numbers have none.
 pub fn ticks_each()
     ensures { TicksEach }
 {}

@@ -49,8 +49,8 @@ impl LinkQueue {
         mem::replace(&mut self.late, Vec::new(alloc))
     }
 
-    /// Gives each datagram from number `from` on and below `end` its fate, the next one of this link in the repeated list, and
-    /// answers those that come now, in the order of their numbers, each as often as it comes. Those that are late wait behind the
+    /// Gives each datagram from number `from` on and below `end` its fate: the next one of the list, which is repeated for this link.
+    /// Returns those that come now, in the order of their numbers, each as often as it comes. Those that are late wait after the
     /// others until `take_late`, and have had their fate then.
     ///
     /// # Errors
@@ -92,7 +92,7 @@ impl LinkQueue {
         Ok(coming)
     }
 
-    /// The fate of the datagram after so many others, from here on.
+    /// The fate of the datagram after the next `others` ones.
     fn fate_at(&self, fates: &Fates<'_>, others: usize) -> Fate
         ensures { fate_of fates.now (capped (passed_of self.now + others)) ≡ Some result }
     {

@@ -76,7 +76,7 @@ pub(crate) enum Chain {
     Link(Part, Box<Chain>),
 }
 
-/// A chain that is let go link by link, however long it is.
+/// A chain that is dropped link by link, however long it is.
 pub(crate) struct Newer {
     chain: Chain,
 }
@@ -117,7 +117,7 @@ impl Room {
     ///
     /// # Errors
     ///
-    /// Want of memory alone.
+    /// Out of memory alone.
     pub fn new(alloc: Global) -> Result<Room, AllocError>
         ensures { IfOk result (λ room. room ≡ []) }
     {
@@ -128,7 +128,7 @@ impl Room {
         Ok(Room { link, sent })
     }
 
-    /// Puts in a datagram that the event sends, behind those that are there. It asks that these are fewer than 15, and takes no
+    /// Puts in a datagram that the event sends, after those that are there. It asks that these are fewer than 15, and takes no
     /// memory.
     pub fn push(&mut self, datagram: Datagram)
         requires { length self.old < 15 }
@@ -187,7 +187,7 @@ impl Log {
         }
     }
 
-    /// Adds an event, with the datagrams that stand in the room. It takes no memory but the room's.
+    /// Adds an event, with the datagrams that stand in the room. It takes no memory except the room's.
     pub fn add(&mut self, room: Room, event: Event) -> Sent
         ensures log { self.new ≡ record {
           sent = self.old.sent ++ room;
@@ -217,7 +217,7 @@ impl Log {
     ///
     /// # Errors
     ///
-    /// Want of memory alone, and only where there is one.
+    /// Out of memory alone, and only where there is one.
     pub fn get(&self, alloc: Global, number: usize) -> Result<Option<Datagram>, AllocError>
         // No memory has room for more.
         ensures { length self.now.sent < 2 ^ 64 - 1 → IsCopy result (slice_get self.now.sent number) }
@@ -246,7 +246,7 @@ impl Log {
     ///
     /// # Errors
     ///
-    /// Want of memory alone, and only where there is an event. The log is then lost.
+    /// Out of memory alone, and only where there is an event. The log is then lost.
     pub fn into_inner(self, alloc: Global) -> Result<(Vec<Datagram>, Vec<Entry>), AllocError>
         ensures memory { OnErr result (1 ≤ length self.entries) }
         ensures lists { IfOk result (λ lists. (lists.0.items ≡ self.sent) × (lists.1.items ≡ self.entries)) }
@@ -279,7 +279,7 @@ fn copy_at(alloc: Global, list: &[Datagram], number: usize) -> Result<Option<Dat
     }
 }
 
-/// Looks for a datagram among the newer parts, behind the last of which stands the number `end`.
+/// Looks for a datagram among the newer parts. The number after their last datagram is `end`.
 fn find(
     alloc: Global,
     chain: &Chain,
@@ -303,7 +303,7 @@ fn find(
     Ok(None)
 }
 
-/// The greatest number of such a datagram among the newer parts, behind the last of which stands the number `end`.
+/// The greatest number of such a datagram among the newer parts. The number after their last datagram is `end`.
 fn find_last(chain: &Chain, end: usize, wanted: &Wanted<'_>) -> Option<usize>
     ensures { (base : ℕ) → end ≡ base + length (datagrams_of (parts chain.now))
         → FindsLastFrom base result (datagrams_of (parts chain.now)) (IsSent wanted.now.from wanted.now.to wanted.now.bytes.now) }

@@ -95,7 +95,7 @@ impl Record {
         self.events
     }
 
-    /// What is told where the next event was refused.
+    /// What is returned where the next event was refused.
     pub(crate) fn refused(self, cause: StepError) -> RunError
         ensures { result ≡ stopped.Event (length self.events) self.world cause }
     {
@@ -106,7 +106,7 @@ impl Record {
         }
     }
 
-    /// An event that is refused for nothing but memory.
+    /// An event that is refused only where it is out of memory.
     fn admit(&mut self, alloc: Global, event: Event) -> Result<(), StepError>
         requires { refusal_of self.old.world (event_of event) ≡ None }
         ensures made { OnOk result (Follows self.old (event_of event ∷ []) self.new) }
@@ -147,7 +147,7 @@ impl Record {
         self.admit(alloc, Event::Deliver(datagram))
     }
 
-    /// So many rounds of all links.
+    /// `rounds` rounds of all links.
     pub(crate) fn rounds(
         &mut self,
         alloc: Global,
@@ -191,7 +191,7 @@ impl Record {
         Ok(())
     }
 
-    /// A round of a link. What a meter replies goes behind all that waits, and to the head end, which replies nothing.
+    /// A round of a link. What a meter replies comes after all that waits, and goes to the head end, which replies nothing.
     fn link_round(
         &mut self,
         alloc: Global,
@@ -234,7 +234,7 @@ impl Record {
         self.admit(alloc, Event::Tick(link.head, link.meter))
     }
 
-    /// The datagrams from one number up to another come as their fates are, or wait.
+    /// The datagrams from one number up to another come or wait, by their fates.
     fn pass(
         &mut self,
         alloc: Global,

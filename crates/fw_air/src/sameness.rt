@@ -1,4 +1,4 @@
-//! Whether the parts of a world are those that others were left with. Nothing here takes memory.
+//! Whether the parts of a world are those that others ended with. Nothing here takes memory.
 
 ghost use Rattle.std.specs.Prelude.{◌≡◌, ◌↔◌, false, All, IsTrue};
 ghost use Rattle.std.specs.List.{AllZip, Any};
@@ -38,7 +38,7 @@ fn are_same_heads(ones: &[HeadCore], others: &[HeadCore]) -> bool
             .all(|(one, other)| is_same_head(one, other))
 }
 
-/// Whether two head ends have one book, and live rows of the same meters in the same phases. The cost for the rows is that of the
+/// Whether two head ends have one book, and live rows of the same meters in the same phases. The cost for the rows grows with the
 /// square of their number.
 fn is_same_head(one: &HeadCore, other: &HeadCore) -> bool
     ensures { IsTrue result ↔ IsSameHead one.now other.now }
@@ -75,7 +75,7 @@ fn is_same_book(one: &Book, other: &Book) -> bool
     one.head() == other.head() && are_same_campaigns(one.rows(), other.rows())
 }
 
-/// Whether each campaign is as the other at its place, behind the same serial number.
+/// Whether each campaign is as the other at its place, and has the same serial number.
 fn are_same_campaigns(ones: Campaigns<'_>, others: Campaigns<'_>) -> bool
     ensures { IsTrue result ↔ (ones.entry ≡ others.entry) }
 {

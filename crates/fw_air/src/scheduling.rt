@@ -14,16 +14,16 @@ use crate::record::Record;
 use fw_world::{Event, RunError, Setup, StepError, World};
 use std::alloc::Global;
 
-/// The given events, and behind them those of so many rounds of each link: round follows round, and in each the links go by head
+/// The given events, and after them those of `rounds` rounds of each link: round follows round, and in each the links go by head
 /// ends and then by meters, in the order of the setup. A link is a head end and a meter that stands in its book after the given
-/// events, also where its rows have all ended. `run` over the list is refused at no event, but for want of memory, and ends in the
-/// world of these rounds: `laws::none_refused` and `laws::one_world` say so. Behind the given events
-/// each link has as many ticks as there are rounds, and any other two numbers have none: `laws::ticks_each`. In a round of a link
-/// each datagram that is sent has the next of the fates, in the order of sending.
+/// events, also where its rows have all ended. `run` over the list is refused at no event, except where it is out of memory, and
+/// ends in the world of these rounds: `laws::none_refused` and `laws::one_world` say so. After the given events each link has as
+/// many ticks as there are rounds, and any other two numbers have none: `laws::ticks_each`. In a round of a link each datagram that
+/// is sent has the next of the fates, in the order of sending.
 ///
 /// # Errors
 ///
-/// As for `run` of the given events. Behind them want of memory alone, with the world there and the number of events that made it.
+/// As for `run` of the given events. After them out of memory alone, with the world there and the number of events that made it.
 pub fn schedule(
     alloc: Global,
     setup: &Setup,
@@ -72,7 +72,7 @@ fn world_behind(alloc: Global, setup: &Setup, events: &[Event]) -> Result<World,
     Ok(world)
 }
 
-/// So many rounds of all links.
+/// `rounds` rounds of all links.
 fn make_rounds(
     alloc: Global,
     made: &mut Record,

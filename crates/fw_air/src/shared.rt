@@ -11,8 +11,8 @@ use std::alloc::{AllocError, Global};
 use std::marker::Model;
 use std::sync::{Mutex, Wait};
 
-/// That an event was appended, under its number. It can't be let go of but by `spend`: who appended an event has to account for
-/// it.
+/// Stands for an event that was appended, under its number. It can't be dropped: only `spend` ends it, so who appended an event
+/// has to account for it.
 pub struct Stub {
     number: usize,
     event: CoreEvent,
@@ -49,7 +49,7 @@ impl Stub {
     }
 }
 
-/// A log behind a lock. Whenever the lock is free, the numbers of datagrams that the events added sum to how many were sent.
+/// A log under a lock. Whenever the lock is free, the numbers of datagrams that the events added sum to how many were sent.
 #[derive(Drop)]
 pub struct SharedLog {
     log: Mutex<Log>,
@@ -70,7 +70,7 @@ impl SharedLog {
     ///
     /// # Errors
     ///
-    /// Want of memory alone.
+    /// Out of memory alone.
     pub fn get<R: Wait>(
         &self,
         rt: &R,
@@ -90,14 +90,14 @@ impl SharedLog {
     ///
     /// # Errors
     ///
-    /// Want of memory alone.
+    /// Out of memory alone.
     pub fn reserve(&self, alloc: Global) -> Result<Room, AllocError>
         ensures { IfOk result (λ room. room ≡ []) }
     {
         Room::new(alloc)
     }
 
-    /// Adds an event with the datagrams that stand in the room, in one piece. It takes no memory but the room's. The stub says
+    /// Adds an event with the datagrams that stand in the room, in one piece. It takes no memory except the room's. The stub says
     /// that it was added, and has to be spent.
     pub fn append<R: Wait>(&self, rt: &R, room: Room, event: CoreEvent) -> (Sent, Stub)
         ensures sent { result.0.count ≡ length room }
@@ -118,7 +118,7 @@ impl SharedLog {
     ///
     /// # Errors
     ///
-    /// Want of memory alone, and only where there is an event. The log is then lost.
+    /// Out of memory alone, and only where there is an event. The log is then lost.
     pub fn into_inner(self, alloc: Global) -> Result<(Vec<Datagram>, Vec<Entry>), AllocError>
         ensures { IfOk result (λ lists. IsCounted (record { sent = lists.0.items; entries = lists.1.items })) }
     {

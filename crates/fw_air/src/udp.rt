@@ -51,8 +51,8 @@ impl<T: Drop> From<AllocFailed<T>> for PairError {
     }
 }
 
-/// One end of a wire of two UDP sockets, each of which takes datagrams from the other alone. A receive waits only while some are under
-/// way, sent at the other end and not come here, since nothing else can come.
+/// One end of a wire of two UDP sockets, each of which takes datagrams from the other alone. A receive waits only while some are
+/// under way: they were sent at the other end, and have not come here yet. Nothing else can come.
 #[derive(Drop)]
 pub struct UdpWire {
     /// It doesn't wait, except in `wait`.

@@ -1,4 +1,4 @@
-//! What a log is looked through for.
+//! What a log is searched for.
 
 ghost use Rattle.std.specs.Prelude.{◌≡◌, ◌<◌, length, MatchBool, IfSome};
 ghost use Rattle.fw_air.specs.Logs.{FindsLast, IsSent};
@@ -14,7 +14,7 @@ pub(crate) struct Wanted<'a> {
 }
 
 impl<'a> Wanted<'a> {
-    /// Whether a datagram is such a one.
+    /// Whether this is a datagram that is looked for.
     fn is(&self, datagram: &Datagram) -> bool
         ensures { MatchBool result (IsSent self.now.from self.now.to self.now.bytes.now datagram.now)
             (¬ IsSent self.now.from self.now.to self.now.bytes.now datagram.now) }

@@ -18,11 +18,11 @@ pub struct WireFault;
 
 /// One end of a wire between a head end and a meter. What is sent at one end may come at the other, once, more often or never.
 pub trait Wire {
-    /// Sends a datagram, and answers how many of its bytes were taken. Where these are fewer than given, it is lost.
+    /// Sends a datagram, and returns how many of its bytes were taken. Where these are fewer than given, it is lost.
     fn send(&mut self, bytes: &[u8]) -> Result<usize, WireFault>;
 
-    /// Receives the next datagram into the buffer, and answers how many bytes of it stand there now. `None` says that nothing came
-    /// in time.
+    /// Receives the next datagram into the buffer, and returns how many bytes of it stand there now. `None` says that nothing came in
+    /// time.
     fn receive(&mut self, buffer: &mut [u8]) -> Result<Option<usize>, WireFault>
         ensures { IfOk result (λ came. IfSome came (λ count. count ≤ length buffer.new)) };
 }
@@ -41,7 +41,7 @@ impl Pass {
         Pass { left: MAX_PASSED }
     }
 
-    /// Reads the next datagram of the pass into the buffer, and answers how many bytes of it stand there. With `None` the pass is
+    /// Reads the next datagram of the pass into the buffer, and returns how many bytes of it stand there. With `None` the pass is
     /// over: nothing came in time, the wire failed, or 64 datagrams were read.
     pub fn next<W: Wire>(&mut self, wire: &mut W, buffer: &mut [u8; MAX_RECEIVED]) -> Option<usize>
         ensures one { IfSome result (λ _. self.new.left + 1 ≡ self.old.left) }

@@ -1,4 +1,4 @@
--- The head of a request, and what stands behind it.
+-- The head of a request, and what follows it.
 use Rattle.std.proofs.Common.{◌≡◌, ℕ, Bool, true, false, ltb, List, [], ◌∷◌, ◌++◌, length, take, drop, refl, sym, ap, ◌∙◌, arith}
 use Rattle.std.specs.Prelude.{MatchBool, ◌==◌, ◌/◌, ◌%◌, ℤ, FitsSigned}
 use Rattle.std.specs.Int.{w8, cast_unsigned, cast_signed}
@@ -16,7 +16,7 @@ use Rattle.fw_apdu.specs.Inside.{HeadRead, SelectionStops, descriptor_of}
 ten_there : (i h l x : ℕ) (n rest : List ℕ) → length n ≡ 6 → ltb (length (i ∷ h ∷ l ∷ ((n ++ x ∷ []) ++ rest))) 10 ≡ false
 ten_there i h l x n rest len = le-ltb _ _ (omega (arith, length-append (n ++ x ∷ []) rest, length-append n (x ∷ [])))
 
--- and the rest stands behind them
+-- and the rest follows them
 ten_gone : (i h l x : ℕ) (n rest : List ℕ) → length n ≡ 6 → drop 10 (i ∷ h ∷ l ∷ ((n ++ x ∷ []) ++ rest)) ≡ rest
 ten_gone i h l x (a ∷ b ∷ c ∷ d ∷ y ∷ z ∷ []) rest len = refl
 ten_gone i h l x n rest len = absurd (omega arith)

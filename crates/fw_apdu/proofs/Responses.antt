@@ -54,7 +54,7 @@ no_result : axdr.OneSpelling → axdr.OneFault → (s : List ℕ) (e : ApduError
 no_result one faults s e (value v) h k = no_data one faults h.0 e v (subst (λ (x : List ℕ). ResultFails x e) h.1 k) h.2
 no_result one faults s e (code c) h k = subst (λ (x : List ℕ). ResultFails x e) h k
 
--- behind the normal form and an invoke byte
+-- after the normal form and an invoke byte
 answer_is : (behind : List ℕ → ApduError → Type 0) (i : ℕ) (s : List ℕ) (e : ApduError) → AnswerFails behind (0x01 ∷ i ∷ s) e → behind s e
 answer_is behind i s e k = subst (λ (T : Type 0). T) (byte_is behind i s e) k
 

@@ -13,7 +13,7 @@ use Rattle.fw_apdu.specs.Fault.{EndFails, DataFails, ByteFails, BytesFail, Resul
 
 -- ---- what follows a Data
 
--- bytes behind a Data
+-- bytes after a Data
 pub trails : (s rest : List ℕ) (n : ℕ) (v : Value) (e : ApduError) → IsData max_depth (take n s) v → rest ≡ drop n s → EndFails rest e → DataFails s e
 trails s [] n v e is behind h = absurd h
 trails s (b ∷ t) n v e is behind h = inr (v, take n s, b, t, is, sym (take-append-drop n s) ∙ ap (λ (x : List ℕ). take n s ++ x) (sym behind), h)
@@ -32,7 +32,7 @@ one_data_fault faults s e f (inl h) (inr k) = absurd ((faults max_depth s h.0 h.
 one_data_fault faults s e f (inr h) (inl k) = absurd ((faults max_depth s k.0 k.0 k.1).0 h.1 (h.2 ∷ h.3) h.0 h.5 h.4)
 one_data_fault faults s e f (inr h) (inr k) = h.6 ∙ sym k.6
 
--- a value behind 00
+-- a value after 00
 pub value_fails : (s : List ℕ) (e : ApduError) → 1 ≤ length s → get_or s 0 0 ≡ 0 → IfFault e (DataFails (take (length s - 1) (drop 1 s)) e) → IfFault e (ResultFails s e)
 value_fails [] e some is h = absurd (omega arith)
 value_fails (b ∷ s) e some is h =
@@ -64,7 +64,7 @@ pub one_end_fault : (s : List ℕ) (e f : ApduError) → EndFails s e → EndFai
 one_end_fault [] e f h k = absurd h
 one_end_fault (b ∷ s) e f h k = h ∙ sym k
 
--- behind one byte stands what follows it
+-- after one byte that is there, what must follow it
 pub byte_is : (behind : List ℕ → ApduError → Type 0) (b : ℕ) (s : List ℕ) (e : ApduError) → BytesFail 1 behind (b ∷ s) e ≡ behind s e
 byte_is behind b s e =
     let room : ltb (length (b ∷ s)) 1 ≡ false = le-ltb _ _ (omega arith) in

@@ -1,4 +1,4 @@
--- Where memory may be wanted.
+-- Where memory may be taken.
 use Rattle.std.proofs.Common.{◌≡◌, ℕ, List, ◌∷◌, ◌++◌, inl, inr, ap, ◌∙◌}
 use Rattle.fw_axdr.specs.Spelling.{max_depth}
 use Rattle.fw_axdr.specs.Memory.{MayTakeMemory}
@@ -22,7 +22,7 @@ IfMemory-map UnsupportedForm P Q f h = tt
 IfMemory-map (BadData fault) P Q f h = tt
 IfMemory-map Trailing P Q f h = tt
 
--- what wants no memory
+-- what takes no memory
 pub IfMemory-none : (e : ApduError) (Q : Type 0) → IfMemory e ⊥ → IfMemory e Q
 IfMemory-none e Q h = IfMemory-map e ⊥ Q (λ no. absurd no) h
 

@@ -1,4 +1,4 @@
--- For private clauses alone: what the parts of the readers give, and where they may want memory.
+-- For private clauses alone: what the parts of the readers give, and where they may take memory.
 use Rattle.std.specs.Prelude.{◌≡◌, ◌≢◌, ℕ, List, [], ◌∷◌, ◌++◌, Option, Some, None}
 use Rattle.fw_axdr.specs.Value.{Value}
 use Rattle.fw_axdr.specs.Spelling.{IsData, max_depth}
@@ -33,7 +33,7 @@ AnswerStops s e = AnswerFails (λ t f. ⊥) s e
 abbrev pub CodeStops : List ℕ → ApduError → Type 0
 CodeStops s e = BytesFail 1 (λ t f. ⊥) s e
 
--- 00 and nothing behind it, or any other byte and a Get-Data-Result
+-- 00 and nothing after it, or any other byte and a Get-Data-Result
 abbrev pub IsReturned : List ℕ → Option GetResult → Type 0
 IsReturned s None = s ≡ 0x00 ∷ []
 IsReturned s (Some r) = (present : ℕ) × (body : List ℕ) × (s ≡ present ∷ body) × (present ≢ 0) × SpellsResult body r
@@ -42,21 +42,21 @@ IsReturned s (Some r) = (present : ℕ) × (body : List ℕ) × (s ≡ present �
 abbrev pub SelectionStops : List ℕ → ApduError → Type 0
 SelectionStops s e = SelectionFails (λ t f. ⊥) s e
 
--- 00 and nothing behind it, or any other byte and a Data
+-- 00 and nothing after it, or any other byte and a Data
 abbrev pub IsParameter : List ℕ → Option Value → Type 0
 IsParameter s None = s ≡ 0x00 ∷ []
 IsParameter s (Some v) = (present : ℕ) × (body : List ℕ) × (s ≡ present ∷ body) × (present ≢ 0) × IsData max_depth body v
 
--- ---- where memory may be wanted
+-- ---- where memory may be taken
 
--- for a parameter, which stands behind any byte but 00
+-- for a parameter, which stands after any byte except 00
 abbrev pub ParameterTakes : List ℕ → Type 0
 ParameterTakes s = (present : ℕ) × (body : List ℕ) × (s ≡ present ∷ body) × (present ≢ 0) × MayTakeMemory max_depth body
 
--- for the value of a Get-Data-Result, which stands behind 00
+-- for the value of a Get-Data-Result, which stands after 00
 abbrev pub ResultTakes : List ℕ → Type 0
 ResultTakes s = (body : List ℕ) × (s ≡ 0x00 ∷ body) × MayTakeMemory max_depth body
 
--- for return parameters, which stand behind any byte but 00
+-- for return parameters, which stand after any byte except 00
 abbrev pub ReturnedTakes : List ℕ → Type 0
 ReturnedTakes s = (present : ℕ) × (body : List ℕ) × (s ≡ present ∷ body) × (present ≢ 0) × ResultTakes body

@@ -36,12 +36,12 @@ pub record IsDescriptor (d : Descriptor) : Type 0 where
 abbrev pub descriptor_bytes : Descriptor → List ℕ
 descriptor_bytes d = to_be_bytes w16 d.class ++ d.instance ++ cast_unsigned w8 d.number ∷ []
 
--- behind the byte of the service: the normal form, the invoke byte, and the descriptor
+-- after the byte of the service: the normal form, the invoke byte, and the descriptor
 abbrev pub head_bytes : ℕ → Descriptor → List ℕ
 head_bytes invoke d = 0x01 ∷ invoke ∷ descriptor_bytes d
 
 -- A byte string spells a request with this invoke byte. GET and SET have no selective access (00); the parameter of an
--- ACTION follows any byte but 00 (own).
+-- ACTION follows any byte except 00 (own).
 abbrev pub SpellsRequest : List ℕ → ℕ → RequestContent → Type 0
 SpellsRequest s invoke (get_request d) = IsDescriptor d × (s ≡ 0xc0 ∷ head_bytes invoke d ++ 0x00 ∷ [])
 SpellsRequest s invoke (set_request d v) = IsDescriptor d × ((body : List ℕ) × (s ≡ 0xc1 ∷ head_bytes invoke d ++ 0x00 ∷ body) × IsData max_depth body v)
@@ -63,13 +63,13 @@ unwritable_request (set_request d v) = unwritable v max_depth
 unwritable_request (action_request d None) = None
 unwritable_request (action_request d (Some v)) = unwritable v max_depth
 
--- where a request holds a Data: behind the head of a SET and 00, and behind that of an ACTION and any byte but 00
+-- where a request holds a Data: after the head of a SET and 00, and after that of an ACTION and any byte except 00
 abbrev pub HoldsDataAt : List ℕ → List ℕ → Type 0
 HoldsDataAt s body =
     (invoke : ℕ) × (d : Descriptor) × IsDescriptor d
     × ((s ≡ 0xc1 ∷ head_bytes invoke d ++ 0x00 ∷ body) ⊎ ((present : ℕ) × (s ≡ 0xc3 ∷ head_bytes invoke d ++ present ∷ body) × (present ≢ 0)))
 
--- a request may hold a Data that takes memory: at its place stand bytes for which reading may want some
+-- a request may hold a Data that takes memory: at its place stand bytes for which reading may take some
 abbrev pub MayHoldData : List ℕ → Type 0
 MayHoldData s = (body : List ℕ) × HoldsDataAt s body × MayTakeMemory max_depth body
 

@@ -18,12 +18,12 @@ pub data ResponseContent : Type 0 where
   set_response : ℕ → ResponseContent
   action_response : ℕ → Option GetResult → ResponseContent
 
--- a value behind 00, or a code behind 01
+-- a value after 00, or a code after 01
 abbrev pub SpellsResult : List ℕ → GetResult → Type 0
 SpellsResult s (value v) = (body : List ℕ) × (s ≡ 0x00 ∷ body) × IsData max_depth body v
 SpellsResult s (code c) = s ≡ 0x01 ∷ c ∷ []
 
--- A byte string spells a response with this invoke byte. The return parameters of an ACTION follow any byte but 00 (own).
+-- A byte string spells a response with this invoke byte. The return parameters of an ACTION follow any byte except 00 (own).
 abbrev pub SpellsResponse : List ℕ → ℕ → ResponseContent → Type 0
 SpellsResponse s invoke (get_response r) = (body : List ℕ) × (s ≡ 0xc4 ∷ 0x01 ∷ invoke ∷ body) × SpellsResult body r
 SpellsResponse s invoke (set_response c) = s ≡ 0xc5 ∷ 0x01 ∷ invoke ∷ c ∷ []
@@ -31,13 +31,13 @@ SpellsResponse s invoke (action_response c None) = s ≡ 0xc7 ∷ 0x01 ∷ invok
 SpellsResponse s invoke (action_response c (Some r)) =
     (present : ℕ) × (body : List ℕ) × (s ≡ 0xc7 ∷ 0x01 ∷ invoke ∷ c ∷ present ∷ body) × (present ≢ 0) × SpellsResult body r
 
--- where a response holds a Data: in the result of a GET, and in that of an ACTION where any byte but 00 says that there is one
+-- where a response holds a Data: in the result of a GET, and in that of an ACTION where any byte except 00 says that there is one
 abbrev pub ReturnsDataAt : List ℕ → List ℕ → Type 0
 ReturnsDataAt s body =
     (invoke : ℕ)
     × ((s ≡ 0xc4 ∷ 0x01 ∷ invoke ∷ 0x00 ∷ body) ⊎ ((c present : ℕ) × (s ≡ 0xc7 ∷ 0x01 ∷ invoke ∷ c ∷ present ∷ 0x00 ∷ body) × (present ≢ 0)))
 
--- a response may hold a Data that takes memory: at its place stand bytes for which reading may want some
+-- a response may hold a Data that takes memory: at its place stand bytes for which reading may take some
 abbrev pub MayReturnData : List ℕ → Type 0
 MayReturnData s = (body : List ℕ) × ReturnsDataAt s body × MayTakeMemory max_depth body
 

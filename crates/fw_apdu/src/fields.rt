@@ -4,7 +4,7 @@ ghost use Rattle.std.specs.Prelude.{◌≡◌};
 ghost use Rattle.fw_apdu.specs.Request.{invoke_id, is_confirmed};
 
 /// The byte of the invoke-id and the priority (IEC 62056-5-3, Invoke-Id-And-Priority). A response
-/// repeats that of its request, so a client can tell its answers apart.
+/// repeats that of its request, so that a client can match the two.
 #[derive(Clone, Copy, Debug, PartialEq, Eq)]
 pub struct Invoke(pub u8);
 
@@ -15,7 +15,7 @@ const IDS: u8 = 16;
 const CONFIRMED: u8 = 0x40;
 
 impl Invoke {
-    /// The invoke-id, 0 to 15, which tells the outstanding requests of a client apart.
+    /// The invoke-id, 0 to 15, which distinguishes the outstanding requests of a client.
     pub fn id(self) -> u8
         ensures { result ≡ invoke_id self.0 }
     {

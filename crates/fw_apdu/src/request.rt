@@ -99,7 +99,7 @@ impl Request {
         }
     }
 
-    /// What the request has behind its first byte.
+    /// What the request has after its first byte.
     fn head(&self) -> Head
         ensures invoke { result.invoke.0 ≡ request_invoke self.now }
         ensures descriptor { descriptor_of result ≡ request_descriptor (request_content self.now) }
@@ -129,7 +129,7 @@ pub(crate) const ABSENT: u8 = 0x00;
 /// A parameter follows.
 const PRESENT: u8 = 0x01;
 
-/// What every request has behind its first byte.
+/// What every request has after its first byte.
 #[derive(Clone, Copy)]
 struct Head {
     invoke: Invoke,
@@ -151,7 +151,7 @@ pub fn read_request(alloc: Global, apdu: &[u8]) -> Result<Request, ApduError>
     // A fault is the leftmost one, and comes only where the bytes spell no request.
     ensures none { IfErr result (λ e. IfFault e (NoRequest apdu.now)) }
     ensures fault { IfErr result (λ e. IfFault e (RequestFails apdu.now e)) }
-    // Memory is wanted only for a Data, and there only for strings and elements that are there.
+    // Memory is taken only for a Data, and there only for strings and elements that are there.
     ensures memory { IfErr result (λ e. IfMemory e (MayHoldData apdu.now)) }
 {
     laws::one_request_fault();
@@ -176,7 +176,7 @@ fn request_at(alloc: Global, bytes: &[u8]) -> Result<Request, ApduError>
     }
 }
 
-/// The GET that the bytes behind its first byte are.
+/// The GET that the bytes after its first byte are.
 fn get_request(bytes: &[u8]) -> Result<Request, ApduError>
     ensures found { IfOk result
         (λ r. SpellsRequest (0xc0 ∷ bytes.now) (request_invoke r) (request_content r)) }
@@ -194,7 +194,7 @@ fn get_request(bytes: &[u8]) -> Result<Request, ApduError>
     })
 }
 
-/// The SET that the bytes behind its first byte are.
+/// The SET that the bytes after its first byte are.
 fn set_request(alloc: Global, bytes: &[u8]) -> Result<Request, ApduError>
     ensures found { IfOk result
         (λ r. SpellsRequest (0xc1 ∷ bytes.now) (request_invoke r) (request_content r)) }
@@ -213,7 +213,7 @@ fn set_request(alloc: Global, bytes: &[u8]) -> Result<Request, ApduError>
     })
 }
 
-/// The ACTION that the bytes behind its first byte are.
+/// The ACTION that the bytes after its first byte are.
 fn action_request(alloc: Global, bytes: &[u8]) -> Result<Request, ApduError>
     ensures found { IfOk result
         (λ r. SpellsRequest (0xc3 ∷ bytes.now) (request_invoke r) (request_content r)) }
@@ -231,7 +231,7 @@ fn action_request(alloc: Global, bytes: &[u8]) -> Result<Request, ApduError>
     })
 }
 
-/// What stands behind the first byte of every request, and what follows it.
+/// What stands after the first byte of every request, and what follows it.
 fn head_at(bytes: &[u8]) -> Result<(Head, &[u8]), ApduError>
     ensures found { IfOk result (λ x. HeadRead bytes.now x.0 x.1.now) }
     ensures fault { IfErr result (λ e. HeadStops bytes.now e) }
@@ -305,10 +305,10 @@ pub fn write_request(alloc: Global, request: &Request) -> Result<Vec<u8>, ApduEr
         ≡ request_bytes (request_invoke request.now) (request_content request.now)) }
     ensures spelled { IfOk result (λ apdu.
         SpellsRequest apdu.items (request_invoke request.now) (request_content request.now)) }
-    // A request is refused where a value in it has no spelling, and for its fault.
+    // A request is refused where a value in it has no spelling, with the fault of that value.
     ensures refused { IfErr result
         (λ e. IfFault e (IsBadData (unwritable_request (request_content request.now)) e)) }
-    // Memory is wanted only for a request that can be written.
+    // Memory is taken only for a request that can be written.
     ensures memory { IfErr result
         (λ e. IfMemory e (unwritable_request (request_content request.now) ≡ None)) }
 {

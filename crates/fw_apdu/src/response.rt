@@ -70,7 +70,7 @@ const SET_RESPONSE: u8 = 0xc5;
 
 const ACTION_RESPONSE: u8 = 0xc7;
 
-/// What tells a value from a code.
+/// The tags of a Get-Data-Result: a value, or a code.
 const VALUE: u8 = 0x00;
 
 const CODE: u8 = 0x01;
@@ -91,7 +91,7 @@ pub fn read_response(alloc: Global, apdu: &[u8]) -> Result<Response, ApduError>
     // A fault is the leftmost one, and comes only where the bytes spell no response.
     ensures none { IfErr result (λ e. IfFault e (NoResponse apdu.now)) }
     ensures fault { IfErr result (λ e. IfFault e (ResponseFails apdu.now e)) }
-    // Memory is wanted only for a Data, and there only for strings and elements that are there.
+    // Memory is taken only for a Data, and there only for strings and elements that are there.
     ensures memory { IfErr result (λ e. IfMemory e (MayReturnData apdu.now)) }
 {
     laws::one_response_fault();
@@ -116,7 +116,7 @@ fn response_at(alloc: Global, bytes: &[u8]) -> Result<Response, ApduError>
     }
 }
 
-/// The answer to a GET that the bytes behind its first byte are.
+/// The response to a GET that the bytes after its first byte are.
 fn get_response(alloc: Global, bytes: &[u8]) -> Result<Response, ApduError>
     ensures found { IfOk result
         (λ r. SpellsResponse (0xc4 ∷ bytes.now) (response_invoke r) (response_content r)) }
@@ -128,7 +128,7 @@ fn get_response(alloc: Global, bytes: &[u8]) -> Result<Response, ApduError>
     Ok(Response::Get { invoke, result })
 }
 
-/// The answer to a SET that the bytes behind its first byte are.
+/// The response to a SET that the bytes after its first byte are.
 fn set_response(bytes: &[u8]) -> Result<Response, ApduError>
     ensures found { IfOk result
         (λ r. SpellsResponse (0xc5 ∷ bytes.now) (response_invoke r) (response_content r)) }
@@ -141,7 +141,7 @@ fn set_response(bytes: &[u8]) -> Result<Response, ApduError>
     Ok(Response::Set { invoke, code })
 }
 
-/// The answer to an ACTION that the bytes behind its first byte are.
+/// The response to an ACTION that the bytes after its first byte are.
 fn action_response(alloc: Global, bytes: &[u8]) -> Result<Response, ApduError>
     ensures found { IfOk result
         (λ r. SpellsResponse (0xc7 ∷ bytes.now) (response_invoke r) (response_content r)) }
@@ -158,7 +158,7 @@ fn action_response(alloc: Global, bytes: &[u8]) -> Result<Response, ApduError>
     })
 }
 
-/// The invoke byte behind the normal form, and what follows it.
+/// The invoke byte after the normal form, and what follows it.
 fn invoke_at(bytes: &[u8]) -> Result<(Invoke, &[u8]), ApduError>
     ensures found { IfOk result (λ x. AnswerRead bytes.now x.0.0 x.1.now) }
     ensures fault { IfErr result (λ e. AnswerStops bytes.now e) }
@@ -229,10 +229,10 @@ pub fn write_response(alloc: Global, response: &Response) -> Result<Vec<u8>, Apd
         ≡ response_bytes (response_invoke response.now) (response_content response.now)) }
     ensures spelled { IfOk result (λ apdu.
         SpellsResponse apdu.items (response_invoke response.now) (response_content response.now)) }
-    // A response is refused where a value in it has no spelling, and for its fault.
+    // A response is refused where a value in it has no spelling, with the fault of that value.
     ensures refused { IfErr result
         (λ e. IfFault e (IsBadData (unwritable_response (response_content response.now)) e)) }
-    // Memory is wanted only for a response that can be written.
+    // Memory is taken only for a response that can be written.
     ensures memory { IfErr result
         (λ e. IfMemory e (unwritable_response (response_content response.now) ≡ None)) }
 {
@@ -258,7 +258,7 @@ pub fn write_response(alloc: Global, response: &Response) -> Result<Vec<u8>, Apd
     }
 }
 
-/// The bytes, and behind them the short spelling of a result.
+/// The bytes, and after them the short spelling of a result.
 fn ending_in(alloc: Global, front: &[u8], answer: &GetDataResult) -> Result<Vec<u8>, ApduError>
     ensures written { IfOk result
         (λ apdu. apdu.items ≡ front.now ++ result_bytes (result_of answer.now)) }

@@ -1,4 +1,4 @@
--- A byte string cut to so many bits, with zeros behind them.
+-- A byte string cut to a number of bits, with zeros after them.
 use Rattle.std.proofs.Common.{◌≡◌, ◌≢◌, ℕ, zero, suc, ◌+◌, ◌-◌, ◌*◌, ◌/◌, ◌%◌, ◌^◌, ◌<◌, ◌≤◌, Bool, false, cond, eqb, List, [], ◌∷◌, ◌++◌, length, get_or, set, take, drop, Some, refl, inl, inr, sym, ap, subst, ◌∙◌, arith, lit<}
 use Rattle.std.proofs.lemmas.List.{length-append, length-take, take-append-drop, append-nil, nil_from_length, length-drop, get_or-take, get_or_past}
 use Rattle.std.proofs.lemmas.Bool.{cases_lt}
@@ -37,7 +37,7 @@ bit_cut y w m some =
     let whole : y - y % w ≡ w * (y / w) = omega (arith, mod-eq-sub-mul-div y w, mul-div-le y w) in
     ap (λ x. x % 2) (ap (λ x. x / (w * m)) whole ∙ mul-div-mul_left (y / w) m some ∙ div-div-eq-div-mul y w m)
 
--- the first r bits of a byte stay, and are those of the byte with zeros behind them
+-- the first r bits of a byte stay, and are those of the byte with zeros after them
 record Cut (y r cut : ℕ) : Type 0 where
   pub packs : byte_of (take r (byte_bits y)) ≡ cut
   pub same : take r (byte_bits cut) ≡ take r (byte_bits y)

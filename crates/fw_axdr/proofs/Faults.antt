@@ -46,7 +46,7 @@ bytes_refused : (size : ℕ) (c : List ℕ) (f : AxdrError) → BytesFail size c
 unfolding bytes_at
 bytes_refused size c f h = rw (lt-ltb (length c) size h.0) (ap Err (sym h.1))
 
--- a step that fails, also behind one that doesn't
+-- a step that fails, also after one that doesn't
 stops : {A B : Type 0} (r : Result A AxdrError) (g : A → Result B AxdrError) (f : AxdrError) → r ≡ Err f → (r >>= g) ≡ Err f
 stops r g f h = rw h refl
 

@@ -1,4 +1,4 @@
--- Judging a value, and that no fault of one is want of memory.
+-- Judging a value, and that no fault of one is OutOfMemory.
 use Rattle.std.proofs.Common.{◌≡◌, ℕ, zero, suc, ◌-◌, ◌^◌, false, eqb, inl, inr, Option, Some, None, arith}
 use Rattle.std.specs.Prelude.{IfSome, length}
 use Rattle.std.specs.Option.{option_or}
@@ -7,7 +7,7 @@ use Rattle.fw_axdr.specs.declared.error.AxdrError.{AxdrError}
 use Rattle.fw_axdr.specs.Value.{Value, Values, array, structure, bit_string, octet_string, visible_string, none, more, count}
 use Rattle.fw_axdr.specs.Fault.{IfMemory, within, counted, unwritable, first_unwritable}
 
--- no want of memory
+-- not OutOfMemory
 abbrev pub IsNoWant : Option AxdrError → Type 0
 IsNoWant o = IfSome o (λ e. IfMemory e ⊥)
 

@@ -69,7 +69,7 @@ bind_both_last : {A : Type 0} (r : Result A AxdrError) (P : A → Type 0) (Q : A
 bind_both_last (Ok x) P Q P' Q' h ok err = ok x h
 bind_both_last (Err e) P Q P' Q' h ok err = err e h
 
--- a length, and what stands behind it
+-- a length, and what follows it
 pub behind : (c len mid body rest : List ℕ) → c ≡ len ++ mid → mid ≡ body ++ rest → c ≡ (len ++ body) ++ rest
 behind c len mid body rest p q = p ∙ ap (λ (x : List ℕ). len ++ x) q ∙ sym (append_assoc len body rest)
 
@@ -125,7 +125,7 @@ unfolding bits_at
 bits_again len body rest bs h room same =
     rw (append_assoc len body rest, length_again len (body ++ rest) (length bs) h, bytes_again body rest (bytes_for (length bs)) room) (ap (λ (x : List Bool). Ok (x, rest)) (sym same))
 
--- ---- a Data, with so many levels left
+-- ---- a Data, with a number of levels left
 
 pub record Taken (levels : ℕ) (s : List ℕ) (v : Value) (rest : List ℕ) : Type 0 where
   pub front : List ℕ

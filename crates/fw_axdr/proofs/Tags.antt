@@ -7,7 +7,7 @@ use Rattle.fw_axdr.specs.declared.tag.Tag.TheVariants as tag
 use Rattle.fw_axdr.specs.Inside.{tag_at, code}
 use Rattle.fw_axdr.specs.Fault.{Contents, fixed, counted_bytes, counted_bits, counted_data, tags, contents_in}
 
--- what stands behind a tag
+-- what follows a tag
 abbrev pub shape : Tag → Contents
 shape tag.Null = fixed 0
 shape tag.Array = counted_data

@@ -1,4 +1,4 @@
--- Where reading may want memory.
+-- Where reading may take memory.
 use Rattle.std.proofs.Common.{◌≡◌, ℕ, zero, suc, ◌-◌, ◌≤◌, ◌⊎◌, inl, inr, List, ◌∷◌, length, Some, Result, Ok, Err, refl, sym, ap, subst, arith}
 use Rattle.std.specs.Prelude.{IfErr}
 use Rattle.std.proofs.lemmas.List.{length-append}
@@ -24,11 +24,11 @@ IfMemory-map UnknownTag P Q f h = tt
 IfMemory-map BadLength P Q f h = tt
 IfMemory-map TooDeep P Q f h = tt
 
--- what wants no memory
+-- what takes no memory
 pub IfMemory-none : (e : AxdrError) (Q : Type 0) → IfMemory e ⊥ → IfMemory e Q
 IfMemory-none e Q h = IfMemory-map e ⊥ Q (λ no. absurd no) h
 
--- what wants nothing else
+-- what holds in any case
 pub IfMemory-all : (e : AxdrError) (Q : Type 0) → Q → IfMemory e Q
 IfMemory-all OutOfMemory Q h = h
 IfMemory-all Truncated Q h = tt
@@ -36,7 +36,7 @@ IfMemory-all UnknownTag Q h = tt
 IfMemory-all BadLength Q h = tt
 IfMemory-all TooDeep Q h = tt
 
--- a length that was read, and what stands behind it
+-- a length that was read, and what follows it
 pub counted_takes : (Behind : ℕ → List ℕ → Type 0) (c : List ℕ) (n : ℕ) (mid : List ℕ) → length_at c ≡ Ok (n, mid) → 1 ≤ n → Behind n mid → CountedTakes Behind c
 counted_takes Behind c n mid e some behind =
     let t = MatchResult-at_ok (λ x. LengthTaken c x.0 x.1) (LengthFails c) (n, mid) e (length_sound c) in
@@ -54,7 +54,7 @@ begins levels s v rest e = let t = found_is levels s v rest e in (t.front, rest,
 
 -- ---- elements, one after another
 
--- what holds behind so many of them
+-- what holds after `counter` of them
 pub record ItemsRead (levels count counter : ℕ) (front : Values) (start now : List ℕ) : Type 0 where
   pub so_far : with_front front (each_at (λ s. data_at levels s) (count - counter) now) ≡ each_at (λ s. data_at levels s) count start
   pub starts : counter ≡ 0 → now ≡ start
@@ -65,7 +65,7 @@ pub first_there : (levels count counter : ℕ) (front : Values) (start now : Lis
 first_there levels count zero front start now v rest read e = subst (λ (s : List ℕ). SomeBegins levels s) (read.starts refl) (begins levels now v rest e)
 first_there levels count (suc counter) front start now v rest read e = read.first (omega arith)
 
--- where memory is wanted within an element
+-- where memory is taken within an element
 pub element_takes : (levels count counter : ℕ) (front : Values) (start now : List ℕ) → ItemsRead levels count counter front start now → MayTakeMemory levels now → MayTakeMemory levels start ⊎ SomeBegins levels start
 element_takes levels count zero front start now read h = inl (subst (λ (s : List ℕ). MayTakeMemory levels s) (read.starts refl) h)
 element_takes levels count (suc counter) front start now read h = inr (read.first (omega arith))

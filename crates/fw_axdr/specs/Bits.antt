@@ -3,7 +3,7 @@
 use Rattle.std.specs.Prelude.{ℕ, zero, suc, ◌+◌, ◌/◌, ◌%◌, Bool, false, ◌==◌, List, [], ◌∷◌, length, drop, slice_index_or, if◌then◌else◌}
 use Rattle.std.specs.List.{flat_map}
 
--- the bit of a byte that is worth so much: 128, 64, .. or 1
+-- the bit of a byte with this worth: 128, 64, .. or 1
 abbrev pub bit : ℕ → ℕ → Bool
 bit b worth = b / worth % 2 == 1
 
@@ -27,7 +27,7 @@ abbrev pub byte_of : List Bool → ℕ
 byte_of bs =
     worth_of bs 0 128 + worth_of bs 1 64 + worth_of bs 2 32 + worth_of bs 3 16 + worth_of bs 4 8 + worth_of bs 5 4 + worth_of bs 6 2 + worth_of bs 7 1
 
--- so many bytes that hold the bits
+-- `n` bytes that hold the bits
 abbrev pub packed_into : ℕ → List Bool → List ℕ
 packed_into zero bs = []
 packed_into (suc n) bs = byte_of bs ∷ packed_into n (drop 8 bs)

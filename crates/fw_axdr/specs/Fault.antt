@@ -11,14 +11,14 @@ use Rattle.fw_axdr.specs.Bits.{bytes_for}
 
 -- ---- of a byte string
 
--- what stands behind a tag: so many bytes; or a length, and so many bytes, so many bits or so many Data
+-- what follows a tag: a fixed number of bytes; or a length, and as many bytes, bits or Data as it says
 pub data Contents : Type 0 where
   fixed : ℕ → Contents
   counted_bytes : Contents
   counted_bits : Contents
   counted_data : Contents
 
--- the tags, and what stands behind each
+-- the tags, and what follows each
 abbrev pub tags : List (ℕ × Contents)
 tags =
     (0, fixed 0) ∷ (1, counted_data) ∷ (2, counted_data) ∷ (3, fixed 1) ∷ (4, counted_bits) ∷ (5, fixed 4) ∷ (6, fixed 4) ∷ (9, counted_bytes) ∷ (10, counted_bytes)
@@ -28,20 +28,20 @@ abbrev pub contents_in : List (ℕ × Contents) → ℕ → Option Contents
 contents_in [] t = None
 contents_in (row ∷ rows) t = if t == row.0 then Some row.1 else contents_in rows t
 
--- at the place of a length: no byte; a first byte 80, or 85 to ff (hexadecimal); fewer bytes behind it than it says
+-- at the place of a length: no byte; a first byte 80, or 85 to ff (hexadecimal); fewer bytes after it than it says
 abbrev pub LengthFails : List ℕ → AxdrError → Type 0
 LengthFails [] f = f ≡ Truncated
 LengthFails (b ∷ rest) f = (((b ≡ 128) ⊎ (132 < b)) × (f ≡ BadLength)) ⊎ ((k : ℕ) × (b ≡ 128 + k) × (1 ≤ k) × (k ≤ 4) × (length rest < k) × (f ≡ Truncated))
 
--- at the place of so many bytes: fewer are there
+-- at the place of `size` bytes: fewer are there
 abbrev pub BytesFail : ℕ → List ℕ → AxdrError → Type 0
 BytesFail size c f = (length c < size) × (f ≡ Truncated)
 
--- at the place of a length n: in it, or in what stands behind it
+-- at the place of a length n: in it, or in what follows it
 abbrev pub CountedFails : (ℕ → List ℕ → AxdrError → Type 0) → List ℕ → AxdrError → Type 0
 CountedFails Behind c f = LengthFails c f ⊎ ((len rest : List ℕ) × (n : ℕ) × (c ≡ len ++ rest) × IsLength len n × Behind n rest f)
 
--- at the place of n Data: behind fewer, which are well spelled, one fails
+-- at the place of n Data: after fewer, which are well spelled, one fails
 abbrev pub EachFails : ℕ → (List ℕ → AxdrError → Type 0) → ℕ → List ℕ → AxdrError → Type 0
 EachFails levels Fails n s f = (front rest : List ℕ) × (vs : Values) × (s ≡ front ++ rest) × SpellEach front vs × (deepest vs ≤ levels) × (count vs < n) × Fails rest f
 
@@ -52,7 +52,7 @@ ContentsFail levels Fails counted_bytes c f = CountedFails BytesFail c f
 ContentsFail levels Fails counted_bits c f = CountedFails (λ n. BytesFail (bytes_for n)) c f
 ContentsFail levels Fails counted_data c f = CountedFails (EachFails levels Fails) c f
 
--- at the place of a Data, where so many levels are left: no byte; no level; no such tag; in the contents
+-- at the place of a Data, where `levels` levels are left: no byte; no level; no such tag; in the contents
 abbrev pub Fails : ℕ → List ℕ → AxdrError → Type 0
 Fails levels [] f = f ≡ Truncated
 Fails zero (t ∷ c) f = f ≡ TooDeep
@@ -68,7 +68,7 @@ within levels behind = if levels == 0 then Some TooDeep else behind
 abbrev pub counted : ℕ → Option AxdrError → Option AxdrError
 counted n behind = if nat_lt n (2 ^ 32) then behind else Some BadLength
 
--- the first part of a value, with so many levels left, that can't be written
+-- the first part of a value, with `levels` levels left, that can't be written
 abbrev mutual
   pub unwritable : Value → ℕ → Option AxdrError
   unwritable (array vs) levels = within levels (counted (count vs) (first_unwritable vs (levels - 1)))
@@ -84,7 +84,7 @@ abbrev mutual
 
 -- ---- of both
 
--- P, where the error is a fault; nothing is said of want of memory, since no definition can tell when it comes
+-- P, where the error is a fault; nothing is said of OutOfMemory, since no definition can say when it comes
 abbrev pub IfFault : AxdrError → Type 0 → Type 0
 IfFault OutOfMemory P = Unit {0}
 IfFault Truncated P = P
@@ -92,7 +92,7 @@ IfFault UnknownTag P = P
 IfFault BadLength P = P
 IfFault TooDeep P = P
 
--- P, where the error is want of memory
+-- P, where the error is OutOfMemory
 abbrev pub IfMemory : AxdrError → Type 0 → Type 0
 IfMemory OutOfMemory P = P
 IfMemory Truncated P = Unit {0}

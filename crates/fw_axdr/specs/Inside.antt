@@ -58,11 +58,11 @@ abbrev pub Gives : {X Y : Type 0} → (X → Y) → Result X AxdrError → List 
 Gives view (Ok x) rest read = read ≡ Ok (view x, rest)
 Gives view (Err e) rest read = Errs e read
 
--- so many bytes
+-- `n` bytes
 unfoldable pub bytes_at : ℕ → List ℕ → Result (List ℕ × List ℕ) AxdrError
 bytes_at n bytes = if nat_lt (length bytes) n then Err Truncated else Ok (take n bytes, drop n bytes)
 
--- a number of so many bytes
+-- a number of `size` bytes
 unfoldable pub number_at : ℕ → List ℕ → Result (ℕ × List ℕ) AxdrError
 number_at size bytes = if nat_lt (length bytes) size then Err Truncated else Ok (number (take size bytes), drop size bytes)
 
@@ -88,7 +88,7 @@ abbrev pub join : Values → Values → Values
 join none ws = ws
 join (more v vs) ws = more v (join vs ws)
 
--- so many values, each read by one
+-- `n` values, each read by `one`
 unfoldable pub each_at : (List ℕ → Result (Value × List ℕ) AxdrError) → ℕ → List ℕ → Result (Values × List ℕ) AxdrError
 each_at one zero bytes = Ok (none, bytes)
 each_at one (suc n) bytes = do
@@ -126,7 +126,7 @@ abbrev pub tagged_at : (List ℕ → Result (Value × List ℕ) AxdrError) → O
 tagged_at one None c = Err UnknownTag
 tagged_at one (Some tag) c = contents_at one tag c
 
--- a Data, with so many levels left
+-- a Data, with `levels` levels left
 unfoldable pub data_at : ℕ → List ℕ → Result (Value × List ℕ) AxdrError
 data_at levels [] = Err Truncated
 data_at zero (t ∷ c) = Err TooDeep
@@ -140,7 +140,7 @@ Begins old new = take (length old) new ≡ old
 
 -- ---- what clearing the unused bits leaves
 
--- new has the first n bits of old, and zeros behind them
+-- new has the first n bits of old, and zeros after them
 pub record Keeps (n : ℕ) (old new : List ℕ) : Type 0 where
   pub same : take n (bits new) ≡ take n (bits old)
   pub len : length (take n (bits new)) ≡ n

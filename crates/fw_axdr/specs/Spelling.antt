@@ -1,6 +1,6 @@
 -- Public vocabulary: the byte strings that spell a value, whole strings beside whole values (A-XDR, IEC 61334-6, as IEC 62056-5-3
 -- uses it; the tags are those of IEC 62056-6-2, Common data types).
--- Own rules of this profile: a length may have a longer form than it needs, of at most four bytes behind the first; any nonzero
+-- Own rules of this profile: a length may have a longer form than it needs, of at most four bytes after the first; any nonzero
 -- boolean byte is true; unused bits of a bit-string may be anything; elements of an array may differ in type; the depth is at most 8.
 use Rattle.std.specs.Prelude.{◌≡◌, ℕ, ◌+◌, ◌*◌, ◌^◌, ◌<◌, ◌≤◌, ◌⊎◌, ℤ, not, ◌==◌, List, [], ◌∷◌, ◌++◌, length, fold, nat_lt, if◌then◌else◌, take, drop}
 use Rattle.std.specs.Int.{Width, w8, w16, w32, w64, to_be_bytes, cast_signed, cast_unsigned}
@@ -16,7 +16,7 @@ abbrev pub IsLength : List ℕ → ℕ → Type 0
 IsLength [] n = ⊥
 IsLength (b ∷ bytes) n = ((b < 128) × (bytes ≡ []) × (n ≡ b)) ⊎ ((b ≡ 128 + length bytes) × (1 ≤ length bytes) × (length bytes ≤ 4) × (n ≡ number bytes))
 
--- a tag, and so many bytes, which hold the number
+-- a tag, and `size` bytes, which hold the number
 abbrev pub IsNumber : ℕ → ℕ → List ℕ → ℕ → Type 0
 IsNumber tag size s n = (bytes : List ℕ) × (s ≡ tag ∷ bytes) × (length bytes ≡ size) × (n ≡ number bytes)
 
@@ -24,7 +24,7 @@ IsNumber tag size s n = (bytes : List ℕ) × (s ≡ tag ∷ bytes) × (length b
 abbrev pub IsSigned : ℕ → Width → ℕ → List ℕ → ℤ → Type 0
 IsSigned tag w size s z = (n : ℕ) × IsNumber tag size s n × (z ≡ cast_signed w n)
 
--- a tag, a length, and so many bytes
+-- a tag, a length, and as many bytes as it says
 abbrev pub IsString : ℕ → List ℕ → List ℕ → Type 0
 IsString tag s bytes = (len : List ℕ) × (s ≡ tag ∷ len ++ bytes) × IsLength len (length bytes)
 
@@ -48,7 +48,7 @@ abbrev mutual
   Spells s (long64_unsigned n) = IsNumber 21 8 s n
   Spells s (enumerated n) = IsNumber 22 1 s n
 
-  -- the elements' spellings, one behind another
+  -- the elements' spellings, one after another
   pub SpellEach : List ℕ → Values → Type 0
   SpellEach s none = s ≡ []
   SpellEach s (more v vs) = (first rest : List ℕ) × (s ≡ first ++ rest) × Spells first v × SpellEach rest vs
@@ -57,7 +57,7 @@ abbrev mutual
 abbrev pub max_depth : ℕ
 max_depth = 8
 
--- a Data: a spelling of a value that is at most so deep
+-- a Data: a spelling of a value that is at most `levels` deep
 abbrev pub IsData : ℕ → List ℕ → Value → Type 0
 IsData levels s v = Spells s v × (depth v ≤ levels)
 

@@ -40,7 +40,7 @@ impl Model for Bits {
 
     ghost view = { λ b. take b.len (bits b.bytes.items) };
 
-    // There are so many bits, and the unused ones are zero.
+    // The bytes are those of `len` bits, and their unused bits are zero.
     ghost invariant = { λ b. (length (take b.len (bits b.bytes.items)) ≡ b.len)
         × (b.bytes.items ≡ packed (take b.len (bits b.bytes.items))) };
 }
@@ -70,7 +70,7 @@ impl Bits {
         self.bytes.as_slice()
     }
 
-    /// The bit at `index`, counted from 0, if there are so many.
+    /// The bit at `index`, counted from 0. `None` where there are no more than `index` bits.
     pub fn get(&self, index: usize) -> Option<bool>
         ensures { result ≡ slice_get self.now index }
     {
@@ -103,7 +103,7 @@ fn bit_at(bytes: &[u8], index: usize) -> bool
     (bytes[index / 8] >> (7 - index % 8)) % 2 == 1
 }
 
-/// Clears the bits of the last byte that are past so many.
+/// Clears the bits of the last byte that come after the first `len` bits of all.
 fn clear_unused(bytes: &mut [u8], len: usize)
     requires { length bytes.old ≡ bytes_for len }
     ensures { Keeps len bytes.old bytes.new }
@@ -116,7 +116,7 @@ fn clear_unused(bytes: &mut [u8], len: usize)
     bytes[last] = cut;
 }
 
-/// The last byte with zeros past so many bits of all.
+/// The last byte, with zeros after the first `len` bits of all.
 fn cut_byte(bytes: &[u8], len: usize) -> u8
     requires room { length bytes.now ≡ bytes_for len }
     requires some { len % 8 ≢ 0 }
@@ -125,7 +125,7 @@ fn cut_byte(bytes: &[u8], len: usize) -> u8
     first_bits(bytes[bytes.len() - 1], len % 8)
 }
 
-/// The first bits of a byte, and zeros behind them.
+/// The first `used` bits of a byte, and zeros after them.
 fn first_bits(byte: u8, used: usize) -> u8
     requires some { 1 ≤ used }
     requires few { used < 8 }

@@ -18,7 +18,7 @@ pub fn unwritable(value: &Data) -> Option<AxdrError>
     unwritable_data(MAX_DEPTH, value)
 }
 
-/// The same of a Data for which so many levels are left.
+/// The same of a Data for which `levels` levels are left.
 #[cycle(judging)]
 fn unwritable_data(levels: u8, value: &Data) -> Option<AxdrError>
     ensures { result ≡ unwritable (value_of value.now) levels }

@@ -97,7 +97,7 @@ impl<'a> Reader<'a> {
         Ok(u64::from_be_bytes([*a, *b, *c, *d, *e, *f, *g, *h]))
     }
 
-    /// So many bytes, where they are: nothing is copied.
+    /// The next `len` bytes, where they are: nothing is copied.
     #[tactic(auto, unfolding(crate::specs::Inside::bytes_at))]
     pub(crate) fn bytes(&mut self, len: usize) -> Result<&'a [u8], AxdrError>
         ensures gives { Gives (λ x. x.now) result self.new (bytes_at len self.old) }

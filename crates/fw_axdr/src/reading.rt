@@ -26,7 +26,7 @@ fn copied(alloc: Global, bytes: &[u8]) -> Result<Vec<u8>, AllocError>
     Ok(copy)
 }
 
-/// A length, and so many bytes: they are copied once.
+/// A length, and this number of bytes, which are copied once.
 #[tactic(auto, unfolding(crate::specs::Inside::octets_at))]
 fn octets(alloc: Global, reader: &mut Reader<'_>) -> Result<Octets, AxdrError>
     ensures gives { Gives (λ o. o) result reader.new (octets_at reader.old) }
@@ -38,7 +38,7 @@ fn octets(alloc: Global, reader: &mut Reader<'_>) -> Result<Octets, AxdrError>
     Ok(Octets::from_vec(copied(alloc, bytes)?))
 }
 
-/// A length in bits, and the bytes of so many.
+/// A length in bits, and the bytes of this number of bits.
 #[tactic(auto, unfolding(crate::specs::Inside::bits_at))]
 fn bits(alloc: Global, reader: &mut Reader<'_>) -> Result<Bits, AxdrError>
     ensures gives { Gives (λ b. b) result reader.new (bits_at reader.old) }
@@ -50,8 +50,8 @@ fn bits(alloc: Global, reader: &mut Reader<'_>) -> Result<Bits, AxdrError>
     Ok(Bits::from_vec(copied(alloc, bytes)?, len))
 }
 
-/// A count, and so many Data. Room is taken for those that are there, and not for those that the
-/// count claims.
+/// A count, and this number of Data. Room is taken for those that are there, and not for those that
+/// the count claims.
 #[cycle(reading)]
 #[tactic(auto, unfolding(crate::specs::Inside::items_at))]
 fn items(alloc: Global, levels: u8, reader: &mut Reader<'_>) -> Result<Items, AxdrError>
@@ -67,7 +67,7 @@ fn items(alloc: Global, levels: u8, reader: &mut Reader<'_>) -> Result<Items, Ax
     Ok(Items::from_vec(items))
 }
 
-/// What stands behind a tag.
+/// What stands after a tag.
 #[cycle(reading)]
 #[tactic(auto, unfolding(crate::specs::Inside::contents_at))]
 fn contents(alloc: Global, levels: u8, tag: Tag, reader: &mut Reader<'_>) -> Result<Data, AxdrError>
@@ -96,7 +96,7 @@ fn contents(alloc: Global, levels: u8, tag: Tag, reader: &mut Reader<'_>) -> Res
     }
 }
 
-/// A Data for which so many levels are left.
+/// A Data for which `levels` levels are left.
 #[cycle(reading)]
 #[tactic(auto, unfolding(crate::specs::Inside::data_at))]
 fn data(alloc: Global, levels: u8, reader: &mut Reader<'_>) -> Result<Data, AxdrError>
@@ -141,7 +141,7 @@ pub fn read(alloc: Global, bytes: &[u8]) -> Result<(Data, usize), AxdrError>
     ensures none { IfErr result (λ e. IfFault e (NoneBegins max_depth bytes.now)) }
     ensures fault { IfErr result (λ e. IfFault e (Fails max_depth bytes.now e)) }
 
-    // Memory is wanted only for strings and elements that are there.
+    // Memory is taken only for strings and elements that are there.
     ensures memory { IfErr result (λ e. IfMemory e (MayTakeMemory max_depth bytes.now)) }
 {
     let mut reader = Reader::new(bytes);

@@ -34,7 +34,7 @@ fn put_length(out: &mut Vec<u8>, n: u32) -> Result<(), AllocError>
     Ok(())
 }
 
-/// Appends a tag and the bytes behind it.
+/// Appends a tag and the bytes after it.
 fn put_bytes(out: &mut Vec<u8>, tag: Tag, bytes: &[u8]) -> Result<(), AllocError>
     ensures ok { OnOk result (out.new.items ≡ out.old.items ++ code tag ∷ bytes.now) }
     ensures front { Begins out.old.items out.new.items }
@@ -54,7 +54,7 @@ fn put_head(out: &mut Vec<u8>, tag: Tag, len: usize) -> Result<(), AllocError>
     put_length(out, len as u32)
 }
 
-/// Appends a tag, a length and the bytes behind it.
+/// Appends a tag, a length and the bytes after it.
 fn put_counted(out: &mut Vec<u8>, tag: Tag, len: usize, bytes: &[u8]) -> Result<(), AllocError>
     requires { len < 2 ^ 32 }
     ensures ok { OnOk result
@@ -94,8 +94,8 @@ fn put_each(out: &mut Vec<u8>, levels: u8, items: &[Data]) -> Result<(), AllocEr
     Ok(())
 }
 
-/// Appends a Data that can be written where so many levels are left; after an `Err`, maybe a front
-/// of it.
+/// Appends a Data that can be written where `levels` levels are left. After an `Err` a front of it
+/// may be there.
 #[cycle(writing)]
 fn put_data(out: &mut Vec<u8>, levels: u8, value: &Data) -> Result<(), AllocError>
     requires { unwritable (value_of value.now) levels ≡ None }
@@ -133,7 +133,7 @@ fn put_data(out: &mut Vec<u8>, levels: u8, value: &Data) -> Result<(), AllocErro
 /// - `OutOfMemory`: `out` couldn't grow.
 ///
 /// Of the first two the one further left in the order of writing is given, before any memory is
-/// wanted.
+/// taken.
 pub fn write_to(value: &Data, out: &mut Vec<u8>) -> Result<(), AxdrError>
     ensures ok { OnOk result (out.new.items ≡ out.old.items ++ short (value_of value.now)) }
     // What was appended is a Data that spells the value.
@@ -145,7 +145,7 @@ pub fn write_to(value: &Data, out: &mut Vec<u8>) -> Result<(), AxdrError>
     ensures fault { IfErr result (λ e. IfFault e
         (unwritable (value_of value.now) max_depth ≡ Some e)) }
 
-    // Memory is wanted only for a value that can be written.
+    // Memory is taken only for a value that can be written.
     ensures memory { IfErr result (λ e. IfMemory e
         (unwritable (value_of value.now) max_depth ≡ None)) }
 {

@@ -32,7 +32,7 @@ begins_within b size i some below =
     let grows : (i + 1) * b ≤ block_count b size * b = mul-le-mul_right b (omega arith) in
     omega (arith, grows, (div_ceil_times size b some).1)
 
--- a block is the next so many bytes, or what is left
+-- a block is the next `block_size` bytes, or what is left
 pub cut-take : (block_size : ℕ) (bytes : List ℕ) (i : ℕ) → cut block_size bytes i ≡ take block_size (drop (i * block_size) bytes)
 cut-take b bytes i =
     let next : (i + 1) * b ≡ i * b + b = omega arith in
@@ -102,7 +102,7 @@ cut-before b i k bytes before =
     ∙ take-take b more (drop (k * b) bytes) long
     ∙ sym (cut-take b bytes k)
 
--- and one behind it in what comes after it
+-- and a later one in what comes after it
 cut-behind : (block_size i k size : ℕ) (bytes : List ℕ) → i < k
     → take block_size (drop (k * block_size - block_end block_size size i) (drop (block_end block_size size i) bytes)) ≡ cut block_size bytes k
 cut-behind b i k size bytes behind =

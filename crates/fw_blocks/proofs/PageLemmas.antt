@@ -195,7 +195,7 @@ module _ (count : ℕ) (words : List ℕ) (size : length words ≡ page_count) (
       get_or-map-range_with_len (λ page. ones_of (page_of marks page) 64) 0 page_count page page 0 below (omega arith)
       ∙ ones_of-same (page_of marks page) (bit_from_top (get_or words page 0) 64) 64 (page_is page) ∙ sym (each page below))
 
--- so far as the words are those of marks, they are
+-- as far as the words are those of marks, they are
 
 pub record AreWords (count : ℕ) (words counts : List ℕ) : Type 0 where
   pub words_size : length words ≡ page_count

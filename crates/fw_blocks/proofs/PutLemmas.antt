@@ -13,7 +13,7 @@ use Rattle.fw_blocks.specs.Runs.{is_of, is_in_any, AreParted}
 use Rattle.fw_blocks.specs.declared.runs.Run.{Run}
 use Rattle.fw_blocks.proofs.RunLemmas.{Parted, AllEndBelow, parted_from, parted_into, parted_put, parted_behind, parted_front, parted_past, split_front, front_below, is_of_run, few_runs, length-set_of, has-set_of}
 
--- so the set has that number besides
+-- so the set has that number too
 pub set_of-puts : (count n : ℕ) (old new : List Run) → AreParted count old → n < count → Puts n old new
     → set_of count new ≡ set (set_of count old) n true
 set_of-puts count n old new apart below puts =
@@ -118,7 +118,7 @@ put_again count n xs apart there = record {
 
 -- ---- a longer run
 
--- the run r in place of that at a place, and of some behind it
+-- the run r in place of that at a place, and of some after it
 puts_run : (count n : ℕ) (front old : List Run) (r : Run) (rest : List Run) → AreParted count (front ++ old) → AllEndBelow r.start front → r.start < r.end
     → Parted (r.end + 1) (count + 1) rest → ((i : ℕ) → (is_of i r || is_in_any rest i) ≡ (eqb i n || is_in_any old i))
     → PutsBelow count n (front ++ old) (front ++ r ∷ rest)

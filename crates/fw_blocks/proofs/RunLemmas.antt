@@ -12,7 +12,7 @@ use Rattle.fw_blocks.specs.Members.{has, IsFirstMissing}
 use Rattle.fw_blocks.specs.Runs.{is_of, is_in_any, AreParted, AreRuns}
 use Rattle.fw_blocks.specs.declared.runs.Run.{Run}
 
--- the same from the first run on: each starts at a number or behind it, and the next one behind where it ends
+-- the same from the first run on: each starts at a number or above it, and the next one above where it ends
 abbrev pub Parted : ℕ → ℕ → List Run → Type 0
 Parted low top [] = low ≤ top
 Parted low top (r ∷ rs) = (low ≤ r.start) × (r.start < r.end) × Parted (r.end + 1) top rs
@@ -78,7 +78,7 @@ parted_few low top (r ∷ rs) p = omega (arith, p.0, p.1, parted_few (r.end + 1)
 pub few_runs : (count : ℕ) (rs : List Run) → Parted 0 (count + 1) rs → length rs ≤ (count + 1) / 2
 few_runs count rs p = omega (arith, parted_few 0 (count + 1) rs p)
 
--- ---- the runs in front of one, and those behind it
+-- ---- the runs before one, and those after it
 
 abbrev pub AllEndBelow : ℕ → List Run → Type 0
 AllEndBelow n rs = (k : ℕ) (d : Run) → k < length rs → (get_or rs k d).end < n
@@ -137,7 +137,7 @@ or_none : (b : Bool) → (b || false) ≡ b
 or_none true = refl
 or_none false = refl
 
--- a number that the runs in front end below, and that the next one doesn't
+-- a number that the runs before it end below, and the next one doesn't
 pub of_the_next : (i low top : ℕ) (front : List Run) (r : Run) (rest : List Run) → Parted low top (front ++ r ∷ rest) → AllEndBelow i front → i ≤ r.end
     → is_in_any (front ++ r ∷ rest) i ≡ is_of i r
 of_the_next i low top front r rest p below h =

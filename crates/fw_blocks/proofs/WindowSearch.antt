@@ -33,7 +33,7 @@ absent_below-absent : (members : List Bool) (n : ℕ) → has members n ≡ fals
 absent_below-absent members n absent =
     absent_below-more members n ∙ ap (λ (b : Bool). absent_below members n ++ cond (not b) (n ∷ []) []) absent
 
--- past numbers of which all are members they are the same, and past absent ones those besides
+-- past numbers that are all members they are the same, and past absent ones they have these too
 
 absent_below-run : (members : List Bool) (n more : ℕ) → ((i : ℕ) → n ≤ i → i < n + more → has members i ≡ true)
     → absent_below members (n + more) ≡ absent_below members n
@@ -55,7 +55,7 @@ absent_below-gap members n (suc more) none =
     ∙ append_assoc (absent_below members n) (range_with_len n more) ((n + more) ∷ [])
     ∙ ap (λ (xs : List ℕ). absent_below members n ++ xs) (sym (range_more n more))
 
--- behind the absent numbers below a number stand those above it
+-- after the absent numbers below a number stand those above it
 absent_below-add : (members : List Bool) (n more : ℕ) → (rest : List ℕ) × (absent_below members (n + more) ≡ absent_below members n ++ rest)
 absent_below-add members n zero =
     let none : n + zero ≡ n = omega arith in
@@ -163,7 +163,7 @@ module _ {numbers : List ℕ} {listed width from to number : ℕ} {places : List
       ∙ ap (λ (k : ℕ). range_with_len from (number - from) ++ range_with_len k (to - number)) here)) in
       subst (λ (xs : List ℕ). Lists xs width places len) all (lists_full (f.lists before l) full (range_with_len number (to - number)))
 
--- ---- run by run: the numbers up to one are listed, and the runs from there on tell the rest
+-- ---- run by run: the numbers up to one are listed, and the runs from there on have the rest
 
 pub record AtRun (members : List Bool) (width : ℕ) (rest : List Run) (from : ℕ) (places : List ℕ) (len : ℕ) : Type 0 where
   pub few : len ≤ width

@@ -12,7 +12,7 @@ pub record Partition : Type 0 where
 abbrev pub block_start : ℕ → ℕ → ℕ
 block_start block_size i = i * block_size
 
--- where block i of so many bytes ends: where the next one begins, or with the last byte
+-- where block i of `size` bytes ends: where the next one begins, or with the last byte
 abbrev pub block_end : ℕ → ℕ → ℕ → ℕ
 block_end block_size size i = min ((i + 1) * block_size) size
 
@@ -20,7 +20,7 @@ block_end block_size size i = min ((i + 1) * block_size) size
 abbrev pub cut : ℕ → List ℕ → ℕ → List ℕ
 cut block_size bytes i = slice_range bytes (block_start block_size i) (block_end block_size (length bytes) i)
 
--- how many blocks of so many bytes have a byte: the size over the block size, rounded up. That the cuts below it are those that
+-- how many blocks of `size` bytes have a byte: the size over the block size, rounded up. That the cuts below it are those that
 -- are not empty is the law `NonemptyBelowCount`.
 abbrev pub block_count : ℕ → ℕ → ℕ
 block_count block_size size = div_ceil size block_size

@@ -12,13 +12,13 @@ use Rattle.fw_blocks.specs.declared.runs.Run.{Run}
 abbrev pub set_of : ℕ → List Run → List Bool
 set_of count runs = map (is_in_any runs) (range_with_len 0 count)
 
--- a set: its count is a `u32`, and there is room for as many runs as lie apart below the count
+-- a set: its count is a `u32`, and there is room for as many runs as can lie apart below the count
 pub record IsKept (count : ℕ) (runs : List Run) (capacity : ℕ) : Type 0 where
   pub few : count < 2 ^ 32
   pub apart : AreParted count runs
   pub room : (count + 1) / 2 ≤ capacity
 
--- a number is put into runs: they have it besides, and those that lay apart below a count still do
+-- a number is put into runs: they have it too, and those that lay apart below a count still do
 pub record Puts (number : ℕ) (old new : List Run) : Type 0 where
   pub numbers : (i : ℕ) → is_in_any new i ≡ ((i == number) || is_in_any old i)
   pub apart : (count : ℕ) → number < count → AreParted count old → AreParted count new
@@ -39,12 +39,12 @@ is_marked words i = bit_at (slice_index words (i / page_size)) (63 - i % page_si
 abbrev pub marks_of : ℕ → List ℕ → List Bool
 marks_of count words = map (is_marked words) (range_with_len 0 count)
 
--- the number whose first so many bits are these, the first one on top
+-- the number whose bits are the first n of these, the first one on top
 unfoldable pub word_of : (ℕ → Bool) → ℕ → ℕ
 word_of bit zero = 0
 word_of bit (suc n) = 2 * word_of bit n + (if bit n then 1 else 0)
 
--- how many of the first so many are set
+-- how many of the first n are set
 unfoldable pub ones_of : (ℕ → Bool) → ℕ → ℕ
 ones_of bit zero = 0
 ones_of bit (suc n) = ones_of bit n + (if bit n then 1 else 0)
@@ -67,7 +67,7 @@ pub record HoldsPages (words counts : List ℕ) (count : ℕ) : Type 0 where
   pub words_again : words_of (marks_of count words) ≡ words
   pub counts_again : counts_of (marks_of count words) ≡ counts
 
--- a window: the numbers come first, and the places behind them are 0
+-- a window: the numbers come first, and the places after them are 0
 pub record HoldsFew (numbers : List ℕ) (len : ℕ) : Type 0 where
   pub few : length (take len numbers) ≡ len
   pub rest : numbers ≡ take len numbers ++ replicate (max_width - len) 0

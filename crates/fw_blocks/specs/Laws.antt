@@ -20,12 +20,12 @@ abbrev pub CutsJoin : Type 0
 CutsJoin = (block_size : ℕ) (bytes : List ℕ) → 1 ≤ block_size
     → flat_map (cut block_size bytes) (range_with_len 0 (block_count block_size (length bytes))) ≡ bytes
 
--- the bytes in front of a block, and then the block, are the bytes in front of the next one
+-- the bytes before a block, and then the block, are the bytes before the next one
 abbrev pub NextJoins : Type 0
 NextJoins = (block_size i : ℕ) (bytes : List ℕ)
     → take (block_start block_size i) bytes ++ cut block_size bytes i ≡ take (block_start block_size (i + 1)) bytes
 
--- each block but the last has exactly the block size
+-- each block except the last has exactly the block size
 abbrev pub WholeButTheLast : Type 0
 WholeButTheLast = (block_size i : ℕ) (bytes : List ℕ) → i + 1 < block_count block_size (length bytes)
     → length (cut block_size bytes i) ≡ block_size
@@ -40,7 +40,7 @@ abbrev pub CutOfFront : Type 0
 CutOfFront = (block_size i size : ℕ) (bytes : List ℕ) → size ≤ length bytes
     → cut block_size (take size bytes) i ≡ slice_range bytes (block_start block_size i) (block_end block_size size i)
 
--- where two byte strings are the same before block i of the one and behind it, every other block is the same
+-- where two byte strings are the same before block i of the one and after it, every other block is the same
 abbrev pub OtherBlocksStay : Type 0
 OtherBlocksStay = (block_size i k : ℕ) (old new : List ℕ)
     → take (block_start block_size i) new ≡ take (block_start block_size i) old

@@ -1,5 +1,5 @@
 -- Public vocabulary: sets of block numbers below a count. A set is the list of its members' bits (IEC 62056-6-2, Image transfer:
--- image_transferred_blocks_status): bit i tells whether number i is in it, and the length of the list is the count.
+-- image_transferred_blocks_status): bit i says whether number i is in it, and the length of the list is the count.
 use Rattle.std.specs.Prelude.{◌≡◌, ℕ, ◌-◌, ◌<◌, ◌≤◌, ◌++◌, Bool, true, false, not, List, length, take, filter, replicate, slice_index_or}
 use Rattle.std.specs.List.{position_or_len, range_with_len}
 use Rattle.fw_blocks.specs.Cuts.{max_blocks}
@@ -35,7 +35,7 @@ absent_numbers set = filter (λ i. not (has set i)) (range_with_len 0 (length se
 abbrev pub window : List Bool → ℕ → List ℕ
 window set width = take width (absent_numbers set)
 
--- marks, and no others up to the most that there can be
+-- these marks, and no others up to the most that there can be
 abbrev pub all_marks : List Bool → List Bool
 all_marks marked = marked ++ replicate (max_blocks - length marked) false
 

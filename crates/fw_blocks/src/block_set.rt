@@ -43,8 +43,8 @@ use std::marker::Model;
 /// A set of block numbers below a count, such as the blocks of an image that a meter has
 /// (IEC 62056-6-2, Image transfer: image_transferred_blocks_status).
 ///
-/// It is kept as runs of numbers, so it costs what its runs cost, however many numbers they have. To mark a
-/// number, to look one up and to find the least that is missing take no memory: the room for all runs that there
+/// It is kept as runs of numbers, so it costs what its runs cost, however many numbers they have. Marking a
+/// number, looking one up and finding the least that is missing take no memory: the room for all runs that there
 /// can be is taken before.
 #[derive(Debug, Drop)]
 pub struct BlockSet {
@@ -69,7 +69,7 @@ impl Model for BlockSet {
 }
 
 impl BlockSet {
-    /// The set with no number, below this count. Its one error is want of memory.
+    /// The set with no number, below this count. Its one error is out of memory.
     pub fn empty(alloc: Global, count: u32) -> Result<BlockSet, AllocError>
         ensures { IfOk result (λ set. set ≡ replicate count false) }
     {
@@ -120,9 +120,9 @@ impl BlockSet {
         self.runs.as_slice()
     }
 
-    /// The set as a bit-string, as a meter shows it (IEC 62056-6-2, image_transferred_blocks_status): bit
-    /// i tells whether number i is in it, and there are as many bits as blocks. Its one error is want of
-    /// memory, and only where there is a block.
+    /// The set as a bit-string, as a meter shows it (IEC 62056-6-2, image_transferred_blocks_status): bit i is 1
+    /// where number i is in it, and there are as many bits as blocks. Its one error is out of memory, and only
+    /// where there is a block.
     pub fn to_bits(&self, alloc: Global) -> Result<Bits, AllocError>
         ensures bits { IfOk result (λ bits. bits ≡ self.now) }
         ensures memory { OnErr result (1 ≤ length self.now) }
@@ -132,8 +132,8 @@ impl BlockSet {
         Ok(Bits::from_vec(packed_bytes(alloc, self)?, count))
     }
 
-    /// The set that a bit-string shows, and `None` where it has not as many bits as there are blocks.
-    /// Its one error is want of memory, and only for as many bits as blocks, and at least one.
+    /// The set that a bit-string shows, and `None` where it has not as many bits as there are blocks. Its one
+    /// error is out of memory, and only for as many bits as blocks, and at least one.
     pub fn from_bits(alloc: Global, bits: &Bits, count: u32) -> Result<Option<BlockSet>, AllocError>
         ensures answer { IfOk result (λ answer. SomeIff answer (length bits.now ≡ count) bits.now) }
         ensures memory { OnErr result ((length bits.now ≡ count) × (1 ≤ count)) }
@@ -183,7 +183,8 @@ fn put(runs: &mut Vec<Run>, number: u32)
     }
 }
 
-/// Puts a number behind the run at a place, which then is one with the next run if that starts behind the number.
+/// Adds the number that comes right after the run at a place. That run becomes one with the next run, if this one
+/// starts right after the number.
 fn put_behind(runs: &mut Vec<Run>, at: usize, run: Run, number: u32)
     requires apart { (count : ℕ) × (number < count) × (count < 2 ^ 32) × AreParted count runs.old.items }
     requires there { slice_get runs.old.items at ≡ Some run }
@@ -263,7 +264,7 @@ fn put_alone(runs: &mut Vec<Run>, at: usize, number: u32)
     let _ = runs.insert(at, alone);
 }
 
-/// The bytes that hold a set's bits, as few as serve, with zeros in the unused bits.
+/// The bytes that hold a set's bits, no more than are needed, with zeros in the unused bits.
 fn packed_bytes(alloc: Global, set: &BlockSet) -> Result<Vec<u8>, AllocError>
     ensures bytes { IfOk result (λ bytes. bytes.items ≡ packed set.now) }
     ensures memory { OnErr result (1 ≤ length set.now) }
@@ -276,7 +277,7 @@ fn packed_bytes(alloc: Global, set: &BlockSet) -> Result<Vec<u8>, AllocError>
     Ok(bytes)
 }
 
-/// The byte of the eight numbers from one on, the first one on top, with zeros where there are fewer.
+/// The byte of the eight numbers from `from` on: the first one at the top bit, and zeros where there are fewer.
 fn byte_at(set: &BlockSet, from: u32) -> u8
     requires { from + 7 < 2 ^ 32 }
     ensures { result ≡ byte_of (drop from set.now) }
@@ -291,7 +292,7 @@ fn byte_at(set: &BlockSet, from: u32) -> u8
         + worth_of(set, from + 7, 1)
 }
 
-/// What a number adds to its byte: so much if it is in the set.
+/// What a number adds to its byte: `worth` where it is in the set, and otherwise 0.
 fn worth_of(set: &BlockSet, number: u32, worth: u8) -> u8
     ensures value { result ≡ (if has set.now number then worth else 0) }
     ensures most { result ≤ worth }

@@ -47,7 +47,7 @@ impl Geometry {
         Some(Geometry { block_size, size })
     }
 
-    /// The bytes of each block but the last, which may have fewer: 1 to 1,024.
+    /// The bytes of each block except the last, which may have fewer: 1 to 1,024.
     pub fn block_size(self) -> u32
         ensures value { result ≡ self.block_size }
         ensures limits { IsWithinLimits self.block_size self.size }

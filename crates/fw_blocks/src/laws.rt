@@ -31,12 +31,12 @@ pub fn cuts_join()
     ensures { CutsJoin }
 {}
 
-/// The bytes in front of a block, and then the block, are the bytes in front of the next one.
+/// The bytes before a block, and then the block, are the bytes before the next one.
 pub fn next_joins()
     ensures { NextJoins }
 {}
 
-/// Each block but the last has exactly the block size.
+/// Each block except the last has exactly the block size.
 pub fn whole_but_the_last()
     ensures { WholeButTheLast }
 {}

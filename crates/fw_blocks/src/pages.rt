@@ -1,4 +1,4 @@
-//! Sets of block numbers as pages of marks: so many words, and no memory beside them.
+//! Sets of block numbers as pages of marks: a fixed number of words, and no memory beside them.
 
 ghost use Rattle.std.specs.Prelude.{
   ◌≡◌,
@@ -46,9 +46,8 @@ const PAGE_SIZE: u8 = 64;
 /// The bytes of all pages: eight marks each.
 pub const MARKS_SIZE: usize = 2048;
 
-/// The blocks that are there, of at most so many as an image has: a set of numbers below a count (own form of what
-/// IEC 62056-6-2 calls image_transferred_blocks_status). It has room for all of them in itself, and takes no
-/// memory.
+/// The blocks that are there, of at most the 16,384 that an image can have: a set of numbers below a count (own form of what
+/// IEC 62056-6-2 calls image_transferred_blocks_status). It has room for all of them in itself, and takes no memory.
 ///
 /// A page has 64 marks and knows how many of them are set. So to mark a number and to look one up take the same time
 /// at every number, and a page whose marks are all set is passed at once where the least one missing is looked for.
@@ -79,7 +78,7 @@ impl Model for Pages {
 }
 
 impl Pages {
-    /// No number is marked, of `count`. `None` above 16,384.
+    /// Pages of `count` numbers, of which none is marked. `None` above 16,384.
     pub fn new(count: u32) -> Option<Pages>
         ensures { SomeIff result (count ≤ max_blocks) (replicate count false) }
     {
@@ -89,14 +88,14 @@ impl Pages {
         Some(Pages::unmarked(count))
     }
 
-    /// No number is marked, of as many as an image can have.
+    /// Pages of the 16,384 numbers that an image can have, of which none is marked.
     pub fn none() -> Pages
         ensures { result ≡ replicate max_blocks false }
     {
         Pages::unmarked(MAX_BLOCKS)
     }
 
-    /// No number is marked, of `count`.
+    /// Pages of `count` numbers, of which none is marked.
     fn unmarked(count: u32) -> Pages
         requires { count ≤ max_blocks }
         ensures { result ≡ replicate count false }
@@ -151,7 +150,7 @@ impl Pages {
     }
 
     /// The set with another count, which takes no memory: numbers that are marked and below it stay so, and no others are
-    /// marked. A lower count takes a look at each number below it, any other count none.
+    /// marked. With a lower count each number below it is looked at, with any other count none.
     pub fn resized(self, count: u32) -> Pages
         requires { count ≤ max_blocks }
         ensures { result ≡ resized_marks count self }
@@ -189,7 +188,7 @@ impl Pages {
     }
 
     /// The marks of the numbers below a count as a bit-string, as a meter shows them (IEC 62056-6-2,
-    /// image_transferred_blocks_status). Its one error is want of memory.
+    /// image_transferred_blocks_status). Its one error is out of memory.
     pub fn to_bits(&self, alloc: Global, count: u32) -> Result<Bits, AllocError>
         ensures { IfOk result (λ bits. bits ≡ take count self.now) }
     {
@@ -229,7 +228,7 @@ impl Pages {
         put_words(out, &self.words[first..end]);
     }
 
-    /// The pages that have these bytes, of all numbers that an image can have. All bytes are some pages'.
+    /// The pages that have these bytes, of all numbers that an image can have. Any bytes are those of some pages.
     pub fn from_bytes(bytes: &[u8; MARKS_SIZE]) -> Pages
         ensures value { result ≡ bits bytes.now }
         ensures packs { packed result ≡ bytes.now }
@@ -255,7 +254,7 @@ impl Pages {
     }
 }
 
-/// Whether a number is marked, of as many as the pages have.
+/// Whether a number is marked, of all that the pages have.
 fn has_bit(words: &[u64; PAGES], number: u32) -> bool
     ensures { result ≡ is_marked words.now number }
 {
@@ -270,7 +269,7 @@ fn with_bit(words: &[u64; PAGES], number: u32) -> u64
     words[number as usize / 64] | 1 << (63 - number % 64)
 }
 
-/// How many pages have all marks set before one hasn't.
+/// How many pages stand before the first one that lacks a mark.
 fn full_pages(counts: &[u8; PAGES]) -> u32
     ensures few { result ≤ PAGES }
     ensures full { (page : ℕ) → page < result → page_size ≤ slice_index counts.now page }
@@ -283,7 +282,7 @@ fn full_pages(counts: &[u8; PAGES]) -> u32
     PAGES as u32
 }
 
-/// The least number that isn't marked, looked for from one on in front of which all are.
+/// The least number that isn't marked. It is looked for from `from` on: all numbers before are marked.
 fn first_unmarked(words: &[u64; PAGES], from: u32) -> u32
     requires { (i : ℕ) → i < from → is_marked words.now i ≡ true }
     ensures before { (i : ℕ) → i < result → is_marked words.now i ≡ true }

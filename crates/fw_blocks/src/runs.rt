@@ -5,6 +5,6 @@
 pub struct Run {
     /// The first of the numbers.
     pub start: u32,
-    /// The number behind the last of them.
+    /// The number after the last of them.
     pub end: u32,
 }

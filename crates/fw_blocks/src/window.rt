@@ -88,7 +88,7 @@ impl Window {
         ensures absent { All (IsAbsent set.now) result }
         ensures few { length result ≤ width }
 
-        // Where an absent number stands outside, the window is full, and all its numbers are below.
+        // Where an absent number isn't in the window, the window is full, and all its numbers are below that one.
         ensures lowest { (number : ℕ) → IsAbsent set.now number → ¬ Contains result number →
             (length result ≡ width) × All (λ lower. lower < number) result }
     {
@@ -104,7 +104,7 @@ impl Window {
     }
 }
 
-/// The lowest absent numbers, as many as the width: those in front of a run, and then those behind it, run by run.
+/// The lowest absent numbers, as many as the width: those before a run, and then those after it, run by run.
 fn lowest_absent(set: &BlockSet, width: usize) -> Window
     requires { width ≤ PLACES }
     ensures { result ≡ window set.now width }
@@ -123,7 +123,7 @@ fn lowest_absent(set: &BlockSet, width: usize) -> Window
     Window { numbers, len }
 }
 
-/// Lists the numbers from one on and below another behind those that are listed, until there are as many as the width.
+/// Appends the numbers from `from` on and below `to` to those that are listed, until there are as many as the width.
 fn list(numbers: &mut [u32; PLACES], listed: usize, width: usize, from: u32, to: u32) -> usize
     requires few { listed ≤ width }
     requires fits { width ≤ PLACES }

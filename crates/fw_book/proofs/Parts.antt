@@ -66,7 +66,7 @@ pub entry_no_numbers : (v : Version) (bytes : List ℕ) → NoNumbers v bytes �
 entry_no_numbers v bytes none = λ entry rest is spelled.
     none entry.0 entry.1.release (image_bytes entry.1.image ++ (counted_bytes entry.1.rows ++ rest)) (spelled ∙ entry_parts v entry rest)
 
--- behind the numbers nothing of a campaign stands
+-- after the numbers nothing of a campaign stands
 pub entry_bad : (v : Version) (bytes rest : List ℕ) (serial release : ℕ) → bytes ≡ numbers_bytes v serial release ++ rest → AreNumbers v serial release → ((entry : ℕ × Offered) (more : List ℕ) → IsEntry entry → serial ≡ entry.0 → rest ≡ image_bytes entry.1.image ++ (counted_bytes entry.1.rows ++ more) → ⊥) → NoEntry v bytes
 entry_bad v bytes rest serial release e are none = λ entry more is spelled.
     let parts = numbers_unique v serial entry.0 release entry.1.release rest (image_bytes entry.1.image ++ (counted_bytes entry.1.rows ++ more)) are (numbers_of v entry is) (sym e ∙ spelled ∙ entry_parts v entry more) in
@@ -78,7 +78,7 @@ image_is entry is = record { begins = is.image_begins; ends = is.image_ends }
 pub rows_are : (entry : ℕ × Offered) → IsEntry entry → IsRows entry.1.rows
 rows_are entry is = record { begins = is.meters_begin; ends = is.meters_end; fit = is.meters_fit; once = is.meters_once }
 
--- behind the image no rows stand
+-- after the image no rows stand
 pub entry_no_rows : (v : Version) (bytes mid rest image : List ℕ) (serial release : ℕ) → bytes ≡ numbers_bytes v serial release ++ mid → AreNumbers v serial release → mid ≡ image_bytes image ++ rest → IsImage image → NoCounted rest → NoEntry v bytes
 entry_no_rows v bytes mid rest image serial release e are h is none =
     entry_bad v bytes mid serial release e are (λ entry more entry_is same spelled.
@@ -147,7 +147,7 @@ next_admitted book serial offer after whole = record {
   meters_free = clashes_apart book.campaigns offer.rows (λ meter. busy_apart book.campaigns (serial, offer) after meter whole.apart);
 }
 
--- no book goes on so behind the campaigns of this one
+-- no book goes on so after the campaigns of this one
 abbrev pub NoMore : Version → Contents → List ℕ → Type 0
 NoMore v book bytes = (entry : ℕ × Offered) (after : List (ℕ × Offered)) → IsBook (record { head = book.head; campaigns = book.campaigns ++ entry ∷ after }) → IsEntryIn v entry → bytes ≡ entry_bytes v entry ++ entries_bytes v after → ⊥
 
@@ -211,7 +211,7 @@ headless bytes none book read =
     let spells = in_version bytes book read in
     none spells.0 book.head (entries_bytes spells.0 book.campaigns) spells.1.is_book.head_begins spells.1.is_book.head_fits spells.1.spelled
 
--- nor where no campaigns of the head end stand behind them
+-- nor where no campaigns of the head end stand after them
 pub other_campaigns : (v : Version) (bytes entries : List ℕ) (head : ℕ) → bytes ≡ head_bytes v head ++ entries → head < 2 ^ 32 → NoCampaigns v head entries → (book : Contents) → IsReadAs bytes book → ⊥
 other_campaigns v bytes entries head e fits none book read =
     let spelled = in_version bytes book read in

@@ -67,7 +67,7 @@ rows_unique (a ∷ xs) (b ∷ ys) s t n ha hb e =
     let rest = rows_unique xs ys s t (omega (arith, n)) ha.1 hb.1 first.1 in
     (ap (λ r. r ∷ xs) first.0 ∙ ap (λ rs. b ∷ rs) rest.0, rest.1)
 
--- where more rows stand than these, a row stands behind these
+-- where more rows stand than these, a row stands after these
 pub rows_next : (rows target : List Row) (s t : List ℕ) → length rows < length target → MetersFit rows → MetersFit target → rows_bytes rows ++ s ≡ rows_bytes target ++ t → (row : Row) × (rest : List ℕ) × (row.meter < 2 ^ 32) × (s ≡ row_bytes row ++ rest)
 rows_next rows [] s t n ha hb e = absurd (omega (arith, n))
 rows_next [] (b ∷ ys) s t n ha hb e = (b, rows_bytes ys ++ t, hb.0, e ∙ append_assoc (row_bytes b) (rows_bytes ys) t)
@@ -112,7 +112,7 @@ numbers_some Second serial release =
 pub numbers_of : (v : Version) (entry : ℕ × Offered) → IsEntryIn v entry → AreNumbers v entry.0 entry.1.release
 numbers_of v entry is = record { serial_fits = is.is_entry.serial_fits; release_fits = is.is_entry.release_fits; tells = is.tells }
 
--- the parts of a campaign's bytes, one behind the other
+-- the parts of a campaign's bytes, one after the other
 pub entry_parts : (v : Version) (entry : ℕ × Offered) (s : List ℕ) → entry_bytes v entry ++ s ≡ numbers_bytes v entry.0 entry.1.release ++ (image_bytes entry.1.image ++ (counted_bytes entry.1.rows ++ s))
 entry_parts v entry s =
     append_assoc (numbers_bytes v entry.0 entry.1.release) (image_bytes entry.1.image ++ counted_bytes entry.1.rows) s
@@ -152,7 +152,7 @@ pub head_unique : (v : Version) (a b : ℕ) (s t : List ℕ) → a < 2 ^ 32 → 
 head_unique First a b s t ha hb e = four_unique a b s t ha hb (ap (λ (l : List ℕ). drop 4 l) e)
 head_unique Second a b s t ha hb e = four_unique a b s t ha hb (ap (λ (l : List ℕ). drop 4 l) e)
 
--- the form tells the version
+-- the form says the version
 pub same_version : (v w : Version) (a b : ℕ) (s t : List ℕ) → head_bytes v a ++ s ≡ head_bytes w b ++ t → v ≡ w
 same_version First First a b s t e = refl
 same_version First Second a b s t e = absurd (omega (arith, ap (λ (l : List ℕ). get_or l 3 0) e))

@@ -56,7 +56,7 @@ own_state meter state (row ∷ rows) =
     ∙ ap (λ (o : Option RowState). option_map (λ was. state) o) (sym (skipped row rows meter other)))
     (cases_Bool (row.meter == meter))
 
--- the row, changed or not, stands in front as before
+-- the row, changed or not, stands first as before
 same_first : (row new : Row) (rows rest : List Row) (m : ℕ) → new.meter ≡ row.meter → new.state ≡ row.state → state_of rest m ≡ state_of rows m → state_of (new ∷ rest) m ≡ state_of (row ∷ rows) m
 same_first row new rows rest m meters states later =
     ⊎_elim

@@ -18,7 +18,7 @@ use Rattle.fw_book.specs.Format.{IsReadAs}
 abbrev pub empty_book : ℕ → Contents
 empty_book head = record { head = head; campaigns = [] }
 
--- the book with one campaign more, behind the others
+-- the book with one campaign more, after the others
 abbrev pub added : Contents → ℕ → Offered → Contents
 added book serial offer = record { head = book.head; campaigns = book.campaigns ++ (serial, offer) ∷ [] }
 
@@ -43,7 +43,7 @@ marked book serial meter state =
 abbrev pub cancelled : Contents → ℕ → Contents
 cancelled book serial = record { head = book.head; campaigns = at_serial serial cancelled_rows book.campaigns }
 
--- the refusals of an opening, each behind its test, in the order in which they count
+-- the refusals of an opening, each with its test, in the order in which they count
 abbrev pub opening_rows : Contents → Campaign → List ℕ → List ℕ → List (Bool × BookError)
 opening_rows book campaign image meters =
     (not (campaign.head == book.head), ForeignHead)
@@ -101,7 +101,7 @@ DoneRefused book campaign claim NotLive =
     × (name_in book campaign ≡ Some claim.name)
 DoneRefused book campaign claim _ = ⊥
 
--- the first refusal that applies, or want of memory where none does
+-- the first refusal that applies, or OutOfMemory where none does
 abbrev pub IsRefusal : Option BookError → BookError → Type 0
 IsRefusal (Some refusal) error = error ≡ refusal
 IsRefusal None error = error ≡ OutOfMemory

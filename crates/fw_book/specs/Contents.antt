@@ -53,8 +53,8 @@ has_serial book serial = is_some (lookup (nat_eq serial) book.campaigns)
 abbrev pub is_busy : List (ℕ × Offered) → ℕ → Bool
 is_busy campaigns meter = list_any (λ (offer : Offered). is_live_in offer.rows meter) (values_of campaigns)
 
--- a campaign that a book can have: its serial number begins at 1, its release has four bytes, its image has 1 to 16,777,216 bytes, and
--- it has 1 to 256 meters, each once
+-- A campaign that a book can have. Its serial number begins at 1, and its release has four bytes. Its image has 1 to 16,777,216 bytes. It
+-- has 1 to 256 meters, each once.
 pub record IsEntry (entry : ℕ × Offered) : Type 0 where
   pub serial_begins : 1 ≤ entry.0
   pub serial_fits : entry.0 < 2 ^ 32

@@ -25,11 +25,11 @@ row_bytes row = to_be_bytes w32 row.meter ++ state_number row.state ∷ []
 abbrev pub rows_bytes : List Row → List ℕ
 rows_bytes rows = flat_map (λ (row : Row). row_bytes row) rows
 
--- the rows behind their number
+-- the rows after the number of them
 abbrev pub counted_bytes : List Row → List ℕ
 counted_bytes rows = to_be_bytes w16 (length rows) ++ rows_bytes rows
 
--- the image behind its size
+-- the image after its size
 abbrev pub image_bytes : List ℕ → List ℕ
 image_bytes image = to_be_bytes w32 (length image) ++ image
 

@@ -35,12 +35,12 @@ meters_refusal book meters = first_applying (
 
 -- ---- reading
 
--- a release that a version can tell: version 1 has none
+-- a release that a version can spell: version 1 has none
 abbrev pub Tells : Version → ℕ → Type 0
 Tells First release = release ≡ 0
 Tells Second release = Unit {0}
 
--- the serial number and the release of a campaign have four bytes each, and the version can tell the release
+-- the serial number and the release of a campaign have four bytes each, and the version can spell the release
 pub record AreNumbers (version : Version) (serial release : ℕ) : Type 0 where
   pub serial_fits : serial < 2 ^ 32
   pub release_fits : release < 2 ^ 32
@@ -55,7 +55,7 @@ pub record IsEntryIn (version : Version) (entry : ℕ × Offered) : Type 0 where
   pub is_entry : IsEntry entry
   pub tells : Tells version entry.1.release
 
--- a version can tell the releases of these campaigns
+-- a version can spell the releases of these campaigns
 abbrev pub TellsAll : Version → List (ℕ × Offered) → Type 0
 TellsAll version entries = AllByRecursion (λ (entry : ℕ × Offered). Tells version entry.1.release) entries
 
@@ -75,11 +75,11 @@ pub record IsRows (rows : List Row) : Type 0 where
   pub fit : MetersFit rows
   pub once : repeats (meters_of rows) ≡ false
 
--- no so many rows stand there
+-- the bytes don't begin with `count` rows
 abbrev pub NoRows : ℕ → List ℕ → Type 0
 NoRows count bytes = (rows : List Row) (rest : List ℕ) → length rows ≡ count → MetersFit rows → ¬ (bytes ≡ rows_bytes rows ++ rest)
 
--- no rows behind their number stand there
+-- the bytes don't begin with the number of some rows and these rows
 abbrev pub NoCounted : List ℕ → Type 0
 NoCounted bytes = (rows : List Row) (rest : List ℕ) → IsRows rows → ¬ (bytes ≡ counted_bytes rows ++ rest)
 
@@ -95,12 +95,12 @@ state_of_number (suc (suc zero)) = Some Failed
 state_of_number (suc (suc (suc zero))) = Some Cancelled
 state_of_number (suc (suc (suc (suc n)))) = None
 
--- a row in front of the others, if it has a state
+-- a row before the others, if it has a state
 abbrev pub row_before : ℕ → Option RowState → List Row → List Row
 row_before meter (Some state) rows = record { meter = meter; state = state } ∷ rows
 row_before meter None rows = []
 
--- the rows that stand there one behind the other
+-- the rows that stand there one after the other
 abbrev pub rows_in : List ℕ → List Row
 rows_in (a ∷ b ∷ c ∷ d ∷ state ∷ rest) = row_before (from_be_bytes w32 (a ∷ b ∷ c ∷ d ∷ [])) (state_of_number state) (rows_in rest)
 rows_in _ = []
@@ -109,7 +109,7 @@ rows_in _ = []
 abbrev pub entry_in : ℕ → ℕ → List ℕ → List ℕ → ℕ × Offered
 entry_in serial release image rows = (serial, record { release = release; image = image; rows = rows_in rows })
 
--- rows behind their number, of which none was looked at
+-- rows after the number of them; none of these rows was looked at
 pub record SkimsRows (bytes rows rest : List ℕ) : Type 0 where
   pub count : ℕ
   pub fits : count < 2 ^ 16

@@ -63,7 +63,7 @@ pub record StatesFollow (book : Contents) (campaign : Campaign) : Type 0 where
   pub at_mark : (meter : ℕ) (state : RowState) → StatesGoOn book (marked book campaign.serial meter state) campaign (marked_state book campaign meter state)
   pub at_cancelling : StatesGoOn book (cancelled book campaign.serial) campaign (cancelled_state book campaign)
 
--- no state changes but by these calls
+-- no state changes except by these calls
 abbrev pub StatesFollowCalls : Type 0
 StatesFollowCalls = (book : Contents) (campaign : Campaign) → campaign.head ≡ book.head → StatesFollow book campaign
 

@@ -20,7 +20,7 @@ use indexmap::map::Iter;
 use std::alloc::Global;
 use std::marker::Model;
 
-/// The campaigns of a book in opening order, each behind its serial number.
+/// The campaigns of a book in opening order, each with its serial number.
 pub type Campaigns<'a> = Iter<'a, u32, Offer>;
 
 /// The campaigns of a head end in opening order, each with its image and its rows. An image is never changed or removed.
@@ -98,7 +98,8 @@ impl Book {
         Some(offer.name(campaign))
     }
 
-    /// The state of a meter in a campaign, and `None` where the book doesn't have the campaign or the campaign the meter.
+    /// The state of a meter in a campaign, and `None` where the book doesn't have the campaign, or the campaign doesn't have the
+    /// meter.
     pub fn state(&self, campaign: CampaignId, meter: MeterId) -> Option<RowState>
         ensures { result ≡ state_in self.now campaign meter }
     {
@@ -126,7 +127,7 @@ impl Book {
         meters.iter().any(|meter| self.is_busy(*meter))
     }
 
-    /// Opens a campaign: it offers the image to the meters under the name that is answered, which has this release, and each of its
+    /// Opens a campaign: it offers the image to the meters under the name that is returned, which has this release, and each of its
     /// rows is live. The rows of all campaigns are looked through once for each meter.
     ///
     /// # Errors
@@ -158,7 +159,7 @@ impl Book {
     ///
     /// # Errors
     ///
-    /// Those of `open_campaign` but `OutOfMemory`, the first that applies.
+    /// Those of `open_campaign` except `OutOfMemory`, the first that applies.
     pub fn check_opening(
         &self,
         campaign: CampaignId,
@@ -204,7 +205,7 @@ impl Book {
         Ok(())
     }
 
-    /// Adds a campaign behind the others.
+    /// Adds a campaign after the others.
     fn add(&mut self, serial: u32, offer: Offer) -> Result<(), BookError>
         requires { Admits self.old serial offer }
         ensures ok { OnOk result (self.new ≡ added self.old serial offer) }

@@ -12,7 +12,7 @@ use crate::row::{Row, RowState};
 use fw_names::MeterId;
 use std::alloc::Global;
 
-/// Whether a meter stands twice. The cost is that of the square of the number of meters.
+/// Whether a meter stands twice. The cost grows with the square of the number of meters.
 pub(crate) fn repeats(meters: &[MeterId]) -> bool
     ensures { result ≡ repeats meters.now }
 {

@@ -97,7 +97,7 @@ fn version_at(bytes: &[u8]) -> Option<(Version, &[u8])>
     }
 }
 
-/// The version of the form and the head end's number behind it, and what follows them.
+/// The version of the form and the head end's number after it, and what follows them.
 pub(crate) fn head_at(bytes: &[u8]) -> Option<(Front, &[u8])>
     ensures found { IfSome result (λ r. bytes.now ≡ head_bytes r.0.version r.0.head ++ r.1.now) }
     ensures begins { IfSome result (λ r. 1 ≤ r.0.head) }
@@ -125,7 +125,7 @@ fn numbers_at(version: Version, bytes: &[u8]) -> Option<(u32, u32, &[u8])>
     Some((serial, release, rest))
 }
 
-/// An image behind its size, and what follows it.
+/// An image after its size, and what follows it.
 fn image_at(bytes: &[u8]) -> Option<(&[u8], &[u8])>
     ensures found { IfSome result (λ r. bytes.now ≡ image_bytes r.0.now ++ r.1.now) }
     ensures fits { IfSome result (λ r. IsImage r.0.now) }
@@ -159,7 +159,7 @@ pub(crate) fn row_at(bytes: &[u8]) -> Option<(Row, &[u8])>
     Some((Row { meter, state }, rest))
 }
 
-/// The bytes of so many rows, and what follows them.
+/// The bytes of `count` rows, and what follows them.
 fn split_rows(count: usize, bytes: &[u8]) -> Option<(&[u8], &[u8])>
     ensures found { IfSome result (λ r. bytes.now ≡ rows_bytes (rows_in r.0.now) ++ r.1.now) }
     ensures count { IfSome result (λ r. length (rows_in r.0.now) ≡ count) }
@@ -176,7 +176,7 @@ fn split_rows(count: usize, bytes: &[u8]) -> Option<(&[u8], &[u8])>
     Some(bytes.split_at(bytes.len() - rest.len()))
 }
 
-/// The bytes of a campaign's rows behind their number, and what follows them.
+/// The bytes of a campaign's rows after their number, and what follows them.
 fn rows_at(bytes: &[u8]) -> Option<(&[u8], &[u8])>
     ensures found { IfSome result (λ r. bytes.now ≡ counted_bytes (rows_in r.0.now) ++ r.1.now) }
     ensures fits { IfSome result (λ r. IsRows (rows_in r.0.now)) }
@@ -219,7 +219,7 @@ pub(crate) fn entry_at(version: Version, bytes: &[u8]) -> Option<(Entry<'_>, &[u
     ))
 }
 
-/// The bytes of rows behind their number, and what follows them. No row is looked at.
+/// The bytes of rows after their number, and what follows them. No row is looked at.
 fn skim_rows(bytes: &[u8]) -> Option<(&[u8], &[u8])>
     ensures found { IfSome result (λ r. SkimsRows bytes.now r.0.now r.1.now) }
     ensures none { IfNone result (NoCounted bytes.now) }

@@ -21,8 +21,8 @@ use std::alloc::Global;
 use std::marker::Model;
 
 /// A book that is made again of the records of an earlier run of its head end. It marks a row done without a claim: the row was marked by
-/// one when the record was made, and records are trusted as [`Book::read`] trusts its bytes. A `Book` marks a row done by a claim alone,
-/// and no call makes one of these of a `Book`: so what a head end has once it runs needs the claim.
+/// one when the record was made, and records are trusted as [`Book::read`] trusts its bytes. A `Book` marks a row done only by a claim,
+/// and no call makes a `RestoredBook` of a `Book`. So the book of a head end that runs needs the claim.
 #[derive(Drop)]
 pub struct RestoredBook {
     book: Book,

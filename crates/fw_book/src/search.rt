@@ -1,4 +1,4 @@
-//! Whether bytes are a book's. Its rows and campaigns are looked through where they stand, so that no memory is wanted.
+//! Whether bytes are a book's. Its rows and campaigns are looked through where they stand, so that no memory is taken.
 
 ghost use Rattle.std.specs.Prelude.{◌≡◌, ◌==◌, ◌<◌, ◌≤◌, ◌^◌, ℕ, nat_eq, is_some, List, IfSome, IfNone, MatchBool};
 ghost use Rattle.std.specs.List.{list_any};

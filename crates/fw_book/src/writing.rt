@@ -21,7 +21,7 @@ use fw_names::HeadId;
 /// The bytes that every book begins with: the form, version 2.
 const FORM: [u8; 4] = *b"FWB2";
 
-/// Writes the form and the head end's number behind what is there.
+/// Appends the form and the head end's number.
 pub(crate) fn write_head(bytes: &mut Vec<u8>, head: HeadId) -> Result<(), BookError>
     ensures ok { OnOk result (bytes.new.items ≡ bytes.old.items ++ head_bytes Second head) }
     ensures memory { IfErr result (λ e. e ≡ BookError.OutOfMemory) }
@@ -31,7 +31,7 @@ pub(crate) fn write_head(bytes: &mut Vec<u8>, head: HeadId) -> Result<(), BookEr
     Ok(())
 }
 
-/// Writes a row behind what is there.
+/// Appends a row.
 fn write_row(bytes: &mut Vec<u8>, row: &Row) -> Result<(), BookError>
     ensures ok { OnOk result (bytes.new.items ≡ bytes.old.items ++ row_bytes row.now) }
     ensures memory { IfErr result (λ e. e ≡ BookError.OutOfMemory) }
@@ -41,7 +41,7 @@ fn write_row(bytes: &mut Vec<u8>, row: &Row) -> Result<(), BookError>
     Ok(())
 }
 
-/// Writes rows behind what is there.
+/// Appends rows.
 fn write_rows(bytes: &mut Vec<u8>, rows: &[Row]) -> Result<(), BookError>
     ensures ok { OnOk result (bytes.new.items ≡ bytes.old.items ++ rows_bytes rows.now) }
     ensures memory { IfErr result (λ e. e ≡ BookError.OutOfMemory) }
@@ -52,7 +52,7 @@ fn write_rows(bytes: &mut Vec<u8>, rows: &[Row]) -> Result<(), BookError>
     Ok(())
 }
 
-/// Writes rows and their number behind what is there.
+/// Appends the number of rows, and then the rows.
 fn write_counted(bytes: &mut Vec<u8>, rows: &[Row]) -> Result<(), BookError>
     requires { length rows.now ≤ MAX_METERS }
     ensures ok { OnOk result (bytes.new.items ≡ bytes.old.items ++ counted_bytes rows.now) }
@@ -62,7 +62,7 @@ fn write_counted(bytes: &mut Vec<u8>, rows: &[Row]) -> Result<(), BookError>
     write_rows(bytes, rows)
 }
 
-/// Writes an image and its size behind what is there.
+/// Appends the size of an image, and then the image.
 fn write_image(bytes: &mut Vec<u8>, image: &[u8]) -> Result<(), BookError>
     requires { length image.now ≤ MAX_IMAGE_SIZE }
     ensures ok { OnOk result (bytes.new.items ≡ bytes.old.items ++ image_bytes image.now) }
@@ -73,7 +73,7 @@ fn write_image(bytes: &mut Vec<u8>, image: &[u8]) -> Result<(), BookError>
     Ok(())
 }
 
-/// Writes a campaign's serial number and release behind what is there.
+/// Appends a campaign's serial number and release.
 fn write_numbers(bytes: &mut Vec<u8>, serial: u32, release: u32) -> Result<(), BookError>
     ensures ok { OnOk result (bytes.new.items ≡ bytes.old.items ++ numbers_bytes Second serial release) }
     ensures memory { IfErr result (λ e. e ≡ BookError.OutOfMemory) }
@@ -83,7 +83,7 @@ fn write_numbers(bytes: &mut Vec<u8>, serial: u32, release: u32) -> Result<(), B
     Ok(())
 }
 
-/// Writes a campaign behind what is there.
+/// Appends a campaign.
 pub(crate) fn write_entry(bytes: &mut Vec<u8>, serial: u32, offer: &Offer) -> Result<(), BookError>
     requires { IsEntry (serial, offer.now) }
     ensures ok { OnOk result (bytes.new.items ≡ bytes.old.items ++ entry_bytes Second (serial, offer.now)) }

@@ -31,11 +31,11 @@ lines_last (b ∷ c ∷ rest) some none =
     let rest-lines : lines_of (c ∷ rest) ≡ (c ∷ rest) ∷ [] = lines_last (c ∷ rest) (omega arith) (λ k h. none (suc k) (omega arith)) in
     rw other (ap (onto_first b) rest-lines)
 
--- what stands behind a line feed, as the code cuts it
+-- what stands after a line feed, as the code cuts it
 rest_of : (text : List ℕ) (end : ℕ) → drop (suc end) text ≡ take (length text - (end + 1)) (drop (end + 1) text)
 rest_of text end = grind (arith, common_steps)
 
--- the first line and the text behind it, as the code cuts them
+-- the first line and the text after it, as the code cuts them
 pub lines_cut : (text : List ℕ) (end : ℕ) → position (λ byte. eqb byte 10) text ≡ Some end
     → lines_of text ≡ take end text ∷ lines_of (take (length text - (end + 1)) (drop (end + 1) text))
 lines_cut text end found =

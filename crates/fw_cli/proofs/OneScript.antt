@@ -18,7 +18,7 @@ ends_by : (v : Option Script) (begun : Script) (before whole : List (List ℕ)) 
 ends_by None begun before whole ends begins = refl
 ends_by (Some s) begun before whole ends begins = ends s begins
 
--- behind a bad line nothing goes on
+-- after a bad line nothing goes on
 ends : (s begun : Script) (before behind : List (List ℕ)) (line : List ℕ) → with_lines s before ≡ Some begun → with_line begun line ≡ None → with_lines s (before ++ line ∷ behind) ≡ None
 ends s begun [] behind line begins bad =
     let same : begun ≡ s = cc begins in

@@ -138,7 +138,7 @@ early : (events : List Event) (script : Script) → length events ≡ 0 → IsSo
 early [] script none = refl
 early (e ∷ events) script none = absurd (omega arith)
 
--- a setup line behind an event
+-- a setup line after an event
 pub too_late : (script : Script) (o : Option Said) → 0 < length script.events → Holds IsSetup o → option_and_then (with_item script) o ≡ None
 too_late script None events setup = refl
 too_late script (Some (head_item head)) events setup = late script.events _ events

@@ -1,4 +1,4 @@
--- What the words behind the first one say.
+-- What the words after the first one say.
 use Rattle.std.proofs.Common.{◌≡◌, ℕ, ◌<◌, List, [], ◌∷◌, length, map, Option, Some, None, refl, ap, arith}
 use Rattle.std.specs.Prelude.{option_map, is_some, IsSome, true}
 use Rattle.fw_world.specs.Step.{Event, deliver}

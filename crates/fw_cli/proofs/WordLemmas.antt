@@ -14,7 +14,7 @@ use Rattle.fw_cli.specs.Inside.{words_behind}
 cut_more : (b n : ℕ) (rest : List ℕ) → (b ∷ take n rest) ∷ words_behind (drop n rest) ≡ take (1 + n) (b ∷ rest) ∷ words_behind (drop (1 + n) (b ∷ rest))
 cut_more b n rest = let one : 1 + n ≡ suc n = omega arith in rw one refl
 
--- the first word and the text behind it
+-- the first word and the text after it
 pub words_cut : (text : List ℕ) → words_of text ≡ take (position_or_len (λ byte. eqb byte 32) text) text ∷ words_behind (drop (position_or_len (λ byte. eqb byte 32) text) text)
 words_cut [] = refl
 words_cut (b ∷ rest) =
@@ -37,7 +37,7 @@ place_or_length p xs =
 
 -- ---- decimal digits
 
--- digits behind others make a number greater
+-- digits after others make a number greater
 pub grows : (n : ℕ) (digits : List ℕ) → n ≤ digits_value_after 10 n digits
 grows n [] = omega arith
 grows n (d ∷ digits) = let more = grows (n * 10 + digit_value d) digits in omega (arith, more)

@@ -53,14 +53,14 @@ IsOfName Output = Unit {0}
 IsOfName OutOfMemory = Unit {0}
 IsOfName fault = ⊥
 
--- the fault that tells why a file was not made or opened
+-- the fault that says why a file was not made or opened
 abbrev pub fault_of_file : FileStoreError → Fault
 fault_of_file file.StoreFault = StoreFault
 fault_of_file file.BadSetup = BadSetup
 fault_of_file file.OutOfMemory = OutOfMemory
 fault_of_file file.BadFile = BadFile
 
--- the fault that tells why a store was not opened
+-- the fault that says why a store was not opened
 abbrev pub fault_of_opening : OpenError → Fault
 fault_of_opening opening.Fault = Device
 fault_of_opening opening.BadHeader = BadHeader
@@ -77,7 +77,7 @@ IsOfReplay Output = Unit {0}
 IsOfReplay OutOfMemory = Unit {0}
 IsOfReplay fault = ⊥
 
--- the fault that tells why a rehearsal has no report
+-- the fault that says why a rehearsal has no report
 abbrev pub fault_of_rehearsal : RehearseError → Fault
 fault_of_rehearsal workers.Mismatch = Mismatch
 fault_of_rehearsal workers.ThreadRefused = ThreadRefused
@@ -87,7 +87,7 @@ fault_of_rehearsal workers.Socket = Socket
 fault_of_rehearsal workers.GateShut = GateShut
 fault_of_rehearsal workers.BadSetup = BadSetup
 
--- the faults that tell why a rehearsal has no report
+-- the faults that say why a rehearsal has no report
 abbrev pub IsOfWorkers : Fault → Type 0
 IsOfWorkers Event = Unit {0}
 IsOfWorkers Mismatch = Unit {0}
@@ -105,7 +105,7 @@ IsOfRehearse ThreadRefused = Unit {0}
 IsOfRehearse GateShut = Unit {0}
 IsOfRehearse fault = IsOfReplay fault
 
--- the faults that tell why a live rollout has no report
+-- the faults that say why a live rollout has no report
 abbrev pub IsOfLiveWorkers : Fault → Type 0
 IsOfLiveWorkers Socket = Unit {0}
 IsOfLiveWorkers fault = IsOfWorkers fault

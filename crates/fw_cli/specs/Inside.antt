@@ -9,7 +9,7 @@ use Rattle.fw_cli.specs.declared.replay.Air.{Air}
 use Rattle.fw_cli.specs.Words.{words_of}
 use Rattle.fw_cli.specs.Script.{Said, head_item, meter_item, events_item, head_of, meter_of}
 
--- the words behind a word: the text behind it is empty, or begins with the space that ended it
+-- the words after a word: the text after it is empty, or begins with the space that ended it
 abbrev pub words_behind : List ℕ → List (List ℕ)
 words_behind [] = []
 words_behind (space ∷ text) = words_of text

@@ -13,7 +13,7 @@ use Rattle.fw_cli.specs.Trace.{IsTrace}
 abbrev pub IsLine : List ℕ → Type 0
 IsLine line = All (λ byte. byte ≢ 10) line
 
--- the text of these lines, each with a line feed behind it
+-- the text of these lines, each with a line feed after it
 abbrev pub text_of : List (List ℕ) → List ℕ
 text_of [] = []
 text_of (line ∷ lines) = line ++ 10 ∷ text_of lines

@@ -13,7 +13,7 @@ pub record ReadsImage (before after : Option (List ℕ)) (image : List ℕ) : Ty
   pub begins : 1 ≤ length image
   pub ends : length image ≤ max_image
 
--- what a name tells of an image beside its digest: the campaign that offers it, and its release
+-- what a name says of an image besides its digest: the campaign that offers it, and its release
 pub record Naming : Type 0 where
   pub campaign : Campaign
   pub release : ℕ

@@ -18,7 +18,7 @@ pub record ReadsAll (before after : Option (List ℕ)) (input : List ℕ) : Type
   pub at_end : IsAtEnd after
   pub within : length input ≤ max_input
 
--- The reader gave some bytes, so many that P holds of their number.
+-- The reader gave some bytes, and P holds of their number.
 abbrev pub Gives : Option (List ℕ) → Option (List ℕ) → (ℕ → Type 0) → Type 0
 Gives before after P = (bytes : List ℕ) × Consumes before after bytes × P (length bytes)
 

@@ -32,7 +32,7 @@ pub data Said : Type 0 where
 abbrev pub event : Event → List (List ℕ) → Option Said
 event e = ending (events_item (e ∷ []))
 
--- ---- the words behind the first one
+-- ---- the words after the first one
 
 -- a number of a head end or of a campaign
 abbrev pub from_one : List ℕ → Option ℕ
@@ -59,7 +59,7 @@ meter_line = reading number_of λ meter. reading (keyword (codes "block")) λ _.
     option_map (λ old. meter_item (record { number = meter; block_size = block_size; capacity = capacity; factory = factory; old = old }))
     (old_said words)
 
--- HEX M M .., behind what tells the campaign and the release
+-- HEX M M .., after the words for the campaign and the release
 abbrev pub opening : Campaign → ℕ → List (List ℕ) → Option Said
 opening campaign release = reading bytes_said λ image. λ words.
     option_map (λ meters. events_item (open_campaign campaign release image meters ∷ [])) (numbers_of words)
@@ -108,7 +108,7 @@ turn_line = reading number_of λ meter. event (turn meter)
 
 -- ---- lines
 
--- what the words behind the first one say, where that names an event without a list
+-- what the words after the first one say, where that names an event without a list
 abbrev pub event_line : List ℕ → List (List ℕ) → Option Said
 event_line first words =
     if bytes_eq first (codes "cancel") then cancel_line words else

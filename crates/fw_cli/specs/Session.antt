@@ -7,12 +7,12 @@ use Rattle.fw_image.specs.State.{State, Follows, Counts}
 use Rattle.fw_meter.specs.Handling.{Handles}
 use Rattle.fw_cli.specs.Lines.{lines_of}
 
--- the line that tells a reply: lower-case hexadecimal, or a dash where there is no reply
+-- the line for a reply: lower-case hexadecimal, or a dash where there is no reply
 abbrev pub line_for : Option (List ℕ) → List ℕ
 line_for None = codes "-\n"
 line_for (Some reply) = encode_lower reply ++ codes "\n"
 
--- The line spells a datagram in hexadecimal, and from old the meter may answer it by this text and go on to new. Its store is honest and
+-- The line spells a datagram in hexadecimal, and from old the meter may answer it by this text and become new. Its store is honest and
 -- doesn't fail.
 pub record AnswersLine (old : Meter) (line text : List ℕ) (new : Meter) : Type 0 where
   pub datagram : List ℕ
@@ -22,7 +22,7 @@ pub record AnswersLine (old : Meter) (line text : List ℕ) (new : Meter) : Type
   pub step : Handles true IsTrue old datagram reply activated new
   pub told : text ≡ line_for reply
 
--- The same over any store: a code 1 tells that it failed, and what it holds is known as far as it is honest.
+-- The same over any store: a code 1 says that it failed, and what it holds is known as far as it is honest.
 pub record AnswersLineOver (old : State) (line text : List ℕ) (new : State) : Type 0 where
   pub datagram : List ℕ
   pub reply : Option (List ℕ)

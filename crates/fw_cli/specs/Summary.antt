@@ -1,4 +1,4 @@
--- Public vocabulary: what a report tells of a world, whatever its form: the rows of its campaigns, and its meters.
+-- Public vocabulary: what a report says of a world, whatever its form: the rows of its campaigns, and its meters.
 use Rattle.std.specs.Prelude.{ℕ, List, [], ◌∷◌, length, flat_map, Option, None, Some}
 use Rattle.std.specs.Option.{option_map}
 use Rattle.fw_image.specs.Meter.{Meter, status_of}

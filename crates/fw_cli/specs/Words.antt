@@ -43,12 +43,12 @@ keyword text word = if bytes_eq word text then Some tt else None
 
 -- ---- what words say, one after another
 
--- what the first word says, and the words behind it
+-- what the first word says, and the words after it
 abbrev pub first_says : {A : Type 0} → (List ℕ → Option A) → List (List ℕ) → Option (A × List (List ℕ))
 first_says says [] = None
 first_says says (word ∷ words) = option_map (λ said. (said, words)) (says word)
 
--- The first word says something, and those behind it say the rest.
+-- The first word says something, and those after it say the rest.
 abbrev pub reading : {A B : Type 0} → (List ℕ → Option A) → (A → List (List ℕ) → Option B) → List (List ℕ) → Option B
 reading says rest words = option_and_then (λ r. rest r.0 r.1) (first_says says words)
 

@@ -48,8 +48,8 @@ pub(crate) struct MeterSetup {
 ///
 /// - `BadSetup`: the options describe no meter. Nothing was read.
 /// - `Input` or `TooMuchInput`, whichever the reading meets first.
-/// - `BadLine`: this line is no hexadecimal, or of an odd number of digits. Those before it were answered.
-/// - `Output`: the writer failed. What it holds then is open.
+/// - `BadLine`: this line isn't hexadecimal, or has an odd number of digits. Those before it were answered.
+/// - `Output`: the writer failed. What it holds then is unspecified.
 /// - `OutOfMemory`: nothing was written, and no more than 64 MiB were read.
 pub fn run_answer<R: Read, W: Write>(
     alloc: Global,
@@ -149,7 +149,7 @@ pub(crate) fn describes_one(options: &AnswerOptions<'_>) -> bool
         )
 }
 
-/// Whether a store with a header of version 2 can be made with these, and an image of so many bytes.
+/// Whether a store with a header of version 2 can be made with these, and an image of `size` bytes.
 fn is_setup(block_size: u64, capacity: u64, size: usize) -> bool
     ensures { (bytes : List ℕ) → length bytes ≡ size → IsTrue result ↔ IsSetup Two block_size capacity bytes }
 {

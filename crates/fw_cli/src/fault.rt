@@ -25,10 +25,10 @@ pub enum Fault {
     /// The device of a store failed while the store was opened.
     #[error("Fault")]
     Device,
-    /// The file of a store has the length of none, or begins with a capacity that none has.
+    /// The file of a store has a length that no store has, or begins with a capacity that none has.
     #[error("BadFile")]
     BadFile,
-    /// The header of a store is none that it can have.
+    /// The header of a store isn't one that it can have.
     #[error("BadHeader")]
     BadHeader,
     /// An image in a store, which runs or is verified, hasn't the digest of its name.

@@ -64,7 +64,7 @@ pub(crate) enum Item {
     Deliveries(Vec<Event>),
 }
 
-/// What a line says, if it says anything. Memory is wanted only for what is said.
+/// What a line says, if it says anything. Memory is taken only for what is said.
 pub(crate) fn item_of(alloc: Global, line: &[u8]) -> Result<Option<Item>, AllocError>
     ensures ok { IfOk result (λ item. option_map item_read item ≡ item_of (words_of line.now)) }
     ensures memory { OnErr result (IsSome (item_of (words_of line.now))) }
@@ -88,7 +88,7 @@ pub(crate) fn item_of(alloc: Global, line: &[u8]) -> Result<Option<Item>, AllocE
     Ok(event_line(first, rest).map(Item::Event))
 }
 
-/// What a line says whose words say an event that holds no list.
+/// The event that a line says, where its words say one that holds no list.
 fn event_line(first: &[u8], rest: &[u8]) -> Option<Event>
     ensures { option_map (λ event. events_item (event_of event ∷ [])) result ≡ event_line first.now (words_behind rest.now) }
 {
@@ -128,7 +128,7 @@ fn head_line(rest: &[u8]) -> Option<HeadSetup>
     Some(HeadSetup { head, width })
 }
 
-/// `meter M block B capacity C factory HEX`, and `old` behind it or not.
+/// `meter M block B capacity C factory HEX`, with or without `old` after it.
 fn meter_line(alloc: Global, rest: &[u8]) -> Result<Option<MeterSetup>, AllocError>
     ensures ok { IfOk result (λ said. option_map (λ meter. meter_item (meter_of meter)) said ≡ meter_line (words_behind rest.now)) }
     ensures memory { OnErr result (IsSome (meter_line (words_behind rest.now))) }
@@ -146,7 +146,7 @@ fn meter_line(alloc: Global, rest: &[u8]) -> Result<Option<MeterSetup>, AllocErr
     }))
 }
 
-/// `M block B capacity C factory HEX`, with the word of the factory image, and whether `old` stands behind it.
+/// `M block B capacity C factory HEX`, with the word of the factory image, and whether `old` stands after it.
 fn meter_words(rest: &[u8]) -> Option<(u32, u32, u32, &[u8], bool)>
     ensures { MatchOption result (meter_line (words_behind rest.now) ≡ None) (λ r. (factory : List ℕ) × (bytes_said r.3.now ≡ Some factory)
         × (meter_line (words_behind rest.now)
@@ -189,7 +189,7 @@ fn open_line(alloc: Global, rest: &[u8]) -> Result<Option<Event>, AllocError>
     opening(alloc, campaign, 0, rest)
 }
 
-/// `H S`, with the text behind it.
+/// `H S`, with the text after it.
 fn open_words(rest: &[u8]) -> Option<(CampaignId, &[u8])>
     ensures { MatchOption result (open_line (words_behind rest.now) ≡ None)
         (λ r. open_line (words_behind rest.now) ≡ opening r.0 0 (words_behind r.1.now)) }
@@ -211,7 +211,7 @@ fn open_release_line(alloc: Global, rest: &[u8]) -> Result<Option<Event>, AllocE
     opening(alloc, campaign, release, rest)
 }
 
-/// `H S R`, with the text behind it.
+/// `H S R`, with the text after it.
 fn release_words(rest: &[u8]) -> Option<(CampaignId, u32, &[u8])>
     ensures { MatchOption result (open_release_line (words_behind rest.now) ≡ None)
         (λ r. open_release_line (words_behind rest.now) ≡ opening r.0 r.1 (words_behind r.2.now)) }
@@ -222,7 +222,7 @@ fn release_words(rest: &[u8]) -> Option<(CampaignId, u32, &[u8])>
     Some((campaign_id(head, serial), release, rest))
 }
 
-/// `HEX M M ..`, behind what tells the campaign and the release.
+/// `HEX M M ..`, after the words of the campaign and the release.
 fn opening(
     alloc: Global,
     campaign: CampaignId,
@@ -246,7 +246,7 @@ fn opening(
     }))
 }
 
-/// `HEX`, with its word and the text behind it, which is numbers.
+/// `HEX`, with its word and the text after it, which is numbers.
 fn image_words(rest: &[u8]) -> Option<(&[u8], &[u8])>
     ensures { MatchOption result ((campaign : Campaign) (release : ℕ) → opening campaign release (words_behind rest.now) ≡ None) (λ r.
         (image : List ℕ) × (meters : List ℕ) × (bytes_said r.0.now ≡ Some image) × (numbers_of (words_behind r.1.now) ≡ Some meters)

@@ -71,7 +71,7 @@ impl Model for NameOptions {
 /// - `Input` or `TooMuchInput`, whichever the reading meets first.
 /// - `EmptyImage`: the reader had no byte.
 /// - `ImageTooLong`: the reader had more than 16,777,216 bytes.
-/// - `Output`: the writer failed. What it holds then is open.
+/// - `Output`: the writer failed. What it holds then is unspecified.
 /// - `OutOfMemory`: nothing was written, and 1 byte to 64 MiB were read.
 pub fn run_name<R: Read, W: Write>(
     alloc: Global,
@@ -82,7 +82,7 @@ pub fn run_name<R: Read, W: Write>(
     ensures ok { OnOk result (WritesName options.now (R.remaining reader.old) (R.remaining reader.new)
         (W.contents writer.old) (W.contents writer.new)) }
 
-    // Each input is refused by no other of these than its own.
+    // The input that each of these refusals stands for.
     ensures empty_image { result ≡ Err Fault.EmptyImage → ReadsAll (R.remaining reader.old) (R.remaining reader.new) [] }
     ensures image_too_long { result ≡ Err Fault.ImageTooLong → (input : List ℕ)
         × ReadsAll (R.remaining reader.old) (R.remaining reader.new) input × (max_image < length input) }
@@ -120,7 +120,7 @@ fn read_image<R: Read>(alloc: Global, reader: &mut R) -> Result<Vec<u8>, Fault>
     offered(input)
 }
 
-/// The image that the input is, if a campaign can offer it. No memory is wanted for that.
+/// The image that the input is, if a campaign can offer it. No memory is taken for that.
 fn offered(image: Vec<u8>) -> Result<Vec<u8>, Fault>
     ensures image { IfOk result (λ offered. offered.items ≡ image.items) }
     ensures sizes { OnOk result ((1 ≤ length image.items) × (length image.items ≤ max_image)) }
@@ -137,7 +137,7 @@ fn offered(image: Vec<u8>) -> Result<Vec<u8>, Fault>
     Ok(image)
 }
 
-/// Writes the line that tells a name.
+/// Writes the line of a name.
 fn write_name<W: Write>(writer: &mut W, name: &ImageName) -> Result<(), Fault>
     ensures ok { OnOk result ((spelling : List ℕ) × SpellsName spelling name.now
         × Appends (W.contents writer.old) (W.contents writer.new) (encode_lower spelling ++ codes "\n")) }
@@ -150,7 +150,7 @@ fn write_name<W: Write>(writer: &mut W, name: &ImageName) -> Result<(), Fault>
     writer.write_all(&line[..=end]).map_err(|_| Fault::Output)
 }
 
-/// A line that begins with the digits of a spelling, and a line feed behind them.
+/// A line that begins with the digits of a spelling, and a line feed after them.
 fn line_of(spelling: &[u8]) -> [u8; DIGITS + 1]
     requires { length spelling.now ≤ MAX_NAME_SIZE }
     ensures { take (2 * length spelling.now + 1) result ≡ encode_lower spelling.now ++ codes "\n" }

@@ -100,10 +100,10 @@ struct Told {
     text: String,
 }
 
-/// Runs the script that the reader has, and after its events the rounds that are asked for. The writer gets the report of the world
-/// after the last event, in the form that is asked for. Where an event is refused, it gets that of the world there, which tells the number
-/// of the event and why it was refused. A trace, where it is asked for, stands before the report: a line for each datagram that was sent,
-/// with its number, who sent it to whom, and what it says.
+/// Runs the script that the reader has, and after its events the rounds that are asked for. The writer gets the report of the world after
+/// the last event, in the form that is asked for. Where an event is refused, it gets that of the world there, with the number of the event
+/// and why it was refused. A trace, where it is asked for, stands before the report: a line for each datagram that was sent, with its
+/// number, who sent it to whom, and what it says.
 ///
 /// All input is read before anything is written, and what is written is flushed.
 ///
@@ -113,9 +113,9 @@ struct Told {
 /// - `Input` or `TooMuchInput`, whichever the reading meets first.
 /// - `BadLine`: this line can't go on with the script that the lines before it begin.
 /// - `BadSetup`: no world can be made of the setup.
-/// - `Output`: the writer failed. What it holds then is open.
-/// - `OutOfMemory`: nothing was written, and no more than 64 MiB were read. It comes for good fates, for input while it is read, for a line
-///   with which the script goes on, and for a script of which a world can be made.
+/// - `Output`: the writer failed. What it holds then is unspecified.
+/// - `OutOfMemory`: nothing was written, and no more than 64 MiB were read. It comes only for good fates, for input while it is read, for
+///   a line with which the script goes on, and for a script of which a world can be made.
 pub fn run_replay<R: Read, W: Write>(
     alloc: Global,
     reader: &mut R,
@@ -136,7 +136,7 @@ pub fn run_replay<R: Read, W: Write>(
         → ReadsOne (R.remaining reader.old) (R.remaining reader.new) (λ input. IsBadLine input number) }
     ensures bad_setup { result ≡ Err Fault.BadSetup → ReadsOne (R.remaining reader.old) (R.remaining reader.new) MakesNone }
 
-    // What memory may be wanted for, and never for bad fates, a bad line or a setup of which no world can be made.
+    // What memory may be taken for: never for bad fates, a bad line or a setup of which no world can be made.
     ensures memory { result ≡ Err Fault.OutOfMemory → MayWantMemory options.now (R.remaining reader.old) (R.remaining reader.new) }
 
     // How far the reading was.

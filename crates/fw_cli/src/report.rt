@@ -22,7 +22,7 @@ use fw_world::{HeadSetup, MeterSetup, Setup, World};
 use std::alloc::AllocError;
 
 /// Appends the report of a world: its rows by head ends, campaigns and meters, then its meters, each in their order, and how many images
-/// were switched to. The time is that of the text.
+/// were switched to. The time that it takes grows with the text alone.
 pub(crate) fn append_report(
     text: &mut String,
     setup: &Setup,

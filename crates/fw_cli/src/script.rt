@@ -71,7 +71,7 @@ fn names_setup(line: &[u8]) -> bool
 }
 
 impl Script {
-    /// Adds one line, and tells whether the script goes on with it.
+    /// Adds one line, and returns whether the script goes on with it.
     fn add_line(&mut self, alloc: Global, line: &[u8]) -> Result<bool, AllocError>
         ensures ok { IfOk result (λ good. with_line (script_of self.old.setup self.old.events.items) line.now
             ≡ (if good then Some (script_of self.new.setup self.new.events.items) else None)) }
@@ -81,7 +81,7 @@ impl Script {
         if is_skipped(line) {
             return Ok(true);
         }
-        // A setup line behind an event is bad, whether or not there is memory for what it says.
+        // A setup line after an event is bad, whether or not there is memory for what it says.
         if !self.events.is_empty() && names_setup(line) {
             return Ok(false);
         }
@@ -91,7 +91,7 @@ impl Script {
         }
     }
 
-    /// Adds what a line says, and tells whether it may stand there: a setup line stands before all events.
+    /// Adds what a line says, and returns whether it may stand there: a setup line stands before all events.
     fn add(&mut self, item: Item) -> Result<bool, AllocError>
         ensures ok { IfOk result (λ added. with_item (script_of self.old.setup self.old.events.items) (item_read item)
             ≡ (if added then Some (script_of self.new.setup self.new.events.items) else None)) }

@@ -92,7 +92,7 @@ fn answer_lines<S: ImageStore + Drop>(
     })
 }
 
-/// Appends the line that tells a reply.
+/// Appends the line of a reply.
 fn append_line(text: &mut Vec<u8>, reply: &Option<Vec<u8>>) -> Result<(), AllocError>
     ensures { OnOk result (text.new.items ≡ text.old.items ++ line_for (reply_bytes reply.now)) }
 {
@@ -115,7 +115,7 @@ fn append_digits(text: &mut Vec<u8>, bytes: &[u8]) -> Result<(), AllocError>
     Ok(())
 }
 
-/// Where the digits of so many bytes end that begin here, if a line feed has room there.
+/// Where the digits of `count` bytes end that begin here, if a line feed has room there.
 fn end_of_digits(start: usize, count: usize) -> Option<usize>
     ensures { IfSome result (λ end. (end ≡ start + 2 * count) × (end + 1 < 2 ^ 64)) }
 {

@@ -41,8 +41,8 @@ pub struct StoredOptions<'a> {
 /// - `BadFile`, `BadHeader` or `BadImage`: the file holds no meter. It is left as it is.
 /// - `BadSetup`: no file is there, and the options describe no meter. No file was made.
 /// - `Input` or `TooMuchInput`, whichever the reading meets first.
-/// - `BadLine`: this line is no hexadecimal, or of an odd number of digits. Those before it were answered.
-/// - `Output`: the writer failed. What it holds then is open.
+/// - `BadLine`: this line isn't hexadecimal, or has an odd number of digits. Those before it were answered.
+/// - `Output`: the writer failed. What it holds then is unspecified.
 /// - `OutOfMemory`: nothing was written, and no more than 64 MiB were read.
 ///
 /// Up to `BadSetup` nothing was read. From `BadLine` on the meter may have changed.
@@ -64,7 +64,7 @@ pub fn run_answer_stored<F: Files<File = File>, R: Read, W: Write>(
     ensures bad_setup { result ≡ Err Fault.BadSetup → DescribesNone options.now.fresh }
     ensures setup_first { IfErr result (λ f. ComesBeforeInput f → Keeps (R.remaining reader.old) (R.remaining reader.new)) }
 
-    // Where nothing was read, memory was wanted for a meter that the options describe.
+    // Where nothing was read, memory was refused for a meter that the options describe.
     ensures memory { result ≡ Err Fault.OutOfMemory → DescribesOne options.now.fresh
         ⊎ Gives (R.remaining reader.old) (R.remaining reader.new) (λ count. (1 ≤ count) × (count ≤ max_input)) }
 
@@ -126,7 +126,7 @@ fn open_or_make<F: Files<File = File>>(
     }
 }
 
-/// Whether no file is there. One that can't be looked for may be.
+/// Whether no file is there. Where it can't be looked for, one may be there.
 fn is_absent<F: Files<File = File>>(rt: &F, path: &str) -> bool {
     matches!(fs::exists(rt, path), Ok(false))
 }

@@ -1,4 +1,4 @@
-//! What a report tells of a world, whatever its form.
+//! What a report says of a world, whatever its form.
 
 ghost use Rattle.std.specs.Prelude.{◌≡◌, ◌++◌, length, flat_map, IfOk, OnOk};
 ghost use Rattle.std.specs.Option.{option_map};
@@ -51,7 +51,7 @@ pub(crate) struct MeterEntry {
     pub(crate) size: u32,
 }
 
-/// What a report tells of a world.
+/// What a report says of a world.
 #[derive(Drop)]
 pub(crate) struct Summary {
     /// The rows by head ends, campaigns and meters, each in their order.
@@ -62,7 +62,7 @@ pub(crate) struct Summary {
     pub(crate) activations: usize,
 }
 
-/// What a report tells of a world.
+/// What a report says of a world.
 pub(crate) fn summary_of(alloc: Global, setup: &Setup, world: &World) -> Result<Summary, AllocError>
     ensures rows { IfOk result (λ s. s.rows.items ≡ rows_of_world setup.now world.now) }
     ensures meters { IfOk result (λ s. s.meters.items ≡ meters_of_world setup.now world.now) }

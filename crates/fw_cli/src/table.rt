@@ -22,13 +22,13 @@ use crate::summary::{MeterEntry, RowEntry, Summary};
 use fw_image::TransferStatus;
 use std::alloc::AllocError;
 
-/// How wide a column is that has numbers, which have 10 digits at most.
+/// The width of a column of numbers, which have 10 digits at most.
 const COLUMN: usize = 12;
 
-/// What stands above the rows.
+/// The headings of the rows.
 const ROW_HEADINGS: &str = "head end    campaign    meter       state\n";
 
-/// What stands above the meters.
+/// The headings of the meters.
 const METER_HEADINGS: &str =
     "meter       status                   head end    campaign    release     bytes\n";
 

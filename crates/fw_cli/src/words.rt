@@ -33,7 +33,7 @@ ghost use Rattle.fw_cli.specs.Inside.{words_behind};
 use crate::hexadecimal::{bytes_of, is_hexadecimal};
 use std::alloc::{AllocError, Global};
 
-/// The first word of a line, and the text behind it: none, or a space and the other words.
+/// The first word of a line, and the text after it: none, or a space and the other words.
 pub(crate) fn first_word(text: &[u8]) -> (&[u8], &[u8])
     ensures words { words_of text.now ≡ result.0.now ∷ words_behind result.1.now }
     ensures shorter { length result.1.now ≤ length text.now }
@@ -55,7 +55,7 @@ fn first_space(text: &[u8]) -> Option<usize>
     text.iter().position(|byte| *byte == b' ')
 }
 
-/// The next word, and the text behind it, if a word is left.
+/// The next word, and the text after it, if a word is left.
 pub(crate) fn next_word(rest: &[u8]) -> Option<(&[u8], &[u8])>
     ensures words { MatchOption result (words_behind rest.now ≡ []) (λ r. words_behind rest.now ≡ r.0.now ∷ words_behind r.1.now) }
     ensures shorter { IfSome result (λ r. length r.1.now < length rest.now) }
@@ -98,7 +98,7 @@ fn value_of(digits: &[u8]) -> Option<u32>
     Some(value)
 }
 
-/// The number that the next word says, and the text behind it.
+/// The number that the next word says, and the text after it.
 pub(crate) fn number(rest: &[u8]) -> Option<(u32, &[u8])>
     ensures shorter { IfSome result (λ r. length r.1.now < length rest.now) }
     ensures says { MatchOption result (first_says number_of (words_behind rest.now) ≡ None)
@@ -108,7 +108,7 @@ pub(crate) fn number(rest: &[u8]) -> Option<(u32, &[u8])>
     Some((number_of(word)?, rest))
 }
 
-/// The number from 1 on that the next word says, and the text behind it.
+/// The number from 1 on that the next word says, and the text after it.
 pub(crate) fn from_one(rest: &[u8]) -> Option<(u32, &[u8])>
     ensures says { MatchOption result (first_says from_one (words_behind rest.now) ≡ None)
         (λ r. first_says from_one (words_behind rest.now) ≡ Some (r.0, words_behind r.1.now)) }
@@ -121,7 +121,7 @@ pub(crate) fn from_one(rest: &[u8]) -> Option<(u32, &[u8])>
     }
 }
 
-/// The byte whose number the next word says, and the text behind it.
+/// The byte whose number the next word says, and the text after it.
 pub(crate) fn byte(rest: &[u8]) -> Option<(u8, &[u8])>
     ensures { MatchOption result (first_says byte_of (words_behind rest.now) ≡ None)
         (λ r. first_says byte_of (words_behind rest.now) ≡ Some (r.0, words_behind r.1.now)) }
@@ -130,7 +130,7 @@ pub(crate) fn byte(rest: &[u8]) -> Option<(u8, &[u8])>
     Some((u8::try_from(number_of(word)?).ok()?, rest))
 }
 
-/// The text behind the next word, if this is that word.
+/// The text after the next word, if this is that word.
 pub(crate) fn keyword<'a>(rest: &'a [u8], text: &[u8]) -> Option<&'a [u8]>
     ensures { MatchOption result (first_says (keyword text.now) (words_behind rest.now) ≡ None)
         (λ r. first_says (keyword text.now) (words_behind rest.now) ≡ Some (tt, words_behind r.now)) }
@@ -146,7 +146,7 @@ pub(crate) fn is(word: &[u8], text: &[u8]) -> bool
     word == text
 }
 
-/// The next word, which says bytes, and the text behind it.
+/// The next word, which says bytes, and the text after it.
 pub(crate) fn bytes(rest: &[u8]) -> Option<(&[u8], &[u8])>
     ensures { MatchOption result (first_says bytes_said (words_behind rest.now) ≡ None)
         (λ r. (said : List ℕ) × (bytes_said r.0.now ≡ Some said)

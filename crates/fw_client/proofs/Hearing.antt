@@ -265,7 +265,7 @@ pub ignores : (c : State) (datagram : List ℕ) (o : Option (ℕ × Heard)) → 
 ignores c datagram None e missing = inr (λ id h a. missing (id, h) a, refl, refl)
 ignores c datagram (Some x) e a = absurd cc
 
--- ---- want of memory
+-- ---- out of memory
 
 -- a datagram from and to port 1 carries the Data that its APDU may return
 pub data_carried : (datagram apdu : List ℕ) (source dest : ℕ) (e : ApduError) → source ≡ 1 → dest ≡ 1 → Wraps datagram source dest apdu → e ≡ OutOfMemory → IfMemory e (MayReturnData apdu) → MayCarryData datagram

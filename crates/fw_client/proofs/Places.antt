@@ -48,7 +48,7 @@ get_at n (Some a ∷ os) (suc k) =
 pub get_asks : (os : List (Option Asked)) (q : ℕ) → get (asks_from 0 os) q ≡ get_or os q None
 get_asks os q = ap (get (asks_from 0 os)) (sym (zero-add q)) ∙ get_at 0 os q
 
--- behind the last place there is none
+-- after the last place there is none
 past : (os : List (Option Asked)) (q : ℕ) → length os ≤ q → get_or os q None ≡ None
 past [] q h = refl
 past (o ∷ os) zero h = absurd (omega arith)

@@ -43,12 +43,12 @@ Takes old datagram heard new = (id : ℕ) × Answers old datagram id heard × (n
 abbrev pub Ignores : State → List ℕ → Heard → State → Type 0
 Ignores old datagram heard new = AnswersNone old datagram × (heard ≡ Stranger) × (new ≡ old)
 
--- from old, a client that is given this datagram hears this, and goes on to new
+-- from old, a client that is given this datagram hears this, and becomes new
 abbrev pub Hears : State → List ℕ → Heard → State → Type 0
 Hears old datagram heard new = Takes old datagram heard new ⊎ Ignores old datagram heard new
 
--- The claim that a client is given: to an outstanding ask for the active name came the response to a GET, whose Data is an octet-string
--- that spells the name, and the meter is the client's.
+-- The claim that a client is given. An ask for the active name was outstanding, and to it came the response to a GET. Its Data is an
+-- octet-string that spells the name, and the meter is the client's.
 pub record IsClaimed (c : State) (datagram : List ℕ) (claim : Claim) : Type 0 where
   pub id : ℕ
   pub bytes : List ℕ

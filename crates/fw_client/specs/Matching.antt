@@ -43,7 +43,7 @@ IsStatus v h = ⊥
 abbrev pub element : ℕ → List ℕ → List ℕ → Value
 element size identification signature = structure (more (double_long_unsigned size) (more (octet_string identification) (more (octet_string signature) none)))
 
--- The elements of image_to_activate_info tell of one image, whose identification spells this name. The signature has 32 bytes, and
+-- The elements of image_to_activate_info describe one image, whose identification spells this name. The signature has 32 bytes, and
 -- isn't compared with the name's digest (own).
 pub record TellsOf (vs : Values) (name : Name) : Type 0 where
   pub size : ℕ
@@ -86,8 +86,8 @@ IsValue meter asked.Activate v h = ⊥
 abbrev pub IsCode : Service → Asked → ℕ → Heard → Type 0
 IsCode service a c h = (service_of a ≡ service) × (h ≡ heard.Code a c)
 
--- By this response of a meter to this ask, this is heard. The service is that of the ask. A GET answered by a value is heard by its
--- value; one answered by a code, and each SET and ACTION, is heard by its code. What an ACTION returns beside is ignored (own).
+-- This is what is heard by this response of a meter to this ask. The service is that of the ask. A GET answered by a value is heard by its
+-- value; one answered by a code, and each SET and ACTION, is heard by its code. What else an ACTION returns is ignored (own).
 abbrev pub Matches : ℕ → Asked → ResponseContent → Heard → Type 0
 Matches meter a (get_response (value v)) h = IsValue meter a v h
 Matches meter a (get_response (code c)) h = IsCode Get a c h

@@ -151,7 +151,7 @@ fn active(meter: MeterId, value: Data) -> Option<Heard>
     }
 }
 
-/// The name of the one image that the elements of image_to_activate_info tell of.
+/// The name of the one image in the elements of image_to_activate_info.
 fn image_in(elements: &Items) -> Option<ImageName>
     ensures { IsInfoOf elements.now result }
 {

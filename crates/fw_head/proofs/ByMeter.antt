@@ -47,7 +47,7 @@ pub none_of : (k : ℕ) (es : Rows) → AllByRecursion (λ y. nat_eq k y ≡ fal
 none_of k [] all = refl
 none_of k (entry ∷ es) all = cond-false (nat_eq k entry.0) (Some entry.1) (lookup (nat_eq k) es) all.0 ∙ none_of k es all.1
 
--- where the meters differ, what is found behind the first row isn't the first row's
+-- where the meters differ, what is found after the first row isn't the first row's
 pub behind : (entry : ℕ × Row) (es : Rows) (m : ℕ) (row : Row) → IsDistinct nat_eq (keys_of (entry ∷ es)) → row_of es m ≡ Some row → nat_eq m entry.0 ≡ false
 behind entry es m row once found =
     false_from_ne_true (nat_eq m entry.0) (λ same.
@@ -354,7 +354,7 @@ keyed (entry ∷ es) once own =
     ∙ ap (λ (rs : Rows). (let all : Rows = entry ∷ rs in all)) (keyed es (IsDistinct-tail nat_eq entry.0 (keys_of es) once)
     (λ m row found. own m row (cond-false (nat_eq m entry.0) (Some entry.1) (lookup (nat_eq m) es) (behind entry es m row once found) ∙ found)))
 
--- the rows of a head end, behind their meters again
+-- the rows of a head end, under their meters again
 pub same_rows : (book : Contents) (rows : Rows) → AreRowsOf book rows → by_meter (values_of rows) ≡ rows
 same_rows book rows are = keyed rows are.once (λ m row found. (are.of_book m row found).asks)
 

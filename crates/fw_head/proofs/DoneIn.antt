@@ -1,4 +1,4 @@
--- When a head end is told that a meter is done.
+-- When a head end reports that a meter is done.
 use Rattle.std.proofs.Common.{◌≡◌, ℕ, List, Option, Some, None, inl, inr, refl, sym, ap, subst, ◌∙◌}
 use Rattle.fw_names.specs.Name.{Name, Campaign}
 use Rattle.fw_client.specs.Claim.{Claim}
@@ -32,7 +32,7 @@ not_done (Confirm g) live e = cc
 not_done (Done claim) live e = live
 not_done Failed live e = cc
 
--- only a claim tells it
+-- only a claim leads to that report
 told_done : (heard : RowNews) (c d : Campaign) (from meter : ℕ) → news_of c from heard ≡ news.Done d meter → (claim : Claim) × (heard ≡ by.Done claim) × (c ≡ d) × (from ≡ meter)
 told_done by.Nothing c d from meter e = absurd (nothing e)
   where

@@ -316,7 +316,7 @@ module _ (follow : StatesFollowCalls) (stay : ImagesStay) where
     others = λ c m none. ends_others book rows c m (rows_from book rows are) (once_from book rows are) none;
   }
 
--- the rows behind their meters, taken off again
+-- the rows under their meters, and without these again
 pub values_by_meter : (rows : List Row) → values_of (by_meter rows) ≡ rows
 values_by_meter [] = refl
 values_by_meter (row ∷ rows) = ap (λ (rs : List Row). (let all : List Row = row ∷ rs in all)) (values_by_meter rows)

@@ -114,7 +114,7 @@ either_way (Err e) P h k = k
 pub same_found : (key meter : ℕ) (rows : Rows) (a b : Row) → key ≡ meter → lookup (nat_eq key) rows ≡ Some a → lookup (nat_eq meter) rows ≡ Some b → a ≡ b
 same_found key meter rows a b same first second = some_row a b (sym first ∙ ap (λ k. lookup (nat_eq k) rows) same ∙ second)
 
--- what is told of the row that is found
+-- what is reported of the row that is found
 pub own_of_row : (key meter : ℕ) (told : RowNews) (rows : Rows) (a b : Row) → key ≡ meter → lookup (nat_eq key) rows ≡ Some a → lookup (nat_eq meter) rows ≡ Some b → IsOwnNews a.client.meter a.name told → IsOwnNews b.client.meter b.name told
 own_of_row key meter told rows a b same first second own =
     let P : Row → Type 0 = λ r. IsOwnNews r.client.meter r.name told in

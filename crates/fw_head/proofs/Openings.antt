@@ -22,7 +22,7 @@ use Rattle.fw_head.proofs.Names.{old_name, new_name}
 use Rattle.fw_head.proofs.States.{either_campaign, row_stays}
 use Rattle.fw_head.proofs.NewRows.{flipped}
 
--- ---- entries behind others
+-- ---- entries after others
 
 pub found_before : {X : Type 0} (k : ℕ) (es fs : List (ℕ × X)) (x : X) → lookup (nat_eq k) es ≡ Some x → lookup (nat_eq k) (es ++ fs) ≡ Some x
 found_before k [] fs x found = absurd (none_some x found)

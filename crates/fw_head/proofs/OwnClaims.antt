@@ -1,5 +1,5 @@
--- What a step leads to: a cut of the row's image within the limits, as many known blocks as there are, and, once the row is done, a
--- claim of its own meter under its own name.
+-- What a step leads to: a cut of the row's image within the limits, with a mark known of each block; and once the row is done, a claim of
+-- its own meter under its own name.
 use Rattle.std.proofs.Common.{◌≡◌, ℕ, ◌==◌, inl, inr, Bool, true, false, List, [], ◌∷◌, length, slice_set, if◌then◌else◌, refl, sym, subst, ◌∙◌}
 use Rattle.std.proofs.lemmas.List.{length-replicate, length-set}
 use Rattle.fw_names.specs.Name.{Name}
@@ -134,7 +134,7 @@ own_at : (m : ℕ) (n : Name) (size : ℕ) (stage : Stage) → IsOwn m n size st
 own_at m n size (Done claim) own = (own.by, own.named)
 own_at m n size _ own = tt
 
--- what a row tells of its stage
+-- what a row reports of its stage
 pub own_news : (m k : ℕ) (n o : Name) (size : ℕ) (stage : Stage) (told : RowNews) → m ≡ k → n ≡ o → told ≡ news_in stage → IsOwn m n size stage → IsOwnNews k o told
 own_news m k n o size stage told same_meter same_name is own =
     let P : ℕ → Type 0 = λ x. IsOwnNews x n told in

@@ -78,7 +78,7 @@ goal_heard row next datagram told (inr ignores) =
       meter = ap (λ (r : Row). r.client.meter) ignores.2;
     }
 
--- what tells nothing of an end leaves the row going
+-- what reports no end leaves the row going
 abbrev pub TellsNoEnd : RowNews → Type 0
 TellsNoEnd (news.Done claim) = ⊥
 TellsNoEnd news.Failed = ⊥

@@ -64,7 +64,7 @@ module _ (follow : StatesFollowCalls) where
       (λ other. goes.others c m other)
       (either_campaign c book serial)
 
-  -- the meter that is marked ended is live in no campaign but another one
+  -- the meter that is marked ended is live in no campaign except another one
   pub marked_ends : (book : Contents) (serial meter : ℕ) (state : RowState) (c : Campaign) → is_live state ≡ false → state_in (marked book serial meter state) c meter ≡ Some Live → (c.serial ≢ serial) × (state_in book c meter ≡ Some Live)
   marked_ends book serial meter state c ended live =
       let own : Campaign = record { head = book.head; serial = serial } in

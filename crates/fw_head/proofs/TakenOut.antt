@@ -46,7 +46,7 @@ taken_heard old new meter datagram told (inr x) = ap (λ (rs : Rows). without_me
 none_some : (row : Row) → (let o : Option Row = None in o ≡ Some row) → ⊥
 none_some row e = cc
 
--- a row that took an answer tells something
+-- a row that took an answer reports something
 tells : (stage : Stage) (told : RowNews) → told ≡ news_in stage → ¬ (told ≡ Nothing)
 tells (Done claim) told is nothing = cc
 tells Failed told is nothing = cc

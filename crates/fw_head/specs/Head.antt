@@ -19,7 +19,7 @@ use Rattle.fw_head.specs.declared.phase.Phase.TheVariants as phase
 use Rattle.fw_head.specs.Phase.{phase_of, IsLive}
 use Rattle.fw_head.specs.Row.{Row, new_row, sends, ticked, RowHears, RowMayWant, IsPermitted}
 
--- the live rows, each behind the number of its meter
+-- the live rows, each under the number of its meter
 abbrev pub Rows : Type 0
 Rows = List (ℕ × Row)
 
@@ -39,11 +39,11 @@ at_meter meter change [] = []
 at_meter meter change (entry ∷ entries) =
     if meter == entry.0 then (entry.0, change entry.1) ∷ entries else entry ∷ at_meter meter change entries
 
--- the rows but that of the meter
+-- the rows except that of the meter
 abbrev pub without_meter : ℕ → Rows → Rows
 without_meter meter rows = filter (λ (entry : ℕ × Row). not (entry.0 == meter)) rows
 
--- the rows but those of the campaign of this serial number
+-- the rows except those of the campaign of this serial number
 abbrev pub without_serial : ℕ → Rows → Rows
 without_serial serial rows = filter (λ (entry : ℕ × Row). not (entry.1.name.campaign.serial == serial)) rows
 
@@ -61,7 +61,7 @@ RowsHear old meter datagram told new =
     ((row next : Row) × (row_of old meter ≡ Some row) × RowHears row datagram told next × (new ≡ at_meter meter (λ was. next) old))
     ⊎ ((row_of old meter ≡ None) × (told ≡ Nothing) × (new ≡ old))
 
--- the meter has a live row, which may want memory for the datagram
+-- the meter has a live row, which may take memory for the datagram
 abbrev pub RowsMayWant : Rows → ℕ → List ℕ → Type 0
 RowsMayWant rows meter datagram = (row : Row) × (row_of rows meter ≡ Some row) × RowMayWant row datagram
 
@@ -104,14 +104,14 @@ sends_to head meter = option_map_or (λ row. sends row (image_of head row) head.
 abbrev pub ticked_head : Head → ℕ → Head
 ticked_head head meter = record head { rows = at_meter meter (λ row. ticked row (image_of head row) head.width) head.rows }
 
--- what is told of a row's news
+-- what is reported of a row's news
 abbrev pub news_of : Campaign → ℕ → RowNews → News
 news_of campaign meter Nothing = news.Nothing
 news_of campaign meter Moved = news.Moved
 news_of campaign meter (Done claim) = news.Done campaign meter
 news_of campaign meter Failed = news.Failed campaign meter
 
--- The head end once the meter's row went on to this one. A row that ended is marked in the book, and is live no more.
+-- The head end once the meter's row became this one. A row that ended is marked in the book, and is live no more.
 abbrev pub went_on : Head → ℕ → Row → RowNews → Head
 went_on head meter row Nothing = head
 went_on head meter row Moved = record head { rows = at_meter meter (λ old. row) head.rows }
@@ -132,11 +132,11 @@ pub record HeadTakes (old : Head) (meter : ℕ) (datagram : List ℕ) (told : Ne
 abbrev pub HeadIgnores : Head → ℕ → News → Head → Type 0
 HeadIgnores old meter told new = (row_of old.rows meter ≡ None) × (told ≡ news.Nothing) × (new ≡ old)
 
--- from old, a head end that is given this datagram of a meter tells this, and goes on to new
+-- from old, a head end that is given this datagram of a meter reports this, and becomes new
 abbrev pub HeadHears : Head → ℕ → List ℕ → News → Head → Type 0
 HeadHears old meter datagram told new = HeadTakes old meter datagram told new ⊎ HeadIgnores old meter told new
 
--- A meter's answer makes it done in a campaign: its live row is of that campaign and waits for the name of the image that runs, the
+-- A meter's answer makes it done in a campaign. Its live row is of that campaign and waits for the name of the image that runs. The
 -- datagram is the response to that GET, and the name in it is the one under which the campaign offers its image.
 pub record IsDoneBy (head : Head) (meter : ℕ) (datagram : List ℕ) (campaign : Campaign) : Type 0 where
   pub row : Row
@@ -149,7 +149,8 @@ pub record IsDoneBy (head : Head) (meter : ℕ) (datagram : List ℕ) (campaign 
 
 -- ---- what every head end keeps
 
--- a row is that of its meter in a campaign of the book, which is live there, for the image that the campaign offers, and hasn't ended
+-- A row is that of its meter in a campaign of the book. The meter is live there, the row is for the image that the campaign offers, and it
+-- hasn't ended.
 pub record IsRowOf (book : Contents) (meter : ℕ) (row : Row) : Type 0 where
   pub asks : row.client.meter ≡ meter
   pub live : state_in book row.name.campaign meter ≡ Some state.Live

@@ -21,7 +21,7 @@ use Rattle.fw_book.specs.declared.row.Row as book_row
 use Rattle.fw_book.specs.Rows.{is_live}
 use Rattle.fw_book.specs.Contents.{Contents, Offered}
 
--- ---- of a stage: this of how the image is cut into blocks, with as many known as there are, and this of the claim that ended the row
+-- ---- of a stage: `Cut` of how the image is cut into blocks, with a mark known of each, and `Ends` of the claim that ended the row
 
 abbrev pub StageHolds : (Partition → Type 0) → (Claim → Type 0) → Stage → Type 0
 StageHolds Cut Ends Size = Unit {0}
@@ -56,18 +56,18 @@ IsOwn meter name size stage = StageHolds (IsCutOf size) (IsClaimOf meter name) s
 abbrev pub IsOwnStep : ℕ → Name → ℕ → Step → Type 0
 IsOwnStep meter name size step = StepHolds (IsCutOf size) (IsClaimOf meter name) step
 
--- what is told of a done row is a claim of this meter under this name
+-- what is reported of a done row is a claim of this meter under this name
 abbrev pub IsOwnNews : ℕ → Name → RowNews → Type 0
 IsOwnNews meter name (news.Done claim) = (claim.meter ≡ meter) × (claim.name ≡ name)
 IsOwnNews meter name told = Unit {0}
 
--- what every row keeps: the last return ends it, its image is cut within the limits, and once it is done the meter of its client claimed
--- its own name
+-- What every row keeps. The last return ends it, and its image is cut within the limits. Once it is done, the meter of its client claimed
+-- its own name.
 pub record IsRow (name : Name) (size : ℕ) (stage : Stage) (client : State) (returns : ℕ) : Type 0 where
   pub few : returns < max_returns
   pub own : IsOwn client.meter name size stage
 
--- each outstanding ask is one of the last so many
+-- each outstanding ask is one of the last `n`
 abbrev pub AskedLately : State → ℕ → Type 0
 AskedLately c n = (id : ℕ) → IsSome (get c.asks id) → (back : ℕ) × (1 ≤ back) × (back ≤ n) × ((id + back) % 16 ≡ c.next % 16)
 

@@ -17,7 +17,7 @@ use Rattle.fw_head.specs.Row.{Row, RowHears}
 use Rattle.fw_head.specs.Head.{Head, IsHead, row_of, restarted, BeginsWith}
 use Rattle.fw_head.specs.Parts.{AreLiveRows, by_meter, with_ends, joined}
 
--- a row and a datagram determine what is told, and the row afterwards
+-- a row and a datagram determine what is reported, and the row afterwards
 abbrev pub OneRow : Type 0
 OneRow =
     (old new other : Row) (datagram : List ℕ) (told also : RowNews)
@@ -48,7 +48,7 @@ DoneByClaim =
 
 -- ---- a head end that is parted and put together
 
--- the same head end, the order of its live rows aside
+-- the same head end, except for the order of its live rows
 pub record IsAsBefore (before after : Head) : Type 0 where
   pub book : after.book ≡ before.book
   pub width : after.width ≡ before.width
@@ -71,7 +71,7 @@ state_of_stage (Done claim) = state.Done
 state_of_stage Failed = state.Failed
 state_of_stage stage = state.Live
 
--- What the ends of its live rows make of a book: no image changes, and no name, each of the rows has the state of its stage, and every
+-- What the ends of its live rows make of a book. No image changes, and no name. Each of the rows has the state of its stage, and every
 -- state that was not live is as it was.
 pub record MarksEnds (before after : Contents) (rows : List Row) : Type 0 where
   pub images : (campaign : Campaign) → image_in after campaign ≡ image_in before campaign
@@ -85,6 +85,6 @@ EndsAreMarked = (book : Contents) (rows : List Row) → AreLiveRows book rows �
 
 -- ---- a head end that begins with a book that was kept
 
--- It is the head end of this book and width once it has started again, the order of its live rows aside.
+-- It is the head end of this book and width once it has started again, except for the order of its live rows.
 abbrev pub BeginsRestarted : Type 0
 BeginsRestarted = (head begun : Head) → IsHead head → BeginsWith head.book head.width begun → IsAsBefore (restarted head) begun

@@ -11,7 +11,7 @@ use Rattle.fw_head.specs.Phase.{has_ended}
 use Rattle.fw_head.specs.Row.{Row}
 use Rattle.fw_head.specs.Head.{Head, Rows, renewed, AreRowsOf}
 
--- the rows, each behind the number of its meter
+-- the rows, each under the number of its meter
 abbrev pub by_meter : List Row → Rows
 by_meter rows = map (λ (row : Row). (row.client.meter, row)) rows
 

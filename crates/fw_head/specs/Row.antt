@@ -83,7 +83,7 @@ pub record IsBlockOf (image : List ℕ) (number : ℕ) (value : List ℕ) : Type
   pub below : number < block_count block_size (length image)
   pub cut_is : value ≡ cut block_size image number
 
--- an initiate with the image's own name and size, a block of it, and else a set to true, a read, a verify, or an activate
+-- an initiate with the image's own name and size, a block of it, or else a set to true, a read, a verify or an activate
 abbrev pub MaySend : Name → List ℕ → Ask → Type 0
 MaySend name image (initiate n size) = (n ≡ name) × (size ≡ length image)
 MaySend name image (block number value) = IsBlockOf image number value
@@ -127,7 +127,7 @@ stepped row (Took number) = settled row (with_block row.stage number)
 stepped row (Move stage) = moved row stage
 stepped row (Return g) = returned row g
 
--- what is told of an answer that led to this stage
+-- what is reported of an answer that led to this stage
 abbrev pub news_in : Stage → RowNews
 news_in (Done claim) = news.Done claim
 news_in Failed = news.Failed
@@ -147,7 +147,7 @@ pub record RowTakes (old : Row) (datagram : List ℕ) (told : RowNews) (new : Ro
 abbrev pub RowIgnores : Row → List ℕ → RowNews → Row → Type 0
 RowIgnores old datagram told new = AnswersNone old.client datagram × (told ≡ news.Nothing) × (new ≡ old)
 
--- from old, a row that is given this datagram tells this, and goes on to new
+-- from old, a row that is given this datagram reports this, and becomes new
 abbrev pub RowHears : Row → List ℕ → RowNews → Row → Type 0
 RowHears old datagram told new = RowTakes old datagram told new ⊎ RowIgnores old datagram told new
 
@@ -158,6 +158,6 @@ pub record TakesList (row : Row) (datagram : List ℕ) : Type 0 where
   pub takes : Takes row.client datagram heard client
   pub wants : TakesMemory row.stage heard
 
--- A row may want memory for a datagram only where its client may, or for such a list.
+-- A row may take memory for a datagram only where its client may, or for such a list.
 abbrev pub RowMayWant : Row → List ℕ → Type 0
 RowMayWant row datagram = MayCarryData datagram ⊎ TakesList row datagram

@@ -53,7 +53,7 @@ pub(crate) fn next_step(
     }
 }
 
-/// The block size tells how the image is cut.
+/// The answer is the block size, by which the image is cut.
 fn from_size(size: u32, heard: Heard) -> Step
     ensures { (name : Name) → Leads name size Stage.Size heard result }
 {

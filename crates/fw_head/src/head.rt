@@ -53,7 +53,7 @@ impl HeadCore {
     ghost use Rattle.fw_head.specs.Head.{BeginsWith, has_live_row, HasOutstanding};
     ghost use Rattle.fw_head.specs.Head.{restarted, sends_to, ticked_head, HeadHears, IsDoneBy, IsOfferedIn};
 
-    /// A head end of no campaign, that sends so many blocks at a time. It keeps the allocator, and takes no memory.
+    /// A head end of no campaign, that sends up to `width` blocks at a time. It keeps the allocator, and takes no memory.
     pub fn new(alloc: Global, head: HeadId, width: Width) -> HeadCore
         ensures { result ≡ new_head head width }
     {
@@ -65,7 +65,7 @@ impl HeadCore {
     }
 
     /// A head end that begins with a book that was kept: each meter that is live in it has a new row, as after a restart of the head
-    /// end that had the book. It sends so many blocks at a time.
+    /// end that had the book. It sends up to `width` blocks at a time.
     ///
     /// # Errors
     ///
@@ -78,7 +78,7 @@ impl HeadCore {
         Ok(HeadCore { book, width, rows })
     }
 
-    /// Opens the campaign of this serial number: it offers the image to the meters under the name that is answered, which has this
+    /// Opens the campaign of this serial number: it offers the image to the meters under the name that is returned, which has this
     /// release, and each of them has a new row.
     ///
     /// # Errors
@@ -150,7 +150,7 @@ impl HeadCore {
     ///
     /// # Errors
     ///
-    /// `OutOfMemory` alone, and only where the meter has a live row that may want memory for the datagram. The head end is then as
+    /// `OutOfMemory` alone, and only where the meter has a live row that may take memory for the datagram. The head end is then as
     /// before.
     pub fn hear(
         &mut self,
@@ -159,7 +159,7 @@ impl HeadCore {
         datagram: &[u8],
     ) -> Result<News, OutOfMemory>
         ensures heard { IfOk result (λ told. HeadHears self.old from datagram.now told self.new) }
-        // A meter is told done exactly where its own answer claims what the campaign offers.
+        // A meter is reported done exactly where its own answer claims what the campaign offers.
         ensures done { IfOk result (λ told. (campaign : Campaign) (meter : ℕ) → (told ≡ News.Done campaign meter)
             ↔ ((meter ≡ from) × IsDoneBy self.old meter datagram.now campaign)) }
         ensures same { OnErr result (self.new ≡ self.old) }
@@ -266,7 +266,7 @@ impl HeadCore {
         }
     }
 
-    /// Parts the head end into its book, its width and its live rows. They are put together again by `put_rows`, whatever ticks and
+    /// Parts the head end into its book, its width and its live rows. `put_rows` puts them together again, whatever ticks and
     /// datagrams made of the rows meanwhile. It takes no memory.
     pub fn take_rows(self) -> HeadParts
         ensures book { result.book ≡ self.book }

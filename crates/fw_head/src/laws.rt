@@ -2,7 +2,7 @@
 
 ghost use Rattle.fw_head.specs.Laws.{OneRow, RowKeepsGoal, DoneByClaim, PutBack, PutBackInOrder, EndsAreMarked, BeginsRestarted};
 
-/// A row and a datagram determine what is told, and the row afterwards.
+/// A row and a datagram determine what is reported, and the row afterwards.
 pub fn one_row()
     ensures { OneRow }
 {
@@ -41,8 +41,8 @@ pub fn ends_are_marked()
     fw_book::laws::images_stay();
 }
 
-/// A head end that begins with the book of another one, under the same width, is that one once it has started again, the order of its
-/// live rows aside.
+/// A head end that begins with the book of another one, under the same width, is that one once it has started again, except for the
+/// order of its live rows.
 pub fn begins_restarted()
     ensures { BeginsRestarted }
 {}

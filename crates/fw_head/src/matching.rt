@@ -21,7 +21,8 @@ fn are_live_rows(book: &Book, rows: &[RowCore]) -> bool
     are_of_book(book, rows) && !repeats(rows) && has_each(rows, book)
 }
 
-/// What rows are refused for where no memory was had for them.
+/// Why rows are refused that no memory was had for: `OutOfMemory` where they are the live ones of the book, and otherwise
+/// `WrongRows`.
 pub(crate) fn refusal(book: &Book, rows: &[RowCore]) -> PutError
     requires { rows.now ≢ [] }
     ensures { PutRefused book.now rows.now result }
@@ -64,7 +65,7 @@ fn is_of_book(book: &Book, row: &RowCore) -> bool
     }
 }
 
-/// Whether two rows are of one meter. The cost is that of the square of the number of rows.
+/// Whether two rows are of one meter. The cost grows with the square of the number of rows.
 fn repeats(rows: &[RowCore]) -> bool
     ensures { result ≡ repeats rows.now }
 {

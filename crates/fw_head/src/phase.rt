@@ -1,6 +1,6 @@
 //! The phases of a row.
 
-/// Where a row is in the procedure of Image transfer (IEC 62056-6-2, Image transfer, procedure). Each but the last two is named by
+/// Where a row is in the procedure of Image transfer (IEC 62056-6-2, Image transfer, procedure). Each except the last two is named by
 /// what it asks of the meter.
 #[derive(Clone, Copy, Debug, PartialEq, Eq)]
 pub enum Phase {

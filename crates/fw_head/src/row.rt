@@ -31,8 +31,8 @@ pub struct RowCore {
     returns: u8,
 }
 
-// Contracts see the row machine. A row that is live returned fewer than eight times, its image is cut within the limits with as many
-// blocks known as it has, and a row that is done was claimed by its own meter, its client's, under its own name.
+// Contracts see the row machine. A live row returned fewer than eight times. Its image is cut within the limits, and the set of its
+// known blocks counts as many as the image has. A row that is done was claimed by its own meter, its client's, under its own name.
 impl Model for RowCore {
     ghost use Rattle.std.specs.Coded.{codes};
     ghost use Rattle.std.specs.FinMap.{code};
@@ -225,7 +225,7 @@ impl RowCore {
     ///
     /// # Errors
     ///
-    /// `OutOfMemory` alone, and only where the client may want memory, or where the answer tells which blocks the meter has. The row
+    /// `OutOfMemory` alone, and only where the client may take memory, or where the answer shows which blocks the meter has. The row
     /// is then as before.
     pub fn hear(&mut self, alloc: Global, datagram: &[u8]) -> Result<RowNews, OutOfMemory>
         ensures heard { IfOk result (λ told. RowHears self.old datagram.now told self.new) }

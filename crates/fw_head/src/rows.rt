@@ -156,7 +156,7 @@ impl Rows {
         Ok(live)
     }
 
-    /// Adds rows to none, for which there is room, as far as no two are of one meter, and tells whether that is all of them.
+    /// Adds rows to none, for which there is room, as far as no two are of one meter. Returns whether that is all of them.
     fn gather(&mut self, rows: Vec<RowCore>) -> bool
         requires none { self.old.rows.entries ≡ [] }
         requires room { length rows.items ≤ spare self.old.rows }
@@ -221,7 +221,7 @@ impl Rows {
         );
     }
 
-    /// Makes room for so many rows more.
+    /// Makes room for `more` rows more.
     pub(crate) fn reserve(&mut self, more: usize) -> Result<(), AllocError>
         ensures same { self.new.rows.entries ≡ self.old.rows.entries }
         ensures room { OnOk result (more ≤ spare self.new.rows) }

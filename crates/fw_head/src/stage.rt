@@ -69,7 +69,7 @@ impl Stage {
         }
     }
 
-    /// What is told of a matched answer that led here.
+    /// What is reported of a matched answer that led here.
     pub(crate) fn news(&self) -> RowNews
         ensures { result ≡ news_in self.now }
     {

@@ -1,4 +1,4 @@
--- Slices of a goal, and the judgement behind the last, are the steps and the turns of a meter.
+-- Slices of a goal, and the judgement after the last, are the steps and the turns of a meter.
 use Rattle.std.proofs.Common.{◌≡◌, ◌≢◌, ℕ, ◌+◌, ◌-◌, ◌<◌, ◌≤◌, min, nat_lt, nat_le, Bool, true, false, IsTrue, List, length, Some, None, Option, cond, if◌then◌else◌, ◌↔◌, refl, sym, ap, subst, ◌∙◌, arith, ◌⊎◌, inl, inr}
 use Rattle.std.specs.Prelude.{is_some, IfSome, Result, Ok, Err, IsErrAnd}
 use Rattle.std.proofs.lemmas.Bool.Decides.{nat_tests}
@@ -66,7 +66,7 @@ goal_is : (p : Phase) (goal : Goal) → IsOpen p goal → goal_of p ≡ Some goa
 goal_is p goal (inl e) = ap goal_of e
 goal_is p goal (inr (taken, e)) = ap goal_of e
 
--- ---- the header behind a judgement
+-- ---- the header after a judgement
 
 pub meter_of-judged : (capacity : ℕ) (h : Header) (d d' : Device) (status : StoredStatus) → SameSlots d d'
     → meter_of capacity (record h { status = status }) d' ≡ record (meter_of capacity h d) { phase = phase_of status h.goal }
@@ -152,7 +152,7 @@ refused_verify m goal on phase none =
     let denies : ¬ Admits m (receiving goal) verify = λ a. let e : None ≡ Some a.0 = sym none ∙ a.1 in absurd cc in
     inr (on, refl, subst (λ (p : Phase). ¬ Admits m p verify) (sym phase) denies)
 
--- the calls for a goal of so many bytes
+-- the calls for a goal of `size` bytes
 abbrev calls_of : ℕ → ℕ
 calls_of size = if nat_le size 4096 then 2 else 1
 
@@ -190,7 +190,7 @@ pub judged_faultless : (genuine : Bool) → IsTrue (is_operation_faultless (cond
 judged_faultless true = refl
 judged_faultless false = refl
 
--- what a verify is told
+-- what a verify returns
 
 pub verify_fault : {T : Type 0} (r : Result T Refusal) (p : Phase) → IsErrAnd r (λ e. e ≡ Fault) → verify_outcome r p ≡ refused Fault
 verify_fault (Ok x) p h = absurd h
@@ -251,7 +251,7 @@ turns_none t s h = record {
   spends = subst (λ (n : ℕ). Spends n (t.fuse s) (t.fuse s) true) (sym (no_calls h.status h.goal)) (spends_none (t.fuse s));
 }
 
--- the reads of a slice, where so many of so many bytes are taken
+-- the reads of a slice, where `taken` of `size` bytes are taken
 abbrev reads_of : ℕ → ℕ → ℕ
 reads_of taken size = if nat_lt taken size then 1 else 0
 
@@ -261,7 +261,7 @@ one_read taken size some = grind (arith, nat_tests)
 pub reads_some : (progress : Progress) → progress.taken < progress.size → reads_left progress ≡ 1
 reads_some progress some = one_read progress.taken progress.size some
 
--- the calls of a turn, where so many of so many bytes are digested
+-- the calls of a turn, where `taken` of `size` bytes are digested
 abbrev calls_behind : ℕ → ℕ → ℕ
 calls_behind taken size = if nat_lt (taken + 4096) size then 1 else 2
 

@@ -43,7 +43,7 @@ pub record Rewrites (honest : Bool) (capacity : ℕ) (device d d' : Device) : Ty
 pub keeps_twice : {S : Type 0} (t : Ghosts S) (a b c : S) → Keeps t.honest t.sound t.capacity t.faults a b → Keeps t.honest t.sound t.capacity t.faults b c → Keeps t.honest t.sound t.capacity t.faults a c
 keeps_twice t a b c k l = record { honesty = l.honesty ∙ k.honesty; soundness = λ s. l.soundness (k.soundness s); size = l.size ∙ k.size; later = omega (arith, k.later, l.later) }
 
--- what the exit of a `?` tells
+-- what the exit of a `?` says
 pub fault_told : {T : Type 0} (r : Result T Refusal) → IsErrAnd r (λ e. e ≡ Fault) → outcome_of r ≡ refused Fault
 fault_told (Ok x) h = absurd h
 fault_told (Err e) h = ap refused h
@@ -345,11 +345,11 @@ valid_switched capacity h slot goal marks none there is fits =
 
 -- ---- several calls
 
--- a header write behind a call that left the device as it was
+-- a header write after a call that left the device as it was
 pub written_after : {S : Type 0} (t : Ghosts S) (s s1 s2 : S) (bytes : List ℕ) → t.honest s1 ≡ t.honest s → (IsTrue (t.honest s) → t.device s1 ≡ t.device s)
     → (IsTrue (t.honest s1) → t.device s2 ≡ with_head (t.device s1) bytes) → IsTrue (t.honest s) → t.device s2 ≡ with_head (t.device s) bytes
 written_after t s s1 s2 bytes honesty same written b = written (honesty ∙ b) ∙ ap (λ (d : Device). with_head d bytes) (same b)
 
--- what a call counts behind one that counted nothing
+-- what a call counts after one that counted nothing
 pub counted_after : (ok : Bool) (before between after : ℕ) → between ≡ before → after ≡ count_after ok between → after ≡ count_after ok before
 counted_after ok before between after none counted = counted ∙ ap (count_after ok) none

@@ -117,7 +117,7 @@ refused_image t s s' h kept same uncounted valid spelled differs calls spends nu
       (meter_of (t.capacity s) h (t.device s), is, number b);
 }
 
--- what the exit of a `?` tells
+-- what the exit of a `?` says
 pub refused_fault : {S : Type 0} {T : Type 0} (t : Ghosts S) (s s' : S) (r : Result T OpenError) → IsErrAnd r (λ e. e ≡ Fault) → Keeps t.honest t.sound t.capacity t.faults s s' → (IsTrue (t.honest s) → t.device s' ≡ t.device s)
     → t.faults s' ≡ count_after false (t.faults s) → (IsTrue (t.sound s) → IsTrue false) → (calls : ℕ) → Spends calls (t.fuse s) (t.fuse s') false
     → IfErr r (λ e. Refused t.honest t.sound t.capacity t.faults t.fuse t.device s e s')

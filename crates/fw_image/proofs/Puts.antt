@@ -271,7 +271,7 @@ tears_put stay law stand true capacity h d d' slot number start value valid size
       | inr unmarked ↦ inl (leaves true _ _ (meter_kept stay law stand capacity h d d' place.goal number start is.left put unmarked there))
     ]
 
--- whether the block is there is told by its mark
+-- its mark says whether the block is there
 there_by_mark : (capacity : ℕ) (h : Header) (d : Device) (number start : ℕ) (value : List ℕ) → IsPlace h number value start
     → is_some (get (meter_of capacity h d).cells number) ≡ has h.marks number
 there_by_mark capacity h d number start value place =

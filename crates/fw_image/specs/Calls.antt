@@ -7,8 +7,8 @@ use Rattle.fw_verify.specs.Slices.{slice_size, slice_count}
 use Rattle.fw_image.specs.Meter.{Meter, Phase, verifying, sealed, goal_of, goal_size}
 use Rattle.fw_image.specs.Step.{Operation, enable, initiate, block, verify, activate, with_cell}
 
--- An operation that no line refuses: one write of the header; for a block, first that of its bytes, and the header only for a mark that
--- is new; for a verify, first a read of the goal, and the header only where that is all of it.
+-- An operation that no line refuses: one write of the header. For a block, first a write of its bytes, and the header only for a mark that
+-- is new. For a verify, first a read of the goal, and the header only where that is all of it.
 abbrev pub calls_for : Meter → Operation → ℕ
 calls_for m (enable b) = 1
 calls_for m (initiate name size) = 1
@@ -22,7 +22,7 @@ abbrev pub left_by_fault : ℕ → Meter → Operation → Meter
 left_by_fault torn m (block i value) = if is_some (get m.cells i) then with_cell m i (half_torn value torn) else m
 left_by_fault torn m operation = m
 
--- a turn: while a goal is verified, a read of it, and a write of the header behind the last
+-- a turn: while a goal is verified, a read of it, and a write of the header after the last
 abbrev pub turn_calls : Phase → ℕ
 turn_calls (verifying goal taken) = if nat_lt (taken + slice_size) goal.size then 1 else 2
 turn_calls phase = 0

@@ -14,9 +14,9 @@ abbrev pub CellsFit : ℕ → ℕ → Cells → Type 0
 CellsFit block_size size cells =
     (number : ℕ) (cell : List ℕ) → get cells number ≡ Some cell → length cell ≡ block_end block_size size number - block_start block_size number
 
--- a block has 1 to 1,024 bytes, an image may have as many blocks as a version of a header has marks for, the name of the image that runs
--- has a spelling, and a goal is one that can be initiated, so its release is not below that of the image that runs; its blocks have their
--- lengths
+-- A block has 1 to 1,024 bytes, and an image may have as many blocks as a version of a header has marks for. The name of the image that
+-- runs has a spelling. A goal is one that can be initiated, so its release is not below that of the image that runs. Its blocks have their
+-- lengths.
 pub record IsFit (m : Meter) : Type 0 where
   pub block_begins : 1 ≤ m.block_size
   pub block_ends : m.block_size ≤ max_block_size

@@ -22,7 +22,7 @@ FreshIsMeter = (version : HeaderVersion) (block_size capacity : ℕ) (factory : 
     → IsMeterOf capacity (fresh_device version block_size capacity factory) (fresh_meter version block_size capacity factory)
     × IsTrusted (fresh_meter version block_size capacity factory)
 
--- over an honest store, where no call of it failed, a meter and an operation determine what is told and the meter afterwards
+-- over an honest store, where no call of it failed, a meter and an operation determine what is returned and the meter afterwards
 abbrev pub OneStep : Type 0
 OneStep = (old new other : Meter) (operation : Operation) (a b : OperationOutcome) → Step true old operation a new → Step true old operation b other
     → a ≢ refused Fault → b ≢ refused Fault → (a ≡ b) × (new ≡ other)
@@ -31,7 +31,7 @@ OneStep = (old new other : Meter) (operation : Operation) (a b : OperationOutcom
 abbrev pub OneTurn : Type 0
 OneTurn = (old new other : Meter) → Turn true old true new → Turn true old true other → new ≡ other
 
--- the blocks of an image of so many bytes, each of its length, have so many bytes together
+-- the blocks of an image of `size` bytes, each of its length, have `size` bytes together
 abbrev pub JoinedSize : Type 0
 JoinedSize = (block_size size : ℕ) (cells : Cells) (bytes : List ℕ) → 1 ≤ block_size → CellsFit block_size size cells
     → joined cells (block_count block_size size) ≡ Some bytes → length bytes ≡ size

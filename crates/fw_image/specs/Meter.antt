@@ -16,8 +16,8 @@ pub record Image : Type 0 where
   pub name : Name
   pub bytes : List ℕ
 
--- The phases of a transfer (IEC 62056-6-2, image_transfer_status), in four of them with the name and the size of the image that
--- is to be received, the goal. While that is verified, so many of its bytes are digested.
+-- The phases of a transfer (IEC 62056-6-2, image_transfer_status). Four of them have a goal: the name and the size of the image that is
+-- to be received. While it is verified, the phase also says how many of its bytes are digested.
 pub data Phase : Type 0 where
   idle : Phase
   receiving : Goal → Phase
@@ -30,7 +30,7 @@ pub data Phase : Type 0 where
 abbrev pub Cells : Type 0
 Cells = FinMap nat_cmp (List ℕ)
 
--- how a proof tells cells apart
+-- how a proof compares cells
 abbrev pub cells_code : Coded Cells
 cells_code = code coded_ℕ (coded_list coded_ℕ)
 

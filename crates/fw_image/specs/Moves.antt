@@ -62,7 +62,7 @@ IsVerifiedGenuine m = status_of m.phase ≡ VerificationSuccessful → IsGenuine
 abbrev pub migrating_writes : Header → ℕ
 migrating_writes h = if block_limit h.version == max_blocks then 0 else 1
 
--- all is the same in two meters but their transfers and the bytes that they have
+-- all is the same in two meters except their transfers and the bytes that they have
 pub record HaveSameFields (a b : Meter) : Type 0 where
   pub block_size : a.block_size ≡ b.block_size
   pub capacity : a.capacity ≡ b.capacity

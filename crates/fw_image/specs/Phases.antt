@@ -21,7 +21,7 @@ state_in (Verified state) = state
 state_in (Spoilt state) = state
 state_in (Switched state) = state
 
--- the type of the state tells its status
+-- the type of the state says its status
 abbrev pub IsInPhase : {S : Type 0} → Phase S → Type 0
 IsInPhase (Idle state) = status_of state.meter.phase ≡ status.NotInitiated
 IsInPhase (Receiving state) = status_of state.meter.phase ≡ status.Initiated

@@ -30,8 +30,8 @@ is_operation_faultless outcome = true
 
 -- ---- the lines before any call of the store
 
--- What can be initiated, where an image of this release runs: an image that a campaign offers, of a release that is not below, of a size
--- within the limits, and of no more blocks than the meter has marks for.
+-- What can be initiated, where an image of this release runs: an image that a campaign offers. Its release is not below that one, its size
+-- is within the limits, and it has no more blocks than the meter has marks for.
 pub record IsOffer (limit block_size capacity release : ℕ) (name : Name) (size : ℕ) : Type 0 where
   pub opened : IsOpened name.campaign
   pub risen : release ≤ name.release
@@ -39,7 +39,7 @@ pub record IsOffer (limit block_size capacity release : ℕ) (name : Name) (size
   pub limits : IsWithinLimits block_size size
   pub few : block_count block_size size ≤ limit
 
--- a block of an image of so many bytes: its number, and just its length
+-- a block of an image of `size` bytes: its number, and just its length
 pub record IsBlock (block_size size number : ℕ) (value : List ℕ) : Type 0 where
   pub below : number < block_count block_size size
   pub long : length value ≡ block_end block_size size number - block_start block_size number
@@ -55,7 +55,7 @@ Admits m phase verify = ⊥
 Admits m (sealed goal) activate = Unit {0}
 Admits m phase activate = ⊥
 
--- by which an operation is refused that a phase doesn't admit
+-- the refusal of an operation that a phase doesn't admit
 abbrev pub refusal_in : Phase → Operation → Refusal
 refusal_in phase (initiate name size) = BadInitiate
 refusal_in (receiving goal) (block i value) = BadBlock
@@ -81,7 +81,7 @@ begun m name size = record m { phase = receiving (record { name = name; size = s
 abbrev pub with_cell : Meter → ℕ → List ℕ → Meter
 with_cell m i value = record m { cells = insert m.cells i value }
 
--- so many bytes of the goal are digested
+-- `taken` bytes of the goal are digested
 abbrev pub digested_phase : Phase → ℕ → Phase
 digested_phase (receiving goal) taken = verifying goal taken
 digested_phase phase taken = phase
@@ -108,7 +108,7 @@ pub record Leaves (honest : Bool) (this new : Meter) : Type 0 where
   pub shows : shown_of new ≡ shown_of this
   pub is : IsTrue honest → new ≡ this
 
--- A block write that failed leaves any bytes of its length in its cell, if that cell was there, and the meter as it was otherwise.
+-- A block write that failed leaves the meter as it was. If the cell of its block was there, that may have any bytes of its length.
 abbrev pub Tears : Bool → Meter → ℕ → List ℕ → Meter → Type 0
 Tears honest old i value new =
     Leaves honest old new
@@ -149,14 +149,14 @@ pub record IsServed (honest : Bool) (old : Meter) (operation : Operation) (outco
   pub serves : Serves old operation
   pub does : Does honest old operation outcome new
 
--- From old, a meter over a store that is honest or not comes to this on an operation, and goes on to new.
+-- From old, a meter over a store that is honest or not has this outcome of an operation, and becomes new.
 abbrev pub Step : Bool → Meter → Operation → OperationOutcome → Meter → Type 0
 Step honest old operation outcome new = IsRefused honest old operation outcome new ⊎ IsServed honest old operation outcome new
 
 -- ---- the turn
 
--- While a goal is verified, a turn digests a slice more of it, and with the last one judges it. One of whose calls of the store failed
--- gives the verification up. In every other phase it changes nothing.
+-- While a goal is verified, a turn digests a slice more of it, and with the last one judges it. A turn in which a call of the store failed
+-- gives the verification up. In every other phase a turn changes nothing.
 abbrev pub TurnsIn : Phase → Bool → Meter → Bool → Meter → Type 0
 TurnsIn (verifying goal taken) honest old true new =
     ((taken + slice_size < goal.size) × Leaves honest (record old { phase = verifying goal (taken + slice_size) }) new)
@@ -165,6 +165,6 @@ TurnsIn (verifying goal taken) honest old false new = Leaves honest (reopened ol
 TurnsIn phase honest old true new = new ≡ old
 TurnsIn phase honest old false new = ⊥
 
--- From old, a meter over a store that is honest or not takes a turn, in which no call of the store failed or one did, and goes on to new.
+-- From old, a meter over a store that is honest or not takes a turn and becomes new. In it no call of the store failed, or one did.
 abbrev pub Turn : Bool → Meter → Bool → Meter → Type 0
 Turn honest old faultless new = TurnsIn old.phase honest old faultless new

@@ -45,7 +45,7 @@ abbrev pub cells_of : ℕ → List Bool → List ℕ → Option Goal → Cells
 cells_of block_size marks spare None = empty
 cells_of block_size marks spare (Some goal) = blocks_below block_size marks (take goal.size spare) (block_count block_size goal.size)
 
--- the meter of a header and a device with slots of so many bytes
+-- the meter of a header and a device with slots of `capacity` bytes
 abbrev pub meter_of : ℕ → Header → Device → Meter
 meter_of capacity h d = record {
   block_size = h.block_size;
@@ -57,17 +57,17 @@ meter_of capacity h d = record {
   running = record { name = h.running_name; bytes = take h.running_size (slot_bytes d h.running_slot) };
 }
 
--- what is known of a device: its bytes where the store is honest, and else nothing, for which zeros stand
+-- what is known of a device: its bytes where the store is honest, and nothing otherwise, for which zeros stand
 abbrev pub seen : Bool → ℕ → Device → Device
 seen true capacity d = d
 seen false capacity d = record { head = []; first = replicate capacity 0; second = replicate capacity 0 }
 
--- the phase of a header, where so much of its goal is digested
+-- the phase of a header, where this much of its goal is digested
 abbrev pub phase_at : Option Progress → Phase → Phase
 phase_at None phase = phase
 phase_at (Some progress) phase = digested_phase phase progress.taken
 
--- the meter of a header and a device, where so much of its goal is digested
+-- the meter of a header and a device, where this much of its goal is digested
 abbrev pub meter_at : ℕ → Header → Option Progress → Device → Meter
 meter_at capacity h digesting d = record (meter_of capacity h d) { phase = phase_at digesting (phase_of h.status h.goal) }
 
@@ -89,8 +89,8 @@ pub record IsHeld {S : Type 0} (honest : S → Bool) (capacity : S → ℕ) (dev
   pub stored : IsTrue (honest store) → header_bytes h ≡ (device store).head
   pub trusted : IsTrue (honest store) → IsTrusted (meter_of (capacity store) h (device store))
 
--- A goal is verified: it is received, with all its blocks, and of its bytes in the spare slot so many are digested, a slice at least and
--- not all.
+-- A goal is verified: it is received, with all its blocks. Of its bytes in the spare slot the first `taken` are digested, a slice at least
+-- and not all.
 pub record IsVerifying {S : Type 0} (honest : S → Bool) (device : S → Device) (store : S) (h : Header) (progress : Progress) : Type 0 where
   pub goal : Goal
   pub receives : h.status ≡ Initiated
@@ -111,15 +111,15 @@ pub record IsHolding {S : Type 0} (honest : S → Bool) (capacity : S → ℕ) (
   pub held : IsHeld honest capacity device store h
   pub digested : IsDigested honest device store h digesting
 
--- A device with slots of so many bytes is this meter: its header is spelled there, and is one that a store can have.
+-- A device with slots of `capacity` bytes is this meter: its header is spelled there, and is one that a store can have.
 pub record IsMeterOf (capacity : ℕ) (d : Device) (m : Meter) : Type 0 where
   pub header : Header
   pub valid : IsHeader capacity header
   pub spelled : header_bytes header ≡ d.head
   pub means : m ≡ meter_of capacity header d
 
--- A store holds a state: they are as honest and as large as each other, and where the store is honest its device is the meter, whose
--- images have the digests of their names.
+-- A store holds a state: they are as honest and as large as each other. Where the store is honest, its device is the meter, and the
+-- images of that have the digests of their names.
 pub record Holds {S : Type 0} (honest : S → Bool) (capacity : S → ℕ) (device : S → Device) (store : S) (state : State) : Type 0 where
   pub honesty : state.honest ≡ honest store
   pub size : state.meter.capacity ≡ capacity store
@@ -127,8 +127,8 @@ pub record Holds {S : Type 0} (honest : S → Bool) (capacity : S → ℕ) (devi
   pub means : IsTrue (honest store) → IsMeterOf (capacity store) (device store) state.meter
   pub trusted : IsTrue (honest store) → IsTrusted state.meter
 
--- A store is opened, and its header is one of version 2 from then on: the meter that it was goes on with all else kept, and so does the
--- device where that was so before. No call of the store failed.
+-- A store is opened, and its header is one of version 2 from then on. All else of the meter that it was is kept, and the device stays the
+-- same where its header was one of version 2 before. No call of the store failed.
 pub record Opens {S : Type 0} (honest : S → Bool) (capacity : S → ℕ) (fuse : S → Option Fuse) (device : S → Device) (store : S) (state : State) : Type 0 where
   pub honesty : state.honest ≡ honest store
   pub was : Meter
@@ -141,8 +141,8 @@ pub record Opens {S : Type 0} (honest : S → Bool) (capacity : S → ℕ) (fuse
   pub kept : IsTrue (honest store) → was.limit ≡ max_blocks → state.device ≡ device store
   pub spends : Spends (restart_calls was) (fuse store) state.fuse true
 
--- Why a store was not opened. Where it is honest: its header is none that it can have, or it is a meter, and an image has not the digest
--- of its name.
+-- Why a store was not opened. Where it is honest: its header is none that it can have; or it is a meter, and an image doesn't have the
+-- digest of its name.
 abbrev pub IsCause : OpenError → ℕ → Device → Type 0
 IsCause Fault capacity d = Unit {0}
 IsCause BadHeader capacity d = (m : Meter) → ¬ IsMeterOf capacity d m
@@ -154,15 +154,15 @@ is_opening_faultless Fault = false
 is_opening_faultless BadHeader = true
 is_opening_faultless BadImage = true
 
--- How many calls of an honest store tell why it was not opened: the one that reads the header, with those that read the image that
--- runs, or all of an opening. Behind a fault there are none.
+-- How many calls of an honest store show why it was not opened: the one that reads the header, with those that read the image that
+-- runs, or all of an opening. For a fault no number is given.
 abbrev pub IsFoundIn : OpenError → ℕ → Device → ℕ → Type 0
 IsFoundIn Fault capacity d calls = Unit {0}
 IsFoundIn BadHeader capacity d calls = calls ≡ 1
 IsFoundIn BadImage capacity d calls =
     (m : Meter) × IsMeterOf capacity d m × ((calls ≡ 1 + slice_count (length m.running.bytes)) ⊎ (calls ≡ opening_calls m))
 
--- A store was not opened for this reason, and is handed back. A fault is told just where it failed, and it was not called again then.
+-- A store was not opened for this reason, and is returned. The reason is a fault just where a call of it failed, and that call is the last.
 pub record Refused {S : Type 0} (honest sound : S → Bool) (capacity faults : S → ℕ) (fuse : S → Option Fuse) (device : S → Device) (store : S) (error : OpenError) (back : S) : Type 0 where
   pub reason : IsTrue (honest store) → IsCause error (capacity store) (device store)
   pub counted : faults back ≡ count_after (is_opening_faultless error) (faults store)

@@ -7,7 +7,7 @@ ghost use Rattle.fw_image.specs.declared.error.OpenError.TheVariants as not_open
 use fw_store::StoreFault;
 use thiserror::Error;
 
-/// Why an operation was refused. Of several causes the first one here is told.
+/// Why an operation was refused. Of several causes the first one here is returned.
 #[derive(Clone, Copy, Debug, PartialEq, Eq, Error)]
 pub enum Refusal {
     /// Image transfer is disabled.
@@ -39,7 +39,7 @@ impl From<StoreFault> for Refusal {
     }
 }
 
-/// Why a store was not opened. Of several causes the first one here is told.
+/// Why a store was not opened. Of several causes the first one here is returned.
 #[derive(Clone, Copy, Debug, PartialEq, Eq, Error)]
 pub enum OpenError {
     /// A call of the store failed.

@@ -165,7 +165,7 @@ impl<S: ImageStore> Held<S> {
         Ok(())
     }
 
-    /// Judges the image by the digest of what is stored, if one slice has it whole, and begins to digest a larger one.
+    /// Judges the image by the digest of what is stored, if one slice holds all of it. Begins to digest a larger one.
     pub(crate) fn verify(&mut self) -> Result<(), Refusal>
         requires { status_of self.old.meter.phase ≡ Initiated }
         ensures makes { Makes self.old verify (verify_outcome result self.new.meter.phase) self.new }
@@ -243,7 +243,7 @@ impl<S: ImageStore> Held<S> {
         Ok(())
     }
 
-    /// Opens a store, whose header stays as it is. A store that is refused is handed back, and its device is as it was.
+    /// Opens a store, whose header stays as it is. A store that is refused is returned, and its device is as it was.
     pub(crate) fn open(mut store: S) -> Result<Held<S>, (OpenError, S)>
         ensures opened { IfOk result (λ next. Holds S.honest S.capacity S.device store next) }
         ensures begins { IfOk result (λ next. reopened next.meter ≡ next.meter) }
@@ -263,8 +263,8 @@ impl<S: ImageStore> Held<S> {
         }
     }
 
-    /// Opens a store, and then writes its header in version 2 where it is one of version 1. A store that is refused is handed back,
-    /// and its device is as it was.
+    /// Opens a store, and then writes its header in version 2 where it is one of version 1. A store that is refused is returned, and
+    /// its device is as it was.
     pub(crate) fn open_migrated(mut store: S) -> Result<Held<S>, (OpenError, S)>
         ensures opened { IfOk result (λ next. Opens S.honest S.capacity S.fuse S.device store next) }
         ensures begins { IfOk result (λ next. reopened next.meter ≡ next.meter) }

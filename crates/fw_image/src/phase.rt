@@ -1,4 +1,4 @@
-//! A transfer in the status that a store tells.
+//! A transfer, in the status that its store holds.
 
 ghost use Rattle.std.specs.Prelude.{
   ◌≡◌,
@@ -71,15 +71,15 @@ pub fn open_store<S: ImageStore>(store: S) -> Result<Phase<S>, (OpenError, S)>
     ensures again { (meter : Meter) → IsMeterOf (S.capacity store) (S.device store) meter → IsTrusted meter
         → IsTrue (S.honest store) → IsTrue (S.sound store) → IsOkAnd result (λ phase. (state_in phase).meter ≡ migrated meter) }
 
-    // One that is honest alone is refused only where one of these calls fails.
+    // An honest store that holds such a meter is refused only where one of these calls fails.
     ensures cut { (meter : Meter) → IsMeterOf (S.capacity store) (S.device store) meter → IsTrusted meter
         → IsTrue (S.honest store) → IfErr result (λ e. Spends (restart_calls meter) (S.fuse store) (S.fuse e.1) false) }
 {
     Ok(Phase::of(Held::open_migrated(store)?))
 }
 
-/// Opens a store as `open_store` does, but leaves its header as it is. While it has version 1, the transfer writes headers of
-/// that version, and admits no image of more blocks than that has marks for, which are 4,096. No memory is taken.
+/// Opens a store as `open_store` does, and leaves its header as it is. While it has version 1, the transfer writes headers of that
+/// version, and admits no image of more blocks than that has marks for, which are 4,096. No memory is taken.
 ///
 /// # Errors
 ///
@@ -100,7 +100,7 @@ pub fn open_kept<S: ImageStore>(store: S) -> Result<Phase<S>, (OpenError, S)>
     ensures again { (meter : Meter) → IsMeterOf (S.capacity store) (S.device store) meter → IsTrusted meter
         → IsTrue (S.honest store) → IsTrue (S.sound store) → IsOkAnd result (λ phase. (state_in phase).meter ≡ meter) }
 
-    // One that is honest alone is refused only where one of these calls fails.
+    // An honest store that holds such a meter is refused only where one of these calls fails.
     ensures cut { (meter : Meter) → IsMeterOf (S.capacity store) (S.device store) meter → IsTrusted meter
         → IsTrue (S.honest store) → IfErr result (λ e. Spends (opening_calls meter) (S.fuse store) (S.fuse e.1) false) }
 {
@@ -195,7 +195,7 @@ impl<S: ImageStore> Phase<S> {
         Phase::of(held)
     }
 
-    /// How many bytes a block has, but for the last of an image, which may be shorter (IEC 62056-6-2, image_block_size).
+    /// How many bytes a block has, except the last of an image, which may be shorter (IEC 62056-6-2, image_block_size).
     pub fn block_size(&self) -> u32
         ensures { result ≡ (state_in self.now).meter.block_size }
     {

@@ -233,9 +233,9 @@ impl<S: ImageStore> Receiving<S> {
 }
 
 impl<S: ImageStore> Verifying<S> {
-    /// Reads the next slice of the image. Behind the last one the digest is compared with that of the image's name, and the
-    /// result noted by one write of the header: the image is verified then, or spoilt. Where the store failed, the
-    /// verification is given up, and the image received as it is.
+    /// Reads the next slice of the image. After the last one the digest is compared with that of the image's name, and the result
+    /// noted by one write of the header: the image is verified then, or spoilt. Where the store failed, the verification is given up,
+    /// and the image received as it is.
     pub fn turn(self) -> Phase<S>
         ensures turns { Turns self (state_in result) }
         ensures phase { IsInPhase result }

@@ -6,7 +6,7 @@ use Rattle.fw_journal.specs.Device.{splice, IsTorn}
 use Rattle.fw_journal.specs.Book.{blocks, book_front, book_bytes, AreRecords, Stands}
 use Rattle.fw_journal.proofs.BookLemmas.{front-append, are-append, shut_at}
 
--- a journal with blocks behind its shut gate, and a shut gate behind those
+-- a journal with blocks after its shut gate, and a shut gate after those
 abbrev pub staged : List (List ℕ) → List ℕ → List ℕ
 staged done behind = book_front done ++ 0 ∷ behind
 
@@ -80,7 +80,7 @@ module _ (done : List (List ℕ)) (end : ℕ) (ends : end ≡ length (book_front
         ∙ append_assoc (book_front done) (1 ∷ []) behind
         ∙ open_is
 
--- what is written behind the gate, where something waits
+-- what is written after the gate, where something waits
 pub behind_is : (waiting : List (List ℕ)) (items : List ℕ) → 1 ≤ length (blocks waiting) → items ≡ blocks waiting ++ 0 ∷ [] → 1 ∷ drop 1 items ≡ blocks waiting ++ 0 ∷ []
 behind_is [] items some is = absurd (omega (arith, some))
 behind_is (w ∷ waiting) items some is = ap (λ (l : List ℕ). 1 ∷ drop 1 l) is

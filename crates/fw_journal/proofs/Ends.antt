@@ -24,7 +24,7 @@ take_past (x ∷ xs) ys zero n is = absurd (omega arith)
 take_past (x ∷ xs) ys (suc m) n is = ap (λ (l : List ℕ). x ∷ l) (take_past xs ys m n (omega arith))
 
 module _ (file : List ℕ) (records : List (List ℕ)) (size : ℕ) (sized : size ≡ length (book_front records)) (stands : Stands file records) where
-  -- any cut behind the records keeps them
+  -- any cut after the records keeps them
   pub cut_keeps : (c : List ℕ) → IsShortened size file c → Stands c records
   cut_keeps c cut =
       let n = length c - length (book_front records) in
@@ -35,7 +35,7 @@ module _ (file : List ℕ) (records : List (List ℕ)) (size : ℕ) (sized : siz
   pub cut_done : take size file ≡ book_front records
   cut_done = ap (λ (l : List ℕ). take size l) stands.split ∙ take_at (book_front records) stands.end size (sym sized)
 
-  -- one byte behind the records is no record
+  -- one byte after the records is no record
   pub torn_end : (c : List ℕ) → IsTorn size 1 (book_front records) c → Stands c records
   torn_end c torn =
       let front : take size c ≡ book_front records = torn.before ∙ take_all size (book_front records) (omega (arith, sized)) in

@@ -47,7 +47,7 @@ pub record Stands (bytes : List ℕ) (records : List (List ℕ)) : Type 0 where
 abbrev pub IsNoBody : List ℕ → Type 0
 IsNoBody bytes = (entry rest : List ℕ) → length entry < 2 ^ 32 → ¬ (bytes ≡ body entry ++ rest)
 
--- at this offset, after whole records, an open gate stands in front of what is no record
+-- at this offset, after whole records, an open gate stands before what is no record
 pub record IsBadRecord (bytes : List ℕ) (offset : ℕ) : Type 0 where
   pub front : List (List ℕ)
   pub fit : AreRecords front

@@ -5,14 +5,14 @@ use Rattle.std.specs.Prelude.{◌≡◌, ◌⊎◌, ℕ, ◌+◌, ◌≤◌, min
 abbrev pub splice : List ℕ → ℕ → List ℕ → List ℕ
 splice old at bytes = take at old ++ bytes ++ drop (at + length bytes) old
 
--- what may be left of a write of that many bytes: any bytes in their range, some or all of those past the old end, and the rest as before
+-- what may be left of a write of `count` bytes: any bytes in their range, some or all of those past the old end, and the rest as before
 pub record IsTorn (at count : ℕ) (old new : List ℕ) : Type 0 where
   pub before : take at new ≡ take at old
   pub after : drop (at + count) new ≡ drop (at + count) old
   pub no_shorter : length old ≤ length new
   pub no_longer : length new ≤ max (length old) (at + count)
 
--- what may be left where bytes are cut to a length: their first ones, that many or more
+-- what may be left where bytes are cut to a length: their first ones, `len` of them or more
 pub record IsShortened (len : ℕ) (old new : List ℕ) : Type 0 where
   pub no_shorter : min len (length old) ≤ length new
   pub front : take (length new) old ≡ new

@@ -3,7 +3,7 @@ use Rattle.std.specs.Prelude.{◌≡◌, ◌≤◌, ℕ, List, [], ◌∷◌, �
 use Rattle.fw_journal.specs.Device.{IsSynced}
 use Rattle.fw_journal.specs.Book.{blocks, book_front, book_bytes, AreRecords, Stands}
 
--- the device is honest and has these records, its gate stands at the end of them, and the group is some records and a shut gate
+-- The device is honest and has these records, and its gate stands at the end of them. The group is some records and a shut gate.
 pub record Takes {D : Type 0} (honest : D → Bool) (contents : D → List ℕ) (may_leave : D → List ℕ → Type 0) (device : D) (end : ℕ) (group : List ℕ) (done waiting : List (List ℕ)) : Type 0 where
   pub honesty : IsTrue (honest device)
   pub done_fit : AreRecords done

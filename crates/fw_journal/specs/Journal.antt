@@ -19,7 +19,7 @@ waiting_of journal = journal.waiting.items
 abbrev pub is_broken : {D : Type 0} → Journal D → Bool
 is_broken journal = journal.broken
 
--- a commit isn't refused, except for want of memory or by its device: no commit has failed, something waits, and there is room for it
+-- a commit is refused only out of memory or by its device: no commit has failed, something waits, and there is room for it
 pub record MayCommit {D : Type 0} (journal : Journal D) : Type 0 where
   pub works : journal.broken ≡ false
   pub some : journal.waiting.items ≢ []

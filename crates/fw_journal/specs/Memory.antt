@@ -30,7 +30,7 @@ leaves m left = MayLeave (held_of m) left
 abbrev pub left_since : MemoryDevice → ℕ → List ℕ → Type 0
 left_since m since left = IsSince (past_of m) (held_of m) since left
 
--- all but the fuse is as before
+-- all except the fuse is as before
 pub record KeepsAllButFuse (old new : MemoryDevice) : Type 0 where
   pub held : held_of new ≡ held_of old
   pub past : past_of new ≡ past_of old

@@ -15,9 +15,9 @@ ghost use Rattle.fw_journal.specs.Device.{
 
 use crate::error::DeviceError;
 
-/// Bytes that are written at positions, up to their end and past it, and synced. Of an honest device is known what reads give, and
-/// what a power cut leaves: until the next sync a write may leave any bytes in its own range, and nothing else changes; a sync
-/// makes it what was written.
+/// Bytes that are written at positions, up to their end and past it, and synced. Of an honest device it is known what reads give, and
+/// what a power cut leaves: until the next sync a write may leave any bytes in its own range, and nothing else changes; a sync makes
+/// it what was written.
 pub trait JournalDevice {
     /// Whether the device keeps what is written, as said below.
     ghost honest: { Self → Bool };
@@ -51,7 +51,7 @@ pub trait JournalDevice {
         ensures fault { IfErr result (λ e. e ≡ Fault) }
         ensures never { IsTrue (sound self.old) → ¬ IsErrOf result Fault };
 
-    /// Fills `out` with the bytes from `at` on. Where there are fewer nothing is said of it.
+    /// Fills `out` with the bytes from `at` on. Where there are fewer of them, nothing is known of the result.
     ///
     /// # Errors
     ///
@@ -66,7 +66,7 @@ pub trait JournalDevice {
         ensures fault { IfErr result (λ e. e ≡ Fault) }
         ensures never { IsTrue (sound self.old) → at + length out.old ≤ length (contents self.old) → ¬ IsErrOf result Fault };
 
-    /// Writes bytes over those from `at` on, and past the end. Where that is after the end nothing is said of it.
+    /// Writes bytes over those from `at` on, and past the end. Where `at` is after the end, nothing is known of the result.
     ///
     /// # Errors
     ///
@@ -92,12 +92,12 @@ pub trait JournalDevice {
         ensures kept { Keeps honest sound self.old self.new }
         ensures never { IsTrue (sound self.old) → ¬ IsErrOf result Fault };
 
-    /// Puts all that was written where a power cut leaves it.
+    /// Makes all that was written durable, so that a power cut leaves it.
     ///
     /// # Errors
     ///
     /// `Fault` where the device failed, `OutOfMemory` where it is one in memory. What was written since the last sync may then be lost
-    /// with a power cut, whatever a later sync answers.
+    /// with a power cut, whatever a later sync returns.
     fn sync(&mut self) -> Result<(), DeviceError>
         ensures done { IsTrue (honest self.old) → OnOk result (IsSynced contents may_leave self.new) }
         ensures same { IsTrue (honest self.old) → contents self.new ≡ contents self.old }

@@ -10,7 +10,7 @@ use std::marker::Model;
 /// A change of bytes that isn't synced yet.
 #[derive(Clone, Copy, Debug, PartialEq, Eq)]
 pub enum Change {
-    /// So many bytes were written from a position on. A power cut leaves any bytes in that range, and some or all of those past the end.
+    /// `size` bytes were written from position `at` on. A power cut leaves any bytes in that range, and some or all of those past the end.
     Write { at: u64, size: u64 },
     /// The bytes were cut to a length. A power cut leaves that length or more of them.
     Shorten { len: u64 },
@@ -68,8 +68,8 @@ impl Disk {
         &self.changes
     }
 
-    /// What a power cut leaves, one of all that it may. Each change since the last sync takes the next fate: a write leaves its bytes in the
-    /// front of its range, and what was there in the rest; a shortening leaves as many bytes past its length as the fate has. Where no
+    /// One of the byte strings that a power cut may leave. Each change since the last sync takes the next fate: a write leaves its bytes in
+    /// the front of its range, and what was there in the rest; a shortening leaves as many bytes past its length as the fate has. Where no
     /// fate is left, a write leaves what was there, and a shortening is whole. So does a write after the end of what is left.
     ///
     /// # Errors

@@ -1,5 +1,5 @@
-//! A journal: records after gates. A block is a gate, and behind it a length, a record and its digest; it counts if its gate is open
-//! (1). A shut gate (0) stands after the last block, and is synced before anything is written behind it.
+//! A journal: records after gates. A block is a gate, and after it a length, a record and its digest; it counts if its gate is open (1). A
+//! shut gate (0) stands after the last block, and is synced before anything is written after it.
 
 ghost use Rattle.std.specs.Prelude.{
   ◌≡◌,
@@ -63,8 +63,8 @@ impl<D: JournalDevice> Journal<D> {
     ///
     /// # Errors
     ///
-    /// `NotEmpty` where there are bytes, which are left as they are and reported before memory is wanted; else `BookFault` and `OutOfMemory`.
-    /// The device is handed back.
+    /// `NotEmpty` where there are bytes, which are left as they are and reported before memory is taken; else `BookFault` and
+    /// `OutOfMemory`. The device is returned.
     pub fn create(alloc: Global, device: D) -> Result<Self, (JournalError, D)>
         ensures made { IsTrue (D.honest device) → IfOk result (λ journal. Has D.honest D.contents D.may_leave journal [] []) }
         ensures empty { IsTrue (D.honest device) → OnOk result (D.contents device ≡ []) }
@@ -92,9 +92,9 @@ impl<D: JournalDevice> Journal<D> {
     ///
     /// # Errors
     ///
-    /// `BadBook` where the bytes aren't a journal's: with the offset of the open gate behind which no whole record stands, or with 0
-    /// where they don't begin as one. Nothing is written then. Else `BookFault` and `OutOfMemory`, which may come in place of `BadBook`,
-    /// since the bytes and the records in front of that offset are read first. The device is handed back.
+    /// `BadBook` where the bytes aren't a journal's: with the offset of the open gate after which no whole record stands, or with 0 where
+    /// they don't begin as one. Nothing is written then. Else `BookFault` and `OutOfMemory`, which may come in place of `BadBook`, since
+    /// the bytes and the records before that offset are read first. The device is returned.
     pub fn open(alloc: Global, device: D) -> Result<(Self, Vec<Vec<u8>>), (JournalError, D)>
         ensures records { IsTrue (D.honest device) → IfOk result (λ r. Stands (D.contents device) (contents_of r.1.items)) }
         ensures opened { IsTrue (D.honest device)
@@ -158,7 +158,7 @@ impl<D: JournalDevice> Journal<D> {
     ///
     /// # Errors
     ///
-    /// `TooLong` where it has 4,294,967,296 bytes or more, which is reported before memory is wanted; else `OutOfMemory`. The journal is
+    /// `TooLong` where it has 4,294,967,296 bytes or more, which is reported before memory is taken; else `OutOfMemory`. The journal is
     /// then as before.
     pub fn append(&mut self, alloc: Global, entry: &[u8]) -> Result<(), JournalError>
         ensures waits { (done waiting : List (List ℕ)) → Has D.honest D.contents D.may_leave self.old done waiting
@@ -207,11 +207,11 @@ impl<D: JournalDevice> Journal<D> {
         ensures breaks { IsErrOf result JournalError.BookFault → IsTrue (is_broken self.new) }
         ensures broken { IsTrue (is_broken self.old) → IsErrOf result JournalError.BookFault × (self.new ≡ self.old) }
 
-        // It doesn't give up by itself.
+        // A sound device gives no `BookFault`, unless the journal was broken before.
         ensures never { IsTrue (D.sound (device_of self.old)) → IsErrOf result JournalError.BookFault → IsTrue (is_broken self.old) }
         ensures full { IsErrOf result JournalError.Full → 2 ^ 60 ≤ end_of self.old ⊎ 2 ^ 60 ≤ length (waiting_of self.old) }
 
-        // A commit of nothing takes no memory, and what is refused is reported before memory is wanted.
+        // A commit of nothing takes no memory, and what is refused is reported before memory is taken.
         ensures nothing { is_broken self.old ≡ false → waiting_of self.old ≡ [] → IsOk result × (self.new ≡ self.old) }
         ensures memory { IsErrOf result JournalError.OutOfMemory → MayCommit self.old }
         ensures refusals { IfErr result IsCommitRefusal }
@@ -257,7 +257,7 @@ impl<D: JournalDevice> Journal<D> {
         ensures breaks { IsErrOf result JournalError.BookFault → IsTrue (is_broken self.new) }
         ensures broken { IsTrue (is_broken self.old) → IsErrOf result JournalError.BookFault × (self.new ≡ self.old) }
 
-        // It doesn't give up by itself.
+        // A sound device gives no `BookFault`, unless the journal was broken before.
         ensures never { IsTrue (D.sound (device_of self.old)) → IsErrOf result JournalError.BookFault → IsTrue (is_broken self.old) }
         ensures too_long { IsErrOf result JournalError.TooLong → 2 ^ 32 ≤ length entry.now }
         ensures full { IsErrOf result JournalError.Full
@@ -325,8 +325,8 @@ fn block_of(alloc: Global, entry: &[u8]) -> Result<Vec<u8>, JournalError>
     Ok(block)
 }
 
-/// Puts a group behind the shut gate at `end`: all of it but its first byte, and a shut gate after it. Once that is synced the gate in
-/// front is opened.
+/// Puts a group after the shut gate at `end`: all of it except its first byte, and a shut gate after it. Once that is synced the gate
+/// before it is opened.
 fn write_group<D: JournalDevice>(device: &mut D, end: u64, group: &[u8]) -> Result<(), DeviceError>
     requires within { end < 2 ^ 60 }
     requires some { 1 ≤ length group.now }
@@ -390,7 +390,7 @@ fn shut<D: JournalDevice>(device: &mut D, end: u64) -> Result<(), DeviceError>
     ensures kept { Keeps D.honest D.sound device.old device.new }
     ensures never { IsTrue (D.sound device.old) → ¬ IsErrOf result DeviceError.Fault }
 {
-    // The cut has to be synced first: behind a gate that is torn open, what was there would count.
+    // The cut has to be synced first: what was there after a gate that a power cut opens would count.
     shorten_synced(device, end)?;
     write_synced(device, end, &[0])
 }

@@ -199,7 +199,7 @@ some_none first e none some = absurd (cc (sym none ∙ some))
 
 -- ---- records that are put
 
--- all records, with that which these bytes spell
+-- all records, with the one that these bytes spell
 pub all_with : (head : ℕ) (done waiting : List (List ℕ)) (bytes : List ℕ) (synced book next : Contents) → IsBookOf head done synced → AddsAll waiting synced book → Adds bytes book next → IsBookOf head (done ++ (waiting ++ bytes ∷ [])) next
 all_with head done waiting bytes synced book next of_done of_waiting adds =
     all_join done (waiting ++ bytes ∷ []) (empty_book head) synced next of_done (all_push waiting bytes synced book next of_waiting adds)

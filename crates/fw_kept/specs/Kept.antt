@@ -37,8 +37,8 @@ pub record HasForeign (head : ℕ) (bytes : List ℕ) : Type 0 where
   pub stands : Stands bytes records
   pub foreign : IsForeign head records
 
--- The bytes are a journal of records of which the one with this index has no place in the book of those before it, and the first isn't
--- another head end's.
+-- The bytes are a journal of records. The one with this index has no place in the book of those before it, and the first isn't another
+-- head end's.
 pub record HasBadRecord (head : ℕ) (bytes : List ℕ) (index : ℕ) : Type 0 where
   pub records : List (List ℕ)
   pub stands : Stands bytes records

@@ -14,7 +14,7 @@ pub enum OpenError {
     /// The bytes from this offset on are no journal's.
     #[error("BadBook {offset}")]
     BadBook { offset: u64 },
-    /// The record with this index, the first being 0, has no place in the book of those before it.
+    /// The record with this index, counted from 0, has no place in the book of those before it.
     #[error("BadRecord {index}")]
     BadRecord { index: usize },
     /// The book is another head end's.

@@ -82,7 +82,7 @@ impl<D: JournalDevice> KeptBook<D> {
     /// # Errors
     ///
     /// `NotEmpty` where there are bytes, which are left as they are and reported before memory is taken; else `BookFault` and
-    /// `OutOfMemory`. The device is handed back.
+    /// `OutOfMemory`. The device is returned.
     pub fn create(alloc: Global, head: HeadId, device: D) -> Result<Self, (JournalError, D)>
         ensures made { IsTrue (D.honest device) → IfOk result (λ kept. Holds D.honest D.contents D.may_leave kept (empty_book head)) }
         ensures book { IfOk result (λ kept. book_of kept ≡ empty_book head) }
@@ -104,14 +104,14 @@ impl<D: JournalDevice> KeptBook<D> {
         }
     }
 
-    /// Opens the book that a power cut, or a process that was killed, may have left on the device: exactly that which the device holds.
+    /// Opens the book that a power cut, or a process that was killed, may have left on the device: exactly the one that the device holds.
     /// The device is synced first.
     ///
     /// # Errors
     ///
     /// `BadBook` with an offset where the bytes are no journal's; nothing is written then. `ForeignHead` where the book is another head
     /// end's, and `BadRecord` with the index of a record that has no place in the book of those before it; the journal has the same records
-    /// then. Else `BookFault` and `OutOfMemory`, which may come in place of these. The device is handed back.
+    /// then. Else `BookFault` and `OutOfMemory`, which may come in place of these. The device is returned.
     pub fn open(alloc: Global, head: HeadId, device: D) -> Result<Self, (OpenError, D)>
         ensures opened { IsTrue (D.honest device)
             → IfOk result (λ kept. Holds D.honest D.contents D.may_leave kept (book_of kept)) }
@@ -228,7 +228,7 @@ impl<D: JournalDevice> KeptBook<D> {
     ///
     /// The first refusal of the book. Otherwise `BookFault` where the book is broken; then `Full`, where the journal or what waits has 2^60
     /// bytes or more, `BookFault`, where the device failed, or `OutOfMemory`. The book in memory is as it was. What a cut leaves is as it
-    /// was, or the book is broken: each later commit is `BookFault` then, and opening the device again tells whether it has the campaign.
+    /// was, or the book is broken: each later commit is `BookFault` then, and opening the device again shows whether it has the campaign.
     pub fn open_campaign(
         &mut self,
         alloc: Global,

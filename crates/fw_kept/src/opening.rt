@@ -32,7 +32,7 @@ pub(crate) fn book_of(alloc: Global, head: HeadId, records: &[Vec<u8>]) -> Resul
     }
 }
 
-/// What records are refused for of which the one with this index is bad.
+/// Why records are refused of which the one with this index is bad.
 fn bad_record(alloc: Global, head: HeadId, records: &[Vec<u8>], index: usize) -> OpenError
     requires { (bad : List ℕ) × FailsAt head (records_of records.now) index bad }
     ensures { IsRecordsRefusal head (records_of records.now) result }
@@ -59,7 +59,7 @@ fn is_foreign(alloc: Global, head: HeadId, records: &[Vec<u8>]) -> Result<bool, 
     }
 }
 
-/// The campaign that a record tells of.
+/// The campaign of a record.
 fn campaign_of(told: &Record<'_>) -> CampaignId
     ensures { result ≡ campaign_of (entry_of told.now) }
 {

@@ -82,7 +82,7 @@ pub(crate) fn put<D: JournalDevice>(
     Ok(())
 }
 
-/// That the book has the campaign, which then is one that a head end opens.
+/// Checks that the book has the campaign. It is then one that a head end opens.
 pub(crate) fn check_has(book: &Book, campaign: CampaignId) -> Result<(), KeptError>
     ensures opened { OnOk result (IsOpened campaign) }
     ensures none { IfErr result (λ e. (e ≡ KeptError.Refused BookError.NoSuchCampaign) × (offered_in book.now campaign ≡ None)) }

@@ -13,7 +13,7 @@ pub data Source : Type 0 where
   whole : List ℕ → Source
   earlier : ℕ → Source
 
--- what a record tells: a campaign was opened, with a release and an image, for these meters; or a meter's row in it ended; or it was cancelled
+-- what a record says: a campaign was opened, with a release and an image, for these meters; or a meter's row in it ended; or it was cancelled
 pub data Entry : Type 0 where
   opening : Campaign → ℕ → Source → List ℕ → Entry
   mark : Campaign → ℕ → Ending → Entry

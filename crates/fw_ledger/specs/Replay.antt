@@ -1,5 +1,5 @@
--- Public vocabulary: the book of a list of records. It is that which fw_book's own operations make of a book without campaigns, one record
--- after the other.
+-- Public vocabulary: the book of a list of records. It is what fw_book's own operations make of a book without campaigns, one record after
+-- the other.
 use Rattle.std.specs.Prelude.{◌≡◌, ℕ, ◌≤◌, List, [], ◌∷◌, ◌++◌, length, Some, None, Vec}
 use Rattle.std.specs.declared.alloc.Global.{Global}
 use Rattle.fw_names.specs.Name.{Campaign}
@@ -49,7 +49,7 @@ AddsAll (bytes ∷ records) book next = (between : Contents) × Adds bytes book 
 abbrev pub IsBookOf : ℕ → List (List ℕ) → Contents → Type 0
 IsBookOf head records book = AddsAll records (empty_book head) book
 
--- the bytes make nothing of this book: they spell no record, or it refuses what the record tells
+-- the bytes make nothing of this book: they spell no record, or it refuses what the record says
 abbrev pub AddsNothing : List ℕ → Contents → Type 0
 AddsNothing bytes book = (next : Contents) → ¬ Adds bytes book next
 

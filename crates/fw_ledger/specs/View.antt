@@ -1,4 +1,4 @@
--- What the code's records tell.
+-- What the code's records say.
 use Rattle.fw_ledger.specs.Entry.{Source, whole, earlier, Entry, opening, mark, cancelling}
 use Rattle.fw_ledger.specs.declared.record.Image.{Image}
 use Rattle.fw_ledger.specs.declared.record.Image.TheVariants as place

@@ -36,7 +36,7 @@ impl<T: Drop> From<AllocFailed<T>> for RecordError {
 /// Why records have no book.
 #[derive(Clone, Copy, Debug, PartialEq, Eq, Error)]
 pub enum ReplayError {
-    /// The record with this index, the first being 0, spells none, or tells what the book of those before it refuses.
+    /// The record with this index, counted from 0, spells none, or says what the book of those before it refuses.
     #[error("BadRecord {index}")]
     BadRecord { index: usize },
     /// Memory was refused.

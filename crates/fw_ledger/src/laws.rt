@@ -12,12 +12,12 @@ pub fn one_book()
     ensures { OneBook }
 {}
 
-/// Records of which one makes nothing of the book before it have none.
+/// Records have no book where one of them makes nothing of the book before it.
 pub fn failed_have_none()
     ensures { FailedHaveNone }
 {}
 
-/// The first ones of records that have a book have one too: that of an earlier moment.
+/// Where records have a book, the first ones of them have one too: that of an earlier moment.
 pub fn fronts_have_books()
     ensures { FrontsHaveBooks }
 {}

@@ -246,7 +246,7 @@ fn cancelling_of(bytes: &[u8]) -> Option<Record<'_>>
     Some(Record::Cancelling { campaign })
 }
 
-/// The record that these bytes spell. All of it but the numbers of its meters is judged before memory is taken.
+/// The record that these bytes spell. All of it except the numbers of its meters is judged before memory is taken.
 ///
 /// # Errors
 ///

@@ -20,7 +20,7 @@ pub enum Image<'a> {
     Earlier(u32),
 }
 
-/// What a record tells.
+/// What a record says.
 #[derive(Debug, Drop)]
 pub enum Record<'a> {
     /// A campaign was opened for these meters.

@@ -56,7 +56,7 @@ fn reopen(
     }
 }
 
-/// Does again what a record tells.
+/// Makes again what a record says.
 fn apply(alloc: Global, book: &mut RestoredBook, told: &Record<'_>) -> Result<(), BookError>
     ensures made { OnOk result (Makes (entry_of told.now) book.old book.new) }
     ensures refused { IfErr result (λ e. e ≢ BookError.OutOfMemory
@@ -82,7 +82,7 @@ fn apply(alloc: Global, book: &mut RestoredBook, told: &Record<'_>) -> Result<()
     }
 }
 
-/// Does again what the record tells that these bytes spell.
+/// Makes again what the record says that these bytes spell.
 fn add(alloc: Global, book: &mut RestoredBook, bytes: &[u8]) -> Result<(), BookError>
     ensures made { OnOk result (Adds bytes.now book.old book.new) }
     ensures refused { IfErr result (λ e. e ≢ BookError.OutOfMemory → AddsNothing bytes.now book.old) }
@@ -95,11 +95,11 @@ fn add(alloc: Global, book: &mut RestoredBook, bytes: &[u8]) -> Result<(), BookE
     }
 }
 
-/// The book of a head end that has these records: each campaign that they open, with what they tell of its rows.
+/// The book of a head end that has these records: each campaign that they open, with what they say of its rows.
 ///
 /// # Errors
 ///
-/// `BadRecord` with the index of the first record that spells none, or tells what the book of those before it refuses, as a campaign of
+/// `BadRecord` with the index of the first record that spells none, or says what the book of those before it refuses, as a campaign of
 /// another head end. Otherwise `OutOfMemory` alone.
 pub fn read_records(alloc: Global, head: HeadId, records: &[Vec<u8>]) -> Result<Book, ReplayError>
     ensures found { IfOk result (λ book. IsBookOf head (records_of records.now) book) }

@@ -188,7 +188,7 @@ fn cancelling_bytes(alloc: Global, campaign: CampaignId) -> Result<Vec<u8>, Allo
     Ok(bytes)
 }
 
-/// Whether the size of an image has four bytes.
+/// Whether the size of an image fits in four bytes.
 fn fits(image: Image<'_>) -> bool
     ensures { MatchBool result (IsSource (source_of image.entry)) (¬ IsSource (source_of image.entry)) }
 {

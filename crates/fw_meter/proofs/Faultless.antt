@@ -1,4 +1,4 @@
--- Over an honest store that doesn't fail, no hardware fault is told.
+-- Over an honest store that doesn't fail, no hardware fault is returned.
 use Rattle.std.proofs.Common.{ℕ, Bool, true, IsTrue, List, Option, inl, inr}
 use Rattle.fw_names.specs.Name.{Name}
 use Rattle.fw_image.specs.Meter.{Meter}

@@ -73,7 +73,7 @@ lacks_activate s true (sealed goal) on phase other = absurd (other refl)
 lacks_activate s true (spoilt goal) on phase other = refused_by s activate Missing 2 (inr (on, refl, rw phase (λ h. h))) refl refl
 lacks_activate s true switched on phase other = refused_by s activate Missing 2 (inr (on, refl, rw phase (λ h. h))) refl refl
 
--- the type of the phase tells its status
+-- the type of the phase says its status
 pub not_receiving : {S : Type 0} (p : Core S) → IsInPhase p → ((t : State) → p ≡ core.Receiving t → ⊥) → status_of (state_in p).meter.phase ≢ status.Initiated
 not_receiving (core.Idle t) is none e = cc
 not_receiving (core.Receiving t) is none e = none t refl

@@ -19,7 +19,7 @@ pub record Same (a b : MeterResult) (new other : Meter) : Type 0 where
   pub results : a ≡ b
   pub meters : new ≡ other
 
--- an operation that isn't told a fault has none
+-- an operation whose code is no fault has none
 no_fault : (a : MeterResult) (made : operations.OperationOutcome) → a ≢ coded 1 → a ≡ coded (operation_code made) → made ≢ refused Fault
 no_fault a made n told e = n (told ∙ ap (λ (x : operations.OperationOutcome). coded (operation_code x)) e)
 

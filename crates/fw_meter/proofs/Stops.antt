@@ -14,7 +14,7 @@ use Rattle.fw_meter.specs.Handling.{Handles}
 use Rattle.fw_meter.specs.Laws.{Stops, FaultIsStop, TurnFaultIsStop}
 use Rattle.fw_meter.specs.Step.{MeterResult, got, coded, tells_no_fault, Operates, MeterStep, operation_code, activation_of}
 
--- ---- an operation that is told a fault
+-- ---- an operation that returns a fault
 
 made_fault : (made : operations.OperationOutcome) → coded 1 ≡ coded (operation_code made) → made ≡ refused Fault
 made_fault done e = absurd cc
@@ -96,7 +96,7 @@ left old new (block i value) h = left_by_block old new i value h
 left old new verify h = left_by old new verify operations.verify (λ does. does.is refl) h
 left old new activate h = left_by old new activate operations.activate (λ does. does.is refl) h
 
--- ---- what is told no fault, and what activates nothing
+-- ---- what returns no fault, and what activates nothing
 
 is_fault : (a : MeterResult) → (a ≡ coded 1) ⊎ (a ≢ coded 1)
 is_fault (got answer) = inr (λ e. cc)

@@ -45,7 +45,7 @@ is_told invoke i (get_request d) (coded n) bytes h = absurd (omega (arith, heads
 is_told invoke i (set_request d v) (coded n) bytes h = absurd (omega (arith, heads h.1))
 is_told invoke i (action_request d p) (coded n) bytes h = absurd (omega (arith, heads h.1))
 
--- a length of so few bytes can be written
+-- a length of fewer than 128 bytes can be written
 fits : (n : ℕ) → n < 128 → counted n None ≡ None
 fits n few = let small : nat_lt n (2 ^ 32) ≡ true = lt-ltb n (2 ^ 32) (omega arith) in ap (λ (b : Bool). if b then None else Some BadLength) small
 

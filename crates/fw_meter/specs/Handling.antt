@@ -34,8 +34,8 @@ abbrev pub reply_to : ℕ → ℕ → RequestContent → MeterResult → Option 
 reply_to source invoke content result =
     if is_confirmed invoke then Some (wrapped 1 source (response_bytes invoke (response_of (outcome_in content result)))) else None
 
--- The meter makes the step of a request, with this invoke byte from this source, and replies with its result. Of the store's faults is
--- known what is known where none of its calls failed, or one did.
+-- The meter makes the step of a request, with this invoke byte from this source, and replies with its result. Faults says what is known of
+-- the store's faults where none of its calls failed, or one did.
 pub record Responds (honest : Bool) (Faults : Bool → Type 0) (old : Meter) (source invoke : ℕ) (content : RequestContent) (reply : Option (List ℕ)) (activated : Option Name) (new : Meter) : Type 0 where
   pub result : MeterResult
   pub steps : MeterStep honest old (meaning_of content) result new
@@ -59,8 +59,8 @@ pub record Drops (Faults : Bool → Type 0) (old : Meter) (datagram : List ℕ) 
   pub same : new ≡ old
   pub faults : Faults true
 
--- From old, a meter that hears this datagram gives this reply, activates this image or none, and goes on to new. Over two states, Faults
--- is what the store counted between them (`Counts`); over a store that doesn't fail, it is that none failed (`IsTrue`).
+-- From old, a meter that hears this datagram gives this reply, activates this image or none, and becomes new. Over two states, Faults is
+-- what the store counted between them (`Counts`); over a store that doesn't fail, it is that none failed (`IsTrue`).
 abbrev pub Handles : Bool → (Bool → Type 0) → Meter → List ℕ → Option (List ℕ) → Option Name → Meter → Type 0
 Handles honest Faults old datagram reply activated new =
     HandlesRequest honest Faults old datagram reply activated new ⊎ Drops Faults old datagram reply activated new
@@ -69,7 +69,7 @@ Handles honest Faults old datagram reply activated new =
 abbrev pub reply_bytes : Option (Vec ℕ) → Option (List ℕ)
 reply_bytes reply = option_map (λ v. v.items) reply
 
--- ---- want of memory
+-- ---- where memory may be taken
 
 -- a datagram brings a request that asks for a response
 pub record AsksForResponse (datagram : List ℕ) : Type 0 where
@@ -86,6 +86,6 @@ pub record MayBringData (datagram : List ℕ) : Type 0 where
   pub wraps : Wraps datagram source 1 apdu
   pub holds : MayHoldData apdu
 
--- only these want memory: for the Data that is read, or for the reply
+-- only these take memory: for the Data that is read, or for the reply
 abbrev pub MayWantMemory : List ℕ → Type 0
 MayWantMemory datagram = MayBringData datagram ⊎ AsksForResponse datagram

@@ -39,7 +39,7 @@ abbrev pub IsHeard : List ℕ → Option Heard → Type 0
 IsHeard datagram (Some heard) = Brings datagram heard.source (request_invoke heard.request) (request_content heard.request)
 IsHeard datagram None = BringsNothing datagram
 
--- the datagram that tells an outcome, where a response was asked for
+-- the datagram that reports an outcome, where a response was asked for
 abbrev pub told_by : ℕ → ℕ → Outcome → Option (List ℕ)
 told_by source invoke outcome = if is_confirmed invoke then Some (wrapped 1 source (response_bytes invoke (response_of outcome))) else None
 
@@ -47,7 +47,7 @@ told_by source invoke outcome = if is_confirmed invoke then Some (wrapped 1 sour
 abbrev pub coded_reply : Heard → ℕ → Option (List ℕ)
 coded_reply heard c = reply_to heard.source (request_invoke heard.request) (request_content heard.request) (coded c)
 
--- where the code stands in that reply: behind the header of the wrapper and three bytes, and in an answer to GET behind 01 as well
+-- where the code stands in that reply: after the header of the wrapper and three bytes, and in an answer to GET after 01 as well
 abbrev pub code_place : RequestContent → ℕ
 code_place (get_request d) = 12
 code_place (set_request d v) = 11
@@ -74,7 +74,7 @@ CallsOf m asked calls =
     ((operation : image.Operation) × AsksFor asked operation × CallsFor m operation calls)
     ⊎ (((operation : image.Operation) → ¬ AsksFor asked operation) × (calls ≡ 0))
 
--- the operation that a request asks for was served, and left this where a call of the store failed that leaves this byte
+-- the operation that a request asks for was served, a call of the store failed and left this byte, and the meter is as that leaves it
 pub record IsLeftBy (torn : ℕ) (old : Meter) (asked : Meaning) (new : Meter) : Type 0 where
   pub operation : image.Operation
   pub asks : AsksFor asked operation

@@ -45,7 +45,7 @@ pub record TearsBlock (old : Meter) (datagram : List ℕ) (new : Meter) : Type 0
   pub torn : new ≡ with_cell old number left
 
 -- What a stop may leave of a meter over an honest store while it handles a datagram, at whatever call of its store: the meter as it was,
--- or as it was but for the block that is being written, or as it is without the stop. An activation is one that took effect.
+-- or as it was except for the block that is being written, or as it is without the stop. An activation is one that took effect.
 abbrev pub Stops : Meter → List ℕ → Option Name → Meter → Type 0
 Stops old datagram activated new =
     ((new ≡ old) × (activated ≡ None))
@@ -69,8 +69,8 @@ OneStop =
     (calls torn : ℕ) (old new other : Meter) (datagram : List ℕ) (a b : Option Name)
     → StopsAfter calls torn old datagram a new → StopsAfter calls torn old datagram b other → (a ≡ b) × (new ≡ other)
 
--- Whichever call of an honest store fails in a turn, the meter is left as it was, but that no verification goes on, or as it is without
--- the failure.
+-- Whichever call of an honest store fails in a turn, the meter is left in one of two ways: as it was, except that no verification goes on;
+-- or as it is without the failure.
 abbrev pub TurnFaultIsStop : Type 0
 TurnFaultIsStop =
     (old new : State) (faultless : Bool) → IsTrue old.honest → Turn old.honest old.meter faultless new.meter
@@ -86,7 +86,7 @@ pub record TellsString (datagram bytes : List ℕ) : Type 0 where
   pub spells : SpellsResponse apdu invoke (get_response (value (octet_string bytes)))
 
 -- Of all that a meter replies to a GET, an octet-string of 41 or 45 bytes spells the name of the image that runs, where that has a spelling.
--- No call of the store failed: behind one that did, no value is told. The store may be honest or not.
+-- No call of the store failed: after one that did, no value is returned. The store may be honest or not.
 abbrev pub TellsRunning : Type 0
 TellsRunning =
     (honest : Bool) (old new : Meter) (datagram reply bytes : List ℕ) (activated : Option Name) → IsName old.running.name

@@ -23,7 +23,7 @@ pub data MeterResult : Type 0 where
   got : Answer → MeterResult
   coded : ℕ → MeterResult
 
--- no call of the store failed: code 1 tells that one did
+-- no call of the store failed: code 1 says that one did
 abbrev pub tells_no_fault : MeterResult → Bool
 tells_no_fault (coded (suc zero)) = false
 tells_no_fault result = true
@@ -58,18 +58,18 @@ refusal_code Missing = temporary_failure
 refusal_code Fault = hardware_fault
 refusal_code Differs = other_reason
 
--- an operation's code: a verification that goes on is told as one that is asked for too early
+-- an operation's code: a verification that goes on is reported as one that is asked for too early
 abbrev pub operation_code : image.OperationOutcome → ℕ
 operation_code done = success
 operation_code (refused refusal) = refusal_code refusal
 operation_code verification_initiated = temporary_failure
 
--- an operation is made, and its code told
+-- an operation is made, and its code returned
 abbrev pub Operates : Bool → Meter → Operation → MeterResult → Meter → Type 0
 Operates honest old operation result new = (made : image.OperationOutcome) × Step honest old operation made new × (result ≡ coded (operation_code made))
 
--- From old, a meter that is asked so comes to this, and goes on to new. An initiate whose identifier is no name is refused as one
--- whose name is no offer.
+-- From old, a meter that is asked this has this result, and becomes new. An initiate whose identifier is no name is refused as one whose
+-- name is no offer.
 abbrev pub MeterStep : Bool → Meter → Meaning → MeterResult → Meter → Type 0
 MeterStep honest old (meaning.read reading) result new = (result ≡ got (answer_of old reading)) × (new ≡ old)
 MeterStep honest old (meaning.refused refusal) result new = (result ≡ coded (code_number refusal)) × (new ≡ old)

@@ -36,7 +36,7 @@ MakesCalls m datagram calls =
     ((operation : Operation) × IsServed m datagram operation × (calls ≡ calls_for m operation))
     ⊎ (((operation : Operation) → ¬ IsServed m datagram operation) × (calls ≡ 0))
 
--- a meter made these calls of its store for a datagram, one that failed being the last of them
+-- a meter made these calls of its store for a datagram, and one that failed is the last of them
 pub record CallsStore (old : State) (datagram : List ℕ) (new : State) : Type 0 where
   pub calls : ℕ
   pub faultless : Bool
@@ -60,8 +60,8 @@ pub record IsWhole (calls : ℕ) (old : Meter) (datagram : List ℕ) (activated 
   pub handles : Handles true IsTrue old datagram reply activated new
   pub enough : (operation : Operation) → IsServed old datagram operation → calls_for old operation ≤ calls
 
--- What a meter over an honest store is when it handled a datagram and the calls of its store failed after so many, with this byte in what
--- was being written. An activation is one that took effect.
+-- A meter over an honest store handles a datagram, and the calls of its store fail after the first `calls` of them, with the byte `torn` in
+-- what was being written. An activation is one that took effect.
 abbrev pub StopsAfter : ℕ → ℕ → Meter → List ℕ → Option Name → Meter → Type 0
 StopsAfter calls torn old datagram activated new =
     IsCutShort calls torn old datagram activated new ⊎ IsWhole calls old datagram activated new

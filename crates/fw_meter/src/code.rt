@@ -1,4 +1,4 @@
-//! The codes that operations of Image transfer are answered by.
+//! The codes that answer operations of Image transfer.
 
 ghost use Rattle.std.specs.Prelude.{◌≡◌};
 ghost use Rattle.fw_meter.specs.Step.{refusal_code};

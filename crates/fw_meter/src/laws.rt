@@ -18,9 +18,9 @@ pub fn faultless()
     ensures { Faultless }
 {}
 
-/// Over an honest store, a stop at any of its calls leaves the meter before the datagram, or before it but for the block
-/// that it writes, or after it. To be opened again from an honest store that doesn't fail changes a meter at most while an
-/// image is verified, which is then received, as the clause `again` of `MeterCore::restart` says.
+/// Over an honest store, a stop at any of its calls leaves the meter before the datagram, or before it except for the block
+/// that it writes, or after it. Opening a meter again from an honest store that doesn't fail changes it only while an image
+/// is verified. That image is then received, as the clause `again` of `MeterCore::restart` says.
 pub fn fault_is_stop()
     ensures { FaultIsStop }
 {}
@@ -43,8 +43,8 @@ pub fn one_stop()
     fw_image::laws::one_step();
 }
 
-/// Over an honest store, a stop at any call of a turn leaves the meter before the turn, but that no verification goes on, or
-/// after it.
+/// Over an honest store, a stop at any call of a turn leaves the meter after the turn, or the one before it, except that no
+/// verification goes on.
 pub fn turn_fault_is_stop()
     ensures { TurnFaultIsStop }
 {}

@@ -88,8 +88,8 @@ impl<S: ImageStore + Drop> MeterCore<S> {
     /// # Errors
     ///
     /// `Fault` where the store failed, `BadHeader` where its header is none that it can have, and `BadImage` where the image
-    /// that runs, or a verified one, hasn't the digest of its name, in this order. The store is handed back, and holds what
-    /// it held.
+    /// that runs, or a verified one, hasn't the digest of its name, in this order. The store is returned, and holds what it
+    /// held.
     pub fn open_store(store: S) -> Result<MeterCore<S>, (OpenError, S)>
         ensures opened { IfOk result (λ meter. Opens S.honest S.capacity S.fuse S.device store meter) }
 
@@ -200,7 +200,7 @@ impl<S: ImageStore + Drop> MeterCore<S> {
     }
 
     /// A turn of the meter, which it takes on its own, whether transfer is enabled or not. While an image is verified, a slice
-    /// more of it is read, 4,096 bytes, and behind the last one the digest is compared with that of the image's name, and the
+    /// more of it is read, 4,096 bytes, and after the last one the digest is compared with that of the image's name, and the
     /// result noted by one write of the header. Where the store failed, the verification is given up, and the image is
     /// received as before. In every other status nothing is done.
     pub fn turn(&mut self)
@@ -302,7 +302,7 @@ impl<S: ImageStore + Drop> MeterCore<S> {
         }
     }
 
-    /// Makes the operation that a request asks for. Its reply is made before, but for the code.
+    /// Makes the operation that a request asks for. Its reply is made before, except the code.
     fn operate(
         &mut self,
         alloc: Global,
@@ -325,7 +325,7 @@ impl<S: ImageStore + Drop> MeterCore<S> {
         })
     }
 
-    /// Makes an operation, and answers its code and the name of the image that it switched to, if it did. A block leaves the
+    /// Makes an operation, and returns its code and the name of the image that it switched to, if it did. A block leaves the
     /// phase where it is.
     fn serve(&mut self, operation: Operation<'_>) -> (Code, Option<ImageName>)
         ensures steps { Steps self.old (operation_meaning operation.entry) (code_number result.0) self.new }

@@ -16,7 +16,7 @@ use fw_names::ImageName;
 use fw_server::Operation;
 use fw_store::ImageStore;
 
-/// Makes an operation, and answers its code and the transfer that it leaves.
+/// Makes an operation, and returns its code and the transfer that it leaves.
 pub(crate) fn make<S: ImageStore>(phase: Phase<S>, operation: Operation<'_>) -> (Code, Phase<S>)
     requires { IsInPhase phase }
     ensures steps { Steps (state_in phase) (operation_meaning operation.entry) (code_number result.0) (state_in result.1) }

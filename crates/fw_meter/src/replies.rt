@@ -12,8 +12,8 @@ use crate::serving::Heard;
 use fw_apdu::Request;
 use std::alloc::Global;
 
-/// The reply that an operation has, but for its code, which is put in when it is known: made before the store is called,
-/// so that no memory is wanted afterwards.
+/// The reply of an operation, except its code, which is put in when it is known. It is made before the store is called, so
+/// that no memory is taken afterwards.
 #[derive(Drop)]
 pub(crate) struct Replies {
     /// The reply with the code 0.

@@ -8,7 +8,7 @@ pub record Campaign : Type 0 where
   pub head : ℕ
   pub serial : ℕ
 
--- Which campaign offers an image, its release, and the image's SHA-256. Releases are numbers that rise as software goes on; 0 tells
+-- Which campaign offers an image, its release, and the image's SHA-256. Releases are numbers that rise as software goes on; 0 means
 -- none.
 pub record Name : Type 0 where
   pub campaign : Campaign

@@ -36,7 +36,7 @@ impl NameBytes {
         }
     }
 
-    /// Puts a part behind those that are there.
+    /// Puts a part after those that are there.
     pub(crate) fn put(&mut self, part: &[u8])
         requires { length self.old + length part.now ≤ MAX_NAME_SIZE }
         ensures { self.new ≡ self.old ++ part.now }

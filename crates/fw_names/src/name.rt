@@ -111,7 +111,7 @@ impl ImageName {
     }
 }
 
-/// The name without a release that these bytes spell behind the first, if they spell one.
+/// The name without a release that these bytes spell after the first, if they spell one.
 fn unreleased(parts: &[u8]) -> Option<ImageName>
     ensures found { IfSome result (λ name. IsName name × (name.release ≡ 0)
         × (parts.now ≡ campaign_bytes name.campaign ++ name.digest)) }
@@ -130,7 +130,7 @@ fn unreleased(parts: &[u8]) -> Option<ImageName>
     })
 }
 
-/// The name with a release that these bytes spell behind the first, if they spell one.
+/// The name with a release that these bytes spell after the first, if they spell one.
 fn released(parts: &[u8]) -> Option<ImageName>
     ensures found { IfSome result (λ name. IsName name × (name.release ≢ 0)
         × (parts.now ≡ campaign_bytes name.campaign ++ to_be_bytes w32 name.release ++ name.digest)) }

@@ -11,7 +11,7 @@ length_into (suc n) bs = ap suc (length_into n (drop 8 bs))
 pub length_packed : (bs : List Bool) → length (packed bs) ≡ bytes_for (length bs)
 length_packed bs = length_into (bytes_for (length bs)) bs
 
--- the one byte behind a length of one byte
+-- the one byte after a length of one byte
 last_byte : (len body : List ℕ) (n x : ℕ) → 4 ∷ n ∷ x ∷ [] ≡ 4 ∷ len ++ body → length body ≡ 1 → body ≡ x ∷ []
 last_byte [] body n x parts size = absurd (grind arith)
 last_byte (l ∷ []) body n x parts size = grind arith

@@ -1,4 +1,4 @@
--- Public vocabulary: the value that a GET has for an answer, and the response that tells an outcome (IEC 62056-6-2, Image transfer and
+-- Public vocabulary: the value that a GET has for an answer, and the response that reports an outcome (IEC 62056-6-2, Image transfer and
 -- Data).
 use Rattle.std.specs.Prelude.{◌≡◌, ℕ, length, Option, Some, None}
 use Rattle.fw_axdr.specs.Value.{Value, Values, array, structure, boolean, bit_string, double_long_unsigned, octet_string, enumerated, none, more}
@@ -38,7 +38,7 @@ HasSizes (ActiveName name) = IsName name
 HasSizes (ActiveDigest digest) = length digest ≡ 32
 HasSizes _ = Unit {0}
 
--- the response that tells an outcome; an ACTION returns no parameters
+-- the response that reports an outcome; an ACTION returns no parameters
 abbrev pub response_of : Outcome → ResponseContent
 response_of (Got answer) = get_response (value (value_of_answer answer))
 response_of (GetCode c) = get_response (code c)
@@ -49,7 +49,7 @@ abbrev pub HasAnswerSizes : Outcome → Type 0
 HasAnswerSizes (Got answer) = HasSizes answer
 HasAnswerSizes _ = Unit {0}
 
--- how many bits an outcome carries: one a block, where it tells the transferred blocks
+-- how many bits an outcome carries: one a block, where it reports the transferred blocks
 abbrev pub bits_in_answer : Answer → ℕ
 bits_in_answer (TransferredBlocks marks) = length marks
 bits_in_answer _ = 0

@@ -4,7 +4,7 @@ use fw_apdu::LogicalName;
 use fw_axdr::Bits;
 use fw_names::ImageName;
 
-/// An image that is verified, as image_to_activate_info tells of it.
+/// An image that is verified, as image_to_activate_info shows it.
 #[derive(Clone, Copy, Debug, PartialEq, Eq)]
 pub struct ImageInfo {
     /// In bytes.

@@ -1,4 +1,4 @@
-//! The response that tells what a request came to.
+//! The response that carries the outcome of a request.
 
 ghost use Rattle.std.specs.Prelude.{◌≡◌, ◌+◌, ◌<◌, ◌≤◌, ◌^◌, length, IfOk, IfErr, OnOk};
 ghost use Rattle.fw_axdr.specs.Value.{octet_string, array};

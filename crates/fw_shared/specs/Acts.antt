@@ -53,9 +53,9 @@ pub record IsPutBack (desk : Desk) (head : Head) : Type 0 where
   pub live : AreLiveRows desk.book rows
   pub head_is : head ≡ joined desk.book desk.width rows
 
--- ---- what is done behind a lock
+-- ---- what is done under a lock
 
--- what a core did: the event, the datagrams that it sends, and what it left behind its lock
+-- what a core did: the event, the datagrams that it sends, and what it left under its lock
 pub record Recording (T : Type 0) : Type 0 where
   pub event : Event
   pub sent : List Datagram

@@ -1,9 +1,9 @@
-//! What is done behind the locks, each step of which comes into the record.
+//! What is done under the locks. Each step of it comes into the record.
 //!
-//! A meter, or a shard of the rows of a head end, stands behind its lock in a type of this file, whose steps leave an `Recording`. An act
-//! can't be let go of, and nothing but `Recording::record` ends it: that appends the event to the log, once, and notes the receipt. So a
-//! step of a core, an event in the record and a receipt are made one for one. `Recording::record` borrows the guard of the lock, and asks
-//! that what the step left stands behind it. So the lock is held from the step until the event stands in the record.
+//! A meter, or a shard of the rows of a head end, is guarded by its lock in a type of this file, and each step of it leaves a `Recording`.
+//! A `Recording` can't be dropped, and nothing except `Recording::record` ends it: that appends the event to the log, once, and notes the
+//! receipt. So a step of a core, an event in the record and a receipt are made one for one. `Recording::record` borrows the guard of the
+//! lock, and asks that this lock guards what the step left. So the lock is held from the step until the event stands in the record.
 //!
 //! The lock of a meter or of a shard is taken first, and that of the log inside it. No two meters or shards are ever held by one
 //! call.
@@ -58,8 +58,8 @@ use std::marker::Model;
 use std::snapshot::Snapshot;
 use std::sync::{MutexGuard, Wait};
 
-/// What a core did under its lock, and what isn't in the record yet: the event, room with the datagrams that it sends, and, for
-/// contracts alone, what it left behind the lock. It can't be let go of but by `record`.
+/// What a core did under its lock, and what isn't in the record yet: the event, room with the datagrams that it sends, and, for contracts
+/// alone, what it left under the lock. It can't be dropped: only `record` ends it.
 pub(crate) struct Recording<T> {
     event: CoreEvent,
     room: Room,
@@ -76,8 +76,8 @@ impl<T> Model for Recording<T> {
 }
 
 impl<T> Recording<T> {
-    /// Appends it to the log, once, and notes the receipt under the number that it has there. It asks for room for the receipt, and
-    /// that what the core left stands behind the lock of this guard, which is held until the event stands in the log.
+    /// Appends it to the log, once, and notes the receipt under the number that it has there. It asks for room for the receipt, and that
+    /// what the core left is under the lock of this guard, which is held until the event stands in the log.
     pub(crate) fn record<R: Wait>(
         self,
         rt: &R,
@@ -129,7 +129,7 @@ impl<S: ImageStore + Drop> GuardedMeter<S> {
     ///
     /// # Errors
     ///
-    /// Want of memory alone. The meter is then as before.
+    /// Out of memory alone. The meter is then as before.
     pub(crate) fn handle(
         &mut self,
         alloc: Global,
@@ -154,7 +154,7 @@ impl<S: ImageStore + Drop> GuardedMeter<S> {
         Ok(Recording { event, room, left })
     }
 
-    /// A turn of this meter, where it verifies. In every other status it is left as it is, and there is no act.
+    /// A turn of this meter, where it verifies. In every other status it is left as it is, and there is no `Recording`.
     pub(crate) fn turn(&mut self, meter: MeterId, room: Room) -> Option<Recording<GuardedMeter<S>>>
         requires { room ≡ [] }
         ensures made { IfSome result (λ act. (act.event ≡ turn meter) × (act.sent ≡ [])) }
@@ -198,11 +198,11 @@ impl Shard {
         }
     }
 
-    /// Adds a row behind the others.
+    /// Adds a row after the others.
     ///
     /// # Errors
     ///
-    /// Want of memory alone. The row is then lost.
+    /// Out of memory alone. The row is then lost.
     pub(crate) fn push(&mut self, row: RowCore) -> Result<(), AllocError>
         ensures { OnOk result (self.new.rows.items ≡ self.old.rows.items ++ row ∷ []) }
     {
@@ -230,7 +230,7 @@ impl Shard {
     ///
     /// # Errors
     ///
-    /// Want of memory alone. The rows are then as before.
+    /// Out of memory alone. The rows are then as before.
     pub(crate) fn tick(
         &mut self,
         alloc: Global,
@@ -266,7 +266,7 @@ impl Shard {
     ///
     /// # Errors
     ///
-    /// Want of memory alone. The rows are then as before.
+    /// Out of memory alone. The rows are then as before.
     pub(crate) fn hear(
         &mut self,
         alloc: Global,
@@ -302,7 +302,7 @@ fn is_live(row: &RowCore) -> bool
     !matches!(row.phase(), Phase::Done | Phase::Failed)
 }
 
-/// What a head end tells of a row's news.
+/// What a head end reports of a row's news.
 fn news_of(campaign: CampaignId, meter: MeterId, told: RowNews) -> News
     ensures { result ≡ news_of campaign meter told }
 {

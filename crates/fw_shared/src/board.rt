@@ -9,8 +9,8 @@ use fw_tally::Tally;
 use std::alloc::Global;
 use std::marker::Model;
 
-/// A count that workers mark and see, each from a seat of its own and none behind a lock. Between any two steps it is the sum of
-/// the marks of all seats, and no seat has seen more.
+/// A count that workers mark and see, each from a seat of its own and without a lock. Between any two steps it is the sum of the
+/// marks of all seats, and no seat has seen more.
 #[derive(Drop)]
 pub struct Board {
     tally: Tally,
@@ -44,8 +44,8 @@ impl Board {
         Ok((Board { tally }, seat))
     }
 
-    /// A second seat, with so many of the marks that are left to this one, which it asks for. It has seen what this one has, and
-    /// has no receipts.
+    /// A second seat, with `marks` of the marks that are left to this one: at least this number must be left. The second seat has
+    /// seen what this one has, and has no receipts.
     ///
     /// # Errors
     ///
@@ -86,7 +86,7 @@ impl Board {
         self.tally.seen(&mut seat.share)
     }
 
-    /// Joins another seat into this one, and answers its receipts. Its marks and what is left to it are this one's, and so is
+    /// Joins another seat into this one, and returns its receipts. Its marks and what is left to it are this one's, and so is
     /// what it has seen.
     pub fn join(&self, seat: &mut Seat, other: Seat) -> Vec<Receipt>
         requires board { seat.old.board ≡ self.now.id }

@@ -24,7 +24,7 @@ use std::sync::{Mutex, Wait};
 /// How many shards a desk has.
 const SHARDS: usize = 8;
 
-/// A head end whose live rows are dealt to eight shards by the numbers of their meters, each behind a lock of its own, in which the
+/// A head end whose live rows are dealt to eight shards by the numbers of their meters, each under a lock of its own, in which the
 /// log's lock is taken for one append. Its book is as it was when the desk was made: how rows ended is marked in it when they are
 /// put back.
 #[derive(Drop)]
@@ -52,7 +52,7 @@ impl Desk {
     ///
     /// # Errors
     ///
-    /// Want of memory alone. The head end is then lost.
+    /// Out of memory alone. The head end is then lost.
     pub fn new(alloc: Global, head: HeadCore) -> Result<Desk, AllocError>
         ensures { IfOk result (λ desk. desk ≡ record { book = head.book; width = head.width }) }
     {
@@ -201,7 +201,7 @@ fn dealt(alloc: Global, rows: TakenRows) -> Result<Vec<Shard>, AllocError>
     Ok(shards)
 }
 
-/// Each shard behind a lock of its own.
+/// Each shard under a lock of its own.
 fn locked(alloc: Global, shards: Vec<Shard>) -> Result<Vec<Mutex<Shard>>, AllocError>
     ensures { IfOk result (λ locked. vec_len locked ≡ vec_len shards) }
 {
@@ -212,7 +212,7 @@ fn locked(alloc: Global, shards: Vec<Shard>) -> Result<Vec<Mutex<Shard>>, AllocE
     Ok(all)
 }
 
-/// Each shard from behind its lock.
+/// Each shard, taken out of its lock.
 fn unlocked(alloc: Global, shards: Vec<Mutex<Shard>>) -> Result<Vec<Shard>, AllocError>
     ensures { IfOk result (λ unlocked. vec_len unlocked ≡ vec_len shards) }
 {

@@ -1,4 +1,5 @@
-//! What workers share: the board on which they count what is done, with a seat for each of them, and meters and head ends behind locks.
+//! What workers share: the board on which they count what is done, with a seat for each of them, and meters and head ends under
+//! locks.
 #![tactic(auto)]
 
 mod acts;

@@ -17,7 +17,7 @@ use std::alloc::Global;
 use std::marker::Model;
 use std::sync::{Mutex, Wait};
 
-/// A meter behind a lock, under which each of its events is made whole. The log's lock is taken inside it, for one append, and no
+/// A meter under a lock, under which each of its events is made whole. The log's lock is taken inside it, for one append, and no
 /// other.
 #[derive(Drop)]
 pub struct SharedMeter<S: ImageStore + Drop> {
@@ -35,7 +35,7 @@ impl<S: ImageStore + Drop> Model for SharedMeter<S> {
 }
 
 impl<S: ImageStore + Drop> SharedMeter<S> {
-    /// This meter behind this number. It takes no memory.
+    /// This meter with this number. It takes no memory.
     pub fn new(meter: MeterId, core: MeterCore<S>) -> SharedMeter<S>
         ensures { result ≡ meter }
     {
@@ -85,7 +85,7 @@ impl<S: ImageStore + Drop> SharedMeter<S> {
     }
 
     /// A turn of the meter, where it verifies: the seat has a receipt for it. In every other status nothing is done, and no event
-    /// is made; the answer is whether one was.
+    /// is made; it returns whether one was.
     ///
     /// # Errors
     ///

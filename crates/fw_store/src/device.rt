@@ -27,8 +27,8 @@ use thiserror::Error;
 #[error("DeviceFault")]
 pub struct DeviceFault;
 
-/// Bytes that are read and written at positions, as those of a file. Of an honest device contents are known: reads give
-/// what was last written, and a write that fails leaves any bytes in its own range and nowhere else.
+/// Bytes that are read and written at positions, as those of a file. The contents of an honest device are known: reads give what was
+/// last written, and a write that fails leaves any bytes in its own range and nowhere else.
 pub trait ByteDevice {
     /// Whether the device keeps what is written, as said below.
     ghost honest: { Self → Bool };
@@ -53,7 +53,7 @@ pub trait ByteDevice {
         ensures kept { KeepsDevice honest sound room self.old self.new }
         ensures never { IsTrue (sound self.old) → IsOk result };
 
-    /// Cuts the bytes to this length, or adds zeros up to it. A sound device does it just where it has room for so many.
+    /// Cuts the bytes to this length, or adds zeros up to it. A sound device does it just where it has room for `len` bytes.
     ///
     /// # Errors
     ///
@@ -109,7 +109,7 @@ pub trait ByteDevice {
     ///
     /// # Errors
     ///
-    /// `DeviceFault` where the device failed, or has no room for N bytes. The old bytes then stand.
+    /// `DeviceFault` where the device failed, or has no room for these bytes. The old bytes then stand.
     fn replace_both(
         &mut self,
         at: u64,

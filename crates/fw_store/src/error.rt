@@ -41,7 +41,7 @@ pub enum FileStoreError {
     /// A number is outside its limits, or the factory image is empty or above the capacity.
     #[error("BadSetup")]
     BadSetup,
-    /// Memory was refused. The calls of this crate take none, and never answer it.
+    /// Memory was refused. The calls of this crate take none, and never return it.
     #[error("OutOfMemory")]
     OutOfMemory,
     /// The bytes don't begin with a capacity of 1 to 16,777,216, or aren't as many as those of a store of that capacity.

@@ -392,7 +392,7 @@ fn goal_to_bytes(goal: Option<Goal>) -> [u8; GOAL_SIZE]
     bytes
 }
 
-/// Writes the marks of the first 4,096 blocks after the parts that are there, and answers where they end.
+/// Writes the marks of the first 4,096 blocks after the parts that are there, and returns where they end.
 fn put_first_marks(bytes: &mut [u8], at: usize, marks: &Pages) -> usize
     requires { at + FIRST_MARKS_SIZE ≤ length bytes.old }
     ensures next { result ≡ at + FIRST_MARKS_SIZE }
@@ -430,7 +430,7 @@ fn fill_last_marks(out: &mut [u8], marks: &Pages)
     marks.put_bytes(LAST_MARKS_PAGE, out);
 }
 
-/// Writes a part after those that are there, and answers where it ends.
+/// Writes a part after those that are there, and returns where it ends.
 fn put(bytes: &mut [u8], at: usize, part: &[u8]) -> usize
     requires { at + length part.now ≤ length bytes.old }
     ensures next { result ≡ at + length part.now }

@@ -59,7 +59,7 @@ pub fn written_is_read()
     ensures { WrittenIsRead }
 {}
 
-/// What is read before a write, or behind it, is as it was.
+/// What is read before a write, or after it, is as it was.
 pub fn others_are_read()
     ensures { OthersAreRead }
 {}

@@ -1,8 +1,8 @@
 //! The store of a meter with COSEM Image transfer (IEC 62056-6-2): a header and two slots for images.
 //!
-//! A header has one spelling, of 622 bytes in version 1 and of 2,158 in version 2, and the headers that a store can have are those
-//! of specs/Header.antt. What a store promises is said at [`ImageStore`]. There is one in memory, and one over a device of bytes,
-//! such as a file, whose bytes are those of specs/StoreBytes.antt. The forms are own ones.
+//! A header has one spelling, of 622 bytes in version 1 and of 2,158 in version 2, and the headers that a store can have are those of
+//! specs/Header.antt. What a store promises is said at [`ImageStore`]. There is one in memory, and one over a device of bytes, such as
+//! a file, whose bytes are those of specs/StoreBytes.antt. The forms are this profile's own.
 #![tactic(auto)]
 
 mod device;

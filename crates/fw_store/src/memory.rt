@@ -14,11 +14,11 @@ use crate::store::ImageStore;
 use crate::version::{HeaderBytes, HeaderVersion};
 use std::alloc::{AllocError, Global};
 
-/// A store in memory. It fails only where a fuse makes it fail, and takes no memory but when it is made.
+/// A store in memory. It fails only where a fuse makes it fail, and takes memory only when it is made.
 #[derive(Drop)]
 pub struct MemoryStore {
     capacity: u32,
-    /// Behind a pointer, so that the store moves in few words.
+    /// In a box, so that the store moves in few words.
     head: Box<HeaderBytes>,
     first: Vec<u8>,
     second: Vec<u8>,

@@ -15,11 +15,10 @@ use crate::version::HeaderBytes;
 /// A device with a header, of as many bytes as version 1 has or version 2, and two slots, which have as many bytes as the capacity.
 /// Its calls take no memory.
 ///
-/// Of each call two things are said. What holds of every store: the count of faults rises by one where the call answers
-/// `StoreFault`, unless it stood at its greatest number, and is as before where it doesn't; and where it is known how many
-/// calls succeed before all fail, as of a store with a fuse, the call is one of them, or fails. And what holds of an honest
-/// one, of which contents are known: reads give what was last written, the header is written whole or not at all, and a
-/// write that fails leaves any bytes in its own range and nowhere else.
+/// Two things are said of each call. Of every store: the count of faults rises by one where the call returns `StoreFault`, unless it
+/// stood at its greatest number, and is as before where it doesn't; and where it is known how many calls succeed before all fail, as
+/// of a store with a fuse, the call is one of them, or fails. Of an honest store, whose contents are known: reads give what was last
+/// written, the header is written whole or not at all, and a write that fails leaves any bytes in its own range and nowhere else.
 pub trait ImageStore {
     /// Whether the store keeps what is written, as said below.
     ghost honest: { Self → Bool };

@@ -25,7 +25,7 @@ pub(crate) enum Tail {
 }
 
 impl Tail {
-    /// What stands behind the slots of a store of this capacity that has so many bytes.
+    /// What stands after the slots of a store of this capacity that has `len` bytes.
     pub(crate) fn of_len(len: u64, capacity: u32) -> Option<Tail>
         ensures some { IfSome result (λ tail. len ≡ stored_size tail capacity) }
         ensures none { IfNone result ((tail : Tail) → len ≢ stored_size tail capacity) }

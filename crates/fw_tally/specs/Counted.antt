@@ -37,7 +37,7 @@ joined v w = view (v.own + w.own) (max v.seen w.seen) (v.allowance + w.allowance
 abbrev pub spent : View
 spent = view 0 0 0
 
--- ---- the tally as a table of one word and no slot, and what a step on it tells
+-- ---- the tally as a table of one word and no slot, and what a step on it says
 
 abbrev pub TallyTable : Type 0
 TallyTable = State (Unit {0}) View

@@ -1,4 +1,4 @@
-//! A count that threads share: marked and seen in single atomic steps, behind no lock.
+//! A count that threads share: marked and seen in single atomic steps, without a lock.
 #![tactic(auto)]
 
 mod error;

@@ -1,5 +1,5 @@
-//! What the tally's word and its shares always meet, and what each kind of step tells the share that makes it. All of this is for
-//! proofs: no value of these types is made.
+//! What the tally's word and its shares always meet, and what the share that makes a step knows by each kind of it. All of this is
+//! for proofs: no value of these types is made.
 
 use atomic_table::{Join, Play, Split, TableRule};
 use std::marker::{Brand, PhantomData};
@@ -43,7 +43,7 @@ impl Play<(), View> for Looks {
     ghost then = { Looked };
 }
 
-/// A look that only tells that the marks which are left to the share fit the word.
+/// A look that shows only that the marks which are left to the share fit the word.
 pub(crate) struct Fits;
 
 impl Play<(), View> for Fits {

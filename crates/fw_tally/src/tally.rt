@@ -9,8 +9,8 @@ use atomic_table::Table;
 use std::alloc::Global;
 use std::marker::{Brand, Model};
 
-/// A count that threads mark and see, each from a share of its own and none behind a lock. Between any two steps it is the sum of
-/// the marks of all shares, and no share has seen more.
+/// A count that threads mark and see, each from a share of its own and without a lock. Between any two steps it is the sum of the
+/// marks of all shares, and no share has seen more.
 #[derive(Drop)]
 pub struct Tally {
     table: Table<(), View, u64, Counted, Global>,
@@ -47,8 +47,8 @@ impl Tally {
         Ok((Tally { table }, share))
     }
 
-    /// A second share, with so many of the marks that are left to this one, which it asks for. It has seen what this one has. It
-    /// takes no memory.
+    /// A second share, with `marks` of the marks that are left to this one: at least this number must be left. The second share has
+    /// seen what this one has. It takes no memory.
     pub fn split(&self, share: &mut Share, marks: u64) -> Share
         requires tally { share.old.tally ≡ self.now.id }
         requires left { marks ≤ share.old.allowance }

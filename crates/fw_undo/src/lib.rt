@@ -1,8 +1,8 @@
 //! The journal of a write to two places of a file, and what a power cut in such a write leaves of it.
 //!
 //! The journal has the bytes before the write and after it, and their place. A disk writes whole sectors of 512 bytes. So where each
-//! sector of the file is the one of before or the one of after, the write was cut, and the bytes of before are put back. The form is an
-//! own one.
+//! sector of the file is the one before the write or the one after it, the write was cut, and the bytes before the write are put back.
+//! The form is this profile's own.
 #![tactic(auto)]
 
 mod bytes;

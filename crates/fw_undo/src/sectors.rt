@@ -20,7 +20,7 @@ fn in_sector(at: u64, sector: u64, part: &[u8]) -> &[u8]
     &part[from.min(end) as usize..end as usize]
 }
 
-/// Whether a sector of what stands there now is the one of before or the one of after.
+/// Whether a sector of what stands there now is the one before the write or the one after it.
 fn is_either(at: u64, sector: u64, now: &[u8], before: &[u8], after: &[u8]) -> bool
     requires now { length now.now ≤ 2048 }
     requires before { length before.now ≤ 2048 }
@@ -33,7 +33,7 @@ fn is_either(at: u64, sector: u64, now: &[u8], before: &[u8], after: &[u8]) -> b
     found == in_sector(at, sector, before) || found == in_sector(at, sector, after)
 }
 
-/// Whether each sector of what stands there now is the one of before or the one of after. All three have the same number of bytes.
+/// Whether each sector of what stands there now is the one before the write or the one after it. All three have the same number of bytes.
 pub(crate) fn is_cut(at: u64, now: &[u8], before: &[u8], after: &[u8]) -> bool
     requires place { at < 2 ^ 63 }
     requires few { length now.now ≤ 2048 }
@@ -51,8 +51,8 @@ pub(crate) fn is_cut(at: u64, now: &[u8], before: &[u8], after: &[u8]) -> bool
     true
 }
 
-/// The same of a part with which the file ends: its length is the one of before or the one of after, too. Where before or after has fewer
-/// bytes, zeros stand for those that it lacks.
+/// The same of a part with which the file ends: its length, too, is the one before the write or the one after it. Where one of them has
+/// fewer bytes, zeros stand for those that it lacks.
 pub(crate) fn is_cut_at_end(at: u64, now: &[u8], before: &[u8], after: &[u8]) -> bool
     requires place { at < 2 ^ 63 }
     requires few { length now.now ≤ 2048 }

@@ -4,7 +4,7 @@ use Rattle.sha2.specs.Hashers.{Holds256}
 use Rattle.sha2.specs.declared.Sha256.{Sha256}
 use Rattle.fw_store.specs.declared.slot.Slot.{Slot}
 
--- so many of the first bytes of a slot are wanted, and so many of them are taken
+-- the first `size` bytes of a slot are to be digested, and the first `taken` of them are
 pub record Progress : Type 0 where
   pub slot : Slot
   pub size : ℕ

@@ -6,6 +6,6 @@ use Rattle.std.specs.Int.{div_ceil}
 abbrev pub slice_size : ℕ
 slice_size = 4096
 
--- so many bytes in slices, of which the last may be shorter
+-- how many slices `size` bytes have, of which the last may be shorter
 abbrev pub slice_count : ℕ → ℕ
 slice_count size = div_ceil size slice_size

@@ -16,7 +16,7 @@ use std::marker::Model;
 /// The most bytes of a slot that are read at once.
 pub const SLICE_SIZE: u32 = 4096;
 
-/// The digest of the first bytes of a slot, of which some are taken. It is of no store: what it has taken is what the slot
+/// The digest of the first bytes of a slot, of which some are taken. It holds no store: what it has taken is what the slot
 /// held then, and so what the slot holds as long as these bytes stay.
 #[derive(Drop)]
 pub struct Digesting {
@@ -61,7 +61,7 @@ impl Digesting {
         self.taken
     }
 
-    /// Takes the next slice: at most 4,096 bytes, in one read. Where all bytes are taken, nothing is read. Answers whether
+    /// Takes the next slice: at most 4,096 bytes, in one read. Where all bytes are taken, nothing is read. Returns whether
     /// all are taken then. No memory is taken.
     ///
     /// # Errors
@@ -127,7 +127,7 @@ pub fn digest<S: ImageStore>(store: &mut S, slot: Slot, size: u32) -> Result<[u8
     Ok(digesting.finish())
 }
 
-/// Feeds the hasher, which has the first bytes of a slot, with so many more.
+/// Feeds the hasher, which has the first bytes of a slot, with the next `count` bytes.
 fn take_slice<S: ImageStore>(
     store: &mut S,
     slot: Slot,

@@ -16,7 +16,7 @@ use std::alloc::Global;
 /// The most workers of a rehearsal or a live rollout.
 const MAX_WORKERS: u32 = 8;
 
-/// The world behind the given events, and an entry for each of them.
+/// The world after the given events, and an entry for each of them.
 #[derive(Drop)]
 pub struct Beginning {
     pub world: World,
@@ -24,7 +24,7 @@ pub struct Beginning {
     ghost counted: { IsCounted (record { sent = world.sent; entries = entries.items }) },
 }
 
-/// What so many workers begin with, who have to be 1 to 8.
+/// What the workers begin with. There have to be 1 to 8 of them.
 ///
 /// # Errors
 ///
@@ -54,7 +54,7 @@ pub fn begin(
     }
 }
 
-/// The opening behind the given events.
+/// The opening after the given events.
 fn play(alloc: Global, setup: &Setup, events: &[Event]) -> Result<Beginning, RehearseError>
     ensures runs { IfOk result (λ made. StateRun (opening_state setup.now) (events_of events.now) made.world) }
     ensures entries { IfOk result (λ made. map (λ entry. entry.event) made.entries.items ≡ events_of events.now) }

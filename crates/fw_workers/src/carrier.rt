@@ -34,7 +34,7 @@ pub(crate) enum Arrival {
     Over,
 }
 
-/// A worker's end of what stands between it and its wire thread.
+/// A worker's end of the channels to its wire thread.
 #[derive(Drop)]
 pub(crate) struct WireThread {
     orders: Sender<Order>,
@@ -65,7 +65,7 @@ impl WireThread {
         Ok((WireThread { orders, brought }, carrier))
     }
 
-    /// Hands a datagram over, to be sent. It is lost where the wire thread has ended.
+    /// Passes a datagram on to the wire thread, which sends it. It is lost where that thread has ended.
     pub(crate) fn send<R: Wait>(&self, rt: &R, letter: LinkDatagram) -> Result<(), RoundsError> {
         self.order(rt, Order::Send(letter))
     }

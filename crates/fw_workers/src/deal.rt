@@ -9,7 +9,7 @@ use std::alloc::{AllocError, Global};
 ///
 /// # Errors
 ///
-/// Want of memory alone. The links are then lost.
+/// Out of memory alone. The links are then lost.
 pub fn dealt<L: Drop>(alloc: Global, links: Vec<L>, workers: u32) -> Result<Vec<Vec<L>>, AllocError>
     requires { 1 ≤ workers }
     ensures dealt { IfOk result (λ all. map (λ hand. hand.items) all.items ≡ hands workers links.items) }

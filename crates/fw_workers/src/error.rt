@@ -31,7 +31,7 @@ pub enum RehearseError {
     /// There is another number of wires than of links, or no socket could be bound.
     #[error("Socket")]
     Socket,
-    /// A gate answered that a worker may not go on.
+    /// A gate did not let a worker go on.
     #[error("GateShut")]
     GateShut,
     /// The workers are not 1 to 8, or no world can be made with this setup.
@@ -75,7 +75,7 @@ pub enum RoundsError {
     ThreadRefused,
     /// Memory was refused.
     OutOfMemory,
-    /// A gate answered that a worker may not go on.
+    /// A gate did not let a worker go on.
     GateShut,
 }
 

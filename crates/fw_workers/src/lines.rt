@@ -15,7 +15,7 @@ use std::sync::Wait;
 /// The most passes of a round of a link.
 const MAX_PASSES: u32 = 64;
 
-/// The links of a worker, and what stands between it and their wires.
+/// The links of a worker, and its end of the channels to their wires.
 #[derive(Drop)]
 pub(crate) struct WiredLinks<'a> {
     pub(crate) shared: &'a SharedWorld,
@@ -24,7 +24,7 @@ pub(crate) struct WiredLinks<'a> {
 }
 
 impl<'a> WiredLinks<'a> {
-    /// So many rounds of the links.
+    /// `rounds` rounds of the links.
     pub(crate) fn rounds<R: Wait, G: Gate>(
         &self,
         rt: &R,
@@ -128,7 +128,7 @@ impl<'a> WiredLinks<'a> {
         usize::try_from(number).ok()
     }
 
-    /// Hands over to be sent what was sent on a link.
+    /// Passes on what was sent on a link, so that the wire thread sends it.
     fn send<R: Wait>(
         &self,
         rt: &R,

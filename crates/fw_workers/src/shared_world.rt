@@ -1,5 +1,5 @@
 //! What workers share, and the events that they make there. What a worker makes is a receipt of its seat; what comes of it no clause
-//! tells, since the receipts are compared with the log behind it.
+//! says, since the receipts are compared with the log afterwards.
 
 ghost use Rattle.std.specs.Prelude.{◌≡◌, ◌≤◌, false, IsTrue, None, IfOk, IfErr, IfSome, IsErrOf, OnOk, OnErr};
 ghost use Rattle.std.specs.Option.{option_copied};
@@ -96,7 +96,7 @@ impl SharedWorld {
     /// # Errors
     ///
     /// `Mismatch` where there is no such head end, or where the meter stands in no campaign of it; `GateShut`, or `OutOfMemory`.
-    /// Nothing was changed but what the seat has seen.
+    /// Nothing was changed except what the seat has seen.
     pub fn tick<R: Wait, G: Gate>(
         &self,
         rt: &R,
@@ -129,7 +129,7 @@ impl SharedWorld {
     /// # Errors
     ///
     /// `Mismatch` where there is no such meter, or where no datagram of this number was sent to it; `GateShut`, or `OutOfMemory`.
-    /// Nothing was changed but what the seat has seen.
+    /// Nothing was changed except what the seat has seen.
     pub fn serve<R: Wait, G: Gate>(
         &self,
         rt: &R,
@@ -158,7 +158,7 @@ impl SharedWorld {
     /// # Errors
     ///
     /// `Mismatch` where there is no such head end, where no datagram of this number was sent to it, or where no mark is left to the
-    /// seat; `GateShut`, or `OutOfMemory`. Nothing was changed but what the seat has seen.
+    /// seat; `GateShut`, or `OutOfMemory`. Nothing was changed except what the seat has seen.
     pub fn hear<R: Wait, G: Gate>(
         &self,
         rt: &R,
@@ -189,7 +189,7 @@ impl SharedWorld {
     ///
     /// # Errors
     ///
-    /// `Mismatch` where there is no such meter; `GateShut`, or `OutOfMemory`. Nothing was changed but what the seat has seen.
+    /// `Mismatch` where there is no such meter; `GateShut`, or `OutOfMemory`. Nothing was changed except what the seat has seen.
     pub fn turn<R: Wait, G: Gate>(
         &self,
         rt: &R,

@@ -6,7 +6,7 @@ use crate::error::RoundsError;
 use crate::stage::Job;
 use std::sync::{Condvar, Mutex, Wait};
 
-/// Whether the workers begin, once they are told.
+/// Whether the workers begin, once this is decided.
 #[derive(Drop)]
 pub(crate) struct Start {
     told: Mutex<Option<bool>>,
@@ -14,7 +14,7 @@ pub(crate) struct Start {
 }
 
 impl Start {
-    /// The workers are told nothing yet.
+    /// Nothing is decided yet.
     pub(crate) fn new() -> Start {
         Start {
             told: Mutex::new(None),
@@ -22,13 +22,13 @@ impl Start {
         }
     }
 
-    /// Tells the workers whether they begin.
+    /// Decides whether the workers begin, and wakes them.
     fn tell<R: Wait>(&self, rt: &R, begins: bool) {
         *self.told.lock(rt) = Some(begins);
         self.changed.notify_all();
     }
 
-    /// Waits until the workers are told, and answers whether they begin.
+    /// Waits until it is decided whether the workers begin, and returns that.
     pub(crate) fn waits<R: Wait>(&self, rt: &R) -> bool {
         let told = self
             .changed
@@ -37,7 +37,7 @@ impl Start {
     }
 }
 
-/// The duty to tell the workers whether they begin. It can't be let go of except by telling them, so that none waits for ever.
+/// The duty to decide whether the workers begin. It can't be dropped without that, so that none waits for ever.
 pub(crate) struct Starter<'a> {
     start: &'a Start,
 }
@@ -48,7 +48,7 @@ impl<'a> Starter<'a> {
         Starter { start }
     }
 
-    /// Tells the workers that they begin. It asks that none is left whose thread is not there.
+    /// Decides that the workers begin. It asks that none is left whose thread is not there.
     pub(crate) fn begin<R: Wait, H: Drop>(self, rt: &R, _left: &[Job<H>])
         requires { _left.now ≡ [] }
     {
@@ -56,7 +56,7 @@ impl<'a> Starter<'a> {
         start.tell(rt, true);
     }
 
-    /// Tells the workers that they don't begin, and answers why.
+    /// Decides that the workers don't begin, and returns why.
     pub(crate) fn refuse<R: Wait>(self, rt: &R, why: RoundsError) -> RoundsError
         ensures { result ≡ why }
     {

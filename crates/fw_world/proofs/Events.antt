@@ -251,7 +251,7 @@ module _ (IsFirst : FirstNames) where
       row : ℕ → Bool
       row = put nat_eq (old.done campaign) meter true
 
-  -- what a meter told of a campaign is the name of an image that it switched to
+  -- what a meter reported of a campaign is the name of an image that it switched to
   claim_is_activated : ((number : ℕ) (name : Name) → IsFirst number name → name.campaign ≡ factory) → (activations : List Activation) (meter : ℕ) (campaign : Campaign) (release : ℕ) (image : List ℕ) (name : Name)
       → IsOpened campaign → name ≡ name_of campaign release image → IsOwn IsFirst activations meter name → HasActivated activations meter (name_of campaign release image)
   claim_is_activated first activations meter campaign release image name opened same (inl f) =

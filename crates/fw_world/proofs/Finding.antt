@@ -98,7 +98,7 @@ module _ {X : Type 0} (number : ℕ) where
 pub element_at : {A : Type 0} (xs : List A) (at : ℕ) (x : A) → at < length xs → x ≡ slice_index_or xs at x → slice_get xs at ≡ Some x
 element_at xs at x within is = slice_get-get_or xs at x within ∙ ap Some (sym is)
 
--- ---- head ends, each behind its own number
+-- ---- head ends, each under its own number
 
 pub head_place : (number : ℕ) (heads lent : List Head) (place found : Option ℕ) → lent ≡ heads → place ≡ position (λ head. nat_eq number head.book.head) lent → place ≡ found
     → position (λ (entry : ℕ × Head). nat_eq number entry.0) (map head_behind heads) ≡ found

@@ -104,7 +104,7 @@ module _ (sizes : JoinedSize) (one_name : names.OneName) (IsFirst : FirstNames) 
           let same : brings.apdu ≡ written = one_apdu source 1 1 h.source brings.apdu written (sym brings.wraps.bytes) in
           asks_nothing h.invoke invoke h.content content h.responds.result (subst (λ (s : List ℕ). SpellsRequest s invoke content) same brings.spells)
 
-  -- and what it tells of 41 or of 45 bytes is a name of the meter's own
+  -- and what it reports of 41 or of 45 bytes is a name of the meter's own
   pub reply_is_own : TellsRunning → (more : List Activation) (reply : Option (List ℕ)) (name : Option Name) (new : Meter) → Handles true IsTrue old d.bytes reply name new
       → All (TellsOwn IsFirst (activations ++ more)) (replies d reply)
   reply_is_own tells more None name new h = All-nil (TellsOwn IsFirst (activations ++ more))

@@ -107,8 +107,8 @@ from_joined f a (x ∷ xs) is =
     (λ there. let from = from_joined f a xs there in record { of = from.of; there = inr from.there; has = from.has })
     (in_parts a (f x) (flat_map f xs) is)
 
--- no value stands twice where none does in each of the lists, and the tag of each value is the key of its list's element, which has
--- that key alone
+-- No value stands twice in the joined lists where none does in each of them. The tag of each value is the key of its list's element, and
+-- no two elements have one key.
 pub once_joined : {X A K : Type 0} (f : X → List A) (key : X → K) (tag : A → K) (xs : List X) → Once (map key xs)
     → ((x : X) → In x xs → Once (f x)) → ((x : X) (a : A) → In x xs → In a (f x) → tag a ≡ key x) → Once (flat_map f xs)
 once_joined f key tag [] keys each tagged = tt

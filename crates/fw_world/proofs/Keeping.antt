@@ -29,7 +29,7 @@ repeats_kept : {X : Type 0} (old new : List (ℕ × X)) → keys_of new ≡ keys
 repeats_kept {X} old new same once =
     sym (repeats_map (λ (e : ℕ × X). e.0) (λ n. n) new) ∙ ap (repeats (λ (n : ℕ). n)) same ∙ repeats_map (λ (e : ℕ × X). e.0) (λ n. n) old ∙ once
 
--- ---- a head end that is written back stays behind its number
+-- ---- a head end that is written back stays under its number
 
 pub head_written : (key : ℕ) (heads : List (ℕ × Head)) (written : Head) → written.book.head ≡ key → set_entry (nat_eq key) heads (head_behind written) ≡ set_value (nat_eq key) heads written
 head_written key [] written own = refl

@@ -24,7 +24,7 @@ abbrev IsNew : Meter → Type 0
 IsNew meter =
     (version : HeaderVersion) × (block_size capacity : ℕ) × (factory : List ℕ) × store.IsSetup version block_size capacity factory × (meter ≡ fresh_meter version block_size capacity factory)
 
--- what is found behind a number is what one of them is made to
+-- what is found under a number is what one of them is made to
 found_first : {V : Type 0} (b : Bool) (first found : V) (rest : Option V) → cond b (Some first) rest ≡ Some found → (P : V → Type 0) → (b ≡ true → P first) → (rest ≡ Some found → P found) → P found
 found_first true first found rest e P here there = let same : first ≡ found = cc in subst P same (here refl)
 found_first false first found rest e P here there = there e

@@ -45,7 +45,7 @@ module _ (s old : State) (is : s ≡ old) (key number : ℕ) (same : key ≡ num
   pub meter_absent : lookup (nat_eq key) s.meters ≡ None → meter_at old number ≡ None
   meter_absent none = sym (λ i. meter_at (is i) (same i)) ∙ none
 
-  -- another head end, or another meter, stands behind the number
+  -- another head end, or another meter, stands under the number
   pub head_set : (new : List (ℕ × Head)) (written head : Head) → new ≡ set_value (nat_eq key) s.heads written → written ≡ head → (let w : State = record s { heads = new } in w) ≡ set_head old number head
   head_set new written head set e =
       ap (λ (hs : List (ℕ × Head)). let w : State = record s { heads = hs } in w) (set ∙ ap (set_value (nat_eq key) s.heads) e) ∙ (λ i. set_head (is i) (same i) head)
@@ -82,7 +82,7 @@ module _ (s old : State) (is : s ≡ old) (key : ℕ) where
   meter_same new found written sent activations there set e room places =
       (λ i. record s { meters = written_back key s.meters new found written there set e i; sent = room i; activations = places i }) ∙ is
 
--- ---- each head end stays behind its own number
+-- ---- each head end stays under its own number
 
 some_head : (a b : Head) → Some a ≡ Some b → a ≡ b
 some_head a b e = cc
@@ -121,7 +121,7 @@ noted_is meter number None after same runs = refl
 noted_is meter number (Some image) after same runs =
     (λ i. record { meter = same i; name = image.name; bytes = (runs i).bytes } ∷ [])
 
--- so it is where the meter started again behind that
+-- so it is where the meter started again after that
 pub noted_as : (meter number : ℕ) (switched : Option Image) (new after : Meter) → meter ≡ number → new ≡ restarted after → IsRunning switched new → noted meter switched ≡ activated number (switched_name switched) after
 noted_as meter number switched new after same is runs = noted_is meter number switched after same (as_before switched (subst (IsRunning switched) is runs))
   where

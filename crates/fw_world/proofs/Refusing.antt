@@ -18,7 +18,7 @@ use Rattle.fw_world.specs.State.{State, head_at, meter_at}
 use Rattle.fw_world.specs.Refusals.{of_book, by_book, with_head, with_meter, with_datagram, no_addressee, no_stop, refusal_of, AddresseeMayWant, MeterMayWant, MayWantMemory, IsRefused}
 use Rattle.fw_world.proofs.Places.{head_found}
 
--- what is told is this error
+-- what is returned is this error
 pub refused_by : {X : Type 0} (r : Result X StepError) (error : StepError) (Q : StepError → Type 0) → IsErrAnd r (λ e. e ≡ error) → Q error → IfErr r Q
 refused_by (Ok x) error Q h q = tt
 refused_by (Err e) error Q h q = subst Q (sym h) q

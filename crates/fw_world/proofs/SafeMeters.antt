@@ -278,7 +278,7 @@ module _ (IsFirst : FirstNames) (offered : Offers) (activations : List Activatio
   pub reopened_safe : (old : Meter) → IsSafeMeter IsFirst offered activations number old → IsSafeMeter IsFirst offered activations number (reopened old)
   reopened_safe old k = phase_safe old (reopened_phase old.phase) (reopened_goal old.phase) (λ e. k.verified (reopened_status old.phase e)) k
 
-  -- and leaves all else but how many blocks an image may have
+  -- and leaves all else except how many blocks an image may have
   pub restarted_safe : (old : Meter) → IsSafeMeter IsFirst offered activations number old → IsSafeMeter IsFirst offered activations number (restarted old)
   restarted_safe old k =
       let kept = reopened_safe old k in record {

@@ -16,7 +16,7 @@ use Rattle.fw_meter.specs.Step.{MeterResult, got, coded}
 heads : {x y : ℕ} {s t : List ℕ} → x ∷ s ≡ y ∷ t → x ≡ y
 heads e = cc
 
--- the APDU behind the header, whatever the wPorts
+-- the APDU after the header, whatever the wPorts
 pub one_apdu : (s d t u : ℕ) (a b : List ℕ) → wrapped s d a ≡ wrapped t u b → a ≡ b
 one_apdu s d t u a b e = ap behind_header e
 

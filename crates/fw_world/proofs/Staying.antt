@@ -12,7 +12,7 @@ use Rattle.fw_world.specs.State.{State, head_at, meter_at, set_head, IsAddressed
 use Rattle.fw_world.specs.Laws.{ActorsStay, SentStaysAddressed}
 use Rattle.fw_world.proofs.Events.{at_number}
 
--- another value behind a key leaves which keys are there
+-- another value under a key leaves which keys are there
 pub same_there : {X : Type 0} (test other : ℕ → Bool) (value : X) (es : List (ℕ × X)) → is_some (lookup other (set_value test es value)) ≡ is_some (lookup other es)
 same_there test other value [] = refl
 same_there {X} test other value (entry ∷ entries) = go (test entry.0) (same_there test other value entries)

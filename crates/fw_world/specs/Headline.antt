@@ -43,8 +43,8 @@ IsOwn IsFirst activations meter name = IsFirst meter name ⊎ HasActivated activ
 
 -- ---- what the types of the parts say of each world
 
--- the block size is not 0, the name of the image that runs has a spelling, and so has that of a goal, whose release is not below that of
--- the image that runs; and each block that is there has its length
+-- The block size is not 0. The name of the image that runs has a spelling, and so has that of a goal, whose release is not below that of
+-- the image that runs. Each block that is there has its length.
 pub record IsSoundMeter (meter : Meter) : Type 0 where
   pub block_size : 1 ≤ meter.block_size
   pub named : IsName meter.running.name
@@ -74,7 +74,7 @@ TellsOwn IsFirst activations d =
     (invoke : ℕ) (bytes : List ℕ) → d.direction ≡ ToHead → CarriesResponse d.bytes invoke (get_response (value (octet_string bytes)))
     → (length bytes ≡ 41) ⊎ (length bytes ≡ 45) → (name : Name) × SpellsName bytes name × IsOwn IsFirst activations d.meter name
 
--- the name of the image that a meter runs is its own, and so is each name that it ever told
+-- the name of the image that a meter runs is its own, and so is each name that it ever reported
 pub record NamesAreOwn (IsFirst : FirstNames) (w : World) : Type 0 where
   pub running : (number : ℕ) (meter : Meter) → w.meters number ≡ Some meter → IsOwn IsFirst w.activations number meter.running.name
   pub told : All (TellsOwn IsFirst w.activations) w.sent

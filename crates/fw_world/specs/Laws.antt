@@ -69,7 +69,7 @@ AreLess sent [] less = less ≡ []
 AreLess sent (event ∷ events) less =
     ((rest : List Event) × (less ≡ event ∷ rest) × AreLess sent events rest) ⊎ (IsToHead sent event × AreLess sent events less)
 
--- the same world, but for these marks
+-- the same world, except for these marks
 pub record LacksMarks (missing : Campaign → ℕ → Bool) (w less : World) : Type 0 where
   pub same : less ≡ record w { done = less.done }
   pub done : (campaign : Campaign) (meter : ℕ) → less.done campaign meter ≡ (w.done campaign meter && not (missing campaign meter))

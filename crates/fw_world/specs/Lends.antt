@@ -12,11 +12,11 @@ use Rattle.fw_world.specs.contracts.world_meter.WorldMeter.{the_row as world_met
 use Rattle.fw_world.specs.Parts.{head_behind}
 use Rattle.fw_world.specs.Inside.{set_entry}
 
--- the head end of this number ends as it is left, behind the number that its book then has
+-- the head end of this number ends as it is left, under the number that its book then has
 abbrev pub lends_head : MutBor (List (ℕ × Head)) → ℕ → Option (MutBor Head) → Fml
 lends_head s number r = LendsIf heads_row head_row s r (λ w. set_entry (nat_eq number) s.now (head_behind w)) s.now
 
--- the meter ends as it is left, behind its number
+-- the meter ends as it is left, under its number
 abbrev pub lends_world_meter : MutBor (ℕ × Meter) → MutBor Meter → Fml
 lends_world_meter s r = Lends numbered_row world_meter_row s r (λ w. (s.now.0, w))
 

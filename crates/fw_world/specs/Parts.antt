@@ -5,7 +5,7 @@ use Rattle.fw_world.specs.declared.parts.Parts.{Parts}
 use Rattle.fw_world.specs.Setup.{repeats}
 use Rattle.fw_world.specs.State.{State}
 
--- a head end behind its own number
+-- a head end under its own number
 abbrev pub head_behind : Head → ℕ × Head
 head_behind head = (head.book.head, head)
 

@@ -1,4 +1,4 @@
--- Public vocabulary: what an event is refused for, and which events may want memory.
+-- Public vocabulary: what an event is refused for, and which events may take memory.
 use Rattle.std.specs.Prelude.{◌≡◌, ◌⊎◌, ◌≤◌, ℕ, List, IsSomeAnd, is_some, Option, Some, None, slice_get, if◌then◌else◌}
 use Rattle.std.specs.List.{list_all}
 use Rattle.fw_book.specs.declared.error.BookError.{BookError}
@@ -69,16 +69,16 @@ HasLiveRow head meter = IsSomeAnd (row_of head.rows meter) (λ row. IsLive row.s
 abbrev pub HoldsVerified : Meter → Type 0
 HoldsVerified m = 1 ≤ verified_size m.phase
 
--- a meter may want memory for a datagram, or for the image that it may switch to
+-- a meter may take memory for a datagram, or for the image that it may switch to
 abbrev pub MeterMayWant : Meter → List ℕ → Type 0
 MeterMayWant m datagram = meter.MayWantMemory datagram ⊎ HoldsVerified m
 
--- a head end may want memory for a datagram where the sender's live row may
+-- a head end may take memory for a datagram where the sender's live row may
 abbrev pub AddresseeMayWant : State → Direction → Datagram → Type 0
 AddresseeMayWant s ToMeter d = (m : Meter) × (meter_at s d.meter ≡ Some m) × MeterMayWant m d.bytes
 AddresseeMayWant s ToHead d = (head : Head) × (head_at s d.head ≡ Some head) × RowsMayWant head.rows d.meter d.bytes
 
--- An opening may want memory, a tick where the meter has a live row, a delivery where its addressee may, and a stop where the datagram or
+-- An opening may take memory, a tick where the meter has a live row, a delivery where its addressee may, and a stop where the datagram or
 -- the meter may.
 abbrev pub MayWantMemory : State → Event → Type 0
 MayWantMemory s (open_campaign campaign release image meters) = Unit {0}

@@ -62,7 +62,7 @@ head_of head = new_head head.head head.width
 abbrev pub meter_of : MeterSetup → Meter
 meter_of meter = fresh_meter (version_of meter) meter.block_size meter.capacity meter.factory.items
 
--- each behind its number
+-- each under its number
 abbrev pub head_entry : HeadSetup → ℕ × Head
 head_entry head = (number_of_head head, head_of head)
 

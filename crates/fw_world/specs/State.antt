@@ -22,7 +22,7 @@ use Rattle.fw_world.specs.World.{Datagram, Activation, World}
 use Rattle.fw_world.specs.Step.{Event, open_campaign, cancel_campaign, tick, deliver, stop, restart_meter, stop_restart, restart_head, turn, replies, activated, RunBy}
 
 pub record State : Type 0 where
-  -- each head end behind its number, and each meter behind its own, in the order of the setup
+  -- each head end under its number, and each meter under its own, in the order of the setup
   pub heads : List (ℕ × Head)
   pub meters : List (ℕ × Meter)
   pub sent : List Datagram
@@ -34,7 +34,7 @@ head_at s number = lookup (nat_eq number) s.heads
 abbrev pub meter_at : State → ℕ → Option Meter
 meter_at s number = lookup (nat_eq number) s.meters
 
--- the same, but for one head end or one meter that is there
+-- the same, except for one head end or one meter that is there
 abbrev pub set_head : State → ℕ → Head → State
 set_head s number head = record s { heads = set_value (nat_eq number) s.heads head }
 
@@ -49,7 +49,7 @@ IsAddressed s d = IsTrue (is_some (head_at s d.head)) × IsTrue (is_some (meter_
 abbrev pub AreAddressed : State → Type 0
 AreAddressed s = All (IsAddressed s) s.sent
 
--- each head end stands behind its own number
+-- each head end stands under its own number
 pub record IsState (s : State) : Type 0 where
   pub own : (number : ℕ) (head : Head) → head_at s number ≡ Some head → head.book.head ≡ number
 
@@ -121,8 +121,8 @@ abbrev pub DeliversAt : Direction → State → Datagram → State → Type 0
 DeliversAt ToMeter old d new = ServesAt old d new
 DeliversAt ToHead old d new = HearsAt old d new
 
--- A meter stops while it handles a datagram, after this many calls of its store, with this byte in what was being written, and is opened
--- again.
+-- A meter stops while it handles a datagram, after `calls` calls of its store, with the byte `torn` in what was being written. Then it is
+-- opened again.
 pub record StopsIn (old : State) (d : Datagram) (calls torn : ℕ) (new : State) : Type 0 where
   pub before : Meter
   pub after : Meter

@@ -25,10 +25,10 @@ pub data Event : Type 0 where
   tick : ℕ → ℕ → Event
   -- the datagram of this number comes to its addressee
   deliver : ℕ → Event
-  -- and the meter stops after so many calls of its store, with this byte in what it was writing, and restarts
+  -- and the meter stops after N calls of its store, with this byte in what it was writing, and restarts
   stop : ℕ → ℕ → ℕ → Event
   restart_meter : ℕ → Event
-  -- a meter restarts and stops in it after so many calls of its store, and is opened again with the header that is there
+  -- a meter restarts and stops in it after N calls of its store, and is opened again with the header that is there
   stop_restart : ℕ → ℕ → ℕ → Event
   restart_head : ℕ → Event
   -- a meter goes on with what it verifies
@@ -103,8 +103,8 @@ Delivers ToHead old d new = (new ≡ old) ⊎ Marks old d new
 
 -- ---- stops
 
--- A meter stops while it handles a datagram, and restarts: its reply is lost. What a stop leaves is the meter as it was, or as it was but
--- for a block that was being written, or as it is without the stop; then it restarts. An image that it switched to is noted.
+-- A meter stops while it handles a datagram, and its reply is lost. What a stop leaves is the meter as it was, or as it was except for a
+-- block that was being written, or as it is without the stop. Then it restarts. An image that it switched to is noted.
 pub record StopsAt (old : World) (d : Datagram) (new : World) : Type 0 where
   pub before : Meter
   pub after : Meter

@@ -32,7 +32,7 @@ pub record World : Type 0 where
   -- which meters are done in which campaigns
   pub done : Campaign → ℕ → Bool
 
--- the same values, but for this one
+-- the same values, except for this one
 abbrev pub put : {A B : Type 0} → (A → A → Bool) → (A → B) → A → B → A → B
 put same values key value other = if same other key then value else values other
 

@@ -22,7 +22,7 @@ pub enum Event {
     Tick(HeadId, MeterId),
     /// A datagram comes to its addressee.
     Deliver(usize),
-    /// A datagram comes to its meter, which stops behind so many calls of its store and starts again. Its reply is lost. Where it
+    /// A datagram comes to its meter, which stops after `calls` calls of its store and starts again. Its reply is lost. Where it
     /// stops in writing a block, the second half of the block is left with this byte.
     Stop {
         datagram: usize,

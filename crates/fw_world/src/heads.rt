@@ -1,4 +1,4 @@
-//! The head ends of a world, each behind its own number.
+//! The head ends of a world, each with its own number.
 
 ghost use Rattle.std.specs.Prelude.{◌≡◌, nat_eq, is_some, map, position};
 ghost use Rattle.std.specs.Borrow.{sem};
@@ -15,7 +15,7 @@ pub(crate) struct Heads {
     items: Vec<HeadCore>,
 }
 
-// Contracts see each behind the number in its book.
+// Contracts see each with the number in its book.
 impl Model for Heads {
     ghost use Rattle.std.specs.Prelude.{ℕ, List, map};
     ghost use Rattle.std.specs.Coded.{codes};

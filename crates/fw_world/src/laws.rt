@@ -61,7 +61,7 @@ pub fn sent_stays_addressed()
     ensures { SentStaysAddressed }
 {}
 
-/// A run, and a step behind it, are a run over one event more.
+/// A run, and a step after it, are a run over one event more.
 pub fn run_goes_on()
     ensures { RunGoesOn }
 {}

@@ -1,4 +1,4 @@
-//! The meters of a world, each behind its number.
+//! The meters of a world, each with its number.
 
 ghost use Rattle.std.specs.Prelude.{◌≡◌, IsTrue, nat_eq, is_some, position};
 ghost use Rattle.std.specs.Borrow.{sem};
@@ -34,7 +34,7 @@ impl Model for NumberedMeter {
 impl NumberedMeter {
     ghost use Rattle.fw_world.specs.Lends.{lends_world_meter};
 
-    /// This meter behind this number.
+    /// This meter with this number.
     pub fn new(meter: MeterId, core: MeterCore<MemoryStore>) -> NumberedMeter
         requires unfused { IsTrue core.sound }
         ensures { result ≡ (meter, core.meter) }
@@ -42,7 +42,7 @@ impl NumberedMeter {
         NumberedMeter::seated(meter, WorldMeter::of(core))
     }
 
-    /// The meter in this seat behind this number.
+    /// This meter of a world with this number.
     pub(crate) fn seated(meter: MeterId, seat: WorldMeter) -> NumberedMeter
         ensures { result ≡ (meter, seat) }
     {

@@ -12,7 +12,7 @@ use crate::world_meter::WorldMeter;
 use fw_head::HeadCore;
 use std::alloc::Global;
 
-/// New head ends, behind their numbers.
+/// New head ends, with their numbers.
 pub(crate) fn heads_of(alloc: Global, heads: &[HeadSetup]) -> Result<Heads, SetupError>
     requires widths { All HasWidth heads.now }
     ensures made { IfOk result (λ made. made ≡ map head_entry heads.now) }
@@ -31,7 +31,7 @@ pub(crate) fn heads_of(alloc: Global, heads: &[HeadSetup]) -> Result<Heads, Setu
     Ok(Heads::new(made))
 }
 
-/// New meters, behind their numbers.
+/// New meters, with their numbers.
 pub(crate) fn meters_of(alloc: Global, meters: &[MeterSetup]) -> Result<Meters, SetupError>
     requires stored { All IsStored meters.now }
     ensures made { IfOk result (λ made. made ≡ map meter_entry meters.now) }

@@ -99,8 +99,8 @@ impl World {
     /// # Errors
     ///
     /// `NoSuchDatagram`, `NoSuchActor` or `Book`, the first that applies. Otherwise `OutOfMemory` alone, and only of an opening; of
-    /// a tick for a meter with a live row; of a delivery to a head end where the sender's live row may want memory for it; and of a
-    /// delivery to a meter, or a stop, where the meter may want memory for the datagram, or holds a verified image. The world is
+    /// a tick for a meter with a live row; of a delivery to a head end where the sender's live row may take memory for it; and of a
+    /// delivery to a meter, or a stop, where the meter may take memory for the datagram, or holds a verified image. The world is
     /// then as it was.
     pub fn step(&mut self, alloc: Global, event: &Event) -> Result<(), StepError>
         ensures stepped { OnOk result (StateStep self.old (event_of event.now) self.new) }
@@ -112,7 +112,7 @@ impl World {
     {
         laws::state_steps_as_world();
         laws::every_step_is_safe();
-        // For its clauses alone: each head end stands behind its own number.
+        // For its clauses alone: each head end has its own number.
         let _sent = self.sent();
         self.make(alloc, event)
     }
@@ -369,13 +369,13 @@ impl World {
     pub fn sent(&self) -> &[Datagram]
         ensures sent { result.now ≡ self.now.sent }
 
-        // Each head end stands behind its own number.
+        // Each head end has its own number.
         ensures state { IsState self.now }
     {
         self.sent.as_slice()
     }
 
-    /// The world of these parts. It takes no memory. The parts that `into_parts` gives make the world that they were of.
+    /// The world of these parts. It takes no memory. Of the parts that `into_parts` returns it makes the same world again.
     pub fn from_parts(parts: Parts) -> World
         requires once { IsOnce (state_of parts) }
         ensures { result ≡ state_of parts }

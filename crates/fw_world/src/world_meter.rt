@@ -171,7 +171,7 @@ impl WorldMeter {
         }
     }
 
-    /// Starts again and stops in it, once its store was called so often, and is opened with the header that is there.
+    /// Starts again and stops in it, after `calls` calls of its store. Then it is opened with the header that is there.
     pub(crate) fn stop_restart(&mut self, calls: u64, torn: u8)
         ensures { self.new ≡ restarted_within calls self.old }
     {
@@ -195,8 +195,8 @@ impl WorldMeter {
         }
     }
 
-    /// Stops while it handles a datagram, once its store was called so often, and starts again. The answer is the image that it
-    /// switched to before it stopped. All memory is taken before the meter is changed.
+    /// Stops while it handles a datagram, after `calls` calls of its store, and starts again. Returns the image that it switched to
+    /// before it stopped. All memory is taken before the meter is changed.
     pub(crate) fn stop(
         &mut self,
         alloc: Global,
@@ -216,7 +216,7 @@ impl WorldMeter {
         Ok(switched)
     }
 
-    /// Handles a datagram as far as so many calls of the store go.
+    /// Handles a datagram as far as the first `calls` calls of the store go.
     fn cut(
         &mut self,
         alloc: Global,

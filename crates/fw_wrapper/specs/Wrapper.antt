@@ -26,11 +26,11 @@ pub record Wraps (datagram : List ℕ) (source dest : ℕ) (apdu : List ℕ) : T
 abbrev pub field_at : List ℕ → ℕ → ℕ
 field_at datagram place = from_be_bytes w16 (take 2 (drop place datagram))
 
--- what stands behind the header
+-- what stands after the header
 abbrev pub behind_header : List ℕ → List ℕ
 behind_header datagram = drop 8 datagram
 
--- the faults that a datagram can have, each behind its test, in the order in which they count
+-- the faults that a datagram can have, each with its test, in the order in which they count
 abbrev pub fault_rows : List ℕ → List (Bool × WrapError)
 fault_rows datagram =
     (nat_lt (length datagram) 8, Short)

@@ -1,4 +1,4 @@
-//! The wrapper over UDP (IEC 62056-4-7): a header of eight bytes in front of each APDU.
+//! The wrapper over UDP (IEC 62056-4-7): a header of eight bytes before each APDU.
 #![tactic(auto)]
 
 mod error;

@@ -1,19 +1,19 @@
 //! The loads that `bench/` measures. Each line is one: a word, two numbers, and byte strings in hexadecimal. Standard output gets a line
 //! for each, which counts what was done.
 //!
-//! - `codec READS WRITES SPELLING`: the A-XDR Data is read and written so many times.
-//! - `memory BLOCK_SIZE SENT DATAGRAM ..`: a meter over a store in memory handles so many of the datagrams.
+//! - `codec READS WRITES SPELLING`: the A-XDR Data is read READS times and written WRITES times.
+//! - `memory BLOCK_SIZE SENT DATAGRAM ..`: a meter over a store in memory handles SENT of the datagrams.
 //! - `file BLOCK_SIZE SENT DATAGRAM ..`: the same over a store in the file `store`, which is made anew and removed.
-//! - `copy SIZE TIMES`: so many bytes are copied so many times.
-//! - `verify SIZE ROUNDS DATAGRAM ..`: a meter handles the datagrams so many times, which move an image of so many bytes `a`.
-//!   The last two are its verify and its activate. `timed` does the same, and each round has a line before: the processor time
-//!   of verify and its turns, and that of the digest of the same bytes alone, in nanoseconds.
-//! - `events METERS SIZE`: the events are made of a campaign that brings an image of so many bytes `a` to so many meters. `world`
-//!   makes a world by them too. `paced` does the same, with a line before: the processor time of that, in nanoseconds.
-//! - `open METERS SIZE`: a setup is made, and the opening of a campaign that brings an image of so many bytes `a` to so many meters.
-//!   `schedule` makes the schedule of the campaign too, and counts its events. `scheduled` does the same, with a line before: the
-//!   processor time of that, in nanoseconds.
-//! - `rehearse METERS SIZE WORKERS`: so many workers, in two digits, make the campaign of that schedule, and its events are counted.
+//! - `copy SIZE TIMES`: SIZE bytes are copied TIMES times.
+//! - `verify SIZE ROUNDS DATAGRAM ..`: a meter handles the datagrams ROUNDS times, which move an image of SIZE bytes `a`. The last two
+//!   are its verify and its activate. `timed` does the same, and each round has a line before: the processor time of verify and its turns,
+//!   and that of the digest of the same bytes alone, in nanoseconds.
+//! - `events METERS SIZE`: the events are made of a campaign that brings an image of SIZE bytes `a` to METERS meters. `world` makes a
+//!   world by them too. `paced` does the same, with a line before: the processor time of that, in nanoseconds.
+//! - `open METERS SIZE`: a setup is made, and the opening of a campaign that brings an image of SIZE bytes `a` to METERS meters.
+//!   `schedule` makes the schedule of the campaign too, and counts its events. `scheduled` does the same, with a line before: the processor
+//!   time of that, in nanoseconds.
+//! - `rehearse METERS SIZE WORKERS`: WORKERS workers, in two digits, make the campaign of that schedule, and its events are counted.
 //!   `rehearsed` does the same, with a line before: the time of that by the clock, in nanoseconds.
 //! - `audit METERS SIZE`: that schedule is made, and the parts of a run of it are audited. `audited` does the same, with a line before:
 //!   the times by the clock of the schedule and of the audit, in nanoseconds.

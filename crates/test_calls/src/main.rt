@@ -1,8 +1,8 @@
 //! Calls of the libraries: the rows to which `hostile/run` refuses memory, and the loads that `bench/` measures.
 //!
-//! The first line of standard input says which. After `data` come the bytes of a Data, 59 at most, of which is told what reading them
-//! answers. After `rows` all rows are made, which take no memory before, and then the loads that follow, if any do. Without such a line
-//! each line is a load.
+//! The first line of standard input says which. After `data` come the bytes of a Data, 59 at most, and the line of output says what
+//! reading them returns. After `rows` all rows are made, which take no memory before, and then the loads that follow, if any do. Without
+//! such a line each line is a load.
 #![tactic(auto)]
 
 mod loads;

@@ -1,8 +1,7 @@
 //! Calls of the libraries for which memory can be refused: `hostile/run` runs them with each of their allocations refused.
 //!
-//! Where a call wants memory that is refused, what it is made on is looked at, which must be as before, and the call is made once more.
-//! Each line of standard output has the word of its row and an answer. `OutOfMemory` ends a row of which memory is refused for the second
-//! time too.
+//! Where a call is refused memory, what it was made on is checked: it must be as before. Then the call is made once more. Each line of
+//! standard output has the word of its row and an answer. `OutOfMemory` ends a row where memory is refused for the second time too.
 
 mod campaign;
 mod claim;
@@ -28,7 +27,7 @@ pub(crate) fn each(rt: &HostRuntime) -> io::Result<()> {
     ended(rt, "client", client::row(rt))
 }
 
-/// Tells what ended a row before its end.
+/// Prints what ended a row before its end.
 fn ended(rt: &HostRuntime, row: &str, end: Result<(), Ending>) -> io::Result<()> {
     match end {
         Ok(()) => Ok(()),

@@ -132,7 +132,7 @@ fn letter(fault: Option<ApduError>) -> &'static str {
     }
 }
 
-/// The Data begins behind what the service itself has.
+/// The Data begins after what the service itself has.
 const WHOLE: &[(&str, &str)] = &[
     ("c001c100010100000200ff0200", "SSSSSSSSSSSSS"),
     ("c101c1001200002c0000ff05000301", "SSSSSSSSSSSSSDD"),

@@ -6,7 +6,7 @@ use std::alloc::{AllocError, Global};
 use std::test::Fail;
 use test_support::{Case, each};
 
-/// The fault of the parts, one behind another, by the first letter of its name, or `.`; D is for the depth.
+/// The fault of the parts, one after another, by the first letter of its name, or `.`; D is for the depth.
 fn letter(alloc: Global, parts: &[&[u8]]) -> Result<&'static str, AllocError> {
     let bytes = joined(alloc, parts)?;
     Ok(match read(alloc, &bytes).err() {
@@ -42,7 +42,7 @@ UUUUUUUUUUUUUUUUUUUUUUUUUUUUUUUUUUUUUUUUUUUUUUUUUUUUUUUUUUUUUUUU\
 UUUUUUUUUUUUUUUUUUUUUUUUUUUUUUUUUUUUUUUUUUUUUUUUUUUUUUUUUUUUUUUU",
 )];
 
-/// A tag with none to eight bytes behind it.
+/// A tag with none to eight bytes after it.
 struct Fixed(u8);
 
 impl Case for Fixed {
@@ -77,7 +77,7 @@ const NESTINGS: &[[u8; 16]] = &[
     [1, 1, 2, 1, 1, 1, 2, 1, 1, 1, 2, 1, 1, 1, 2, 1],
 ];
 
-/// What stands in the innermost of them: its fault at depth 8, behind seven, and at depth 9, behind eight, of each nesting.
+/// What stands in the innermost of them: its fault at depth 8, after seven, and at depth 9, after eight, of each nesting.
 struct Innermost(&'static [u8]);
 
 impl Case for Innermost {

@@ -176,8 +176,8 @@ fn spellings(rt: HostRuntime) -> Result<(), Fail> {
     each_by(rt.alloc(), &Spelling, FAULTS)
 }
 
-/// So many zero bytes, zero bits or null-data of a tag, with the shortest form of their number and with the longest: whether both
-/// are written with the shortest.
+/// N zero bytes, zero bits or null-data of a tag, with the shortest form of N and with the longest: whether both are written with
+/// the shortest.
 struct Counted(u8, u32, &'static [u8]);
 
 impl Case for Counted {
@@ -230,7 +230,7 @@ const LENGTHS: &[(Counted, &str)] = &[
     (Counted(0x04, 0x1_0000, &[0x83, 0x01, 0x00, 0x00]), "true"),
     (Counted(0x09, 0x1_0000, &[0x83, 0x01, 0x00, 0x00]), "true"),
     (Counted(0x0a, 0x1_0000, &[0x83, 0x01, 0x00, 0x00]), "true"),
-    // so many elements or bytes would take long
+    // this number of elements or bytes would take long
     (Counted(0x04, 0xff_ffff, &[0x83, 0xff, 0xff, 0xff]), "true"),
     (
         Counted(0x04, 0x100_0000, &[0x84, 0x01, 0x00, 0x00, 0x00]),
@@ -243,8 +243,8 @@ fn each_form_of_a_length(rt: HostRuntime) -> Result<(), Fail> {
     each(rt.alloc(), LENGTHS)
 }
 
-/// The structure of the number 7 and the value of the bytes: why it can't be written, what is answered to its writing, and then the
-/// bytes behind ee.
+/// The structure of the number 7 and the value of the bytes: why it can't be written, what its writing returns, and then the bytes
+/// after ee.
 struct Second;
 
 impl Way for Second {

@@ -48,7 +48,7 @@ const GEOMETRIES: &[(Lies, &str)] = &[
     (Lies(1024, 16_777_217, 0), "none"),
 ];
 
-/// The bytes that aren't zero, each behind its place.
+/// The bytes that aren't zero, each after its place.
 fn nonzero(alloc: Global, bytes: &[u8]) -> Result<String, AllocError> {
     let mut text = String::new(alloc);
     for (at, byte) in bytes.iter().enumerate() {
@@ -103,7 +103,7 @@ const SETS: &[(Set, &str)] = &[
     (Set(0, &[]), "0 0 ........, 0 bits,"),
 ];
 
-/// The set that bytes of so many bits show, below a count.
+/// The set that N bits of these bytes show, below a count.
 struct Shown(&'static [u8], usize, u32);
 
 impl Case for Shown {
@@ -116,7 +116,7 @@ impl Case for Shown {
     }
 }
 
-/// So many bits, of these bytes.
+/// The `len` bits of these bytes.
 fn bits_of(alloc: Global, bytes: &[u8], len: usize) -> Result<Option<Bits>, AllocError> {
     if bytes.len() != len.div_ceil(8) {
         return Ok(None);
@@ -136,8 +136,8 @@ const SHOWN: &[(Shown, &str)] = &[
     (Shown(&[], 0, 1), "none"),
 ];
 
-/// The bits of a set below so many with every other number, from 0 on: how many, of how many bytes, and whether each is aa; the
-/// first number that is missing, a window of three, and how many runs there are.
+/// The bits of a set below N with every other number, from 0 on: how many, of how many bytes, and whether each is aa; the first
+/// number that is missing, a window of three, and how many runs there are.
 struct EveryOther(u32);
 
 impl Case for EveryOther {
@@ -198,7 +198,7 @@ const RUNS: &[(Runs, &str)] = &[
     (Runs(6, &[5, 3, 4, 0]), "(0, 1)(3, 6)"),
 ];
 
-/// Pages of so many numbers, of which these are marked in this order, and `None` for too many.
+/// Pages of `count` numbers, of which these are marked in this order, and `None` for too many.
 fn pages_of(count: u32, numbers: &[u32]) -> Option<Pages> {
     let mut pages = Pages::new(count)?;
     for number in numbers {
@@ -245,8 +245,8 @@ const PAGED: &[(Paged, &str)] = &[
     (Paged(16385, &[]), "none"),
 ];
 
-/// Pages of so many numbers, of which all are marked, from the highest down: the first that is missing before the last of them
-/// is marked, and behind it.
+/// Pages of N numbers, of which all are marked, from the highest down: the first that is missing before the last of them is
+/// marked, and after it.
 struct AllPaged(u32);
 
 impl Case for AllPaged {
@@ -285,7 +285,7 @@ fn marks_of(numbers: &[u32]) -> Pages {
     marks
 }
 
-/// Numbers round the ends of bytes and of all marks.
+/// Numbers around the ends of bytes and of all marks.
 const ASKED: &[u32] = &[
     0,
     1,
@@ -399,7 +399,7 @@ const BELOW: &[(Below, &str)] = &[
     (Below(&[0, 1, 2], 3), "3, 3 bits, 1 bytes, 0:e0"),
     (Below(&[0, 1, 2, 3, 4, 5], 3), "3, 3 bits, 1 bytes, 0:e0"),
     (Below(&[0, 1, 2, 5], 4), "3, 4 bits, 1 bytes, 0:e0"),
-    // round the end of a byte
+    // around the end of a byte
     (Below(&[7, 8], 7), "0, 7 bits, 1 bytes,"),
     (Below(&[7, 8], 8), "0, 8 bits, 1 bytes, 0:01"),
     (Below(&[0, 7, 8], 9), "1, 9 bits, 2 bytes, 0:81 1:80"),
@@ -411,8 +411,8 @@ const BELOW: &[(Below, &str)] = &[
     (Below(&[0, 16383], 16383), "1, 16383 bits, 2048 bytes, 0:80"),
 ];
 
-/// Pages of so many numbers, with these marked, below a count: the first that is missing, and the bits that are shown; then the
-/// bytes, and how many numbers the pages count that are read from them.
+/// Pages of N numbers, with these marked, below a count: the first that is missing, and the bits that are shown; then the bytes,
+/// and how many numbers the pages count that are read from them.
 struct PagedBelow(u32, &'static [u32], u32);
 
 impl Case for PagedBelow {
@@ -443,7 +443,7 @@ const PAGED_BELOW: &[(PagedBelow, &str)] = &[
     (PagedBelow(0, &[], 8), "0, 0 bits,; 16384"),
 ];
 
-/// Pages of so many numbers, with these marked, with another count: that count, the first number that is missing, and the bytes.
+/// Pages of N numbers, with these marked, with another count: that count, the first number that is missing, and the bytes.
 struct Resized(u32, &'static [u32], u32);
 
 impl Case for Resized {
@@ -465,7 +465,7 @@ const RESIZED: &[(Resized, &str)] = &[
     // the same count
     (Resized(6, &[0, 2], 6), "6 1, 0:a0"),
     (Resized(0, &[], 0), "0 0,"),
-    // a greater one, of which no number is there that wasn't
+    // a greater one: no number is there that wasn't before
     (Resized(3, &[0, 1, 2], 6), "6 3, 0:e0"),
     (Resized(4096, &[0, 4095], 16384), "16384 1, 0:80 511:01"),
     // a lower one, and what is above it is lost

@@ -18,7 +18,7 @@ impl Way for Spelling {
     }
 }
 
-/// Behind the first bytes stands the SHA-256 of `abc`, from the examples of FIPS 180-4.
+/// After the first bytes stands the SHA-256 of `abc`, from the examples of FIPS 180-4.
 const FRONTS: &[(&str, &str)] = &[
     (
         "010000000700000001ba7816bf8f01cfea414140de5dae2223b00361a396177a9cb410ff61f20015ad",
@@ -179,7 +179,7 @@ const NAMES: &[(Named, &str)] = &[
     ),
 ];
 
-/// Numbers as they are taken and told again: of a head end and of a meter, and what a campaign tells of itself.
+/// Numbers as they are taken and given back: of a head end and of a meter, and what a campaign says of itself.
 enum Number {
     Head(u32),
     Meter(u32),

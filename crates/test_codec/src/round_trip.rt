@@ -10,7 +10,7 @@ use fw_axdr::{AxdrError, Data, laws, read, write_to};
 use fw_wrapper::{WrapError, join, split};
 use std::alloc::Global;
 
-/// Writes a value, puts some bytes behind it, and reads the value back, with the number of bytes that it took.
+/// Writes a value, puts some bytes after it, and reads the value back, with the number of bytes that it took.
 pub fn read_back(alloc: Global, value: &Data, behind: &[u8]) -> Result<(Data, usize), AxdrError>
     ensures same { IfOk result (λ x. value_of x.0 ≡ value_of value.now) }
     ensures used { IfOk result (λ x. x.1 ≡ length (short (value_of value.now))) }

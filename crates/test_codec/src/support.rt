@@ -5,12 +5,12 @@ use std::alloc::{AllocError, Global};
 use std::test::Fail;
 use test_support::expect_at;
 
-/// A way in which bytes are taken, and told of in a line.
+/// A way in which bytes are taken, and what it reports of them in a line.
 pub(crate) trait Way {
     fn told(&self, alloc: Global, bytes: &[u8]) -> Result<String, Fail>;
 }
 
-/// Of bytes in hexadecimal is told what stands beside them.
+/// The bytes of each row, in hexadecimal, give the text beside them.
 pub(crate) fn each_by<W: Way>(alloc: Global, way: &W, rows: &[(&str, &str)]) -> Result<(), Fail> {
     for (digits, want) in rows {
         let bytes = hex::decode(alloc, digits)?;

@@ -26,7 +26,7 @@ fn frame_text(alloc: Global, frame: &Frame<'_>) -> Result<String, Fail> {
     Ok(format!(in alloc; "{:04x} {:04x} {apdu}, {again}", frame.source, frame.dest)?)
 }
 
-/// From wPort 0102 to wPort 0304, the APDU c001c1, and then datagrams that the first refusal that applies is told of.
+/// From wPort 0102 to wPort 0304, the APDU c001c1, and then datagrams with the first refusal that applies.
 const DATAGRAMS: &[(&str, &str)] = &[
     (
         "0001010203040003c001c1",
@@ -67,7 +67,7 @@ const LENGTHS: &[(Field, &str)] = &[
     (Field(0, 65536), "Some(Length)"),
 ];
 
-/// An APDU of so many bytes: what `split_back` answers, and whether it gives the same back.
+/// An APDU of N bytes: what `split_back` returns, and whether it gives the same back.
 struct Carried(usize);
 
 impl Case for Carried {

@@ -4,7 +4,7 @@ use crate::client::{Answer, Step, Wish, steps};
 use std::test::Fail;
 use test_support::each;
 
-/// Values of the types of what is asked, each behind one of another type or of another service.
+/// Values of the types of what is asked, each after one of another type or of another service.
 const NUMBERS: &[(Step, &str)] = &[
     (
         Step::Ask(Wish::BlockSize),
@@ -343,7 +343,7 @@ const CODES: &[(Step, &str)] = &[
     ),
 ];
 
-/// A SET and ACTIONs, each behind the response of another service.
+/// A SET and ACTIONs, each after the response of another service.
 const CHANGED: &[(Step, &str)] = &[
     (
         Step::Ask(Wish::Enable),

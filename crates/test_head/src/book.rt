@@ -126,7 +126,7 @@ pub(crate) fn bytes_of(alloc: Global, book: &Book) -> Result<String, Fail> {
     Ok(hex::encode(alloc, book.write(alloc)?.as_slice())?)
 }
 
-/// The last call behind others, of which none is refused: `done`, or its refusal, which leaves the book as it was.
+/// The last call after others, of which none is refused: `done`, or its refusal, which leaves the book as it was.
 pub(crate) struct Last(pub(crate) &'static [Call]);
 
 impl Case for Last {

@@ -273,8 +273,8 @@ fn is_book(alloc: Global, bytes: &[u8]) -> Result<bool, Fail> {
     }
 }
 
-/// A book ends behind a campaign: 8 bytes, 27 of the first campaign, 22 of the second; 8 bytes, and 22 of the only campaign. In the
-/// old form each campaign has four bytes less.
+/// A book ends after a campaign: 8 bytes, 27 of the first campaign, 22 of the second; 8 bytes, and 22 of the only campaign. In the old form
+/// each campaign has four bytes less.
 const PREFIXES: &[(Prefixes, &str)] = &[
     (
         Prefixes(
@@ -303,7 +303,7 @@ fn a_book_ends_behind_a_campaign(rt: HostRuntime) -> Result<(), Fail> {
     each(rt.alloc(), PREFIXES)
 }
 
-/// The bytes of one campaign with an image of so many bytes for so many meters, each of which has ended: whether they are a book's.
+/// The bytes of one campaign with an image of N bytes for M meters, each of which has ended: whether they are a book's.
 struct Ended(u32, u16);
 
 impl Case for Ended {
@@ -319,7 +319,7 @@ impl Case for Ended {
 /// The form, head end 7, serial 1, and release 0.
 const FRONT: &[u8] = &[0x46, 0x57, 0x42, 0x32, 0, 0, 0, 7, 0, 0, 0, 1, 0, 0, 0, 0];
 
-/// Rows of so many meters that were cancelled.
+/// The rows of `meters` meters that were cancelled.
 fn ended_rows(alloc: Global, meters: u16) -> Result<Vec<u8>, AllocError> {
     let mut rows = Vec::new(alloc);
     for meter in 0..meters {
@@ -329,7 +329,7 @@ fn ended_rows(alloc: Global, meters: u16) -> Result<Vec<u8>, AllocError> {
     Ok(rows)
 }
 
-/// The parts, one behind another.
+/// The parts, one after another.
 fn joined(alloc: Global, parts: &[&[u8]]) -> Result<Vec<u8>, AllocError> {
     let mut bytes = Vec::new(alloc);
     for part in parts {
@@ -345,8 +345,8 @@ const LIMITS: &[(Ended, &str)] = &[
     (Ended(1, 257), "false"),
 ];
 
-/// A book after it opened a campaign of release 5 with an image of so many bytes for so many meters: how many bytes are written, and
-/// whether the book that they are read as is written so too and offers the image.
+/// A book after it opened a campaign of release 5 with an image of N bytes for M meters: how many bytes are written, and whether the book
+/// that they are read as is written so too and offers the image.
 struct ReadBack(u32, u32);
 
 impl Case for ReadBack {
@@ -380,7 +380,7 @@ fn again_text(alloc: Global, again: &Book, written: &[u8], image: &[u8]) -> Resu
     Ok(format!(in alloc; "{} bytes, {same}, {offered}", written.len())?)
 }
 
-/// So many bytes that count from 0 to 250 and again.
+/// `size` bytes that count from 0 to 250 and again.
 fn counted(alloc: Global, size: u32) -> Result<Vec<u8>, AllocError> {
     let mut bytes = vec![in alloc; 0; size as usize]?;
     for (at, byte) in bytes.iter_mut().enumerate() {
@@ -397,7 +397,7 @@ fn first_meters(alloc: Global, count: u32) -> Result<Vec<MeterId>, Fail> {
     Ok(meters)
 }
 
-/// 22 bytes, those of the image, and 5 a meter, round the largest size that 16 bits tell, and above it.
+/// 22 bytes, those of the image, and 5 a meter, around the largest size that 16 bits can hold, and above it.
 const READ_BACK: &[(ReadBack, &str)] = &[
     (ReadBack(65_535, 1), "65562 bytes, true, true"),
     (ReadBack(65_536, 1), "65563 bytes, true, true"),

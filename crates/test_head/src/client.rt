@@ -146,7 +146,7 @@ pub(crate) fn abc_name(release: u32) -> Option<ImageName> {
     Some(name_of(CampaignId::new(HeadId::new(7)?, 1)?, release, b"abc"))
 }
 
-/// What is heard, as `Debug` gives it, but for names, which are spelled.
+/// What is heard, as `Debug` gives it, except names, which are spelled.
 fn heard_text(alloc: Global, heard: &Heard) -> Result<String, Fail> {
     Ok(match heard {
         Heard::Active(claim) => {

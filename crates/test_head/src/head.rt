@@ -11,7 +11,7 @@ use test_support::{Kept, Takes, session};
 
 /// A step of a head end.
 pub(crate) enum Step {
-    /// It opens the campaign of this serial number for meter 1: the spelling of the name that is answered.
+    /// It opens the campaign of this serial number for meter 1: the spelling of the name that is returned.
     Open(u32, &'static [u8]),
     /// The same with an image of this release.
     OpenRelease(u32, u32, &'static [u8]),

@@ -173,8 +173,8 @@ const KEPT: &[(Step, &str)] = &[
     (Step::Cancel(3), "NoSuchCampaign"),
 ];
 
-/// What is told of an opening of campaign 2, for meter 4 with image `abc`, where meters 2 and 1 were marked and wait, and the device fails
-/// after so many calls. Then the book in memory, and what is read of the device.
+/// What comes of an opening of campaign 2, for meter 4 with image `abc`, where meters 2 and 1 were marked and wait, and the device fails
+/// after `calls` calls. Then the book in memory, and what is read of the device.
 struct Cut {
     calls: u64,
     torn: u8,
@@ -194,7 +194,7 @@ impl Case for Cut {
     }
 }
 
-/// What is told of marks that wait and of an opening.
+/// What comes of marks that wait and of an opening.
 fn opened_again_text(alloc: Global, book: KeptBook<MemoryDevice>) -> Result<String, Fail> {
     let mut book = book;
     book.take(alloc, &Step::Fail(1, 2))?;
@@ -256,7 +256,7 @@ fn a_cut_leaves_an_opening_or_nothing_of_it(rt: HostRuntime) -> Result<(), Fail>
     each(rt.alloc(), CUTS)
 }
 
-/// Records in a journal: what is told of it where head end 7 opens it.
+/// Records in a journal: what comes of it where head end 7 opens it.
 struct Opened(&'static [&'static str]);
 
 impl Case for Opened {

@@ -1,4 +1,4 @@
-//! Openings: what they are refused for, in order, and what they answer.
+//! Openings: what they are refused for, in order, and what they return.
 
 use crate::book::{Call, Last, campaign, fresh, meters};
 use fw_book::{Book, BookError};
@@ -97,7 +97,7 @@ fn openings_are_refused_in_order(rt: HostRuntime) -> Result<(), Fail> {
     each(rt.alloc(), TAKEN)
 }
 
-/// An image of so many bytes for so many meters, whose numbers go round after so many: the refusal.
+/// An image of N bytes for M meters, whose numbers begin again from 0 after R of them: the refusal.
 struct Sized(usize, u32, u32);
 
 impl Case for Sized {
@@ -109,7 +109,7 @@ impl Case for Sized {
     }
 }
 
-/// So many numbers, which go round after so many.
+/// `count` numbers from 0 on, which begin again after `round` of them.
 fn numbers(alloc: Global, count: u32, round: u32) -> Result<Vec<u32>, AllocError> {
     let mut numbers = Vec::new(alloc);
     for number in 0..count {
@@ -134,7 +134,7 @@ const LIMITS: &[(Sized, &str)] = &[
     (Sized(16_777_217, 1, 1), "Some(ImageTooLong)"),
     (Sized(16_777_217, 0, 1), "Some(ImageTooLong)"),
     (Sized(1, 257, 257), "Some(TooManyMeters)"),
-    // too many meters is told before that one of them is named twice
+    // too many meters is reported before that one of them is named twice
     (Sized(1, 257, 1), "Some(TooManyMeters)"),
     (Sized(1, 256, 255), "Some(MeterTwice)"),
 ];
@@ -144,8 +144,8 @@ fn limits_of_an_opening(rt: HostRuntime) -> Result<(), Fail> {
     each(rt.alloc(), LIMITS)
 }
 
-/// Serial 1 of head end 7 is opened with `abc` of this release for meter 1: the name that is answered, and the one of this campaign in
-/// the book.
+/// Serial 1 of head end 7 is opened with `abc` of this release for meter 1: the name that is returned, and the one of this campaign in the
+/// book.
 struct Name(u32, u32, u32);
 
 impl Case for Name {

@@ -123,7 +123,7 @@ const STRANGERS: &[(Step, &str)] = &[
         ),
         "Stranger",
     ),
-    // a byte behind the response, and one too few
+    // a byte after the response, and one too few
     (
         Step::Hear(
             "0001000100010030c401c0000929010000000700000001ba7816bf8f01cfea414140de5dae2223b00361a396177a9cb410ff61f20015ad00",

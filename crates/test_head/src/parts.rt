@@ -20,7 +20,7 @@ enum Last {
     Reversed,
     /// It is left out.
     LeftOut,
-    /// A new row stands in its place: of campaign (7, serial), of a meter, for an image of so many bytes.
+    /// A new row stands in its place: of campaign (7, serial), of a meter, for an image of N bytes.
     Replaced(u32, u32, u32),
     /// A new row stands beside it.
     Doubled(u32, u32, u32),

@@ -81,7 +81,7 @@ const POLLED: &[(Step, &str)] = &[
     (Step::Returns, "0"),
 ];
 
-/// A status that is none of a verification's is a return.
+/// A status that no verification has is a return.
 const POLLED_IN_VAIN: &[(Step, &str)] = &[
     (Step::Tick, "c001c6001200002c0000ff0600"),
     (Step::Hear("c401c6001600"), "Moved, Some(Start)"),

@@ -116,7 +116,7 @@ const TO_DONE: &[(Step, &str)] = &[
         "Moved, Activate, 0",
     ),
     (Step::Tick, "c301ca001200002c0000ff04010f00"),
-    // any code: the meter tells what it runs
+    // any code: the meter says what it runs
     (Step::Hear("c701ca0200"), "Moved, Confirm, 0"),
     (Step::Tick, "c001cb00010100000200ff0200"),
     (

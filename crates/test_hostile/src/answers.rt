@@ -1,4 +1,4 @@
-//! Answers to a head end, each cut short at each byte. It hears nothing in them, and each is still awaited behind them.
+//! Answers to a head end, each cut short at each byte. It hears nothing in them, and each is still awaited after them.
 
 use crate::campaign::{ALL, events, head, meter, setup};
 use crate::support::{expect_tried, failed};
@@ -62,7 +62,7 @@ fn had(alloc: Global, core: &mut HeadCore, world: &World, event: &Event) -> Resu
     }
 }
 
-/// A head end that sends so many blocks at a time, and offers this image to the meter.
+/// A head end that sends up to `width` blocks at a time, and offers this image to the meter.
 fn opened(alloc: Global, width: u8, image: &[u8]) -> Result<HeadCore, Fail> {
     let mut core = HeadCore::new(alloc, head()?, Width::new(width).ok_or("a width")?);
     core.open_campaign(alloc, 1, 0, image, &[meter()?])?;
@@ -118,7 +118,7 @@ fn round(alloc: Global, core: &mut HeadCore, answers: &[&str]) -> Result<usize, 
     Ok(tried)
 }
 
-/// The same, for so many ticks.
+/// The same for several ticks, each with its answers.
 fn rounds(alloc: Global, core: &mut HeadCore, part: &[&[&str]]) -> Result<usize, Fail> {
     let mut tried = 0usize;
     for answers in part {

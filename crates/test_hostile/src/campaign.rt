@@ -6,7 +6,7 @@ use fw_world::{Event, HeadSetup, MeterSetup, Setup};
 use std::alloc::Global;
 use std::test::Fail;
 
-/// The datagrams that come behind each tick, by their places among all that are sent: what the head end asks, and what the meter answers.
+/// The datagrams that come after each tick, by their places among all that are sent: what the head end asks, and what the meter answers.
 const ROUNDS: &[&[usize]] = &[
     &[0, 1],
     &[2, 3],
@@ -57,7 +57,7 @@ fn setup_with(alloc: Global, old: bool) -> Result<Setup, Fail> {
     Ok(Setup { heads, meters })
 }
 
-/// So many of its events: the opening, and then by rounds the tick and the datagrams that come.
+/// The first `count` of its events: the opening, and then by rounds the tick and the datagrams that come.
 pub(crate) fn events(alloc: Global, count: usize) -> Result<Vec<Event>, Fail> {
     let mut meters = Vec::new(alloc);
     meters.push(meter()?)?;

@@ -1,13 +1,13 @@
-//! Lengths of up to 2^32 - 1 bytes, bits or elements that aren't there. No store of this size is to be had, so room for what is announced
-//! would be refused as want of memory.
+//! Lengths of up to 2^32 - 1 bytes, bits or elements that aren't there. There is no memory of this size, so room for what is announced
+//! would be refused as out of memory.
 
 use crate::support::{expect_tried, failed};
 use fw_axdr::{AxdrError, read};
 use std::alloc::Global;
 use std::test::Fail;
 
-/// An octet-string, an array, a structure, a visible-string and a bit-string of 2^32 - 1, alone, behind some that are there, and within
-/// an array of one.
+/// An octet-string, an array, a structure, a visible-string and a bit-string of 2^32 - 1, alone, after some that are there, and within an
+/// array of one.
 const CLAIMS: &[&str] = &[
     "0984ffffffff",
     "0184ffffffff",

@@ -13,7 +13,7 @@ use std::test::Fail;
 pub(crate) enum Takes {
     /// All that is written.
     All,
-    /// So many bytes more. A write of more than these is cut there, and fails. A length takes none.
+    /// N bytes more. A write of more than these is cut there, and fails. A length takes none.
     Only(usize),
     /// Nothing, and no length either.
     Nothing,
@@ -27,7 +27,7 @@ struct File {
 }
 
 impl File {
-    /// How many of so many bytes its disk still takes, which are taken then.
+    /// How many of `count` bytes its disk still takes, which are taken then.
     fn take(&mut self, count: usize) -> usize {
         match self.takes {
             Takes::All => count,
@@ -40,7 +40,7 @@ impl File {
         }
     }
 
-    /// Whether its disk still takes so many bytes.
+    /// Whether its disk still takes `count` bytes.
     fn has_room(&self, count: usize) -> bool {
         match self.takes {
             Takes::All => true,
@@ -122,7 +122,7 @@ impl Disk {
         })
     }
 
-    /// From now on the disk takes so much.
+    /// From now on the disk takes what `takes` says.
     pub(crate) fn takes(&self, takes: Takes) {
         if let Ok(mut file) = self.file.try_borrow_mut() {
             file.takes = takes;

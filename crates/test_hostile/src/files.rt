@@ -10,10 +10,10 @@ use fw_store::{DeviceStore, FileStoreError, VERSION_TWO_SIZE};
 use std::alloc::Global;
 use std::test::Fail;
 
-/// Where the header of a file begins: behind the capacity.
+/// Where the header of a file begins: after the capacity.
 const HEADER_AT: usize = 4;
 
-/// How many bytes of it stand there. The others stand behind the slots: eight of releases, and in version 2 the marks of the blocks from
+/// How many bytes of it stand there. The others stand after the slots: eight of releases, and in version 2 the marks of the blocks from
 /// 4,096 on.
 const FRONT_SIZE: usize = 614;
 
@@ -122,7 +122,7 @@ fn judged(alloc: Global, disk: &Disk) -> Result<Outcome, Fail> {
     }
 }
 
-/// A disk with the file of a new meter that runs `x`, with blocks of two bytes and room for so many.
+/// A disk with the file of a new meter that runs `x`, with blocks of two bytes and slots of `capacity` bytes.
 fn new_file(alloc: Global, capacity: u32) -> Result<Disk, Fail> {
     let disk = Disk::with(alloc, b"")?;
     DeviceStore::create_on(disk.open()?, capacity, 2, b"x")?;
@@ -139,8 +139,8 @@ fn make_old(bytes: &mut Vec<u8>) {
     }
 }
 
-/// Whether so many bytes of a file are taken for what they are. One of version 2 is a store at its own length, and one of version 1 at
-/// those without what version 2 has more; at the lengths of the other one it begins otherwise.
+/// Whether a file of `len` bytes is judged right. With a header of version 2 it is a store at its own length, and with one of version 1 at
+/// the lengths without what version 2 has besides. At a length of the other version its header is bad.
 fn is_right(outcome: Outcome, old: bool, len: usize, size: usize) -> bool {
     let is_whole = len == size;
     let is_shorter = SHORTER.iter().any(|less| len.saturating_add(*less) == size);
@@ -274,9 +274,9 @@ fn receiving(alloc: Global) -> Result<Vec<u8>, Fail> {
 
 /// Of each of the 626 bytes that stand before the slots or are releases the value that it has opens the meter. Beside these a store can
 /// have: not enabled; a block size of 1; a goal of 4 to 8 bytes, which has a second block too; a goal in another campaign, whose two
-/// numbers are any but 0, with another digest, of any release, and with each other choice of its two marks. The image that runs isn't the
-/// name's in the other slot, with 2 to 8 bytes, or under another digest. With another capacity the file has another length than its store;
-/// with 776 bytes a slot it has that of one of version 1, as which it doesn't begin.
+/// numbers are any except 0, with another digest, of any release, and with each other choice of its two marks. The image that runs isn't
+/// the name's in the other slot, with 2 to 8 bytes, or under another digest. With another capacity the file has another length than its
+/// store; with 776 bytes a slot it has that of one of version 1, as which it doesn't begin.
 #[test]
 fn each_byte_turned(rt: HostRuntime) -> Result<(), Fail> {
     let alloc = rt.alloc();

@@ -1,6 +1,5 @@
-//! Stores on disks that are full behind so many bytes, and on disks that are only read, in each operation of a campaign. The operation
-//! answers code 1, hardware-fault, and the meter is as before it, but for bytes of the block that is being written; or the operation is
-//! done.
+//! Stores on disks that are full after N bytes, and on disks that are only read, in each operation of a campaign. The operation answers
+//! code 1, hardware-fault, and the meter is as before it, except for bytes of the block that is being written; or the operation is done.
 
 use crate::disk::{Disk, Takes};
 use crate::support::{self, expect_tried, failed, opened};
@@ -97,19 +96,19 @@ const READS: &[&str] = &[
     "000100010001000dc001c100010100000200ff0200",
 ];
 
-/// The replies of the meter in the file on a disk to these requests, one behind the other.
+/// The replies of the meter in the file on a disk to these requests, one after the other.
 fn replies(alloc: Global, disk: &Disk, asks: &[&str]) -> Result<Vec<Vec<u8>>, Fail> {
     let mut meter = opened(DeviceStore::reopen_on(disk.open()?)?)?;
     support::replies(alloc, &mut meter, asks)
 }
 
-/// Whether a meter replies so to a request.
+/// Whether a meter gives this reply to a request.
 fn is_reply(alloc: Global, disk: &Disk, asks: &str, want: &str) -> Result<bool, Fail> {
     let replies = replies(alloc, disk, &[asks])?;
     Ok(replies.len() == 1 && replies[0].as_slice() == hex::decode(alloc, want)?.as_slice())
 }
 
-/// The file of a new meter, and then the one behind each operation.
+/// The file of a new meter, and then the one after each operation.
 fn files(alloc: Global) -> Result<Vec<Vec<u8>>, Fail> {
     let disk = Disk::with(alloc, b"")?;
     DeviceStore::create_on(disk.open()?, 8, 2, b"x")?;
@@ -124,7 +123,7 @@ fn files(alloc: Global) -> Result<Vec<Vec<u8>>, Fail> {
     Ok(files)
 }
 
-/// The file is as before an operation, but in its block, where each byte is as before it or as behind it.
+/// The file is as before an operation, except in its block, where each byte is as before it or as after it.
 fn is_between(found: &[u8], before: &[u8], after: &[u8], block: &Range<usize>) -> bool {
     found.len() == before.len()
         && found.iter().zip(before.iter().zip(after)).enumerate().all(|(
@@ -133,7 +132,7 @@ fn is_between(found: &[u8], before: &[u8], after: &[u8], block: &Range<usize>) -
         )| byte == old || (block.contains(&at) && byte == new))
 }
 
-/// An operation on a disk that takes so many bytes more, which are too few for it, or enough. The bytes of the file then.
+/// An operation on a disk that takes `room` bytes more, which are too few for it, or enough. The bytes of the file then.
 fn on_full_disk(
     alloc: Global,
     operation: &Operation,
@@ -220,7 +219,7 @@ fn old_file(alloc: Global, file: &[u8], size: usize) -> Result<Vec<u8>, Fail> {
     Ok(old)
 }
 
-/// The meter in the file is opened on a disk that takes so much: whether it is.
+/// Whether the meter in the file is opened on a disk that takes what `takes` says.
 fn is_opened(disk: &Disk, takes: Takes) -> Result<bool, Fail> {
     let store = DeviceStore::reopen_on(disk.open()?)?;
     disk.takes(takes);
@@ -292,7 +291,7 @@ fn kept_reads(alloc: Global, disk: &Disk) -> Result<Vec<Vec<u8>>, Fail> {
     }
 }
 
-/// A store is made on a disk that takes so much, over the file of another one: whether it is, and is opened then.
+/// Whether a store is made, over the file of another one, on a disk that takes what `takes` says.
 fn is_made(disk: &Disk, takes: Takes) -> Result<bool, Fail> {
     disk.takes(takes);
     let made = match DeviceStore::create_on(disk.open()?, 8, 2, b"x") {

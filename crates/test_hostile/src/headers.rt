@@ -95,7 +95,7 @@ fn store_after(alloc: Global, version: HeaderVersion, asks: &[&str]) -> Result<M
     }
 }
 
-/// The store of a meter: a restart hands it back where a call of it fails.
+/// The store of a meter: a restart returns it where a call of it fails.
 fn store_of(mut meter: MeterCore<MemoryStore>) -> Result<MemoryStore, Fail> {
     meter.fuse(0, 0);
     match meter.restart() {
@@ -223,8 +223,8 @@ fn of_an_old_store(rt: HostRuntime) -> Result<(), Fail> {
 }
 
 /// Of a store that runs `x`, in which `abc` was verified. Beside its own header it can have these: not enabled; statuses 1 and 4; a name of
-/// another campaign, whose numbers are any but 0, or of any release. The image that runs isn't its name's in the other slot, with another
-/// size, or under another digest, and the verified one isn't with four bytes, or under another digest.
+/// another campaign, whose numbers are any except 0, or of any release. The image that runs isn't its name's in the other slot, with
+/// another size, or under another digest, and the verified one isn't with four bytes, or under another digest.
 const OF_A_VERIFIED_IMAGE: Count = Count {
     opened: 622 + 1 + 2 + 2 * (3 * 255 + 254) + 4 * 255,
     bad_header: 622 * 256 - 3_683 - 16_385,
@@ -258,8 +258,8 @@ fn of_a_verified_image_with_further_marks(rt: HostRuntime) -> Result<(), Fail> {
 }
 
 /// Of a store that runs `abc` of release 5. Beside its own header it can have these: not enabled; status 0; each other block size as above;
-/// a name of another campaign, whose numbers are any but 0, or of any release. The image isn't the name's in the other slot, with another
-/// size, or under another digest.
+/// a name of another campaign, whose numbers are any except 0, or of any release. The image isn't the name's in the other slot, with
+/// another size, or under another digest.
 const OF_AN_IMAGE_WITH_A_RELEASE: Count = Count {
     opened: 622 + 1 + 1 + 3 + 254 + 2 * (3 * 255 + 254) + 4 * 255,
     bad_header: 622 * 256 - 3_939 - 8_224,

@@ -44,7 +44,7 @@ fn sight(world: &World) -> Result<Sight, Fail> {
     ))
 }
 
-/// What is seen behind so many events of the campaign and then these.
+/// What is seen after the first `count` events of the campaign and then these.
 fn seen(alloc: Global, count: usize, then: [Option<Event>; 2]) -> Result<Sight, Fail> {
     let mut events = events(alloc, count)?;
     for event in then {
@@ -67,7 +67,7 @@ fn is_done(world: &World) -> Result<bool, Fail> {
     Ok(same && book.state(campaign, meter()?) == Some(RowState::Done))
 }
 
-/// The campaign goes on behind these events.
+/// The campaign goes on after these events.
 fn goes_on(alloc: Global, setup: &Setup, given: &[Event]) -> Result<bool, Fail> {
     let fates = Fates::new(&[Fate::Deliver]).ok_or("1 to 4,096 fates")?;
     let Ok(events) = schedule(alloc, setup, given, 20, &fates) else {

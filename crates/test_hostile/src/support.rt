@@ -5,7 +5,7 @@ use fw_store::ImageStore;
 use std::alloc::Global;
 use std::test::Fail;
 
-/// So many cases were tried, and so many there are.
+/// As many cases were tried as are wanted.
 pub(crate) fn expect_tried(alloc: Global, tried: usize, want: usize) -> Result<(), Fail> {
     if tried == want {
         return Ok(());

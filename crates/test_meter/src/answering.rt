@@ -42,7 +42,7 @@ const TRANSFERRED: &str = "\
 000100010001005ac401c1000101020306000000030929010000000700000001ba7816bf8f01cfea414140de5dae2223b00361a396177a9cb410ff61f20015ad0920ba7816bf8f01cfea414140de5dae2223b00361a396177a9cb410ff61f20015ad
 ";
 
-/// What is written of these lines, and behind it the fault, if there is one.
+/// What is written of these lines, and after it the fault, if there is one.
 pub(crate) fn answered(
     alloc: Global,
     input: &str,
@@ -80,7 +80,7 @@ const ANSWERED: &[(Lines, &str)] = &[
     (Lines("000100010001000cc001c100010100000200ff0200\n"), "-\n"),
     // no confirmation wanted
     (Lines("000100010001000dc0018100010100000200ff0200\n"), "-\n"),
-    // a byte behind the request
+    // a byte after the request
     (
         Lines("000100010001000ec001c100010100000200ff020000\n"),
         "-\n",
@@ -94,7 +94,7 @@ const ANSWERED: &[(Lines, &str)] = &[
     (Lines(TRANSFER), TRANSFERRED),
 ];
 
-/// A line behind a GET and an empty datagram, and before another GET.
+/// A line after a GET and an empty datagram, and before another GET.
 struct Third(&'static str);
 
 impl Case for Third {
@@ -285,7 +285,7 @@ fn an_interrupted_reader_is_asked_again(rt: HostRuntime) -> Result<(), Fail> {
     expect_at(alloc, "reads", reads.as_str(), "1000002")
 }
 
-/// Takes so many bytes, and then fails.
+/// Takes `room` bytes, and then fails.
 #[derive(Drop)]
 pub(crate) struct FullWriter {
     pub(crate) room: usize,
@@ -306,7 +306,7 @@ impl Write for FullWriter {
     }
 }
 
-/// A writer with room for so many bytes, where a bad line comes behind a GET.
+/// A writer with room for N bytes, where a bad line comes after a GET.
 struct Room(usize);
 
 impl Case for Room {

@@ -1,6 +1,6 @@
-//! Each operation over a store that fails after so many of its calls: hardware-fault (1), or the code of the operation
-//! that was done. The meter is then as before, but for a block that was being written again, or as afterwards, and so it
-//! is after a restart. What was refused for a fault is done once the store doesn't fail any more.
+//! Each operation over a store that fails after N of its calls: hardware-fault (1), or the code of the operation that was done. The meter
+//! is then as before, except for a block that was being written again, or as afterwards, and so it is after a restart. What was refused for
+//! a fault is done once the store doesn't fail any more.
 
 use crate::apdus::*;
 use crate::wire::{Exchange, Part, sessions};
@@ -11,7 +11,7 @@ use std::test::Fail;
 struct Row {
     /// What the meter is asked before.
     before: &'static [Exchange],
-    /// So many calls of the store succeed.
+    /// How many calls of the store succeed.
     calls: u64,
     /// What it is asked then.
     asks: &'static [Exchange],

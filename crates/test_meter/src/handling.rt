@@ -1,4 +1,4 @@
-//! The datagrams round requests: ports, invoke bytes, confirmation, and what brings no request.
+//! The datagrams around requests: ports, invoke bytes, confirmation, and what brings no request.
 
 use crate::apdus::*;
 use crate::wire::{Exchange, Part, asking, session, sessions};
@@ -92,7 +92,7 @@ const UNCONFIRMED: &[Exchange] = &[
     ("c30181001200002c0000ff04010f00", "-"),
 ];
 
-/// Forms that aren't written but are read: true as ff, longer lengths, any byte but 00 for a parameter, any integer.
+/// Forms that aren't written but are read: true as ff, longer lengths, any byte except 00 for a parameter, any integer.
 const OTHER_FORMS: &[Exchange] = &[
     ("c101c1001200002c0000ff050003ff", SET_DONE),
     (GET_ENABLED, "c401c1000301"),
@@ -117,7 +117,7 @@ const DROPS: &[Part] = &[
     Part::SaysInVain(DROPPED),
 ];
 
-/// An activate that asks for no response tells the name all the same.
+/// An activate that asks for no response returns the name all the same.
 const SILENT: &[Part] = &[
     Part::Says(UNCONFIRMED),
     Part::Shows(

@@ -4,7 +4,7 @@ use crate::apdus::*;
 use crate::wire::{Exchange, Part, old_session_with, session_with};
 use std::test::Fail;
 
-/// image_transfer_initiate of so many bytes, in blocks of one byte.
+/// image_transfer_initiate of 4,096 bytes, in blocks of one byte.
 const INITIATE_4096_BLOCKS: &str =
     "c301c1001200002c0000ff010102020929010000000700000001ba7816bf8f01cfea414140de5dae2223b00361a396177a9cb410ff61f20015ad0600001000";
 
@@ -73,7 +73,7 @@ const OLD: &[Part] = &[
     Part::SaysZeros(GET_BLOCKS, "c401c10004821001", 513, ""),
 ];
 
-/// Where the slots have room for just so many, the reply is the longest that a meter has: its APDU has 2,056 bytes.
+/// Where the slots have room for just 16,384 blocks, the reply is the longest that a meter has: its APDU has 2,056 bytes.
 const LONGEST_REPLY: &[Part] = &[
     Part::Says(&[(ENABLE, SET_DONE), (INITIATE_16384_BLOCKS, DONE)]),
     Part::SaysZeros(GET_BLOCKS, "0001000100010808c401c10004824000", 2_048, ""),

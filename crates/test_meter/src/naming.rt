@@ -15,7 +15,7 @@ fn options(head: u32, serial: u32, release: u32) -> Result<NameOptions, Fail> {
     Ok(NameOptions { campaign, release })
 }
 
-/// What is written of what a reader has, and behind it the fault, if there is one.
+/// What is written of what a reader has, and after it the fault, if there is one.
 fn named<R: Read>(alloc: Global, reader: &mut R, options: &NameOptions) -> Result<String, Fail> {
     let mut written = Vec::new(alloc);
     let result = run_name(alloc, reader, &mut written, options);
@@ -71,7 +71,7 @@ const IMAGES: &[(Image, &str)] = &[
     (Image(7, 1, 5, ""), "EmptyImage"),
 ];
 
-/// An image of so many zeros.
+/// An image of N zeros.
 struct Zeros(usize);
 
 impl Case for Zeros {
@@ -111,7 +111,7 @@ fn readers_of_images_that_fail(rt: HostRuntime) -> Result<(), Fail> {
     expect_at(alloc, "endless", found.as_str(), "TooMuchInput")
 }
 
-/// A writer with room for so many bytes, and the release of the image that is named.
+/// A writer with room for N bytes, and the release of the image that is named.
 struct Room(usize, u32);
 
 impl Case for Room {

@@ -224,7 +224,7 @@ fn what_is_no_script(rt: HostRuntime) -> Result<(), Fail> {
     each(rt.alloc(), BAD)
 }
 
-/// So many fates, all of them `d`, for a bad line.
+/// N fates, all of them `d`, for a bad line.
 struct Fates(usize);
 
 impl Case for Fates {

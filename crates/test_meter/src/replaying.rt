@@ -31,7 +31,7 @@ pub(crate) fn options(given: Option<(u32, &str)>) -> ReplayOptions<'_> {
     }
 }
 
-/// What is written of what a reader has, and behind it whether an event was refused, or the fault.
+/// What is written of what a reader has, and after it whether an event was refused, or the fault.
 pub(crate) fn replayed<R: Read>(
     alloc: Global,
     reader: &mut R,
@@ -48,7 +48,7 @@ pub(crate) fn replayed<R: Read>(
     Ok(text)
 }
 
-/// The parts, one behind the other.
+/// The parts, one after the other.
 pub(crate) fn joined(alloc: Global, parts: &[&str]) -> Result<String, AllocError> {
     let mut text = String::new(alloc);
     for part in parts {
@@ -135,7 +135,7 @@ tick 7 1
 deliver 19
 ";
 
-/// Behind a second opening, up to where the meter answered whether it takes the image.
+/// After a second opening, up to where the meter answered whether it takes the image.
 const UP_TO_START: &str = "\
 tick 7 1
 deliver 20 21
@@ -145,7 +145,7 @@ tick 7 1
 deliver 24 25
 ";
 
-/// Two head ends compete for a meter, and a late block of one lands behind a block of the other.
+/// Two head ends compete for a meter, and a late block of one lands after a block of the other.
 const MIXED: &str = "\
 head 1 width 4
 head 2 width 4
@@ -316,7 +316,7 @@ activations 0
     ),
     // nine rounds in which all comes
     (Script(&[SETUP, OPEN], Some((9, "d"))), DONE),
-    // a cancelled row, and a line feed that lacks
+    // a cancelled row, and a line feed that is missing
     (
         Script(&[SETUP, OPEN, "cancel 7 1"], ALONE),
         "row 7 1 1 cancelled\nmeter 1 status 0 active 0 0 size 1\nactivations 0\n",
@@ -347,7 +347,7 @@ fn scripts_and_their_reports(rt: HostRuntime) -> Result<(), Fail> {
     each(rt.alloc(), CAMPAIGNS)
 }
 
-/// A script in parts, of which the trace is told too.
+/// A script in parts, with the trace too.
 struct Traced(&'static [&'static str]);
 
 impl Case for Traced {
@@ -443,7 +443,7 @@ fn traces(rt: HostRuntime) -> Result<(), Fail> {
     each(rt.alloc(), TRACES)
 }
 
-/// A script in parts, whose report is told in this form.
+/// A script in parts, with the report in this form.
 struct Formed(&'static [&'static str], ReportForm);
 
 impl Case for Formed {
@@ -505,7 +505,7 @@ fn forms_of_reports(rt: HostRuntime) -> Result<(), Fail> {
     each(rt.alloc(), FORMS)
 }
 
-/// Stops behind so many calls of the store: in a block that is written again, and in verify.
+/// Stops after N calls of the store: in a block that is written again, and in verify.
 const STOPS: &[(Script, &str)] = &[
     (
         Script(
@@ -563,7 +563,7 @@ fn stops(rt: HostRuntime) -> Result<(), Fail> {
     each(rt.alloc(), STOPS)
 }
 
-/// So many rounds for an image of 8,193 bytes, which is verified in three slices.
+/// N rounds for an image of 8,193 bytes, which is verified in three slices.
 struct Large(u32);
 
 impl Case for Large {
@@ -608,12 +608,12 @@ fn readers_that_fail(rt: HostRuntime) -> Result<(), Fail> {
     expect_at(alloc, "broken", found.as_str(), "Input")?;
     let found = replayed(alloc, &mut EndlessReader, &options(ALONE))?;
     expect_at(alloc, "endless", found.as_str(), "TooMuchInput")?;
-    // bad fates are told before anything is read
+    // bad fates are reported before anything is read
     let found = replayed(alloc, &mut EndlessReader, &options(Some((1, ""))))?;
     expect_at(alloc, "unread", found.as_str(), "BadFates")
 }
 
-/// A writer with room for so many bytes, where an event is refused.
+/// A writer with room for N bytes, where an event is refused.
 struct Room(usize);
 
 impl Case for Room {

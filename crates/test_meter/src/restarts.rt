@@ -1,4 +1,4 @@
-//! A restart keeps what a meter was told, in each status.
+//! A restart keeps what was set in a meter and sent to it, in each status.
 
 use crate::apdus::*;
 use crate::sessions::*;

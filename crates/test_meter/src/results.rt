@@ -38,7 +38,7 @@ const UNKNOWN_ATTRIBUTES_AND_METHODS: &[Exchange] = &[
     ("c001c1001200002c0000ffff00", "c401c10103"),
     ("c001c100010100000200ff0000", "c401c10103"),
     ("c001c100010100000208ff0300", "c401c10103"),
-    // each attribute but 5, whatever its value
+    // each attribute except 5, whatever its value
     ("c101c1001200002c0000ff00000301", "c501c103"),
     ("c101c1001200002c0000ff0100090600002c0000ff", "c501c103"),
     ("c101c1001200002c0000ff02000600000002", "c501c103"),

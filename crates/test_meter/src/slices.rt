@@ -99,8 +99,8 @@ fn turns_that_succeed(rt: HostRuntime) -> Result<(), Fail> {
     large_sessions(rt.alloc(), &[ANOTHER_NAME, RESTARTED])
 }
 
-/// The read of the second turn fails, or that of the last, or the header write behind it: status 1 again, with the blocks. Behind the
-/// read in the call no header is written.
+/// The read of the second turn fails, or that of the last, or the header write after it: status 1 again, with the blocks. After the read in
+/// the call no header is written.
 const FAULTS: &[Part] = &[
     Part::Says(RECEIVED),
     Part::Sends(NINE),

@@ -13,7 +13,7 @@ use std::test::Fail;
 use std::{env, fs};
 use test_support::expect_at;
 
-/// Bytes in hexadecimal, and so many bytes 00 after them.
+/// Bytes in hexadecimal, and N bytes 00 after them.
 #[derive(Clone, Copy)]
 pub(crate) struct Spelled(pub(crate) &'static str, pub(crate) usize);
 
@@ -34,7 +34,7 @@ pub(crate) enum Step {
     Spoils(usize),
     /// It is this byte.
     Sets(usize, u8),
-    /// The file is made so long.
+    /// The file is made this long.
     SetLen(u64),
     /// How many bytes the file has.
     Len,
@@ -214,7 +214,7 @@ fn bytes_of(alloc: Global, parts: &[Spelled]) -> Result<Vec<u8>, Fail> {
     Ok(bytes)
 }
 
-/// Takes the steps at a path where there is no file at first. Of each is told what stands beside it.
+/// Takes the steps at a path where there is no file at first. Each reports what stands beside it.
 pub(crate) fn steps(rt: &HostRuntime, name: &str, rows: &[(Step, &str)]) -> Result<(), Fail> {
     let alloc = rt.alloc();
     let mut path = env::temp_dir(rt)?;
@@ -323,7 +323,7 @@ const OLD_FILE: &[(Step, &str)] = &[
     (Step::Remove, ""),
 ];
 
-/// A transfer in three runs, which a reader or a writer that fails does nothing to.
+/// A transfer in three runs. A reader or a writer that fails changes nothing of it.
 const CONTINUED: &[(Step, &str)] = &[
     (
         Step::Says(

@@ -13,7 +13,7 @@ use test_support::{Case, Kept, each};
 /// Up to `bbbb` being verified.
 const BBBB_VERIFIED: &[Part] = &[Part::Says(LATE_BLOCK)];
 
-/// A new store with blocks of so many bytes and room for so many, which is opened.
+/// A new store with blocks of N bytes and slots of M bytes, which is opened.
 struct New(u32, u32);
 
 impl Case for New {
@@ -65,13 +65,13 @@ fn a_cut_block(rt: HostRuntime) -> Result<(), Fail> {
     each(rt.alloc(), CUT)
 }
 
-/// A change of a store: why it isn't opened then. It is handed back as it was.
+/// A change of a store: why it isn't opened then. It is returned as it was.
 enum Change {
     /// Zeros in place of the header.
     NoHeader,
     /// Bytes in a slot, from a place on.
     Bytes(Slot, u32, &'static [u8]),
-    /// So many more calls succeed.
+    /// N more calls succeed.
     Fuse(u64),
 }
 
@@ -83,7 +83,7 @@ impl Case for Change {
     }
 }
 
-/// Why a store isn't opened. It is handed back like the other.
+/// Why a store isn't opened. It is returned, and is the same as the other.
 fn refusal(store: MemoryStore, other: &MemoryStore) -> Result<Option<OpenError>, Fail> {
     match MeterCore::open_store(store) {
         Ok(_meter) => Ok(None),
@@ -120,7 +120,7 @@ const CHANGES: &[(Change, &str)] = &[
     // the image that runs, and then the one that was verified
     (Change::Bytes(Slot::First, 2, b"d"), "Some(BadImage)"),
     (Change::Bytes(Slot::Second, 2, b"aa"), "Some(BadImage)"),
-    // the bytes behind an image are none of it
+    // the bytes after an image are none of it
     (Change::Bytes(Slot::First, 3, b"d"), "None"),
     (Change::Bytes(Slot::Second, 4, b"aa"), "None"),
     (Change::Bytes(Slot::Second, 2, b"bb"), "None"),

@@ -74,7 +74,7 @@ const WHOLE: &[Part] = &[
     ),
 ];
 
-/// An image with a release, and images behind it.
+/// An image with a release, and images after it.
 const RELEASES: &[Part] = &[
     Part::Says(RELEASE_5),
     Part::SaysInVain(LOWER_RELEASES),

@@ -20,23 +20,23 @@ pub(crate) enum Part {
     Says(&'static [Exchange]),
     /// Each request gets its reply, and changes nothing that can be seen.
     SaysInVain(&'static [Exchange]),
-    /// What can be seen of the meter, as `sight` tells it.
+    /// What can be seen of the meter, as `sight` gives it.
     Shows(&'static str),
-    /// So many more calls of the store succeed. A write that then fails leaves the byte ee.
+    /// N more calls of the store succeed. A write that then fails leaves the byte ee.
     Fuses(u64),
     /// No call of the store fails any more.
     Unfuses,
     /// The meter is restarted.
     Restarts,
-    /// It is restarted, and stops after so many calls of its store. Then it is opened with the header that is there.
+    /// It is restarted, and stops after N calls of its store. Then it is opened with the header that is there.
     StopsInRestart(u64),
-    /// So many blocks may an image have.
+    /// An image may have at most N blocks.
     Limits(u32),
-    /// A request gets a reply with so many bytes 00 between two parts.
+    /// A request gets a reply with N bytes 00 between two parts.
     SaysZeros(&'static str, &'static str, usize, &'static str),
     /// The meter takes a turn.
     Turns,
-    /// Blocks of so many bytes 61 are sent, from block 0 on, and each is done.
+    /// Blocks of N bytes 61 are sent, from block 0 on, and each is done.
     Sends(&'static [u32]),
 }
 
@@ -99,8 +99,8 @@ pub(crate) fn asking(alloc: Global, exchanges: &[Exchange]) -> Result<(), Fail> 
     Ok(())
 }
 
-/// The store of a new meter that runs `abc`, with blocks of two bytes and room for 64, after a session. A restart hands it back
-/// where a call of it fails.
+/// The store of a new meter that runs `abc`, with blocks of two bytes and room for 64, after a session. A restart returns it where a
+/// call of it fails.
 pub(crate) fn store_after(alloc: Global, parts: &[Part]) -> Result<MemoryStore, Fail> {
     let mut meter = played(alloc, 2, 64, b"abc", parts)?.into_meter();
     meter.fuse(0, 0);
@@ -163,7 +163,7 @@ fn kept(store: MemoryStore) -> Result<MeterCore<MemoryStore>, Fail> {
     }
 }
 
-/// A meter, and the names that it told of when it switched to their images. Its drop is written out, so that each place that drops it
+/// A meter, and the names that it returned when it switched to their images. Its drop is written out, so that each place that drops it
 /// calls that, and isn't proved to drop what it has.
 struct Wire {
     meter: MeterCore<MemoryStore>,
@@ -190,7 +190,7 @@ impl Wire {
         }
     }
 
-    /// As a restart leaves it that stops after so many calls of the store.
+    /// As a restart leaves it that stops after `calls` calls of the store.
     fn stopped(self, calls: u64) -> Result<Wire, Fail> {
         let Wire { mut meter, told } = self;
         meter.fuse(calls, 0xee);
@@ -287,7 +287,7 @@ impl Wire {
         })
     }
 
-    /// Tells of the name of the image that the meter switched to, if it did.
+    /// Notes the name of the image that the meter switched to, if it did.
     fn tell(&mut self, alloc: Global, activated: Option<ImageName>) -> Result<(), AllocError> {
         if let Some(name) = activated {
             self.told.push_str(", switched to ")?;
@@ -297,7 +297,7 @@ impl Wire {
     }
 
     /// What can be seen: the image that runs and its name, whether transfer is enabled, the status, the goal's size and name, the
-    /// blocks that are marked, and the names that the meter has told of.
+    /// blocks that are marked, and the names that the meter has returned.
     fn sight(&mut self, alloc: Global) -> Result<String, Fail> {
         let image = self.running(alloc)?;
         let transfer = transfer_text(alloc, &self.meter.view())?;
@@ -361,7 +361,7 @@ fn marks_text(alloc: Global, view: &MeterView) -> Result<String, AllocError> {
     Ok(marks)
 }
 
-/// image_block_transfer of so many bytes 61, whose length is spelled in two bytes.
+/// image_block_transfer of `size` bytes 61, whose length is spelled in two bytes.
 pub(crate) fn block_text(alloc: Global, number: usize, size: u32) -> Result<String, AllocError> {
     let mut text = format!(in alloc; "c301c1001200002c0000ff0201020206{number:08x}0982{size:04x}")?;
     for _ in 0..size {
@@ -370,7 +370,7 @@ pub(crate) fn block_text(alloc: Global, number: usize, size: u32) -> Result<Stri
     Ok(text)
 }
 
-/// So many bytes 00 between two parts.
+/// `count` bytes 00 between two parts.
 fn zeros_text(alloc: Global, front: &str, count: usize, back: &str) -> Result<String, AllocError> {
     let mut text = String::from_str(alloc, front)?;
     for _ in 0..count {

@@ -12,14 +12,14 @@ use std::alloc::Global;
 use std::test::Fail;
 use test_support::{Case, each};
 
-/// What is told of a request that is confirmed, of high priority, and has the invoke-id 1.
+/// What is answered to a request that is confirmed, of high priority, and has the invoke-id 1.
 enum Told {
     LogicalName([u8; 6]),
     BlockSize(u32),
     FirstNotTransferred(u32),
     Enabled(bool),
     Status(u8),
-    /// So many blocks, and the bytes of their bits.
+    /// N blocks, and the bytes of their bits.
     Blocks(&'static [u8], usize),
     NothingToActivate,
     /// Of 3 bytes, from campaign 1 of head end 7, of this release.
@@ -56,7 +56,7 @@ fn outcome(alloc: Global, told: &Told) -> Result<Outcome, Fail> {
     })
 }
 
-/// What is got, where no code is told.
+/// What is got, where the answer is no code.
 fn got(alloc: Global, told: &Told) -> Result<Answer, Fail> {
     Ok(match *told {
         Told::LogicalName(name) => Answer::LogicalName(LogicalName(name)),
@@ -77,7 +77,7 @@ fn got(alloc: Global, told: &Told) -> Result<Answer, Fail> {
     })
 }
 
-/// So many bits, of these bytes.
+/// The `len` bits of these bytes.
 fn bits(alloc: Global, bytes: &[u8], len: usize) -> Result<Bits, Fail> {
     if bytes.len() != len.div_ceil(8) {
         return Err("another number of bytes".into());
@@ -148,7 +148,7 @@ const TOLD: &[(Told, &str)] = &[
     (Told::ActionCode(250), "c701c1fa00"),
 ];
 
-/// So many blocks, of which the first is there: the size of the answer and its first ten bytes.
+/// N blocks, of which the first is there: the size of the answer and its first ten bytes.
 struct Most(usize);
 
 impl Case for Most {
@@ -164,7 +164,7 @@ const MOST: &[(Most, &str)] = &[
     (Most(16384), "2056 c401c100048240008000"),
 ];
 
-/// So many bits, of which the first is set.
+/// `len` bits, of which the first is set.
 fn first_of(alloc: Global, len: usize) -> Result<Bits, Fail> {
     let mut bytes = vec![in alloc; 0; len.div_ceil(8)]?;
     if let Some(first) = bytes.first_mut() {
@@ -195,7 +195,7 @@ const REPEATED: &[(Repeated, &str)] = &[
     (Repeated(0xff), "c501ff00"),
 ];
 
-/// The datagram that tells this status from wPort 1 to another.
+/// The datagram that answers this status from wPort 1 to another.
 struct Wrapped(u16, u8);
 
 impl Case for Wrapped {

@@ -22,7 +22,7 @@ pub(crate) enum Call {
     /// Both of version 1.
     WriteOldHeader(&'static [u8]),
     WriteOldTail(&'static [u8], &'static [u8]),
-    /// So many bytes of a slot, from a place on.
+    /// N bytes of a slot, from a place on.
     Read(Slot, u32, u32),
     Write(Slot, u32, &'static [u8]),
     Capacity,
@@ -200,7 +200,7 @@ pub(crate) const KEPT: &[(Call, &str)] = &[
     (Call::Read(Slot::Second, 5, 3), "707172"),
 ];
 
-/// The same in version 1: the front of the header of such a store, and what each call of one with it is told.
+/// The same in version 1: the front of the header of such a store, and what each call of one with it returns.
 pub(crate) const OLD_FRONT: &[u8] = &[
     0x46, 0x57, 0x48, 0x31, 0, 0, 0, 0, 0, 0, 0, 2, 0, 0, 0, 3, 1, 0, 0, 0, 0, 0, 0, 0, 0, 0xba,
     0x78, 0x16, 0xbf, 0x8f, 0x01, 0xcf, 0xea, 0x41, 0x41, 0x40, 0xde, 0x5d, 0xae, 0x22, 0x23, 0xb0,
@@ -218,7 +218,7 @@ pub(crate) const OLD_FRESH: &[(Call, &str)] = &[
 ];
 
 /// The bytes of a store with 8 bytes a slot: how many there are, the capacity, the header as far as it isn't zeros, both slots, and what
-/// stands behind them: nothing, the releases, or these and the marks.
+/// stands after them: nothing, the releases, or these and the marks.
 pub(crate) fn stored_text(alloc: Global, bytes: &[u8]) -> Result<String, Fail> {
     let len = bytes.len();
     if len != 634 && len != 642 && len != 2178 {

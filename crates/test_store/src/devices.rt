@@ -53,7 +53,7 @@ const STORED: &[(Stored, &str)] = &[
 /// Two releases, and a mark of block 4,096.
 const TAIL_BYTES: &[u8] = &[0, 0, 0, 5, 0, 0, 0, 6, 0x80];
 
-/// The last bytes of a header stand behind the second slot.
+/// The last bytes of a header stand after the second slot.
 const TAIL: &[(Call, &str)] = &[
     (Call::WriteTail(&[7], TAIL_BYTES), "done"),
     (Call::Header, "07 0000000500000006 80"),
@@ -65,7 +65,7 @@ const OLD_TAIL: &[(Call, &str)] = &[
     (Call::Header, "08 0000000300000004 (version 1)"),
 ];
 
-/// Calls of a store on a device that holds an old one of so many bytes, with releases or without: the bytes of the device then.
+/// Calls of a store on a device that holds an old one of N bytes, with releases or without: the bytes of the device then.
 struct Old(usize, &'static [(Call, &'static str)]);
 
 impl Case for Old {
@@ -125,7 +125,7 @@ const OLD: &[(Old, &str)] = &[
     ),
 ];
 
-/// Calls of an old store of 642 bytes on a device that has room for so many: the bytes of the device then.
+/// Calls of an old store of 642 bytes on a device that has room for N: the bytes of the device then.
 struct Within(usize, &'static [(Call, &'static str)]);
 
 impl Case for Within {
@@ -167,7 +167,7 @@ impl Case for Over {
     }
 }
 
-/// A device of so many bytes, each of them this one.
+/// A device of `len` bytes, each of them `byte`.
 fn filled(alloc: Global, len: usize, byte: u8) -> Result<TestDevice, AllocError> {
     Ok(TestDevice::of(vec![in alloc; byte; len]?))
 }
@@ -191,7 +191,7 @@ fn keeps_what_is_written(rt: HostRuntime) -> Result<(), Fail> {
     session(alloc, &mut again, KEPT)
 }
 
-/// A device with these bytes, and as many zeros behind them as make it so long: the capacity of the store on it, or the refusal.
+/// A device of N bytes, these and then zeros: the capacity of the store on it, or the refusal.
 struct Opened(&'static [u8], usize);
 
 impl Case for Opened {
@@ -251,7 +251,7 @@ const OPENED: &[(Opened, &str)] = &[
     (Opened(&[0, 0x40, 0, 1], 8_389_228), "4194305"),
 ];
 
-/// Capacity, block size and factory image of a store on a device with room for so many bytes: the refusal.
+/// Capacity, block size and factory image of a store on a device with room for N bytes: the refusal.
 struct Created(Setup, usize);
 
 impl Case for Created {
@@ -285,7 +285,7 @@ fn which_stores_are_opened_and_made(rt: HostRuntime) -> Result<(), Fail> {
     each(rt.alloc(), CREATED)
 }
 
-/// A device that fails after so many calls, while a store is made on it or opened: the refusal.
+/// A device that fails after N calls, while a store is made on it or opened: the refusal.
 enum Failing {
     Made(u64),
     Opened(u64),

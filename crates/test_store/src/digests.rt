@@ -7,7 +7,7 @@ use std::alloc::Global;
 use std::test::Fail;
 use test_support::{Case, each};
 
-/// The digest of the first bytes of a slot that has these bytes and others behind them, over a store that fails after so many calls. A
+/// The digest of the first bytes of a slot that has these bytes and others after them, over a store that fails after `calls` calls. A
 /// failure is one fault.
 fn digest_in(
     alloc: Global,
@@ -30,7 +30,7 @@ fn digest_in(
     }
 }
 
-/// So many of the bytes `abcd` in a slot: their digest.
+/// The first N of the bytes `abcd` in a slot: their digest.
 struct Published(Slot, u32);
 
 impl Case for Published {
@@ -60,7 +60,7 @@ const PUBLISHED: &[(Published, &str)] = &[
     ),
 ];
 
-/// So many bytes of a slot that count from 0 to 250 and again: whether the digest is that of these bytes as one message.
+/// N bytes of a slot that count from 0 to 250 and again: whether the digest is that of these bytes as one message.
 struct Whole(u32);
 
 impl Case for Whole {
@@ -80,7 +80,7 @@ fn counted(alloc: Global, size: u32) -> Result<Vec<u8>, Fail> {
     Ok(bytes)
 }
 
-/// Round the bytes that are read at once.
+/// Sizes around the number of bytes that are read at once.
 const WHOLE: &[(Whole, &str)] = &[
     (Whole(0), "true"),
     (Whole(1), "true"),
@@ -95,7 +95,7 @@ const WHOLE: &[(Whole, &str)] = &[
     (Whole(8_200), "true"),
 ];
 
-/// The digest of so many bytes of a store that fails after so many calls: whether there is one.
+/// The digest of N bytes of a store that fails after M calls: whether there is one.
 struct Failing(u32, u64);
 
 impl Case for Failing {
@@ -117,8 +117,8 @@ const FAILING: &[(Failing, &str)] = &[
     (Failing(4_097, 2), "true"),
 ];
 
-/// So many bytes in steps, of which the third is tried before over a store that fails, and the last has nothing to take: how many
-/// are taken and whether that is all, and whether the digest is that of the bytes as one message.
+/// N bytes in steps, of which the third is tried before over a store that fails, and the last has nothing to take: how many are taken and
+/// whether that is all, and whether the digest is that of the bytes as one message.
 struct Steps(u32);
 
 impl Case for Steps {

@@ -99,7 +99,7 @@ fn each_call_that_fails(rt: HostRuntime) -> Result<(), Fail> {
     session(rt.alloc(), false, &[A_VERIFY_THAT_FAILS])?;
     session(rt.alloc(), false, &[A_SPOILT_VERIFY_THAT_FAILS])?;
     session(rt.alloc(), false, &[A_BLOCK_THAT_FAILS])?;
-    // stopped round the switch
+    // stopped before the switch and after it
     session(rt.alloc(), false, &[TO_VERIFIED, STOP_BEFORE])?;
     session(rt.alloc(), false, &[TO_VERIFIED, STOP_AFTER])?;
     session(rt.alloc(), false, &[OTHER_HEADERS_THAT_ARE_NOT_WRITTEN])

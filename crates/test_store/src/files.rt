@@ -10,7 +10,7 @@ use test_support::{Takes, session};
 
 /// A step at a path of a test's own.
 enum Step {
-    /// A store with so many bytes a slot, blocks of so many bytes and the factory image `abc` is made: what is answered.
+    /// A store with N bytes a slot, blocks of M bytes and the factory image `abc` is made: what is answered.
     Create(u32, u32),
     /// The store is opened: what is answered.
     Reopen,
@@ -24,7 +24,7 @@ enum Step {
     Bytes,
     /// A file of these bytes is written.
     Write(&'static [u8]),
-    /// The file is made so long.
+    /// The file is made this long.
     SetLen(u64),
     /// Whether there is a file.
     Exists,
@@ -368,7 +368,7 @@ const BAD_SETUP: &[(Step, &str)] = &[
     (Step::Remove, ""),
 ];
 
-/// A store that was made holds its file until it is dropped, and so does one that was reopened, also behind a header write.
+/// A store that was made holds its file until it is dropped, and so does one that was reopened, also after a header write.
 const HELD: &[(Step, &str)] = &[
     (Step::Create(8, 2), "a store"),
     (Step::Reopen, "StoreFault"),

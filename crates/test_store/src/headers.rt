@@ -166,7 +166,7 @@ const OLD: &[(Old, &str)] = &[
     (Old("31", RECEIVING, 57, "00002001", 65_536), "none"),
 ];
 
-/// A header with a goal of so many bytes in blocks of two, and a change of its marks: whether that is a header's.
+/// A header with a goal of N bytes in blocks of two, and a change of its marks: whether that is a header's.
 struct Large(&'static str, usize, &'static str);
 
 impl Case for Large {
@@ -286,7 +286,7 @@ const REFUSED: &[(Patched, &str)] = &[
     (Patched(RECEIVING, 6, "04", 64), "none"),
 ];
 
-/// Behind the marks stand the releases of the running image and of the goal: the digits of a header, and theirs.
+/// After the marks stand the releases of the running image and of the goal: the digits of a header, and theirs.
 struct Released(&'static str, &'static str);
 
 impl Case for Released {
@@ -324,7 +324,7 @@ const RELEASES: &[(Released, &str)] = &[
     (Released(RUNNING, "0000000000000001"), "none"),
     (Released(RUNNING, "0000000500000005"), "none"),
     (Released(NEW, "0000000000000001"), "none"),
-    // the image that the meter was made with has none, and a goal behind it may have one
+    // the image that the meter was made with has none, and a goal after it may have one
     (Released(NEW, "0000000100000000"), "none"),
     (Released(RECEIVING, "0000000100000001"), "none"),
     (Released(RECEIVING, "0000000000000005"), "read"),

@@ -10,7 +10,7 @@ use std::test::Fail;
 use std::{env, fs};
 use test_support::{Case, Takes, each, expect, session};
 
-/// What is told of a journal that is opened: its records, each with a bar after it, or the refusal.
+/// What opening a journal returns: its records, each with a bar after it, or the refusal.
 fn told_of<D: JournalDevice + Drop>(
     alloc: Global,
     opened: &Result<(Journal<D>, Vec<Vec<u8>>), (JournalError, D)>,
@@ -30,7 +30,7 @@ fn records_text(alloc: Global, records: &[Vec<u8>]) -> Result<String, Fail> {
     Ok(text)
 }
 
-/// What is told of these bytes, opened as a journal.
+/// What opening these bytes as a journal returns.
 fn read_text(alloc: Global, bytes: &[u8]) -> Result<String, Fail> {
     let device = MemoryDevice::new(alloc, bytes.to_vec(alloc)?)?;
     told_of(alloc, &Journal::open(alloc, device))
@@ -114,8 +114,8 @@ fn device_of_one(alloc: Global) -> Result<MemoryDevice, Fail> {
     Ok(MemoryDevice::new(alloc, bytes)?)
 }
 
-/// What is told where a device with the journal of `one` fails after so many calls: of opening it, and of a commit of `two` and `three`.
-/// Then what is left is told, as it is read, and as it was at the last sync.
+/// A device with the journal of `one` that fails after `calls` calls: what opening it returns, and a commit of `two` and `three`. Then
+/// what is left, as it is read, and as it was at the last sync.
 struct Cut {
     calls: u64,
     torn: u8,
@@ -155,7 +155,7 @@ fn left_text(alloc: Global, told: &str, device: &MemoryDevice) -> Result<String,
     Ok(format!(in alloc; "{told}: {read} {synced}")?)
 }
 
-/// Fails where a power cut may leave anything but the journal of `one` or that of all three records. Each change has a fate of as many
+/// Fails where a power cut may leave anything except the journal of `one` or that of all three records. Each change has a fate of as many
 /// bytes, all the same.
 fn judge_cuts(alloc: Global, disk: &Disk) -> Result<(), Fail> {
     for byte in [0, 1, 2, 255] {
@@ -291,7 +291,7 @@ const TURNED: &[(Turned, &str)] = &[
     (Turned(84), "one|two|"),
 ];
 
-/// Bytes that are opened: what is told, and what the device then has.
+/// Bytes that are opened: what that returns, and what the device then has.
 struct Opened(&'static str);
 
 impl Case for Opened {
@@ -332,7 +332,7 @@ const OPENED: &[(Opened, &str)] = &[
     (Opened("46574a310101"), "BadBook 4: 46574a310101"),
 ];
 
-/// A new journal on these bytes: what is told, and what the device then has.
+/// A new journal on these bytes: what that returns, and what the device then has.
 struct Created(&'static str);
 
 impl Case for Created {

@@ -108,10 +108,10 @@ fn setups(rt: HostRuntime) -> Result<(), Fail> {
 #[derive(Clone, Copy)]
 enum Step {
     Call(Call),
-    /// So many more calls succeed, and a write that then fails leaves this byte.
+    /// N more calls succeed, and a write that then fails leaves this byte.
     Fuse(u64, u8),
     Unfuse,
-    /// Whether it is the same as a store with this capacity, which is new but for a call.
+    /// Whether it is the same as a store with this capacity, which is new except for a call.
     Same(u32, Option<Call>),
 }
 
@@ -141,7 +141,7 @@ fn same_text(
     Ok(format!(in alloc; "{same}")?)
 }
 
-/// Sessions, each with a new store of so many bytes a slot.
+/// Sessions, each with a new store of `capacity` bytes a slot.
 fn sessions(alloc: Global, capacity: u32, sessions: &[&[(Step, &str)]]) -> Result<(), Fail> {
     for rows in sessions {
         session(
@@ -167,7 +167,7 @@ const FAULTS: Step = Step::Call(Call::Faults);
 const NEW: &str =
     "46574832000000000000000200000003010000000000000000ba7816bf8f01cfea414140de5dae2223b00361a396177a9cb410ff61f20015ad";
 
-/// A fuse fails after so many of four calls, one of each kind, and stays until it is taken away.
+/// A fuse fails after N of four calls, one of each kind, and stays until it is taken away.
 const FUSES: &[&[(Step, &str)]] = &[
     &[
         (Step::Fuse(0, 0), ""),

@@ -93,7 +93,7 @@ fn header_of(
 }
 
 impl Case for Stored {
-    /// Why it isn't opened. It is handed back as it was.
+    /// Why it isn't opened. It is returned as it was.
     fn told(&self, alloc: Global) -> Result<String, Fail> {
         let refusal = refusal(open_store(fused(alloc, self)?), &made(alloc, self)?)?;
         Ok(format!(in alloc; "{refusal:?}")?)
@@ -110,7 +110,7 @@ impl Case for Kept {
     }
 }
 
-/// Why a store isn't opened. It is handed back like the other.
+/// Why a store isn't opened. It is returned, and is the same as the other.
 fn refusal(
     opening: Result<Phase<MemoryStore>, (OpenError, MemoryStore)>,
     other: &MemoryStore,

@@ -58,7 +58,7 @@ const VAIN: &[(Vain, &str)] = &[
         Vain(RELEASE_5_DISABLED, Call::InitiateRelease(4, 4)),
         "Disabled",
     ),
-    // a block behind the last, one that is too short, too long, empty, and a last one that is too long
+    // a block after the last, one that is too short, too long, empty, and a last one that is too long
     (Vain(RECEIVING, Call::Block(3, b"bb")), "BadBlock"),
     (Vain(RECEIVING, Call::Block(0, b"b")), "BadBlock"),
     (Vain(RECEIVING, Call::Block(1, b"bbb")), "BadBlock"),

@@ -18,40 +18,40 @@ pub(crate) type Meter = Phase<MemoryStore>;
 #[derive(Clone, Copy)]
 pub(crate) enum Call {
     Enable(bool),
-    /// An image of so many bytes under the name of `bbbb`, from campaign 1 of head end 2.
+    /// An image of N bytes under the name of `bbbb`, from campaign 1 of head end 2.
     Initiate(u32),
     /// The same of this release.
     InitiateRelease(u32, u32),
     /// The same under a factory's name.
     InitiateFactory(u32),
     Block(u32, &'static [u8]),
-    /// An image of so many bytes `a` under its own name, from the same campaign, and a block of so many of them.
+    /// An image of N bytes `a` under its own name, from the same campaign, and a block of M bytes `a`.
     InitiateOwn(u32),
     BlockOf(u32, usize),
     Verify,
     Activate,
-    /// So many more calls of the store succeed, and a write that then fails leaves this byte.
+    /// N more calls of the store succeed, and a write that then fails leaves this byte.
     Fuse(u64, u8),
     Unfuse,
     /// Takes the store and opens it again.
     Reopen,
-    /// The same, where so many calls of the store succeed. If it isn't opened then, it is with the header that is there.
+    /// The same, where N calls of the store succeed. If it isn't opened then, it is with the header that is there.
     StopInReopen(u64),
-    /// So many blocks may an image have.
+    /// An image may have at most N blocks.
     Limited(u32),
     /// These are the bytes of the image that runs.
     Runs(&'static [u8]),
-    /// So long are its blocks, so many has the goal, this one is the first that isn't there, and the bits of all.
+    /// The size of its blocks, how many the goal has, the first that isn't there, and the bits of all.
     Blocks(u32, u32, u32, &'static [u8]),
-    /// So many bytes has the image that was verified.
+    /// How many bytes the image has that was verified.
     Verified(u32),
     /// A slot begins with these bytes.
     Holds(Slot, &'static [u8]),
-    /// The header begins with these digits, and has zeros behind them, up to the releases where one isn't 0.
+    /// The header begins with these digits, and has zeros after them, up to the releases where one isn't 0.
     Headed(&'static str),
 }
 
-/// A call, the refusal, if there is one, and then what can be seen, as `sight` tells it.
+/// A call, the refusal, if there is one, and then what can be seen, as `sight` gives it.
 pub(crate) type Row = (Call, Option<Refusal>, &'static str);
 
 /// A new meter that receives `bbbb` and verifies it.
@@ -122,12 +122,12 @@ impl Trial {
         Trial { meter: Some(meter) }
     }
 
-    /// Begins with a new meter that runs `abc`, with blocks of two bytes and room for so many.
+    /// Begins with a new meter that runs `abc`, with blocks of two bytes and slots of `capacity` bytes.
     pub(crate) fn open(&mut self, alloc: Global, capacity: u32) -> Result<(), Fail> {
         self.open_with(alloc, capacity, 2)
     }
 
-    /// The same with blocks of so many bytes.
+    /// The same with blocks of `block_size` bytes.
     pub(crate) fn open_with(
         &mut self,
         alloc: Global,
@@ -196,7 +196,7 @@ impl Trial {
         Ok(())
     }
 
-    /// So does a transfer that verifies: the status that it showed before.
+    /// A transfer that verifies takes a turn. Returns the status that it showed before.
     pub(crate) fn turn_verifying(&mut self) -> Result<TransferStatus, Fail> {
         let Some(Phase::Verifying(transfer)) = self.meter.take() else {
             return Err("it doesn't verify".into());
@@ -484,7 +484,7 @@ pub(crate) fn named(image: &[u8], release: u32) -> Result<ImageName, Fail> {
     Ok(name_of(campaign, release, image))
 }
 
-/// That of so many bytes `a`.
+/// That of `size` bytes `a`.
 fn own_name(alloc: Global, size: u32) -> Result<ImageName, Fail> {
     let image = vec![in alloc; b'a'; size as usize]?;
     named(&image, 0)

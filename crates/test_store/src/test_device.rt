@@ -6,7 +6,7 @@ ghost use Rattle.fw_store.specs.Device.{splice};
 use fw_store::{ByteDevice, DeviceFault};
 use std::alloc::{AllocError, Global};
 
-/// Bytes in memory, and room for so many. With a number of calls that are left, all later ones fail, and a write that fails leaves
+/// Bytes in memory, and room for `room` of them. With a number of calls that are left, all later ones fail, and a write that fails leaves
 /// bytes ee in its range.
 #[derive(Drop)]
 pub(crate) struct TestDevice {
@@ -17,7 +17,7 @@ pub(crate) struct TestDevice {
 }
 
 impl TestDevice {
-    /// A device without bytes, and with room for so many, that never fails.
+    /// A device without bytes, and with room for `room` of them, that never fails.
     pub(crate) fn new(alloc: Global, room: usize) -> Result<TestDevice, AllocError> {
         Ok(TestDevice {
             bytes: Vec::with_capacity(alloc, room)?,
@@ -36,7 +36,7 @@ impl TestDevice {
         }
     }
 
-    /// It has no room for more than so many bytes.
+    /// It has room for no more than `room` bytes.
     pub(crate) fn limited(mut self, room: usize) -> TestDevice {
         self.room = self.room.min(room);
         self

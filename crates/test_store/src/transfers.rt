@@ -58,7 +58,7 @@ const STORED: &[Row] = &[
     (Call::Holds(Slot::Second, b"bbbb\0"), None, SWITCHED),
 ];
 
-/// Behind the marks the header has the release of the image that runs, and that of the goal. Its names have none.
+/// After the marks the header has the release of the image that runs, and that of the goal. Its names have none.
 const RELEASES: &[Row] = &[
     (Call::Enable(true), None, ENABLED),
     (Call::InitiateRelease(5, 4), None, RELEASE_5),

@@ -1,4 +1,4 @@
-//! Calls of a transfer whose type tells its status.
+//! Calls of a transfer whose type is its status.
 
 use crate::fresh::new_meter;
 use crate::session::{BLOCK_0, ENABLED, NO_BLOCK, Trial, bbbb, opened, sight};

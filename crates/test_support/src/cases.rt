@@ -1,16 +1,16 @@
-//! Runners of tables: what is tried, and what is told of it.
+//! Runners of tables: what is tried, and what it reports.
 
 use crate::expected::expect;
 use std::alloc::Global;
 use std::fmt::Display;
 use std::test::Fail;
 
-/// Something that is tried, and told of in a line.
+/// Something that is tried, and reports in a line.
 pub trait Case {
     fn told(&self, alloc: Global) -> Result<String, Fail>;
 }
 
-/// Of each case is told what stands beside it. What else is told is named with the place of its row.
+/// Each case reports what stands beside it. Any other report is an error, with the place of its row.
 pub fn each<C: Case>(alloc: Global, rows: &[(C, &str)]) -> Result<(), Fail> {
     for (at, (case, want)) in rows.iter().enumerate() {
         expect(alloc, at, case.told(alloc)?.as_str(), want)?;
@@ -27,12 +27,12 @@ pub fn each_prints<E: Display>(alloc: Global, rows: &[(E, &str)]) -> Result<(), 
     Ok(())
 }
 
-/// Something that takes steps one after another, and tells of each in a line.
+/// Something that takes steps one after another, and reports each in a line.
 pub trait Takes<S> {
     fn take(&mut self, alloc: Global, step: &S) -> Result<String, Fail>;
 }
 
-/// Of each step is told what stands beside it.
+/// Each step reports what stands beside it.
 pub fn session<S, T: Takes<S>>(
     alloc: Global,
     subject: &mut T,

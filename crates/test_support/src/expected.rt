@@ -1,9 +1,9 @@
-//! What is told, and what is wanted.
+//! What is found, and what is wanted.
 
 use std::alloc::Global;
 use std::test::Fail;
 
-/// What is told in a row is what is wanted there.
+/// What is found in a row is what is wanted there.
 pub fn expect(alloc: Global, row: usize, found: &str, want: &str) -> Result<(), Fail> {
     if found == want {
         return Ok(());
@@ -12,7 +12,7 @@ pub fn expect(alloc: Global, row: usize, found: &str, want: &str) -> Result<(), 
     Err(Fail::from(told))
 }
 
-/// What is told at a place is what is wanted there.
+/// What is found at a place is what is wanted there.
 pub fn expect_at(alloc: Global, place: &str, found: &str, want: &str) -> Result<(), Fail> {
     if found == want {
         return Ok(());

@@ -17,9 +17,9 @@ pub enum Line {
     Open(u32, u32, &'static [u8], &'static [u32]),
     /// The same of an image of this release.
     OpenRelease(u32, u32, u32, &'static [u8], &'static [u32]),
-    /// The same of an image of so many bytes `a`, without a release.
+    /// The same of an image of N bytes `a`, without a release.
     OpenLong(u32, u32, usize, &'static [u32]),
-    /// The same of the image `abc`, for one meter so many times.
+    /// The same of the image `abc`, for one meter that is named N times.
     OpenOften(u32, u32, u32, usize),
     /// A head end cancels the campaign of this serial number.
     Cancel(u32, u32),
@@ -27,11 +27,11 @@ pub enum Line {
     Tick(u32, u32),
     /// These datagrams come, one after another.
     Deliver(&'static [usize]),
-    /// A datagram comes to its meter, which stops behind so many calls of its store.
+    /// A datagram comes to its meter, which stops after N calls of its store.
     Stop(usize, u64, u8),
     /// A meter starts again.
     RestartMeter(u32),
-    /// A meter starts again, and stops in it after so many calls of its store.
+    /// A meter starts again, and stops in it after N calls of its store.
     StopRestart(u32, u64, u8),
     /// A head end starts again.
     RestartHead(u32),
@@ -201,7 +201,7 @@ pub const DONE: &[Line] = &[
     Line::Deliver(&[18, 19]),
 ];
 
-/// The same campaign of an image of release 5, and behind its end one of an image without a release for the same meter.
+/// The same campaign of an image of release 5, and after its end one of an image without a release for the same meter.
 pub const OLDER: &[Line] = &[
     Line::OpenRelease(7, 1, 5, b"abc", &[1]),
     Line::Tick(7, 1),

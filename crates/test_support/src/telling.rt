@@ -67,7 +67,7 @@ pub fn head_number(head: Option<HeadId>) -> u32 {
     head.map_or(0, |head| head.number())
 }
 
-/// Appends a part, behind `; ` if another stands before it.
+/// Appends a part, after `; ` if another stands before it.
 pub fn push(text: &mut String, part: &str) -> Result<(), AllocError> {
     if !text.is_empty() {
         text.push_str("; ")?;
@@ -92,7 +92,7 @@ pub fn done_rows(setup: &Setup, world: &World) -> Result<u64, Fail> {
     Ok(done)
 }
 
-/// An event behind its number, as a script has it.
+/// An event after its number, as a script has it.
 pub fn numbered(alloc: Global, number: usize, event: &Event) -> Result<String, AllocError> {
     match event {
         Event::Tick(head, meter) => {

@@ -11,7 +11,7 @@ use test_support::{
     DONE, Given, LARGE, Line, NO_HEAD, SMALL, events_of, old_setup_of, report, setup_of,
 };
 
-/// What an audit is told of a run.
+/// What an audit is given of a run.
 enum Told {
     /// All of it.
     All,
@@ -52,7 +52,7 @@ impl Made {
         })
     }
 
-    /// Changes what is to be told.
+    /// Changes what is given.
     fn change(&mut self, alloc: Global, told: &Told) -> Result<(), Fail> {
         match told {
             Told::All => {}
@@ -74,7 +74,7 @@ impl Made {
         Ok(())
     }
 
-    /// The report of the world that an audit answers, or its refusal.
+    /// The report of the world that an audit returns, or its refusal.
     fn audited(&self, alloc: Global) -> Result<String, Fail> {
         let Parts {
             heads,

@@ -12,7 +12,7 @@ use std::thread::Threads;
 struct Rehearsal(&'static str, u32, u32, &'static str);
 
 impl Rehearsal {
-    /// What the command answers.
+    /// What the command returns.
     fn run<T: Threads + Wait + Sync, R: Read, W: Write>(
         &self,
         rt: &T,
@@ -31,7 +31,7 @@ impl Rehearsal {
         )
     }
 
-    /// What is written, and behind it the fault.
+    /// What is written, and after it the fault.
     fn told<T: Threads + Wait + Sync>(&self, rt: &T, alloc: Global) -> Result<String, Fail> {
         let mut written = Vec::new(alloc);
         let result = self.run(rt, alloc, &mut self.0.as_bytes(), &mut written);
@@ -43,7 +43,7 @@ impl Rehearsal {
     }
 }
 
-/// Of each rehearsal is told what stands beside it. What else is told is named with the place of its row.
+/// Each rehearsal reports what stands beside it. Any other report is an error, with the place of its row.
 fn each<T: Threads + Wait + Sync>(
     rt: &T,
     alloc: Global,
@@ -101,7 +101,7 @@ meter 1 block 2 capacity 64 factory 78
 open 7 1 616263 1
 ";
 
-/// A campaign of release 5 that is done, and behind it one without a release for the same meter.
+/// A campaign of release 5 that is done, and after it one without a release for the same meter.
 const OLDER: &str = "\
 head 7 width 4
 meter 1 block 2 capacity 64 factory 78

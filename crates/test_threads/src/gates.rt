@@ -94,7 +94,7 @@ impl Gate for Held {
     }
 }
 
-/// Ends the work once so many rows are done.
+/// Ends the work once N rows are done.
 #[derive(Drop)]
 pub(crate) struct Below(pub(crate) u64);
 

@@ -1,5 +1,5 @@
-//! A crew whose hands are of the test's own: links on which all that is sent comes at once; and how links are dealt. What is expected
-//! was worked out by hand, from the head end's and the meter's documents.
+//! Workers whose links are the test's own: all that is sent on them comes at once. And how links are dealt. What is expected was worked
+//! out by hand, from the head end's and the meter's documents.
 
 ghost use Rattle.std.specs.Prelude.{◌≡◌, MatchOption, Ok, Err};
 
@@ -99,7 +99,7 @@ fn told<R: Threads + Wait + Sync>(
     }
 }
 
-/// Links by the numbers of their ends, and what is told of them: the campaign's own, and two of whose ends one isn't there.
+/// Links by the numbers of their ends, and what comes of them: the campaign's own, and two of which one end isn't there.
 const HANDS: &[((u32, u32), &str)] = &[
     (
         (7, 1),
@@ -166,8 +166,8 @@ fn refusal_of<R: Threads + Wait + Sync>(
     }
 }
 
-/// Why each worker is refused, from the lowest on, and what is told: the lowest worker's refusal. Where none is refused, the rounds that
-/// they didn't make are missed.
+/// Why each worker is refused, from the lowest on, and what is returned: the lowest worker's refusal. Where none is refused, the rounds
+/// that they didn't make are missed.
 const REFUSALS: &[(&[Option<RoundsError>], &str)] = &[
     (
         &[Some(RoundsError::GateShut), Some(RoundsError::OutOfMemory)],
@@ -191,7 +191,7 @@ fn the_lowest_workers_refusal_is_told(rt: HostRuntime) -> Result<(), Fail> {
     Ok(())
 }
 
-/// Which of these links each of so many workers is dealt.
+/// Which of these links each of `workers` workers is dealt.
 fn dealt_to(alloc: Global, links: &[u32], workers: u32) -> Result<String, Fail> {
     if workers == 0 {
         return Err("no workers".into());
@@ -206,7 +206,7 @@ fn dealt_to(alloc: Global, links: &[u32], workers: u32) -> Result<String, Fail> 
     Ok(text)
 }
 
-/// Links, the number of workers, and what is told of them.
+/// Links, the number of workers, and what each worker is dealt.
 const DEALT: &[(&[u32], u32, &str)] = &[
     (&[7, 8, 9, 7, 6], 2, "[7, 9, 6]; [8, 7]"),
     (&[7, 8], 3, "[7]; [8]; []"),

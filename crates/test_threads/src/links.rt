@@ -9,7 +9,7 @@ use test_support::{OPENED_FOR_SOME, TWO_HEADS, events_of, setup_of};
 /// By head ends and then by meters, in the order of the setup.
 const LINKS: &[(u32, u32)] = &[(7, 1), (7, 2), (7, 3), (7, 4), (8, 2), (8, 4)];
 
-/// Numbers of datagrams, from the first to behind the last: those of them that come, and those that are late.
+/// Numbers of datagrams, from the first to after the last: those of them that come, and those that are late.
 const PASSED: &[(usize, usize, &[usize], &[usize])] = &[
     (10, 13, &[10, 12, 12], &[]),
     (13, 13, &[], &[]),
@@ -34,7 +34,7 @@ fn is_of(link: &LinkQueue, numbers: (u32, u32)) -> bool {
     (link.head().number(), link.meter().number()) == numbers
 }
 
-/// Whether just these come of the datagrams from a number to behind another, and just those are late.
+/// Whether just these come of the datagrams from one number on and below another, and just those are late.
 fn passes(
     alloc: Global,
     link: &mut LinkQueue,

@@ -22,7 +22,7 @@ use test_support::{
 enum Air {
     /// None.
     Good,
-    /// Every third send fails, every fourth takes all but the last byte, and every fifth receive fails.
+    /// Every third send fails, every fourth takes all except the last byte, and every fifth receive fails.
     Bad,
 }
 
@@ -113,7 +113,7 @@ impl<'a, R: Wait> Wire for MemoryWire<'a, R> {
     }
 }
 
-/// Some events, and behind them so many rounds by so many workers, over so many wires.
+/// Some events, and after them N rounds by M workers, over W wires.
 struct Rollout(&'static Given, &'static [Line], u32, u32, usize, Air);
 
 impl Rollout {

@@ -13,7 +13,7 @@ use test_support::expect;
 struct Live(&'static str, u32, u32);
 
 impl Live {
-    /// What is written, and behind it the fault.
+    /// What is written, and after it the fault.
     fn told<T: Threads + Wait + Net + Sync>(&self, rt: &T, alloc: Global) -> Result<String, Fail> {
         let Live(script, rounds, workers) = *self;
         let options = LiveOptions { rounds, workers };

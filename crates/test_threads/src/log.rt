@@ -55,7 +55,7 @@ fn begun(alloc: Global, link: Link) -> Result<SharedLog, AllocError> {
     Ok(SharedLog::new(sent, entries))
 }
 
-/// Appends a tick that sends the datagrams 11 and 12: what is answered, and what its stub says.
+/// Appends a tick that sends the datagrams 11 and 12: what is returned, and what its stub says.
 fn tick<R: Wait>(
     rt: &R,
     alloc: Global,
@@ -128,7 +128,7 @@ fn log_grows_at_its_ends(rt: HostRuntime) -> Result<(), Fail> {
     Ok(())
 }
 
-/// Adds so many events with a datagram each: whether their numbers rose, each with that of its datagram.
+/// Adds N events with a datagram each: whether their numbers rose, each with that of its datagram.
 fn add_all<R: Wait>(
     rt: &R,
     alloc: Global,
@@ -154,7 +154,7 @@ fn add_all<R: Wait>(
     Ok(rose)
 }
 
-/// The byte of a datagram, and the greatest number of such a one.
+/// The byte of a datagram, and the greatest number of a datagram with this byte.
 const FOUND: &[(u8, Option<u64>)] = &[(10, Some(4)), (11, Some(1)), (12, Some(3)), (13, None)];
 
 #[test]

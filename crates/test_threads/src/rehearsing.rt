@@ -15,7 +15,7 @@ use test_support::{
     OPENED_LARGE, SMALL, TWO_HEADS, done_rows, events_of, expect, numbered, push, report, setup_of,
 };
 
-/// Some events, and behind them so many rounds by so many workers, in which datagrams have these fates.
+/// Some events, and after them N rounds by M workers, in which datagrams have these fates.
 struct Rehearsal(&'static Given, &'static [Line], u32, u32, &'static [Fate]);
 
 impl Rehearsal {
@@ -162,7 +162,7 @@ const REHEARSALS: &[(Rehearsal, &str)] = &[
     // some workers have no link
     (Rehearsal(FOUR, OPENED_FOR_FOUR, 40, 8, BAD_AIR), FOUR_DONE),
     (Rehearsal(SMALL, OPENED, 9, 1, GOOD_AIR), ONE_DONE),
-    // without rounds, and behind a campaign that has ended: its row is on the board from the start
+    // without rounds, and after a campaign that has ended: its row is on the board from the start
     (
         Rehearsal(SMALL, OPENED, 0, 2, GOOD_AIR),
         "row 7 1 1 live; meter 1 status 0 active 0 0 size 1; activations 0; sent 0; board 0",
@@ -228,12 +228,12 @@ fn rehearsals(rt: HostRuntime) -> Result<(), Fail> {
     Ok(())
 }
 
-/// A rehearsal by one worker, whose receipts are what `schedule` puts behind the given events: how many there are, and how many turns
-/// among them.
+/// A rehearsal by one worker, whose receipts are what `schedule` puts after the given events: how many there are, and how many turns among
+/// them.
 struct Scheduled(Rehearsal);
 
 impl Scheduled {
-    /// What is told of it.
+    /// What it reports.
     fn told<R: Threads + Wait + Sync>(&self, rt: &R, alloc: Global) -> Result<String, Fail> {
         let Rehearsal(given, lines, rounds, _, fates) = self.0;
         let setup = setup_of(alloc, given)?;

@@ -27,7 +27,7 @@ struct Shared {
 }
 
 impl Shared {
-    /// Those of a new world behind these openings.
+    /// Those of a new world after these openings.
     fn new(alloc: Global, setup: &Setup, openings: Vec<Event>) -> Result<Shared, Fail> {
         let mut world = World::new(alloc, setup)?;
         for opening in &openings {
@@ -73,7 +73,7 @@ impl Shared {
     }
 }
 
-/// The log behind openings, which send nothing.
+/// The log after openings, which send nothing.
 fn log_of(alloc: Global, openings: Vec<Event>) -> Result<SharedLog, AllocError> {
     let mut entries = Vec::new(alloc);
     for event in openings {
@@ -99,7 +99,7 @@ impl From<StepError> for Stopped {
     }
 }
 
-/// So many rounds of these links, which are named by the places of their head ends and meters. All that is sent comes.
+/// `rounds` rounds of these links, which are named by the places of their head ends and meters. All that is sent comes.
 fn rounds<R: Wait>(
     rt: &R,
     alloc: Global,
@@ -169,7 +169,7 @@ fn hear<R: Wait>(
     Ok(desk.hear(rt, alloc, log, board, seat, number)?)
 }
 
-/// Some openings, and behind them so many rounds, which two threads make together, each of its own links.
+/// Some openings, and after them N rounds, which two threads make together, each of its own links.
 struct Joined(
     &'static Given,
     &'static [Line],
@@ -199,7 +199,7 @@ impl Joined {
     }
 }
 
-/// The board's count behind so many rounds by two threads.
+/// The board's count after `times` rounds by two threads.
 fn together<R: Threads + Wait + Sync>(
     rt: &R,
     alloc: Global,
@@ -296,8 +296,8 @@ enum Call {
 }
 
 impl Call {
-    /// What it answers: the numbers of an event, of its first datagram, and how many those are; what a head end hears; whether a turn
-    /// was taken; or the refusal.
+    /// What it returns: the numbers of an event, of its first datagram, and how many those are; what a head end hears; whether a turn was
+    /// taken; or the refusal.
     fn answer<R: Wait>(
         &self,
         rt: &R,
@@ -444,7 +444,7 @@ fn shared_calls_made_one_by_one(rt: HostRuntime) -> Result<(), Fail> {
     each(&rt, rt.alloc(), CALLS)
 }
 
-/// What a seat keeps of the first events of a campaign, and what is handed back behind them.
+/// What a seat keeps of the first events of a campaign, and what is returned after them.
 #[test]
 fn receipts_and_parts(rt: HostRuntime) -> Result<(), Fail> {
     let alloc = rt.alloc();

@@ -6,12 +6,12 @@ use std::test::Fail;
 use std::thread::Threads;
 use test_support::expect;
 
-/// Something that is tried, and told of in a line.
+/// Something that is tried, and reports in a line.
 pub(crate) trait Case {
     fn told<R: Threads + Wait + Sync>(&self, rt: &R, alloc: Global) -> Result<String, Fail>;
 }
 
-/// Of each case is told what stands beside it. What else is told is named with the place of its row.
+/// Each case reports what stands beside it. Any other report is an error, with the place of its row.
 pub(crate) fn each<C: Case, R: Threads + Wait + Sync>(
     rt: &R,
     alloc: Global,

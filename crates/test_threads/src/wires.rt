@@ -5,7 +5,7 @@ ghost use Rattle.std.specs.Prelude.{◌≤◌, length, IfOk, IfSome};
 use fw_air::{MAX_RECEIVED, Pass, UdpWire, Wire, WireFault};
 use std::test::Fail;
 
-/// A wire on which so many datagrams of one byte wait, and which may fail behind them.
+/// A wire on which `waiting` datagrams of one byte wait, and which may fail after them.
 #[derive(Drop)]
 struct Stored {
     waiting: u32,
@@ -30,7 +30,7 @@ impl Wire for Stored {
     }
 }
 
-/// How many datagrams wait, whether the wire fails behind them, and how many come in a pass and in the next.
+/// How many datagrams wait, whether the wire fails after them, and how many come in a pass and in the next.
 const PASSES: &[(u32, bool, u32, u32)] = &[
     (0, false, 0, 0),
     (3, false, 3, 0),

@@ -11,7 +11,7 @@ use test_support::{
     report, setup_of,
 };
 
-/// A world takes the events one after another, also behind one that is refused: each refusal, and then the report.
+/// A world takes the events one after another, also after one that is refused: each refusal, and then the report.
 struct Made(&'static Given, &'static [&'static [Line]]);
 
 impl Case for Made {
@@ -68,7 +68,7 @@ fn events_made_one_by_one(rt: HostRuntime) -> Result<(), Fail> {
     each(rt.alloc(), EVENTS)
 }
 
-/// What is shown of a world of one head end and one meter behind all parts.
+/// What is shown of a world of one head end and one meter after all parts of the campaign.
 enum Shown {
     /// The meter of this number.
     Meter(u32),

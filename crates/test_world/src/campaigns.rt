@@ -103,7 +103,7 @@ const CAMPAIGNS: &[(Script, &str)] = &[
     ),
 ];
 
-/// An activate is refused where an initiate came behind the verify, and where one came behind another activate.
+/// An activate is refused where an initiate came after the verify, and where one came after another activate.
 const REFUSED_ACTIVATES: &[(Script, &str)] = &[
     (
         Script(
@@ -191,7 +191,7 @@ const RELEASE_5: &[Line] = &[
     Line::Deliver(&[6, 7, 8, 9]),
 ];
 
-/// Behind its claim and a second opening, up to where the meter answered whether it takes the image.
+/// After its claim and a second opening, up to where the meter answered whether it takes the image.
 const UP_TO_START: &[Line] = &[
     Line::Tick(7, 1),
     Line::Deliver(&[20, 21]),
@@ -310,7 +310,7 @@ fn releases(rt: HostRuntime) -> Result<(), Fail> {
 /// Two head ends, and one meter.
 const TWO_HEADS: &Given = &Given(&[(1, 4), (2, 4)], &[(1, 2, 64, b"x")]);
 
-/// A late block of the first one, datagram 7, comes behind the second one's, 15, and before its verify, 21.
+/// A late block of the first one, datagram 7, comes after the second one's, 15, and before its verify, 21.
 const MIXED: &[Line] = &[
     Line::Open(1, 1, b"aaaa", &[1]),
     Line::Open(2, 1, b"bbbb", &[1]),

@@ -224,7 +224,7 @@ fn of_a_new_meter(rt: HostRuntime) -> Result<(), Fail> {
 /// The verify of 8,193 bytes, and one turn.
 const VERIFYING: &[Line] = &[Line::Deliver(&[26, 27]), Line::Turn(1)];
 
-/// Behind a restart in status 2 the head end goes back to `Check`, where all blocks are there, and asks to verify anew.
+/// After a restart in status 2 the head end goes back to `Check`, where all blocks are there, and asks to verify anew.
 const VERIFIED_ANEW: &[Line] = &[
     Line::Tick(7, 1),
     Line::Deliver(&[28, 29]),

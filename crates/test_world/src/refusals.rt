@@ -1,4 +1,4 @@
-//! Events that are refused: the world before them, and the cause. Nothing happens behind one.
+//! Events that are refused: the world before them, and the cause. Nothing happens after one.
 
 use crate::campaigns::{SMALL, UP_TO_ACTIVATE, UP_TO_BLOCKS, UP_TO_DONE, UP_TO_VERIFY};
 use crate::script::Script;
@@ -202,7 +202,7 @@ fn unknown_actors_and_datagrams(rt: HostRuntime) -> Result<(), Fail> {
     each(rt.alloc(), ACTORS)
 }
 
-/// The world is that of the events before, and none behind the refused one happens.
+/// The world is that of the events before, and none after the refused one happens.
 const BEHIND: &[(Script, &str)] = &[
     (
         Script(

@@ -5,7 +5,7 @@ use crate::script::Script;
 use std::test::Fail;
 use test_support::{Line, each};
 
-/// A meter that starts again in each status and behind each request takes the campaign to its end.
+/// A meter that starts again in each status and after each request takes the campaign to its end.
 const METER_RESTARTS: &[Line] = &[
     Line::RestartMeter(1),
     Line::Open(7, 1, b"abc", &[1]),

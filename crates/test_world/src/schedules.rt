@@ -8,15 +8,15 @@ use std::rt::HostRuntime;
 use std::test::Fail;
 use test_support::{Case, Given, Line, each, events_of, push, report, setup_of};
 
-/// What is told of a schedule.
+/// What is shown of a schedule.
 enum Told {
-    /// The events behind the given ones.
+    /// The events after the given ones.
     Events,
     /// The report of the world, and how many turns there are.
     Report,
 }
 
-/// Some events, and so many rounds behind them, in which datagrams have these fates.
+/// Some events, and after them N rounds, in which datagrams have these fates.
 struct Schedule(&'static Given, &'static [Line], u32, &'static [Fate], Told);
 
 impl Case for Schedule {
@@ -153,8 +153,8 @@ const SCHEDULES: &[(Schedule, &str)] = &[
          deliver 15; tick 7 1; deliver 16; deliver 17; tick 7 1; deliver 18; \
          deliver 19; tick 7 1; deliver 20; deliver 21; tick 7 1",
     ),
-    // Request 0 is late, and so is its answer 1, but 2 of the tick behind it comes. Its answer 3 is late, and comes behind 1. Then
-    // request 4 is late, and its answer 5 comes at once, before 6 of the tick behind it, which is late.
+    // Request 0 is late, and so is its answer 1, but 2 of the next tick comes. Its answer 3 is late, and comes after 1. Then request 4
+    // is late, and its answer 5 comes at once, before 6 of the next tick, which is late.
     (
         Schedule(
             SMALL,
@@ -166,8 +166,8 @@ const SCHEDULES: &[(Schedule, &str)] = &[
         "tick 7 1; deliver 0; tick 7 1; deliver 2; deliver 1; deliver 3; tick 7 1; deliver 4; tick 7 1; deliver 5; \
          deliver 6; tick 7 1; deliver 8; deliver 7; deliver 9; tick 7 1",
     ),
-    // Each request that comes comes twice at once, and of its two answers one is late and one is lost, but in the round of the blocks:
-    // 9 comes twice, 10 is late, and of the answers to 9 the first, 11, is lost and the second, 12, comes twice.
+    // Each request that comes comes twice at once, and of its two answers one is late and one is lost, except in the round of the
+    // blocks: 9 comes twice, 10 is late, and of the answers to 9 the first, 11, is lost and the second, 12, comes twice.
     (
         Schedule(
             SMALL,

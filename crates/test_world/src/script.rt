@@ -1,4 +1,4 @@
-//! Scripts: a world, what happens in it, and what is told of its end.
+//! Scripts: a world, what happens in it, and how it ends.
 
 use fw_world::{RunError, Setup, run};
 use std::alloc::Global;

@@ -54,7 +54,7 @@ const ONE_TURN: &[Line] = &[
     Line::Deliver(&[26, 27]),
 ];
 
-/// Of 8,193 the second turn does. It is asked for the status before and behind each.
+/// Of 8,193 the second turn does. It is asked for the status before and after each.
 const TWO_TURNS: &[Line] = &[
     Line::Deliver(&[26, 27]),
     Line::Tick(7, 1),
@@ -73,7 +73,7 @@ const TWO_TURNS: &[Line] = &[
     Line::Deliver(&[38, 39]),
 ];
 
-/// The meter starts again behind the first turn, in status 1: the head end goes back to `Check`, and asks to verify anew.
+/// The meter starts again after the first turn, in status 1: the head end goes back to `Check`, and asks to verify anew.
 const STARTED_AGAIN: &[Line] = &[
     Line::Deliver(&[26, 27]),
     Line::Turn(1),
@@ -116,7 +116,7 @@ fn campaigns_with_turns(rt: HostRuntime) -> Result<(), Fail> {
     each(rt.alloc(), CAMPAIGNS)
 }
 
-/// The status behind verify, behind one turn, behind two, behind a third, and behind a restart between them.
+/// The status after verify, after one turn, after two, after a third, and after a restart between them.
 const SHOWN: &[(Script, &str)] = &[
     (
         Script(LARGE, &[NINE, &[Line::Deliver(&[26])]]),

@@ -1,5 +1,4 @@
-//! Stops of the meter while it handles a datagram, each behind so many calls of its store. A reply that is lost isn't among what was
-//! sent.
+//! Stops of the meter while it handles a datagram, each after N calls of its store. A reply that is lost isn't among what was sent.
 
 use crate::campaigns::{SMALL, UP_TO_ACTIVATE, UP_TO_BLOCKS, UP_TO_VERIFY};
 use crate::script::Script;
@@ -128,7 +127,7 @@ fn in_verify(rt: HostRuntime) -> Result<(), Fail> {
 }
 
 /// A block that is there already is written again, and torn: its first half is as sent, and the other has the byte that is named. The
-/// verify comes behind it. Where that byte is the image's own, and where the write is whole, the digest is that of the name.
+/// verify comes after it. Where that byte is the image's own, and where the write is whole, the digest is that of the name.
 const REWRITES: &[(Script, &str)] = &[
     (
         Script(

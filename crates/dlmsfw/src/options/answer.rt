@@ -89,7 +89,7 @@ pub(super) fn command<'a>(alloc: Global) -> Result<Command<'a>, AllocError> {
         ))
 }
 
-/// The command with the options that were given. All but the file have a default.
+/// The command with the options that were given. All except the file have a default.
 pub(super) fn invoked<'a>(given: &ArgMatches<'a>) -> Option<Invocation<'a>> {
     let fresh = AnswerOptions {
         block_size: given.get_one("block-size")?,

@@ -65,8 +65,8 @@ pub(super) fn command<'a>(alloc: Global) -> Result<Command<'a>, AllocError> {
         )
 }
 
-/// The command with the options that were given. The parser lets no number pass that is none of a head end, a campaign or a release,
-/// which has a default.
+/// The command with the options that were given. The parser lets only those numbers pass that a head end, a campaign or a release can
+/// have. The release has a default.
 pub(super) fn invoked<'a>(given: &ArgMatches<'a>) -> Option<Invocation<'a>> {
     let head = HeadId::new(given.get_one("head")?)?;
     let campaign = CampaignId::new(head, given.get_one("serial")?)?;

@@ -9,7 +9,7 @@ not_ok : {T E : Type 0} (r : Result T E) → IsErr r → is_ok r ≡ false
 not_ok (Ok x) h = absurd cc
 not_ok (Err e) h = refl
 
--- a slice more behind whole ones
+-- a slice more after whole ones
 slice_more : (taken size new : ℕ) → taken ≤ size → (taken < size → taken % 4096 ≡ 0) → new ≡ min (taken + 4096) size → slice_count taken + (if nat_lt taken size then 1 else 0) ≡ slice_count new
 slice_more taken size new within whole e = grind (arith, nat_tests)
 

@@ -3,7 +3,7 @@ use Rattle.fw_store.specs.Device.{slot_bytes}
 use Rattle.sha2.specs.Hashers.{Holds256}
 use Rattle.fw_verify.proofs.take_slice.Goals as goal
 
--- a front and the range behind it are a longer front
+-- a front and the range after it are a longer front
 take_range : (xs : List ℕ) (a n : ℕ) → take a xs ++ slice_range xs a (a + n) ≡ take (a + n) xs
 take_range xs a n = let e : a + n - a ≡ n = omega arith in rw (e, take-add a n xs) refl
 

@@ -13,7 +13,7 @@ pub fn head() -> Result<HeadId> {
     HeadId::new(7).context("a head end")
 }
 
-/// One head end that sends so many blocks at a time, and so many meters that have room for the image.
+/// One head end that sends up to `width` blocks at a time, and `meters` meters that have room for the image.
 pub fn setup_of(alloc: Global, meters: u32, size: u32, width: u32) -> Result<Setup> {
     let mut setups = Vec::new(alloc);
     for number in 0..meters {
@@ -36,7 +36,7 @@ pub fn setup_of(alloc: Global, meters: u32, size: u32, width: u32) -> Result<Set
     })
 }
 
-/// The opening of its campaign, for an image of so many bytes `a`.
+/// The opening of its campaign, for an image of `size` bytes `a`.
 pub fn opening(alloc: Global, setup: &Setup, size: u32) -> Result<Event> {
     let mut meters = Vec::new(alloc);
     for meter in &setup.meters {

@@ -20,7 +20,7 @@ impl Gate for Open {
     }
 }
 
-/// So many workers make the campaign. Counts its events.
+/// `workers` workers make the campaign. Counts its events.
 pub fn measure<R: Threads + Wait + Sync>(
     rt: &HostRuntime,
     threads: &R,

@@ -13,7 +13,7 @@ const SLICE_SIZE: usize = 4096;
 /// Bytes of each block.
 const BLOCK_SIZE: u32 = 1024;
 
-/// A new meter handles the datagrams in each round, and then runs the image of so many bytes `a`. Counts the rounds.
+/// A new meter handles the datagrams in each round, and then runs the image of `size` bytes `a`. Counts the rounds.
 pub fn measure(
     rt: &HostRuntime,
     size: u32,

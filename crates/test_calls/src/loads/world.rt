@@ -14,7 +14,7 @@ const WIDTH: u32 = 15;
 /// More rounds than a campaign takes, and more turns than a verification.
 const MANY: u32 = 4096;
 
-/// How many events the campaign of an image of so many bytes `a` for so many meters has.
+/// How many events the campaign of an image of `size` bytes `a` for `meters` meters has.
 pub fn count(alloc: Global, meters: u32, size: u32) -> Result<u64> {
     let setup = setup_of(alloc, meters, size, WIDTH)?;
     let events = events_of(alloc, &setup, size)?;

@@ -7,7 +7,7 @@ use fw_names::{CampaignId, HeadId, MeterId};
 use fw_world::{Event, HeadSetup, MeterSetup, Setup, World};
 use std::alloc::Global;
 
-/// The datagrams that come behind each tick, by their places among all that are sent.
+/// The datagrams that come after each tick, by their places among all that are sent.
 const ROUNDS: &[&[usize]] = &[
     &[0, 1],
     &[2, 3],
@@ -92,7 +92,7 @@ fn step(alloc: Global, actors: Actors, world: &mut World, event: &Event) -> Resu
     .map_err(|_| Ending::Unexpected)
 }
 
-/// Tells how the campaign ends.
+/// Prints how the campaign ends.
 pub(crate) fn row(rt: &HostRuntime) -> Result<(), Ending> {
     let alloc = rt.alloc();
     let actors = Actors::new().ok_or(Ending::Unexpected)?;

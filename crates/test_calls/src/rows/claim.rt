@@ -3,7 +3,7 @@
 use fw_axdr::read;
 use std::io;
 
-/// Tells what reading the bytes answers.
+/// Prints what reading the bytes returns.
 pub(crate) fn judge(rt: &HostRuntime, bytes: &[u8]) -> io::Result<()> {
     match read(rt.alloc(), bytes) {
         Ok((_, used)) => println!(rt; "{used} bytes"),

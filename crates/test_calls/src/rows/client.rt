@@ -1,10 +1,10 @@
-//! Asks of one client. That one for which memory was refused is as before is seen by the invoke-id of the next ask.
+//! Asks of one client. Where memory was refused for an ask, the invoke-id of the next one shows that the client is as before.
 
 use crate::rows::campaign::Actors;
 use crate::rows::refusals::{Answer, Ending, retried};
 use fw_client::{Ask, Client};
 
-/// Asks for the active name, and tells the invoke byte, or the refusal.
+/// Asks for the active name, and prints the invoke byte, or the refusal.
 fn asked(rt: &HostRuntime, client: &mut Client) -> Result<(), Ending> {
     let alloc = rt.alloc();
     let answer = retried(
@@ -22,7 +22,7 @@ fn asked(rt: &HostRuntime, client: &mut Client) -> Result<(), Ending> {
     Ok(())
 }
 
-/// Sixteen asks, one more, and another one behind `forget`.
+/// Sixteen asks, one more, and another one after `forget`.
 pub(crate) fn row(rt: &HostRuntime) -> Result<(), Ending> {
     let actors = Actors::new().ok_or(Ending::Unexpected)?;
     let mut client = Client::new(actors.meter);

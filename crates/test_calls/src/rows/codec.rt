@@ -3,7 +3,7 @@
 use crate::rows::refusals::{Answer, Ending, Hex, made, retried};
 use fw_axdr::{Data, read, write_to};
 
-/// The byte 61 behind a longer form of length than is needed; a number that lacks a byte; a tag of no type; a first byte of no length; an
+/// The byte 61 after a longer form of length than is needed; a number that lacks a byte; a tag of no type; a first byte of no length; an
 /// element at depth 8, and one at depth 9; and an octet-string and an array of 2^32 - 1.
 const SPELLINGS: &[&[u8]] = &[
     &[0x09, 0x81, 0x01, 0x61],
@@ -30,7 +30,7 @@ pub(crate) fn rows(rt: &HostRuntime) -> Result<(), Ending> {
     Ok(())
 }
 
-/// Writes a Data, and tells it.
+/// Writes a Data, and prints it.
 fn written(rt: &HostRuntime, data: &Data, used: usize) -> Result<(), Ending> {
     let mut out = Vec::new(rt.alloc());
     let answer = retried(

@@ -42,7 +42,7 @@ pub(crate) fn replied(
     Ok(handled.reply)
 }
 
-/// Tells the replies of a new meter that runs `abc`.
+/// Prints the replies of a new meter that runs `abc`.
 fn session(rt: &HostRuntime, row: &str, datagrams: &[&str]) -> Result<(), Ending> {
     let alloc = rt.alloc();
     let mut meter = meter(alloc, b"abc")?;

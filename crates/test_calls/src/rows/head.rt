@@ -37,14 +37,14 @@ fn opened(alloc: Global, actors: Actors) -> Result<Book, Ending> {
     Ok(book)
 }
 
-/// Tells the bytes of a book.
+/// Prints the bytes of a book.
 fn tell(rt: &HostRuntime, actors: Actors, mut book: Book) -> Result<Vec<u8>, Ending> {
     let bytes = written(rt.alloc(), actors, &mut book)?;
     println!(rt; "book: {}", Hex(bytes.as_slice()))?;
     Ok(bytes)
 }
 
-/// Tells the bytes of the book that these are read as, or the refusal.
+/// Prints the bytes of the book that these are read as, or the refusal.
 fn tell_read(rt: &HostRuntime, actors: Actors, bytes: &[u8]) -> Result<(), Ending> {
     match read(rt.alloc(), bytes)? {
         Ok(book) => {
@@ -55,7 +55,7 @@ fn tell_read(rt: &HostRuntime, actors: Actors, bytes: &[u8]) -> Result<(), Endin
     Ok(())
 }
 
-/// Tells the bytes of a book, those of the book that they are read as, and what comes of one byte less.
+/// Prints the bytes of a book, those of the book that they are read as, and what comes of one byte less.
 pub(crate) fn book(rt: &HostRuntime) -> Result<(), Ending> {
     let actors = Actors::new().ok_or(Ending::Unexpected)?;
     let bytes = tell(rt, actors, opened(rt.alloc(), actors)?)?;

@@ -33,7 +33,7 @@ pub(crate) enum Ending {
     /// What a call was made on isn't as before, where memory was refused for it.
     #[error("a refused call changed something")]
     Changed,
-    /// A call answered what isn't expected of it, other than want of memory.
+    /// A call answered what isn't expected of it, other than out of memory.
     #[error("another answer")]
     Unexpected,
     /// Standard output can't be written.
@@ -47,7 +47,7 @@ impl From<io::Error> for Ending {
     }
 }
 
-/// Makes a call, and where memory is refused once more. What it is made on must be as before then, as far as it shows.
+/// Makes a call, and makes it once more where memory is refused. What it is made on must be as before then, as far as it shows.
 pub(crate) fn retried<
     O,
     T,
@@ -82,7 +82,7 @@ pub(crate) fn made<T, C: FnMut() -> Result<T, Refused>>(mut call: C) -> Result<T
     Err(Ending::OutOfMemory)
 }
 
-/// The answer of a call, but for want of memory.
+/// The answer of a call, except out of memory.
 pub(crate) trait Answer: Sized {
     type Told;
 
@@ -133,7 +133,7 @@ impl<T: Drop> Answer for Result<T, StepError> {
     }
 }
 
-/// Bytes, of which each is told as two digits.
+/// Bytes, each of which is shown as two digits.
 #[derive(Clone, Copy)]
 pub(crate) struct Hex<'a>(pub(crate) &'a [u8]);
 

@@ -1,5 +1,5 @@
-//! A head end asks a meter for its name, and again and again, since no answer comes, until the invoke-id of the first ask is that of
-//! another one. An answer to this id that holds no name is nothing to it.
+//! A head end asks a meter for its name again and again, since no answer comes, until an ask has the invoke-id of the first one. An answer
+//! under this id that holds no name changes nothing for it.
 
 use crate::rows::campaign::Actors;
 use crate::rows::datagrams::{meter, replied};
@@ -103,7 +103,7 @@ fn unanswered(alloc: Global, number: MeterId, head: &mut HeadCore) -> Result<u8,
     Ok(invoke)
 }
 
-/// Tells the invoke byte of the last ask, what is heard in the answer that holds no name, and the row's phase then.
+/// Prints the invoke byte of the last ask, what is heard in the answer that holds no name, and the row's phase then.
 fn tell(rt: &HostRuntime, number: MeterId, head: &mut HeadCore, invoke: u8) -> Result<(), Ending> {
     let alloc = rt.alloc();
     let answer = made(|| hex::decode(alloc, NO_NAME).map_err(|_| Refused))?;
@@ -113,7 +113,7 @@ fn tell(rt: &HostRuntime, number: MeterId, head: &mut HeadCore, invoke: u8) -> R
     Ok(())
 }
 
-/// Asks up to where an answer comes late, and tells what it does.
+/// Asks up to where an answer comes late, and prints what it does.
 pub(crate) fn row(rt: &HostRuntime) -> Result<(), Ending> {
     let alloc = rt.alloc();
     let actors = Actors::new().ok_or(Ending::Unexpected)?;

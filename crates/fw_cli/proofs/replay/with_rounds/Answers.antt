@@ -10,7 +10,7 @@ use Rattle.fw_air.specs.Schedules.{IsOfWorld, IsUnscheduled}
 use Rattle.fw_cli.specs.Replaying.{WantsMemory}
 use Rattle.fw_cli.proofs.replay.with_rounds.Goals as goal
 
--- memory is wanted only for a setup of which a world can be made
+-- memory runs out only for a setup of which a world can be made
 is_setup : (setup : Setup) (given : List Event) (error : RunError) → WantsMemory error → IsUnscheduled setup given error → IsOfWorld setup error → IsSetup setup
 is_setup setup given (stopped.Setup unmade.OutOfMemory) wants refused made = refused
 is_setup setup given (stopped.Setup unmade.BadSetup) wants refused made = absurd cc

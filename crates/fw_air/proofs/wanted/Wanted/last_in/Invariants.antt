@@ -3,7 +3,7 @@ use Rattle.fw_world.specs.World.{Datagram}
 use Rattle.fw_air.specs.Logs.{IsSent}
 use Rattle.fw_air.proofs.wanted.Wanted.last_in.Given as goal
 
--- what stands behind was passed
+-- what stands after `rest` was passed
 abbrev pub invariant-back : goal.invariant-back
 invariant-back l = (later : List Datagram) × (l.list ≡ l.rest ++ later) × All (λ d. ¬ IsSent l.self.from l.self.to l.self.bytes.now d) later
 
