@@ -37,3 +37,19 @@ same_events [] [] h = refl
 same_events [] (copy ∷ copies) h = absurd h
 same_events (event ∷ events) [] h = absurd h
 same_events (event ∷ events) (copy ∷ copies) h = ap (λ e. e ∷ events_of copies) h.0 ∙ ap (λ es. event_of event ∷ es) (same_events events copies h.1)
+
+-- what comes after the given events
+pub made_after : (given events : List Given) (made : List Event) → events_of events ≡ events_of given ++ made → events_of (drop (length given) events) ≡ made
+made_after [] events made e = e
+made_after (first ∷ given) [] made e = absurd cc
+made_after (first ∷ given) (event ∷ events) made e = made_after given events made cc
+
+-- where the receipts are those of the record, they are those for what comes after the given events
+pub each_once : (given events : List Given) (receipts : List (List Receipt)) → AreNumbered (events_of given) (events_of events) receipts
+    → IsPermutation (all_of receipts) (numbered (length given) (events_of (take (length events - length given) (drop (length given) events))))
+each_once given events receipts are =
+    let others = drop (length given) events in
+    let long = length-drop (length given) events in
+    let all : take (length events - length given) others ≡ others = take_all (length events - length given) others (omega arith) in
+    let made : events_of (take (length events - length given) others) ≡ are.made = ap events_of all ∙ made_after given events are.made are.events_are in
+    rw (made, sym (length-map given event_of)) are.each_once

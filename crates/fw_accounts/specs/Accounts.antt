@@ -50,6 +50,10 @@ pub record AreNumbered (given events : List Event) (receipts : List (List Receip
   pub events_are : events ≡ given ++ made
   pub each_once : IsPermutation (all_of receipts) (numbered (length given) made)
 
+-- These are the events of a record with these receipts, of which there is one at most.
+abbrev pub IsRecordOf : List Event → List (List Receipt) → List Event → Type 0
+IsRecordOf given receipts events = (others : List Event) → AreNumbered given others receipts → others ≡ events
+
 -- The events of a log that begins with the given ones: these, each once, and after them those of the entries that come after theirs.
 abbrev pub recorded : List Event → List Entry → List Event
 recorded given entries = given ++ map (λ (entry : Entry). entry.event) (drop (length given) entries)

@@ -10,15 +10,17 @@ ghost use Rattle.std.specs.Prelude.{
   ◌^◌,
   Some,
   All,
+  IsErrOf,
   IsTrue,
   IfOk,
+  OnErr,
   OnOk,
   SomeIff,
   count_by,
   length,
   map,
 };
-ghost use Rattle.std.specs.List.Sorted.{IsPermutation};
+ghost use Rattle.std.specs.List.Sorted.{IsNonDecreasingBy, IsPermutation};
 ghost use Rattle.fw_air.specs.Events.{core_event_of};
 ghost use Rattle.fw_air.specs.Links.{link_of};
 ghost use Rattle.fw_world.specs.Done.{done_in, done_rows};
@@ -36,6 +38,7 @@ ghost use Rattle.fw_accounts.specs.Accounts.{
   recorded,
   ticks_of,
 };
+ghost use Rattle.fw_accounts.specs.Refusals.{AreOfWorkers, IsUnaccounted, WantsMemory};
 ghost use Rattle.fw_accounts.specs.Reported.{IsReported};
 
 use crate::error::AccountError;
@@ -64,12 +67,13 @@ pub struct LeftByWorkers {
     pub receipts: Vec<Receipts>,
 }
 
-/// Compares what the workers left with what their record leads to, where they were to make so many rounds of all links behind the
+/// Compares what the workers left with what their record leads to, where they were to make so many rounds of all links after the
 /// given events. What is answered rests on this alone, not on what they did.
 ///
 /// # Errors
 ///
-/// `Mismatch` where anything differs, and `OutOfMemory`.
+/// `Mismatch` where anything differs, and only there. Otherwise `OutOfMemory` alone, and only where there are receipts of each worker,
+/// whose numbers rise, and there is anything to copy or a world to make.
 pub fn account(
     alloc: Global,
     setup: &Setup,
@@ -82,6 +86,10 @@ pub fn account(
     ensures reported { IfOk result (λ r. IsReported setup.now (events_of given.now) rounds workers r.world r.board r.receipts.items) }
     ensures log { IfOk result (λ r. IsOfLog setup.now (events_of given.now) left.entries.items r.world r.receipts.items) }
     ensures kept { IfOk result (λ r. (r.board ≡ left.board) × (r.receipts ≡ left.receipts)) }
+    ensures mismatch { IsErrOf result AccountError.Mismatch → IsUnaccounted setup.now (events_of given.now) rounds workers
+        left.heads.items left.meters.items left.sent.items left.entries.items left.board left.receipts.items }
+    ensures memory { IsErrOf result AccountError.OutOfMemory → AreOfWorkers workers left.receipts.items
+        × WantsMemory setup.now (events_of given.now) left.entries.items left.receipts.items }
 {
     let LeftByWorkers {
         heads,
@@ -91,16 +99,19 @@ pub fn account(
         board,
         receipts,
     } = left;
+    if !are_of_workers(&receipts, workers) {
+        return Err(AccountError::Mismatch);
+    }
     let events = record_of(alloc, given, entries)?;
-    if receipts.len() != workers as usize
-        || !are_rising(&receipts)
-        || !are_numbered(alloc, given.len(), &events[given.len()..], &receipts)?
-    {
+    if !are_numbered(alloc, given.len(), &events[given.len()..], &receipts)? {
         return Err(AccountError::Mismatch);
     }
     let world = audit(alloc, setup, &events, &heads, &meters, &sent)?;
     let links = links_of(alloc, setup, &world)?;
-    if !are_dealt(&links, rounds, workers, &receipts) || !is_count(board, setup, &world) {
+    if !are_dealt(&links, rounds, workers, &receipts) {
+        return Err(AccountError::Mismatch);
+    }
+    if !is_count(board, setup, &world) {
         return Err(AccountError::Mismatch);
     }
     Ok(Report {
@@ -112,13 +123,33 @@ pub fn account(
 
 /// The given events, each once, and after them those of the entries that come after theirs.
 fn record_of(alloc: Global, given: &[Event], entries: Vec<Entry>) -> Result<Vec<Event>, AllocError>
-    ensures { IfOk result (λ v. events_of v.items ≡ recorded (events_of given.now) entries.items) }
+    ensures events { IfOk result (λ v. events_of v.items ≡ recorded (events_of given.now) entries.items) }
+    ensures memory { OnErr result (1 ≤ length (recorded (events_of given.now) entries.items)) }
 {
-    let mut events = given.to_vec(alloc)?;
+    let mut events = copied(alloc, given)?;
     for entry in entries.into_iter().skip(given.len()) {
         events.push(entry.event)?;
     }
     Ok(events)
+}
+
+/// Copies of these events. It takes memory only where there is one.
+pub(crate) fn copied(alloc: Global, events: &[Event]) -> Result<Vec<Event>, AllocError>
+    ensures copies { IfOk result (λ v. events_of v.items ≡ events_of events.now) }
+    ensures memory { OnErr result (1 ≤ length events.now) }
+{
+    if events.is_empty() {
+        return Ok(Vec::new(alloc));
+    }
+    let copies = events.to_vec(alloc)?;
+    Ok(copies)
+}
+
+/// Whether each worker has its receipts, and their numbers rise.
+fn are_of_workers(receipts: &[Receipts], workers: u32) -> bool
+    ensures { IsTrue result ↔ AreOfWorkers workers receipts.now }
+{
+    receipts.len() == workers as usize && are_rising(receipts)
 }
 
 /// Whether each worker's numbers rise.
@@ -136,16 +167,28 @@ fn are_numbered(
     receipts: &[Receipts],
 ) -> Result<bool, AllocError>
     requires { first + length made.now < 2 ^ 64 }
-    ensures { IfOk result (λ b. IsTrue b → IsPermutation (all_of receipts.now) (numbered first (events_of made.now))) }
+    ensures numbered { IfOk result (λ b. IsTrue b ↔ IsPermutation (all_of receipts.now) (numbered first (events_of made.now))) }
+    ensures memory { OnErr result (1 ≤ length (all_of receipts.now)) }
 {
-    let mut all = joined(alloc, receipts)?;
-    all.sort_by_key(|receipt| receipt.number)?;
+    let all = in_order(alloc, receipts)?;
     Ok(are_for(&all, first, made))
 }
 
-/// The receipts of all workers, one worker's behind another's.
+/// The receipts of all workers, in the order of their numbers.
+pub(crate) fn in_order(alloc: Global, receipts: &[Receipts]) -> Result<Vec<Receipt>, AllocError>
+    ensures same { IfOk result (λ all. IsPermutation (all_of receipts.now) all.items) }
+    ensures in_order { IfOk result (λ all. IsNonDecreasingBy (λ receipt. receipt.number) all.items) }
+    ensures memory { OnErr result (1 ≤ length (all_of receipts.now)) }
+{
+    let mut all = joined(alloc, receipts)?;
+    all.sort_by_key(|receipt| receipt.number)?;
+    Ok(all)
+}
+
+/// The receipts of all workers, one worker's after another's.
 fn joined(alloc: Global, receipts: &[Receipts]) -> Result<Vec<Receipt>, AllocError>
-    ensures { IfOk result (λ v. v.items ≡ all_of receipts.now) }
+    ensures all { IfOk result (λ v. v.items ≡ all_of receipts.now) }
+    ensures memory { OnErr result (1 ≤ length (all_of receipts.now)) }
 {
     let mut all = Vec::new(alloc);
     for of_worker in receipts {
@@ -156,7 +199,8 @@ fn joined(alloc: Global, receipts: &[Receipts]) -> Result<Vec<Receipt>, AllocErr
 
 /// Appends copies of these receipts.
 fn push_all(all: &mut Vec<Receipt>, receipts: &[Receipt]) -> Result<(), AllocError>
-    ensures { OnOk result (all.new.items ≡ all.old.items ++ receipts.now) }
+    ensures pushed { OnOk result (all.new.items ≡ all.old.items ++ receipts.now) }
+    ensures memory { OnErr result (1 ≤ length receipts.now) }
 {
     for receipt in receipts {
         all.push(Receipt {
@@ -170,23 +214,29 @@ fn push_all(all: &mut Vec<Receipt>, receipts: &[Receipt]) -> Result<(), AllocErr
 /// Whether the receipts are, one by one, those for these events, with their numbers from `first` on.
 fn are_for(receipts: &[Receipt], first: usize, made: &[Event]) -> bool
     requires { first + length made.now < 2 ^ 64 }
-    ensures { IsTrue result → receipts.now ≡ numbered first (events_of made.now) }
+    ensures { IsTrue result ↔ (receipts.now ≡ numbered first (events_of made.now)) }
 {
     if receipts.len() != made.len() {
         return false;
     }
     for at in 0..made.len() {
-        let receipt = &receipts[at];
-        if receipt.number != first + at || !is_event(receipt.event, &made[at]) {
+        if !is_for(&receipts[at], first + at, &made[at]) {
             return false;
         }
     }
     true
 }
 
+/// Whether a receipt is that for this event, under this number.
+fn is_for(receipt: &Receipt, number: usize, event: &Event) -> bool
+    ensures { IsTrue result ↔ ((receipt.now.number ≡ number) × (event_of event.now ≡ receipt.now.event)) }
+{
+    receipt.number == number && is_event(receipt.event, event)
+}
+
 /// Whether a worker's event is this event.
 fn is_event(made: CoreEvent, event: &Event) -> bool
-    ensures { IsTrue result → event_of event.now ≡ core_event_of made }
+    ensures { IsTrue result ↔ (event_of event.now ≡ core_event_of made) }
 {
     match made {
         CoreEvent::Tick(head, meter) => {
@@ -200,7 +250,7 @@ fn is_event(made: CoreEvent, event: &Event) -> bool
 /// Whether each worker made as many ticks of each link as it should have.
 fn are_dealt(links: &[LinkQueue], rounds: u32, workers: u32, receipts: &[Receipts]) -> bool
     requires { 1 ≤ workers }
-    ensures { IsTrue result → AreDealt (map link_of links.now) rounds workers receipts.now }
+    ensures { IsTrue result ↔ AreDealt (map link_of links.now) rounds workers receipts.now }
 {
     for worker in 0..receipts.len() {
         if !has_its_ticks(links, rounds, workers, worker, &receipts[worker]) {
@@ -219,7 +269,7 @@ fn has_its_ticks(
     receipts: &Receipts,
 ) -> bool
     requires { 1 ≤ workers }
-    ensures { IsTrue result → HasItsTicks (map link_of links.now) rounds workers worker receipts.now }
+    ensures { IsTrue result ↔ HasItsTicks (map link_of links.now) rounds workers worker receipts.now }
 {
     for j in 0..links.len() {
         let its = its_ticks(rounds, workers, worker, j);
@@ -244,14 +294,14 @@ fn its_ticks(rounds: u32, workers: u32, worker: usize, j: usize) -> usize
 
 /// Whether there are so many ticks of a link among these receipts.
 fn has_ticks(link: &LinkQueue, wanted: usize, receipts: &Receipts) -> bool
-    ensures { IsTrue result → ticks_of (link_of link.now).head (link_of link.now).meter receipts.now ≡ wanted }
+    ensures { IsTrue result ↔ (ticks_of (link_of link.now).head (link_of link.now).meter receipts.now ≡ wanted) }
 {
     receipts.ticks(link.head(), link.meter()) == wanted
 }
 
 /// Whether so many rows of all head ends are done.
 fn is_count(board: u64, setup: &Setup, world: &World) -> bool
-    ensures { IsTrue result → board ≡ done_rows setup.now world.now }
+    ensures { IsTrue result ↔ (board ≡ done_rows setup.now world.now) }
 {
     match done_rows(setup, world) {
         Some(done) => done == board,

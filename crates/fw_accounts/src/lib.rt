@@ -4,9 +4,11 @@
 mod accounts;
 mod error;
 mod receipts;
+mod record;
 mod report;
 
 pub use accounts::{LeftByWorkers, account, done_rows};
 pub use error::AccountError;
 pub use receipts::Receipts;
+pub use record::recorded_events;
 pub use report::Report;
