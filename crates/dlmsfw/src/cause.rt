@@ -1,9 +1,10 @@
-//! The cause of a fault, where the fault's name doesn't say it.
+//! The cause of a fault, where the fault's name doesn't say it, and what the fault is about.
 
 ghost use Rattle.std.specs.Prelude.{◌≡◌, ◌≢◌, MatchBool};
+ghost use Rattle.dlmsfw.specs.Places.{place_of};
 
-use fw_cli::Fault;
-use std::net::{Ipv4Addr, Net, UdpSocket};
+use fw_cli::{Fault, MeterOptions};
+use std::net::{Ipv4Addr, Net, SocketAddr, UdpSocket};
 use thiserror::Error;
 
 /// Why no wires could be made. It prints what the user reads after the fault's name.
@@ -39,5 +40,58 @@ fn socket_cause(one_is_bound: bool) -> Cause
         Cause::TooManySockets
     } else {
         Cause::NoLoopback
+    }
+}
+
+/// The address and the files that a meter is started with.
+#[derive(Clone, Copy, Debug)]
+pub(crate) struct MeterPlaces<'a> {
+    listen: SocketAddr,
+    store: &'a str,
+    factory_file: Option<&'a str>,
+}
+
+impl<'a> MeterPlaces<'a> {
+    /// Those of these options.
+    pub(crate) fn of(options: &MeterOptions<'a>) -> MeterPlaces<'a>
+        ensures listen { result.listen ≡ options.now.listen }
+        ensures store { result.store ≡ options.now.store }
+        ensures factory_file { result.factory_file ≡ options.now.fresh.factory_file }
+    {
+        MeterPlaces {
+            listen: options.listen,
+            store: options.store,
+            factory_file: options.fresh.factory_file,
+        }
+    }
+}
+
+/// What a fault of a meter is about.
+#[derive(Clone, Copy, Debug, Error)]
+pub(crate) enum Place<'a> {
+    /// The address that it listens at.
+    #[error("--listen {0}")]
+    Listen(SocketAddr),
+    /// The file that has it.
+    #[error("--store {0}")]
+    Store(&'a str),
+    /// The file of its factory image.
+    #[error("--factory-file {0}")]
+    FactoryFile(&'a str),
+}
+
+/// What a fault of a meter is about, if it is one of these.
+pub(crate) fn place_of<'a>(fault: Fault, places: MeterPlaces<'a>) -> Option<Place<'a>>
+    ensures { result ≡ place_of fault places.entry }
+{
+    match fault {
+        Fault::Socket => Some(Place::Listen(places.listen)),
+        Fault::StoreFault | Fault::Device | Fault::BadFile | Fault::BadHeader | Fault::BadImage =>
+            Some(Place::Store(places.store)),
+        Fault::FactoryFault => match places.factory_file {
+            Some(file) => Some(Place::FactoryFile(file)),
+            None => None,
+        },
+        _ => None,
     }
 }

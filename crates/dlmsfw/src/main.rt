@@ -10,15 +10,17 @@ mod cause;
 mod options;
 mod streams;
 
+use cause::MeterPlaces;
 use clap::error::ErrorKind;
 use fw_cli::{
-    Ended, Fault, run_answer, run_answer_stored, run_live, run_name, run_rehearse, run_replay,
+    Ended, Fault, run_answer, run_answer_stored, run_live, run_meter, run_name, run_rehearse,
+    run_replay,
 };
 use options::Invocation;
 use std::fs::File;
 use std::net::Net;
 use std::process::ExitCode;
-use std::rt::{Env, Files};
+use std::rt::{Clock, Env, Files};
 use std::sync::Wait;
 use std::thread::Threads;
 use std::{env, io};
@@ -34,9 +36,11 @@ const WRONG_COMMAND_LINE: u8 = 2;
 
 /// What ends the program before its work is done.
 #[derive(Drop)]
-enum Ending {
+enum Ending<'a> {
     /// A fault of the command.
     Fault(Fault),
+    /// A fault of a meter with this address and these files.
+    Meter(Fault, MeterPlaces<'a>),
     /// An event of a script was refused, and the command has reported it.
     Refused,
     /// A wrong command line, or one that asks for help or the version.
@@ -47,18 +51,25 @@ enum Ending {
 
 fn main(rt: HostRuntime) -> ExitCode {
     let _closed = streams::stand_ins(&rt);
-    match run(&rt) {
+    let words = match words(&rt) {
+        Ok(words) => words,
+        Err(ending) => return report(&rt, ending),
+    };
+    match run(&rt, &words) {
         Ok(()) => ExitCode::from(GOOD),
         Err(ending) => report(&rt, ending),
     }
 }
 
-/// Runs the command that the command line asks for.
-fn run<R: AllocGlobal + Env + Files<File = File> + Input + Print + Threads + Wait + Net + Sync>(
-    rt: &R,
-) -> Result<(), Ending> {
-    let words = words(rt)?;
-    let invocation = options::parse(rt.alloc(), &words).map_err(Ending::CommandLine)?;
+/// Runs the command that the words of the command line ask for.
+fn run<
+    'a,
+    R: AllocGlobal + Files<File = File> + Clock + Input + Print + Threads + Wait + Net + Sync,
+>(rt: &R, words: &'a [String]) -> Result<(), Ending<'a>> {
+    let invocation = match options::parse(rt.alloc(), words) {
+        Ok(invocation) => invocation,
+        Err(error) => return Err(Ending::CommandLine(error)),
+    };
     let alloc = rt.alloc();
     let reader = &mut rt.reader();
     let writer = &mut io::writer(rt);
@@ -75,12 +86,22 @@ fn run<R: AllocGlobal + Env + Files<File = File> + Input + Print + Threads + Wai
         },
         Invocation::Rehearse(options) => run_rehearse(rt, alloc, reader, writer, &options),
         Invocation::Live(options) => run_live(rt, alloc, reader, writer, &options),
+        Invocation::Meter(options) => {
+            let places = MeterPlaces::of(&options);
+            return match run_meter(rt, alloc, writer, options) {
+                Ok(()) => Ok(()),
+                Err(fault) => Err(Ending::Meter(fault, places)),
+            };
+        }
     };
-    done.map_err(Ending::Fault)
+    match done {
+        Ok(()) => Ok(()),
+        Err(fault) => Err(Ending::Fault(fault)),
+    }
 }
 
 /// The words of the command line, the first of which is the program's name.
-fn words<R: AllocGlobal + Env>(rt: &R) -> Result<Vec<String>, Ending> {
+fn words<R: AllocGlobal + Env>(rt: &R) -> Result<Vec<String>, Ending<'static>> {
     let words = env::args(rt).map_err(|error| match error.kind() {
         io::ErrorKind::OutOfMemory => Ending::Fault(Fault::OutOfMemory),
         _ => Ending::NoText,
@@ -91,11 +112,12 @@ fn words<R: AllocGlobal + Env>(rt: &R) -> Result<Vec<String>, Ending> {
 }
 
 /// Prints why the program ends, and returns its exit status. Where standard error can't be written, the status alone says why.
-fn report(rt: &(impl Print + Eprint + Net), ending: Ending) -> ExitCode
-    ensures { EndsWith ending (exit_status result) }
+fn report(rt: &(impl Print + Eprint + Net), ending: Ending<'_>) -> ExitCode
+    ensures { EndsWith ending.entry (exit_status result) }
 {
     match ending {
         Ending::Fault(fault) => fail(rt, fault),
+        Ending::Meter(fault, places) => fail_at(rt, fault, places),
         Ending::Refused => ExitCode::from(FAULT),
         Ending::CommandLine(error) => report_parse(rt, error),
         Ending::NoText => {
@@ -120,6 +142,17 @@ fn report_parse(rt: &(impl Print + Eprint + Net), error: clap::Error) -> ExitCod
             ExitCode::from(WRONG_COMMAND_LINE)
         }
     }
+}
+
+/// Prints the name of a meter's fault, and on a second line the address or the file that it is about. Returns its exit status.
+fn fail_at(rt: &impl Eprint, fault: Fault, places: MeterPlaces<'_>) -> ExitCode
+    ensures { exit_status result ≡ 1 }
+{
+    let _ = eprintln!(rt; "dlmsfw: {fault}");
+    if let Some(place) = cause::place_of(fault, places) {
+        let _ = eprintln!(rt; "{place}");
+    }
+    ExitCode::from(FAULT)
 }
 
 /// Prints the fault's name, and its cause on a second line where there is more to say. Returns its exit status.

@@ -2,16 +2,18 @@
 
 mod answer;
 mod live;
+mod meter;
 mod name;
 mod rehearse;
 mod replay;
 
 use clap::error::ErrorKind;
-use clap::{Arg, ArgMatches, Command, Error};
+use clap::{Arg, ArgAction, ArgMatches, Command, Error};
 use fw_cli::{
-    AnswerOptions, LiveOptions, NameOptions, RehearseOptions, ReplayOptions, StoredOptions,
+    AnswerOptions, LiveOptions, MeterOptions, NameOptions, RehearseOptions, ReplayOptions,
+    StoredOptions,
 };
-use std::alloc::{AllocError, Global};
+use std::alloc::{AllocError, AllocFailed, Global};
 
 /// A command with its options.
 pub(crate) enum Invocation<'a> {
@@ -21,6 +23,28 @@ pub(crate) enum Invocation<'a> {
     Replay(ReplayOptions<'a>),
     Rehearse(RehearseOptions<'a>),
     Live(LiveOptions),
+    Meter(MeterOptions<'a>),
+}
+
+/// Why the values of options that the parser let pass give no command.
+#[derive(Drop)]
+enum WrongValue<'a> {
+    /// The value of this option is no address with a port.
+    NoAddress { option: &'static str, text: &'a str },
+    /// Memory was refused.
+    OutOfMemory,
+}
+
+impl<'a> From<AllocError> for WrongValue<'a> {
+    fn from(_error: AllocError) -> WrongValue<'a> {
+        WrongValue::OutOfMemory
+    }
+}
+
+impl<'a, T: Drop> From<AllocFailed<T>> for WrongValue<'a> {
+    fn from(_error: AllocFailed<T>) -> WrongValue<'a> {
+        WrongValue::OutOfMemory
+    }
 }
 
 /// What ends a short help.
@@ -49,20 +73,39 @@ Exit status:
 pub(crate) fn parse<'a>(alloc: Global, words: &'a [String]) -> Result<Invocation<'a>, Error> {
     let mut command = dlmsfw(alloc)?;
     let matches = command.try_get_matches_from_mut(words)?;
-    match found(&matches) {
-        Some(invocation) => Ok(invocation),
-        None => Err(command.error(ErrorKind::MissingSubcommand, "no command was given")?),
+    match found(alloc, &matches) {
+        Ok(Some(invocation)) => Ok(invocation),
+        Ok(None) => Err(command.error(ErrorKind::MissingSubcommand, "no command was given")?),
+        Err(WrongValue::NoAddress { option, text }) => {
+            let message = format!(in alloc;
+                "invalid value '{text}' for '--{option} <ADDR:PORT>': it is no address with a port, as 127.0.0.1:4059 or [::1]:4059"
+            )?;
+            Err(command.error(ErrorKind::ValueValidation, &message)?)
+        }
+        Err(WrongValue::OutOfMemory) => Err(Error::from(AllocError)),
     }
 }
 
 /// The command that the parser found, with its options.
-fn found<'a>(matches: &ArgMatches<'a>) -> Option<Invocation<'a>> {
-    match matches.subcommand()? {
-        ("answer", given) => answer::invoked(given),
-        ("name", given) => name::invoked(given),
-        ("replay", given) => Some(Invocation::Replay(replay::options(given)?)),
-        ("rehearse", given) => Some(Invocation::Rehearse(rehearse::options(given)?)),
-        ("live", given) => Some(Invocation::Live(live::options(given)?)),
+fn found<'a>(
+    alloc: Global,
+    matches: &ArgMatches<'a>,
+) -> Result<Option<Invocation<'a>>, WrongValue<'a>> {
+    match matches.subcommand() {
+        Some(("meter", given)) => meter::invoked(alloc, given),
+        Some((name, given)) => Ok(invoked(name, given)),
+        None => Ok(None),
+    }
+}
+
+/// The command of this name with its options, which the parser read whole.
+fn invoked<'a>(name: &str, given: &ArgMatches<'a>) -> Option<Invocation<'a>> {
+    match name {
+        "answer" => answer::invoked(given),
+        "name" => name::invoked(given),
+        "replay" => Some(Invocation::Replay(replay::options(given)?)),
+        "rehearse" => Some(Invocation::Rehearse(rehearse::options(given)?)),
+        "live" => Some(Invocation::Live(live::options(given)?)),
         _ => None,
     }
 }
@@ -74,7 +117,7 @@ fn dlmsfw<'a>(alloc: Global) -> Result<Command<'a>, AllocError> {
         .version("0.1.0")
         .propagate_version(true)
         .about(
-            "COSEM firmware distribution: a meter that answers datagrams, names of images, and scripts of campaigns",
+            "COSEM firmware distribution: meters that answer datagrams, names of images, and scripts of campaigns",
         )
         .after_help(ENDINGS)
         .subcommand_required(true)
@@ -82,10 +125,19 @@ fn dlmsfw<'a>(alloc: Global) -> Result<Command<'a>, AllocError> {
         .subcommand(name::command(alloc)?)?
         .subcommand(replay::command(alloc)?)?
         .subcommand(rehearse::command(alloc)?)?
-        .subcommand(live::command(alloc)?)
+        .subcommand(live::command(alloc)?)?
+        .subcommand(meter::command(alloc)?)
 }
 
 /// An option with a value.
 fn option<'a>(alloc: Global, name: &'a str, value_name: &'a str) -> Arg<'a> {
     Arg::new(alloc, name).long(name).value_name(value_name)
+}
+
+/// The option that asks for a trace.
+fn trace<'a>(alloc: Global) -> Arg<'a> {
+    Arg::new(alloc, "trace")
+        .long("trace")
+        .action(ArgAction::SetTrue)
+        .help("Tells each datagram that was sent before the report, in a line")
 }

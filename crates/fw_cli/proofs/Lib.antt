@@ -1,14 +1,17 @@
+pub mod Courses
 pub mod Described
 pub mod DigitLemmas
 pub mod Digits
 pub mod FateLetters
 pub mod Floatless
 pub mod Honest
+pub mod Late
 pub mod LineLemmas
 pub mod NewStores
 pub mod OneAnswer
 pub mod OneScript
 pub mod OneTrace
+pub mod Reasons
 pub mod Rehearsed
 pub mod Traces
 pub mod Turns

@@ -15,7 +15,9 @@ use Rattle.fw_cli.specs.declared.saying.Brief.{Brief}
 use Rattle.fw_cli.specs.declared.saying.Saying.{Saying}
 use Rattle.fw_cli.specs.declared.saying.Saying.TheVariants as saying
 use Rattle.fw_cli.specs.declared.saying.Title.{Title}
-use Rattle.fw_cli.specs.Trace.{title_of, NamesImage, initiate_saying, SaysAsk, octets_brief, IsBrief, SaysAnswer, Carries, SaysCarried, Says, line_of, TracesFrom}
+use Rattle.fw_cli.specs.declared.trace.Note.{Note}
+use Rattle.fw_cli.specs.Saying.{title_of, NamesImage, initiate_saying, SaysAsk, octets_brief, IsBrief, SaysAnswer, Carries, SaysCarried, Says}
+use Rattle.fw_cli.specs.Trace.{line_of, TracesFrom}
 
 one_title : OneName → (bytes : List ℕ) (a b : Option Title) → NamesImage bytes a → NamesImage bytes b → a ≡ b
 one_title one bytes None None h k = refl
@@ -73,10 +75,10 @@ one_said frame name request response ToMeter bytes s t h k =
     one_saying frame SpellsRequest (λ content. SaysAsk (length bytes) (meaning_of content)) request (λ content. one_ask name (length bytes) (meaning_of content)) bytes s t h k
 one_said frame name request response ToHead bytes s t h k = one_saying frame SpellsResponse SaysAnswer response (one_answer name) bytes s t h k
 
-pub one_trace : OneFrame → OneName → OneRequest → OneResponse → (number : ℕ) (sent : List Datagram) (text other : List ℕ) → TracesFrom number sent text → TracesFrom number sent other
-    → text ≡ other
-one_trace frame name request response number [] text other h k = h ∙ sym k
-one_trace frame name request response number (d ∷ sent) text other (s, rest, says, traces, is) (t, more, tells, goes, same) =
+pub one_trace : OneFrame → OneName → OneRequest → OneResponse → (notes : ℕ → Note) (number : ℕ) (sent : List Datagram) (text other : List ℕ)
+    → TracesFrom notes number sent text → TracesFrom notes number sent other → text ≡ other
+one_trace frame name request response notes number [] text other h k = h ∙ sym k
+one_trace frame name request response notes number (d ∷ sent) text other (s, rest, says, traces, is) (t, more, tells, goes, same) =
     let said : s ≡ t = one_said frame name request response d.direction d.bytes s t says tells in
-    let later : rest ≡ more = one_trace frame name request response (number + 1) sent rest more traces goes in
-    is ∙ ap (λ (x : Saying). line_of number d x ++ rest) said ∙ ap (λ (x : List ℕ). line_of number d t ++ x) later ∙ sym same
+    let later : rest ≡ more = one_trace frame name request response notes (number + 1) sent rest more traces goes in
+    is ∙ ap (λ (x : Saying). line_of number d x (notes number) ++ rest) said ∙ ap (λ (x : List ℕ). line_of number d t (notes number) ++ x) later ∙ sym same

@@ -1,25 +1,67 @@
 -- What a command of workers did, from what it read, told and wrote.
-use Rattle.std.proofs.Common.{ℕ, List, inr}
+use Rattle.std.proofs.Common.{◌≡◌, ℕ, Bool, true, false, List, [], ◌++◌, inr, refl, ap, ◌∙◌, append_assoc}
 use Rattle.std.specs.Prelude.{Option}
 use Rattle.std.specs.Io.KnownBytes.{Appends}
 use Rattle.fw_world.specs.declared.event.Event.{Event as Given}
 use Rattle.fw_world.specs.declared.setup.Setup.{Setup}
+use Rattle.fw_world.specs.Runs.{events_of}
 use Rattle.fw_world.specs.Setup.{IsSetup}
+use Rattle.fw_world.specs.State.{State}
+use Rattle.fw_world.specs.Step.{Event}
+use Rattle.fw_accounts.specs.Accounts.{IsAccounted}
+use Rattle.fw_air.specs.Events.{Receipt}
 use Rattle.fw_workers.specs.Refusals.{IsBarred}
-use Rattle.fw_cli.specs.Rehearsing.{AreWorkers, IsBarredIn, ReadsScript, TellsRehearsal, WritesRehearsal}
+use Rattle.fw_cli.specs.Rehearsing.{AreWorkers, IsBarredIn, ReadsScript, TellsOfWorkers, TellsRehearsal, TracesWorkers, WritesRehearsal}
 use Rattle.fw_cli.specs.Replaying.{MakesNone, MayWantFor, ReadsOne}
+use Rattle.fw_cli.specs.Report.{report_of, board_line}
 
 -- what was told of a script that was read was written
-pub writes : (rounds workers : ℕ) (before after first last : Option (List ℕ)) (setup : Setup) (events : List Given) (text : List ℕ)
-    → ReadsScript before after setup events → TellsRehearsal rounds workers setup events text → Appends first last text
-    → WritesRehearsal rounds workers before after first last
-writes rounds workers before after first last setup events text read tells written =
+pub writes : (trace : Bool) (rounds workers : ℕ) (before after first last : Option (List ℕ)) (setup : Setup) (events : List Given) (text : List ℕ)
+    → ReadsScript before after setup events → TellsRehearsal trace rounds workers setup events text → Appends first last text
+    → WritesRehearsal trace rounds workers before after first last
+writes trace rounds workers before after first last setup events text read tells written =
     record {
       input = read.input;
       text = text;
       read = read.read;
       rehearses = record { setup = setup; events = events; spelled = read.spelled; tells = tells };
       written = written;
+    }
+
+-- a trace, and after it the report and the line of the board
+pub with_trace : (setup : Setup) (given : List Event) (world : State) (board : ℕ) (receipts : List (List Receipt)) (first traced reported text : List ℕ)
+    → first ≡ [] → TracesWorkers setup given world receipts first traced → reported ≡ traced ++ report_of setup world → text ≡ reported ++ board_line board
+    → TellsOfWorkers true setup given world board receipts text
+with_trace setup given world board receipts first traced reported text none traces report line = λ events numbered.
+    let found = traces events numbered in
+    let lines = found.0 in
+    let begins : traced ≡ lines = found.2 ∙ ap (λ (l : List ℕ). l ++ lines) none in
+    (lines, found.1, line ∙ ap (λ (l : List ℕ). l ++ board_line board) (report ∙ ap (λ (l : List ℕ). l ++ report_of setup world) begins) ∙ append_assoc lines (report_of setup world) (board_line board))
+
+-- no trace
+pub without_trace : (setup : Setup) (given : List Event) (world : State) (board : ℕ) (receipts : List (List Receipt)) (first reported text : List ℕ)
+    → first ≡ [] → reported ≡ first ++ report_of setup world → text ≡ reported ++ board_line board
+    → TellsOfWorkers false setup given world board receipts text
+without_trace setup given world board receipts first reported text none report line = λ events numbered. (
+  [],
+  refl,
+  line ∙ ap (λ (l : List ℕ). l ++ board_line board) (report ∙ ap (λ (l : List ℕ). l ++ report_of setup world) none),
+)
+
+-- what is told of workers who are accounted for tells of a rehearsal
+pub tells : (trace : Bool) (rounds workers : ℕ) (setup : Setup) (events : List Given) (world : State) (board : ℕ) (receipts : List (List Receipt)) (text : List ℕ)
+    → IsAccounted setup (events_of events) rounds workers world board receipts → TellsOfWorkers trace setup (events_of events) world board receipts text
+    → TellsRehearsal trace rounds workers setup events text
+tells trace rounds workers setup events world board receipts text accounted told =
+    let found = told accounted.events accounted.numbered_are in
+    record {
+      world = world;
+      board = board;
+      receipts = receipts;
+      accounted = accounted;
+      lines = found.0;
+      traced = found.1;
+      told = found.2;
     }
 
 -- of the script that was read no world can be made

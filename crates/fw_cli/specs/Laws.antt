@@ -3,6 +3,8 @@ use Rattle.std.specs.Prelude.{◌≡◌, ◌≢◌, ℕ, List, [], ◌∷◌, �
 use Rattle.fw_image.specs.Meter.{Meter}
 use Rattle.fw_world.specs.World.{Datagram}
 use Rattle.fw_cli.specs.declared.answer.AnswerOptions.{AnswerOptions}
+use Rattle.fw_cli.specs.declared.course.Course.{Course}
+use Rattle.fw_cli.specs.declared.reason.Reason.{Reason}
 use Rattle.fw_cli.specs.Lines.{lines_of}
 use Rattle.fw_cli.specs.Options.{Describes}
 use Rattle.fw_cli.specs.Session.{AnswersLine, Session}
@@ -37,6 +39,7 @@ pub record OneScript : Type 0 where
   pub never_both : (input : List ℕ) (script : Script) (number : ℕ) → SpellsScript input script → IsBadLine input number → ⊥
   pub one_bad_line : (input : List ℕ) (number other : ℕ) → IsBadLine input number → IsBadLine input other → number ≡ other
 
--- What was sent has one trace.
+-- What was sent has one trace, by what the network did with it and why initiates were refused.
 abbrev pub OneTrace : Type 0
-OneTrace = (sent : List Datagram) (text other : List ℕ) → IsTrace sent text → IsTrace sent other → text ≡ other
+OneTrace = (courses : List Course) (reasons : List (Option Reason)) (sent : List Datagram) (text other : List ℕ)
+    → IsTrace courses reasons sent text → IsTrace courses reasons sent other → text ≡ other

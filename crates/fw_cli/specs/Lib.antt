@@ -15,9 +15,13 @@ pub mod Summary
 pub mod Table
 pub mod Json
 pub mod Forms
+pub mod Saying
+pub mod Reason
+pub mod Course
 pub mod Trace
 pub mod Replaying
 pub mod Rehearsing
+pub mod Meters
 pub mod Laws
 -- For private clauses alone: no public clause cites it.
 pub mod Inside

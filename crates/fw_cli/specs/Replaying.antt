@@ -1,6 +1,6 @@
 -- Public vocabulary: what the command `replay` tells of a script, and what it does to its reader and its writer, where the bytes that these
 -- hold are known: what the reader has left before and after, and what the writer holds at first and at last.
-use Rattle.std.specs.Prelude.{◌≡◌, ◌≢◌, ◌≤◌, ◌⊎◌, ℕ, Bool, true, false, List, [], ◌++◌, Option, Some, None}
+use Rattle.std.specs.Prelude.{◌≡◌, ◌≢◌, ◌≤◌, ◌⊎◌, ℕ, Bool, true, false, List, [], ◌++◌, take, Option, Some, None}
 use Rattle.std.specs.Option.{option_map}
 use Rattle.std.specs.Io.KnownBytes.{Appends, Keeps}
 use Rattle.fw_world.specs.declared.error.SetupError.TheVariants as unmade
@@ -24,26 +24,26 @@ use Rattle.fw_cli.specs.declared.replay.Rounds.{Rounds}
 use Rattle.fw_cli.specs.Fates.{SpellsSome}
 use Rattle.fw_cli.specs.Reading.{Gives, ReadsAll, max_input}
 use Rattle.fw_cli.specs.Forms.{report_in}
-use Rattle.fw_cli.specs.Trace.{IsTrace}
+use Rattle.fw_cli.specs.Trace.{TellsTrace}
 use Rattle.fw_cli.specs.Script.{SpellsScript, BeginsScript, script_of}
 
 -- ---- what is written
 
 -- the trace of what was sent, where it is asked for
-abbrev pub IsTraceIf : Bool → List Datagram → List ℕ → Type 0
-IsTraceIf true sent text = IsTrace sent text
-IsTraceIf false sent text = text ≡ []
+abbrev pub TellsTraceIf : Bool → Setup → List Event → List Datagram → List ℕ → Type 0
+TellsTraceIf true setup events sent text = TellsTrace setup events sent text
+TellsTraceIf false setup events sent text = text ≡ []
 
--- the report of a world after that, with the event that was refused there
-abbrev pub TellsWorld : Style → Setup → State → Option Refusal → List ℕ → Type 0
-TellsWorld style setup world refusal text =
-    (trace : List ℕ) × IsTraceIf style.trace world.sent trace × (text ≡ trace ++ report_in style.report setup world refusal)
+-- the report of a world after these events, with the one that was refused there
+abbrev pub TellsWorld : Style → Setup → List Event → State → Option Refusal → List ℕ → Type 0
+TellsWorld style setup events world refusal text =
+    (trace : List ℕ) × TellsTraceIf style.trace setup events world.sent trace × (text ≡ trace ++ report_in style.report setup world refusal)
 
 -- what is written of the world there, where the run isn't out of memory
-abbrev pub TellsRefusal : Style → Setup → RunError → List ℕ → Type 0
-TellsRefusal style setup (stopped.Setup error) text = ⊥
-TellsRefusal style setup (stopped.Event at world cause) text =
-    (cause ≢ OutOfMemory) × TellsWorld style setup world (Some (record { at = at; cause = cause })) text
+abbrev pub TellsRefusal : Style → Setup → List Given → RunError → List ℕ → Type 0
+TellsRefusal style setup events (stopped.Setup error) text = ⊥
+TellsRefusal style setup events (stopped.Event at world cause) text =
+    (cause ≢ OutOfMemory) × TellsWorld style setup (events_of (take at events)) world (Some (record { at = at; cause = cause })) text
 
 -- memory was wanted
 abbrev pub WantsMemory : RunError → Type 0
@@ -65,13 +65,13 @@ GoesOn (Some rounds) setup given events = Schedules setup given rounds events �
 pub record RunsWhole (style : Style) (setup : Setup) (events : List Given) (text : List ℕ) : Type 0 where
   pub world : State
   pub run : StateRun (opening_state setup) (events_of events) world
-  pub told : TellsWorld style setup world None text
+  pub told : TellsWorld style setup (events_of events) world None text
 
 -- An event is refused, and the text tells so.
 pub record IsRefusedIn (style : Style) (setup : Setup) (events : List Given) (text : List ℕ) : Type 0 where
   pub error : RunError
   pub stopped : IsStopped setup events error
-  pub told : TellsRefusal style setup error text
+  pub told : TellsRefusal style setup events error text
 
 abbrev pub EndsSo : Ended → Style → Setup → List Given → List ℕ → Type 0
 EndsSo Whole style setup events text = RunsWhole style setup events text

@@ -34,6 +34,9 @@ pub enum Fault {
     /// An image in a store, which runs or is verified, hasn't the digest of its name.
     #[error("BadImage")]
     BadImage,
+    /// The file of a factory image can't be opened or read.
+    #[error("FactoryFault")]
+    FactoryFault,
     /// The reader failed, or came to no end within 2^32 reads.
     #[error("Input")]
     Input,
@@ -58,7 +61,7 @@ pub enum Fault {
     /// A thread for a worker of a rehearsal could not be started.
     #[error("ThreadRefused")]
     ThreadRefused,
-    /// No socket could be bound for the wires of a live rollout.
+    /// No socket could be bound for the wires of a live rollout, or at the address of a meter.
     #[error("Socket")]
     Socket,
     /// A worker was not let pass.

@@ -2,6 +2,7 @@
 #![tactic(auto)]
 
 mod answer;
+mod course;
 mod fates;
 mod fault;
 mod forms;
@@ -12,9 +13,13 @@ mod json;
 pub mod laws;
 mod lines;
 mod live;
+mod meter;
+mod meter_lines;
+mod meter_store;
 mod name;
 mod output;
 mod reads;
+mod reason;
 mod refusal;
 mod rehearse;
 mod replay;
@@ -33,6 +38,8 @@ pub use answer::{AnswerOptions, run_answer};
 pub use fault::Fault;
 pub use forms::{ReportForm, Style};
 pub use live::{LiveOptions, run_live};
+pub use meter::{MeterOptions, run_meter};
+pub use meter_store::NewMeter;
 pub use name::{NameOptions, run_name};
 pub use rehearse::{RehearseOptions, run_rehearse};
 pub use replay::{Ended, ReplayOptions, Rounds, run_replay};

@@ -8,7 +8,7 @@ ghost use Rattle.fw_cli.specs.Faults.{IsOfLive, IsOfLiveWorkers};
 ghost use Rattle.fw_cli.specs.Reading.{ReadsUntil};
 ghost use Rattle.fw_cli.specs.Script.{IsBadLine};
 ghost use Rattle.fw_cli.specs.Replaying.{MakesNone, MayWantFor, ReadsOne};
-ghost use Rattle.fw_cli.specs.Rehearsing.{AreWorkers, IsBarredIn, TellsRehearsal, WritesRehearsal};
+ghost use Rattle.fw_cli.specs.Rehearsing.{AreWorkers, IsBarredIn, RunsLive, TellsRehearsal};
 
 use crate::fault::Fault;
 use crate::output::write_text;
@@ -29,10 +29,13 @@ pub struct LiveOptions {
     pub rounds: u32,
     /// How many workers there are, 1 to 8, each in a thread of its own, and with another for its sockets.
     pub workers: u32,
+    /// Whether a line for each datagram that was sent stands before the report.
+    pub trace: bool,
 }
 
 /// Runs the script that the reader has, and lets workers make rounds over UDP sockets on this machine after its events. The writer gets
-/// the report of the world at the end, and the line `board N` with the number of rows that the workers counted as done.
+/// the report of the world at the end, and the line `board N` with the number of rows that the workers counted as done, and before them
+/// the trace, where it is asked for, as of `run_rehearse`.
 ///
 /// All input is read before anything is written, and what is written is flushed.
 ///
@@ -49,7 +52,7 @@ pub fn run_live<T: Threads + Wait + Net + Sync, R: Read, W: Write>(
     options: &LiveOptions,
 ) -> Result<(), Fault>
     // The report of the world at the end of an accounted run, and its board.
-    ensures ok { OnOk result (WritesRehearsal options.now.rounds options.now.workers (R.remaining reader.old) (R.remaining reader.new)
+    ensures ok { OnOk result (RunsLive options.now (R.remaining reader.old) (R.remaining reader.new)
         (W.contents writer.old) (W.contents writer.new)) }
 
     ensures workers { OnOk result (AreWorkers options.now.workers) }
@@ -75,7 +78,7 @@ pub fn run_live<T: Threads + Wait + Net + Sync, R: Read, W: Write>(
     write_text(writer, text.as_str())
 }
 
-/// What is written of a live rollout: the report of its world, and the line of its board.
+/// What is written of a live rollout: its trace, where it is asked for, the report of its world, and the line of its board.
 fn tell_live<T: Threads + Wait + Net + Sync>(
     rt: &T,
     alloc: Global,
@@ -83,14 +86,18 @@ fn tell_live<T: Threads + Wait + Net + Sync>(
     events: &[Event],
     options: &LiveOptions,
 ) -> Result<String, Fault>
-    ensures ok { IfOk result (λ text. TellsRehearsal options.now.rounds options.now.workers setup.now events.now (string_bytes text)) }
+    ensures ok { IfOk result (λ text. TellsRehearsal options.now.trace options.now.rounds options.now.workers setup.now events.now (string_bytes text)) }
     ensures workers { OnOk result (AreWorkers options.now.workers) }
     ensures bad_setup { result ≡ Err Fault.BadSetup → AreWorkers options.now.workers → ¬ IsSetup setup.now }
     ensures event { result ≡ Err Fault.Event → (number : ℕ) × IsBarred setup.now events.now number }
     ensures memory { result ≡ Err Fault.OutOfMemory → IsSetup setup.now }
     ensures only { IfErr result IsOfLiveWorkers }
 {
-    let LiveOptions { rounds, workers } = *options;
+    let LiveOptions {
+        rounds,
+        workers,
+        trace,
+    } = *options;
     let report = live(rt, alloc, setup, events, rounds, workers, &OpenGate)?;
-    Ok(tell_report(alloc, setup, &report)?)
+    Ok(tell_report(alloc, setup, events, &report, trace)?)
 }

@@ -41,10 +41,13 @@ pub struct RehearseOptions<'a> {
     pub rounds: Rounds<'a>,
     /// How many workers there are, 1 to 8, each in a thread of its own.
     pub workers: u32,
+    /// Whether a line for each datagram that was sent stands before the report.
+    pub trace: bool,
 }
 
 /// Runs the script that the reader has, and lets workers make rounds after its events. The writer gets the report of the world at the
-/// end, and the line `board N` with the number of rows that the workers counted as done.
+/// end, and the line `board N` with the number of rows that the workers counted as done. A trace, where it is asked for, stands before
+/// the report, as that of `run_replay`: its datagrams have the order in which the workers' events were recorded.
 ///
 /// All input is read before anything is written, and what is written is flushed.
 ///
@@ -96,7 +99,15 @@ pub fn run_rehearse<T: Threads + Wait + Sync, R: Read, W: Write>(
     ensures silent { IfErr result (λ f. f ≢ Fault.Output → Keeps (W.contents writer.old) (W.contents writer.new)) }
 {
     let air = air_of(alloc, &options.rounds)?;
-    rehearse_from(rt, alloc, reader, writer, &air, options.workers)
+    rehearse_from(
+        rt,
+        alloc,
+        reader,
+        writer,
+        &air,
+        options.workers,
+        options.trace,
+    )
 }
 
 /// Rehearses the script that the reader has, and writes the report of it.
@@ -107,9 +118,10 @@ fn rehearse_from<T: Threads + Wait + Sync, R: Read, W: Write>(
     writer: &mut W,
     air: &Air,
     workers: u32,
+    trace: bool,
 ) -> Result<(), Fault>
     requires fates { IsFates air.now.fates.items }
-    ensures ok { OnOk result (WritesRehearsal air.now.rounds workers (R.remaining reader.old) (R.remaining reader.new)
+    ensures ok { OnOk result (WritesRehearsal trace air.now.rounds workers (R.remaining reader.old) (R.remaining reader.new)
         (W.contents writer.old) (W.contents writer.new)) }
     ensures workers { OnOk result (AreWorkers workers) }
     ensures not_fates { result ≢ Err Fault.BadFates }
@@ -124,11 +136,11 @@ fn rehearse_from<T: Threads + Wait + Sync, R: Read, W: Write>(
     ensures silent { IfErr result (λ f. f ≢ Fault.Output → Keeps (W.contents writer.old) (W.contents writer.new)) }
 {
     let Script { setup, events } = script_from(alloc, reader)?;
-    let text = tell_rehearsal(rt, alloc, &setup, &events, air, workers)?;
+    let text = tell_rehearsal(rt, alloc, &setup, &events, air, workers, trace)?;
     write_text(writer, text.as_str())
 }
 
-/// What is written of a rehearsal: the report of its world, and the line of its board.
+/// What is written of a rehearsal: its trace, where it is asked for, the report of its world, and the line of its board.
 fn tell_rehearsal<T: Threads + Wait + Sync>(
     rt: &T,
     alloc: Global,
@@ -136,9 +148,10 @@ fn tell_rehearsal<T: Threads + Wait + Sync>(
     events: &[Event],
     air: &Air,
     workers: u32,
+    trace: bool,
 ) -> Result<String, Fault>
     requires fates { IsFates air.now.fates.items }
-    ensures ok { IfOk result (λ text. TellsRehearsal air.now.rounds workers setup.now events.now (string_bytes text)) }
+    ensures ok { IfOk result (λ text. TellsRehearsal trace air.now.rounds workers setup.now events.now (string_bytes text)) }
     ensures workers { OnOk result (AreWorkers workers) }
     ensures bad_setup { result ≡ Err Fault.BadSetup → AreWorkers workers → ¬ IsSetup setup.now }
     ensures event { result ≡ Err Fault.Event → (number : ℕ) × IsBarred setup.now events.now number }
@@ -151,5 +164,5 @@ fn tell_rehearsal<T: Threads + Wait + Sync>(
     let report = rehearse(
         rt, alloc, setup, events, air.rounds, workers, &fates, &OpenGate,
     )?;
-    Ok(tell_report(alloc, setup, &report)?)
+    Ok(tell_report(alloc, setup, events, &report, trace)?)
 }

@@ -19,9 +19,10 @@ ghost use Rattle.std.specs.Prelude.{
   string_bytes,
 };
 ghost use Rattle.std.specs.Io.KnownBytes.{Keeps};
-ghost use Rattle.fw_world.specs.Runs.{events_of};
+ghost use Rattle.fw_world.specs.Runs.{IsStopped, events_of};
 ghost use Rattle.fw_world.specs.Setup.{IsSetup};
 ghost use Rattle.fw_air.specs.Fates.{IsFates};
+ghost use Rattle.fw_air.specs.Schedules.{IsOfWorld};
 ghost use Rattle.fw_cli.specs.Fates.{SpellsSome};
 ghost use Rattle.fw_cli.specs.Faults.{IsOfReplay};
 ghost use Rattle.fw_cli.specs.Reading.{ReadsUntil, max_input};
@@ -52,7 +53,7 @@ use crate::output::write_text;
 use crate::reads::Reads;
 use crate::refusal::Refusal;
 use crate::script::{Script, read_script};
-use crate::trace::append_trace;
+use crate::trace::append_trace_of;
 use fw_air::{Fate, Fates, schedule};
 use fw_world::{Event, RunError, Setup, SetupError, StepError, World, run};
 use std::alloc::{AllocError, Global};
@@ -258,9 +259,9 @@ fn tell_run(alloc: Global, setup: &Setup, events: &[Event], style: Style) -> Res
     match run(alloc, setup, events) {
         Ok(world) => Ok(Told {
             ended: Ended::Whole,
-            text: tell_world(alloc, setup, &world, style, None)?,
+            text: tell_world(alloc, setup, events, &world, style, None)?,
         }),
-        Err(error) => tell_refusal(alloc, setup, error, style),
+        Err(error) => tell_refusal(alloc, setup, events, error, style),
     }
 }
 
@@ -268,23 +269,33 @@ fn tell_run(alloc: Global, setup: &Setup, events: &[Event], style: Style) -> Res
 fn tell_world(
     alloc: Global,
     setup: &Setup,
+    events: &[Event],
     world: &World,
     style: Style,
     refusal: Option<Refusal>,
 ) -> Result<String, AllocError>
-    ensures { IfOk result (λ text. TellsWorld style setup.now world.now refusal (string_bytes text)) }
+    requires { IsSetup setup.now }
+    ensures { IfOk result (λ text. TellsWorld style setup.now (events_of events.now) world.now refusal (string_bytes text)) }
 {
     let mut text = String::new(alloc);
     if style.trace {
-        append_trace(alloc, &mut text, world.sent())?;
+        append_trace_of(alloc, &mut text, setup, events, world.sent())?;
     }
     append_report_in(alloc, &mut text, setup, world, style.report, refusal)?;
     Ok(text)
 }
 
 /// What is written of a run that ended early.
-fn tell_refusal(alloc: Global, setup: &Setup, error: RunError, style: Style) -> Result<Told, Fault>
-    ensures ok { IfOk result (λ told. (told.ended ≡ Ended.Refused) × TellsRefusal style setup.now error (string_bytes told.text)) }
+fn tell_refusal(
+    alloc: Global,
+    setup: &Setup,
+    events: &[Event],
+    error: RunError,
+    style: Style,
+) -> Result<Told, Fault>
+    requires stopped { IsStopped setup.now events.now error }
+    requires made { IsOfWorld setup.now error }
+    ensures ok { IfOk result (λ told. (told.ended ≡ Ended.Refused) × TellsRefusal style setup.now events.now error (string_bytes told.text)) }
     ensures bad_setup { result ≡ Err Fault.BadSetup → error ≡ RunError.Setup SetupError.BadSetup }
     ensures memory { result ≡ Err Fault.OutOfMemory → error ≢ RunError.Setup SetupError.BadSetup }
     ensures only { IfErr result (λ f. (f ≡ Fault.OutOfMemory) ⊎ (f ≡ Fault.BadSetup)) }
@@ -300,7 +311,7 @@ fn tell_refusal(alloc: Global, setup: &Setup, error: RunError, style: Style) -> 
             let refusal = Some(Refusal { at, cause });
             Ok(Told {
                 ended: Ended::Refused,
-                text: tell_world(alloc, setup, &world, style, refusal)?,
+                text: tell_world(alloc, setup, &events[..at], &world, style, refusal)?,
             })
         }
     }

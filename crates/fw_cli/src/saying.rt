@@ -8,7 +8,7 @@ ghost use Rattle.fw_apdu.specs.Response.{SpellsResponse};
 ghost use Rattle.fw_apdu.specs.View.{response_content};
 ghost use Rattle.fw_server.specs.Meaning.{meaning_of};
 ghost use Rattle.fw_server.specs.View.{planned_meaning, operation_meaning};
-ghost use Rattle.fw_cli.specs.Trace.{Says, SaysCarried, SaysAsk, SaysAnswer, IsBrief, NamesImage};
+ghost use Rattle.fw_cli.specs.Saying.{Says, SaysCarried, SaysAsk, SaysAnswer, IsBrief, NamesImage};
 
 use fw_apdu::{ApduError, GetDataResult, Response, read_request, read_response};
 use fw_axdr::Data;
@@ -84,7 +84,7 @@ pub(crate) fn saying_of(alloc: Global, datagram: &Datagram) -> Result<Saying, Al
 }
 
 /// What a datagram to a meter says.
-fn asked(alloc: Global, bytes: &[u8]) -> Result<Saying, AllocError>
+pub(crate) fn asked(alloc: Global, bytes: &[u8]) -> Result<Saying, AllocError>
     ensures { IfOk result (SaysCarried SpellsRequest (λ content. SaysAsk (length bytes.now) (meaning_of content)) bytes.now) }
 {
     let Ok(frame) = split(bytes) else {

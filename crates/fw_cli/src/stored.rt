@@ -95,7 +95,7 @@ fn set_up<F: Files<File = File>>(
 }
 
 /// The meter that a store holds, whose header is one of version 2 from then on.
-fn opened<S: ImageStore + Drop>(store: S) -> Result<MeterCore<S>, Fault>
+pub(crate) fn opened<S: ImageStore + Drop>(store: S) -> Result<MeterCore<S>, Fault>
     ensures opened { IfOk result (λ meter. Opens S.honest S.capacity S.fuse S.device store meter) }
     ensures begins { IfOk result (λ meter. restarted meter.meter ≡ meter.meter) }
     ensures faultless { IfOk result (λ meter. meter.faults ≡ S.faults store) }
@@ -127,7 +127,7 @@ fn open_or_make<F: Files<File = File>>(
 }
 
 /// Whether no file is there. Where it can't be looked for, one may be there.
-fn is_absent<F: Files<File = File>>(rt: &F, path: &str) -> bool {
+pub(crate) fn is_absent<F: Files<File = File>>(rt: &F, path: &str) -> bool {
     matches!(fs::exists(rt, path), Ok(false))
 }
 

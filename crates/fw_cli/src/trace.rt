@@ -1,39 +1,88 @@
-//! The trace of a run: a line for each datagram that was sent.
+//! The trace of a run: a line for each datagram that was sent, and what became of it.
 
-ghost use Rattle.std.specs.Prelude.{◌≡◌, ◌++◌, ℕ, List, OnOk, string_bytes};
-ghost use Rattle.fw_cli.specs.Trace.{
-  IsTrace,
-  Says,
-  line_of,
-  ends_words,
-  kind_of,
-  number_of,
-  saying_words,
-  brief_words,
-  release_words,
-  title_words,
-  attribute_name,
-};
+ghost use Rattle.std.specs.Prelude.{◌≡◌, ◌<◌, ◌++◌, ℕ, List, codes, length, OnOk, string_bytes};
+ghost use Rattle.fw_world.specs.Runs.{events_of};
+ghost use Rattle.fw_world.specs.Setup.{IsSetup};
+ghost use Rattle.fw_cli.specs.Course.{course_words};
+ghost use Rattle.fw_cli.specs.Reason.{reason_at, reason_words};
+ghost use Rattle.fw_cli.specs.Saying.{Says};
+ghost use Rattle.fw_cli.specs.Trace.{TellsTrace, IsTrace, line_of, note_of, ends_words, kind_of, number_of, saying_words, brief_words, release_words, title_words, attribute_name};
 ghost use Rattle.fw_cli.specs.declared.saying.Saying.{Saying};
 
+use crate::course::{Course, append_course, courses_of};
+use crate::reason::{Reason, append_reason, reason_told, reasons_of};
 use crate::report::head_number;
 use crate::saying::{Brief, Saying, Title, saying_of};
 use fw_server::Reading;
-use fw_world::{Actor, Datagram};
+use fw_world::{Actor, Datagram, Event, Setup};
 use std::alloc::{AllocError, Global};
 
-/// Appends the trace of what was sent: for each datagram, by its number from 0 on, who sent it to whom, and what it says.
-pub(crate) fn append_trace(
+/// What is known of a datagram beside what it says.
+#[derive(Clone, Copy, Debug)]
+pub(crate) struct Note {
+    /// Why an initiate that it answers could not be.
+    pub(crate) reason: Option<Reason>,
+    /// What the network did with it.
+    pub(crate) course: Course,
+}
+
+/// Appends the trace of what was sent in a run of these events.
+pub(crate) fn append_trace_of(
+    alloc: Global,
+    text: &mut String,
+    setup: &Setup,
+    events: &[Event],
+    sent: &[Datagram],
+) -> Result<(), AllocError>
+    requires { IsSetup setup.now }
+    ensures { OnOk result ((trace : List ℕ) × TellsTrace setup.now (events_of events.now) sent.now trace
+        × (string_bytes text.new ≡ string_bytes text.old ++ trace)) }
+{
+    let courses = courses_of(alloc, events, sent.len())?;
+    let reasons = reasons_of(alloc, setup, events)?;
+    append_trace(alloc, text, sent, &courses, &reasons)
+}
+
+/// Appends the trace of what was sent: for each datagram, by its number from 0 on, who sent it to whom, what it says, and what is known
+/// of it beside that.
+fn append_trace(
     alloc: Global,
     text: &mut String,
     sent: &[Datagram],
+    courses: &[Course],
+    reasons: &[Option<Reason>],
 ) -> Result<(), AllocError>
-    ensures { OnOk result ((trace : List ℕ) × IsTrace sent.now trace × (string_bytes text.new ≡ string_bytes text.old ++ trace)) }
+    requires { length courses.now ≡ length sent.now }
+    ensures { OnOk result ((trace : List ℕ) × IsTrace courses.now reasons.now sent.now trace
+        × (string_bytes text.new ≡ string_bytes text.old ++ trace)) }
 {
     for number in 0..sent.len() {
-        append_line(alloc, text, number, &sent[number])?;
+        let note = note_at(courses, reasons, number);
+        append_line(alloc, text, number, &sent[number], note)?;
     }
     Ok(())
+}
+
+/// What is known of the datagram of this number beside what it says.
+fn note_at(courses: &[Course], reasons: &[Option<Reason>], number: usize) -> Note
+    requires { number < length courses.now }
+    ensures { result ≡ note_of courses.now reasons.now number }
+{
+    Note {
+        reason: reason_at(reasons, number),
+        course: courses[number],
+    }
+}
+
+/// Why an initiate could not be that the datagram of this number answers.
+fn reason_at(reasons: &[Option<Reason>], number: usize) -> Option<Reason>
+    ensures { result ≡ reason_at reasons.now number }
+{
+    if number < reasons.len() {
+        reasons[number]
+    } else {
+        None
+    }
 }
 
 /// Appends the line of a datagram.
@@ -42,12 +91,13 @@ fn append_line(
     text: &mut String,
     number: usize,
     datagram: &Datagram,
+    note: Note,
 ) -> Result<(), AllocError>
     ensures { OnOk result ((s : Saying) × Says datagram.now.direction datagram.now.bytes s
-        × (string_bytes text.new ≡ string_bytes text.old ++ line_of number datagram.now s)) }
+        × (string_bytes text.new ≡ string_bytes text.old ++ line_of number datagram.now s note)) }
 {
     match saying_of(alloc, datagram) {
-        Ok(saying) => append_saying_line(text, number, datagram, saying),
+        Ok(saying) => append_saying_line(text, number, datagram, saying, note),
         Err(error) => Err(error),
     }
 }
@@ -58,13 +108,25 @@ fn append_saying_line(
     number: usize,
     datagram: &Datagram,
     saying: Saying,
+    note: Note,
 ) -> Result<(), AllocError>
-    ensures { OnOk result (string_bytes text.new ≡ string_bytes text.old ++ line_of number datagram.now saying) }
+    ensures { OnOk result (string_bytes text.new ≡ string_bytes text.old ++ line_of number datagram.now saying note) }
 {
+    let reason = reason_told(&saying, note.reason);
     write!(text, "{number} ")?;
     append_ends(text, datagram.from(), datagram.to())?;
     text.push_str("  ")?;
     append_saying(text, saying)?;
+    append_note(text, reason, note.course)
+}
+
+/// Appends what is known of a datagram beside what it says, and ends its line.
+fn append_note(text: &mut String, reason: Option<Reason>, course: Course) -> Result<(), AllocError>
+    ensures { OnOk result (string_bytes text.new
+        ≡ string_bytes text.old ++ (reason_words reason ++ (course_words course ++ codes "\n"))) }
+{
+    append_reason(text, reason)?;
+    append_course(text, course)?;
     text.push_str("\n")
 }
 

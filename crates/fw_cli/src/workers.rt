@@ -1,10 +1,11 @@
 //! What the commands of workers share.
 
-ghost use Rattle.std.specs.Prelude.{◌≡◌, ◌⊎◌, ◌++◌, ℕ, IfOk, IfErr, string_bytes};
+ghost use Rattle.std.specs.Prelude.{◌≡◌, ◌⊎◌, ◌++◌, ℕ, IfOk, IfErr, OnOk, string_bytes};
+ghost use Rattle.fw_world.specs.Runs.{events_of};
+ghost use Rattle.fw_world.specs.Setup.{IsSetup};
 ghost use Rattle.fw_cli.specs.Reading.{ReadsUntil};
-ghost use Rattle.fw_cli.specs.Rehearsing.{ReadsScript};
+ghost use Rattle.fw_cli.specs.Rehearsing.{ReadsScript, TellsOfWorkers, TracesWorkers};
 ghost use Rattle.fw_cli.specs.Replaying.{MayWantFor, ReadsOne};
-ghost use Rattle.fw_cli.specs.Report.{report_of, board_line};
 ghost use Rattle.fw_cli.specs.Script.{IsBadLine};
 
 use crate::fault::Fault;
@@ -12,9 +13,10 @@ use crate::input::read_input;
 use crate::reads::Reads;
 use crate::report::{append_board, append_report};
 use crate::script::{Script, read_script};
-use fw_accounts::Report;
+use crate::trace::append_trace_of;
+use fw_accounts::{Report, recorded_events};
 use fw_workers::Gate;
-use fw_world::Setup;
+use fw_world::{Event, Setup};
 use std::alloc::{AllocError, Global};
 use std::io::Read;
 
@@ -42,16 +44,40 @@ pub(crate) fn script_from<R: Read>(alloc: Global, reader: &mut R) -> Result<Scri
     read_script(alloc, &input)
 }
 
-/// The report of the world that workers led to, and after it the line of the board.
+/// What is written of workers who are accounted for: the trace of their run, where it is asked for, then the report of the world that
+/// they led to, and the line of the board.
 pub(crate) fn tell_report(
     alloc: Global,
     setup: &Setup,
+    given: &[Event],
     report: &Report,
+    trace: bool,
 ) -> Result<String, AllocError>
-    ensures { IfOk result (λ text. string_bytes text ≡ report_of setup.now report.now.world ++ board_line report.now.board) }
+    requires { IsSetup setup.now }
+    ensures { IfOk result (λ text. TellsOfWorkers trace setup.now (events_of given.now) report.now.world report.now.board
+        report.now.receipts.items (string_bytes text)) }
 {
     let mut text = String::new(alloc);
+    if trace {
+        append_run(alloc, &mut text, setup, given, report)?;
+    }
     append_report(&mut text, setup, &report.world)?;
     append_board(&mut text, report.board)?;
     Ok(text)
+}
+
+/// Appends the trace of what was sent in a run of workers.
+fn append_run(
+    alloc: Global,
+    text: &mut String,
+    setup: &Setup,
+    given: &[Event],
+    report: &Report,
+) -> Result<(), AllocError>
+    requires { IsSetup setup.now }
+    ensures { OnOk result (TracesWorkers setup.now (events_of given.now) report.now.world report.now.receipts.items
+        (string_bytes text.old) (string_bytes text.new)) }
+{
+    let events = recorded_events(alloc, given, &report.receipts)?;
+    append_trace_of(alloc, text, setup, &events, report.world.sent())
 }

@@ -3,4 +3,5 @@ pub mod Acts
 pub mod Daemon
 pub mod Rounds
 pub mod Serving
+pub mod Lists
 pub mod Laws

@@ -70,6 +70,10 @@ pub trait Port {
         ensures honesty { honest self.new ≡ honest self.old }
         ensures law { (done : List Act) → legal self.old done → legal self.new done };
 
+    /// How often the port failed so far, up to 2^64 - 1: an honest one never does.
+    fn faults(&self) -> u64
+        ensures { IsTrue (honest self.now) → result ≡ 0 };
+
     /// Sends a datagram, which has to be legal after all that was done. A datagram that can't be sent is lost.
     fn send(&mut self, to: SocketAddr, bytes: &[u8])
         requires { IsTrue (honest self.old) → legal self.old (sent to bytes.now ∷ acts self.old) }

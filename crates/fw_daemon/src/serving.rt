@@ -16,9 +16,9 @@ use std::sync::Wait;
 
 /// What looks at a daemon while it serves.
 pub trait Watch {
-    /// It is called after each round, with the name of the image that the meter switched to in it, where it did, and with how many
-    /// datagrams were dropped so far.
-    fn round(&mut self, activated: Option<ImageName>, dropped: Dropped);
+    /// It is called after each round, with the name of the image that the meter switched to in it, where it did, with how many
+    /// datagrams were dropped so far, and with how often the port failed.
+    fn round(&mut self, activated: Option<ImageName>, dropped: Dropped, faults: u64);
 }
 
 /// One round: what comes is handled and replied to. Where nothing came, or a stranger's datagram did, the meter takes a turn. While an
@@ -89,7 +89,7 @@ pub fn serve<R: Wait, P: Port, S: ImageStore + Drop, W: Watch>(
 {
     for _ in rt.forever() {
         match step(alloc, port, daemon) {
-            Ok(activated) => watch.round(activated, daemon.dropped()),
+            Ok(activated) => watch.round(activated, daemon.dropped(), port.faults()),
             Err(closed) => return closed,
         }
     }

@@ -61,11 +61,6 @@ impl UdpPort {
         Ok(self.socket.local_addr()?)
     }
 
-    /// How often the socket failed, up to 2^64 - 1.
-    pub fn faults(&self) -> u64 {
-        self.faults
-    }
-
     /// Makes the socket wait or not.
     fn turn_to(&mut self, patience: Patience) -> io::Result<()> {
         let waits = patience == Patience::Waits;
@@ -119,6 +114,11 @@ impl Port for UdpPort {
                 Ok(None)
             }
         }
+    }
+
+    /// How often the socket failed, at a receive or a send.
+    fn faults(&self) -> u64 {
+        self.faults
     }
 
     fn send(&mut self, to: SocketAddr, bytes: &[u8]) {

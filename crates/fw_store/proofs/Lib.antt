@@ -8,4 +8,3 @@ mod StoreByteLemmas
 mod MarkLemmas
 mod Parts
 mod SlotLaws
-mod Recovering

@@ -183,7 +183,7 @@ fn remove<R: Files<File = File>>(rt: &R, path: &str, ending: &str) -> Result<(),
 impl DeviceStore<FileDevice> {
     /// A new store in a new file, with a header of version 2: the factory image is in its first slot, with zeros after it and in the
     /// other one. `capacity` is the size of a slot in bytes, 1 to 16,777,216, and `block_size` that of a block, 1 to 1,024. The image
-    /// has 1 to `capacity` bytes.
+    /// has 1 to `capacity` bytes. The store is made under another name, and renamed when it is whole on the disk.
     ///
     /// # Errors
     ///
@@ -224,12 +224,14 @@ impl DeviceStore<FileDevice> {
     }
 
     /// The store in a file that is there, with a header of either version, or of version 1 without releases: they are 0. The next
-    /// header write gives the file the length of the version that it writes.
+    /// header write gives the file the length of the version that it writes. What a power cut left of a header write is first put right
+    /// by the journal beside the file.
     ///
     /// # Errors
     ///
-    /// `StoreFault` where the file can't be opened or read, or another store has it open, and `BadFile` where its bytes don't begin
-    /// with a capacity of 1 to 16,777,216, or aren't as many as those of a store of that capacity.
+    /// `StoreFault` where the file can't be opened, read or put right, another store has it open, or it has no journal and none can be
+    /// made beside it; and `BadFile` where its bytes don't begin with a capacity of 1 to 16,777,216, or aren't as many as those of a
+    /// store of that capacity.
     pub fn reopen<R: Files<File = File>, P: AsPath>(
         rt: &R,
         path: P,

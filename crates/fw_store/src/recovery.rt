@@ -22,7 +22,12 @@ ghost use Rattle.fw_store.specs.Contents.{KeepsDevice};
 ghost use Rattle.fw_store.specs.Journaled.{IsReadyFor, write_on};
 
 use crate::device::{ByteDevice, DeviceFault};
+use crate::tail::FRONT_SIZE;
+use crate::version::MAX_HEADER_SIZE;
 use fw_undo::{HeaderWrite, MAX_PART_SIZE};
+
+/// The most bytes of a header that stand after the slots.
+const LAST_SIZE: usize = MAX_HEADER_SIZE - FRONT_SIZE;
 
 /// Puts right what a power cut in a header write left on a device, by the bytes of its journal: where each sector of the header is the
 /// one of before or the one of after, and some of after are missing, those of before are put back. Any other device is left as it
@@ -90,8 +95,8 @@ fn size_from<D: ByteDevice>(device: &mut D, at: u64) -> Result<Option<usize>, De
 ///
 /// # Errors
 ///
-/// `DeviceFault` where one of them failed, or where no journal can have the write: a part has more than 2,048 bytes, or the first one
-/// doesn't end where the last one begins, or before.
+/// `DeviceFault` where one of them failed, or where the write is none of a header: it has more than 614 bytes in front, there are more
+/// than 1,544 at the end of the device, or the first part doesn't end where the last one begins, or before.
 pub fn prepare_journal<D: ByteDevice, J: ByteDevice>(
     device: &mut D,
     journal: &mut J,
@@ -112,11 +117,11 @@ pub fn prepare_journal<D: ByteDevice, J: ByteDevice>(
         return Err(DeviceFault);
     };
     let front = bytes.len() as u64;
-    if bytes.len() > MAX_PART_SIZE || front > last_at || at > last_at - front {
+    if bytes.len() > FRONT_SIZE || size > LAST_SIZE || front > last_at || at > last_at - front {
         return Err(DeviceFault);
     }
-    let mut before = [0; MAX_PART_SIZE];
-    let mut last_before = [0; MAX_PART_SIZE];
+    let mut before = [0; FRONT_SIZE];
+    let mut last_before = [0; LAST_SIZE];
     let before = &mut before[..bytes.len()];
     let last_before = &mut last_before[..size];
     read_both(device, at, before, last_at, last_before)?;

@@ -99,7 +99,7 @@ pub(crate) fn differ_in_one_sector(at: u64, before: &[u8], after: &[u8]) -> bool
     }
 }
 
-/// The first sector from this one on in which they differ. There is none from the fifth after the one in which the part begins.
+/// The first sector from this one on in which they differ.
 fn difference(at: u64, from: u64, before: &[u8], after: &[u8]) -> Option<u64>
     requires place { at < 2 ^ 63 }
     requires few { length before.now ≤ 2048 }
@@ -111,7 +111,7 @@ fn difference(at: u64, from: u64, before: &[u8], after: &[u8]) -> Option<u64>
     ensures within { IfSome result (λ sector. sector < 2 ^ 54 + 4) }
     ensures none { IfNone result ((k : ℕ) → from ≤ k → in_sector at k before.now ≡ in_sector at k after.now) }
 {
-    for sector in from..at / SECTOR_SIZE + 5 {
+    for sector in from..(at + before.len() as u64).div_ceil(SECTOR_SIZE) {
         if in_sector(at, sector, before) != in_sector(at, sector, after) {
             return Some(sector);
         }

@@ -347,44 +347,152 @@ fn scripts_and_their_reports(rt: HostRuntime) -> Result<(), Fail> {
     each(rt.alloc(), CAMPAIGNS)
 }
 
-/// A script in parts, with the trace too.
-struct Traced(&'static [&'static str]);
+/// A script in parts, and the rounds, with the trace too.
+struct Traced(&'static [&'static str], Given);
 
 impl Case for Traced {
     fn told(&self, alloc: Global) -> Result<String, Fail> {
         let script = joined(alloc, self.0)?;
+        let ReplayOptions { rounds, style } = options(self.1);
         let options = ReplayOptions {
-            rounds: None,
+            rounds,
             style: Style {
                 trace: true,
-                report: ReportForm::Lines,
+                report: style.report,
             },
         };
         replayed(alloc, &mut script.as_bytes(), &options)
     }
 }
 
-/// A campaign, no datagram, and an event that is refused.
+/// Campaigns, no datagram, an event that is refused, what the network does, and initiates that a meter refuses.
 const TRACES: &[(Traced, &str)] = &[
-    (Traced(TO_DONE), TRACE),
-    // the names of an image with a release
-    (Traced(TO_DONE_5), TRACE_5),
+    (Traced(TO_DONE, ALONE), TRACE),
+    // the names of an image with a release, and then an image of a lower one
     (
-        Traced(&[SETUP]),
-        "meter 1 status 0 active 0 0 size 1\nactivations 0\n",
+        Traced(
+            &[
+                SETUP,
+                OPEN_5,
+                UP_TO_BLOCKS,
+                UP_TO_VERIFY,
+                UP_TO_ACTIVATE,
+                UP_TO_DONE,
+                "open 7 2 616263 1\n",
+                UP_TO_START,
+            ],
+            ALONE,
+        ),
+        TRACE_5,
     ),
     (
-        Traced(&[SETUP, OPEN, "tick 7 1\ndeliver 0 2\n"]),
+        Traced(&[SETUP], ALONE),
+        "meter 1 status 0 active 0 0 size 1\nactivations 0\n",
+    ),
+    // what comes after an event that is refused doesn't happen
+    (
+        Traced(&[SETUP, OPEN, "tick 7 1\ndeliver 0 2\ndeliver 1\n"], ALONE),
         "\
 0 head 7 -> meter 1  get block size
-1 meter 1 -> head 7  get 2
+1 meter 1 -> head 7  get 2  lost
 row 7 1 1 live
 meter 1 status 0 active 0 0 size 1
 activations 0
 refused 3 NoSuchDatagram
 status 1",
     ),
+    (
+        Traced(&[SETUP, OPEN, DISTURBED], ALONE),
+        "\
+0 head 7 -> meter 1  get block size  3 times
+1 meter 1 -> head 7  get 2  twice
+2 meter 1 -> head 7  get 2  lost
+3 meter 1 -> head 7  get 2  lost
+4 head 7 -> meter 1  enable  stopped
+5 head 7 -> meter 1  enable  twice  stopped
+6 meter 1 -> head 7  set 0  lost
+row 7 1 1 live
+meter 1 status 0 active 0 0 size 1
+activations 0
+",
+    ),
+    (
+        Traced(&[SETUP, OPEN], Some((2, "xd"))),
+        "\
+0 head 7 -> meter 1  get block size  lost
+1 head 7 -> meter 1  get block size
+2 meter 1 -> head 7  get 2  lost
+row 7 1 1 live
+meter 1 status 0 active 0 0 size 1
+activations 0
+",
+    ),
+    // a late block of one head end
+    (Traced(&[MIXED], ALONE), TRACE_MIXED),
+    // an image that is larger than the slots of the meter
+    (
+        Traced(
+            &[
+                "head 7 width 4\nmeter 1 block 2 capacity 2 factory 78\n",
+                OPEN,
+                "tick 7 1\ndeliver 0 1\ntick 7 1\ndeliver 2 3\ntick 7 1\ndeliver 4 5\n",
+            ],
+            ALONE,
+        ),
+        "\
+0 head 7 -> meter 1  get block size
+1 meter 1 -> head 7  get 2
+2 head 7 -> meter 1  enable
+3 meter 1 -> head 7  set 0
+4 head 7 -> meter 1  initiate campaign 7 1 (3 bytes)
+5 meter 1 -> head 7  action 250: not within the limits of the meter
+row 7 1 1 failed
+meter 1 status 0 active 0 0 size 1
+activations 0
+",
+    ),
 ];
+
+const TRACE_MIXED: &str = "\
+0 head 1 -> meter 1  get block size
+1 meter 1 -> head 1  get 2
+2 head 1 -> meter 1  enable
+3 meter 1 -> head 1  set 0
+4 head 1 -> meter 1  initiate campaign 1 1 (4 bytes)
+5 meter 1 -> head 1  action 0
+6 head 1 -> meter 1  block 0 (2 bytes)  lost
+7 head 1 -> meter 1  block 1 (2 bytes)  late
+8 head 2 -> meter 1  get block size
+9 meter 1 -> head 2  get 2
+10 head 2 -> meter 1  enable
+11 meter 1 -> head 2  set 0
+12 head 2 -> meter 1  initiate campaign 2 1 (4 bytes)
+13 meter 1 -> head 2  action 0
+14 head 2 -> meter 1  block 0 (2 bytes)
+15 head 2 -> meter 1  block 1 (2 bytes)
+16 meter 1 -> head 2  action 0
+17 meter 1 -> head 2  action 0
+18 meter 1 -> head 1  action 0  lost
+19 head 2 -> meter 1  get first not transferred block
+20 meter 1 -> head 2  get 2
+21 head 2 -> meter 1  verify
+22 meter 1 -> head 2  action 250
+row 1 1 1 live
+row 2 1 1 live
+meter 1 status 4 active 0 0 size 1
+activations 0
+";
+
+/// A datagram comes three times, an answer to it twice, and the meter stops in two that enable it, of which the second comes again.
+const DISTURBED: &str = "\
+tick 7 1
+deliver 0 0 0 1 1
+tick 7 1
+stop 4 0 0
+tick 7 1
+stop 5 0 0
+deliver 5
+";
 
 const TRACE: &str = "\
 0 head 7 -> meter 1  get block size
@@ -433,7 +541,14 @@ const TRACE_5: &str = "\
 17 meter 1 -> head 7  action 0
 18 head 7 -> meter 1  get active firmware identifier
 19 meter 1 -> head 7  get campaign 7 1 release 5
+20 head 7 -> meter 1  get block size
+21 meter 1 -> head 7  get 2
+22 head 7 -> meter 1  enable
+23 meter 1 -> head 7  set 0
+24 head 7 -> meter 1  initiate campaign 7 2 (3 bytes)
+25 meter 1 -> head 7  action 250: release 0 is below the running 5
 row 7 1 1 done
+row 7 2 1 failed
 meter 1 status 6 active 7 1 size 3
 activations 1
 ";

@@ -1,6 +1,8 @@
-//! The journal of a header write, and what is taken for a cut of one. The digest is that of `sha256sum`.
+//! The journal of a header write, what is taken for a cut of one, and what is made of it. The digest is that of `sha256sum`.
 
-use fw_undo::{HeaderWrite, MAX_PART_SIZE};
+use crate::test_device::TestDevice;
+use fw_store::{prepare_journal, recover};
+use fw_undo::{HeaderWrite, MAX_JOURNAL_SIZE, MAX_PART_SIZE};
 use std::alloc::Global;
 use std::test::Fail;
 use test_support::{Case, each, expect};
@@ -67,4 +69,52 @@ const FOUND: &[(Found, &str)] = &[
 #[test]
 fn what_a_cut_leaves(rt: HostRuntime) -> Result<(), Fail> {
     each(rt.alloc(), FOUND)
+}
+
+/// A device with 511 zeros and these bytes.
+fn device_of(alloc: Global, last: &[u8]) -> Result<TestDevice, Fail> {
+    let mut bytes = vec![in alloc; 0; 511]?;
+    bytes.extend_from_slice(last)?;
+    Ok(TestDevice::of(bytes))
+}
+
+/// The bytes after the first 511.
+fn last_of(alloc: Global, device: &TestDevice) -> Result<String, Fail> {
+    if device.bytes.len() < 511 {
+        return Err("too few bytes".into());
+    }
+    Ok(hex::encode(alloc, &device.bytes[511..])?)
+}
+
+/// Makes the journal ready for a write of these bytes at place 511, and of others from place 513 on.
+fn prepare(
+    device: &mut TestDevice,
+    journal: &mut TestDevice,
+    bytes: &[u8],
+    last: &[u8],
+) -> Result<(), Fail> {
+    if device.bytes.len() < 513 || bytes.len() > 2 {
+        return Err("no such write".into());
+    }
+    Ok(prepare_journal(device, journal, 511, bytes, 513, last)?)
+}
+
+/// What a cut leaves is taken back, and what is whole is left. A write that changes one sector empties the journal.
+#[test]
+fn a_journal_takes_a_cut_back(rt: HostRuntime) -> Result<(), Fail> {
+    let alloc = rt.alloc();
+    let mut device = device_of(alloc, b"ab")?;
+    let mut journal = TestDevice::new(alloc, MAX_JOURNAL_SIZE)?;
+    prepare(&mut device, &mut journal, b"cd", b"e")?;
+    let text = hex::encode(alloc, journal.bytes.as_slice())?;
+    expect(alloc, 0, text.as_str(), JOURNAL)?;
+    let mut cut = device_of(alloc, b"cb")?;
+    recover(&mut cut, journal.bytes.as_slice())?;
+    expect(alloc, 1, last_of(alloc, &cut)?.as_str(), "6162")?;
+    let mut whole = device_of(alloc, b"cde")?;
+    recover(&mut whole, journal.bytes.as_slice())?;
+    expect(alloc, 2, last_of(alloc, &whole)?.as_str(), "636465")?;
+    prepare(&mut device, &mut journal, b"cb", b"")?;
+    let text = hex::encode(alloc, journal.bytes.as_slice())?;
+    expect(alloc, 3, text.as_str(), "")
 }

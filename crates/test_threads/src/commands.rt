@@ -11,6 +11,13 @@ use std::thread::Threads;
 /// A script, the rounds and the workers of its rehearsal, and the fates of the datagrams.
 struct Rehearsal(&'static str, u32, u32, &'static str);
 
+/// Whether a trace is asked for.
+#[derive(Clone, Copy)]
+enum Trace {
+    Without,
+    With,
+}
+
 impl Rehearsal {
     /// What the command returns.
     fn run<T: Threads + Wait + Sync, R: Read, W: Write>(
@@ -19,6 +26,7 @@ impl Rehearsal {
         alloc: Global,
         reader: &mut R,
         writer: &mut W,
+        trace: Trace,
     ) -> Result<(), Fault> {
         let Rehearsal(_, rounds, workers, fates) = *self;
         let rounds = Rounds { rounds, fates };
@@ -27,14 +35,23 @@ impl Rehearsal {
             alloc,
             reader,
             writer,
-            &RehearseOptions { rounds, workers },
+            &RehearseOptions {
+                rounds,
+                workers,
+                trace: matches!(trace, Trace::With),
+            },
         )
     }
 
     /// What is written, and after it the fault.
-    fn told<T: Threads + Wait + Sync>(&self, rt: &T, alloc: Global) -> Result<String, Fail> {
+    fn told<T: Threads + Wait + Sync>(
+        &self,
+        rt: &T,
+        alloc: Global,
+        trace: Trace,
+    ) -> Result<String, Fail> {
         let mut written = Vec::new(alloc);
-        let result = self.run(rt, alloc, &mut self.0.as_bytes(), &mut written);
+        let result = self.run(rt, alloc, &mut self.0.as_bytes(), &mut written, trace);
         let mut text = String::from_utf8(written)?;
         if let Err(fault) = result {
             text.push_str(format!(in alloc; "{fault}")?.as_str())?;
@@ -48,9 +65,10 @@ fn each<T: Threads + Wait + Sync>(
     rt: &T,
     alloc: Global,
     rows: &[(Rehearsal, &str)],
+    trace: Trace,
 ) -> Result<(), Fail> {
     for (at, (rehearsal, want)) in rows.iter().enumerate() {
-        let found = rehearsal.told(rt, alloc)?;
+        let found = rehearsal.told(rt, alloc, trace)?;
         if found.as_str() != *want {
             let told = format!(in alloc; "row {at}: {found} in place of {want}")?;
             return Err(Fail::from(told));
@@ -200,10 +218,60 @@ const REPORTS: &[(Rehearsal, &str)] = &[
 
 #[test]
 fn rehearsals_and_their_reports(rt: HostRuntime) -> Result<(), Fail> {
-    each(&rt, rt.alloc(), REPORTS)
+    each(&rt, rt.alloc(), REPORTS, Trace::Without)
 }
 
 /// Fates come first, then a bad line, then what can't begin, and last an event that is refused. Of none of these anything is written.
+/// With one worker the datagrams have one order: that in which `replay` sends them in the same rounds.
+const TRACES: &[(Rehearsal, &str)] = &[
+    (
+        Rehearsal(ONE, 9, 1, "d"),
+        "\
+0 head 7 -> meter 1  get block size
+1 meter 1 -> head 7  get 2
+2 head 7 -> meter 1  enable
+3 meter 1 -> head 7  set 0
+4 head 7 -> meter 1  initiate campaign 7 1 (3 bytes)
+5 meter 1 -> head 7  action 0
+6 head 7 -> meter 1  block 0 (2 bytes)
+7 head 7 -> meter 1  block 1 (1 bytes)
+8 meter 1 -> head 7  action 0
+9 meter 1 -> head 7  action 0
+10 head 7 -> meter 1  get first not transferred block
+11 meter 1 -> head 7  get 2
+12 head 7 -> meter 1  verify
+13 meter 1 -> head 7  action 0
+14 head 7 -> meter 1  get image to activate
+15 meter 1 -> head 7  get images 1
+16 head 7 -> meter 1  activate
+17 meter 1 -> head 7  action 0
+18 head 7 -> meter 1  get active firmware identifier
+19 meter 1 -> head 7  get campaign 7 1
+row 7 1 1 done
+meter 1 status 6 active 7 1 size 3
+activations 1
+board 1
+",
+    ),
+    (
+        Rehearsal(ONE, 2, 1, "xd"),
+        "\
+0 head 7 -> meter 1  get block size  lost
+1 head 7 -> meter 1  get block size
+2 meter 1 -> head 7  get 2  lost
+row 7 1 1 live
+meter 1 status 0 active 0 0 size 1
+activations 0
+board 0
+",
+    ),
+];
+
+#[test]
+fn rehearsals_and_their_traces(rt: HostRuntime) -> Result<(), Fail> {
+    each(&rt, rt.alloc(), TRACES, Trace::With)
+}
+
 const BAD: &[(Rehearsal, &str)] = &[
     (Rehearsal("x\n", 1, 0, ""), "BadFates"),
     (Rehearsal("x\n", 1, 0, "dxtlD"), "BadFates"),
@@ -217,7 +285,7 @@ const BAD: &[(Rehearsal, &str)] = &[
 
 #[test]
 fn what_cannot_be_rehearsed(rt: HostRuntime) -> Result<(), Fail> {
-    each(&rt, rt.alloc(), BAD)
+    each(&rt, rt.alloc(), BAD, Trace::Without)
 }
 
 #[test]
@@ -225,7 +293,13 @@ fn writer_that_fails(rt: HostRuntime) -> Result<(), Fail> {
     let alloc = rt.alloc();
     let mut room = [0; 70];
     let mut writer = room.as_mut_slice();
-    let result = Rehearsal(ONE, 1, 1, "d").run(&rt, alloc, &mut ONE.as_bytes(), &mut writer);
+    let result = Rehearsal(ONE, 1, 1, "d").run(
+        &rt,
+        alloc,
+        &mut ONE.as_bytes(),
+        &mut writer,
+        Trace::Without,
+    );
     assert!(rt; result == Err(Fault::Output));
     Ok(())
 }

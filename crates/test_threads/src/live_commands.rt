@@ -14,9 +14,18 @@ struct Live(&'static str, u32, u32);
 
 impl Live {
     /// What is written, and after it the fault.
-    fn told<T: Threads + Wait + Net + Sync>(&self, rt: &T, alloc: Global) -> Result<String, Fail> {
+    fn told<T: Threads + Wait + Net + Sync>(
+        &self,
+        rt: &T,
+        alloc: Global,
+        trace: bool,
+    ) -> Result<String, Fail> {
         let Live(script, rounds, workers) = *self;
-        let options = LiveOptions { rounds, workers };
+        let options = LiveOptions {
+            rounds,
+            workers,
+            trace,
+        };
         let mut written = Vec::new(alloc);
         let result = run_live(rt, alloc, &mut script.as_bytes(), &mut written, &options);
         let mut text = String::from_utf8(written)?;
@@ -31,7 +40,7 @@ impl Live {
 #[test]
 fn live_report_and_its_board(rt: HostRuntime) -> Result<(), Fail> {
     let alloc = rt.alloc();
-    let text = Live(FOUR, 60, 2).told(&rt, alloc)?;
+    let text = Live(FOUR, 60, 2).told(&rt, alloc, false)?;
     let done = text
         .lines()
         .filter(|line| line.starts_with("row ") && line.ends_with(" done"))
@@ -39,6 +48,15 @@ fn live_report_and_its_board(rt: HostRuntime) -> Result<(), Fail> {
     let board = format!(in alloc; "board {done}")?;
     assert_eq!(rt; text.lines().last(), Some(board.as_str()));
     assert_eq!(rt; text.lines().count(), 10);
+    Ok(())
+}
+
+/// The first datagram that is sent asks for the block size, whatever becomes of it, and the report stands after the trace.
+#[test]
+fn live_trace(rt: HostRuntime) -> Result<(), Fail> {
+    let text = Live(FOUR, 1, 1).told(&rt, rt.alloc(), true)?;
+    assert!(rt; text.starts_with("0 head 7 -> meter 1  get block size"));
+    assert!(rt; text.contains("\nrow 7 1 1 "));
     Ok(())
 }
 
@@ -54,7 +72,7 @@ const BAD: &[(Live, &str)] = &[
 #[test]
 fn what_has_no_live_report(rt: HostRuntime) -> Result<(), Fail> {
     for (at, (live, want)) in BAD.iter().enumerate() {
-        let told = live.told(&rt, rt.alloc())?;
+        let told = live.told(&rt, rt.alloc(), false)?;
         expect(rt.alloc(), at, told.as_str(), want)?;
     }
     Ok(())

@@ -1,6 +1,6 @@
 //! The daemon of a meter over a UDP socket on this machine.
 
-use fw_daemon::{Closed, MeterDaemon, UdpPort, step};
+use fw_daemon::{Closed, MeterDaemon, Port, UdpPort, step};
 use fw_meter::MeterCore;
 use fw_store::MemoryStore;
 use std::alloc::Global;

@@ -1,6 +1,6 @@
 //! The command `live`, and its help.
 
-use super::{STATUSES, option};
+use super::{STATUSES, option, trace};
 use clap::{ArgMatches, Command};
 use fw_cli::LiveOptions;
 use std::alloc::{AllocError, Global};
@@ -17,7 +17,8 @@ come. What the network loses is lost, and what nobody sent is dropped. Links go 
 `rehearse`, and what the workers did is recorded and held to account as there.
 
 Standard output gets the report of that end, as of `replay`, and the line `board N`, the number of rows
-that are done. All input is read before anything is written.
+that are done. All input is read before anything is written. With --trace a line for each datagram that
+was sent stands before the report, as in `rehearse`.
 
 Example, a campaign for two meters, and a worker for each:
 
@@ -73,7 +74,8 @@ pub(super) fn command<'a>(alloc: Global) -> Result<Command<'a>, AllocError> {
                 .required(true)
                 .help("How many workers make them, 1 to 8")
                 .value_parser(clap::value_parser!(u32).range(1..=8)),
-        )
+        )?
+        .arg(trace(alloc))
 }
 
 /// The options that were given. The parser lets none of them lack.
@@ -81,5 +83,6 @@ pub(super) fn options(given: &ArgMatches<'_>) -> Option<LiveOptions> {
     Some(LiveOptions {
         rounds: given.get_one("rounds")?,
         workers: given.get_one("workers")?,
+        trace: given.get_flag("trace"),
     })
 }

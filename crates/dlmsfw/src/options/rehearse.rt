@@ -1,6 +1,6 @@
 //! The command `rehearse`, and its help.
 
-use super::{STATUSES, option};
+use super::{STATUSES, option, trace};
 use clap::{ArgMatches, Command};
 use fw_cli::{RehearseOptions, Rounds};
 use std::alloc::{AllocError, Global};
@@ -17,7 +17,9 @@ W's. The workers share the head ends, the meters and a board, on which they coun
 done. What they did is recorded, and the report is that of the end of a run of this record.
 
 Standard output gets the report of that end, as of `replay`, and the line `board N`, the number of rows
-that are done. All input is read before anything is written.
+that are done. All input is read before anything is written. With --trace a line for each datagram that
+was sent stands before the report, as `replay --help` says it, in the order in which the workers'
+datagrams were recorded.
 
 Example, a campaign for two meters, and a worker for each:
 
@@ -76,7 +78,8 @@ pub(super) fn command<'a>(alloc: Global) -> Result<Command<'a>, AllocError> {
             option(alloc, "fates", "F").default_value("d").help(
                 "The fates of datagrams: d it comes, x it is lost, t it comes twice, l it comes a round late",
             ),
-        )
+        )?
+        .arg(trace(alloc))
 }
 
 /// The options that were given. The parser lets none of them lack: the fates have a default.
@@ -85,6 +88,9 @@ pub(super) fn options<'a>(given: &ArgMatches<'a>) -> Option<RehearseOptions<'a>>
         rounds: given.get_one("rounds")?,
         fates: given.get_str("fates")?,
     };
-    let workers = given.get_one("workers")?;
-    Some(RehearseOptions { rounds, workers })
+    Some(RehearseOptions {
+        rounds,
+        workers: given.get_one("workers")?,
+        trace: given.get_flag("trace"),
+    })
 }

@@ -1,7 +1,7 @@
 //! The command `replay`, and its help.
 
-use super::{STATUSES, option};
-use clap::{Arg, ArgAction, ArgMatches, Command};
+use super::{STATUSES, option, trace};
+use clap::{ArgMatches, Command};
 use fw_cli::{ReplayOptions, ReportForm, Rounds, Style};
 use std::alloc::{AllocError, Global};
 
@@ -83,10 +83,14 @@ With --trace a line for each datagram that was sent stands before the report: it
 whom, and what it says. A head end says `get ATTRIBUTE`, `enable`, `initiate campaign H S (N bytes)`,
 `block K (N bytes)`, `verify` or `activate`. A meter says `get VALUE`, in short, or `get code C`, `set C`
 or `action C`. `? (N bytes)` is what can't be read. Where a name has a release, ` release R` stands after
-`campaign H S`.
+`campaign H S`. Where a meter refuses an initiate, the code is followed by the reason, and at the end of a
+line stands what the network did, unless the datagram came once and in order: `lost`, `twice` or `N times`,
+`late` where one that was sent after it came before it, and `stopped` where the meter stopped in it.
 
-  0 head 7 -> meter 1  get block size
+  0 head 7 -> meter 1  get block size  twice
   1 meter 1 -> head 7  get 2
+  2 meter 1 -> head 7  get 2  lost
+  25 meter 1 -> head 7  action 250: release 5 is below the running 6
 
 Example, a campaign for one meter:
 
@@ -138,12 +142,7 @@ pub(super) fn command<'a>(alloc: Global) -> Result<Command<'a>, AllocError> {
                 "The fates of datagrams: d it comes, x it is lost, t it comes twice, l it comes a round late",
             ),
         )?
-        .arg(
-            Arg::new(alloc, "trace")
-                .long("trace")
-                .action(ArgAction::SetTrue)
-                .help("Tells each datagram that was sent before the report, in a line"),
-        )?
+        .arg(trace(alloc))?
         .arg(
             option(alloc, "report", "FORM")
                 .default_value(LINES)

@@ -10,7 +10,7 @@ pub returns-clause-ok : goal.returns-clause-ok
 returns-clause-ok g c =
     let script = c.in_ok-setup.field-0 in
     IfOk-weaker c.write_text.result _ _
-    (λ done written. writes c.args.air.now.rounds c.args.workers _ _ _ _ script.setup script.events.items _ c.in_ok-setup.ensures.ok
+    (λ done written. writes c.args.trace c.args.air.now.rounds c.args.workers _ _ _ _ script.setup script.events.items _ c.in_ok-setup.ensures.ok
     (rw c.deref.ensures.value at c.in_ok-text.ensures.ok) written)
     (rw c.as_str.ensures.value at c.write_text.ensures.written)
 

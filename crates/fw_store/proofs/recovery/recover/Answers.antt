@@ -1,5 +1,5 @@
 use Rattle.std.proofs.Common.{◌≡◌, OnOk, sym, subst, ◌∙◌}
-use Rattle.fw_undo.specs.Write.{Write, IsWrite}
+use Rattle.fw_undo.specs.Write.{Write}
 use Rattle.fw_undo.specs.Cut.{Mends}
 use Rattle.fw_store.proofs.recovery.recover.Goals as goal
 

@@ -1,0 +1,156 @@
+//! The command `meter`, and its help.
+
+use super::{Invocation, STATUSES, WrongValue, option};
+use clap::{ArgAction, ArgMatches, Command};
+use fw_cli::{MeterOptions, NewMeter};
+use std::alloc::{AllocError, Global};
+use std::net::SocketAddr;
+
+/// What the long help begins with.
+const ABOUT: &str = "\
+Runs a meter that answers datagrams over UDP until it is ended, which it may be at any moment.
+
+A datagram is the wrapper of IEC 62056-4-7 around a request of IEC 62056-5-3, as of `answer`, and its
+reply goes to where it came from. Where nothing comes, and also between two datagrams while the meter
+verifies an image, it takes a turn, so it verifies each image.
+
+The meter is in FILE of --store, and stays there for the next run. Where no such file is there, it is
+made as FILE.new with a new meter, and named FILE once it is whole. Where one is, its meter goes on as
+after a power cut, and --block-size, --capacity and --factory-file are ignored. One process at a time
+has a FILE.
+
+With --head just the addresses that are given may ask, each compared whole, with its port. A datagram
+from elsewhere is dropped. An address is IPv4 or IPv6, as 127.0.0.1:4059 or [::1]:4059. Port 0 of
+--listen is one that the system picks.
+
+Standard output gets these lines, each at once, of which one that can't be written is lost, except for
+the first:
+
+  listening ADDR:PORT                          datagrams are received there
+  activated HEAD SERIAL RELEASE DIGEST         the meter switched to this image: the head end and the
+                                               serial number of its campaign, its release, and its
+                                               SHA-256 in lower-case hexadecimal
+  dropped strangers S unserved U faults F      where these grew, once a minute at most: the datagrams
+                                               from addresses that may not ask, those for which memory
+                                               was refused, and how often the socket failed, since the
+                                               meter was started
+
+Example, in two terminals, a GET of image_transfer_status, which is 0 in a new meter:
+
+  ./dlmsfw meter --listen 127.0.0.1:4059 --store meter.fw
+
+  python3 -c \"import socket; s = socket.socket(socket.AF_INET, socket.SOCK_DGRAM); \\
+    s.sendto(bytes.fromhex('000100010001000dc001c1001200002c0000ff0600'), ('127.0.0.1', 4059)); \\
+    print(s.recv(9999).hex())\"
+
+prints
+
+  0001000100010006c401c1001600";
+
+/// What ends the long help.
+const ENDINGS: &str = "\
+Exit status:
+  0  none: a meter has no end of its own
+  1  a fault: standard error has `dlmsfw: NAME`, with one of these names, and a second line with the
+     address or the file that it is about
+       Socket        datagrams can't be received at --listen: another program does, it is no address
+                     of this machine, or this user has no right to it; no file was made. Or the socket
+                     failed 1000 times in a row later
+       StoreFault    FILE can't be opened or made: another program has it locked, there is no such
+                     folder, FILE is a folder, this user may not read and write it, or the disk is
+                     full
+       Fault         the disk failed: FILE can't be read, or its header of version 1 can't be written
+                     in version 2
+       BadFile       FILE hasn't the length that it begins with: it is empty or another program's, or
+                     it was cut
+       BadHeader     FILE has no header that a meter writes: its bytes were changed
+       BadImage      an image in FILE, which runs or is verified, hasn't the digest of its name: its
+                     bytes were changed
+       FactoryFault  FILE isn't there, and the file of --factory-file can't be read
+       BadSetup      FILE isn't there, and the factory image is empty or longer than the capacity
+       Output        the first line can't be written to standard output
+       OutOfMemory   the system gives no more memory
+     Except at a Socket that failed later nothing was answered.
+  2  a wrong command line: standard error says what is wrong";
+
+/// The command.
+pub(super) fn command<'a>(alloc: Global) -> Result<Command<'a>, AllocError> {
+    Command::new(alloc, "meter")
+        .about("Runs a meter that answers datagrams over UDP until it is ended")
+        .long_about(ABOUT)
+        .after_help(STATUSES)
+        .after_long_help(ENDINGS)
+        .arg(
+            option(alloc, "listen", "ADDR:PORT")
+                .required(true)
+                .help("The address that datagrams are received at"),
+        )?
+        .arg(
+            option(alloc, "store", "FILE")
+                .required(true)
+                .help("The file that has the meter, made where it isn't there"),
+        )?
+        .arg(
+            option(alloc, "head", "ADDR:PORT")
+                .action(ArgAction::Append)
+                .help("An address that may ask, once for each; without it any may"),
+        )?
+        .arg(
+            option(alloc, "block-size", "BYTES")
+                .default_value("1024")
+                .help("Bytes per block of an image transfer, 1 to 1024, of a new meter")
+                .value_parser(clap::value_parser!(u32).range(1..=1024)),
+        )?
+        .arg(
+            option(alloc, "capacity", "BYTES")
+                .default_value("1048576")
+                .help("Bytes of its longest image, 1 to 16777216, in at most 16384 blocks")
+                .value_parser(clap::value_parser!(u32).range(1..=16_777_216)),
+        )?
+        .arg(option(alloc, "factory-file", "FILE").help(
+            "The file whose bytes are the image that it runs, 1 byte to the capacity; without it `abc`",
+        ))
+}
+
+/// The command with the options that were given. The parser lets none of the others lack.
+pub(super) fn invoked<'a>(
+    alloc: Global,
+    given: &ArgMatches<'a>,
+) -> Result<Option<Invocation<'a>>, WrongValue<'a>> {
+    let (Some(listen), Some(store)) = (given.get_str("listen"), given.get_str("store")) else {
+        return Ok(None);
+    };
+    let (Some(block_size), Some(capacity)) = (
+        given.get_one("block-size"),
+        given.get_one("capacity"),
+    ) else {
+        return Ok(None);
+    };
+    Ok(Some(Invocation::Meter(MeterOptions {
+        listen: address("listen", listen)?,
+        heads: addresses(alloc, given.get_strs("head").unwrap_or(&[]))?,
+        store,
+        fresh: NewMeter {
+            block_size,
+            capacity,
+            factory_file: given.get_str("factory-file"),
+        },
+    })))
+}
+
+/// The addresses that may ask.
+fn addresses<'a>(alloc: Global, texts: &[&'a str]) -> Result<Vec<SocketAddr>, WrongValue<'a>> {
+    let mut addresses = Vec::new(alloc);
+    for text in texts {
+        addresses.push(address("head", *text)?)?;
+    }
+    Ok(addresses)
+}
+
+/// The address that the value of an option is.
+fn address<'a>(option: &'static str, text: &'a str) -> Result<SocketAddr, WrongValue<'a>> {
+    match text.parse() {
+        Ok(address) => Ok(address),
+        Err(_) => Err(WrongValue::NoAddress { option, text }),
+    }
+}

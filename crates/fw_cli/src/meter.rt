@@ -1,0 +1,190 @@
+//! The command `meter`: a meter in a file answers datagrams over UDP until it is ended.
+
+ghost use Rattle.std.specs.Prelude.{◌≡◌, ◌≢◌, ◌⊎◌, None, IfErr, IsErr, OnOk};
+ghost use Rattle.std.specs.Io.KnownBytes.{Appends, Keeps};
+ghost use Rattle.fw_store.specs.Setup.{IsSetup};
+ghost use Rattle.fw_store.specs.declared.version.HeaderVersion.TheVariants.{Two};
+ghost use Rattle.fw_cli.specs.Meters.{IsOfMeter, activated_line, default_factory, dropped_line, listening_line};
+
+use crate::fault::Fault;
+use crate::meter_lines::{activated_line, dropped_line, listening_line};
+use crate::meter_store::{NewMeter, stored_meter};
+use crate::output::write_text;
+use fw_daemon::{Closed, Dropped, MeterDaemon, UdpPort, Watch, serve};
+use fw_names::ImageName;
+use std::alloc::Global;
+use std::fs::File;
+use std::io::Write;
+use std::net::{Net, SocketAddr};
+use std::rt::{Clock, Files};
+use std::sync::Wait;
+use std::time::{Duration, Instant};
+
+/// The seconds from one line about what was dropped to the next.
+const DROPPED_EVERY: u64 = 60;
+
+/// The options of the command.
+#[derive(Drop)]
+pub struct MeterOptions<'a> {
+    /// The address that datagrams are received at.
+    pub listen: SocketAddr,
+    /// The addresses that may ask, and any where none is given.
+    pub heads: Vec<SocketAddr>,
+    /// The path of the file that has the meter.
+    pub store: &'a str,
+    /// What a new meter is made with. Where a file is there, this isn't looked at.
+    pub fresh: NewMeter<'a>,
+}
+
+/// The meter in a file answers datagrams over UDP until the process is ended, at any moment. Where no file is there, it is made.
+///
+/// The writer gets the line `listening ..`, once datagrams are received, `activated ..` for each image that the meter switches to, and
+/// `dropped ..` where more was dropped, once a minute at most. Each is flushed. After the first, a line that can't be written is lost.
+///
+/// # Errors
+///
+/// It ends by one of these alone.
+///
+/// - `Socket`: the address can't be received at. No file was made. Or the socket failed 1,000 times in a row while the meter served.
+/// - `StoreFault`: the file can't be made or opened, or another store has it open.
+/// - `Device`, which prints `Fault`: the file can't be read, or its header not be written in version 2.
+/// - `BadFile`, `BadHeader` or `BadImage`: the file holds no meter. It is left as it is.
+/// - `FactoryFault`: no file is there, and the one of the factory image can't be read. No file was made.
+/// - `BadSetup`: no file is there, and the options describe no meter. No file was made.
+/// - `Output`: the first line can't be written.
+/// - `OutOfMemory`: it didn't serve.
+pub fn run_meter<R: Files<File = File> + Clock + Net + Wait, W: Write>(
+    rt: &R,
+    alloc: Global,
+    writer: &mut W,
+    options: MeterOptions<'_>,
+) -> Result<(), Fault>
+    ensures ends { IsErr result }
+    ensures bad_setup { options.entry.fresh.factory_file ≡ None → result ≡ Err Fault.BadSetup
+        → ¬ IsSetup Two options.entry.fresh.block_size options.entry.fresh.capacity default_factory }
+    ensures silent { IfErr result (λ f. f ≢ Fault.Socket → f ≢ Fault.Output
+        → Keeps (W.contents writer.old) (W.contents writer.new)) }
+    ensures only { IfErr result IsOfMeter }
+{
+    let Listening { mut port, at } = bound(rt, options.listen)?;
+    let meter = stored_meter(rt, alloc, options.store, &options.fresh)?;
+    tell_listening(alloc, writer, at)?;
+    let mut daemon = MeterDaemon::new(meter, options.heads);
+    let mut teller = Teller::new(rt, alloc, writer);
+    let Closed = serve(rt, alloc, &mut port, &mut daemon, &mut teller);
+    Err(Fault::Socket)
+}
+
+/// A port, with the address that it has.
+#[derive(Drop)]
+struct Listening {
+    port: UdpPort,
+    at: SocketAddr,
+}
+
+/// A port at this address.
+fn bound<N: Net>(net: &N, listen: SocketAddr) -> Result<Listening, Fault>
+    ensures only { IfErr result (λ f. f ≡ Fault.Socket) }
+{
+    let port = UdpPort::bind(net, listen).map_err(|_| Fault::Socket)?;
+    match port.address() {
+        Ok(at) => Ok(Listening { port, at }),
+        Err(_) => Err(Fault::Socket),
+    }
+}
+
+/// What is told of a daemon while it serves.
+#[derive(Drop)]
+struct Teller<'a, C: Clock, W: Write> {
+    rt: &'a C,
+    alloc: Global,
+    writer: &'a mut W,
+    /// What the last line about it told.
+    dropped: Dropped,
+    faults: u64,
+    /// When that was.
+    told_at: Option<Instant>,
+}
+
+impl<'a, C: Clock, W: Write> Teller<'a, C, W> {
+    /// Nothing is told yet, and nothing was dropped.
+    fn new(rt: &'a C, alloc: Global, writer: &'a mut W) -> Teller<'a, C, W> {
+        Teller {
+            rt,
+            alloc,
+            writer,
+            dropped: Dropped {
+                strangers: 0,
+                unserved: 0,
+            },
+            faults: 0,
+            told_at: Instant::now(rt).ok(),
+        }
+    }
+
+    /// Tells what was dropped where that is more than it told, and a minute after it told it. Where the system has no time, it tells
+    /// nothing.
+    fn tell_dropped(&mut self, dropped: Dropped, faults: u64) {
+        if dropped == self.dropped && faults == self.faults {
+            return;
+        }
+        let Ok(now) = Instant::now(self.rt) else {
+            return;
+        };
+        if !is_due(self.told_at, now) {
+            return;
+        }
+        self.dropped = dropped;
+        self.faults = faults;
+        self.told_at = Some(now);
+        let _lost = tell_dropped(self.alloc, self.writer, dropped, faults);
+    }
+}
+
+impl<'a, C: Clock, W: Write> Watch for Teller<'a, C, W> {
+    fn round(&mut self, activated: Option<ImageName>, dropped: Dropped, faults: u64) {
+        if let Some(name) = activated {
+            let _lost = tell_activated(self.alloc, self.writer, name);
+        }
+        self.tell_dropped(dropped, faults);
+    }
+}
+
+/// Whether a minute went by since then.
+fn is_due(then: Option<Instant>, now: Instant) -> bool {
+    match then {
+        Some(then) => { now.saturating_duration_since(then) >= Duration::from_secs(DROPPED_EVERY) }
+        None => true,
+    }
+}
+
+/// Writes at which address datagrams are received.
+fn tell_listening<W: Write>(alloc: Global, writer: &mut W, at: SocketAddr) -> Result<(), Fault>
+    ensures written { OnOk result (Appends (W.contents writer.old) (W.contents writer.new) (listening_line at)) }
+    ensures silent { IfErr result (λ f. f ≢ Fault.Output → Keeps (W.contents writer.old) (W.contents writer.new)) }
+    ensures only { IfErr result (λ f. (f ≡ Fault.Output) ⊎ (f ≡ Fault.OutOfMemory)) }
+{
+    let line = listening_line(alloc, at)?;
+    write_text(writer, line.as_str())
+}
+
+/// Writes which image the meter switched to.
+fn tell_activated<W: Write>(alloc: Global, writer: &mut W, name: ImageName) -> Result<(), Fault>
+    ensures written { OnOk result (Appends (W.contents writer.old) (W.contents writer.new) (activated_line name)) }
+{
+    let line = activated_line(alloc, name)?;
+    write_text(writer, line.as_str())
+}
+
+/// Writes what was dropped.
+fn tell_dropped<W: Write>(
+    alloc: Global,
+    writer: &mut W,
+    dropped: Dropped,
+    faults: u64,
+) -> Result<(), Fault>
+    ensures written { OnOk result (Appends (W.contents writer.old) (W.contents writer.new) (dropped_line dropped faults)) }
+{
+    let line = dropped_line(alloc, dropped, faults)?;
+    write_text(writer, line.as_str())
+}
