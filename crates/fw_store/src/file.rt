@@ -9,11 +9,11 @@ use crate::device_store::{DeviceStore, holds_store};
 use crate::error::FileStoreError;
 use crate::names::{Beside, JOURNAL, NEW, sync_folder};
 use crate::open_file::{OpenFile, options, refused};
-use crate::recovery::{prepare_journal, recover};
+use crate::recovery::{Scratch, prepare_journal, recover};
 use crate::setup::is_setup;
 use crate::store::ImageStore;
 use crate::version::HeaderVersion;
-use fw_undo::{HeaderWrite, MAX_JOURNAL_SIZE};
+use fw_undo::{Change, HeaderWrite, MAX_JOURNAL_SIZE};
 use std::fs;
 use std::fs::File;
 use std::io::ErrorKind;
@@ -28,6 +28,7 @@ pub struct FileDevice {
     journal: OpenFile,
     /// Whether a header write failed, so that the file may have a part of it. The journal is then that of this write.
     torn: bool,
+    scratch: Scratch,
 }
 
 /// A store in a file.
@@ -44,11 +45,7 @@ impl FileDevice {
         // Who had the lock before may have given the file this name meanwhile.
         absent(rt, path)?;
         match empty_journal(rt, path) {
-            Ok(journal) => Ok(FileDevice {
-                store,
-                journal,
-                torn: false,
-            }),
+            Ok(journal) => Ok(FileDevice::of(store, journal)),
             Err(fault) => {
                 abandon(rt, path);
                 Err(fault)
@@ -78,11 +75,17 @@ impl FileDevice {
             None => empty_journal(rt, path)?,
         };
         sync_folder(rt, path)?;
-        Ok(FileDevice {
+        Ok(FileDevice::of(store, journal))
+    }
+
+    /// The bytes of a file, with the journal beside it.
+    fn of(store: OpenFile, journal: OpenFile) -> FileDevice {
+        FileDevice {
             store,
             journal,
             torn: false,
-        })
+            scratch: Scratch::new(),
+        }
     }
 
     /// Takes back a header write that failed.
@@ -92,6 +95,25 @@ impl FileDevice {
             self.torn = false;
         }
         Ok(())
+    }
+
+    /// Writes the parts of a header that change. The journal is ready for it.
+    fn write_parts(
+        &mut self,
+        change: Change,
+        at: u64,
+        bytes: &[u8],
+        last_at: u64,
+        last: &[u8],
+    ) -> Result<(), DeviceFault>
+        ensures sized { last_at + length last.now < 2 ^ 64 → OnOk result (self.new.store.size ≡ last_at + length last.now) }
+    {
+        let len = last_at.saturating_add(last.len() as u64);
+        match change {
+            Change::FirstPart if self.store.size() == len => self.store.replace_at(at, bytes),
+            Change::LastPart if self.store.size() == len => self.store.replace_at(last_at, last),
+            _ => self.store.replace_both(at, bytes, last_at, last),
+        }
     }
 }
 
@@ -280,8 +302,8 @@ impl ByteDevice for FileDevice {
         self.store.replace_at(at, bytes)
     }
 
-    /// The journal has the bytes of before and of after when they are written, except where they change one sector alone. The disk has them
-    /// when the call ends.
+    /// The journal has the bytes of before and of after when they are written, except where they change one sector alone. A part that
+    /// stays isn't written then. The disk has them when the call ends.
     fn replace_both(
         &mut self,
         at: u64,
@@ -294,8 +316,16 @@ impl ByteDevice for FileDevice {
         self.mend()?;
         // What the journal gets as the bytes of before is on the disk.
         self.store.sync()?;
-        prepare_journal(&mut self.store, &mut self.journal, at, bytes, last_at, last)?;
-        let replaced = self.store.replace_both(at, bytes, last_at, last);
+        let change = prepare_journal(
+            &mut self.store,
+            &mut self.journal,
+            &mut self.scratch,
+            at,
+            bytes,
+            last_at,
+            last,
+        )?;
+        let replaced = self.write_parts(change, at, bytes, last_at, last);
         self.torn = replaced.is_err();
         replaced
     }

@@ -29,7 +29,7 @@ pub use file::{FileDevice, FileStore};
 pub use fuse::Fuse;
 pub use header::{Goal, Header, StoredStatus};
 pub use memory::MemoryStore;
-pub use recovery::{prepare_journal, recover};
+pub use recovery::{Scratch, prepare_journal, recover};
 pub use setup::{MAX_CAPACITY, is_setup};
 pub use slot::Slot;
 pub use store::ImageStore;

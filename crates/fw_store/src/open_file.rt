@@ -54,6 +54,13 @@ impl OpenFile {
         Ok(())
     }
 
+    /// How many bytes the file has, as far as it is known.
+    pub(crate) fn size(&self) -> u64
+        ensures { result ≡ self.now.size }
+    {
+        self.size
+    }
+
     /// Puts what was written where a power cut leaves it.
     pub(crate) fn sync(&mut self) -> Result<(), DeviceFault>
         ensures { self.new.size ≡ self.old.size }
@@ -118,7 +125,9 @@ impl ByteDevice for OpenFile {
     }
 
     /// The disk has all that was written before these bytes when they are written, and has them when the call ends.
-    fn replace_at(&mut self, at: u64, bytes: &[u8]) -> Result<(), DeviceFault> {
+    fn replace_at(&mut self, at: u64, bytes: &[u8]) -> Result<(), DeviceFault>
+        ensures sized { self.new.size ≡ self.old.size }
+    {
         self.sync()?;
         self.put(at, bytes)?;
         self.sync()

@@ -18,13 +18,14 @@ ghost use Rattle.std.specs.Prelude.{
 };
 ghost use Rattle.fw_undo.specs.Write.{Write, IsWrite, journal_bytes};
 ghost use Rattle.fw_undo.specs.Cut.{Mends};
+ghost use Rattle.fw_undo.specs.Change.{IsChange};
 ghost use Rattle.fw_store.specs.Contents.{KeepsDevice};
 ghost use Rattle.fw_store.specs.Journaled.{IsReadyFor, write_on};
 
 use crate::device::{ByteDevice, DeviceFault};
 use crate::tail::FRONT_SIZE;
 use crate::version::MAX_HEADER_SIZE;
-use fw_undo::{HeaderWrite, MAX_PART_SIZE};
+use fw_undo::{Change, HeaderWrite, MAX_PART_SIZE};
 
 /// The most bytes of a header that stand after the slots.
 const LAST_SIZE: usize = MAX_HEADER_SIZE - FRONT_SIZE;
@@ -89,9 +90,27 @@ fn size_from<D: ByteDevice>(device: &mut D, at: u64) -> Result<Option<usize>, De
     Ok(Some((len - at) as usize))
 }
 
-/// Makes a journal ready for a header write to a device: the bytes from `at` on, and all that stand from `last_at` on. The device stays as
-/// it is. The journal is that of the write, with what the device has there and what is written; or it is empty, where the write changes
-/// one sector at most, of which a disk has all or nothing.
+/// What header writes of a device need beside it: room for what stands there, and the sector that the last one changed, in which the
+/// next one looks first.
+#[derive(Drop)]
+pub struct Scratch {
+    room: [u8; MAX_HEADER_SIZE],
+    likely: u64,
+}
+
+impl Scratch {
+    /// Before the first header write.
+    pub fn new() -> Scratch {
+        Scratch {
+            room: [0; MAX_HEADER_SIZE],
+            likely: 0,
+        }
+    }
+}
+
+/// Makes a journal ready for a header write to a device, and returns what the write changes: the bytes from `at` on, and all that stand
+/// from `last_at` on. The device stays as it is. The journal is that of the write, with what the device has there and what is written; or
+/// it is empty, where the write changes one sector at most, of which a disk has all or nothing. `scratch` is any.
 ///
 /// # Errors
 ///
@@ -100,18 +119,41 @@ fn size_from<D: ByteDevice>(device: &mut D, at: u64) -> Result<Option<usize>, De
 pub fn prepare_journal<D: ByteDevice, J: ByteDevice>(
     device: &mut D,
     journal: &mut J,
+    scratch: &mut Scratch,
     at: u64,
     bytes: &[u8],
     last_at: u64,
     last: &[u8],
-) -> Result<(), DeviceFault>
+) -> Result<Change, DeviceFault>
     requires begins { IsTrue (D.honest device.old) → last_at ≤ length (D.contents device.old) }
     ensures ready { IsTrue (D.honest device.old) → IsTrue (J.honest journal.old) → OnOk result
         (IsReadyFor (J.contents journal.new) (write_on (D.contents device.old) at bytes.now last_at last.now)) }
     ensures write { IsTrue (D.honest device.old) → OnOk result (IsWrite (write_on (D.contents device.old) at bytes.now last_at last.now)) }
+    ensures change { IsTrue (D.honest device.old)
+        → IfOk result (λ change. IsChange change (write_on (D.contents device.old) at bytes.now last_at last.now)) }
     ensures same { IsTrue (D.honest device.old) → D.contents device.new ≡ D.contents device.old }
     ensures kept { KeepsDevice D.honest D.sound D.room device.old device.new }
     ensures kept_journal { KeepsDevice J.honest J.sound J.room journal.old journal.new }
+{
+    let Scratch { room, likely } = scratch;
+    let write = write_to(device, room, at, bytes, last_at, last)?;
+    put_journal(journal, likely, &write)
+}
+
+/// A header write to a device, with what the device has in the places of its parts.
+fn write_to<'a, D: ByteDevice>(
+    device: &mut D,
+    room: &'a mut [u8; MAX_HEADER_SIZE],
+    at: u64,
+    bytes: &'a [u8],
+    last_at: u64,
+    last: &'a [u8],
+) -> Result<HeaderWrite<'a>, DeviceFault>
+    requires begins { IsTrue (D.honest device.old) → last_at ≤ length (D.contents device.old) }
+    ensures write { IsTrue (D.honest device.old)
+        → IfOk result (λ write. write ≡ write_on (D.contents device.old) at bytes.now last_at last.now) }
+    ensures same { IsTrue (D.honest device.old) → D.contents device.new ≡ D.contents device.old }
+    ensures kept { KeepsDevice D.honest D.sound D.room device.old device.new }
 {
     let Some(size) = size_from(device, last_at)? else {
         return Err(DeviceFault);
@@ -120,20 +162,18 @@ pub fn prepare_journal<D: ByteDevice, J: ByteDevice>(
     if bytes.len() > FRONT_SIZE || size > LAST_SIZE || front > last_at || at > last_at - front {
         return Err(DeviceFault);
     }
-    let mut before = [0; FRONT_SIZE];
-    let mut last_before = [0; LAST_SIZE];
+    let (before, last_before) = room.split_at_mut(FRONT_SIZE);
     let before = &mut before[..bytes.len()];
     let last_before = &mut last_before[..size];
     read_both(device, at, before, last_at, last_before)?;
-    let write = HeaderWrite {
+    Ok(HeaderWrite {
         at,
         before,
         after: bytes,
         last_at,
         last_before,
         last_after: last,
-    };
-    put_journal(journal, &write)
+    })
 }
 
 /// Fills one place with the bytes from `at` on, and another with those from `last_at` on.
@@ -158,21 +198,28 @@ fn read_both<D: ByteDevice>(
 }
 
 /// Puts the journal of a write in place of what a device holds, or empties it where the write changes one sector at most.
-fn put_journal<J: ByteDevice>(journal: &mut J, write: &HeaderWrite<'_>) -> Result<(), DeviceFault>
+fn put_journal<J: ByteDevice>(
+    journal: &mut J,
+    likely: &mut u64,
+    write: &HeaderWrite<'_>,
+) -> Result<Change, DeviceFault>
     ensures ready { IsTrue (J.honest journal.old) → OnOk result (IsReadyFor (J.contents journal.new) write.now) }
     ensures write { OnOk result (IsWrite write.now) }
+    ensures change { IfOk result (λ change. IsChange change write.now) }
     ensures kept { KeepsDevice J.honest J.sound J.room journal.old journal.new }
 {
     if !write.fits() {
         return Err(DeviceFault);
     }
-    if write.changes_one_sector() {
-        return empty(journal);
+    let change = write.change(likely);
+    match change {
+        Change::FirstPart | Change::LastPart => empty(journal)?,
+        Change::More => match write.to_bytes() {
+            Some(bytes) => replace_all(journal, bytes.as_slice())?,
+            None => return Err(DeviceFault),
+        },
     }
-    match write.to_bytes() {
-        Some(bytes) => replace_all(journal, bytes.as_slice()),
-        None => Err(DeviceFault),
-    }
+    Ok(change)
 }
 
 /// Takes all bytes from a device, if there are any.

@@ -1,7 +1,8 @@
 -- That a write which changes one sector needs no journal.
-use Rattle.std.proofs.Common.{◌≡◌, ◌≢◌, ◌⊎◌, inl, inr, ℕ, ◌+◌, ◌-◌, ◌*◌, ◌/◌, ◌<◌, ◌≤◌, List, ◌++◌, length, take, drop, get_or, replicate, sym, subst, ◌∙◌, ap, arith}
-use Rattle.std.proofs.Math.Nat.{mul-div-le}
-use Rattle.std.proofs.lemmas.List.{ext_get_or, get_or-take, get_or-drop, take_all, append-nil}
+use Rattle.std.proofs.Common.{◌≡◌, ◌≢◌, ◌⊎◌, inl, inr, ℕ, ◌+◌, ◌-◌, ◌*◌, ◌/◌, ◌<◌, ◌≤◌, List, [], ◌++◌, length, take, drop, get_or, min, replicate, sym, subst, ◌∙◌, ap, arith, length-drop}
+use Rattle.std.proofs.Math.Nat.{mul-div-le, eq-or-lt_of_le, le_of_lt, min-eq_left, min-eq_right}
+use Rattle.std.proofs.lemmas.Bool.{cases_lt}
+use Rattle.std.proofs.lemmas.List.{ext_get_or, drop-drop, drop-take, take-take, get_or-take, get_or-drop, take_all, append-nil}
 use Rattle.fw_undo.specs.Write.{Write}
 use Rattle.fw_undo.specs.Cut.{IsEither, IsCut, IsCutAtEnd, Leaves, DifferInOneSector, in_sector, resized, after_of, replaced}
 use Rattle.fw_undo.specs.Laws.{OneSectorIsWhole}
@@ -20,7 +21,7 @@ byte_in at k xs i from to =
     ∙ ap (λ (n : ℕ). get_or xs n 0) place
 
 -- bytes are the same where those of each sector are
-by_sectors : (at : ℕ) (xs ys : List ℕ) → length xs ≡ length ys → ((k : ℕ) → in_sector at k xs ≡ in_sector at k ys) → xs ≡ ys
+pub by_sectors : (at : ℕ) (xs ys : List ℕ) → length xs ≡ length ys → ((k : ℕ) → in_sector at k xs ≡ in_sector at k ys) → xs ≡ ys
 by_sectors at xs ys size each = ext_get_or 0 xs ys size (λ i within.
     let k : ℕ = (at + i) / 512 in
     let from : 512 * k ≤ at + i = mul-div-le (at + i) 512 in
@@ -28,6 +29,143 @@ by_sectors at xs ys size each = ext_get_or 0 xs ys size (λ i within.
     sym (byte_in at k xs i from to)
     ∙ ap (λ (l : List ℕ). get_or l (i - (512 * k - at)) 0) (each k)
     ∙ byte_in at k ys i from to)
+
+-- a sector before the part has none of its bytes
+no_bytes : (at k : ℕ) (xs : List ℕ) → k < at / 512 → in_sector at k xs ≡ []
+no_bytes at k xs before =
+    let below : 512 * (at / 512) ≤ at = mul-div-le at 512 in
+    let none : 512 * k + 512 - at - (512 * k - at) ≡ 0 = omega arith in
+    ap (λ (n : ℕ). take n (drop (512 * k - at) xs)) none
+
+-- so each sector is the same where those are from the first on that has any
+pub from_sector : (at : ℕ) (xs ys : List ℕ) → ((k : ℕ) → at / 512 ≤ k → in_sector at k xs ≡ in_sector at k ys)
+    → (k : ℕ) → in_sector at k xs ≡ in_sector at k ys
+from_sector at xs ys each k = by_place (cases_lt k (at / 512))
+  where
+    by_place : (k < at / 512) ⊎ (at / 512 ≤ k) → in_sector at k xs ≡ in_sector at k ys
+    by_place (inl before) = no_bytes at k xs before ∙ sym (no_bytes at k ys before)
+    by_place (inr from) = each k from
+
+-- all bytes from a place on
+pub to_end : (from : ℕ) (xs : List ℕ) → take (length xs - from) (drop from xs) ≡ drop from xs
+to_end from xs =
+    let count : length (drop from xs) ≡ length xs - from = length-drop from xs in
+    let all : length (drop from xs) ≤ length xs - from = omega arith in
+    take_all (length xs - from) (drop from xs) all
+
+-- bytes from a later place on
+later : (a from : ℕ) (xs : List ℕ) → from ≤ a → drop a xs ≡ drop (a - from) (drop from xs)
+later a from xs behind =
+    let place : a ≡ from + (a - from) = omega arith in
+    ap (λ (n : ℕ). drop n xs) place ∙ sym (drop-drop (a - from) from xs)
+
+-- where what follows a sector is the same, so is each later sector
+later_sector : (at s end : ℕ) (xs ys : List ℕ) → end ≤ 512 * s + 512 - at → drop end xs ≡ drop end ys
+    → (k : ℕ) → s < k → in_sector at k xs ≡ in_sector at k ys
+later_sector at s end xs ys within same k after =
+    let a : ℕ = 512 * k - at in
+    let from : end ≤ a = omega arith in
+    ap (λ (l : List ℕ). take (512 * k + 512 - at - a) l) (later a end xs from ∙ ap (drop (a - end)) same ∙ sym (later a end ys from))
+
+-- where what stands before a sector is the same, so is each earlier sector
+earlier_sector : (at s : ℕ) (xs ys : List ℕ) → length xs ≡ length ys
+    → take (min (512 * s - at) (length xs)) xs ≡ take (min (512 * s - at) (length xs)) ys
+    → (k : ℕ) → k < s → in_sector at k xs ≡ in_sector at k ys
+earlier_sector at s xs ys size same k before = by_size (cases_lt (512 * s - at) (length xs))
+  where
+    a : ℕ
+    a = 512 * k - at
+
+    b : ℕ
+    b = 512 * k + 512 - at
+
+    start : ℕ
+    start = min (512 * s - at) (length xs)
+
+    cut : (l : List ℕ) → b ≤ start → take (b - a) (drop a (take start l)) ≡ in_sector at k l
+    cut l few =
+        let less : b - a ≤ start - a = omega arith in
+        let place : start ≡ a + (start - a) = omega arith in
+        ap (λ (n : ℕ). take (b - a) (drop a (take n l))) place ∙ ap (take (b - a)) (drop-take a (start - a) l) ∙ take-take (b - a) (start - a) (drop a l) less
+
+    by_size : (512 * s - at < length xs) ⊎ (length xs ≤ 512 * s - at) → in_sector at k xs ≡ in_sector at k ys
+    by_size (inl short) =
+        let e : start ≡ 512 * s - at = min-eq_left (le_of_lt short) in
+        let few : b ≤ start = omega (arith, e) in
+        sym (cut xs few) ∙ ap (λ (l : List ℕ). take (b - a) (drop a l)) same ∙ cut ys few
+    by_size (inr all) =
+        let e : start ≡ length xs = min-eq_right all in
+        let whole : length xs ≤ start = omega (arith, e) in
+        let others : length ys ≤ start = omega (arith, e, size) in
+        ap (in_sector at k) (sym (take_all start xs whole) ∙ same ∙ take_all start ys others)
+
+-- and where those before it are the same, too, no other differs
+pub one_alone : (at s end : ℕ) (xs ys : List ℕ) → end ≤ 512 * s + 512 - at → drop end xs ≡ drop end ys
+    → ((k : ℕ) → at / 512 ≤ k → k < s → in_sector at k xs ≡ in_sector at k ys) → DifferInOneSector at xs ys
+one_alone at s end xs ys within same first = λ j k here there. is j here ∙ sym (is k there)
+  where
+    before : (j : ℕ) → j < s → in_sector at j xs ≡ in_sector at j ys
+    before j below = by_place (cases_lt j (at / 512))
+      where
+        by_place : (j < at / 512) ⊎ (at / 512 ≤ j) → in_sector at j xs ≡ in_sector at j ys
+        by_place (inl none) = no_bytes at j xs none ∙ sym (no_bytes at j ys none)
+        by_place (inr from) = first j from below
+
+    is : (j : ℕ) → in_sector at j xs ≢ in_sector at j ys → j ≡ s
+    is j differ = by_order (cases_lt j s)
+      where
+        by_later : (s ≡ j) ⊎ (s < j) → j ≡ s
+        by_later (inl e) = sym e
+        by_later (inr above) = absurd (differ (later_sector at s end xs ys within same j above))
+
+        by_order : (j < s) ⊎ (s ≤ j) → j ≡ s
+        by_order (inl below) = absurd (differ (before j below))
+        by_order (inr above) = by_later (eq-or-lt_of_le above)
+
+-- where what stands before a sector and after it is the same, no other sector differs
+pub one_within : (at s end : ℕ) (xs ys : List ℕ) → length xs ≡ length ys → end ≤ 512 * s + 512 - at → drop end xs ≡ drop end ys
+    → take (min (512 * s - at) (length xs)) xs ≡ take (min (512 * s - at) (length xs)) ys → DifferInOneSector at xs ys
+one_within at s end xs ys size within rest front = one_alone at s end xs ys within rest (λ k _ before. earlier_sector at s xs ys size front k before)
+
+-- where one sector alone differs, what follows it is the same
+pub rest_same : (at s : ℕ) (xs ys : List ℕ) → length xs ≡ length ys → DifferInOneSector at xs ys → in_sector at s xs ≢ in_sector at s ys
+    → drop (min (512 * s + 512 - at) (length xs)) xs ≡ drop (min (512 * s + 512 - at) (length xs)) ys
+rest_same at s xs ys size one differ = ext_get_or 0 (drop end xs) (drop end ys) sizes byte
+  where
+    end : ℕ
+    end = min (512 * s + 512 - at) (length xs)
+
+    sizes : length (drop end xs) ≡ length (drop end ys)
+    sizes = length-drop end xs ∙ ap (λ (n : ℕ). n - end) size ∙ sym (length-drop end ys)
+
+    other : (i : ℕ) → i < length (drop end xs) → at + (end + i) < 512 * s + 512 → ⊥
+    other i within below = by_end (cases_lt (512 * s + 512 - at) (length xs))
+      where
+        by_end : (512 * s + 512 - at < length xs) ⊎ (length xs ≤ 512 * s + 512 - at) → ⊥
+        by_end (inl short) =
+            let e : end ≡ 512 * s + 512 - at = min-eq_left (le_of_lt short) in
+            omega (arith, e)
+        by_end (inr all) =
+            let e : end ≡ length xs = min-eq_right all in
+            let none : length (drop end xs) ≡ length xs - end = length-drop end xs in
+            omega (arith, e, none)
+
+    byte : (i : ℕ) → i < length (drop end xs) → get_or (drop end xs) i 0 ≡ get_or (drop end ys) i 0
+    byte i within =
+        let p : ℕ = end + i in
+        let k : ℕ = (at + p) / 512 in
+        let from : 512 * k ≤ at + p = mul-div-le (at + p) 512 in
+        let to : at + p < 512 * k + 512 = omega arith in
+        get_or-drop end xs i 0
+        ∙ sym (byte_in at k xs p from to)
+        ∙ ap (λ (l : List ℕ). get_or l (p - (512 * k - at)) 0) (by_sector k to (same_or_not (in_sector at k xs) (in_sector at k ys)))
+        ∙ byte_in at k ys p from to
+        ∙ sym (get_or-drop end ys i 0)
+      where
+        by_sector : (k : ℕ) → at + (end + i) < 512 * k + 512 → (in_sector at k xs ≡ in_sector at k ys) ⊎ (in_sector at k xs ≢ in_sector at k ys)
+            → in_sector at k xs ≡ in_sector at k ys
+        by_sector k to (inl e) = e
+        by_sector k to (inr here) = absurd (other i within (subst (λ (n : ℕ). at + (end + i) < 512 * n + 512) (one k s here differ) to))
 
 -- a sector that is the one of before, though before and after differ in another sector alone, is the one of after
 pub one_of_both : (at : ℕ) (now before after : List ℕ) → length now ≡ length before → length after ≡ length before

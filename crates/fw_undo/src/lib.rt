@@ -12,4 +12,4 @@ mod sectors;
 mod write;
 
 pub use bytes::{JournalBytes, MAX_JOURNAL_SIZE};
-pub use write::{HeaderWrite, MAX_PART_SIZE};
+pub use write::{Change, HeaderWrite, MAX_PART_SIZE};

@@ -1,12 +1,27 @@
 //! What a power cut leaves of a part of a write, sector by sector.
 
-ghost use Rattle.std.specs.Prelude.{◌≡◌, ◌≢◌, ◌≤◌, ◌<◌, ◌+◌, ◌^◌, ℕ, false, IsTrue, IfSome, IfNone, length};
+ghost use Rattle.std.specs.Prelude.{◌≡◌, ◌≢◌, ◌≤◌, ◌<◌, ◌+◌, ◌-◌, ◌*◌, ◌/◌, ◌^◌, ℕ, List, min, false, IsTrue, IfSome, IfNone, length, slice_range};
 ghost use Rattle.fw_undo.specs.Cut.{IsEither, IsCut, IsCutAtEnd, DifferInOneSector, in_sector, resized};
+ghost use Rattle.fw_undo.specs.Change.{IsDifference};
 
 use crate::write::MAX_PART_SIZE;
 
 /// How many bytes a disk writes at once.
-const SECTOR_SIZE: u64 = 512;
+pub(crate) const SECTOR_SIZE: u64 = 512;
+
+/// No part of a write has a byte in this sector, or in a later one.
+pub(crate) const LAST_SECTOR: u64 = (1 << 54) + 5;
+
+/// In what the bytes of a part before a write and after it differ.
+#[derive(Clone, Copy)]
+pub(crate) enum Difference {
+    /// In nothing.
+    Nothing,
+    /// In this sector of the file alone.
+    OneSector(u64),
+    /// In more.
+    More,
+}
 
 /// The bytes of a part that stand in a sector of the disk, where the part begins at this offset of the file.
 fn in_sector(at: u64, sector: u64, part: &[u8]) -> &[u8]
@@ -14,10 +29,8 @@ fn in_sector(at: u64, sector: u64, part: &[u8]) -> &[u8]
     requires sector { sector < 2 ^ 54 + 5 }
     ensures { result.now ≡ in_sector at sector part.now }
 {
-    let from = (sector * SECTOR_SIZE).saturating_sub(at);
-    let to = (sector * SECTOR_SIZE + SECTOR_SIZE).saturating_sub(at);
-    let end = to.min(part.len() as u64);
-    &part[from.min(end) as usize..end as usize]
+    let (start, end) = bounds(at, sector, part.len());
+    &part[start..end]
 }
 
 /// Whether a sector of what stands there now is the one before the write or the one after it.
@@ -82,37 +95,65 @@ fn fill(out: &mut [u8], part: &[u8])
     out[size..].fill(0);
 }
 
-/// Whether the bytes of a part before a write and after it differ in one sector at most. There are as many of both.
-pub(crate) fn differ_in_one_sector(at: u64, before: &[u8], after: &[u8]) -> bool
+/// Whether the bytes of a part before a write and after it are the same outside a sector. There are as many of both.
+pub(crate) fn differ_only_in(at: u64, sector: u64, before: &[u8], after: &[u8]) -> bool
+    requires few { length before.now ≤ 2048 }
+    requires after { length after.now ≡ length before.now }
+    requires sector { sector < 2 ^ 54 + 5 }
+    ensures { IsTrue result → DifferInOneSector at before.now after.now }
+{
+    let (start, end) = bounds(at, sector, before.len());
+    before[end..] == after[end..] && before[..start] == after[..start]
+}
+
+/// In what the bytes of a part before a write and after it differ. There are as many of both.
+pub(crate) fn compare(at: u64, before: &[u8], after: &[u8]) -> Difference
     requires place { at < 2 ^ 63 }
     requires few { length before.now ≤ 2048 }
     requires after { length after.now ≡ length before.now }
-    ensures one { IsTrue result → DifferInOneSector at before.now after.now }
-    ensures more { result ≡ false → ¬ DifferInOneSector at before.now after.now }
+    ensures { IsDifference result at before.now after.now }
 {
-    let Some(first) = difference(at, at / SECTOR_SIZE, before, after) else {
-        return true;
+    let Some(sector) = differing_sector(at, before, after) else {
+        return Difference::Nothing;
     };
-    match difference(at, first + 1, before, after) {
-        Some(_second) => false,
-        None => true,
+    let (_start, end) = bounds(at, sector, before.len());
+    if before[end..] == after[end..] {
+        Difference::OneSector(sector)
+    } else {
+        Difference::More
     }
 }
 
-/// The first sector from this one on in which they differ.
-fn difference(at: u64, from: u64, before: &[u8], after: &[u8]) -> Option<u64>
+/// Where in a part of this length the bytes of a sector begin and end, where the part begins at this offset of the file.
+fn bounds(at: u64, sector: u64, len: usize) -> (usize, usize)
+    requires few { len ≤ 2048 }
+    requires sector { sector < 2 ^ 54 + 5 }
+    ensures order { result.0 ≤ result.1 }
+    ensures within { result.1 ≤ len }
+    ensures start { result.0 ≡ min (512 * sector - at) len }
+    ensures end { result.1 ≡ min (512 * sector + 512 - at) len }
+    ensures value { (part : List ℕ) → length part ≡ len → slice_range part result.0 result.1 ≡ in_sector at sector part }
+{
+    let from = (sector * SECTOR_SIZE).saturating_sub(at);
+    let to = (sector * SECTOR_SIZE + SECTOR_SIZE).saturating_sub(at);
+    let end = to.min(len as u64);
+    (from.min(end) as usize, end as usize)
+}
+
+/// The first sector in which they differ.
+fn differing_sector(at: u64, before: &[u8], after: &[u8]) -> Option<u64>
     requires place { at < 2 ^ 63 }
     requires few { length before.now ≤ 2048 }
     requires size { length after.now ≡ length before.now }
-    requires from { from < 2 ^ 54 + 5 }
     ensures differ { IfSome result (λ sector. in_sector at sector before.now ≢ in_sector at sector after.now) }
-    ensures first { IfSome result (λ sector. (k : ℕ) → from ≤ k → k < sector → in_sector at k before.now ≡ in_sector at k after.now) }
-    ensures after { IfSome result (λ sector. from ≤ sector) }
+    ensures first { IfSome result (λ sector. (k : ℕ) → at / SECTOR_SIZE ≤ k → k < sector → in_sector at k before.now ≡ in_sector at k after.now) }
     ensures within { IfSome result (λ sector. sector < 2 ^ 54 + 4) }
-    ensures none { IfNone result ((k : ℕ) → from ≤ k → in_sector at k before.now ≡ in_sector at k after.now) }
+    ensures none { IfNone result ((k : ℕ) → at / SECTOR_SIZE ≤ k → in_sector at k before.now ≡ in_sector at k after.now) }
 {
-    for sector in from..(at + before.len() as u64).div_ceil(SECTOR_SIZE) {
-        if in_sector(at, sector, before) != in_sector(at, sector, after) {
+    let first = at / SECTOR_SIZE;
+    for sector in first..(at + before.len() as u64).div_ceil(SECTOR_SIZE) {
+        let (start, end) = bounds(at, sector, before.len());
+        if before[start..end] != after[start..end] {
             return Some(sector);
         }
     }

@@ -3,16 +3,30 @@
 ghost use Rattle.std.specs.Prelude.{◌≡◌, ◌≢◌, ◌↔◌, ◌++◌, ◌≤◌, false, IsTrue, IfSome, IfNone, length};
 ghost use Rattle.fw_undo.specs.Write.{Write, IsWrite, part, payload, journal_bytes};
 ghost use Rattle.fw_undo.specs.Reading.{HasSizes, IsNoPayload};
-ghost use Rattle.fw_undo.specs.Cut.{IsTorn, ChangesOneSector};
+ghost use Rattle.fw_undo.specs.Cut.{IsTorn};
+ghost use Rattle.fw_undo.specs.Change.{IsChange};
 
 use crate::bytes::JournalBytes;
 use crate::reading::{after_mark, before_digest, number, two_parts};
-use crate::sectors::{differ_in_one_sector, is_cut, is_cut_at_end};
+use crate::sectors::{
+    Difference, LAST_SECTOR, SECTOR_SIZE, compare, differ_only_in, is_cut, is_cut_at_end,
+};
 use sha2::{Digest, Sha256};
 use std::marker::Model;
 
 /// The most bytes that a part of a write has.
 pub const MAX_PART_SIZE: usize = 2048;
+
+/// What a write of a store's header changes. A disk has all of a write that changes one sector or nothing, so that it needs no journal.
+#[derive(Clone, Copy, Debug, PartialEq, Eq)]
+pub enum Change {
+    /// One sector of the first part at most. The last part stays.
+    FirstPart,
+    /// One sector of the last part at most, whose length stays. The first part stays.
+    LastPart,
+    /// More than one sector, or the file's length.
+    More,
+}
 
 /// A write of a store's header to two places of its file: what stood there before, and what stands there after it.
 #[derive(Debug, Drop)]
@@ -144,19 +158,77 @@ impl<'a> HeaderWrite<'a> {
             && !(now == self.after && last_now == self.last_after)
     }
 
-    /// Whether the write changes one sector at most: the file's length stays, and of its parts one alone changes, in one sector. A disk has
-    /// all of such a write or nothing, so that it needs no journal.
-    pub fn changes_one_sector(&self) -> bool
+    /// What the write changes. `likely` is the sector of the file that may be the one that changes, and then it is that one, if one alone
+    /// does. The result is the same for each, but it is soonest found where it is the right one.
+    pub fn change(&self, likely: &mut u64) -> Change
         requires { IsWrite self.now }
-        ensures one { IsTrue result → ChangesOneSector self.now }
-        ensures more { result ≡ false → ¬ ChangesOneSector self.now }
+        ensures { IsChange result self.now }
     {
-        if self.last_after == self.last_before {
-            return differ_in_one_sector(self.at, self.before, self.after);
+        if self.last_after.len() != self.last_before.len() {
+            return Change::More;
         }
-        self.after == self.before
-            && self.last_after.len() == self.last_before.len()
-            && differ_in_one_sector(self.last_at, self.last_before, self.last_after)
+        match self.change_in(*likely) {
+            Some(change) => change,
+            None => self.change_of_parts(likely),
+        }
+    }
+
+    /// What it changes where nothing outside a sector does. The length of the last part stays.
+    fn change_in(&self, sector: u64) -> Option<Change>
+        requires write { IsWrite self.now }
+        requires size { length self.now.last_after ≡ length self.now.last_before }
+        ensures { IfSome result (λ change. IsChange change self.now) }
+    {
+        if sector >= LAST_SECTOR {
+            return None;
+        }
+        if sector < self.last_at / SECTOR_SIZE {
+            if differ_only_in(self.at, sector, self.before, self.after)
+                && self.last_after == self.last_before
+            {
+                return Some(Change::FirstPart);
+            }
+            return None;
+        }
+        if self.after == self.before
+            && differ_only_in(self.last_at, sector, self.last_before, self.last_after)
+        {
+            return Some(Change::LastPart);
+        }
+        None
+    }
+
+    /// What it changes, as each sector is compared. The length of the last part stays.
+    fn change_of_parts(&self, likely: &mut u64) -> Change
+        requires write { IsWrite self.now }
+        requires size { length self.now.last_after ≡ length self.now.last_before }
+        ensures { IsChange result self.now }
+    {
+        match compare(self.at, self.before, self.after) {
+            Difference::Nothing => self.change_of_last(likely),
+            Difference::OneSector(sector) if self.last_after == self.last_before => {
+                *likely = sector;
+                Change::FirstPart
+            }
+            Difference::OneSector(_) | Difference::More => Change::More,
+        }
+    }
+
+    /// What it changes where its first part stays, and the length of the last one.
+    fn change_of_last(&self, likely: &mut u64) -> Change
+        requires write { IsWrite self.now }
+        requires same { self.now.after ≡ self.now.before }
+        requires size { length self.now.last_after ≡ length self.now.last_before }
+        ensures { IsChange result self.now }
+    {
+        match compare(self.last_at, self.last_before, self.last_after) {
+            Difference::Nothing => Change::LastPart,
+            Difference::OneSector(sector) => {
+                *likely = sector;
+                Change::LastPart
+            }
+            Difference::More => Change::More,
+        }
     }
 }
 

@@ -1,8 +1,8 @@
 //! The journal of a header write, what is taken for a cut of one, and what is made of it. The digest is that of `sha256sum`.
 
 use crate::test_device::TestDevice;
-use fw_store::{prepare_journal, recover};
-use fw_undo::{HeaderWrite, MAX_JOURNAL_SIZE, MAX_PART_SIZE};
+use fw_store::{Scratch, prepare_journal, recover};
+use fw_undo::{Change, HeaderWrite, MAX_JOURNAL_SIZE, MAX_PART_SIZE};
 use std::alloc::Global;
 use std::test::Fail;
 use test_support::{Case, each, expect};
@@ -92,11 +92,12 @@ fn prepare(
     journal: &mut TestDevice,
     bytes: &[u8],
     last: &[u8],
-) -> Result<(), Fail> {
+) -> Result<Change, Fail> {
     if device.bytes.len() < 513 || bytes.len() > 2 {
         return Err("no such write".into());
     }
-    Ok(prepare_journal(device, journal, 511, bytes, 513, last)?)
+    let mut scratch = Scratch::new();
+    Ok(prepare_journal(device, journal, &mut scratch, 511, bytes, 513, last)?)
 }
 
 /// What a cut leaves is taken back, and what is whole is left. A write that changes one sector empties the journal.
@@ -114,7 +115,10 @@ fn a_journal_takes_a_cut_back(rt: HostRuntime) -> Result<(), Fail> {
     let mut whole = device_of(alloc, b"cde")?;
     recover(&mut whole, journal.bytes.as_slice())?;
     expect(alloc, 2, last_of(alloc, &whole)?.as_str(), "636465")?;
-    prepare(&mut device, &mut journal, b"cb", b"")?;
+    let change = prepare(&mut device, &mut journal, b"cb", b"")?;
+    if change != Change::FirstPart {
+        return Err("the last part stays".into());
+    }
     let text = hex::encode(alloc, journal.bytes.as_slice())?;
     expect(alloc, 3, text.as_str(), "")
 }

@@ -57,8 +57,8 @@ Exit status:
                      of this machine, or this user has no right to it; no file was made. Or the socket
                      failed 1000 times in a row later
        StoreFault    FILE can't be opened or made: another program has it locked, there is no such
-                     folder, FILE is a folder, this user may not read and write it, or the disk is
-                     full
+                     folder, FILE is a folder, this user may not read and write it, the disk is full,
+                     or FILE.journal can't be made beside it
        Fault         the disk failed: FILE can't be read, or its header of version 1 can't be written
                      in version 2
        BadFile       FILE hasn't the length that it begins with: it is empty or another program's, or
