@@ -45,7 +45,7 @@ def action(method, parameter):
 
 
 def transfer(block_size, blocks):
-    """What moves an image of so many blocks of bytes `a`: an enable, an initiate, the blocks, a verify and an activate."""
+    """What moves an image of `blocks` blocks of bytes `a`: an enable, an initiate, the blocks, a verify and an activate."""
     image = b"a" * (block_size * blocks)
     name = b"\x01" + (7).to_bytes(4, "big") + (1).to_bytes(4, "big") + hashlib.sha256(image).digest()
     yield datagram(bytes.fromhex("c101c1") + OBJECT + bytes.fromhex("05000301"))

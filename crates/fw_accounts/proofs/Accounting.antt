@@ -1,4 +1,4 @@
--- The record of workers: the given events, and behind them those of the receipts.
+-- The record of workers: the given events, and after them those of the receipts.
 use Rattle.std.proofs.Common.{◌≡◌, ◌-◌, List, [], ◌∷◌, ◌++◌, length, drop, take, refl, ap, sym, ◌∙◌, arith}
 use Rattle.std.proofs.lemmas.List.{length-map, take_all}
 use lib.ListN.{length-drop}

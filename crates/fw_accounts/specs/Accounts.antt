@@ -44,7 +44,7 @@ AreDealt links rounds workers receipts =
     (worker : ℕ) (of_worker : List Receipt) → slice_get receipts worker ≡ Some of_worker
     → HasItsTicks links rounds workers worker of_worker
 
--- The events are the given ones, and behind them those of the receipts in the order of their numbers, each number once.
+-- The events are the given ones, and after them those of the receipts in the order of their numbers, each number once.
 pub record AreNumbered (given events : List Event) (receipts : List (List Receipt)) : Type 0 where
   pub made : List Event
   pub events_are : events ≡ given ++ made

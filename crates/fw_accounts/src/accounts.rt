@@ -59,7 +59,7 @@ pub struct LeftByWorkers {
     pub meters: Vec<NumberedMeter>,
     /// All that was sent.
     pub sent: Vec<Datagram>,
-    /// The given events, and behind them those of the workers.
+    /// The given events, and after them those of the workers.
     pub entries: Vec<Entry>,
     /// How many rows the board has as done.
     pub board: u64,
@@ -67,8 +67,8 @@ pub struct LeftByWorkers {
     pub receipts: Vec<Receipts>,
 }
 
-/// Compares what the workers left with what their record leads to, where they were to make so many rounds of all links after the
-/// given events. What is answered rests on this alone, not on what they did.
+/// Compares what the workers left with what their record leads to, where they were to make this number of rounds of all links after
+/// the given events. What is answered rests on this alone, not on what they did.
 ///
 /// # Errors
 ///
@@ -292,14 +292,14 @@ fn its_ticks(rounds: u32, workers: u32, worker: usize, j: usize) -> usize
     }
 }
 
-/// Whether there are so many ticks of a link among these receipts.
+/// Whether this is how many ticks of a link there are among these receipts.
 fn has_ticks(link: &LinkQueue, wanted: usize, receipts: &Receipts) -> bool
     ensures { IsTrue result ↔ (ticks_of (link_of link.now).head (link_of link.now).meter receipts.now ≡ wanted) }
 {
     receipts.ticks(link.head(), link.meter()) == wanted
 }
 
-/// Whether so many rows of all head ends are done.
+/// Whether this is how many rows of all head ends are done.
 fn is_count(board: u64, setup: &Setup, world: &World) -> bool
     ensures { IsTrue result ↔ (board ≡ done_rows setup.now world.now) }
 {

@@ -1,4 +1,4 @@
--- What a command of workers did, from what it read, told and wrote.
+-- What a command of workers did, from what it read, reported and wrote.
 use Rattle.std.proofs.Common.{◌≡◌, ℕ, Bool, true, false, List, [], ◌++◌, inr, refl, ap, ◌∙◌, append_assoc}
 use Rattle.std.specs.Prelude.{Option}
 use Rattle.std.specs.Io.KnownBytes.{Appends}
@@ -15,7 +15,7 @@ use Rattle.fw_cli.specs.Rehearsing.{AreWorkers, IsBarredIn, ReadsScript, TellsOf
 use Rattle.fw_cli.specs.Replaying.{MakesNone, MayWantFor, ReadsOne}
 use Rattle.fw_cli.specs.Report.{report_of, board_line}
 
--- what was told of a script that was read was written
+-- a script was read, and the text of its rehearsal was written
 pub writes : (trace : Bool) (rounds workers : ℕ) (before after first last : Option (List ℕ)) (setup : Setup) (events : List Given) (text : List ℕ)
     → ReadsScript before after setup events → TellsRehearsal trace rounds workers setup events text → Appends first last text
     → WritesRehearsal trace rounds workers before after first last
@@ -48,7 +48,7 @@ without_trace setup given world board receipts first reported text none report l
   line ∙ ap (λ (l : List ℕ). l ++ board_line board) (report ∙ ap (λ (l : List ℕ). l ++ report_of setup world) none),
 )
 
--- what is told of workers who are accounted for tells of a rehearsal
+-- the text of workers who are accounted for is that of a rehearsal
 pub tells : (trace : Bool) (rounds workers : ℕ) (setup : Setup) (events : List Given) (world : State) (board : ℕ) (receipts : List (List Receipt)) (text : List ℕ)
     → IsAccounted setup (events_of events) rounds workers world board receipts → TellsOfWorkers trace setup (events_of events) world board receipts text
     → TellsRehearsal trace rounds workers setup events text

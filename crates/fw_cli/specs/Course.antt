@@ -35,7 +35,7 @@ abbrev pub course_of : ℕ → List Event → Course
 course_of number events =
     record { times = count_by (brings number) events; late = is_late number events; stops = count_by (stops_in number) events }
 
--- what the network did with each of so many datagrams
+-- what the network did with each of the first `count` datagrams
 pub record AreCourses (events : List Event) (count : ℕ) (courses : List Course) : Type 0 where
   pub long : length courses ≡ count
   pub each : (number : ℕ) (d : Course) → number < count → slice_index_or courses number d ≡ course_of number events

@@ -29,7 +29,7 @@ abbrev pub initiate_saying : ℕ → Option Title → Saying
 initiate_saying size None = saying.InitiateUnnamed size
 initiate_saying size (Some title) = saying.Initiate title size
 
--- a request to a meter, in a datagram of so many bytes
+-- a request to a meter, in a datagram of this size in bytes
 abbrev pub SaysAsk : ℕ → Meaning → Saying → Type 0
 SaysAsk size (read attribute) s = s ≡ saying.Get attribute
 SaysAsk size (enable enabled) s = s ≡ saying.Enable enabled
@@ -54,7 +54,7 @@ IsBrief (octet_string bytes) b = (title : Option Title) × NamesImage bytes titl
 IsBrief (array vs) b = b ≡ brief.Images (count vs)
 IsBrief v b = b ≡ brief.Other
 
--- an answer of a meter; what an ACTION returns beside its code isn't told
+-- an answer of a meter; what an ACTION returns beside its code isn't said
 abbrev pub SaysAnswer : ResponseContent → Saying → Type 0
 SaysAnswer (get_response (value v)) s = (b : Brief) × IsBrief v b × (s ≡ saying.Got b)
 SaysAnswer (get_response (code c)) s = s ≡ saying.GotCode c

@@ -34,7 +34,7 @@ attribute_name reading.ToActivate = codes "image to activate"
 attribute_name reading.ActiveName = codes "active firmware identifier"
 attribute_name reading.ActiveDigest = codes "active firmware signature"
 
--- so many bytes
+-- a size in bytes
 abbrev pub in_bytes : ℕ → List ℕ
 in_bytes size = codes "(" ++ (decimal size ++ codes " bytes)")
 

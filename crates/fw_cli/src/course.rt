@@ -28,7 +28,7 @@ pub(crate) struct Coming {
     pub(crate) stopped: bool,
 }
 
-/// What the network did with each of so many datagrams, by these events.
+/// What the network did with each of the first `count` datagrams, by these events.
 pub(crate) fn courses_of(
     alloc: Global,
     events: &[Event],

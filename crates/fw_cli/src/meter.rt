@@ -93,13 +93,13 @@ fn bound<N: Net>(net: &N, listen: SocketAddr) -> Result<Listening, Fault>
     }
 }
 
-/// What is told of a daemon while it serves.
+/// What a daemon reports while it serves.
 #[derive(Drop)]
 struct Teller<'a, C: Clock, W: Write> {
     rt: &'a C,
     alloc: Global,
     writer: &'a mut W,
-    /// What the last line about it told.
+    /// What the last line about it said.
     dropped: Dropped,
     faults: u64,
     /// When that was.
@@ -107,7 +107,7 @@ struct Teller<'a, C: Clock, W: Write> {
 }
 
 impl<'a, C: Clock, W: Write> Teller<'a, C, W> {
-    /// Nothing is told yet, and nothing was dropped.
+    /// Nothing is reported yet, and nothing was dropped.
     fn new(rt: &'a C, alloc: Global, writer: &'a mut W) -> Teller<'a, C, W> {
         Teller {
             rt,
@@ -122,8 +122,8 @@ impl<'a, C: Clock, W: Write> Teller<'a, C, W> {
         }
     }
 
-    /// Tells what was dropped where that is more than it told, and a minute after it told it. Where the system has no time, it tells
-    /// nothing.
+    /// Reports what was dropped where that is not what the last line said, and a minute or more after that line. Where the system
+    /// has no time, it reports nothing.
     fn tell_dropped(&mut self, dropped: Dropped, faults: u64) {
         if dropped == self.dropped && faults == self.faults {
             return;

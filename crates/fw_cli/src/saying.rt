@@ -50,7 +50,7 @@ pub(crate) enum Saying {
     SetCode(u8),
     /// The answer to an ACTION.
     ActionCode(u8),
-    /// So many bytes that can't be read.
+    /// Bytes that can't be read, and how many.
     Unread(usize),
 }
 
@@ -65,9 +65,9 @@ pub(crate) enum Brief {
     Bits(usize),
     /// What the name of an image tells.
     Name(Title),
-    /// So many bytes that are no name.
+    /// Bytes that are no name, and how many.
     Octets(usize),
-    /// How many images image_to_activate_info tells of.
+    /// How many images image_to_activate_info has.
     Images(usize),
     /// A value of a type that no attribute has.
     Other,
@@ -97,7 +97,7 @@ pub(crate) fn asked(alloc: Global, bytes: &[u8]) -> Result<Saying, AllocError>
     }
 }
 
-/// What a request says that asks for this, in a datagram of so many bytes.
+/// What a request says that asks for this, in a datagram of this size in bytes.
 fn ask_of(planned: Planned<'_>, size: usize) -> Saying
     ensures { SaysAsk size (planned_meaning planned.entry) result }
 {

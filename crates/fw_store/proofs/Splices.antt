@@ -9,7 +9,7 @@ use Rattle.fw_store.proofs.SliceLemmas.{drop_past}
 take_front : (front rest : List ℕ) (n : ℕ) → n ≡ length front → take n (front ++ rest) ≡ front
 take_front front rest n e = rw e (take-append_seam front rest)
 
--- a write and one right behind it are one write
+-- a write and one right after it are one write
 pub splice_twice : (old : List ℕ) (at : ℕ) (xs ys : List ℕ) (next : ℕ) → next ≡ at + length xs → at + length xs + length ys ≤ length old → splice (splice old at xs) next ys ≡ splice old at (xs ++ ys)
 splice_twice old at xs ys next e h =
     let front = take at old ++ xs in

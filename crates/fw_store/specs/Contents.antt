@@ -6,7 +6,7 @@ use Rattle.fw_store.specs.Device.{splice}
 abbrev pub resized : List ℕ → ℕ → List ℕ
 resized bytes len = take len bytes ++ replicate (len - length bytes) 0
 
--- the bytes after a write of so many that failed: any stand in their place, and the rest is as before
+-- the bytes after a write of `count` bytes that failed: any stand in their place, and the rest is as before
 pub record TornAt (old : List ℕ) (at count : ℕ) (new : List ℕ) : Type 0 where
   pub left : List ℕ
   pub size : length left ≡ count

@@ -29,7 +29,7 @@ splice old at bytes = take at old ++ bytes ++ drop (at + length bytes) old
 abbrev pub written : Device → Slot → ℕ → List ℕ → Device
 written d slot at bytes = with_slot d slot (splice (slot_bytes d slot) at bytes)
 
--- the device after a write of so many bytes that failed: any bytes stand in their place, and the rest is as before
+-- the device after a write of `count` bytes that failed: any bytes stand in their place, and the rest is as before
 pub record Torn (old : Device) (slot : Slot) (at count : ℕ) (new : Device) : Type 0 where
   pub left : List ℕ
   pub size : length left ≡ count

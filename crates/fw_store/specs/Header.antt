@@ -63,7 +63,7 @@ abbrev pub goal_count : ℕ → Option Goal → ℕ
 goal_count block_size None = 0
 goal_count block_size (Some goal) = block_count block_size goal.size
 
--- a header that a store of so many bytes a slot can have
+-- a header that a store can have whose slots have this capacity
 pub record IsHeader (capacity : ℕ) (h : Header) : Type 0 where
   pub fields : FieldsFit h
   pub block_size_begins : 1 ≤ h.block_size

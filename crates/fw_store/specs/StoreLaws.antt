@@ -44,7 +44,7 @@ HeaderStays = (d : Device) (slot : Slot) (at : ℕ) (bytes : List ℕ) → (writ
 abbrev pub SlotsStay : Type 0
 SlotsStay = (d : Device) (slot : Slot) (head : List ℕ) → slot_bytes (with_head d head) slot ≡ slot_bytes d slot
 
--- a store's bytes are its fields, one behind the other, but for the releases of an old one
+-- a store's bytes are its fields, one after the other, except the releases of an old one
 abbrev pub FieldsJoin : Type 0
 FieldsJoin = (bytes : List ℕ) (capacity : ℕ) → IsStore bytes capacity → HoldsStore bytes capacity (device_at capacity bytes)
 
@@ -61,11 +61,11 @@ FaultsShow = (count : ℕ) → count < most_faults → count < count_after false
 abbrev pub TornSize : Type 0
 TornSize = (bytes : List ℕ) (torn : ℕ) → length (half_torn bytes torn) ≡ length bytes
 
--- calls behind calls of which none failed are so many calls together
+-- calls after calls of which none failed are as many calls as both together
 abbrev pub CallsAdd : Type 0
 CallsAdd = (calls more : ℕ) (old between new : Option Fuse) (faultless : Bool) → Spends calls old between true → Spends more between new faultless
     → Spends (calls + more) old new faultless
 
--- behind a call that failed, those that are not made are counted like it
+-- after a call that failed, those that are not made are counted like it
 abbrev pub CallsEnd : Type 0
 CallsEnd = (calls all : ℕ) (old new : Option Fuse) → calls ≤ all → Spends calls old new false → Spends all old new false

@@ -257,7 +257,7 @@ fn number(bytes: [u8; 4]) -> u32
     u32::from_be_bytes(bytes)
 }
 
-/// Leaves so many zeros on a device, and nothing else.
+/// Leaves zeros of this length in bytes on a device, and nothing else.
 fn clear<D: ByteDevice>(device: &mut D, len: u64) -> Result<(), DeviceFault>
     ensures done { IsTrue (D.honest device.old) → OnOk result (D.contents device.new ≡ replicate len 0) }
     ensures kept { KeepsDevice D.honest D.sound D.room device.old device.new }
