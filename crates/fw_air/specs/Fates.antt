@@ -24,7 +24,7 @@ comes (Some Deliver) number = number ∷ []
 comes (Some Twice) number = number ∷ number ∷ []
 comes fate number = []
 
--- a datagram of this fate, if it is late
+-- a datagram of this fate, if it comes a round late
 abbrev pub waits : Option Fate → ℕ → List ℕ
 waits (Some Late) number = number ∷ []
 waits fate number = []

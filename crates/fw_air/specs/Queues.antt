@@ -33,7 +33,7 @@ left_of fates queue from end = record {
 }
 
 -- A round of a link. Each datagram that is sent in it, by the head end or by the meter, has the next fate of the list, in the order of
--- sending: it comes once or twice in this round, or it is lost, or it is late and comes at the beginning of the next one.
+-- sending: it comes once or twice in this round, or it is lost, or it comes a round late, at the beginning of the next one.
 pub record HasFates (fates : List Fate) (queue : Queue) (old : State) (events : List Event) (next : Queue) (new : State) : Type 0 where
   pub middle : State
   pub comes_all : AdmittedRun old (beginning queue ++ coming fates queue (length old.sent) (length new.sent)) middle

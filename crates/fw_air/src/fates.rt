@@ -17,7 +17,7 @@ pub enum Fate {
     Drop,
     /// It comes twice, at once.
     Twice,
-    /// It comes at the beginning of the next round.
+    /// It comes a round late, at the beginning of the next one.
     Late,
 }
 

@@ -50,8 +50,8 @@ impl LinkQueue {
     }
 
     /// Gives each datagram from number `from` on and below `end` its fate: the next one of the list, which is repeated for this link.
-    /// Returns those that come now, in the order of their numbers, each as often as it comes. Those that are late wait after the
-    /// others until `take_late`, and have had their fate then.
+    /// Returns those that come now, in the order of their numbers, each as often as it comes. Those that come a round late wait after
+    /// the others until `take_late`, and have had their fate then.
     ///
     /// # Errors
     ///

@@ -21,7 +21,8 @@ use Rattle.fw_cli.specs.Saying.{Says}
 
 -- ---- what a meter can't be initiated with
 
--- The first that applies: no campaign offers an image of such a name, its release is below the one that runs, its size isn't within the limits.
+-- The first that applies: no campaign offers an image of such a name, it has a release below that of the image that runs, its size isn't
+-- within the limits.
 abbrev pub reason_of_title : ℕ → Title → Reason
 reason_of_title running title =
     if title.campaign.serial == 0 then reason.Unopened

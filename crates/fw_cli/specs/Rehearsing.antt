@@ -19,7 +19,7 @@ use Rattle.fw_cli.specs.Report.{report_of, board_line}
 use Rattle.fw_cli.specs.Script.{SpellsScript, script_of}
 use Rattle.fw_cli.specs.Trace.{TellsTrace}
 
--- so many workers may there be
+-- a worker count: 1 to 8 workers, so nine workers are too many
 abbrev pub AreWorkers : ℕ → Type 0
 AreWorkers workers = (1 ≤ workers) × (workers ≤ 8)
 

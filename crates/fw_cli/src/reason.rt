@@ -23,7 +23,7 @@ pub(crate) enum Reason {
     Unnamed,
     /// It is the name of an image that no campaign offers.
     Unopened,
-    /// The release of the image is below that of the image that runs.
+    /// The image has a release below that of the image that runs.
     Below { release: u32, running: u32 },
     /// The size of the image isn't within the meter's limits.
     Limits,

@@ -30,7 +30,7 @@ is_operation_faultless outcome = true
 
 -- ---- the lines before any call of the store
 
--- What can be initiated, where an image of this release runs: an image that a campaign offers. Its release is not below that one, its size
+-- What can be initiated, where an image of this release runs: an image that a campaign offers, and none of a release below that. Its size
 -- is within the limits, and it has no more blocks than the meter has marks for.
 pub record IsOffer (limit block_size capacity release : ℕ) (name : Name) (size : ℕ) : Type 0 where
   pub opened : IsOpened name.campaign
@@ -39,7 +39,8 @@ pub record IsOffer (limit block_size capacity release : ℕ) (name : Name) (size
   pub limits : IsWithinLimits block_size size
   pub few : block_count block_size size ≤ limit
 
--- a block of an image of `size` bytes: its number, and just its length
+-- a block of an image of `size` bytes: its number, and just its length. Nothing in it says which image it is of, so a late block of
+-- another campaign may be one too.
 pub record IsBlock (block_size size number : ℕ) (value : List ℕ) : Type 0 where
   pub below : number < block_count block_size size
   pub long : length value ≡ block_end block_size size number - block_start block_size number
@@ -114,7 +115,8 @@ Tears honest old i value new =
     Leaves honest old new
     ⊎ ((there any : List ℕ) × (get old.cells i ≡ Some there) × (length any ≡ length value) × Leaves honest (with_cell old i any) new)
 
--- The goal's bytes, as the meter has them, are judged by the digest of the goal's name: they have it, or they have not.
+-- The goal's bytes, as the meter has them, are judged by the digest of the goal's name: they have it, or they have not, as where a late
+-- block of another campaign stands among them.
 abbrev pub Judges : Bool → Meter → Bool → Meter → Type 0
 Judges honest old true new =
     Leaves honest (record old { phase = sealed_phase old.phase }) new × (IsTrue honest → IsGenuine (goal_of old.phase) (goal_bytes old))

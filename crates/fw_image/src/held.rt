@@ -138,7 +138,8 @@ impl<S: ImageStore> Held<S> {
         Ok(())
     }
 
-    /// Stores a block, and marks it.
+    /// Stores a block, and marks it. A late block of another campaign that has a place in this image is stored too: only `verify`
+    /// finds it out, by the digest.
     pub(crate) fn block(&mut self, number: u32, value: &[u8]) -> Result<(), Refusal>
         requires { status_of self.old.meter.phase ≡ Initiated }
         ensures makes { Makes self.old (block number value.now) (outcome_of result) self.new }
@@ -544,8 +545,8 @@ fn mark_block<S: ImageStore>(
     Ok(())
 }
 
-/// Whether an image of this name and size can be received. Its release may be that of the image that runs, or a higher one, and
-/// the header has a mark for each of its blocks.
+/// Whether an image of this name and size can be received. It can't under a release below that of the image that runs, and the header
+/// must have a mark for each of its blocks.
 fn is_offer(header: &Header, capacity: u32, name: ImageName, size: u32) -> bool
     ensures { IsTrue result
         ↔ IsOffer (block_limit header.now.version) header.now.block_size capacity header.now.running_name.release name size }

@@ -49,7 +49,7 @@ is_verified VerificationFailed = true
 is_verified ActivationSuccessful = false
 
 -- a goal of a store of `capacity` bytes a slot, with a header for `limit` blocks, whose running image has this release: a head end's
--- campaign offers it, it fits a slot, its blocks are within the limits and no more than those, and its release isn't below that of the
+-- campaign offers it, it fits a slot, its blocks are within the limits and no more than those, and it hasn't a release below that of the
 -- running image
 pub record IsGoal (limit capacity block_size release : ℕ) (goal : Goal) : Type 0 where
   pub offered : goal.name.campaign ≢ factory
@@ -72,7 +72,7 @@ pub record IsHeader (capacity : ℕ) (h : Header) : Type 0 where
   pub running_size_fits : h.running_size ≤ capacity
   pub goal_by_status : is_some h.goal ≡ has_goal h.status
   pub goal : IfSome h.goal (IsGoal (block_limit h.version) capacity h.block_size h.running_name.release)
-  -- no number at or above the count is marked, and so none at all where there is no goal
+  -- no number at or above the count is marked, and so none at all where there is no goal; in a header whose marks are torn one may be
   pub unmarked : (i : ℕ) → goal_count h.block_size h.goal ≤ i → has h.marks i ≡ false
   -- a goal that was verified is there with all its blocks
   pub marked : IsTrue (is_verified h.status) → (i : ℕ) → i < goal_count h.block_size h.goal → has h.marks i ≡ true

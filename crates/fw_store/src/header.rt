@@ -106,7 +106,7 @@ pub struct Goal {
 impl Goal {
     /// Whether a store of this capacity, in bytes a slot, whose header has marks for `limit` blocks and whose running image has
     /// this release can receive it in blocks of this size: a campaign offers it, it fits a slot, its blocks are within their limits
-    /// and no more than those, and its release isn't below that one.
+    /// and no more than those, and it hasn't a release below that one.
     pub fn fits(&self, limit: u32, capacity: u32, block_size: u32, release: u32) -> bool
         ensures goal { IsTrue result ↔ IsGoal limit capacity block_size release self.now }
         ensures opened { IsTrue result → IsOpened self.now.name.campaign }
@@ -338,7 +338,7 @@ fn goal_count(goal: Option<Goal>, block_size: u32) -> u32
     }
 }
 
-/// Whether no number from this one on is marked.
+/// Whether no number from this one on is marked. In a header whose marks are torn one may be.
 fn is_unmarked_from(marks: &Pages, first: u32) -> bool
     ensures { IsTrue result ↔ ((i : ℕ) → first ≤ i → has marks.now i ≡ false) }
 {

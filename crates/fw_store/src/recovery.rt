@@ -31,8 +31,8 @@ use fw_undo::{Change, HeaderWrite, MAX_PART_SIZE};
 const LAST_SIZE: usize = MAX_HEADER_SIZE - FRONT_SIZE;
 
 /// Puts right what a power cut in a header write left on a device, by the bytes of its journal: where each sector of the header is the
-/// one of before or the one of after, and some of after are missing, those of before are put back. Any other device is left as it
-/// is, and so is each where the bytes are no whole journal.
+/// one of before or the one of after, and some of after are missing, those of before are put back. So a header whose marks are torn has
+/// the marks of before again. Any other device is left as it is, and so is each where the bytes are no whole journal.
 ///
 /// # Errors
 ///

@@ -184,7 +184,7 @@ pub(crate) const RELEASE_5: &[Exchange] = &[
     (GET_DIGEST, ABC_DIGEST),
 ];
 
-/// A meter that runs it refuses the same image without a release, and of a lower one.
+/// A meter that runs it refuses a release below it, and so the same image without a release.
 pub(crate) const LOWER_RELEASES: &[Exchange] = &[
     (INITIATE_ABC, OTHER_REASON),
     (INITIATE_RELEASE_4, OTHER_REASON),

@@ -54,6 +54,7 @@ impl Case for Found {
 }
 
 /// Either byte of the first part is in a sector of its own. Where the file has its new length already, a zero stands for what isn't written.
+/// What is torn here is found as a header whose marks are torn is.
 const FOUND: &[(Found, &str)] = &[
     (Found(b"ab", b""), "torn"),
     (Found(b"ad", b""), "torn"),

@@ -277,7 +277,7 @@ const REFUSED: &[(Patched, &str)] = &[
     (Patched(RECEIVING, 57, "00000000", 64), "none"),
     (Patched(RECEIVING, 57, "00000041", 64), "none"),
     (Patched(RECEIVING, 57, "00008001", 32_769), "none"),
-    // marks at the count, and at the end
+    // marks at the count, and at the end, as a header whose marks are torn may have
     (Patched(RECEIVING, 102, "60", 64), "none"),
     (Patched(RECEIVING, 613, "01", 64), "none"),
     (Patched(RECEIVING, 2157, "01", 64), "none"),

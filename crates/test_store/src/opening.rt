@@ -163,7 +163,7 @@ const STORED: &[(Stored, &str)] = &[
     // the image that runs
     (Stored(Head::Runs(b"abc"), b"bbbb", None), "None"),
     (Stored(Head::Runs(b"abd"), b"bbbb", None), "Some(BadImage)"),
-    // a goal of a lower release than that of the image that runs
+    // a goal of a release below that of the image that runs, and of an equal one
     (Stored(Head::Aims(4), b"bbbb", None), "Some(BadHeader)"),
     (Stored(Head::Aims(5), b"bbbb", None), "None"),
     // zeros, and a header of another form over an image that isn't genuine either

@@ -277,6 +277,7 @@ const BAD: &[(Rehearsal, &str)] = &[
     (Rehearsal("x\n", 1, 0, "dxtlD"), "BadFates"),
     (Rehearsal("x\n", 1, 0, "dxtl"), "BadLine 1"),
     (Rehearsal(NO_HEADS, 1, 1, "d"), "BadSetup"),
+    // no workers, and nine workers: there are 1 to 8
     (Rehearsal(FOUR, 1, 0, "d"), "BadSetup"),
     (Rehearsal(FOUR, 1, 9, "d"), "BadSetup"),
     (Rehearsal(TWICE, 1, 1, "d"), "Event"),

@@ -64,6 +64,7 @@ fn live_trace(rt: HostRuntime) -> Result<(), Fail> {
 const BAD: &[(Live, &str)] = &[
     (Live("x\n", 1, 0), "BadLine 1"),
     (Live(NO_HEADS, 1, 1), "BadSetup"),
+    // no workers, and nine workers: there are 1 to 8
     (Live(FOUR, 1, 0), "BadSetup"),
     (Live(FOUR, 1, 9), "BadSetup"),
     (Live(TWICE, 1, 1), "Event"),

@@ -186,7 +186,7 @@ const REHEARSALS: &[(Rehearsal, &str)] = &[
         Rehearsal(LARGE, OPENED_LARGE, 13, 1, GOOD_AIR),
         "row 7 1 1 done; meter 1 status 6 active 7 1 size 8193; activations 1; sent 38; board 1",
     ),
-    // the setup comes first: the workers, and what no world is made with
+    // the setup comes first: no workers and nine workers, where there are 1 to 8, and what no world is made with
     (Rehearsal(SMALL, OPENED, 9, 0, GOOD_AIR), "BadSetup"),
     (Rehearsal(SMALL, OPENED, 9, 9, GOOD_AIR), "BadSetup"),
     (Rehearsal(NO_HEAD, OPENED, 9, 0, GOOD_AIR), "BadSetup"),
