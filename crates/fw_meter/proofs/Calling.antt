@@ -8,8 +8,9 @@ use Rattle.fw_names.specs.Laws as names
 use Rattle.fw_names.specs.Name.{Name, SpellsName}
 use Rattle.fw_wrapper.specs.Laws as wrapper
 use Rattle.fw_server.specs.Meaning.{Meaning, read, enable, initiate, block, verify, activate, refused as denied, meaning_of, code_number}
-use Rattle.fw_server.specs.declared.planning.Refusal.{Refusal as Denial}
-use Rattle.fw_server.specs.declared.planning.Refusal.TheVariants.{ObjectUndefined, ObjectClassInconsistent, ReadWriteDenied, TypeUnmatched}
+use Rattle.fw_server.specs.Laws.{RefusesRequest}
+use Rattle.fw_server.specs.declared.code.ResultCode.{ResultCode}
+use Rattle.fw_server.specs.declared.code.ResultCode.TheVariants as code
 use Rattle.fw_store.specs.Faults.{Spends}
 use Rattle.fw_store.specs.declared.fuse.Fuse.{Fuse}
 use Rattle.fw_image.specs.Calls.{calls_for}
@@ -20,8 +21,7 @@ use Rattle.fw_image.specs.Step.{Operation, OperationOutcome, done, refused, veri
 use Rattle.fw_image.specs.declared.error.Refusal.{Refusal}
 use Rattle.fw_image.specs.declared.error.Refusal.TheVariants.{Disabled, BadInitiate, BadBlock, Missing, Fault, Differs}
 use Rattle.fw_meter.specs.Handling.{Brings, BringsNothing, Handles, Responds}
-use Rattle.fw_meter.specs.Inside.{CallsOf, IsCalled, IsMade, Steps, code_number as code_number_of}
-use Rattle.fw_meter.specs.declared.code.Code.TheVariants as code
+use Rattle.fw_meter.specs.Inside.{CallsOf, IsCalled, IsMade, Steps}
 use Rattle.fw_meter.specs.Step.{MeterResult, coded, tells_no_fault, operation_code, Operates, MeterStep, activation_of}
 use Rattle.fw_meter.specs.Stopping.{AsksFor, IsServed, MakesCalls, CallsStore, StopsAfter}
 use Rattle.fw_meter.proofs.Made.{not_served}
@@ -112,7 +112,7 @@ steps_made old new asked operation c asks steps (made, makes, told) = record {
 
 -- an initiate whose identifier is no name
 pub nameless : (s : State) (identifier : List ℕ) (size : ℕ) (e : Bool) → s.meter.enabled ≡ e → ((name : Name) → ¬ SpellsName identifier name)
-    → Steps s (initiate identifier size) (code_number_of (if e then code.OtherReason else code.ReadWriteDenied)) s
+    → Steps s (initiate identifier size) (code_number (if e then code.OtherReason else code.ReadWriteDenied)) s
 nameless s identifier size true on none = record {
   step = inr (none, rw on refl, refl);
   follows = record { honesty = refl; soundness = λ h. h; later = omega arith };
@@ -125,11 +125,15 @@ nameless s identifier size false off none = record {
 }
 
 -- a request that is refused for what it asks
-pub denied_called : (this : State) (denial : Denial) → IsCalled this (denied denial) this (tells_no_fault (coded (code_number denial)))
-denied_called this ObjectUndefined = none_called this (denied ObjectUndefined) (λ operation h. h)
-denied_called this ObjectClassInconsistent = none_called this (denied ObjectClassInconsistent) (λ operation h. h)
-denied_called this ReadWriteDenied = none_called this (denied ReadWriteDenied) (λ operation h. h)
-denied_called this TypeUnmatched = none_called this (denied TypeUnmatched) (λ operation h. h)
+pub denied_called : (this : State) (c : ResultCode) → RefusesRequest c → IsCalled this (denied c) this (tells_no_fault (coded (code_number c)))
+denied_called this code.Success refuses = absurd refuses
+denied_called this code.HardwareFault refuses = absurd refuses
+denied_called this code.TemporaryFailure refuses = absurd refuses
+denied_called this code.ReadWriteDenied refuses = none_called this (denied code.ReadWriteDenied) (λ operation h. h)
+denied_called this code.ObjectUndefined refuses = none_called this (denied code.ObjectUndefined) (λ operation h. h)
+denied_called this code.ObjectClassInconsistent refuses = none_called this (denied code.ObjectClassInconsistent) (λ operation h. h)
+denied_called this code.TypeUnmatched refuses = none_called this (denied code.TypeUnmatched) (λ operation h. h)
+denied_called this code.OtherReason refuses = absurd refuses
 
 -- ---- a datagram
 

@@ -1,6 +1,8 @@
 -- Operations that are refused, and those that a status lacks.
 use Rattle.std.proofs.Common.{◌≡◌, ◌≢◌, ℕ, Bool, true, false, IsTrue, List, if◌then◌else◌, ◌⊎◌, inl, inr, refl, sym, ap, ◌∙◌, arith}
 use Rattle.fw_store.specs.Faults.{count_after}
+use Rattle.fw_server.specs.Meaning.{code_number}
+use Rattle.fw_server.specs.declared.code.ResultCode.TheVariants as code
 use Rattle.fw_image.specs.declared.status.TransferStatus.TheVariants as status
 use Rattle.fw_image.specs.Meter.{Meter, Phase, idle, receiving, verifying, sealed, spoilt, switched, status_of}
 use Rattle.fw_image.specs.State.{State}
@@ -11,8 +13,7 @@ use Rattle.fw_image.specs.Step.{Operation, enable, initiate, block, verify, acti
 use Rattle.fw_image.specs.declared.error.Refusal.{Refusal}
 use Rattle.fw_image.specs.declared.error.Refusal.TheVariants.{Disabled, Missing}
 use Rattle.fw_meter.specs.Step.{refusal_code}
-use Rattle.fw_meter.specs.Inside.{IsMade, code_number}
-use Rattle.fw_meter.specs.declared.code.Code.TheVariants as code
+use Rattle.fw_meter.specs.Inside.{IsMade}
 
 refused_method : (m : Meter) (operation : Operation) (r : Refusal) → ((m.enabled ≡ false) × (r ≡ Disabled)) ⊎ ((m.enabled ≡ true) × (r ≡ refusal_in m.phase operation) × ¬ Admits m m.phase operation)
     → (m.enabled ≡ true) × Admits m m.phase operation → ⊥
@@ -28,7 +29,7 @@ not_served m verify r line serves = refused_method m verify r line serves
 not_served m activate r line serves = refused_method m activate r line serves
 
 -- a line refuses the operation
-refused_by : (s : State) (operation : Operation) (r : Refusal) (n : ℕ) → Refuses s.meter operation r → IsTrue (is_operation_faultless (refused r)) → n ≡ refusal_code r → IsMade s operation n s
+refused_by : (s : State) (operation : Operation) (r : Refusal) (n : ℕ) → Refuses s.meter operation r → IsTrue (is_operation_faultless (refused r)) → n ≡ code_number (refusal_code r) → IsMade s operation n s
 refused_by s operation r n line faultless told = (
   refused r,
   record {

@@ -4,7 +4,8 @@ use Rattle.fw_apdu.specs.Request.{RequestContent}
 use Rattle.fw_names.specs.Name.{Name}
 use Rattle.fw_server.specs.Meaning.{Meaning, read, refused, meaning_of, code_number}
 use Rattle.fw_server.specs.declared.object.Reading.{Reading}
-use Rattle.fw_server.specs.declared.planning.Refusal.{Refusal}
+use Rattle.fw_server.specs.declared.code.ResultCode.{ResultCode}
+use Rattle.fw_server.specs.Laws.{RefusesRequest}
 use Rattle.fw_image.specs.State.{State}
 use Rattle.fw_meter.specs.Step.{got, coded, tells_no_fault, activation_of, answer_of, MeterStep}
 use Rattle.fw_meter.specs.Handling.{Responds, reply_to}
@@ -35,13 +36,13 @@ responds_value this reading source invoke content reply activated asks replies n
   faults = subst (λ (m : Meaning). IsCalled this m this true) asks (none_called this (read reading) (λ operation h. h));
 }
 
-pub responds_code : (this : State) (refusal : Refusal) (source invoke : ℕ) (content : RequestContent) (reply : Option (List ℕ)) (activated : Option Name)
-    → refused refusal ≡ meaning_of content → reply ≡ reply_to source invoke content (coded (code_number refusal)) → activated ≡ None
+pub responds_code : (this : State) (c : ResultCode) (source invoke : ℕ) (content : RequestContent) (reply : Option (List ℕ)) (activated : Option Name)
+    → RefusesRequest c → refused c ≡ meaning_of content → reply ≡ reply_to source invoke content (coded (code_number c)) → activated ≡ None
     → Responds this.honest (IsCalled this (meaning_of content) this) this.meter source invoke content reply activated this.meter
-responds_code this refusal source invoke content reply activated asks replies none = record {
-  result = coded (code_number refusal);
-  steps = subst (λ (m : Meaning). MeterStep this.honest this.meter m (coded (code_number refusal)) this.meter) asks (refl, refl);
+responds_code this c source invoke content reply activated refuses asks replies none = record {
+  result = coded (code_number c);
+  steps = subst (λ (m : Meaning). MeterStep this.honest this.meter m (coded (code_number c)) this.meter) asks (refl, refl);
   replies = replies;
-  activates = none ∙ ap (λ (m : Meaning). activation_of m (coded (code_number refusal)) this.meter) asks;
-  faults = subst (λ (m : Meaning). IsCalled this m this (tells_no_fault (coded (code_number refusal)))) asks (denied_called this refusal);
+  activates = none ∙ ap (λ (m : Meaning). activation_of m (coded (code_number c)) this.meter) asks;
+  faults = subst (λ (m : Meaning). IsCalled this m this (tells_no_fault (coded (code_number c)))) asks (denied_called this c refuses);
 }

@@ -8,12 +8,12 @@ use Rattle.fw_image.specs.Calls.{calls_for, left_by_fault}
 use Rattle.fw_store.specs.Faults.{Spends}
 use Rattle.fw_store.specs.declared.fuse.Fuse.{Fuse}
 use Rattle.fw_wrapper.specs.Wrapper.{wrapped}
-use Rattle.fw_apdu.specs.Cosem.{success, hardware_fault, temporary_failure, read_write_denied, other_reason}
 use Rattle.fw_apdu.specs.Request.{RequestContent, get_request, set_request, action_request, is_confirmed}
 use Rattle.fw_apdu.specs.Response.{response_bytes}
 use Rattle.fw_apdu.specs.View.{request_content, request_invoke}
 use Rattle.fw_server.specs.Answer.{response_of}
-use Rattle.fw_server.specs.Meaning.{Meaning}
+use Rattle.fw_server.specs.Meaning.{Meaning, code_number}
+use Rattle.fw_server.specs.declared.code.ResultCode.{ResultCode}
 use Rattle.fw_server.specs.declared.outcome.Outcome.{Outcome}
 use Rattle.fw_image.specs.Phases.{state_in, IsInPhase}
 use Rattle.fw_image.specs.State.{State, Follows, Counts, Makes}
@@ -22,17 +22,8 @@ use Rattle.fw_image.specs.declared.phase.Phase.{Phase}
 use Rattle.fw_meter.specs.Step.{coded, tells_no_fault, operation_code, MeterStep}
 use Rattle.fw_meter.specs.Handling.{Brings, BringsNothing, reply_to, reply_bytes}
 use Rattle.fw_meter.specs.Stopping.{AsksFor}
-use Rattle.fw_meter.specs.declared.code.Code.{Code}
-use Rattle.fw_meter.specs.declared.code.Code.TheVariants as code
 use Rattle.fw_meter.specs.declared.replies.Replies.{Replies}
 use Rattle.fw_meter.specs.declared.serving.Heard.{Heard}
-
-abbrev pub code_number : Code → ℕ
-code_number code.Success = success
-code_number code.HardwareFault = hardware_fault
-code_number code.TemporaryFailure = temporary_failure
-code_number code.ReadWriteDenied = read_write_denied
-code_number code.OtherReason = other_reason
 
 -- what a datagram brought
 abbrev pub IsHeard : List ℕ → Option Heard → Type 0
@@ -58,7 +49,7 @@ abbrev pub reply_in : Replies → ℕ → Option (List ℕ)
 reply_in r c = option_map (λ bytes. slice_set bytes r.place c) (reply_bytes r.reply)
 
 abbrev pub AnswersEach : Heard → Replies → Type 0
-AnswersEach heard replies = (c : Code) → reply_in replies (code_number c) ≡ coded_reply heard (code_number c)
+AnswersEach heard replies = (c : ResultCode) → reply_in replies (code_number c) ≡ coded_reply heard (code_number c)
 
 -- an operation is made, and has this code
 abbrev pub IsMade : State → image.Operation → ℕ → State → Type 0

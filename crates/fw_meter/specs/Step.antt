@@ -3,9 +3,10 @@
 use Rattle.std.specs.Prelude.{◌≡◌, ℕ, zero, suc, Bool, true, false, Option, Some, None, if◌then◌else◌, ◌⊎◌}
 use Rattle.fw_names.specs.Name.{Name, SpellsName}
 use Rattle.fw_blocks.specs.Members.{first_missing}
-use Rattle.fw_apdu.specs.Cosem.{success, hardware_fault, temporary_failure, read_write_denied, other_reason}
 use Rattle.fw_server.specs.Meaning as meaning
 use Rattle.fw_server.specs.Meaning.{Meaning, instance_bytes, code_number}
+use Rattle.fw_server.specs.declared.code.ResultCode.{ResultCode}
+use Rattle.fw_server.specs.declared.code.ResultCode.TheVariants as code
 use Rattle.fw_server.specs.declared.object.Reading.{Reading}
 use Rattle.fw_server.specs.declared.object.Reading.TheVariants as attribute
 use Rattle.fw_server.specs.declared.outcome.ImageInfo.{ImageInfo}
@@ -50,19 +51,19 @@ answer_of m attribute.ActiveDigest = answer.ActiveDigest m.running.name.digest
 -- ---- operations
 
 -- the codes of refusals (own, over the codes of IEC 62056-5-3)
-abbrev pub refusal_code : Refusal → ℕ
-refusal_code Disabled = read_write_denied
-refusal_code BadInitiate = other_reason
-refusal_code BadBlock = other_reason
-refusal_code Missing = temporary_failure
-refusal_code Fault = hardware_fault
-refusal_code Differs = other_reason
+abbrev pub refusal_code : Refusal → ResultCode
+refusal_code Disabled = code.ReadWriteDenied
+refusal_code BadInitiate = code.OtherReason
+refusal_code BadBlock = code.OtherReason
+refusal_code Missing = code.TemporaryFailure
+refusal_code Fault = code.HardwareFault
+refusal_code Differs = code.OtherReason
 
 -- an operation's code: a verification that goes on is reported as one that is asked for too early
 abbrev pub operation_code : image.OperationOutcome → ℕ
-operation_code done = success
-operation_code (refused refusal) = refusal_code refusal
-operation_code verification_initiated = temporary_failure
+operation_code done = code_number code.Success
+operation_code (refused refusal) = code_number (refusal_code refusal)
+operation_code verification_initiated = code_number code.TemporaryFailure
 
 -- an operation is made, and its code returned
 abbrev pub Operates : Bool → Meter → Operation → MeterResult → Meter → Type 0
@@ -76,7 +77,7 @@ MeterStep honest old (meaning.refused refusal) result new = (result ≡ coded (c
 MeterStep honest old (meaning.enable b) result new = Operates honest old (image.enable b) result new
 MeterStep honest old (meaning.initiate identifier size) result new =
     ((name : Name) × SpellsName identifier name × Operates honest old (image.initiate name size) result new)
-    ⊎ (((name : Name) → ¬ SpellsName identifier name) × (result ≡ coded (if old.enabled then other_reason else read_write_denied)) × (new ≡ old))
+    ⊎ (((name : Name) → ¬ SpellsName identifier name) × (result ≡ coded (code_number (if old.enabled then code.OtherReason else code.ReadWriteDenied))) × (new ≡ old))
 MeterStep honest old (meaning.block i value) result new = Operates honest old (image.block i value) result new
 MeterStep honest old meaning.verify result new = Operates honest old image.verify result new
 MeterStep honest old meaning.activate result new = Operates honest old image.activate result new

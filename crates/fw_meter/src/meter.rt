@@ -21,9 +21,9 @@ ghost use Rattle.std.specs.Prelude.{
 ghost use Rattle.fw_store.specs.Faults.{HasCause, Spends, count_after};
 ghost use Rattle.fw_store.specs.declared.fuse.Fuse.{Fuse};
 ghost use Rattle.fw_server.specs.Meaning as meaning;
-ghost use Rattle.fw_server.specs.Meaning.{meaning_of};
+ghost use Rattle.fw_server.specs.Meaning.{code_number, meaning_of};
 ghost use Rattle.fw_server.specs.View.{operation_meaning};
-ghost use Rattle.fw_meter.specs.Inside.{code_number, IsCalled, Steps};
+ghost use Rattle.fw_meter.specs.Inside.{IsCalled, Steps};
 ghost use Rattle.fw_meter.specs.Step.{got, answer_of, activation_of, coded};
 ghost use Rattle.fw_apdu.specs.Request.{is_confirmed};
 ghost use Rattle.fw_apdu.specs.View.{request_content, request_invoke};
@@ -38,14 +38,13 @@ ghost use Rattle.fw_meter.specs.Handling.{Handles, Responds, MayWantMemory, repl
 ghost use Rattle.fw_meter.specs.Stopping.{CallsStore, StopsAfter};
 
 use crate::attributes::read;
-use crate::code::Code;
 use crate::error::OutOfMemory;
 use crate::operation::{activated, block, make};
 use crate::replies::Replies;
 use crate::serving::{Heard, hear};
 use fw_image::{MeterView, OpenError, Phase};
 use fw_names::ImageName;
-use fw_server::{Operation, Planned, Reading, plan};
+use fw_server::{Operation, Planned, Reading, ResultCode, plan};
 use fw_store::{ImageStore, MemoryStore, StoreFault};
 use std::alloc::Global;
 use std::marker::Model;
@@ -275,9 +274,10 @@ impl<S: ImageStore + Drop> MeterCore<S> {
         ensures err { OnErr result (self.new ≡ self.old) }
         ensures memory { OnErr result (IsTrue (is_confirmed (request_invoke heard.now.request))) }
     {
+        fw_server::laws::request_refusals();
         match plan(&heard.request) {
             Planned::Read(reading) => Ok(unchanged(self.tell(alloc, heard, reading)?)),
-            Planned::Refused(refusal) => Ok(unchanged(heard.code(alloc, refusal.code())?)),
+            Planned::Refused(code) => Ok(unchanged(heard.code(alloc, code.number())?)),
             Planned::Operate(operation) => self.operate(alloc, heard, operation),
         }
     }
@@ -327,7 +327,7 @@ impl<S: ImageStore + Drop> MeterCore<S> {
 
     /// Makes an operation, and returns its code and the name of the image that it switched to, if it did. A block leaves the
     /// phase where it is.
-    fn serve(&mut self, operation: Operation<'_>) -> (Code, Option<ImageName>)
+    fn serve(&mut self, operation: Operation<'_>) -> (ResultCode, Option<ImageName>)
         ensures steps { Steps self.old (operation_meaning operation.entry) (code_number result.0) self.new }
         ensures activated { result.1
             ≡ activation_of (operation_meaning operation.entry) (coded (code_number result.0)) self.new.meter }
@@ -339,7 +339,7 @@ impl<S: ImageStore + Drop> MeterCore<S> {
     }
 
     /// Receives a block. The phase stays where it is.
-    fn receive(&mut self, number: u32, value: &[u8]) -> Code
+    fn receive(&mut self, number: u32, value: &[u8]) -> ResultCode
         ensures { Steps self.old (meaning.block number value.now) (code_number result) self.new }
     {
         match &mut self.phase {
@@ -349,7 +349,7 @@ impl<S: ImageStore + Drop> MeterCore<S> {
     }
 
     /// Makes an operation that may lead to another phase, and so moves it.
-    fn change(&mut self, operation: Operation<'_>) -> (Code, Option<ImageName>)
+    fn change(&mut self, operation: Operation<'_>) -> (ResultCode, Option<ImageName>)
         ensures steps { Steps self.old (operation_meaning operation.entry) (code_number result.0) self.new }
         ensures activated { result.1
             ≡ activation_of (operation_meaning operation.entry) (coded (code_number result.0)) self.new.meter }

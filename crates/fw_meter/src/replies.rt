@@ -3,13 +3,14 @@
 ghost use Rattle.std.specs.Prelude.{◌≡◌, IfOk, OnErr, IsTrue, slice_set};
 ghost use Rattle.fw_apdu.specs.Request.{is_confirmed};
 ghost use Rattle.fw_apdu.specs.View.{request_content, request_invoke};
+ghost use Rattle.fw_server.specs.Meaning.{code_number};
 ghost use Rattle.fw_meter.specs.Handling.{reply_bytes};
-ghost use Rattle.fw_meter.specs.Inside.{code_number, code_place, AnswersEach, reply_in};
+ghost use Rattle.fw_meter.specs.Inside.{code_place, AnswersEach, reply_in};
 
-use crate::code::Code;
 use crate::error::OutOfMemory;
 use crate::serving::Heard;
 use fw_apdu::Request;
+use fw_server::ResultCode;
 use std::alloc::Global;
 
 /// The reply of an operation, except its code, which is put in when it is known. It is made before the store is called, so
@@ -28,13 +29,13 @@ impl Replies {
         ensures memory { OnErr result (IsTrue (is_confirmed (request_invoke heard.now.request))) }
     {
         Ok(Replies {
-            reply: heard.code(alloc, Code::Success.number())?,
+            reply: heard.code(alloc, ResultCode::Success.number())?,
             place: place_of(&heard.request),
         })
     }
 
     /// The reply with this code.
-    pub(crate) fn with(self, code: Code) -> Option<Vec<u8>>
+    pub(crate) fn with(self, code: ResultCode) -> Option<Vec<u8>>
         ensures { reply_bytes result ≡ reply_in self (code_number code) }
     {
         let Replies { reply, place } = self;

@@ -3,3 +3,4 @@ pub mod Packing
 pub mod Sizes
 pub mod OnlyName
 pub mod OnlyIdentifier
+pub mod RequestRefusals

@@ -11,7 +11,7 @@ use Rattle.fw_server.specs.declared.object.Object.{Object}
 use Rattle.fw_server.specs.declared.object.Object.TheVariants.{ImageTransfer, ActiveIdentifier, ActiveSignature}
 use Rattle.fw_server.specs.declared.object.Reading.{Reading}
 use Rattle.fw_server.specs.declared.object.Reading.TheVariants.{LogicalName, BlockSize, TransferredBlocks, FirstNotTransferred, TransferEnabled, TransferStatus, ToActivate, ActiveName, ActiveDigest}
-use Rattle.fw_server.specs.declared.planning.Refusal.TheVariants.{ObjectClassInconsistent, ReadWriteDenied}
+use Rattle.fw_server.specs.declared.code.ResultCode.TheVariants.{ObjectClassInconsistent, ReadWriteDenied}
 use Rattle.fw_server.specs.Laws.{OnlyIdentifier}
 
 -- no attribute of Image transfer is it

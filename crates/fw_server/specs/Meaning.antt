@@ -6,20 +6,24 @@ use Rattle.std.specs.Cmp.Lexicographic.{pointwise}
 use Rattle.fw_axdr.specs.Value.{Value, Values, structure, boolean, double_long_unsigned, octet_string, integer, none, more}
 use Rattle.fw_apdu.specs.Request.{RequestContent, get_request, set_request, action_request, request_descriptor}
 use Rattle.fw_apdu.specs.Cosem as cosem
-use Rattle.fw_apdu.specs.Cosem.{image_transfer, active_firmware_identifier, active_firmware_signature, data_class, image_transfer_class, logical_name, image_block_size, image_transferred_blocks_status, image_first_not_transferred_block_number, image_transfer_enabled, image_transfer_status, image_to_activate_info, image_transfer_initiate, image_block_transfer, image_verify, image_activate, read_write_denied, object_undefined, object_class_inconsistent, type_unmatched}
+use Rattle.fw_apdu.specs.Cosem.{image_transfer, active_firmware_identifier, active_firmware_signature, data_class, image_transfer_class, logical_name, image_block_size, image_transferred_blocks_status, image_first_not_transferred_block_number, image_transfer_enabled, image_transfer_status, image_to_activate_info, image_transfer_initiate, image_block_transfer, image_verify, image_activate, success, hardware_fault, temporary_failure, read_write_denied, object_undefined, object_class_inconsistent, type_unmatched, other_reason}
 use Rattle.fw_server.specs.declared.object.Object.{Object}
 use Rattle.fw_server.specs.declared.object.Object.TheVariants.{ImageTransfer, ActiveIdentifier, ActiveSignature}
 use Rattle.fw_server.specs.declared.object.Reading.{Reading}
 use Rattle.fw_server.specs.declared.object.Reading.TheVariants.{LogicalName, BlockSize, TransferredBlocks, FirstNotTransferred, TransferEnabled, TransferStatus, ToActivate, ActiveName, ActiveDigest}
-use Rattle.fw_server.specs.declared.planning.Refusal.{Refusal}
-use Rattle.fw_server.specs.declared.planning.Refusal.TheVariants.{ObjectUndefined, ObjectClassInconsistent, ReadWriteDenied, TypeUnmatched}
+use Rattle.fw_server.specs.declared.code.ResultCode.{ResultCode}
+use Rattle.fw_server.specs.declared.code.ResultCode.TheVariants.{Success, HardwareFault, TemporaryFailure, ReadWriteDenied, ObjectUndefined, ObjectClassInconsistent, TypeUnmatched, OtherReason}
 
--- the codes by which a request is refused (IEC 62056-5-3, Data-Access-Result and Action-Result)
-abbrev pub code_number : Refusal → ℕ
+-- the numbers of the codes (IEC 62056-5-3, Data-Access-Result and Action-Result)
+abbrev pub code_number : ResultCode → ℕ
+code_number Success = success
+code_number HardwareFault = hardware_fault
+code_number TemporaryFailure = temporary_failure
+code_number ReadWriteDenied = read_write_denied
 code_number ObjectUndefined = object_undefined
 code_number ObjectClassInconsistent = object_class_inconsistent
-code_number ReadWriteDenied = read_write_denied
 code_number TypeUnmatched = type_unmatched
+code_number OtherReason = other_reason
 
 -- the logical names of the objects
 abbrev pub instance_bytes : Object → List ℕ
@@ -68,11 +72,11 @@ pub data Meaning : Type 0 where
   block : ℕ → List ℕ → Meaning
   verify : Meaning
   activate : Meaning
-  refused : Refusal → Meaning
+  refused : ResultCode → Meaning
 
-abbrev pub or_refused : Refusal → Option Meaning → Meaning
-or_refused refusal None = refused refusal
-or_refused refusal (Some meaning) = meaning
+abbrev pub or_refused : ResultCode → Option Meaning → Meaning
+or_refused code None = refused code
+or_refused code (Some meaning) = meaning
 
 -- ---- the shapes of parameters
 

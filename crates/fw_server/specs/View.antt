@@ -16,4 +16,4 @@ operation_meaning operation.Activate = meaning.activate
 abbrev pub planned_meaning : Planned → Meaning
 planned_meaning (planned.Read reading) = meaning.read reading
 planned_meaning (planned.Operate operation) = operation_meaning operation
-planned_meaning (planned.Refused refusal) = meaning.refused refusal
+planned_meaning (planned.Refused code) = meaning.refused code

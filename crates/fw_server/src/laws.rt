@@ -1,6 +1,12 @@
-//! Laws of what is read of a meter, over the definitions alone.
+//! Laws of what requests ask and of what is read of a meter, over the definitions alone.
 
-ghost use Rattle.fw_server.specs.Laws.{OnlyActiveName, OnlyIdentifier};
+ghost use Rattle.fw_server.specs.Laws.{OnlyActiveName, OnlyIdentifier, RequestRefusals};
+
+/// A request alone, whatever the meter's state, is refused by one of four codes: object-undefined, object-class-inconsistent,
+/// read-write-denied or type-unmatched.
+pub fn request_refusals()
+    ensures { RequestRefusals }
+{}
 
 /// Of what can be read, the active name and nothing else has an octet-string of 41 or 45 bytes for its value.
 pub fn only_active_name()

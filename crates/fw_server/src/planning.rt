@@ -19,42 +19,14 @@ ghost use Rattle.fw_server.specs.Meaning.{
   number_in,
   two_in,
   two_of,
-  code_number,
 };
 ghost use Rattle.fw_server.specs.View.{operation_meaning, planned_meaning};
-ghost use Rattle.fw_server.specs.declared.planning.Refusal.TheVariants.{TypeUnmatched};
+ghost use Rattle.fw_server.specs.declared.code.ResultCode.TheVariants.{TypeUnmatched};
 
+use crate::code::ResultCode;
 use crate::object::{Object, Reading};
 use fw_apdu::{Request, cosem};
 use fw_axdr::{Data, Items};
-
-/// The codes of a Data-Access-Result or an Action-Result by which a request alone is refused, whatever the meter's state
-/// (IEC 62056-5-3). Requests are judged in this order, and the first that applies is given (own).
-#[derive(Clone, Copy, Debug, PartialEq, Eq)]
-pub enum Refusal {
-    /// The meter has no object of the logical name.
-    ObjectUndefined,
-    /// The object is of another class.
-    ObjectClassInconsistent,
-    /// The object has no such attribute or method, or the attribute can't be set.
-    ReadWriteDenied,
-    /// The parameter or the new value is absent or of another shape.
-    TypeUnmatched,
-}
-
-impl Refusal {
-    /// The number of the code.
-    pub fn code(self) -> u8
-        ensures { result ≡ code_number self }
-    {
-        match self {
-            Refusal::ObjectUndefined => cosem::OBJECT_UNDEFINED,
-            Refusal::ObjectClassInconsistent => cosem::OBJECT_CLASS_INCONSISTENT,
-            Refusal::ReadWriteDenied => cosem::READ_WRITE_DENIED,
-            Refusal::TypeUnmatched => cosem::TYPE_UNMATCHED,
-        }
-    }
-}
 
 /// An operation of Image transfer, with what it borrows from its request.
 #[derive(Clone, Copy, Debug, PartialEq, Eq)]
@@ -78,8 +50,9 @@ pub enum Planned<'a> {
     Read(Reading),
     /// SET or ACTION.
     Operate(Operation<'a>),
-    /// None of these.
-    Refused(Refusal),
+    /// None of these, by object-undefined, object-class-inconsistent, read-write-denied or type-unmatched. Requests are judged in this
+    /// order, and the first that applies is given (own).
+    Refused(ResultCode),
 }
 
 /// The read or the operation that a request asks for, or the code that refuses it where the request alone decides. No meter is looked
@@ -88,10 +61,10 @@ pub fn plan(request: &Request) -> Planned<'_>
     ensures { planned_meaning result ≡ meaning_of (request_content request.now) }
 {
     let Some(object) = Object::named(request.instance()) else {
-        return Planned::Refused(Refusal::ObjectUndefined);
+        return Planned::Refused(ResultCode::ObjectUndefined);
     };
     if request.class() != object.class() {
-        return Planned::Refused(Refusal::ObjectClassInconsistent);
+        return Planned::Refused(ResultCode::ObjectClassInconsistent);
     }
     asked(object, request)
 }
@@ -103,7 +76,7 @@ fn asked(object: Object, request: &Request) -> Planned<'_>
     match (object, request) {
         (_, Request::Get { attribute, .. }) => match object.attribute(*attribute) {
             Some(reading) => Planned::Read(reading),
-            None => Planned::Refused(Refusal::ReadWriteDenied),
+            None => Planned::Refused(ResultCode::ReadWriteDenied),
         },
         (
             Object::ImageTransfer,
@@ -121,7 +94,7 @@ fn asked(object: Object, request: &Request) -> Planned<'_>
                 ..
             },
         ) => method_of(*method, parameter),
-        _ => Planned::Refused(Refusal::ReadWriteDenied),
+        _ => Planned::Refused(ResultCode::ReadWriteDenied),
     }
 }
 
@@ -134,7 +107,7 @@ fn method_of(method: i8, parameter: &Option<Data>) -> Planned<'_>
         cosem::IMAGE_BLOCK_TRANSFER => or_unmatched(parameter.as_ref().and_then(block)),
         cosem::IMAGE_VERIFY => or_unmatched(parameter.as_ref().and_then(verify)),
         cosem::IMAGE_ACTIVATE => or_unmatched(parameter.as_ref().and_then(activate)),
-        _ => Planned::Refused(Refusal::ReadWriteDenied),
+        _ => Planned::Refused(ResultCode::ReadWriteDenied),
     }
 }
 
@@ -144,7 +117,7 @@ fn or_unmatched(operation: Option<Operation<'_>>) -> Planned<'_>
 {
     match operation {
         Some(operation) => Planned::Operate(operation),
-        None => Planned::Refused(Refusal::TypeUnmatched),
+        None => Planned::Refused(ResultCode::TypeUnmatched),
     }
 }
 

@@ -1,7 +1,7 @@
 //! What requests ask, before any meter is looked at.
 
 use fw_apdu::{Request, read_request};
-use fw_server::{Object, Refusal, plan};
+use fw_server::{Object, ResultCode, plan};
 use std::alloc::Global;
 use std::test::Fail;
 use test_support::{Case, each};
@@ -216,20 +216,24 @@ fn requests(rt: HostRuntime) -> Result<(), Fail> {
     each(rt.alloc(), REFUSALS)
 }
 
-/// The code of a refusal.
-struct Code(Refusal);
+/// A code: its number, as IEC 62056-5-3 has it.
+struct Code(ResultCode);
 
 impl Case for Code {
     fn told(&self, alloc: Global) -> Result<String, Fail> {
-        Ok(format!(in alloc; "{}", self.0.code())?)
+        Ok(format!(in alloc; "{}", self.0.number())?)
     }
 }
 
 const CODES: &[(Code, &str)] = &[
-    (Code(Refusal::ObjectUndefined), "4"),
-    (Code(Refusal::ObjectClassInconsistent), "9"),
-    (Code(Refusal::ReadWriteDenied), "3"),
-    (Code(Refusal::TypeUnmatched), "12"),
+    (Code(ResultCode::Success), "0"),
+    (Code(ResultCode::HardwareFault), "1"),
+    (Code(ResultCode::TemporaryFailure), "2"),
+    (Code(ResultCode::ReadWriteDenied), "3"),
+    (Code(ResultCode::ObjectUndefined), "4"),
+    (Code(ResultCode::ObjectClassInconsistent), "9"),
+    (Code(ResultCode::TypeUnmatched), "12"),
+    (Code(ResultCode::OtherReason), "250"),
 ];
 
 /// An object by its logical name.

@@ -1,11 +1,12 @@
-use Rattle.std.proofs.Common.{refl}
+use Rattle.std.proofs.Common.{refl, ap}
+use Rattle.fw_server.specs.Meaning.{code_number}
 use Rattle.fw_image.specs.Step.{refused}
 use Rattle.fw_image.specs.Phases.{state_in}
 use Rattle.fw_meter.proofs.Made.{lacks_activate, not_verified}
 use Rattle.fw_meter.proofs.operation.activate.Goals as goal
 
 pub returns-in-Err-clause-made : goal.returns-in-Err-clause-made
-returns-in-Err-clause-made g c = rw c.in-Verified.is (refused c.in-Err.refusal, c.in-Err.ensures.makes, c.of.ensures)
+returns-in-Err-clause-made g c = rw c.in-Verified.is (refused c.in-Err.refusal, c.in-Err.ensures.makes, ap code_number c.code_of.ensures)
 
 pub returns-in_default : goal.returns-in_default
 returns-in_default g c =

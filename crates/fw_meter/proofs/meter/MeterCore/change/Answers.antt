@@ -1,8 +1,9 @@
 use Rattle.std.proofs.Common.{◌≡◌, ap, subst, ◌∙◌}
+use Rattle.fw_server.specs.Meaning.{code_number}
 use Rattle.fw_server.specs.View.{operation_meaning}
 use Rattle.fw_image.specs.Phases.{state_in}
 use Rattle.fw_image.specs.State.{State}
-use Rattle.fw_meter.specs.Inside.{code_number, state_there, Steps}
+use Rattle.fw_meter.specs.Inside.{state_there, Steps}
 use Rattle.fw_meter.proofs.meter.MeterCore.change.Goals as goal
 
 pub returns-clause-steps : goal.returns-clause-steps

@@ -1,7 +1,7 @@
 use Rattle.std.proofs.Common.{◌∙◌}
 use Rattle.fw_apdu.specs.View.{request_content, request_invoke}
+use Rattle.fw_server.specs.Meaning.{code_number}
 use Rattle.fw_server.specs.View.{operation_meaning}
-use Rattle.fw_meter.specs.Inside.{code_number}
 use Rattle.fw_meter.proofs.Responding.{responds}
 use Rattle.fw_meter.proofs.meter.MeterCore.operate.Goals as goal
 

@@ -1,9 +1,10 @@
 use Rattle.std.proofs.Common.{◌≡◌, refl, sym, ap, subst, ◌∙◌}
 use Rattle.fw_server.specs.Meaning as meaning
+use Rattle.fw_server.specs.Meaning.{code_number}
 use Rattle.fw_image.specs.Phases.{state_in}
 use Rattle.fw_image.specs.State.{State}
 use Rattle.fw_image.specs.Step as image
-use Rattle.fw_meter.specs.Inside.{code_number, state_there, Steps}
+use Rattle.fw_meter.specs.Inside.{state_there, Steps}
 use Rattle.fw_meter.proofs.Calling.{steps_made}
 use Rattle.fw_meter.proofs.meter.MeterCore.receive.Goals as goal
 

@@ -1,8 +1,9 @@
 use Rattle.std.proofs.Common.{ap, set, ◌∙◌}
 use Rattle.std.specs.Option.{option_map}
 use Rattle.fw_apdu.specs.View.{request_content, request_invoke}
+use Rattle.fw_server.specs.Meaning.{code_number}
 use Rattle.fw_meter.specs.Handling.{reply_bytes}
-use Rattle.fw_meter.specs.Inside.{code_number, code_place}
+use Rattle.fw_meter.specs.Inside.{code_place}
 use Rattle.fw_meter.proofs.Coding.{coded_in_place}
 use Rattle.fw_meter.proofs.replies.Replies.prepare.Goals as goal
 
