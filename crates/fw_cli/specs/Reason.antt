@@ -1,6 +1,7 @@
 -- Public vocabulary: why a meter refused an initiate that a datagram answers (IEC 62056-6-2, image_transfer_initiate; own rules of which images
 -- can be initiated).
 use Rattle.std.specs.Prelude.{◌≡◌, ℕ, ◌<◌, ◌≤◌, ◌==◌, ◌⊎◌, nat_lt, if◌then◌else◌, List, [], ◌∷◌, ◌++◌, take, length, slice_get, slice_index_or, Option, Some, None, codes, decimal}
+use Rattle.fw_apdu.specs.Cosem.{other_reason}
 use Rattle.fw_image.specs.Meter.{Meter}
 use Rattle.fw_world.specs.declared.datagram.Direction.{Direction}
 use Rattle.fw_world.specs.declared.datagram.Direction.TheVariants.{ToMeter, ToHead}
@@ -96,7 +97,7 @@ abbrev pub reason_words : Option Reason → List ℕ
 reason_words None = []
 reason_words (Some r) = cause_words r
 
--- 250, other-reason, is the code of an initiate that can't be
+-- other-reason is the code of an initiate that can't be
 abbrev pub reason_told : Saying → Option Reason → Option Reason
-reason_told (saying.ActionCode c) r = if c == 250 then r else None
+reason_told (saying.ActionCode c) r = if c == other_reason then r else None
 reason_told s r = None

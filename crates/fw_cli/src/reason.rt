@@ -12,6 +12,7 @@ ghost use Rattle.fw_cli.specs.declared.saying.Saying.{Saying};
 ghost use Rattle.fw_cli.specs.Reason.{AreReasons, HasReason, HasReasonAt, reason_of, reason_of_title, reason_told, reason_words, cause_words};
 
 use crate::saying::{Saying, Title, asked};
+use fw_apdu::cosem;
 use fw_names::MeterId;
 use fw_world::{Datagram, Direction, Event, Setup, SetupError, StepError, World};
 use std::alloc::{AllocError, Global};
@@ -171,7 +172,7 @@ pub(crate) fn reason_told(saying: &Saying, reason: Option<Reason>) -> Option<Rea
     ensures { result ≡ reason_told saying.now reason }
 {
     match saying {
-        Saying::ActionCode(250) => reason,
+        Saying::ActionCode(cosem::OTHER_REASON) => reason,
         _ => None,
     }
 }

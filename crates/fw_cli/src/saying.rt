@@ -104,6 +104,10 @@ fn ask_of(planned: Planned<'_>, size: usize) -> Saying
     match planned {
         Planned::Read(attribute) => Saying::Get(attribute),
         Planned::Operate(operation) => operation_of(operation, size),
+        Planned::Block { number, value } => Saying::Block {
+            number,
+            size: value.len(),
+        },
         Planned::Refused(_) => Saying::Unread(size),
     }
 }
@@ -117,10 +121,6 @@ fn operation_of(operation: Operation<'_>, size: usize) -> Saying
         Operation::Initiate { identifier, size } => match title_in(identifier) {
             Some(title) => Saying::Initiate { title, size },
             None => Saying::InitiateUnnamed(size),
-        },
-        Operation::Block { number, value } => Saying::Block {
-            number,
-            size: value.len(),
         },
         Operation::Verify => Saying::Verify,
         Operation::Activate => Saying::Activate,

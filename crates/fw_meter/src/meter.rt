@@ -279,6 +279,7 @@ impl<S: ImageStore + Drop> MeterCore<S> {
             Planned::Read(reading) => Ok(unchanged(self.tell(alloc, heard, reading)?)),
             Planned::Refused(code) => Ok(unchanged(heard.code(alloc, code.number())?)),
             Planned::Operate(operation) => self.operate(alloc, heard, operation),
+            Planned::Block { number, value } => self.take_block(alloc, heard, number, value),
         }
     }
 
@@ -318,24 +319,32 @@ impl<S: ImageStore + Drop> MeterCore<S> {
         ensures memory { OnErr result (IsTrue (is_confirmed (request_invoke heard.now.request))) }
     {
         let replies = Replies::prepare(alloc, heard)?;
-        let (code, activated) = self.serve(operation);
+        let (code, activated) = self.change(operation);
         Ok(Handled {
             reply: replies.with(code),
             activated,
         })
     }
 
-    /// Makes an operation, and returns its code and the name of the image that it switched to, if it did. A block leaves the
-    /// phase where it is.
-    fn serve(&mut self, operation: Operation<'_>) -> (ResultCode, Option<ImageName>)
-        ensures steps { Steps self.old (operation_meaning operation.entry) (code_number result.0) self.new }
-        ensures activated { result.1
-            ≡ activation_of (operation_meaning operation.entry) (coded (code_number result.0)) self.new.meter }
+    /// Takes the block that a request carries, which leaves the phase where it is. Its reply is made before, except the code.
+    fn take_block(
+        &mut self,
+        alloc: Global,
+        heard: &Heard,
+        number: u32,
+        value: &[u8],
+    ) -> Result<Handled, OutOfMemory>
+        requires { meaning.block number value.now ≡ meaning_of (request_content heard.now.request) }
+        ensures step { IfOk result (λ h. Responds self.old.honest
+            (IsCalled self.old (meaning_of (request_content heard.now.request)) self.new) self.old.meter heard.now.source
+            (request_invoke heard.now.request) (request_content heard.now.request) (reply_bytes h.reply) h.activated self.new.meter) }
+        ensures follows { Follows self.old self.new }
+        ensures err { OnErr result (self.new ≡ self.old) }
+        ensures memory { OnErr result (IsTrue (is_confirmed (request_invoke heard.now.request))) }
     {
-        match operation {
-            Operation::Block { number, value } => (self.receive(number, value), None),
-            other => self.change(other),
-        }
+        let replies = Replies::prepare(alloc, heard)?;
+        let code = self.receive(number, value);
+        Ok(unchanged(replies.with(code)))
     }
 
     /// Receives a block. The phase stays where it is.
@@ -348,7 +357,8 @@ impl<S: ImageStore + Drop> MeterCore<S> {
         }
     }
 
-    /// Makes an operation that may lead to another phase, and so moves it.
+    /// Makes an operation that may lead to another phase, and so moves it. Returns its code, and the name of the image that it switched
+    /// to, if it did.
     fn change(&mut self, operation: Operation<'_>) -> (ResultCode, Option<ImageName>)
         ensures steps { Steps self.old (operation_meaning operation.entry) (code_number result.0) self.new }
         ensures activated { result.1

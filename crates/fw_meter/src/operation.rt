@@ -29,10 +29,6 @@ pub(crate) fn make<S: ImageStore>(
     match operation {
         Operation::Enable(enabled) => enable(phase, enabled),
         Operation::Initiate { identifier, size } => offer(phase, identifier, size),
-        Operation::Block { number, value } => {
-            let mut phase = phase;
-            (block(&mut phase, number, value), phase)
-        }
         Operation::Verify => verify(phase),
         Operation::Activate => activate(phase),
     }

@@ -9,11 +9,11 @@ use Rattle.fw_server.specs.declared.planning.Planned.TheVariants as planned
 abbrev pub operation_meaning : Operation → Meaning
 operation_meaning (operation.Enable enabled) = meaning.enable enabled
 operation_meaning (operation.Initiate identifier size) = meaning.initiate identifier.now size
-operation_meaning (operation.Block number value) = meaning.block number value.now
 operation_meaning operation.Verify = meaning.verify
 operation_meaning operation.Activate = meaning.activate
 
 abbrev pub planned_meaning : Planned → Meaning
 planned_meaning (planned.Read reading) = meaning.read reading
 planned_meaning (planned.Operate operation) = operation_meaning operation
+planned_meaning (planned.Block number value) = meaning.block number value.now
 planned_meaning (planned.Refused code) = meaning.refused code

@@ -4,6 +4,7 @@ ghost use Rattle.std.specs.Prelude.{◌≡◌};
 ghost use Rattle.std.specs.Option.{option_map, option_copied};
 ghost use Rattle.fw_axdr.specs.View.{value_of};
 ghost use Rattle.fw_apdu.specs.View.{request_content};
+ghost use Rattle.fw_server.specs.Meaning as meaning;
 ghost use Rattle.fw_server.specs.Meaning.{
   meaning_of,
   asked_of,
@@ -28,15 +29,13 @@ use crate::object::{Object, Reading};
 use fw_apdu::{Request, cosem};
 use fw_axdr::{Data, Items};
 
-/// An operation of Image transfer, with what it borrows from its request.
+/// An operation of Image transfer, except image_block_transfer, with what it borrows from its request.
 #[derive(Clone, Copy, Debug, PartialEq, Eq)]
 pub enum Operation<'a> {
     /// SET of image_transfer_enabled, attribute 5.
     Enable(bool),
     /// ACTION of image_transfer_initiate, method 1: the image's identifier, and its size in bytes.
     Initiate { identifier: &'a [u8], size: u32 },
-    /// image_block_transfer, method 2: the number of a block, from 0 on, and its bytes.
-    Block { number: u32, value: &'a [u8] },
     /// image_verify, method 3.
     Verify,
     /// image_activate, method 4.
@@ -48,8 +47,10 @@ pub enum Operation<'a> {
 pub enum Planned<'a> {
     /// GET of an attribute.
     Read(Reading),
-    /// SET or ACTION.
+    /// SET, or ACTION of any method except image_block_transfer.
     Operate(Operation<'a>),
+    /// image_block_transfer, method 2: the number of a block, from 0 on, and its bytes.
+    Block { number: u32, value: &'a [u8] },
     /// None of these, by object-undefined, object-class-inconsistent, read-write-denied or type-unmatched. Requests are judged in this
     /// order, and the first that applies is given (own).
     Refused(ResultCode),
@@ -104,7 +105,7 @@ fn method_of(method: i8, parameter: &Option<Data>) -> Planned<'_>
 {
     match method {
         cosem::IMAGE_TRANSFER_INITIATE => or_unmatched(parameter.as_ref().and_then(initiate)),
-        cosem::IMAGE_BLOCK_TRANSFER => or_unmatched(parameter.as_ref().and_then(block)),
+        cosem::IMAGE_BLOCK_TRANSFER => block_or_unmatched(parameter.as_ref().and_then(block)),
         cosem::IMAGE_VERIFY => or_unmatched(parameter.as_ref().and_then(verify)),
         cosem::IMAGE_ACTIVATE => or_unmatched(parameter.as_ref().and_then(activate)),
         _ => Planned::Refused(ResultCode::ReadWriteDenied),
@@ -117,6 +118,16 @@ fn or_unmatched(operation: Option<Operation<'_>>) -> Planned<'_>
 {
     match operation {
         Some(operation) => Planned::Operate(operation),
+        None => Planned::Refused(ResultCode::TypeUnmatched),
+    }
+}
+
+/// The block, or the refusal of a parameter of another shape.
+fn block_or_unmatched(block: Option<(u32, &[u8])>) -> Planned<'_>
+    ensures { planned_meaning result ≡ or_refused TypeUnmatched (option_map (λ b. meaning.block b.0 b.1.now) block.entry) }
+{
+    match block {
+        Some((number, value)) => Planned::Block { number, value },
         None => Planned::Refused(ResultCode::TypeUnmatched),
     }
 }
@@ -152,13 +163,13 @@ fn initiate(parameter: &Data) -> Option<Operation<'_>>
 }
 
 /// image_block_transfer, of the structure of a block number and the block's bytes.
-fn block(parameter: &Data) -> Option<Operation<'_>>
-    ensures { option_map operation_meaning result ≡ block_of (value_of parameter.now) }
+fn block(parameter: &Data) -> Option<(u32, &[u8])>
+    ensures { option_map (λ b. meaning.block b.0 b.1.now) result ≡ block_of (value_of parameter.now) }
 {
     let (first, second) = two(parameter)?;
     let number = number(first)?;
     let value = octets(second)?;
-    Some(Operation::Block { number, value })
+    Some((number, value))
 }
 
 /// A new value of image_transfer_enabled.

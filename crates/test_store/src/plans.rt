@@ -75,11 +75,11 @@ const OPERATIONS: &[(Asked, &str)] = &[
     ),
     (
         Asked("c301c1001200002c0000ff02010202060000000109026162"),
-        "Operate(Block { number: 1, value: [97, 98] })",
+        "Block { number: 1, value: [97, 98] }",
     ),
     (
         Asked("c301c1001200002c0000ff0201020206ffffffff0900"),
-        "Operate(Block { number: 4294967295, value: [] })",
+        "Block { number: 4294967295, value: [] }",
     ),
     // Of any integer.
     (Asked("c301c1001200002c0000ff03010f00"), "Operate(Verify)"),

@@ -8,10 +8,6 @@ pub returns-in-Enable-clause-steps : goal.returns-in-Enable-clause-steps
 returns-in-Enable-clause-steps g c =
     rw c.in-Enable.is (steps_made _ _ (meaning.enable c.in-Enable.enabled) (image.enable c.in-Enable.enabled) _ refl (λ made. made) c.enable.ensures.made)
 
-pub returns-in-Block-clause-steps : goal.returns-in-Block-clause-steps
-returns-in-Block-clause-steps g c =
-    rw c.in-Block.is (steps_made _ _ (meaning.block c.in-Block.number c.in-Block.value.now) (image.block c.in-Block.number c.in-Block.value.now) _ refl (λ made. made) c.block.ensures.made)
-
 pub returns-in-Verify-clause-steps : goal.returns-in-Verify-clause-steps
 returns-in-Verify-clause-steps g c = rw c.in-Verify.is (steps_made _ _ meaning.verify image.verify _ refl (λ made. made) c.verify.ensures.made)
 

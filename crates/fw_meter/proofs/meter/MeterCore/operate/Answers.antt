@@ -8,6 +8,6 @@ use Rattle.fw_meter.proofs.meter.MeterCore.operate.Goals as goal
 pub returns-clause-step : goal.returns-clause-step
 returns-clause-step g c =
     let heard = c.args.heard.now in
-    responds c.args.self.now c.serve-code.new.self (operation_meaning c.args.operation) heard.source (request_invoke heard.request) (request_content heard.request) (code_number c.serve-code.result.0) _ _
-    c.requires c.serve-code.ensures.steps
-    (c.with.ensures ∙ c.in_ok-replies.ensures.each c.serve-code.result.0) c.serve-code.ensures.activated
+    responds c.args.self.now c.change-code.new.self (operation_meaning c.args.operation) heard.source (request_invoke heard.request) (request_content heard.request) (code_number c.change-code.result.0) _ _
+    c.requires c.change-code.ensures.steps
+    (c.with.ensures ∙ c.in_ok-replies.ensures.each c.change-code.result.0) c.change-code.ensures.activated
