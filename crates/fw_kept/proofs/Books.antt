@@ -1,9 +1,9 @@
 -- Books of records that are put together, and what a power cut leaves of them.
-use Rattle.std.proofs.Common.{◌≡◌, ◌⊎◌, inl, inr, ⊎_elim, ℕ, ◌+◌, ◌<◌, ◌≤◌, ◌^◌, ◌*◌, List, [], ◌∷◌, ◌++◌, Option, Some, None, is_none, Result, Ok, Err, IsErrOf, Bool, true, false, not, ◌||◌, IsTrue, Vec, length, arith, refl, sym, ap, subst, ◌∙◌, length-append}
+use Rattle.std.proofs.Common.{◌≡◌, ◌⊎◌, inl, ℕ, ◌+◌, ◌<◌, ◌≤◌, ◌^◌, ◌*◌, List, [], ◌∷◌, ◌++◌, Option, Some, None, is_none, Err, IsErrOf, Bool, true, false, not, ◌||◌, IsTrue, Vec, length, arith, refl, sym, ap, subst, ◌∙◌, length-append}
 use Rattle.std.specs.Int.{w32, to_be_bytes}
 use Rattle.std.specs.Option.{option_and_then, option_map_or}
 use Rattle.std.specs.declared.alloc.Global.{Global}
-use Rattle.fw_names.specs.Name.{Campaign, IsOpened, campaign_bytes}
+use Rattle.fw_names.specs.Name.{Campaign, campaign_bytes}
 use Rattle.fw_wrapper.specs.Refusals.{first_applying}
 use Rattle.fw_book.specs.Contents.{Offered, Contents, offered_in, state_in}
 use Rattle.fw_book.specs.Changes.{empty_book, mark_refusal, cancel_refusal}
@@ -12,12 +12,12 @@ use Rattle.fw_book.specs.declared.row.RowState.{RowState}
 use Rattle.fw_book.specs.declared.row.RowState.TheVariants.{Live}
 use Rattle.fw_book.specs.declared.error.BookError.{BookError}
 use Rattle.fw_book.specs.declared.error.BookError.TheVariants.{NoSuchCampaign, NotLive}
-use Rattle.fw_journal.specs.Book.{contents_of, Stands, book_bytes, AreRecords}
+use Rattle.fw_journal.specs.Book.{contents_of, Stands}
 use Rattle.fw_journal.specs.Device.{LeavesOnly}
 use Rattle.fw_journal.specs.Journal as journal
 use Rattle.fw_journal.specs.declared.journal.Journal.{Journal}
 use Rattle.fw_journal.specs.Laws as journal_laws
-use Rattle.fw_ledger.specs.Entry.{Source, whole, earlier, Entry, opening, mark, cancelling, Spells, entry_bytes, source_bytes, meters_bytes, opening_front, IsSource}
+use Rattle.fw_ledger.specs.Entry.{Source, whole, earlier, Entry, opening, mark, cancelling, entry_bytes, source_bytes, meters_bytes, opening_front}
 use Rattle.fw_ledger.specs.Replay.{Makes, Adds, AddsAll, IsBookOf, records_of}
 use Rattle.fw_ledger.specs.Laws as ledger_laws
 use Rattle.fw_kept.specs.Kept.{HasBook, Keeps}

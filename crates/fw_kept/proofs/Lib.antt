@@ -1,2 +1,3 @@
 mod Books
 mod Moments
+mod Heads

@@ -1,7 +1,11 @@
--- For private clauses alone: what records are refused for, and which can be put into a journal.
-use Rattle.std.specs.Prelude.{ℕ, ◌<◌, ◌^◌, List, length}
-use Rattle.fw_ledger.specs.Entry.{Entry, HasSpelling, entry_bytes}
-use Rattle.fw_ledger.specs.Replay.{FailsAt}
+-- For private clauses alone: what records are refused for, which can be put into a journal, and what is put in where a row ends.
+use Rattle.std.specs.Prelude.{◌≡◌, ℕ, ◌<◌, ◌^◌, List, length, IsSome}
+use Rattle.fw_book.specs.Contents.{Contents, offered_in}
+use Rattle.fw_head.specs.declared.news.News.{News}
+use Rattle.fw_head.specs.declared.news.News.TheVariants as news
+use Rattle.fw_ledger.specs.Entry.{Entry, mark, HasSpelling, entry_bytes}
+use Rattle.fw_ledger.specs.Replay.{Makes, FailsAt}
+use Rattle.fw_ledger.specs.declared.record.Ending.TheVariants as ending
 use Rattle.fw_kept.specs.declared.error.OpenError.{OpenError}
 use Rattle.fw_kept.specs.declared.error.OpenError.TheVariants.{BadBook, BadRecord, ForeignHead, BookFault, OutOfMemory}
 use Rattle.fw_kept.specs.Kept.{IsForeign}
@@ -24,3 +28,17 @@ IsRecordsRefusal head records OutOfMemory = Unit {0}
 pub record CanBeKept (entry : Entry) : Type 0 where
   pub can : HasSpelling entry
   pub short : length (entry_bytes entry) < 2 ^ 32
+
+-- a row that ended did so in a campaign of the book
+abbrev pub IsNewsOf : Contents → News → Type 0
+IsNewsOf book news.Nothing = Unit {0}
+IsNewsOf book news.Moved = Unit {0}
+IsNewsOf book (news.Done campaign meter) = IsSome (offered_in book campaign)
+IsNewsOf book (news.Failed campaign meter) = IsSome (offered_in book campaign)
+
+-- what these news make of a book: a row that ended is marked
+abbrev pub NewsMake : News → Contents → Contents → Type 0
+NewsMake news.Nothing book next = next ≡ book
+NewsMake news.Moved book next = next ≡ book
+NewsMake (news.Done campaign meter) book next = Makes (mark campaign meter ending.Done) book next
+NewsMake (news.Failed campaign meter) book next = Makes (mark campaign meter ending.Failed) book next

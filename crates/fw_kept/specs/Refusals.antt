@@ -1,5 +1,5 @@
 -- Public vocabulary: what the calls of a kept book are refused for. The refusals of the book come first.
-use Rattle.std.specs.Prelude.{◌≡◌, ℕ, Option, Some, None}
+use Rattle.std.specs.Prelude.{◌≡◌, Option, Some, None}
 use Rattle.fw_names.specs.Name.{Campaign}
 use Rattle.fw_client.specs.Claim.{Claim}
 use Rattle.fw_book.specs.Contents.{Contents}

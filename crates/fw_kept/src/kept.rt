@@ -167,6 +167,15 @@ impl<D: JournalDevice> KeptBook<D> {
         self.journal.into_device()
     }
 
+    /// The book, and its journal with what waits.
+    pub(crate) fn into_parts(self) -> (Book, Journal<D>)
+        ensures book { result.0 ≡ book_of self }
+        ensures journal { result.1 ≡ journal_of self }
+    {
+        let KeptBook { book, journal, .. } = self;
+        (book, journal)
+    }
+
     /// What a broken book refuses.
     fn check_works(&self) -> Result<(), KeptError>
         ensures ok { OnOk result (is_broken self.now ≡ false) }

@@ -118,6 +118,11 @@ pub(crate) fn carried(alloc: Global, apdu: &str) -> Result<Vec<u8>, Fail> {
 fn hear(alloc: Global, head: &mut HeadCore, apdu: &str) -> Result<String, Fail> {
     let datagram = carried(alloc, apdu)?;
     let told = head.hear(alloc, meter()?, &datagram)?;
+    heard_text(alloc, head, told)
+}
+
+/// The news, and the phase of the row of meter 1 afterwards.
+pub(crate) fn heard_text(alloc: Global, head: &HeadCore, told: News) -> Result<String, Fail> {
     let phase = phase(head)?;
     Ok(news_text(alloc, told, phase)?)
 }

@@ -72,12 +72,12 @@ fn opened_text(
     }
 }
 
-fn device_of(alloc: Global, bytes: &[u8]) -> Result<MemoryDevice, Fail> {
+pub(crate) fn device_of(alloc: Global, bytes: &[u8]) -> Result<MemoryDevice, Fail> {
     Ok(MemoryDevice::new(alloc, bytes.to_vec(alloc)?)?)
 }
 
 /// The bytes of the book of a head end that these bytes hold, or what they are refused for.
-fn read_text(alloc: Global, head: u32, bytes: &[u8]) -> Result<String, Fail> {
+pub(crate) fn read_text(alloc: Global, head: u32, bytes: &[u8]) -> Result<String, Fail> {
     let head = HeadId::new(head).ok_or("no head end")?;
     match KeptBook::open(alloc, head, device_of(alloc, bytes)?) {
         Ok(book) => bytes_of(alloc, book.book()),

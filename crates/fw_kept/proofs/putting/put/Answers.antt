@@ -1,5 +1,4 @@
-use Rattle.std.proofs.Common.{rules, ◌≡◌, ◌⊎◌, inl, inr, ⊎_elim, ℕ, ◌<◌, ◌^◌, List, [], ◌∷◌, ◌++◌, length, Result, Err, IfErr, IsTrue, refl, sym, ◌∙◌, ap, subst, arith}
-use Rattle.fw_book.specs.Contents.{Contents}
+use Rattle.std.proofs.Common.{rules, ◌≡◌, ◌⊎◌, inl, inr, ⊎_elim, ℕ, ◌<◌, ◌^◌, List, [], ◌∷◌, ◌++◌, length, Result, Err, IfErr, refl, sym, ◌∙◌, ap, subst, arith}
 use Rattle.fw_journal.specs.Book.{Stands}
 use Rattle.fw_ledger.specs.Entry.{Spells}
 use Rattle.fw_ledger.specs.Replay.{Adds}

@@ -1,11 +1,11 @@
-use Rattle.std.proofs.Common.{rules, ◌≡◌, ◌⊎◌, inl, inr, ⊎_elim, ℕ, List, None, Err, IfErr, sym, ◌∙◌, ap, subst, IsTrue}
+use Rattle.std.proofs.Common.{rules, ◌≡◌, inl, inr, ⊎_elim, Err, IfErr, sym, ◌∙◌, ap, subst}
 use Rattle.fw_book.specs.Contents.{Contents}
 use Rattle.fw_book.specs.Changes.{cancelled, cancel_refusal}
 use Rattle.fw_kept.specs.Kept.{HasBook, Keeps}
 use Rattle.fw_kept.specs.Refusals.{IsRefusedFor}
 use Rattle.fw_kept.specs.declared.error.KeptError.{KeptError}
 use Rattle.fw_kept.specs.declared.error.KeptError.TheVariants.{Full, BookFault}
-use Rattle.fw_kept.proofs.Books.{nothing_done, left_has, or_right, or_none, err_is, commit_refused, some_none}
+use Rattle.fw_kept.proofs.Books.{nothing_done, left_has, or_right, or_none, err_is, commit_refused}
 use Rattle.fw_kept.proofs.kept.KeptBook.cancel.Goals as goal
 
 pub returns-in_err-cancelling-clause-any_moment : goal.returns-in_err-cancelling-clause-any_moment

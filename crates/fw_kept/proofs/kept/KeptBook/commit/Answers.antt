@@ -1,5 +1,4 @@
-use Rattle.std.proofs.Common.{rules, ◌≡◌, ◌⊎◌, inl, inr, ⊎_elim, ℕ, List, [], ◌++◌, Err, refl, sym, ◌∙◌, ap, subst, arith, IsTrue}
-use Rattle.fw_book.specs.Contents.{Contents}
+use Rattle.std.proofs.Common.{rules, ◌≡◌, ◌⊎◌, inl, inr, ⊎_elim, [], ◌++◌, Err, refl, sym, ◌∙◌, ap}
 use Rattle.fw_book.specs.Changes.{empty_book}
 use Rattle.fw_journal.specs.Book.{Stands}
 use Rattle.fw_kept.specs.Kept.{HasBook}

@@ -1,4 +1,4 @@
-use Rattle.std.proofs.Common.{rules, ◌≡◌, ℕ, [], refl, sym, subst}
+use Rattle.std.proofs.Common.{[], refl, sym, subst}
 use Rattle.fw_book.specs.Contents.{Contents}
 use Rattle.fw_book.specs.Changes.{empty_book}
 use Rattle.fw_kept.specs.Kept.{Keeps}

@@ -1,4 +1,4 @@
-use Rattle.std.proofs.Common.{rules, ◌≡◌, ℕ, None, refl, sym, subst}
+use Rattle.std.proofs.Common.{refl, sym, subst}
 use Rattle.fw_book.specs.Contents.{Contents}
 use Rattle.fw_book.specs.Changes.{marked}
 use Rattle.fw_book.specs.declared.row.RowState.TheVariants.{Failed}

@@ -1,6 +1,5 @@
-use Rattle.std.proofs.Common.{rules, ◌≡◌, ◌⊎◌, inl, inr, ℕ, List, [], Vec, refl, sym, ◌∙◌, ap, subst}
+use Rattle.std.proofs.Common.{rules, ◌≡◌, ℕ, List, [], Vec, refl, sym, ◌∙◌, subst}
 use Rattle.std.specs.declared.alloc.Global.{Global}
-use Rattle.fw_book.specs.Contents.{Contents}
 use Rattle.fw_journal.specs.Book.{contents_of}
 use Rattle.fw_ledger.specs.Replay.{IsBookOf, records_of}
 use Rattle.fw_kept.specs.Kept.{Keeps}

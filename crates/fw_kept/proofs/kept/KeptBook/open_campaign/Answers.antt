@@ -1,4 +1,4 @@
-use Rattle.std.proofs.Common.{rules, ◌≡◌, ◌⊎◌, inl, inr, ⊎_elim, ℕ, List, None, Err, IfErr, sym, ◌∙◌, ap, subst, IsTrue}
+use Rattle.std.proofs.Common.{rules, ◌≡◌, inl, inr, ⊎_elim, Err, IfErr, sym, ◌∙◌, ap, subst}
 use Rattle.fw_book.specs.Contents.{Contents}
 use Rattle.fw_book.specs.Changes.{opened, opening_refusal}
 use Rattle.fw_kept.specs.Kept.{HasBook, Keeps}

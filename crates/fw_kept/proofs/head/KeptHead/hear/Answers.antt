@@ -1,0 +1,23 @@
+use Rattle.std.proofs.Common.{ℕ, sym, subst}
+use Rattle.fw_book.specs.Contents.{Contents}
+use Rattle.fw_kept.specs.Kept.{Keeps}
+use Rattle.fw_kept.specs.Inside.{IsNewsOf}
+use Rattle.fw_kept.proofs.Heads.{head_hears, offers_on}
+use Rattle.fw_kept.proofs.head.KeptHead.hear.Goals as goal
+
+pub keep_end-requires : goal.keep_end-requires
+keep_end-requires g c =
+    let hears = head_hears c.row_keeps_goal.ensures c.args.self.now.head c.hear.new.self c.args.from c.args.datagram.now c.in-Ok.news c.view-view.ensures.live c.in-Ok.ensures.heard in
+    subst (λ (b : Contents). IsNewsOf b c.in-Ok.news) (sym c.view.ensures.book) hears.news
+
+pub returns-in-Ok-keep_end-clause-waits : goal.returns-in-Ok-keep_end-clause-waits
+returns-in-Ok-keep_end-clause-waits g c = λ synced holds.
+    let book = c.args.self.now.head.book in
+    let next = c.hear.new.self.book in
+    let hears = head_hears c.row_keeps_goal.ensures c.args.self.now.head c.hear.new.self c.args.from c.args.datagram.now c.in-Ok.news c.view-view.ensures.live c.in-Ok.ensures.heard in
+    let keeps = c.in-Ok-keep_end.ensures.waits book.head synced book next holds.keeps hears.makes in
+    record {
+      works = holds.works;
+      keeps = subst (λ (n : ℕ). Keeps g.D.JournalDevice.honest g.D.JournalDevice.contents g.D.JournalDevice.may_leave n c.keep_end.new.journal synced next) (sym hears.number) keeps;
+      offers = offers_on next book synced hears.offers holds.offers;
+    }

@@ -1,0 +1,24 @@
+use Rattle.std.proofs.Common.{All, sym, subst}
+use Rattle.fw_book.specs.Contents.{Contents}
+use Rattle.fw_head.specs.Row.{bytes_of}
+use Rattle.fw_head.specs.Head.{IsOfferedIn}
+use Rattle.fw_kept.specs.Kept.{Keeps}
+use Rattle.fw_kept.specs.Head.{OfferSame}
+use Rattle.fw_kept.proofs.Heads.{all_offered, if_ok, ticked_book}
+use Rattle.fw_kept.proofs.head.KeptHead.tick.Goals as goal
+
+pub returns-clause-permitted : goal.returns-clause-permitted
+returns-clause-permitted g c = λ synced holds.
+    let book = c.args.self.now.head.book in
+    if_ok c.tick.result (λ sent. All (IsOfferedIn book) (bytes_of sent.items)) (λ sent. All (IsOfferedIn synced) (bytes_of sent.items))
+    (λ sent permitted. all_offered book synced (bytes_of sent.items) holds.offers permitted) c.tick.ensures.permitted
+
+pub returns-clause-waits : goal.returns-clause-waits
+returns-clause-waits g c = λ synced holds.
+    let kept = c.args.self.now in
+    let same = ticked_book c.tick.result kept.head c.tick.new.self c.args.meter c.tick.ensures.ticked c.tick.ensures.same in
+    record {
+      works = holds.works;
+      keeps = subst (λ (b : Contents). Keeps g.D.JournalDevice.honest g.D.JournalDevice.contents g.D.JournalDevice.may_leave b.head kept.journal synced b) (sym same) holds.keeps;
+      offers = subst (λ (b : Contents). OfferSame b synced) (sym same) holds.offers;
+    }

@@ -1,0 +1,65 @@
+-- Public vocabulary: a head end whose book is kept in a journal, and what a power cut leaves of it.
+use Rattle.std.specs.Prelude.{◌≡◌, ℕ, List, Option, Bool, true, false, ◌||◌}
+use Rattle.std.specs.Option.{option_map}
+use Rattle.fw_names.specs.Name.{Campaign}
+use Rattle.fw_book.specs.Contents.{Contents, Offered, offered_in}
+use Rattle.fw_head.specs.Head.{Head, HeadHears}
+use Rattle.fw_head.specs.declared.news.News.{News}
+use Rattle.fw_head.specs.declared.news.News.TheVariants.{Nothing, Moved, Done, Failed}
+use Rattle.fw_journal.specs.Journal as journal
+use Rattle.fw_journal.specs.declared.journal.Journal.{Journal}
+use Rattle.fw_kept.specs.Kept.{Keeps}
+use Rattle.fw_kept.specs.declared.head.KeptHead.{KeptHead}
+
+-- ---- books that offer the same
+
+-- the release and the image that a campaign offers, whatever became of its rows
+abbrev pub shown_in : Contents → Campaign → Option (ℕ × List ℕ)
+shown_in book campaign = option_map (λ (offer : Offered). (offer.release, offer.image)) (offered_in book campaign)
+
+-- each campaign offers the same in both books
+abbrev pub OfferSame : Contents → Contents → Type 0
+OfferSame a b = (campaign : Campaign) → shown_in a campaign ≡ shown_in b campaign
+
+-- ---- a kept head end
+
+-- the head end in memory
+abbrev pub head_of : {D : Type 0} → KeptHead D → Head
+head_of kept = kept.head
+
+-- its book
+abbrev pub book_of : {D : Type 0} → KeptHead D → Contents
+book_of kept = kept.head.book
+
+abbrev pub journal_of : {D : Type 0} → KeptHead D → Journal D
+journal_of kept = kept.journal
+
+abbrev pub device_of : {D : Type 0} → KeptHead D → D
+device_of kept = journal.device_of kept.journal
+
+-- nothing is committed any more
+abbrev pub is_broken : {D : Type 0} → KeptHead D → Bool
+is_broken kept = kept.broken || journal.is_broken kept.journal
+
+-- Every power cut leaves the book `synced`, and what waits for the next commit makes the book in memory of it. Both offer the same: only
+-- marks wait.
+pub record Holds {D : Type 0} (honest : D → Bool) (contents : D → List ℕ) (may_leave : D → List ℕ → Type 0) (kept : KeptHead D) (synced : Contents) : Type 0 where
+  pub works : kept.broken ≡ false
+  pub keeps : Keeps honest contents may_leave kept.head.book.head kept.journal synced kept.head.book
+  pub offers : OfferSame kept.head.book synced
+
+-- ---- what is heard
+
+-- a row ended
+abbrev pub IsEnd : News → Type 0
+IsEnd Nothing = ⊥
+IsEnd Moved = ⊥
+IsEnd (Done campaign meter) = Unit {0}
+IsEnd (Failed campaign meter) = Unit {0}
+
+-- A row ended, and memory for the record of its mark was refused. The book in memory has the mark, and nothing is committed any more.
+pub record LosesMark {D : Type 0} (old : KeptHead D) (meter : ℕ) (datagram : List ℕ) (new : KeptHead D) : Type 0 where
+  pub told : News
+  pub hears : HeadHears old.head meter datagram told new.head
+  pub ends : IsEnd told
+  pub broken : new.broken ≡ true

@@ -1,0 +1,441 @@
+//! A head end whose book outlives a power cut.
+
+ghost use Rattle.std.specs.Prelude.{
+  ◌≡◌,
+  ◌≢◌,
+  ◌≤◌,
+  ◌↔◌,
+  ◌⊎◌,
+  [],
+  ℕ,
+  List,
+  All,
+  length,
+  None,
+  false,
+  IfOk,
+  IfErr,
+  OnOk,
+  OnErr,
+  IsErrOf,
+  IsSomeAnd,
+  IsTrue,
+};
+ghost use Rattle.fw_names.specs.Name.{Campaign, name_of};
+ghost use Rattle.fw_book.specs.Contents.{Contents};
+ghost use Rattle.fw_book.specs.Changes.{empty_book, opened, cancelled, opening_refusal, cancel_refusal};
+ghost use Rattle.fw_head.specs.Phase.{IsLive};
+ghost use Rattle.fw_head.specs.Row.{bytes_of};
+ghost use Rattle.fw_head.specs.Head.{row_of, RowsMayWant, new_head, campaign_at, opened_head, cancelled_head, BeginsWith};
+ghost use Rattle.fw_head.specs.Head.{sends_to, ticked_head, HeadHears, IsDoneBy, IsOfferedIn};
+ghost use Rattle.fw_journal.specs.Book.{IsBadBook, Stands};
+ghost use Rattle.fw_journal.specs.Device.{LeavesOnly, Keeps as DeviceKeeps};
+ghost use Rattle.fw_journal.specs.Refusals.{IsMakingRefusal};
+ghost use Rattle.fw_ledger.specs.Replay.{Makes};
+ghost use Rattle.fw_ledger.specs.View.{entry_of};
+ghost use Rattle.fw_kept.specs.Inside.{CanBeKept};
+
+use crate::error::{KeptError, OpenError};
+use crate::kept::KeptBook;
+use crate::marking::keep_end;
+use crate::putting::{check_has, opening_of, put};
+use fw_blocks::Width;
+use fw_head::{HeadCore, News, OutOfMemory};
+use fw_journal::{Journal, JournalDevice, JournalError};
+use fw_ledger::Record;
+use fw_names::{CampaignId, HeadId, ImageName, MeterId};
+use std::alloc::Global;
+
+/// A head end, with a journal of its book on a device. An opening and a cancelling are committed before they are reported, with all marks
+/// that wait; the mark of a row that ended waits for the next commit. What a tick sends is always of a campaign that is on the device.
+/// After a power cut at any moment, the book that is read back is that of some moment since the last call that was reported as committed,
+/// and that call is in it.
+#[derive(Drop)]
+pub struct KeptHead<D: JournalDevice> {
+    head: HeadCore,
+    journal: Journal<D>,
+    /// The journal may have an opening that the book in memory lacks, or lacks the mark of a row that ended.
+    broken: bool,
+}
+
+impl<D: JournalDevice> KeptHead<D> {
+    ghost use Rattle.fw_kept.specs.Kept.{HasBook, HasForeign, HasBadRecord, IsFull};
+    ghost use Rattle.fw_kept.specs.Head.{
+      head_of,
+      book_of,
+      journal_of,
+      device_of,
+      is_broken,
+      Holds,
+      LosesMark,
+    };
+    ghost use Rattle.fw_kept.specs.Refusals.{IsRefusedFor, IsCommitRefusal};
+
+    /// Makes a head end of no campaign, that sends up to `width` blocks at a time, with its book on a device without bytes, and syncs it. A
+    /// power cut in the call leaves any bytes, so that a file is made beside, and renamed then.
+    ///
+    /// # Errors
+    ///
+    /// `NotEmpty` where there are bytes, which are left as they are and reported before memory is taken; else `BookFault` and
+    /// `OutOfMemory`. The device is returned.
+    pub fn create(
+        alloc: Global,
+        head: HeadId,
+        width: Width,
+        device: D,
+    ) -> Result<Self, (JournalError, D)>
+        ensures made { IsTrue (D.honest device) → IfOk result (λ kept. Holds D.honest D.contents D.may_leave kept (empty_book head)) }
+        ensures head { IfOk result (λ kept. head_of kept ≡ new_head head width) }
+        ensures empty { IsTrue (D.honest device) → OnOk result (D.contents device ≡ []) }
+        ensures not_empty { IsTrue (D.honest device) → IfErr result (λ e. e.0 ≡ JournalError.NotEmpty
+            → (D.contents device ≢ []) × (D.contents e.1 ≡ D.contents device)) }
+        ensures memory { IsTrue (D.honest device) → IfErr result (λ e. e.0 ≡ JournalError.OutOfMemory → D.contents device ≡ []) }
+        ensures never { IsTrue (D.sound device) → IfErr result (λ e. e.0 ≢ JournalError.BookFault) }
+        ensures refusals { IfErr result (λ e. IsMakingRefusal e.0) }
+        ensures kept { IfOk result (λ kept. DeviceKeeps D.honest D.sound device (device_of kept)) }
+    {
+        match Journal::create(alloc, device) {
+            Ok(journal) => Ok(KeptHead {
+                head: HeadCore::new(alloc, head, width),
+                journal,
+                broken: false,
+            }),
+            Err(refused) => Err(refused),
+        }
+    }
+
+    /// Opens the head end whose book a power cut, or a process that was killed, may have left on the device. It begins with exactly the book
+    /// that the device holds, and each meter that is live in it has a new row. The device is synced first.
+    ///
+    /// # Errors
+    ///
+    /// Those of [`KeptBook::open`], and `OutOfMemory` where memory for the rows is refused. The device is returned.
+    pub fn open(
+        alloc: Global,
+        head: HeadId,
+        width: Width,
+        device: D,
+    ) -> Result<Self, (OpenError, D)>
+        ensures opened { IsTrue (D.honest device)
+            → IfOk result (λ kept. Holds D.honest D.contents D.may_leave kept (book_of kept)) }
+        ensures book { IsTrue (D.honest device) → IfOk result (λ kept. HasBook head (D.contents device) (book_of kept)) }
+        ensures begun { IfOk result (λ kept. BeginsWith (book_of kept) width (head_of kept)) }
+        ensures bad { IsTrue (D.honest device) → IfErr result (λ e. (offset : ℕ) → e.0 ≡ OpenError.BadBook offset
+            → IsBadBook (D.contents device) offset × (D.contents e.1 ≡ D.contents device)) }
+        ensures bad_record { IsTrue (D.honest device) → IfErr result (λ e. (index : ℕ) → e.0 ≡ OpenError.BadRecord index
+            → HasBadRecord head (D.contents device) index) }
+        ensures foreign { IsTrue (D.honest device) → IfErr result (λ e. e.0 ≡ OpenError.ForeignHead
+            → HasForeign head (D.contents device)) }
+
+        // A cut at any moment of the call leaves what one before it might have left, or a journal of the same records.
+        ensures any_moment { IsTrue (D.honest device) → IfOk result (λ kept. LeavesOnly D.moment D.left_since device (device_of kept)
+            (λ left. D.may_leave device left ⊎ ((records : List (List ℕ)) → Stands (D.contents device) records → Stands left records))) }
+        ensures any_moment_err { IsTrue (D.honest device) → IfErr result (λ e. LeavesOnly D.moment D.left_since device e.1
+            (λ left. D.may_leave device left ⊎ ((records : List (List ℕ)) → Stands (D.contents device) records → Stands left records))) }
+        ensures never { IsTrue (D.honest device) → IsTrue (D.sound device) → IfErr result (λ e. e.0 ≢ OpenError.BookFault) }
+        ensures kept { IfOk result (λ kept. DeviceKeeps D.honest D.sound device (device_of kept)) }
+    {
+        let (book, journal) = match KeptBook::open(alloc, head, device) {
+            Ok(kept) => kept.into_parts(),
+            Err(refused) => return Err(refused),
+        };
+        match HeadCore::of_book(alloc, book, width) {
+            Ok(head) => Ok(KeptHead {
+                head,
+                journal,
+                broken: false,
+            }),
+            Err(_) => Err((OpenError::OutOfMemory, journal.into_device())),
+        }
+    }
+
+    /// The head end in memory, with the marks that wait.
+    pub fn head(&self) -> &HeadCore
+        ensures { result.now ≡ head_of self.now }
+    {
+        &self.head
+    }
+
+    /// The device. Every power cut leaves the book of the last commit.
+    pub fn device(&self) -> &D
+        ensures value { result.now ≡ device_of self.now }
+        ensures each_cut { (synced : Contents) → Holds D.honest D.contents D.may_leave self.now synced
+            → (left : List ℕ) → D.may_leave (device_of self.now) left → HasBook (book_of self.now).head left synced }
+    {
+        self.journal.device()
+    }
+
+    /// The device, without what waits.
+    pub fn into_device(self) -> D
+        ensures { result ≡ device_of self }
+    {
+        self.journal.into_device()
+    }
+
+    /// What a broken head end refuses.
+    fn check_works(&self) -> Result<(), KeptError>
+        ensures ok { OnOk result (is_broken self.now ≡ false) }
+        ensures err { IfErr result (λ e. (e ≡ KeptError.BookFault) × IsTrue (is_broken self.now)) }
+    {
+        if self.broken || self.journal.is_broken() {
+            return Err(KeptError::BookFault);
+        }
+        Ok(())
+    }
+
+    /// The campaign of this serial number.
+    fn campaign(&self, serial: u32) -> CampaignId
+        requires { 1 ≤ serial }
+        ensures { result ≡ campaign_at (head_of self.now) serial }
+    {
+        match CampaignId::new(self.head.view().book.head(), serial) {
+            Some(campaign) => campaign,
+            None => unreachable!(),
+        }
+    }
+
+    /// The record of an opening that the head end takes, where it isn't broken.
+    fn opening<'a>(
+        &self,
+        alloc: Global,
+        serial: u32,
+        release: u32,
+        image: &'a [u8],
+        meters: &[MeterId],
+    ) -> Result<Record<'a>, KeptError>
+        requires { 1 ≤ serial }
+        ensures can { IfOk result (λ told. CanBeKept (entry_of told)) }
+        ensures makes { IfOk result (λ told. Makes (entry_of told) (book_of self.now)
+            (opened (book_of self.now) serial release image.now meters.now)) }
+        ensures admitted { OnOk result (opening_refusal (book_of self.now) (campaign_at (head_of self.now) serial) image.now meters.now
+            ≡ None) }
+        ensures works { OnOk result (is_broken self.now ≡ false) }
+        ensures refused { IfErr result (IsRefusedFor (opening_refusal (book_of self.now) (campaign_at (head_of self.now) serial) image.now
+            meters.now)) }
+        ensures broken { IsTrue (is_broken self.now)
+            → opening_refusal (book_of self.now) (campaign_at (head_of self.now) serial) image.now meters.now ≡ None
+            → IsErrOf result KeptError.BookFault }
+        ensures fault { IsErrOf result KeptError.BookFault → IsTrue (is_broken self.now) }
+        ensures no_full { ¬ IsErrOf result KeptError.Full }
+    {
+        let campaign = self.campaign(serial);
+        let book = self.head.view().book;
+        book.check_opening(campaign, image, meters)?;
+        self.check_works()?;
+        opening_of(alloc, book, campaign, release, image, meters)
+    }
+
+    /// The record of a cancelling that the head end takes, where it isn't broken.
+    fn cancelling(&self, serial: u32) -> Result<Record<'static>, KeptError>
+        requires { 1 ≤ serial }
+        ensures can { IfOk result (λ told. CanBeKept (entry_of told)) }
+        ensures makes { IfOk result (λ told. Makes (entry_of told) (book_of self.now) (cancelled (book_of self.now) serial)) }
+        ensures admitted { OnOk result (cancel_refusal (book_of self.now) (campaign_at (head_of self.now) serial) ≡ None) }
+        ensures works { OnOk result (is_broken self.now ≡ false) }
+        ensures refused { IfErr result (IsRefusedFor (cancel_refusal (book_of self.now) (campaign_at (head_of self.now) serial))) }
+        ensures broken { IsTrue (is_broken self.now)
+            → cancel_refusal (book_of self.now) (campaign_at (head_of self.now) serial) ≡ None → IsErrOf result KeptError.BookFault }
+        ensures fault { IsErrOf result KeptError.BookFault → IsTrue (is_broken self.now) }
+        ensures no_full { ¬ IsErrOf result KeptError.Full }
+    {
+        let campaign = self.campaign(serial);
+        let book = self.head.view().book;
+        check_has(book, campaign)?;
+        book.check_cancel(campaign)?;
+        self.check_works()?;
+        Ok(Record::Cancelling { campaign })
+    }
+
+    /// Opens the campaign of this serial number, as [`HeadCore::open_campaign`]. From `Ok` on every power cut leaves it, and all marks that
+    /// waited; a cut in the call leaves all of it or nothing.
+    ///
+    /// # Errors
+    ///
+    /// The first refusal of the book. Otherwise `BookFault` where the head end is broken; then `Full`, where the journal or what waits has
+    /// 2^60 bytes or more, `BookFault`, where the device failed, or `OutOfMemory`. The head end in memory is as it was. What a cut leaves is
+    /// as it was, or the head end is broken: each later commit is `BookFault` then, and opening the device again shows whether it has the
+    /// campaign.
+    pub fn open_campaign(
+        &mut self,
+        alloc: Global,
+        serial: u32,
+        release: u32,
+        image: &[u8],
+        meters: &[MeterId],
+    ) -> Result<ImageName, KeptError>
+        requires { 1 ≤ serial }
+        ensures opened { OnOk result (head_of self.new ≡ opened_head (head_of self.old) serial release image.now meters.now) }
+        ensures name { IfOk result (λ name. name ≡ name_of (campaign_at (head_of self.old) serial) release image.now) }
+        ensures admitted { OnOk result (opening_refusal (book_of self.old) (campaign_at (head_of self.old) serial) image.now meters.now
+            ≡ None) }
+        ensures refused { IfErr result (IsRefusedFor (opening_refusal (book_of self.old) (campaign_at (head_of self.old) serial) image.now
+            meters.now)) }
+        ensures same { OnErr result (head_of self.new ≡ head_of self.old) }
+        ensures acknowledged { (synced : Contents) → Holds D.honest D.contents D.may_leave self.old synced
+            → OnOk result (Holds D.honest D.contents D.may_leave self.new (book_of self.new)) }
+        ensures each_cut { (synced : Contents) → Holds D.honest D.contents D.may_leave self.old synced
+            → OnOk result ((left : List ℕ) → D.may_leave (device_of self.new) left
+            → HasBook (book_of self.old).head left (book_of self.new)) }
+        ensures unchanged { (synced : Contents) → Holds D.honest D.contents D.may_leave self.old synced
+            → OnErr result (Holds D.honest D.contents D.may_leave self.new synced ⊎ IsTrue (is_broken self.new)) }
+
+        // A cut at any moment of the call leaves the book of the last commit, or that with all marks and this campaign.
+        ensures any_moment { (synced : Contents) → Holds D.honest D.contents D.may_leave self.old synced
+            → LeavesOnly D.moment D.left_since (device_of self.old) (device_of self.new)
+            (λ left. HasBook (book_of self.old).head left synced
+            ⊎ HasBook (book_of self.old).head left (opened (book_of self.old) serial release image.now meters.now)) }
+        ensures breaks { IsErrOf result KeptError.BookFault → IsTrue (is_broken self.new) }
+        ensures broken { IsTrue (is_broken self.old)
+            → opening_refusal (book_of self.old) (campaign_at (head_of self.old) serial) image.now meters.now ≡ None
+            → IsErrOf result KeptError.BookFault × (self.new ≡ self.old) }
+        ensures never { IsTrue (D.sound (device_of self.old)) → IsErrOf result KeptError.BookFault → IsTrue (is_broken self.old) }
+        ensures full { IsErrOf result KeptError.Full → IsFull (journal_of self.old) }
+        ensures kept { DeviceKeeps D.honest D.sound (device_of self.old) (device_of self.new) }
+    {
+        let opening = self.opening(alloc, serial, release, image, meters)?;
+        put(alloc, &mut self.journal, &opening)?;
+        match self
+            .head
+            .open_campaign(alloc, serial, release, image, meters)
+        {
+            Ok(name) => Ok(name),
+            Err(_) => {
+                self.broken = true;
+                Err(KeptError::OutOfMemory)
+            }
+        }
+    }
+
+    /// Cancels the campaign of this serial number, as [`HeadCore::cancel`]. From `Ok` on every power cut leaves that, and all marks that
+    /// waited; a cut in the call leaves all of it or nothing.
+    ///
+    /// # Errors
+    ///
+    /// The first refusal of the book. Otherwise `BookFault` where the head end is broken; then `Full`, `BookFault` or `OutOfMemory`, as for
+    /// `open_campaign`. The head end in memory is as it was.
+    pub fn cancel(&mut self, alloc: Global, serial: u32) -> Result<(), KeptError>
+        requires { 1 ≤ serial }
+        ensures cancelled { OnOk result (head_of self.new ≡ cancelled_head (head_of self.old) serial) }
+        ensures admitted { OnOk result (cancel_refusal (book_of self.old) (campaign_at (head_of self.old) serial) ≡ None) }
+        ensures refused { IfErr result (IsRefusedFor (cancel_refusal (book_of self.old) (campaign_at (head_of self.old) serial))) }
+        ensures same { OnErr result (head_of self.new ≡ head_of self.old) }
+        ensures acknowledged { (synced : Contents) → Holds D.honest D.contents D.may_leave self.old synced
+            → OnOk result (Holds D.honest D.contents D.may_leave self.new (book_of self.new)) }
+        ensures each_cut { (synced : Contents) → Holds D.honest D.contents D.may_leave self.old synced
+            → OnOk result ((left : List ℕ) → D.may_leave (device_of self.new) left
+            → HasBook (book_of self.old).head left (book_of self.new)) }
+        ensures unchanged { (synced : Contents) → Holds D.honest D.contents D.may_leave self.old synced
+            → OnErr result (Holds D.honest D.contents D.may_leave self.new synced ⊎ IsTrue (is_broken self.new)) }
+
+        // A cut at any moment of the call leaves the book of the last commit, or that with all marks and this cancelling.
+        ensures any_moment { (synced : Contents) → Holds D.honest D.contents D.may_leave self.old synced
+            → LeavesOnly D.moment D.left_since (device_of self.old) (device_of self.new)
+            (λ left. HasBook (book_of self.old).head left synced
+            ⊎ HasBook (book_of self.old).head left (cancelled (book_of self.old) serial)) }
+        ensures breaks { IsErrOf result KeptError.BookFault → IsTrue (is_broken self.new) }
+        ensures broken { IsTrue (is_broken self.old)
+            → cancel_refusal (book_of self.old) (campaign_at (head_of self.old) serial) ≡ None
+            → IsErrOf result KeptError.BookFault × (self.new ≡ self.old) }
+        ensures never { IsTrue (D.sound (device_of self.old)) → IsErrOf result KeptError.BookFault → IsTrue (is_broken self.old) }
+        ensures full { IsErrOf result KeptError.Full → IsFull (journal_of self.old) }
+        ensures kept { DeviceKeeps D.honest D.sound (device_of self.old) (device_of self.new) }
+    {
+        let cancelling = self.cancelling(serial)?;
+        put(alloc, &mut self.journal, &cancelling)?;
+        self.head.cancel(serial)?;
+        Ok(())
+    }
+
+    /// Makes the datagrams that are sent to a meter now, as [`HeadCore::tick`]. Each is one that a head end may send of the book that a power
+    /// cut leaves. The device isn't touched.
+    ///
+    /// # Errors
+    ///
+    /// `OutOfMemory` alone, and only where the meter has a live row. The head end is then as before.
+    pub fn tick(&mut self, alloc: Global, meter: MeterId) -> Result<Vec<Vec<u8>>, OutOfMemory>
+        ensures sent { IfOk result (λ sent. bytes_of sent.items ≡ sends_to (head_of self.old) meter) }
+        // Nothing is sent that the book on the device doesn't offer.
+        ensures permitted { (synced : Contents) → Holds D.honest D.contents D.may_leave self.old synced
+            → IfOk result (λ sent. All (IsOfferedIn synced) (bytes_of sent.items)) }
+        ensures few { IfOk result (λ sent. length sent.items ≤ 15) }
+        ensures ticked { OnOk result (head_of self.new ≡ ticked_head (head_of self.old) meter) }
+        ensures same { OnErr result (self.new ≡ self.old) }
+        ensures memory { OnErr result (IsSomeAnd (row_of (head_of self.old).rows meter) (λ row. IsLive row.stage)) }
+        ensures waits { (synced : Contents) → Holds D.honest D.contents D.may_leave self.old synced
+            → Holds D.honest D.contents D.may_leave self.new synced }
+        ensures device { device_of self.new ≡ device_of self.old }
+    {
+        self.head.tick(alloc, meter)
+    }
+
+    /// Hears a datagram that came from a meter, as [`HeadCore::hear`]. Where a row ended, its mark waits for the next commit: only after it
+    /// may the row be reported as ended. The device isn't touched.
+    ///
+    /// # Errors
+    ///
+    /// `OutOfMemory` alone. The head end is then as before. Or a row ended, and memory for the record of its mark was refused: the head end
+    /// is broken then, so that no later commit reports the row.
+    pub fn hear(&mut self, alloc: Global, from: MeterId, datagram: &[u8]) -> Result<News, KeptError>
+        ensures heard { IfOk result (λ told. HeadHears (head_of self.old) from datagram.now told (head_of self.new)) }
+        // A meter is reported done exactly where its own answer claims what the campaign offers.
+        ensures done { IfOk result (λ told. (campaign : Campaign) (meter : ℕ) → (told ≡ News.Done campaign meter)
+            ↔ ((meter ≡ from) × IsDoneBy (head_of self.old) meter datagram.now campaign)) }
+        ensures waits { (synced : Contents) → Holds D.honest D.contents D.may_leave self.old synced
+            → OnOk result (Holds D.honest D.contents D.may_leave self.new synced) }
+        ensures unchanged { (synced : Contents) → Holds D.honest D.contents D.may_leave self.old synced
+            → OnErr result (Holds D.honest D.contents D.may_leave self.new synced ⊎ IsTrue (is_broken self.new)) }
+        ensures same { OnErr result ((self.new ≡ self.old) ⊎ LosesMark self.old from datagram.now self.new) }
+        ensures memory { OnErr result (RowsMayWant (head_of self.old).rows from datagram.now
+            ⊎ LosesMark self.old from datagram.now self.new) }
+        ensures refused { IfErr result (λ e. e ≡ KeptError.OutOfMemory) }
+        ensures device { device_of self.new ≡ device_of self.old }
+    {
+        fw_head::laws::row_keeps_goal();
+        // For its clauses alone: the live rows are those of the book.
+        let _view = self.head.view();
+        let Ok(news) = self.head.hear(alloc, from, datagram) else {
+            return Err(KeptError::OutOfMemory);
+        };
+        let book = self.head.view().book;
+        match keep_end(alloc, &mut self.journal, book, &news) {
+            Ok(()) => Ok(news),
+            Err(refusal) => {
+                self.broken = true;
+                Err(refusal)
+            }
+        }
+    }
+
+    /// Puts all marks that wait on the device, in one group. From `Ok` on every power cut leaves them; a cut in the call leaves all of them
+    /// or none.
+    ///
+    /// # Errors
+    ///
+    /// `BookFault` where the head end is broken; else `Full`, `BookFault` or `OutOfMemory`. The head end in memory is as it was. What a cut
+    /// leaves is as it was, or the head end is broken.
+    pub fn commit(&mut self) -> Result<(), KeptError>
+        ensures head { head_of self.new ≡ head_of self.old }
+        ensures acknowledged { (synced : Contents) → Holds D.honest D.contents D.may_leave self.old synced
+            → OnOk result (Holds D.honest D.contents D.may_leave self.new (book_of self.old)) }
+        ensures each_cut { (synced : Contents) → Holds D.honest D.contents D.may_leave self.old synced
+            → OnOk result ((left : List ℕ) → D.may_leave (device_of self.new) left
+            → HasBook (book_of self.old).head left (book_of self.old)) }
+        ensures unchanged { (synced : Contents) → Holds D.honest D.contents D.may_leave self.old synced
+            → OnErr result (Holds D.honest D.contents D.may_leave self.new synced ⊎ IsTrue (is_broken self.new)) }
+
+        // A cut at any moment of the call leaves the book of the last commit, or that with all marks.
+        ensures any_moment { (synced : Contents) → Holds D.honest D.contents D.may_leave self.old synced
+            → LeavesOnly D.moment D.left_since (device_of self.old) (device_of self.new)
+            (λ left. HasBook (book_of self.old).head left synced ⊎ HasBook (book_of self.old).head left (book_of self.old)) }
+        ensures breaks { IsErrOf result KeptError.BookFault → IsTrue (is_broken self.new) }
+        ensures broken { IsTrue (is_broken self.old) → IsErrOf result KeptError.BookFault × (self.new ≡ self.old) }
+        ensures never { IsTrue (D.sound (device_of self.old)) → IsErrOf result KeptError.BookFault → IsTrue (is_broken self.old) }
+        ensures full { IsErrOf result KeptError.Full → IsFull (journal_of self.old) }
+        ensures refusals { IfErr result IsCommitRefusal }
+        ensures kept { DeviceKeeps D.honest D.sound (device_of self.old) (device_of self.new) }
+    {
+        self.check_works()?;
+        self.journal.commit()?;
+        Ok(())
+    }
+}
