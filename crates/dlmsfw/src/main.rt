@@ -18,6 +18,7 @@ use fw_cli::{
 };
 use options::Invocation;
 use std::fs::File;
+use std::io::IsTerminal;
 use std::net::Net;
 use std::process::ExitCode;
 use std::rt::{Clock, Env, Files};
@@ -55,17 +56,24 @@ fn main(rt: HostRuntime) -> ExitCode {
         Ok(words) => words,
         Err(ending) => return report(&rt, ending),
     };
-    match run(&rt, &words) {
+    let stderr = rt.stderr();
+    let terminal = if stderr.is_terminal() {
+        Some(&stderr)
+    } else {
+        None
+    };
+    match run(&rt, terminal, &words) {
         Ok(()) => ExitCode::from(GOOD),
         Err(ending) => report(&rt, ending),
     }
 }
 
-/// Runs the command that the words of the command line ask for.
+/// Runs the command that the words of the command line ask for. How far it is, is shown on the terminal, if there is one.
 fn run<
     'a,
     R: AllocGlobal + Files<File = File> + Clock + Input + Print + Threads + Wait + Net + Sync,
->(rt: &R, words: &'a [String]) -> Result<(), Ending<'a>> {
+    E: Eprint + Sync,
+>(rt: &R, terminal: Option<&E>, words: &'a [String]) -> Result<(), Ending<'a>> {
     let invocation = match options::parse(rt.alloc(), words) {
         Ok(invocation) => invocation,
         Err(error) => return Err(Ending::CommandLine(error)),
@@ -84,8 +92,10 @@ fn run<
             Ok(Ended::Whole) => Ok(()),
             Err(fault) => Err(fault),
         },
-        Invocation::Rehearse(options) => run_rehearse(rt, alloc, reader, writer, &options),
-        Invocation::Live(options) => run_live(rt, alloc, reader, writer, &options),
+        Invocation::Rehearse(options) => run_rehearse(
+            rt, alloc, reader, writer, terminal, &options,
+        ),
+        Invocation::Live(options) => run_live(rt, alloc, reader, writer, terminal, &options),
         Invocation::Meter(options) => {
             let places = MeterPlaces::of(&options);
             return match run_meter(rt, alloc, writer, options) {

@@ -18,6 +18,7 @@ mod meter_lines;
 mod meter_store;
 mod name;
 mod output;
+mod progress;
 mod reads;
 mod reason;
 mod refusal;

@@ -12,8 +12,9 @@ ghost use Rattle.fw_cli.specs.Rehearsing.{AreWorkers, IsBarredIn, RunsLive, Tell
 
 use crate::fault::Fault;
 use crate::output::write_text;
+use crate::progress::RowsGate;
 use crate::script::Script;
-use crate::workers::{OpenGate, script_from, tell_report};
+use crate::workers::{script_from, tell_report};
 use fw_workers::live;
 use fw_world::{Event, Setup};
 use std::alloc::Global;
@@ -35,7 +36,7 @@ pub struct LiveOptions {
 
 /// Runs the script that the reader has, and lets workers make rounds over UDP sockets on this machine after its events. The writer gets
 /// the report of the world at the end, and the line `board N` with the number of rows that the workers counted as done, and before them
-/// the trace, where it is asked for, as of `run_rehearse`.
+/// the trace, where it is asked for, as of `run_rehearse`. The terminal, if there is one, shows how many rows are done meanwhile, as there.
 ///
 /// All input is read before anything is written, and what is written is flushed.
 ///
@@ -44,11 +45,12 @@ pub struct LiveOptions {
 /// As of `run_rehearse`, except `BadFates`, and besides
 ///
 /// - `Socket`: no socket could be bound.
-pub fn run_live<T: Threads + Wait + Net + Sync, R: Read, W: Write>(
+pub fn run_live<T: Threads + Wait + Net + Sync, R: Read, W: Write, E: Eprint + Sync>(
     rt: &T,
     alloc: Global,
     reader: &mut R,
     writer: &mut W,
+    terminal: Option<&E>,
     options: &LiveOptions,
 ) -> Result<(), Fault>
     // The report of the world at the end of an accounted run, and its board.
@@ -74,16 +76,17 @@ pub fn run_live<T: Threads + Wait + Net + Sync, R: Read, W: Write>(
     ensures silent { IfErr result (λ f. f ≢ Fault.Output → Keeps (W.contents writer.old) (W.contents writer.new)) }
 {
     let Script { setup, events } = script_from(alloc, reader)?;
-    let text = tell_live(rt, alloc, &setup, &events, options)?;
+    let text = tell_live(rt, alloc, &setup, &events, terminal, options)?;
     write_text(writer, text.as_str())
 }
 
 /// What is written of a live rollout: its trace, where it is asked for, the report of its world, and the line of its board.
-fn tell_live<T: Threads + Wait + Net + Sync>(
+fn tell_live<T: Threads + Wait + Net + Sync, E: Eprint + Sync>(
     rt: &T,
     alloc: Global,
     setup: &Setup,
     events: &[Event],
+    terminal: Option<&E>,
     options: &LiveOptions,
 ) -> Result<String, Fault>
     ensures ok { IfOk result (λ text. TellsRehearsal options.now.trace options.now.rounds options.now.workers setup.now events.now (string_bytes text)) }
@@ -98,6 +101,7 @@ fn tell_live<T: Threads + Wait + Net + Sync>(
         workers,
         trace,
     } = *options;
-    let report = live(rt, alloc, setup, events, rounds, workers, &OpenGate)?;
+    let gate = RowsGate::new(terminal, events);
+    let report = live(rt, alloc, setup, events, rounds, workers, &gate)?;
     Ok(tell_report(alloc, setup, events, &report, trace)?)
 }

@@ -23,9 +23,10 @@ ghost use Rattle.fw_cli.specs.Rehearsing.{
 
 use crate::fault::Fault;
 use crate::output::write_text;
+use crate::progress::RowsGate;
 use crate::replay::{Air, Rounds, air_of};
 use crate::script::Script;
-use crate::workers::{OpenGate, script_from, tell_report};
+use crate::workers::{script_from, tell_report};
 use fw_air::Fates;
 use fw_workers::rehearse;
 use fw_world::{Event, Setup};
@@ -49,6 +50,9 @@ pub struct RehearseOptions<'a> {
 /// end, and the line `board N` with the number of rows that the workers counted as done. A trace, where it is asked for, stands before
 /// the report, as that of `run_replay`: its datagrams have the order in which the workers' events were recorded.
 ///
+/// The terminal, if there is one, shows meanwhile how many rows are done, in a line that is cleared before anything is written to the
+/// writer. Where it fails, nothing else changes.
+///
 /// All input is read before anything is written, and what is written is flushed.
 ///
 /// # Errors
@@ -64,11 +68,12 @@ pub struct RehearseOptions<'a> {
 /// - `Output`: the writer failed. What it holds then is open.
 /// - `OutOfMemory`: nothing was written, and no more than 64 MiB were read. It comes for good fates, for input while it is read, for a line
 ///   with which the script goes on, and for a script of which a world can be made.
-pub fn run_rehearse<T: Threads + Wait + Sync, R: Read, W: Write>(
+pub fn run_rehearse<T: Threads + Wait + Sync, R: Read, W: Write, E: Eprint + Sync>(
     rt: &T,
     alloc: Global,
     reader: &mut R,
     writer: &mut W,
+    terminal: Option<&E>,
     options: &RehearseOptions<'_>,
 ) -> Result<(), Fault>
     // The report of the world at the end of an accounted run, and its board.
@@ -104,6 +109,7 @@ pub fn run_rehearse<T: Threads + Wait + Sync, R: Read, W: Write>(
         alloc,
         reader,
         writer,
+        terminal,
         &air,
         options.workers,
         options.trace,
@@ -111,11 +117,12 @@ pub fn run_rehearse<T: Threads + Wait + Sync, R: Read, W: Write>(
 }
 
 /// Rehearses the script that the reader has, and writes the report of it.
-fn rehearse_from<T: Threads + Wait + Sync, R: Read, W: Write>(
+fn rehearse_from<T: Threads + Wait + Sync, R: Read, W: Write, E: Eprint + Sync>(
     rt: &T,
     alloc: Global,
     reader: &mut R,
     writer: &mut W,
+    terminal: Option<&E>,
     air: &Air,
     workers: u32,
     trace: bool,
@@ -136,16 +143,17 @@ fn rehearse_from<T: Threads + Wait + Sync, R: Read, W: Write>(
     ensures silent { IfErr result (λ f. f ≢ Fault.Output → Keeps (W.contents writer.old) (W.contents writer.new)) }
 {
     let Script { setup, events } = script_from(alloc, reader)?;
-    let text = tell_rehearsal(rt, alloc, &setup, &events, air, workers, trace)?;
+    let text = tell_rehearsal(rt, alloc, &setup, &events, terminal, air, workers, trace)?;
     write_text(writer, text.as_str())
 }
 
 /// What is written of a rehearsal: its trace, where it is asked for, the report of its world, and the line of its board.
-fn tell_rehearsal<T: Threads + Wait + Sync>(
+fn tell_rehearsal<T: Threads + Wait + Sync, E: Eprint + Sync>(
     rt: &T,
     alloc: Global,
     setup: &Setup,
     events: &[Event],
+    terminal: Option<&E>,
     air: &Air,
     workers: u32,
     trace: bool,
@@ -161,8 +169,7 @@ fn tell_rehearsal<T: Threads + Wait + Sync>(
     let Some(fates) = Fates::new(&air.fates) else {
         unreachable!()
     };
-    let report = rehearse(
-        rt, alloc, setup, events, air.rounds, workers, &fates, &OpenGate,
-    )?;
+    let gate = RowsGate::new(terminal, events);
+    let report = rehearse(rt, alloc, setup, events, air.rounds, workers, &fates, &gate)?;
     Ok(tell_report(alloc, setup, events, &report, trace)?)
 }

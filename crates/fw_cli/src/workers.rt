@@ -15,19 +15,9 @@ use crate::report::{append_board, append_report};
 use crate::script::{Script, read_script};
 use crate::trace::append_trace_of;
 use fw_accounts::{Report, recorded_events};
-use fw_workers::Gate;
 use fw_world::{Event, Setup};
 use std::alloc::{AllocError, Global};
 use std::io::Read;
-
-/// A gate that lets every worker pass.
-pub(crate) struct OpenGate;
-
-impl Gate for OpenGate {
-    fn pass(&self, _worker: u32, _step: u64, _done: u64) -> bool {
-        true
-    }
-}
 
 /// The script that all of the reader's input spells.
 pub(crate) fn script_from<R: Read>(alloc: Global, reader: &mut R) -> Result<Script, Fault>

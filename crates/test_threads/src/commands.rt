@@ -1,6 +1,7 @@
 //! The command `rehearse`, over readers and writers in memory. Scripts and reports are worked out by hand from the head end's and the
 //! meter's documents.
 
+use crate::terminals::NO_TERMINAL;
 use fw_cli::{Fault, RehearseOptions, Rounds, run_rehearse};
 use std::alloc::Global;
 use std::io::{Read, Write};
@@ -35,6 +36,7 @@ impl Rehearsal {
             alloc,
             reader,
             writer,
+            NO_TERMINAL,
             &RehearseOptions {
                 rounds,
                 workers,
@@ -87,7 +89,7 @@ meter 4 block 2 capacity 64 factory 78
 open 7 1 616263 1 2 3 4
 ";
 
-const FOUR_DONE: &str = "\
+pub(crate) const FOUR_DONE: &str = "\
 row 7 1 1 done
 row 7 1 2 done
 row 7 1 3 done

@@ -30,4 +30,6 @@ mod sharing;
 #[cfg(test)]
 mod support;
 #[cfg(test)]
+mod terminals;
+#[cfg(test)]
 mod wires;

@@ -1,6 +1,7 @@
 //! The command `live`, over a reader and a writer in memory and sockets on this machine.
 
 use crate::commands::{FOUR, NO_HEADS, TWICE};
+use crate::terminals::NO_TERMINAL;
 use fw_cli::{LiveOptions, run_live};
 use std::alloc::Global;
 use std::net::Net;
@@ -27,7 +28,8 @@ impl Live {
             trace,
         };
         let mut written = Vec::new(alloc);
-        let result = run_live(rt, alloc, &mut script.as_bytes(), &mut written, &options);
+        let reader = &mut script.as_bytes();
+        let result = run_live(rt, alloc, reader, &mut written, NO_TERMINAL, &options);
         let mut text = String::from_utf8(written)?;
         if let Err(fault) = result {
             text.push_str(format!(in alloc; "{fault}")?.as_str())?;

@@ -20,6 +20,8 @@ Standard output gets the report of that end, as of `replay`, and the line `board
 that are done. All input is read before anything is written. With --trace a line for each datagram that
 was sent stands before the report, as in `rehearse`.
 
+Where standard error is a terminal, it shows how many rows are done until then, as in `rehearse`.
+
 Example, a campaign for two meters, and a worker for each:
 
   printf '%s\\n' 'head 7 width 4' 'meter 1 block 2 capacity 64 factory 78' \\

@@ -21,6 +21,9 @@ that are done. All input is read before anything is written. With --trace a line
 was sent stands before the report, as `replay --help` says it, in the order in which the workers'
 datagrams were recorded.
 
+Where standard error is a terminal, it shows how many rows are done, as `12 of 256 rows done`, until the
+report is written.
+
 Example, a campaign for two meters, and a worker for each:
 
   printf '%s\\n' 'head 7 width 4' 'meter 1 block 2 capacity 64 factory 78' \\

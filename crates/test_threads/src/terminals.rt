@@ -1,0 +1,119 @@
+//! What the commands of workers show on a terminal, which fails: what is written elsewhere stays the same.
+
+use crate::commands::{FOUR, FOUR_DONE};
+use fw_cli::{LiveOptions, RehearseOptions, Rounds, run_live, run_rehearse};
+use std::alloc::Global;
+use std::fmt::Display;
+use std::io;
+use std::io::ErrorKind;
+use std::sync::atomic::{AtomicU64, Ordering};
+use std::test::Fail;
+
+/// A terminal that gets some texts, in order. Each write fails.
+#[derive(Drop)]
+pub(crate) struct Terminal {
+    alloc: Global,
+    wanted: &'static [&'static str],
+    /// How many texts came.
+    came: AtomicU64,
+    /// How many of them are other ones.
+    others: AtomicU64,
+}
+
+/// No terminal.
+pub(crate) const NO_TERMINAL: Option<&'static Terminal> = None;
+
+impl Terminal {
+    /// A terminal that is to get these texts.
+    fn of(alloc: Global, wanted: &'static [&'static str]) -> Terminal {
+        Terminal {
+            alloc,
+            wanted,
+            came: AtomicU64::new(0),
+            others: AtomicU64::new(0),
+        }
+    }
+
+    /// Whether this text is to come as the one of this number.
+    fn wants<D: Display + Drop>(&self, at: u64, value: D) -> bool {
+        match (value.to_string(self.alloc), self.wanted.get(at as usize)) {
+            (Ok(found), Some(wanted)) => found.as_str() == *wanted,
+            _ => false,
+        }
+    }
+
+    /// How many texts came, and how many of them are other ones.
+    fn told(&self) -> (u64, u64) {
+        (
+            self.came.load(Ordering::SeqCst),
+            self.others.load(Ordering::SeqCst),
+        )
+    }
+}
+
+impl Eprint for Terminal {
+    fn eprint<D: Display + Drop>(&self, value: D) -> io::Result<()> {
+        let at = self.came.fetch_add(1, Ordering::SeqCst);
+        if !self.wants(at, value) {
+            self.others.fetch_add(1, Ordering::SeqCst);
+        }
+        Err(io::Error::from(ErrorKind::BrokenPipe))
+    }
+
+    fn eprintln<D: Display + Drop>(&self, value: D) -> io::Result<()> {
+        self.eprint(value)
+    }
+}
+
+const CLEARED: &str = "\r                                                            \r";
+
+/// One worker makes ten rounds in which all comes. In each of the ninth the row of its link is done.
+#[test]
+fn terminal_of_a_rehearsal(rt: HostRuntime) -> Result<(), Fail> {
+    let alloc = rt.alloc();
+    let terminal = Terminal::of(
+        alloc,
+        &[
+            "\r0 of 4 rows done",
+            "\r1 of 4 rows done",
+            "\r2 of 4 rows done",
+            "\r3 of 4 rows done",
+            "\r4 of 4 rows done",
+            CLEARED,
+        ],
+    );
+    let options = RehearseOptions {
+        rounds: Rounds {
+            rounds: 10,
+            fates: "d",
+        },
+        workers: 1,
+        trace: false,
+    };
+    let mut written = Vec::new(alloc);
+    let reader = &mut FOUR.as_bytes();
+    let result = run_rehearse(&rt, alloc, reader, &mut written, Some(&terminal), &options);
+    assert!(rt; result.is_ok());
+    assert_eq!(rt; String::from_utf8(written)?.as_str(), FOUR_DONE);
+    assert_eq!(rt; terminal.told(), (6, 0));
+    Ok(())
+}
+
+/// In one round no row is done.
+#[test]
+fn terminal_of_a_live_rollout(rt: HostRuntime) -> Result<(), Fail> {
+    let alloc = rt.alloc();
+    let terminal = Terminal::of(alloc, &["\r0 of 4 rows done", CLEARED]);
+    let options = LiveOptions {
+        rounds: 1,
+        workers: 2,
+        trace: false,
+    };
+    let mut written = Vec::new(alloc);
+    let reader = &mut FOUR.as_bytes();
+    let result = run_live(&rt, alloc, reader, &mut written, Some(&terminal), &options);
+    assert!(rt; result.is_ok());
+    assert!(rt; String::from_utf8(written)?.ends_with("\nboard 0\n"));
+    assert_eq!(rt; terminal.told(), (2, 0));
+    Ok(())
+}
