@@ -87,12 +87,11 @@ fault_of_rehearsal workers.Socket = Socket
 fault_of_rehearsal workers.GateShut = GateShut
 fault_of_rehearsal workers.BadSetup = BadSetup
 
--- the faults that say why a rehearsal has no report
+-- the faults that say why a rehearsal has no report, under a gate that never shuts
 abbrev pub IsOfWorkers : Fault → Type 0
 IsOfWorkers Event = Unit {0}
 IsOfWorkers Mismatch = Unit {0}
 IsOfWorkers ThreadRefused = Unit {0}
-IsOfWorkers GateShut = Unit {0}
 IsOfWorkers BadSetup = Unit {0}
 IsOfWorkers OutOfMemory = Unit {0}
 IsOfWorkers fault = ⊥
@@ -102,7 +101,6 @@ abbrev pub IsOfRehearse : Fault → Type 0
 IsOfRehearse Event = Unit {0}
 IsOfRehearse Mismatch = Unit {0}
 IsOfRehearse ThreadRefused = Unit {0}
-IsOfRehearse GateShut = Unit {0}
 IsOfRehearse fault = IsOfReplay fault
 
 -- the faults that say why a live rollout has no report

@@ -64,7 +64,7 @@ pub enum Fault {
     /// No socket could be bound for the wires of a live rollout, or at the address of a meter.
     #[error("Socket")]
     Socket,
-    /// A worker was not let pass.
+    /// A worker was not let pass. No command ends so, since the gate of a command lets every worker pass.
     #[error("GateShut")]
     GateShut,
     /// The writer failed.

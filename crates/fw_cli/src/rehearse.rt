@@ -64,7 +64,6 @@ pub struct RehearseOptions<'a> {
 /// - `Event`: an event of the script was refused, for another cause than memory.
 /// - `Mismatch`: what the workers left isn't what their record says.
 /// - `ThreadRefused`: a thread could not be started.
-/// - `GateShut`: a worker was not let pass. The gate of the command lets every worker pass.
 /// - `Output`: the writer failed. What it holds then is open.
 /// - `OutOfMemory`: nothing was written, and no more than 64 MiB were read. It comes for good fates, for input while it is read, for a line
 ///   with which the script goes on, and for a script of which a world can be made.

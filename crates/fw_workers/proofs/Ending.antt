@@ -4,7 +4,7 @@ use Rattle.std.specs.List.{AllZip}
 use Rattle.std.proofs.lemmas.List.Elements.{All-cons}
 use Rattle.fw_workers.specs.declared.error.RoundsError.{RoundsError}
 use Rattle.fw_workers.specs.declared.error.RoundsError.TheVariants as unaccounted
-use Rattle.fw_workers.specs.Ends.{End, EndsAs, IsLowestRefusal, IsOfCrew, lowest_refusal}
+use Rattle.fw_workers.specs.Ends.{End, EndsAs, EndsUnder, IsLowestRefusal, IsOfCrew, lowest_refusal}
 
 -- where none was refused, each hand may end well
 all_well : {H : Type 0} (may_end : H → End → Type 0) (hands : List H) (ends : List End) → AllZip (EndsAs may_end) hands ends
@@ -61,3 +61,18 @@ pub lowest_told : {H R : Type 0} (may_end : H → End → Type 0) (hands : List 
     → AllZip (EndsAs may_end) hands ends → IfSome (lowest_refusal ends) (λ e. IsErrOf told e) → (lowest_refusal ends ≡ None → IfErr told IsOfCrew)
     → IfErr told (λ e. IsOfCrew e ⊎ IsLowestRefusal may_end hands e)
 lowest_told may_end hands ends told each refused otherwise = lowest may_end hands ends (lowest_refusal ends) told each refl refused otherwise
+
+-- a shut gate is told of hands that end so only where one may shut
+lowest_shut : {H : Type 0} (may_shut : Type 0) (hands : List H) → IsLowestRefusal (λ _ end. EndsUnder may_shut end) hands unaccounted.GateShut → may_shut
+lowest_shut may_shut [] is = absurd is
+lowest_shut may_shut (hand ∷ hands) is = elim is [ inl may ↦ may refl | inr lower ↦ lowest_shut may_shut hands lower.1 ]
+
+pub shut_told : {H R : Type 0} (may_shut : Type 0) (hands : List H) (told : Result R RoundsError)
+    → IfErr told (λ e. IsOfCrew e ⊎ IsLowestRefusal (λ _ end. EndsUnder may_shut end) hands e)
+    → IsErrOf told unaccounted.GateShut → may_shut
+shut_told may_shut hands (Ok report) low is = cc
+shut_told may_shut hands (Err unaccounted.Mismatch) low is = cc
+shut_told may_shut hands (Err unaccounted.ThreadRefused) low is = cc
+shut_told may_shut hands (Err unaccounted.OutOfMemory) low is = cc
+shut_told may_shut hands (Err unaccounted.GateShut) low is =
+    elim low [ inl own ↦ absurd own | inr lower ↦ lowest_shut may_shut hands lower ]

@@ -1,5 +1,5 @@
 -- Public vocabulary: how workers end.
-use Rattle.std.specs.Prelude.{◌≡◌, ◌⊎◌, List, [], ◌∷◌, Option, None, Some, Result, Ok, Err}
+use Rattle.std.specs.Prelude.{◌≡◌, ◌⊎◌, List, [], ◌∷◌, Option, None, Some, Result, Ok, Err, IsErrOf}
 use Rattle.fw_workers.specs.declared.error.RoundsError.{RoundsError}
 use Rattle.fw_workers.specs.declared.error.RoundsError.TheVariants as unaccounted
 
@@ -28,6 +28,10 @@ IsOfCrew other = Unit {0}
 abbrev pub IsOfEvent : RoundsError → Type 0
 IsOfEvent unaccounted.ThreadRefused = ⊥
 IsOfEvent other = Unit {0}
+
+-- it ends for a shut gate only where one may shut
+abbrev pub EndsUnder : Type 0 → End → Type 0
+EndsUnder may_shut end = IsErrOf end unaccounted.GateShut → may_shut
 
 -- a worker with this hand ends as its hand may end, or was told not to begin
 abbrev pub EndsAs : {H : Type 0} → (H → End → Type 0) → H → End → Type 0

@@ -1,5 +1,7 @@
 //! The wires of a worker's links, in a thread of their own. What is lost there is loss on the wire: no clause speaks of it.
 
+ghost use Rattle.std.specs.Prelude.{◌≡◌, IfErr};
+
 use crate::error::RoundsError;
 use crossbeam_channel::{Receiver, SendError, Sender, unbounded};
 use fw_air::{MAX_RECEIVED, Pass, Wire};
@@ -66,17 +68,23 @@ impl WireThread {
     }
 
     /// Passes a datagram on to the wire thread, which sends it. It is lost where that thread has ended.
-    pub(crate) fn send<R: Wait>(&self, rt: &R, letter: LinkDatagram) -> Result<(), RoundsError> {
+    pub(crate) fn send<R: Wait>(&self, rt: &R, letter: LinkDatagram) -> Result<(), RoundsError>
+        ensures { IfErr result (λ e. e ≡ RoundsError.OutOfMemory) }
+    {
         self.order(rt, Order::Send(letter))
     }
 
     /// Asks for a pass: what came is brought, and then that the pass is over.
-    pub(crate) fn pass<R: Wait>(&self, rt: &R) -> Result<(), RoundsError> {
+    pub(crate) fn pass<R: Wait>(&self, rt: &R) -> Result<(), RoundsError>
+        ensures { IfErr result (λ e. e ≡ RoundsError.OutOfMemory) }
+    {
         self.order(rt, Order::Pass)
     }
 
     /// Gives an order, which is lost where the wire thread has ended.
-    fn order<R: Wait>(&self, rt: &R, order: Order) -> Result<(), RoundsError> {
+    fn order<R: Wait>(&self, rt: &R, order: Order) -> Result<(), RoundsError>
+        ensures { IfErr result (λ e. e ≡ RoundsError.OutOfMemory) }
+    {
         match self.orders.send(rt, order) {
             Ok(()) | Err(SendError::Disconnected(_)) => Ok(()),
             Err(SendError::OutOfMemory(_)) => Err(RoundsError::OutOfMemory),

@@ -33,8 +33,8 @@ pub struct Task<'a, G: Gate> {
 
 /// What is dealt to a worker.
 pub trait Hand {
-    /// How its rounds may end.
-    ghost may_end: { Self → End → Type 0 };
+    /// How its rounds may end. What it takes first says that the gate may shut.
+    ghost may_end: { Type 0 → Self → End → Type 0 };
 
     /// So many rounds of its links.
     fn rounds<R: Wait, G: Gate>(
@@ -47,7 +47,7 @@ pub trait Hand {
     ) -> Result<(), RoundsError>
         requires { worker.old.board ≡ shared.now.board.id }
         ensures board { worker.new.board ≡ worker.old.board }
-        ensures end { may_end self.old result };
+        ensures end { may_end G.may_shut self.old result };
 }
 
 /// Lets a worker for each hand make its rounds from this opening on, each in a thread of its own, and accounts for what they left.
@@ -67,8 +67,8 @@ pub fn work<R: Threads + Wait + Sync, G: Gate + Sync, H: Hand + Send + Drop>(
     requires { 1 ≤ task.now.workers }
     ensures reported { IfOk result (λ r. IsReported task.now.setup.now (events_of task.now.given.now) task.now.rounds task.now.workers
         r.world r.board r.receipts.items) }
-    ensures ended { IfOk result (λ _. All (λ hand. H.may_end hand (Ok tt)) hands.items) }
-    ensures lowest { IfErr result (λ e. IsOfCrew e ⊎ IsLowestRefusal H.may_end hands.items e) }
+    ensures ended { IfOk result (λ _. All (λ hand. H.may_end G.may_shut hand (Ok tt)) hands.items) }
+    ensures lowest { IfErr result (λ e. IsOfCrew e ⊎ IsLowestRefusal (H.may_end G.may_shut) hands.items e) }
 {
     let mut stage = Stage::of(alloc, task.setup, opening)?;
     let jobs = stage.seat(alloc, hands)?;
@@ -95,7 +95,7 @@ fn spawned<R: Threads + Wait + Sync, G: Gate + Sync, H: Hand + Send + Drop>(
 ) -> Result<Vec<Outcome>, RoundsError>
     requires { All (λ job. job.seat.board ≡ shared.now.board.id) jobs.items }
     ensures seats { IfOk result (λ v. All (λ outcome. outcome.seat.board ≡ shared.now.board.id) v.items) }
-    ensures ends { IfOk result (λ v. AllZip (EndsAs H.may_end) (map (λ job. job.hand) jobs.items) (map (λ outcome. outcome.ended) v.items)) }
+    ensures ends { IfOk result (λ v. AllZip (EndsAs (H.may_end G.may_shut)) (map (λ job. job.hand) jobs.items) (map (λ outcome. outcome.ended) v.items)) }
     ensures cause { IfErr result IsOfCrew }
 {
     let start = Start::new();
@@ -106,7 +106,7 @@ fn spawned<R: Threads + Wait + Sync, G: Gate + Sync, H: Hand + Send + Drop>(
         move |scope| -> Result<Vec<Outcome>, RoundsError>
             requires { All (λ job. job.seat.board ≡ shared.now.board.id) jobs.items }
             ensures seats { IfOk result (λ v. All (λ outcome. outcome.seat.board ≡ shared.entry.now.board.id) v.items) }
-            ensures ends { IfOk result (λ v. AllZip (EndsAs H.may_end) (map (λ job. job.hand) jobs.items) (map (λ outcome. outcome.ended) v.items)) }
+            ensures ends { IfOk result (λ v. AllZip (EndsAs (H.may_end G.may_shut)) (map (λ job. job.hand) jobs.items) (map (λ outcome. outcome.ended) v.items)) }
             ensures cause { IfErr result IsOfCrew }
         {
             let starter = Starter::of(start);
@@ -116,12 +116,13 @@ fn spawned<R: Threads + Wait + Sync, G: Gate + Sync, H: Hand + Send + Drop>(
                 let job = rest.remove(0);
                 let promise = OfWorker {
                     board: &shared.board,
+                    gate,
                     hand: Snapshot::of(&job.hand),
                 };
                 let work = move || -> Outcome
                     requires { job.seat.board ≡ shared.now.board.id }
                     ensures seat { result.seat.board ≡ shared.entry.now.board.id }
-                    ensures end { EndsAs H.may_end job.hand result.ended }
+                    ensures end { EndsAs (H.may_end G.may_shut) job.hand result.ended }
                 { work_off(rt, alloc, shared, start, gate, rounds, job) };
                 let Ok(child) = scope.spawn_with(promise, work) else {
                     return Err(starter.refuse(rt, RoundsError::ThreadRefused));
@@ -151,7 +152,7 @@ fn work_off<R: Wait, G: Gate, H: Hand + Drop>(
 ) -> Outcome
     requires { job.seat.board ≡ shared.now.board.id }
     ensures seat { result.seat.board ≡ shared.now.board.id }
-    ensures end { EndsAs H.may_end job.hand result.ended }
+    ensures end { EndsAs (H.may_end G.may_shut) job.hand result.ended }
 {
     let Job {
         number,

@@ -1,6 +1,6 @@
 //! The rounds of a worker over wires.
 
-ghost use Rattle.std.specs.Prelude.{◌≡◌};
+ghost use Rattle.std.specs.Prelude.{◌≡◌, IfErr, IsErrOf};
 
 use crate::carrier::{Arrival, LinkDatagram, WireThread};
 use crate::error::RoundsError;
@@ -33,7 +33,8 @@ impl<'a> WiredLinks<'a> {
         rounds: u32,
     ) -> Result<(), RoundsError>
         requires { worker.old.board ≡ self.now.shared.now.board.id }
-        ensures { worker.new.board ≡ worker.old.board }
+        ensures board { worker.new.board ≡ worker.old.board }
+        ensures shut { IsErrOf result RoundsError.GateShut → G.may_shut }
     {
         'rounds: for _ in 0..rounds {
             'links: for (place, link) in self.links.iter().enumerate() {
@@ -54,7 +55,8 @@ impl<'a> WiredLinks<'a> {
         link: &LinkQueue,
     ) -> Result<(), RoundsError>
         requires { worker.old.board ≡ self.now.shared.now.board.id }
-        ensures { worker.new.board ≡ worker.old.board }
+        ensures board { worker.new.board ≡ worker.old.board }
+        ensures shut { IsErrOf result RoundsError.GateShut → G.may_shut }
     {
         let asked = self
             .shared
@@ -76,7 +78,8 @@ impl<'a> WiredLinks<'a> {
         worker: &mut Worker<'_, G>,
     ) -> Result<bool, RoundsError>
         requires { worker.old.board ≡ self.now.shared.now.board.id }
-        ensures { worker.new.board ≡ worker.old.board }
+        ensures board { worker.new.board ≡ worker.old.board }
+        ensures shut { IsErrOf result RoundsError.GateShut → G.may_shut }
     {
         self.post.pass(rt)?;
         let mut has_come = false;
@@ -99,7 +102,8 @@ impl<'a> WiredLinks<'a> {
         letter: &LinkDatagram,
     ) -> Result<(), RoundsError>
         requires { worker.old.board ≡ self.now.shared.now.board.id }
-        ensures { worker.new.board ≡ worker.old.board }
+        ensures board { worker.new.board ≡ worker.old.board }
+        ensures shut { IsErrOf result RoundsError.GateShut → G.may_shut }
     {
         let Some(link) = self.links.get(letter.link) else {
             return Ok(());
@@ -136,7 +140,9 @@ impl<'a> WiredLinks<'a> {
         link: usize,
         direction: Direction,
         sent: Sent,
-    ) -> Result<(), RoundsError> {
+    ) -> Result<(), RoundsError>
+        ensures { IfErr result (λ e. e ≡ RoundsError.OutOfMemory) }
+    {
         let end = sent.first.saturating_add(sent.count);
         'datagrams: for number in sent.first..end {
             if let Some(datagram) = self.shared.log().get(rt, alloc, number)? {

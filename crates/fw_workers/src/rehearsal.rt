@@ -16,6 +16,7 @@ ghost use Rattle.fw_world.specs.Headline.{
 ghost use Rattle.fw_world.specs.Runs.{events_of};
 ghost use Rattle.fw_world.specs.Setup.{IsSetup, opening_state};
 ghost use Rattle.fw_world.specs.State.{world_of};
+ghost use Rattle.fw_workers.specs.Ends.{EndsUnder};
 ghost use Rattle.fw_workers.specs.Refusals.{TellsOfEvent};
 
 use crate::beginning::{Beginning, begin};
@@ -42,7 +43,7 @@ struct FatedLinks<'a> {
 }
 
 impl<'a> Hand for FatedLinks<'a> {
-    ghost may_end = { λ _ _. Unit {0} };
+    ghost may_end = { λ may_shut _ end. EndsUnder may_shut end };
 
     fn rounds<R: Wait, G: Gate>(
         &mut self,
@@ -73,7 +74,7 @@ impl<'a> Hand for FatedLinks<'a> {
 /// # Errors
 ///
 /// `BadSetup` first. Then those of the given events: `OutOfMemory`, or `Event` for any other cause. Then the lowest worker's:
-/// `GateShut`, `OutOfMemory` or `Mismatch`; or `ThreadRefused`.
+/// `GateShut`, only under a gate whose type may shut, `OutOfMemory` or `Mismatch`; or `ThreadRefused`.
 pub fn rehearse<R: Threads + Wait + Sync, G: Gate + Sync>(
     rt: &R,
     alloc: Global,
@@ -98,6 +99,7 @@ pub fn rehearse<R: Threads + Wait + Sync, G: Gate + Sync>(
     ensures event { IfErr result (TellsOfEvent setup.now events.now) }
     ensures made { IfErr result (λ e. e ≢ RehearseError.BadSetup → IsSetup setup.now) }
     ensures wireless { IfErr result (λ e. e ≢ RehearseError.Socket) }
+    ensures shut { IsErrOf result RehearseError.GateShut → G.may_shut }
 {
     let opening = begin(alloc, setup, events, workers)?;
     let task = Task {
@@ -120,8 +122,9 @@ fn by_fates<R: Threads + Wait + Sync, G: Gate + Sync>(
     fates: &Fates<'_>,
 ) -> Result<Report, RoundsError>
     requires { 1 ≤ task.now.workers }
-    ensures { IfOk result (λ r. IsReported task.now.setup.now (events_of task.now.given.now) task.now.rounds task.now.workers
+    ensures reported { IfOk result (λ r. IsReported task.now.setup.now (events_of task.now.given.now) task.now.rounds task.now.workers
         r.world r.board r.receipts.items) }
+    ensures shut { IsErrOf result RoundsError.GateShut → G.may_shut }
 {
     let lines = lines_of(alloc, task.setup, &opening.world)?;
     let mut hands = Vec::new(alloc);
@@ -133,7 +136,9 @@ fn by_fates<R: Threads + Wait + Sync, G: Gate + Sync>(
 }
 
 /// The links of a world, on which nothing was sent.
-fn lines_of(alloc: Global, setup: &Setup, world: &World) -> Result<Vec<FatedLink>, RoundsError> {
+fn lines_of(alloc: Global, setup: &Setup, world: &World) -> Result<Vec<FatedLink>, RoundsError>
+    ensures { IfErr result (λ e. e ≡ RoundsError.OutOfMemory) }
+{
     let mut lines = Vec::new(alloc);
     for link in links_of(alloc, setup, world)? {
         lines.push(FatedLink::new(link))?;

@@ -1,6 +1,6 @@
 //! The rounds of a worker of a rehearsal, in which datagrams come by their fates.
 
-ghost use Rattle.std.specs.Prelude.{◌≡◌};
+ghost use Rattle.std.specs.Prelude.{◌≡◌, IfErr, IsErrOf};
 
 use crate::error::RoundsError;
 use crate::gate::Gate;
@@ -55,7 +55,8 @@ impl<'a> FatedRounds<'a> {
         lines: &mut [FatedLink],
     ) -> Result<(), RoundsError>
         requires { worker.old.board ≡ self.now.shared.now.board.id }
-        ensures { worker.new.board ≡ worker.old.board }
+        ensures board { worker.new.board ≡ worker.old.board }
+        ensures shut { IsErrOf result RoundsError.GateShut → G.may_shut }
     {
         'rounds: for _ in 0..self.rounds {
             'links: for line in lines.iter_mut() {
@@ -75,7 +76,8 @@ impl<'a> FatedRounds<'a> {
         line: &mut FatedLink,
     ) -> Result<(), RoundsError>
         requires { worker.old.board ≡ self.now.shared.now.board.id }
-        ensures { worker.new.board ≡ worker.old.board }
+        ensures board { worker.new.board ≡ worker.old.board }
+        ensures shut { IsErrOf result RoundsError.GateShut → G.may_shut }
     {
         let sent = self.open_round(rt, alloc, worker, line)?;
         let replies = self.deliver_passed(rt, alloc, worker, line, &sent)?;
@@ -92,7 +94,8 @@ impl<'a> FatedRounds<'a> {
         line: &mut FatedLink,
     ) -> Result<Vec<Sent>, RoundsError>
         requires { worker.old.board ≡ self.now.shared.now.board.id }
-        ensures { worker.new.board ≡ worker.old.board }
+        ensures board { worker.new.board ≡ worker.old.board }
+        ensures shut { IsErrOf result RoundsError.GateShut → G.may_shut }
     {
         let late = line.waiting.take_late(alloc);
         let mut sent = self.deliver_all(rt, alloc, worker, line, &late)?;
@@ -113,7 +116,8 @@ impl<'a> FatedRounds<'a> {
         sent: &[Sent],
     ) -> Result<Vec<Sent>, RoundsError>
         requires { worker.old.board ≡ self.now.shared.now.board.id }
-        ensures { worker.new.board ≡ worker.old.board }
+        ensures board { worker.new.board ≡ worker.old.board }
+        ensures shut { IsErrOf result RoundsError.GateShut → G.may_shut }
     {
         let coming = self.pass(alloc, line, sent)?;
         self.deliver_all(rt, alloc, worker, line, &coming)
@@ -125,7 +129,9 @@ impl<'a> FatedRounds<'a> {
         alloc: Global,
         line: &mut FatedLink,
         sent: &[Sent],
-    ) -> Result<Vec<usize>, RoundsError> {
+    ) -> Result<Vec<usize>, RoundsError>
+        ensures { IfErr result (λ e. e ≡ RoundsError.OutOfMemory) }
+    {
         let mut all = Vec::new(alloc);
         for part in sent {
             let end = part.first.saturating_add(part.count);
@@ -145,7 +151,8 @@ impl<'a> FatedRounds<'a> {
         numbers: &[usize],
     ) -> Result<Vec<Sent>, RoundsError>
         requires { worker.old.board ≡ self.now.shared.now.board.id }
-        ensures { worker.new.board ≡ worker.old.board }
+        ensures board { worker.new.board ≡ worker.old.board }
+        ensures shut { IsErrOf result RoundsError.GateShut → G.may_shut }
     {
         let mut sent = Vec::new(alloc);
         for number in numbers {

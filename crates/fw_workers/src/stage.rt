@@ -8,6 +8,7 @@ ghost use Rattle.fw_workers.specs.Ends.{EndsAs, IsOfCrew, lowest_refusal};
 use crate::beginning::Beginning;
 use crate::crew::Hand;
 use crate::error::RoundsError;
+use crate::gate::Gate;
 use crate::shared_world::SharedWorld;
 use fw_accounts::{Receipts, Report, account, done_rows};
 use fw_shared::{Board, Seat};
@@ -31,15 +32,17 @@ pub(crate) struct Outcome {
     pub(crate) ended: Result<(), RoundsError>,
 }
 
-/// What is promised of what a worker leaves: its seat is of this board, and it ended as with this hand.
+/// What is promised of what a worker leaves: its seat is of this board, and it ended as with this hand under this gate.
 #[derive(Drop)]
-pub(crate) struct OfWorker<'a, H> {
+pub(crate) struct OfWorker<'a, G, H> {
     pub(crate) board: &'a Board,
+    pub(crate) gate: &'a G,
     pub(crate) hand: Snapshot<H>,
 }
 
-impl<'a, H: Hand> Promise<Outcome> for OfWorker<'a, H> {
-    ghost kept_by = { λ p outcome. (outcome.seat.board ≡ p.board.now.id) × EndsAs H.may_end p.hand.value outcome.ended };
+impl<'a, G: Gate, H: Hand> Promise<Outcome> for OfWorker<'a, G, H> {
+    ghost kept_by = { λ p outcome. (outcome.seat.board ≡ p.board.now.id)
+        × EndsAs (H.may_end G.may_shut) p.hand.value outcome.ended };
 }
 
 /// What workers share, and the seat out of which theirs are split.

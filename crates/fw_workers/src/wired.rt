@@ -15,6 +15,7 @@ ghost use Rattle.fw_world.specs.Headline.{
 ghost use Rattle.fw_world.specs.Runs.{events_of};
 ghost use Rattle.fw_world.specs.Setup.{IsSetup, opening_state};
 ghost use Rattle.fw_world.specs.State.{world_of};
+ghost use Rattle.fw_workers.specs.Ends.{EndsUnder};
 ghost use Rattle.fw_workers.specs.Refusals.{IsLater, IsOfRounds, TellsOfEvent};
 ghost use Rattle.fw_workers.specs.Wires.{HasLinks, HasOtherLinks};
 
@@ -51,7 +52,7 @@ struct Wired {
 }
 
 impl Hand for Wired {
-    ghost may_end = { λ _ _. Unit {0} };
+    ghost may_end = { λ may_shut _ end. EndsUnder may_shut end };
 
     fn rounds<R: Wait, G: Gate>(
         &mut self,
@@ -82,8 +83,8 @@ impl Hand for Wired {
 /// # Errors
 ///
 /// `BadSetup` first. Then those of the given events: `OutOfMemory`, or `Event` for any other cause. Then `Socket` for another number
-/// of wires than of links. Then, where there is a wire for each link, the lowest worker's: `GateShut`, `OutOfMemory` or `Mismatch`; or
-/// `ThreadRefused`.
+/// of wires than of links. Then, where there is a wire for each link, the lowest worker's: `GateShut`, only under a gate whose type may
+/// shut, `OutOfMemory` or `Mismatch`; or `ThreadRefused`.
 pub fn live_over<R: Threads + Wait + Sync, G: Gate + Sync, W: Wire + Send + Drop>(
     rt: &R,
     alloc: Global,
@@ -110,6 +111,7 @@ pub fn live_over<R: Threads + Wait + Sync, G: Gate + Sync, W: Wire + Send + Drop
     ensures wires { OnOk result (HasLinks setup.now (events_of events.now) (length wires.items)) }
     ensures socket { IsErrOf result RehearseError.Socket → HasOtherLinks setup.now (events_of events.now) (length wires.items) }
     ensures rounds { IfErr result (λ e. IsOfRounds e → HasLinks setup.now (events_of events.now) (length wires.items)) }
+    ensures shut { IsErrOf result RehearseError.GateShut → G.may_shut }
 {
     let opening = begin(alloc, setup, events, workers)?;
     let links = links_of(alloc, setup, &opening.world)?;
@@ -129,7 +131,7 @@ pub fn live_over<R: Threads + Wait + Sync, G: Gate + Sync, W: Wire + Send + Drop
 ///
 /// # Errors
 ///
-/// As of `live_over`; `Socket` where a socket can't be bound.
+/// As of `live_over`; `Socket` where a socket can't be bound, so never where there is no link.
 pub fn live<R: Threads + Wait + Net + Sync, G: Gate + Sync>(
     rt: &R,
     alloc: Global,
@@ -152,6 +154,8 @@ pub fn live<R: Threads + Wait + Net + Sync, G: Gate + Sync>(
     ensures few { ¬ ((1 ≤ workers) × (workers ≤ 8)) → IsErrOf result RehearseError.BadSetup }
     ensures event { IfErr result (TellsOfEvent setup.now events.now) }
     ensures made { IfErr result (λ e. e ≢ RehearseError.BadSetup → IsSetup setup.now) }
+    ensures socket { IsErrOf result RehearseError.Socket → HasOtherLinks setup.now (events_of events.now) 0 }
+    ensures shut { IsErrOf result RehearseError.GateShut → G.may_shut }
 {
     let opening = begin(alloc, setup, events, workers)?;
     let links = links_of(alloc, setup, &opening.world)?;
@@ -195,7 +199,9 @@ fn bound<N: Net>(
     alloc: Global,
     links: Vec<LinkQueue>,
 ) -> Result<Vec<WiredLink<UdpWire>>, RehearseError>
-    ensures { IfErr result IsLater }
+    ensures socket { IsErrOf result RehearseError.Socket → length links.items ≢ 0 }
+    ensures only { IfErr result IsLater }
+    ensures roundless { IfErr result (λ e. ¬ IsOfRounds e) }
 {
     let mut lines = Vec::new(alloc);
     for link in links {
@@ -218,8 +224,9 @@ fn over_wires<R: Threads + Wait + Sync, G: Gate + Sync, W: Wire + Send + Drop>(
     lines: Vec<WiredLink<W>>,
 ) -> Result<Report, RoundsError>
     requires { 1 ≤ task.now.workers }
-    ensures { IfOk result (λ r. IsReported task.now.setup.now (events_of task.now.given.now) task.now.rounds task.now.workers
+    ensures reported { IfOk result (λ r. IsReported task.now.setup.now (events_of task.now.given.now) task.now.rounds task.now.workers
         r.world r.board r.receipts.items) }
+    ensures shut { IsErrOf result RoundsError.GateShut → G.may_shut }
 {
     let lines = dealt(alloc, lines, task.workers)?;
     let (hands, carriers) = crews(alloc, lines)?;
@@ -282,15 +289,17 @@ fn carried<R: Threads + Wait + Sync, G: Gate + Sync, W: Wire + Send + Drop>(
     carriers: Vec<Carrier<W>>,
 ) -> Result<Report, RoundsError>
     requires { 1 ≤ workers }
-    ensures { IfOk result (λ r. IsReported setup.now (events_of given.now) rounds workers r.world r.board r.receipts.items) }
+    ensures reported { IfOk result (λ r. IsReported setup.now (events_of given.now) rounds workers r.world r.board r.receipts.items) }
+    ensures shut { IsErrOf result RoundsError.GateShut → G.may_shut }
 {
     thread::scope(
         thread::scope_env(),
         rt,
         move |scope| -> Result<Report, RoundsError>
             requires { 1 ≤ workers }
-            ensures { IfOk result (λ r. IsReported setup.entry.now (events_of given.entry.now) rounds workers
+            ensures reported { IfOk result (λ r. IsReported setup.entry.now (events_of given.entry.now) rounds workers
                 r.world r.board r.receipts.items) }
+            ensures shut { IsErrOf result RoundsError.GateShut → G.may_shut }
         {
             let mut rest = carriers;
             'carriers: while !rest.is_empty() {

@@ -47,7 +47,7 @@ impl GoodLink {
 }
 
 impl Hand for GoodLink {
-    ghost may_end = { λ _ _. Unit {0} };
+    ghost may_end = { λ _ _ _. Unit {0} };
 
     fn rounds<R: Wait, G: Gate>(
         &mut self,
@@ -123,7 +123,7 @@ fn hands_of_its_own(rt: HostRuntime) -> Result<(), Fail> {
 struct Refused(Option<RoundsError>);
 
 impl Hand for Refused {
-    ghost may_end = { λ hand end. MatchOption hand.0 (end ≡ Ok tt) (λ reason. end ≡ Err reason) };
+    ghost may_end = { λ _ hand end. MatchOption hand.0 (end ≡ Ok tt) (λ reason. end ≡ Err reason) };
 
     fn rounds<R: Wait, G: Gate>(
         &mut self,

@@ -7,11 +7,11 @@ use Rattle.fw_workers.proofs.crew.work.Goals as goal
 pub returns-clause-ended : goal.returns-clause-ended
 returns-clause-ended g c =
     let ends : List End = map (λ outcome. outcome.ended) c.in_ok-outcomes.outcomes.items in
-    let each = subst (λ hands. AllZip (EndsAs g.H.Hand.may_end) hands ends) c.in_ok-jobs.ensures.hands c.in_ok-outcomes.ensures.ends in
-    well_told g.H.Hand.may_end c.args.hands.items ends c.account.result each c.account.ensures.refused
+    let each = subst (λ hands. AllZip (EndsAs (g.H.Hand.may_end g.G.Gate.may_shut)) hands ends) c.in_ok-jobs.ensures.hands c.in_ok-outcomes.ensures.ends in
+    well_told (g.H.Hand.may_end g.G.Gate.may_shut) c.args.hands.items ends c.account.result each c.account.ensures.refused
 
 pub returns-clause-lowest : goal.returns-clause-lowest
 returns-clause-lowest g c =
     let ends : List End = map (λ outcome. outcome.ended) c.in_ok-outcomes.outcomes.items in
-    let each = subst (λ hands. AllZip (EndsAs g.H.Hand.may_end) hands ends) c.in_ok-jobs.ensures.hands c.in_ok-outcomes.ensures.ends in
-    lowest_told g.H.Hand.may_end c.args.hands.items ends c.account.result each c.account.ensures.refused c.account.ensures.otherwise
+    let each = subst (λ hands. AllZip (EndsAs (g.H.Hand.may_end g.G.Gate.may_shut)) hands ends) c.in_ok-jobs.ensures.hands c.in_ok-outcomes.ensures.ends in
+    lowest_told (g.H.Hand.may_end g.G.Gate.may_shut) c.args.hands.items ends c.account.result each c.account.ensures.refused c.account.ensures.otherwise
