@@ -9,6 +9,7 @@ use Rattle.fw_cli.specs.declared.course.Course.{Course}
 use Rattle.fw_cli.specs.declared.item.Item.{Item as Read}
 use Rattle.fw_cli.specs.declared.item.Item.TheVariants as read
 use Rattle.fw_cli.specs.declared.replay.Air.{Air}
+use Rattle.fw_cli.specs.Replaying.{FatedRounds}
 use Rattle.fw_cli.specs.Words.{words_of}
 use Rattle.fw_cli.specs.Script.{Said, head_item, meter_item, events_item, head_of, meter_of}
 
@@ -29,9 +30,9 @@ abbrev pub names_setup : List (List ℕ) → Bool
 names_setup [] = false
 names_setup (first ∷ words) = bytes_eq first (codes "head") || bytes_eq first (codes "meter")
 
--- how many rounds there are, where there is air
-abbrev pub rounds_in : Option Air → Option ℕ
-rounds_in air = option_map (λ (a : Air). a.rounds) air
+-- the rounds and their fates, where there is air
+abbrev pub rounds_in : Option Air → Option FatedRounds
+rounds_in air = option_map (λ (a : Air). record { rounds = a.rounds; fates = a.fates.items }) air
 
 -- which datagram an event brings to its addressee, if it brings one
 abbrev pub coming_in : Event → Option Coming

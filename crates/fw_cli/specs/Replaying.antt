@@ -1,7 +1,6 @@
 -- Public vocabulary: what the command `replay` tells of a script, and what it does to its reader and its writer, where the bytes that these
 -- hold are known: what the reader has left before and after, and what the writer holds at first and at last.
 use Rattle.std.specs.Prelude.{◌≡◌, ◌≢◌, ◌≤◌, ◌⊎◌, ℕ, Bool, true, false, List, [], ◌++◌, take, Option, Some, None}
-use Rattle.std.specs.Option.{option_map}
 use Rattle.std.specs.Io.KnownBytes.{Appends, Keeps}
 use Rattle.fw_world.specs.declared.error.SetupError.TheVariants as unmade
 use Rattle.fw_world.specs.declared.error.StepError.TheVariants.{OutOfMemory}
@@ -14,14 +13,15 @@ use Rattle.fw_world.specs.Setup.{IsSetup, opening_state}
 use Rattle.fw_world.specs.State.{State, StateRun}
 use Rattle.fw_world.specs.Step.{Event}
 use Rattle.fw_world.specs.World.{Datagram}
-use Rattle.fw_air.specs.Schedules.{IsUnscheduled, Schedules}
+use Rattle.fw_air.specs.declared.fates.Fate.{Fate}
+use Rattle.fw_air.specs.Schedules.{IsUnscheduled, ScheduleHasFates, Schedules}
 use Rattle.fw_cli.specs.declared.forms.Style.{Style}
 use Rattle.fw_cli.specs.declared.refusal.Refusal.{Refusal}
 use Rattle.fw_cli.specs.declared.replay.Ended.{Ended}
 use Rattle.fw_cli.specs.declared.replay.Ended.TheVariants.{Whole, Refused}
 use Rattle.fw_cli.specs.declared.replay.ReplayOptions.{ReplayOptions}
 use Rattle.fw_cli.specs.declared.replay.Rounds.{Rounds}
-use Rattle.fw_cli.specs.Fates.{SpellsSome}
+use Rattle.fw_cli.specs.Fates.{SpellsFates, SpellsSome}
 use Rattle.fw_cli.specs.Reading.{Gives, ReadsAll, max_input}
 use Rattle.fw_cli.specs.Forms.{report_in}
 use Rattle.fw_cli.specs.Trace.{TellsTrace}
@@ -56,10 +56,20 @@ pub record HasNoRound (setup : Setup) (given : List Event) : Type 0 where
   pub stopped : IsUnscheduled setup given error
   pub other : ¬ WantsMemory error
 
+-- so many rounds of each link, and the fates that the datagrams of each link have in them
+pub record FatedRounds : Type 0 where
+  pub rounds : ℕ
+  pub fates : List Fate
+
+-- The events are the given ones and after them these rounds, in which the datagrams have these fates.
+pub record HasRounds (asked : FatedRounds) (setup : Setup) (given events : List Event) : Type 0 where
+  pub schedule : Schedules setup given asked.rounds events
+  pub fated : ScheduleHasFates setup given asked.rounds asked.fates events
+
 -- the events that are run: those of the script, and after them the rounds that are asked for
-abbrev pub GoesOn : Option ℕ → Setup → List Event → List Event → Type 0
+abbrev pub GoesOn : Option FatedRounds → Setup → List Event → List Event → Type 0
 GoesOn None setup given events = events ≡ given
-GoesOn (Some rounds) setup given events = Schedules setup given rounds events ⊎ ((events ≡ given) × HasNoRound setup given)
+GoesOn (Some asked) setup given events = HasRounds asked setup given events ⊎ ((events ≡ given) × HasNoRound setup given)
 
 -- From a new world no event is refused, and the text tells of the world after the last one.
 pub record RunsWhole (style : Style) (setup : Setup) (events : List Given) (text : List ℕ) : Type 0 where
@@ -82,7 +92,7 @@ abbrev pub TellsRun : Style → Setup → List Given → Ended → List ℕ → 
 TellsRun style setup events ended text = IsSetup setup × EndsSo ended style setup events text
 
 -- The input is a script, and its run ends so.
-pub record Tells (rounds : Option ℕ) (style : Style) (input : List ℕ) (ended : Ended) (text : List ℕ) : Type 0 where
+pub record Tells (rounds : Option FatedRounds) (style : Style) (input : List ℕ) (ended : Ended) (text : List ℕ) : Type 0 where
   pub setup : Setup
   pub given : List Given
   pub events : List Given
@@ -115,19 +125,22 @@ HasGoodFates None = ⊥
 HasGoodFates (Some rounds) = SpellsSome rounds.fates.now
 
 -- All input was read, and the report of it was written.
-pub record WritesRun (rounds : Option ℕ) (style : Style) (ended : Ended) (before after first last : Option (List ℕ)) : Type 0 where
+pub record WritesRun (rounds : Option FatedRounds) (style : Style) (ended : Ended) (before after first last : Option (List ℕ)) : Type 0 where
   pub input : List ℕ
   pub text : List ℕ
   pub read : ReadsAll before after input
   pub tells : Tells rounds style input ended text
   pub written : Appends first last text
 
--- how many rounds are asked for
-abbrev pub rounds_asked : ReplayOptions → Option ℕ
-rounds_asked options = option_map (λ (asked : Rounds). asked.rounds) options.rounds
+-- the rounds that are asked for, with the fates that their letters spell
+abbrev pub AreAsked : Option Rounds → Option FatedRounds → Type 0
+AreAsked None rounds = rounds ≡ None
+AreAsked (Some asked) rounds =
+    (fates : List Fate) × SpellsFates asked.fates.now fates × (rounds ≡ Some (record { rounds = asked.rounds; fates = fates }))
 
 abbrev pub Replays : ReplayOptions → Ended → Option (List ℕ) → Option (List ℕ) → Option (List ℕ) → Option (List ℕ) → Type 0
-Replays options ended before after first last = WritesRun (rounds_asked options) options.style ended before after first last
+Replays options ended before after first last =
+    (rounds : Option FatedRounds) × AreAsked options.rounds rounds × WritesRun rounds options.style ended before after first last
 
 -- all input was read, and P holds of it
 abbrev pub ReadsOne : Option (List ℕ) → Option (List ℕ) → (List ℕ → Type 0) → Type 0

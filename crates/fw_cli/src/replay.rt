@@ -23,7 +23,7 @@ ghost use Rattle.fw_world.specs.Runs.{IsStopped, events_of};
 ghost use Rattle.fw_world.specs.Setup.{IsSetup};
 ghost use Rattle.fw_air.specs.Fates.{IsFates};
 ghost use Rattle.fw_air.specs.Schedules.{IsOfWorld};
-ghost use Rattle.fw_cli.specs.Fates.{SpellsSome};
+ghost use Rattle.fw_cli.specs.Fates.{SpellsFates, SpellsSome};
 ghost use Rattle.fw_cli.specs.Faults.{IsOfReplay};
 ghost use Rattle.fw_cli.specs.Reading.{ReadsUntil, max_input};
 ghost use Rattle.fw_cli.specs.Inside.{rounds_in};
@@ -155,9 +155,8 @@ pub fn run_replay<R: Read, W: Write>(
 
 /// The rounds with their fates.
 pub(crate) fn air_of(alloc: Global, rounds: &Rounds<'_>) -> Result<Air, Fault>
-    ensures ok { IfOk result (λ air. IsFates air.fates.items) }
     ensures rounds { IfOk result (λ air. air.rounds ≡ rounds.now.rounds) }
-    ensures spelled { IfOk result (λ air. SpellsSome rounds.now.fates.now) }
+    ensures fates { IfOk result (λ air. SpellsFates rounds.now.fates.now air.fates.items) }
     ensures bad_fates { result ≡ Err Fault.BadFates → ¬ SpellsSome rounds.now.fates.now }
     ensures memory { result ≡ Err Fault.OutOfMemory → SpellsSome rounds.now.fates.now }
     ensures only { IfErr result (λ f. (f ≡ Fault.BadFates) ⊎ (f ≡ Fault.OutOfMemory)) }
