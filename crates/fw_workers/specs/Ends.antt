@@ -33,6 +33,6 @@ IsOfEvent other = Unit {0}
 abbrev pub EndsUnder : Type 0 → End → Type 0
 EndsUnder may_shut end = IsErrOf end unaccounted.GateShut → may_shut
 
--- a worker with this hand ends as its hand may end, or was told not to begin
+-- a worker with this hand ends as its hand may end, or was not to begin
 abbrev pub EndsAs : {H : Type 0} → (H → End → Type 0) → H → End → Type 0
 EndsAs may_end hand end = may_end hand end ⊎ (end ≡ Err unaccounted.ThreadRefused)

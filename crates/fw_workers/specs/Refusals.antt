@@ -50,7 +50,7 @@ of_rounds unaccounted.ThreadRefused = refused.ThreadRefused
 of_rounds unaccounted.OutOfMemory = refused.OutOfMemory
 of_rounds unaccounted.GateShut = refused.GateShut
 
--- it is told behind the given events, not of the setup or of one of them
+-- it is refused after the given events, not for the setup or for one of them
 abbrev pub IsLater : RehearseError → Type 0
 IsLater refused.BadSetup = ⊥
 IsLater (refused.Event number) = ⊥
@@ -70,7 +70,7 @@ pub record IsBarred (setup : Setup) (events : List Given) (number : ℕ) : Type 
   pub other : reason ≢ cause.OutOfMemory
   pub stopped_is : IsStopped setup events (stopped.Event number world reason)
 
--- where a given event is told of, it is refused so
+-- where a given event is reported, it is refused so
 abbrev pub TellsOfEvent : Setup → List Given → RehearseError → Type 0
 TellsOfEvent setup events (refused.Event number) = IsBarred setup events number
 TellsOfEvent setup events other = Unit {0}

@@ -6,7 +6,7 @@ use Rattle.fw_world.specs.State.{State, StateRun}
 use Rattle.fw_world.specs.Step.{Event}
 use Rattle.fw_air.specs.Rounds.{links}
 
--- Behind these events there are so many links.
+-- After these events there are this many links.
 pub record HasLinks (setup : Setup) (given : List Event) (count : ℕ) : Type 0 where
   pub world : State
   pub runs : StateRun (opening_state setup) given world

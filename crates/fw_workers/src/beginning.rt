@@ -24,7 +24,7 @@ pub struct Beginning {
     ghost counted: { IsCounted (record { sent = world.sent; entries = entries.items }) },
 }
 
-/// What the workers begin with. There have to be 1 to 8 of them.
+/// What the workers begin with. There have to be 1 to 8 of them: nine workers are refused.
 ///
 /// # Errors
 ///

@@ -21,7 +21,7 @@ use std::sync::Wait;
 use std::thread;
 use std::thread::Threads;
 
-/// What workers are asked to do: so many rounds of what is dealt to them, behind the given events.
+/// What workers are asked to do: rounds of what is dealt to them, after the given events.
 #[derive(Drop)]
 pub struct Task<'a, G: Gate> {
     pub setup: &'a Setup,
@@ -140,7 +140,7 @@ fn spawned<R: Threads + Wait + Sync, G: Gate + Sync, H: Hand + Send + Drop>(
     )
 }
 
-/// What a worker does in its thread, once it is told to begin.
+/// What a worker does in its thread, once it may begin.
 fn work_off<R: Wait, G: Gate, H: Hand + Drop>(
     rt: &R,
     alloc: Global,

@@ -65,7 +65,7 @@ impl<'a> Hand for FatedLinks<'a> {
     }
 }
 
-/// Makes the given events, and behind them the rounds of all links, as `schedule` makes them, by 1 to 8 workers in threads of their
+/// Makes the given events, and after them the rounds of all links, as `schedule` makes them, by 1 to 8 workers in threads of their
 /// own: link j, in the order of the setup, is dealt to worker j modulo the number of workers. Before each of its events a worker asks
 /// the gate.
 ///

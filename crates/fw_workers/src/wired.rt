@@ -71,7 +71,7 @@ impl Hand for Wired {
     }
 }
 
-/// Makes the given events, and behind them rounds of all links over these wires, by 1 to 8 workers in threads of their own. There is
+/// Makes the given events, and after them rounds of all links over these wires, by 1 to 8 workers in threads of their own. There is
 /// a wire for each link, in the order of the setup: the head end's end and the meter's. Link j is dealt to worker j modulo the number
 /// of workers, each of which has one thread more, for the wires of its links. In a round of a link the head end ticks the meter, then
 /// what comes is handled until a pass over the worker's wires brings nothing, after 64 passes at the latest, and then the meter takes
@@ -274,7 +274,7 @@ fn parted<W: Wire + Drop>(
     Ok((Wired { links, post }, carrier))
 }
 
-/// The wires of each worker in a thread of their own, and behind them the workers. Each wire thread ends when its worker has. The task
+/// The wires of each worker in a thread of their own, and after them the workers. Each wire thread ends when its worker has. The task
 /// is passed part by part, since a closure's clauses are lost where it captures a value whose type has a lifetime.
 fn carried<R: Threads + Wait + Sync, G: Gate + Sync, W: Wire + Send + Drop>(
     rt: &R,
