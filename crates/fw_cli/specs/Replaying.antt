@@ -56,7 +56,7 @@ pub record HasNoRound (setup : Setup) (given : List Event) : Type 0 where
   pub stopped : IsUnscheduled setup given error
   pub other : ¬ WantsMemory error
 
--- so many rounds of each link, and the fates that the datagrams of each link have in them
+-- the rounds of each link, and the fates that the datagrams of each link have in them
 pub record FatedRounds : Type 0 where
   pub rounds : ℕ
   pub fates : List Fate

@@ -67,7 +67,7 @@ impl<'a, E: Eprint> RowsGate<'a, E> {
         }
     }
 
-    /// Shows so many rows as done, unless as many are shown or another worker writes.
+    /// Shows how many rows are done, unless as many are shown or another worker writes.
     fn show(&self, done: u64) {
         let next = done.saturating_add(1);
         if self.shown.load(Ordering::SeqCst) < next && !self.is_taken.swap(true, Ordering::SeqCst) {

@@ -62,7 +62,7 @@ pub lowest_told : {H R : Type 0} (may_end : H → End → Type 0) (hands : List 
     → IfErr told (λ e. IsOfCrew e ⊎ IsLowestRefusal may_end hands e)
 lowest_told may_end hands ends told each refused otherwise = lowest may_end hands ends (lowest_refusal ends) told each refl refused otherwise
 
--- a shut gate is told of hands that end so only where one may shut
+-- a shut gate is reported of hands that end so only where one may shut
 lowest_shut : {H : Type 0} (may_shut : Type 0) (hands : List H) → IsLowestRefusal (λ _ end. EndsUnder may_shut end) hands unaccounted.GateShut → may_shut
 lowest_shut may_shut [] is = absurd is
 lowest_shut may_shut (hand ∷ hands) is = elim is [ inl may ↦ may refl | inr lower ↦ lowest_shut may_shut hands lower.1 ]
