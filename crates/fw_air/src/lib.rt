@@ -15,6 +15,7 @@ mod scheduling;
 mod shared;
 mod udp;
 mod wanted;
+mod watch;
 mod wire;
 
 pub use audits::{AuditError, audit};
@@ -23,7 +24,8 @@ pub use fates::{Fate, Fates, MAX_FATES};
 pub use links::{LinkQueue, links_of};
 pub use log::{Entry, Log, MAX_ADDED, Room, Sent};
 pub use receipt::Receipt;
-pub use scheduling::schedule;
+pub use scheduling::{schedule, schedule_watched};
 pub use shared::{SharedLog, Stub};
 pub use udp::{PairError, UdpWire};
+pub use watch::Watch;
 pub use wire::{MAX_PASSED, MAX_RECEIVED, Pass, Wire, WireFault};

@@ -38,6 +38,7 @@ ghost use Rattle.fw_air.specs.Rounds.{IsLinkRound, IsRound, OneByOne, last_turn}
 
 use crate::fates::Fates;
 use crate::links::LinkQueue;
+use crate::watch::Watch;
 use fw_image::TransferStatus;
 use fw_names::MeterId;
 use fw_world::{Event, RunError, StepError, World, laws};
@@ -147,13 +148,14 @@ impl Record {
         self.admit(alloc, Event::Deliver(datagram))
     }
 
-    /// `rounds` rounds of all links.
-    pub(crate) fn rounds(
+    /// `rounds` rounds of all links, each of which is seen once it is made.
+    pub(crate) fn rounds<W: Watch>(
         &mut self,
         alloc: Global,
         links: &mut [LinkQueue],
         rounds: u32,
         fates: &Fates<'_>,
+        watch: &W,
     ) -> Result<(), StepError>
         requires { All (IsThere self.old.world) links.old }
         ensures all { OnOk result ((events : List Given) × Follows self.old events self.new
@@ -164,6 +166,7 @@ impl Record {
     {
         for round in 0..rounds {
             self.round(alloc, links, fates)?;
+            watch.round_made(round.saturating_add(1), &self.world);
         }
         Ok(())
     }

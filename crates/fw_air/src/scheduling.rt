@@ -11,6 +11,7 @@ ghost use Rattle.fw_air.specs.Schedules.{IsOfWorld, IsUnscheduled, Runs, Schedul
 use crate::fates::Fates;
 use crate::links::links_of;
 use crate::record::Record;
+use crate::watch::{Nobody, Watch};
 use fw_world::{Event, RunError, Setup, StepError, World};
 use std::alloc::Global;
 
@@ -37,6 +38,28 @@ pub fn schedule(
     ensures refused { IfErr result (IsUnscheduled setup.now (events_of events.now)) }
     ensures made { IfErr result (IsOfWorld setup.now) }
 {
+    schedule_watched(alloc, setup, events, rounds, fates, &Nobody)
+}
+
+/// `schedule`, of which each round is seen once it is made.
+///
+/// # Errors
+///
+/// As of `schedule`.
+pub fn schedule_watched<W: Watch>(
+    alloc: Global,
+    setup: &Setup,
+    events: &[Event],
+    rounds: u32,
+    fates: &Fates<'_>,
+    watch: &W,
+) -> Result<Vec<Event>, RunError>
+    ensures schedule { IfOk result (λ list. Schedules setup.now (events_of events.now) rounds (events_of list.items)) }
+    ensures fates { IfOk result (λ list. ScheduleHasFates setup.now (events_of events.now) rounds fates.now (events_of list.items)) }
+    ensures runs { IfOk result (λ list. Runs setup.now (events_of list.items)) }
+    ensures refused { IfErr result (IsUnscheduled setup.now (events_of events.now)) }
+    ensures made { IfErr result (IsOfWorld setup.now) }
+{
     fw_world::laws::sent_stays_addressed();
     let world = world_behind(alloc, setup, events)?;
     let Ok(list) = events.to_vec(alloc) else {
@@ -47,7 +70,7 @@ pub fn schedule(
         });
     };
     let mut made = Record::new(world, list);
-    match make_rounds(alloc, &mut made, setup, rounds, fates) {
+    match make_rounds(alloc, &mut made, setup, rounds, fates, watch) {
         Ok(()) => Ok(made.into_events()),
         Err(cause) => Err(made.refused(cause)),
     }
@@ -72,18 +95,19 @@ fn world_behind(alloc: Global, setup: &Setup, events: &[Event]) -> Result<World,
     Ok(world)
 }
 
-/// `rounds` rounds of all links.
-fn make_rounds(
+/// `rounds` rounds of all links, each of which is seen once it is made.
+fn make_rounds<W: Watch>(
     alloc: Global,
     made: &mut Record,
     setup: &Setup,
     rounds: u32,
     fates: &Fates<'_>,
+    watch: &W,
 ) -> Result<(), StepError>
     ensures all { OnOk result (MakesRounds setup.now rounds fates.now made.old made.new) }
     ensures memory { IfErr result (λ e. e ≡ OutOfMemory) }
     ensures goes_on { GoesOn made.old made.new }
 {
     let mut links = links_of(alloc, setup, made.world())?;
-    made.rounds(alloc, &mut links, rounds, fates)
+    made.rounds(alloc, &mut links, rounds, fates, watch)
 }

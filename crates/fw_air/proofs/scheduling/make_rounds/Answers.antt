@@ -7,12 +7,12 @@ use Rattle.fw_air.proofs.Runs.{on_ok}
 use Rattle.fw_air.proofs.scheduling.make_rounds.Goals as goal
 
 pub rounds-requires : goal.rounds-requires
-rounds-requires c =
+rounds-requires g c =
     let there = subst (λ s. All (IsThere s) c.in_ok-links.links.items) c.world.ensures.value c.in_ok-links.ensures.there in
     subst (All (IsThere c.args.made.now.world)) (sym c.deref_mut.ensures.value) there
 
 pub returns-clause-all : goal.returns-clause-all
-returns-clause-all c =
+returns-clause-all g c =
     let old = c.args.made.now in
     let made = c.in_ok-links.links.items in
     let all : map link_of made ≡ links c.args.setup.now old.world = c.in_ok-links.ensures.all ∙ ap (links c.args.setup.now) c.world.ensures.value in

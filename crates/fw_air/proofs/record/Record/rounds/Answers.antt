@@ -6,10 +6,10 @@ use Rattle.fw_air.proofs.Runs.{follows_on, goes_on, leads_on, leads_there}
 use Rattle.fw_air.proofs.record.Record.rounds.Goals as goal
 
 pub returns-in_err-round-clause-goes_on : goal.returns-in_err-round-clause-goes_on
-returns-in_err-round-clause-goes_on c = goes_on c.args.self.now c.loop-round.self c.round.new.self c.loop-round.invariant.2.0 c.loop-round.invariant.2.1 c.round.ensures.goes_on
+returns-in_err-round-clause-goes_on g c = goes_on c.args.self.now c.loop-round.self c.round.new.self c.loop-round.invariant.2.0 c.loop-round.invariant.2.1 c.round.ensures.goes_on
 
 pub loop-round-preserved : goal.loop-round-preserved
-loop-round-preserved c =
+loop-round-preserved g c =
     let all = map link_of c.args.links.now in
     let old = c.args.self.now in
     let now = c.loop-round.self in
@@ -30,7 +30,7 @@ loop-round-preserved c =
     )
 
 pub returns-clause-all : goal.returns-clause-all
-returns-clause-all c =
+returns-clause-all g c =
     let all = map link_of c.args.links.now in
     let inv = c.loop-round.invariant in
     let none : c.args.rounds - c.loop-round.round ≡ zero = omega (arith, c.loop-round-test.false) in (

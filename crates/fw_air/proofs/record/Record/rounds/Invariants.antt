@@ -9,7 +9,7 @@ use Rattle.fw_air.proofs.record.Record.rounds.Given as goal
 
 -- the rounds so far lead to what the rounds that are left lead to
 abbrev pub invariant-loop-round : goal.invariant-loop-round
-invariant-loop-round l =
+invariant-loop-round g l =
     All (IsThere l.self.world) l.links
     × (map link_of l.links ≡ map link_of l.initial.links)
     × ((so_far : List Event) × Follows l.initial.self so_far l.self
