@@ -87,7 +87,7 @@ fn run<
             run_answer_stored(rt, alloc, reader, writer, &options)
         }
         Invocation::Name(options) => run_name(alloc, reader, writer, &options),
-        Invocation::Replay(options) => match run_replay(alloc, reader, writer, &options) {
+        Invocation::Replay(options) => match run_replay(alloc, reader, writer, terminal, &options) {
             Ok(Ended::Refused) => return Err(Ending::Refused),
             Ok(Ended::Whole) => Ok(()),
             Err(fault) => Err(fault),

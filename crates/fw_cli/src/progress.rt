@@ -1,12 +1,17 @@
 //! How far a command is, on the terminal of who waits for it.
 
+use fw_air::Watch;
+use fw_book::{Row, RowState};
 use fw_workers::Gate;
-use fw_world::Event;
+use fw_world::{Event, Setup, World};
 use std::fmt::Display;
 use std::sync::atomic::{AtomicBool, AtomicU64, Ordering};
 
 /// What clears a line.
 const CLEARED: &str = "\r                                                            \r";
+
+/// How many of the rounds of a replay are shown at most, besides the last.
+const MOST_ROUNDS: u32 = 1000;
 
 /// A line of a terminal, if there is one. It is cleared when it is dropped. A write that fails is passed over.
 struct Line<'a, E: Eprint> {
@@ -98,4 +103,77 @@ fn rows_opened(events: &[Event]) -> u64 {
         }
     }
     rows
+}
+
+/// Shows the rounds of a replay, and how many rows are done.
+#[derive(Drop)]
+pub(crate) struct RoundsWatch<'a, E: Eprint> {
+    line: Line<'a, E>,
+    setup: &'a Setup,
+    /// How many rounds there are.
+    rounds: u32,
+}
+
+impl<'a, E: Eprint> RoundsWatch<'a, E> {
+    /// What is to show so many rounds.
+    pub(crate) fn new(
+        terminal: Option<&'a E>,
+        setup: &'a Setup,
+        rounds: u32,
+    ) -> RoundsWatch<'a, E> {
+        RoundsWatch {
+            line: Line::of(terminal),
+            setup,
+            rounds,
+        }
+    }
+
+    /// Whether a round is shown: the last one, and of more than a thousand every so many.
+    fn shows(&self, made: u32) -> bool {
+        made == self.rounds || made % (self.rounds / MOST_ROUNDS + 1) == 0
+    }
+}
+
+impl<'a, E: Eprint> Watch for RoundsWatch<'a, E> {
+    fn round_made(&self, rounds: u32, world: &World) {
+        if self.line.terminal.is_some() && self.shows(rounds) {
+            let all = self.rounds;
+            let Rows { count, done } = rows_of(self.setup, world);
+            self.line.show(format_args!("round {rounds} of {all}, {done} of {count} rows done"));
+        }
+    }
+}
+
+/// How many rows there are, and how many of them are done.
+#[derive(Clone, Copy, Debug)]
+struct Rows {
+    count: u64,
+    done: u64,
+}
+
+impl Rows {
+    /// With those of a campaign.
+    fn with(self, rows: &[Row]) -> Rows {
+        let done = rows
+            .iter()
+            .filter(|row| row.state == RowState::Done)
+            .count();
+        Rows {
+            count: self.count.saturating_add(rows.len() as u64),
+            done: self.done.saturating_add(done as u64),
+        }
+    }
+}
+
+/// The rows of a world.
+fn rows_of(setup: &Setup, world: &World) -> Rows {
+    let mut all = Rows { count: 0, done: 0 };
+    for head in &setup.heads {
+        if let Some(book) = world.book(head.head) {
+            for (_serial, offer) in book.rows() {
+                all = all.with(offer.rows());
+            }
+        }
+    }
+    all
 }

@@ -50,11 +50,12 @@ use crate::fault::Fault;
 use crate::forms::{Style, append_report_in};
 use crate::input::read_input;
 use crate::output::write_text;
+use crate::progress::RoundsWatch;
 use crate::reads::Reads;
 use crate::refusal::Refusal;
 use crate::script::{Script, read_script};
 use crate::trace::append_trace_of;
-use fw_air::{Fate, Fates, schedule};
+use fw_air::{Fate, Fates, schedule_watched};
 use fw_world::{Event, RunError, Setup, SetupError, StepError, World, run};
 use std::alloc::{AllocError, Global};
 use std::io::{Read, Write};
@@ -106,6 +107,9 @@ struct Told {
 /// and why it was refused. A trace, where it is asked for, stands before the report: a line for each datagram that was sent, with its
 /// number, who sent it to whom, and what it says.
 ///
+/// The terminal, if there is one, shows how many rounds are made and how many rows are done, in a line that is cleared before anything is
+/// written to the writer. Where it fails, nothing else changes.
+///
 /// All input is read before anything is written, and what is written is flushed.
 ///
 /// # Errors
@@ -117,10 +121,11 @@ struct Told {
 /// - `Output`: the writer failed. What it holds then is unspecified.
 /// - `OutOfMemory`: nothing was written, and no more than 64 MiB were read. It comes only for good fates, for input while it is read, for
 ///   a line with which the script goes on, and for a script of which a world can be made.
-pub fn run_replay<R: Read, W: Write>(
+pub fn run_replay<R: Read, W: Write, E: Eprint>(
     alloc: Global,
     reader: &mut R,
     writer: &mut W,
+    terminal: Option<&E>,
     options: &ReplayOptions<'_>,
 ) -> Result<Ended, Fault>
     // The report of the whole run, or of the run up to the event that is refused.
@@ -150,7 +155,7 @@ pub fn run_replay<R: Read, W: Write>(
         Some(rounds) => Some(air_of(alloc, rounds)?),
         None => None,
     };
-    replay_from(alloc, reader, writer, &air, options.style)
+    replay_from(alloc, reader, writer, terminal, &air, options.style)
 }
 
 /// The rounds with their fates.
@@ -168,10 +173,11 @@ pub(crate) fn air_of(alloc: Global, rounds: &Rounds<'_>) -> Result<Air, Fault>
 }
 
 /// Runs the script that the reader has, and writes the report of it.
-fn replay_from<R: Read, W: Write>(
+fn replay_from<R: Read, W: Write, E: Eprint>(
     alloc: Global,
     reader: &mut R,
     writer: &mut W,
+    terminal: Option<&E>,
     air: &Option<Air>,
     style: Style,
 ) -> Result<Ended, Fault>
@@ -189,13 +195,19 @@ fn replay_from<R: Read, W: Write>(
 {
     let mut reads = Reads::none();
     let input = read_input(alloc, reader, &mut reads)?;
-    let told = replay(alloc, &input, air, style)?;
+    let told = replay(alloc, &input, terminal, air, style)?;
     write_text(writer, told.text.as_str())?;
     Ok(told.ended)
 }
 
 /// What is written of a script.
-fn replay(alloc: Global, input: &[u8], air: &Option<Air>, style: Style) -> Result<Told, Fault>
+fn replay<E: Eprint>(
+    alloc: Global,
+    input: &[u8],
+    terminal: Option<&E>,
+    air: &Option<Air>,
+    style: Style,
+) -> Result<Told, Fault>
     requires size { length input.now ≤ max_input }
     requires fates { IfSome air.now (λ air. IsFates air.fates.items) }
     ensures ok { IfOk result (λ told. Tells (rounds_in air.now) style input.now told.ended (string_bytes told.text)) }
@@ -205,15 +217,16 @@ fn replay(alloc: Global, input: &[u8], air: &Option<Air>, style: Style) -> Resul
     ensures only { IfErr result (λ f. (f ≡ Fault.OutOfMemory) ⊎ ((f ≡ Fault.BadSetup) ⊎ ((number : ℕ) × (f ≡ Fault.BadLine number)))) }
 {
     let Script { setup, events } = read_script(alloc, input)?;
-    let events = with_rounds(alloc, &setup, events, air)?;
+    let events = with_rounds(alloc, &setup, events, terminal, air)?;
     tell_run(alloc, &setup, &events, style)
 }
 
 /// The events of a script, and after them those of the rounds. Where a given event is refused no round is made: the run is refused there.
-fn with_rounds(
+fn with_rounds<E: Eprint>(
     alloc: Global,
     setup: &Setup,
     events: Vec<Event>,
+    terminal: Option<&E>,
     air: &Option<Air>,
 ) -> Result<Vec<Event>, Fault>
     requires fates { IfSome air.now (λ air. IsFates air.fates.items) }
@@ -227,7 +240,8 @@ fn with_rounds(
     let Some(fates) = Fates::new(&air.fates) else {
         unreachable!()
     };
-    match schedule(alloc, setup, &events, air.rounds, &fates) {
+    let watch = RoundsWatch::new(terminal, setup, air.rounds);
+    match schedule_watched(alloc, setup, &events, air.rounds, &fates, &watch) {
         Ok(all) => Ok(all),
         Err(error) if wants_memory(&error) => Err(Fault::OutOfMemory),
         Err(_) => Ok(events),

@@ -4,7 +4,7 @@
 use crate::answering::{BrokenReader, EndlessReader, FullWriter};
 use fw_cli::{Ended, ReplayOptions, ReportForm, Rounds, Style, run_replay};
 use std::alloc::{AllocError, Global};
-use std::io::Read;
+use std::io::{Read, Stderr};
 use std::test::Fail;
 use test_support::{Case, each, expect_at};
 
@@ -13,6 +13,9 @@ pub(crate) type Given = Option<(u32, &'static str)>;
 
 /// No rounds.
 pub(crate) const ALONE: Given = None;
+
+/// No terminal.
+const NO_TERMINAL: Option<&'static Stderr> = None;
 
 /// The report in lines, without a trace.
 const LINES: Style = Style {
@@ -38,7 +41,7 @@ pub(crate) fn replayed<R: Read>(
     options: &ReplayOptions<'_>,
 ) -> Result<String, Fail> {
     let mut written = Vec::new(alloc);
-    let result = run_replay(alloc, reader, &mut written, options);
+    let result = run_replay(alloc, reader, &mut written, NO_TERMINAL, options);
     let mut text = String::from_utf8(written)?;
     match result {
         Ok(Ended::Whole) => {}
@@ -735,7 +738,13 @@ impl Case for Room {
     fn told(&self, alloc: Global) -> Result<String, Fail> {
         let script = joined(alloc, &[SETUP, OPEN, OPEN])?;
         let mut writer = FullWriter { room: self.0 };
-        let result = run_replay(alloc, &mut script.as_bytes(), &mut writer, &options(ALONE));
+        let result = run_replay(
+            alloc,
+            &mut script.as_bytes(),
+            &mut writer,
+            NO_TERMINAL,
+            &options(ALONE),
+        );
         Ok(format!(in alloc; "{result:?}")?)
     }
 }

@@ -1,7 +1,10 @@
-//! What the commands of workers show on a terminal, which fails: what is written elsewhere stays the same.
+//! What commands show on a terminal, which fails: what is written elsewhere stays the same.
 
 use crate::commands::{FOUR, FOUR_DONE};
-use fw_cli::{LiveOptions, RehearseOptions, Rounds, run_live, run_rehearse};
+use fw_cli::{
+    LiveOptions, RehearseOptions, ReplayOptions, ReportForm, Rounds, Style, run_live, run_rehearse,
+    run_replay,
+};
 use std::alloc::Global;
 use std::fmt::Display;
 use std::io;
@@ -115,5 +118,47 @@ fn terminal_of_a_live_rollout(rt: HostRuntime) -> Result<(), Fail> {
     assert!(rt; result.is_ok());
     assert!(rt; String::from_utf8(written)?.ends_with("\nboard 0\n"));
     assert_eq!(rt; terminal.told(), (2, 0));
+    Ok(())
+}
+
+/// Ten rounds in which all comes. In the ninth all rows are done.
+#[test]
+fn terminal_of_a_replay(rt: HostRuntime) -> Result<(), Fail> {
+    let alloc = rt.alloc();
+    let terminal = Terminal::of(
+        alloc,
+        &[
+            "\rround 1 of 10, 0 of 4 rows done",
+            "\rround 2 of 10, 0 of 4 rows done",
+            "\rround 3 of 10, 0 of 4 rows done",
+            "\rround 4 of 10, 0 of 4 rows done",
+            "\rround 5 of 10, 0 of 4 rows done",
+            "\rround 6 of 10, 0 of 4 rows done",
+            "\rround 7 of 10, 0 of 4 rows done",
+            "\rround 8 of 10, 0 of 4 rows done",
+            "\rround 9 of 10, 4 of 4 rows done",
+            "\rround 10 of 10, 4 of 4 rows done",
+            CLEARED,
+        ],
+    );
+    let options = ReplayOptions {
+        rounds: Some(Rounds {
+            rounds: 10,
+            fates: "d",
+        }),
+        style: Style {
+            trace: false,
+            report: ReportForm::Lines,
+        },
+    };
+    let mut written = Vec::new(alloc);
+    let reader = &mut FOUR.as_bytes();
+    let result = run_replay(alloc, reader, &mut written, Some(&terminal), &options);
+    assert!(rt; result.is_ok());
+    assert_eq!(rt;
+        FOUR_DONE.strip_prefix(String::from_utf8(written)?.as_str()),
+        Some("board 4\n")
+    );
+    assert_eq!(rt; terminal.told(), (11, 0));
     Ok(())
 }

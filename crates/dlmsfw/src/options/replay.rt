@@ -70,6 +70,9 @@ where AT is the number of the event, from 0 on. All input is read before anythin
   NoSuchCampaign  a `cancel` names a campaign that wasn't opened
   NotLive         it names a campaign of which no row is live
 
+Where standard error is a terminal, it shows which round was made and how many rows are done, as
+`round 3 of 40, 12 of 256 rows done`, until the report is written.
+
 With --report table the same stands in two tables with headings, for people, which have the release of
 the image that a meter runs besides. With --report json it is one object on one line:
 

@@ -10,7 +10,7 @@ if_ok (Ok x) P Q told h = told x h
 if_ok (Err e) P Q told h = h
 
 pub returns-clause-ok : goal.returns-clause-ok
-returns-clause-ok c =
+returns-clause-ok g c =
     let script = c.in_ok-setup.field-0 in
     if_ok c.tell_run.result _ _
     (λ told tells. record {
@@ -24,12 +24,12 @@ returns-clause-ok c =
     c.tell_run.ensures.ok
 
 pub returns-clause-bad_setup : goal.returns-clause-bad_setup
-returns-clause-bad_setup c = λ bad. (c.in_ok-setup.field-0.setup, c.in_ok-setup.field-0.events.items, c.in_ok-setup.ensures.ok, c.tell_run.ensures.bad_setup bad)
+returns-clause-bad_setup g c = λ bad. (c.in_ok-setup.field-0.setup, c.in_ok-setup.field-0.events.items, c.in_ok-setup.ensures.ok, c.tell_run.ensures.bad_setup bad)
 
 pub returns-in_err-events-clause-memory : goal.returns-in_err-events-clause-memory
-returns-in_err-events-clause-memory c = λ _.
+returns-in_err-events-clause-memory g c = λ _.
     inr (c.in_ok-setup.field-0.setup, c.in_ok-setup.field-0.events.items, c.in_ok-setup.ensures.ok, c.in_err-events.ensures.memory)
 
 pub returns-clause-memory : goal.returns-clause-memory
-returns-clause-memory c = λ wanted.
+returns-clause-memory g c = λ wanted.
     inr (c.in_ok-setup.field-0.setup, c.in_ok-setup.field-0.events.items, c.in_ok-setup.ensures.ok, c.tell_run.ensures.memory wanted)

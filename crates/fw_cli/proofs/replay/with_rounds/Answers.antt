@@ -17,5 +17,5 @@ is_setup setup given (stopped.Setup unmade.BadSetup) wants refused made = absurd
 is_setup setup given (stopped.Event number world cause) wants refused made = made
 
 pub returns-in-Err-clause-memory : goal.returns-in-Err-clause-memory
-returns-in-Err-clause-memory c =
+returns-in-Err-clause-memory g c =
     is_setup c.args.setup.now (events_of c.deref-2.result.now) c.in-Err.error (c.if-wants_memory.ensures.0 refl) c.in-Err.ensures.refused c.in-Err.ensures.made
