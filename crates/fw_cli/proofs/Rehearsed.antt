@@ -11,7 +11,8 @@ use Rattle.fw_world.specs.Step.{Event}
 use Rattle.fw_accounts.specs.Accounts.{IsAccounted}
 use Rattle.fw_air.specs.Events.{Receipt}
 use Rattle.fw_workers.specs.Refusals.{IsBarred}
-use Rattle.fw_cli.specs.Rehearsing.{AreWorkers, IsBarredIn, ReadsScript, TellsOfWorkers, TellsRehearsal, TracesWorkers, WritesRehearsal}
+use Rattle.fw_workers.specs.Deals.{AreWorkers}
+use Rattle.fw_cli.specs.Rehearsing.{IsBarredIn, ReadsScript, TellsOfWorkers, TellsRehearsal, TracesWorkers, WritesRehearsal}
 use Rattle.fw_cli.specs.Replaying.{MakesNone, MayWantFor, ReadsOne}
 use Rattle.fw_cli.specs.Report.{report_of, board_line}
 

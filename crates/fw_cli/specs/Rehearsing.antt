@@ -1,6 +1,6 @@
 -- Public vocabulary: what the commands `rehearse` and `live` tell of a script, and what they do to its reader and its writer, where the bytes that
 -- these hold are known.
-use Rattle.std.specs.Prelude.{◌≡◌, ◌≤◌, ◌⊎◌, ℕ, Bool, List, ◌++◌, Option}
+use Rattle.std.specs.Prelude.{◌≡◌, ◌⊎◌, ℕ, Bool, List, ◌++◌, Option}
 use Rattle.std.specs.Io.KnownBytes.{Appends, Keeps}
 use Rattle.fw_world.specs.declared.event.Event.{Event as Given}
 use Rattle.fw_world.specs.declared.setup.Setup.{Setup}
@@ -8,6 +8,7 @@ use Rattle.fw_world.specs.Runs.{events_of}
 use Rattle.fw_world.specs.State.{State}
 use Rattle.fw_world.specs.Step.{Event}
 use Rattle.fw_accounts.specs.Accounts.{AreNumbered, IsAccounted}
+use Rattle.fw_workers.specs.Deals.{AreWorkers}
 use Rattle.fw_workers.specs.Refusals.{IsBarred}
 use Rattle.fw_air.specs.Events.{Receipt}
 use Rattle.fw_cli.specs.declared.live.LiveOptions.{LiveOptions}
@@ -18,10 +19,6 @@ use Rattle.fw_cli.specs.Replaying.{MayWantFor, TellsTraceIf}
 use Rattle.fw_cli.specs.Report.{report_of, board_line}
 use Rattle.fw_cli.specs.Script.{SpellsScript, script_of}
 use Rattle.fw_cli.specs.Trace.{TellsTrace}
-
--- a worker count: 1 to 8 workers, so nine workers are too many
-abbrev pub AreWorkers : ℕ → Type 0
-AreWorkers workers = (1 ≤ workers) × (workers ≤ 8)
 
 -- The trace of the run of which these are the receipts was appended.
 abbrev pub TracesWorkers : Setup → List Event → State → List (List Receipt) → List ℕ → List ℕ → Type 0

@@ -8,7 +8,8 @@ ghost use Rattle.fw_cli.specs.Faults.{IsOfLive, IsOfLiveWorkers};
 ghost use Rattle.fw_cli.specs.Reading.{ReadsUntil};
 ghost use Rattle.fw_cli.specs.Script.{IsBadLine};
 ghost use Rattle.fw_cli.specs.Replaying.{MakesNone, MayWantFor, ReadsOne};
-ghost use Rattle.fw_cli.specs.Rehearsing.{AreWorkers, IsBarredIn, RunsLive, TellsRehearsal};
+ghost use Rattle.fw_workers.specs.Deals.{AreWorkers};
+ghost use Rattle.fw_cli.specs.Rehearsing.{IsBarredIn, RunsLive, TellsRehearsal};
 
 use crate::fault::Fault;
 use crate::output::write_text;

@@ -11,8 +11,8 @@ ghost use Rattle.fw_cli.specs.Reading.{ReadsUntil, max_input};
 ghost use Rattle.fw_cli.specs.Report.{report_of, board_line};
 ghost use Rattle.fw_cli.specs.Script.{IsBadLine};
 ghost use Rattle.fw_cli.specs.Replaying.{MakesNone, MayTakeMemory, MayWantFor, ReadsOne};
+ghost use Rattle.fw_workers.specs.Deals.{AreWorkers};
 ghost use Rattle.fw_cli.specs.Rehearsing.{
-  AreWorkers,
   IsBarredIn,
   MayWantToRehearse,
   Rehearses,

@@ -1,6 +1,10 @@
--- Public vocabulary: what is dealt to workers in turn.
+-- Public vocabulary: how many workers there may be, and what is dealt to them in turn.
 use Rattle.std.specs.List.{enumerate_from, filter, range_with_len}
-use Rattle.std.specs.Prelude.{ℕ, ◌%◌, ◌==◌, List, map}
+use Rattle.std.specs.Prelude.{ℕ, ◌≤◌, ◌%◌, ◌==◌, List, map}
+
+-- a worker count: 1 to 8 workers, so nine workers are too many
+abbrev pub AreWorkers : ℕ → Type 0
+AreWorkers workers = (1 ≤ workers) × (workers ≤ 8)
 
 -- what worker i has of the xs: those whose place, modulo the number of workers, is i, in their order
 abbrev pub hand : {X : Type 0} → ℕ → List X → ℕ → List X

@@ -1,10 +1,11 @@
 //! The given events, which stand before all that workers make.
 
-ghost use Rattle.std.specs.Prelude.{◌≡◌, ◌≢◌, ◌≤◌, IfOk, IfErr, OnOk, IsErrOf, map};
+ghost use Rattle.std.specs.Prelude.{◌≡◌, ◌≢◌, IfOk, IfErr, OnOk, IsErrOf, map};
 ghost use Rattle.fw_air.specs.Logs.{IsCounted};
 ghost use Rattle.fw_world.specs.Runs.{events_of};
 ghost use Rattle.fw_world.specs.Setup.{IsSetup, opening_state};
 ghost use Rattle.fw_world.specs.State.{StateRun};
+ghost use Rattle.fw_workers.specs.Deals.{AreWorkers};
 ghost use Rattle.fw_workers.specs.Recorded.{AreEntered};
 ghost use Rattle.fw_workers.specs.Refusals.{IsOfRounds, TellsOfEvent, of_event};
 
@@ -38,10 +39,10 @@ pub fn begin(
     ensures runs { IfOk result (λ made. StateRun (opening_state setup.now) (events_of events.now) made.world) }
     ensures entries { IfOk result (λ made. map (λ entry. entry.event) made.entries.items ≡ events_of events.now) }
     ensures counts { IfOk result (λ made. AreEntered (opening_state setup.now) made.entries.items made.world) }
-    ensures workers { OnOk result ((1 ≤ workers) × (workers ≤ 8)) }
+    ensures workers { OnOk result (AreWorkers workers) }
     ensures setup { OnOk result (IsSetup setup.now) }
-    ensures bad_setup { IsErrOf result RehearseError.BadSetup → (1 ≤ workers) × (workers ≤ 8) → ¬ IsSetup setup.now }
-    ensures few { ¬ ((1 ≤ workers) × (workers ≤ 8)) → IsErrOf result RehearseError.BadSetup }
+    ensures bad_setup { IsErrOf result RehearseError.BadSetup → AreWorkers workers → ¬ IsSetup setup.now }
+    ensures few { ¬ AreWorkers workers → IsErrOf result RehearseError.BadSetup }
     ensures event { IfErr result (TellsOfEvent setup.now events.now) }
     ensures made { IfErr result (λ e. e ≢ RehearseError.BadSetup → IsSetup setup.now) }
     ensures wireless { IfErr result (λ e. e ≢ RehearseError.Socket) }

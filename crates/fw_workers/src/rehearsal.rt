@@ -16,6 +16,7 @@ ghost use Rattle.fw_world.specs.Headline.{
 ghost use Rattle.fw_world.specs.Runs.{events_of};
 ghost use Rattle.fw_world.specs.Setup.{IsSetup, opening_state};
 ghost use Rattle.fw_world.specs.State.{world_of};
+ghost use Rattle.fw_workers.specs.Deals.{AreWorkers};
 ghost use Rattle.fw_workers.specs.Ends.{EndsUnder};
 ghost use Rattle.fw_workers.specs.Refusals.{TellsOfEvent};
 
@@ -92,10 +93,10 @@ pub fn rehearse<R: Threads + Wait + Sync, G: Gate + Sync>(
     ensures activations { IfOk result (λ r. ActivationsAreSafe (world_of r.world)) }
     ensures equal { IfOk result (λ r. ActivationsAreEqual (world_of r.world)) }
     ensures releases { IfOk result (λ r. ReleasesNeverFall (world_of r.world)) }
-    ensures workers { OnOk result ((1 ≤ workers) × (workers ≤ 8)) }
+    ensures workers { OnOk result (AreWorkers workers) }
     ensures setup { OnOk result (IsSetup setup.now) }
-    ensures bad_setup { IsErrOf result RehearseError.BadSetup → (1 ≤ workers) × (workers ≤ 8) → ¬ IsSetup setup.now }
-    ensures few { ¬ ((1 ≤ workers) × (workers ≤ 8)) → IsErrOf result RehearseError.BadSetup }
+    ensures bad_setup { IsErrOf result RehearseError.BadSetup → AreWorkers workers → ¬ IsSetup setup.now }
+    ensures few { ¬ AreWorkers workers → IsErrOf result RehearseError.BadSetup }
     ensures event { IfErr result (TellsOfEvent setup.now events.now) }
     ensures made { IfErr result (λ e. e ≢ RehearseError.BadSetup → IsSetup setup.now) }
     ensures wireless { IfErr result (λ e. e ≢ RehearseError.Socket) }
