@@ -6,7 +6,7 @@ use Rattle.std.proofs.lemmas.List.{take_at, drop_at, append-nil}
 use Rattle.sha2.specs.Sha256.{sha256}
 use Rattle.sha2.proofs.Facts256.{length-sha256}
 use Rattle.std.specs.declared.alloc.Global.{Global}
-use Rattle.fw_journal.specs.Book.{mark, contents_of, body, blocks, book_front, AreRecords, IsShut, IsNoBody, Stands, IsBadRecord, IsBadBook}
+use Rattle.fw_journal.specs.Book.{mark, contents_of, body, blocks, book_front, AreRecords, IsShut, IsNoBody, Stands, IsBadRecord, IsBadBook, HasRecord}
 
 split_unique : (n : ℕ) (p q s t : List ℕ) → length p ≡ n → length q ≡ n → p ++ s ≡ q ++ t → (p ≡ q) × (s ≡ t)
 split_unique n p q s t hp hq e = (
@@ -143,3 +143,13 @@ pub fit_push : (r : List ℕ) (vs later : Vecs) (v : Vec ℕ Global) → AreReco
 fit_push r vs later v fit size pushed is =
     let more : contents_of later ≡ contents_of vs ++ r ∷ [] = ap (λ (l : Vecs). contents_of l) pushed ∙ contents_of_push vs v ∙ ap (λ (x : List ℕ). contents_of vs ++ x ∷ []) is in
     subst (λ (l : List (List ℕ)). AreRecords l) (sym more) (are-append (contents_of vs) (r ∷ []) fit (size, tt))
+
+-- where a record is read, a whole one stands first
+pub first_record : (bytes rest r after : List ℕ) (read : List (List ℕ)) → AreRecords read → length r < 2 ^ 32 → bytes ≡ book_front read ++ rest → rest ≡ 1 ∷ (body r ++ after) → HasRecord bytes
+first_record bytes rest r after [] fit short is next = record { first = r; rest = after; short = short; split = is ∙ ap (λ (l : List ℕ). mark ++ l) next }
+first_record bytes rest r after (x ∷ xs) fit short is next = record {
+  first = x;
+  rest = blocks xs ++ rest;
+  short = fit.0;
+  split = is ∙ ap (λ (l : List ℕ). mark ++ 1 ∷ l) (append_assoc (body x) (blocks xs) rest);
+}

@@ -65,6 +65,13 @@ IsNoBook bytes = (rest : List ℕ) → ¬ (bytes ≡ mark ++ rest)
 abbrev pub IsBadBook : List ℕ → ℕ → Type 0
 IsBadBook bytes offset = ((offset ≡ 0) × IsNoBook bytes) ⊎ IsBadRecord bytes offset
 
+-- the bytes begin as a journal does, and a whole record stands first
+pub record HasRecord (bytes : List ℕ) : Type 0 where
+  pub first : List ℕ
+  pub rest : List ℕ
+  pub short : length first < 2 ^ 32
+  pub split : bytes ≡ mark ++ 1 ∷ (body first ++ rest)
+
 -- what the vectors hold
 abbrev pub contents_of : List (Vec ℕ Global) → List (List ℕ)
 contents_of [] = []

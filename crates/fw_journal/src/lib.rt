@@ -23,3 +23,4 @@ pub use file::{FileDevice, FileJournal};
 pub use fuse::Fuse;
 pub use journal::Journal;
 pub use memory::MemoryDevice;
+pub use reading::read_book;

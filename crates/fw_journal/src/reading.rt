@@ -12,6 +12,7 @@ ghost use Rattle.fw_journal.specs.Book.{
   IsNoBook,
   IsBadBook,
   IsNoBody,
+  HasRecord,
 };
 ghost use Rattle.fw_journal.specs.Refusals.{IsOpeningRefusal};
 
@@ -74,12 +75,19 @@ fn body_at(bytes: &[u8]) -> Option<(&[u8], &[u8])>
     Some((record, after))
 }
 
-/// The records of a journal's bytes, and how many bytes it has up to its shut gate.
-pub(crate) fn read_book(alloc: Global, bytes: &[u8]) -> Result<(Vec<Vec<u8>>, u64), JournalError>
+/// The records of a journal's bytes, and how many bytes it has up to its shut gate. A journal's records stand each after its gate, so that
+/// the bytes of a file which are read from front to back while it is written are those of a journal too.
+///
+/// # Errors
+///
+/// `BadBook` with an offset where the bytes are no journal's, and otherwise `OutOfMemory` alone, which may come in place of `BadBook`. It
+/// comes only where a whole record stands first.
+pub fn read_book(alloc: Global, bytes: &[u8]) -> Result<(Vec<Vec<u8>>, u64), JournalError>
     ensures records { IfOk result (λ r. Stands bytes.now (contents_of r.0.items)) }
     ensures end { IfOk result (λ r. r.1 ≡ length (book_front (contents_of r.0.items))) }
     ensures within { IfOk result (λ r. r.1 ≤ length bytes.now) }
     ensures bad { (offset : ℕ) → IsErrOf result (JournalError.BadBook offset) → IsBadBook bytes.now offset }
+    ensures memory { IsErrOf result JournalError.OutOfMemory → HasRecord bytes.now }
     ensures no_fault { ¬ IsErrOf result JournalError.BookFault }
     ensures refusals { IfErr result IsOpeningRefusal }
 {

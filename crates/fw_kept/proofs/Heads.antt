@@ -17,16 +17,16 @@ use Rattle.fw_head.specs.Row as row
 use Rattle.fw_head.specs.Row.{IsPermitted}
 use Rattle.fw_head.specs.Head.{Head, IsHead, IsRowOf, HeadTakes, HeadHears, IsOfferedIn, went_on, news_of, ticked_head}
 use Rattle.fw_head.specs.Laws.{RowKeepsGoal}
-use Rattle.fw_kept.specs.Head.{OfferSame}
+use Rattle.fw_kept.specs.Head.{OfferSame, OffersAlso}
 use Rattle.fw_kept.specs.Inside.{IsNewsOf, NewsMake}
 use Rattle.fw_kept.proofs.Books.{live_admits}
 
 -- ---- a mark leaves what is offered
 
-abbrev shown_of : Option Offered → Option (ℕ × List ℕ)
+abbrev pub shown_of : Option Offered → Option (ℕ × List ℕ)
 shown_of o = option_map (λ (offer : Offered). (offer.release, offer.image)) o
 
-abbrev shown_at : ℕ → List (ℕ × Offered) → Option (ℕ × List ℕ)
+abbrev pub shown_at : ℕ → List (ℕ × Offered) → Option (ℕ × List ℕ)
 shown_at serial entries = shown_of (lookup (nat_eq serial) entries)
 
 same_here : (b : Bool) (o o' : Offered) (r : Option Offered) → shown_of (Some o') ≡ shown_of (Some o) → shown_of (cond b (Some o') r) ≡ shown_of (cond b (Some o) r)
@@ -50,10 +50,13 @@ in_book : (b : Bool) (r r' : Option Offered) → shown_of r' ≡ shown_of r → 
 in_book true r r' e = e
 in_book false r r' e = refl
 
+pub change_offers : (book : Contents) (serial : ℕ) (change : List Row → List Row) → OfferSame (record { head = book.head; campaigns = at_serial serial change book.campaigns }) book
+change_offers book serial change campaign =
+    in_book (eqb campaign.head book.head) (lookup (nat_eq campaign.serial) book.campaigns) (lookup (nat_eq campaign.serial) (at_serial serial change book.campaigns))
+    (changed_shows campaign.serial serial change book.campaigns)
+
 pub mark_offers : (book : Contents) (serial meter : ℕ) (new : RowState) → OfferSame (marked book serial meter new) book
-mark_offers book serial meter new campaign =
-    in_book (eqb campaign.head book.head) (lookup (nat_eq campaign.serial) book.campaigns) (lookup (nat_eq campaign.serial) (marked book serial meter new).campaigns)
-    (changed_shows campaign.serial serial (with_state meter new) book.campaigns)
+mark_offers book serial meter new = change_offers book serial (with_state meter new)
 
 -- ---- what one book offers, the other does
 
@@ -72,9 +75,13 @@ shows (Some y) x e = record {
   image = ap (λ (o : Option (ℕ × List ℕ)). option_map_or (λ (p : ℕ × List ℕ). p.1) o []) (sym e);
 }
 
-also_offered : (a b : Contents) (datagram : List ℕ) → OfferSame a b → IsOfferedIn a datagram → IsOfferedIn b datagram
-also_offered a b datagram same is =
-    let s = shows (offered_in b is.campaign) is.offer (ap (λ (o : Option Offered). shown_of o) (sym is.offered) ∙ same is.campaign) in
+pub same_also : (a b : Contents) → OfferSame a b → OffersAlso a b
+same_also a b same = λ campaign shown is. sym (same campaign) ∙ is
+
+also_offered : (a b : Contents) (datagram : List ℕ) → OffersAlso a b → IsOfferedIn a datagram → IsOfferedIn b datagram
+also_offered a b datagram also is =
+    let there = also is.campaign (is.offer.release, is.offer.image) (ap (λ (o : Option Offered). shown_of o) is.offered) in
+    let s = shows (offered_in b is.campaign) is.offer (sym there) in
     record {
       campaign = is.campaign;
       offer = s.offer;
@@ -84,8 +91,8 @@ also_offered a b datagram same is =
           (subst (λ (i : List ℕ). IsPermitted (name_of is.campaign is.offer.release i) i datagram) (sym s.image) is.permitted);
     }
 
-pub all_offered : (a b : Contents) (sent : List (List ℕ)) → OfferSame a b → All (IsOfferedIn a) sent → All (IsOfferedIn b) sent
-all_offered a b sent same all = λ k d within. also_offered a b (slice_index_or sent k d) same (all k d within)
+pub all_offered : (a b : Contents) (sent : List (List ℕ)) → OffersAlso a b → All (IsOfferedIn a) sent → All (IsOfferedIn b) sent
+all_offered a b sent also all = λ k d within. also_offered a b (slice_index_or sent k d) also (all k d within)
 
 pub if_ok : {T E : Type 0} (r : Result T E) (P Q : T → Type 0) → ((x : T) → P x → Q x) → IfOk r P → IfOk r Q
 if_ok (Ok x) P Q implies is = implies x is
@@ -168,6 +175,15 @@ pub head_hears : RowKeepsGoal → (old new : Head) (from : ℕ) (datagram : List
 head_hears keeps old new from datagram told is hears =
     ⊎_elim (λ takes. taken_hears keeps old new from datagram told is takes)
     (λ ignores. hears_of old new told _ old ignores.2 ignores.1 (record { makes = refl; number = refl; offers = λ campaign. refl; news = tt })) hears
+
+-- and whatever comes of it, what is offered stays
+pub heard_offers : {E : Type 0} → RowKeepsGoal → (r : Result News E) (old new : Head) (from : ℕ) (datagram : List ℕ) → IsHead old → IfOk r (λ told. HeadHears old from datagram told new) → OnErr r (new ≡ old) → OfferSame new.book old.book
+heard_offers keeps (Ok told) old new from datagram is hears same = (head_hears keeps old new from datagram told is hears).offers
+heard_offers keeps (Err e) old new from datagram is hears same = λ campaign. ap (λ (h : Head). shown_of (offered_in h.book campaign)) same
+
+pub heard_number : {E : Type 0} → RowKeepsGoal → (r : Result News E) (old new : Head) (from : ℕ) (datagram : List ℕ) → IsHead old → IfOk r (λ told. HeadHears old from datagram told new) → OnErr r (new ≡ old) → new.book.head ≡ old.book.head
+heard_number keeps (Ok told) old new from datagram is hears same = (head_hears keeps old new from datagram told is hears).number
+heard_number keeps (Err e) old new from datagram is hears same = ap (λ (h : Head). h.book.head) same
 
 -- books that offer the same as a third
 pub offers_on : (a b c : Contents) → OfferSame a b → OfferSame b c → OfferSame a c

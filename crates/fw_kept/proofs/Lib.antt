@@ -1,3 +1,5 @@
 mod Books
 mod Moments
 mod Heads
+mod Readings
+mod Backs

@@ -1,5 +1,5 @@
 -- Public vocabulary: a head end whose book is kept in a journal, and what a power cut leaves of it.
-use Rattle.std.specs.Prelude.{◌≡◌, ℕ, List, Option, Bool, true, false, ◌||◌}
+use Rattle.std.specs.Prelude.{◌≡◌, ℕ, List, Option, Some, Bool, true, false, ◌||◌}
 use Rattle.std.specs.Option.{option_map}
 use Rattle.fw_names.specs.Name.{Campaign}
 use Rattle.fw_book.specs.Contents.{Contents, Offered, offered_in}
@@ -8,7 +8,7 @@ use Rattle.fw_head.specs.declared.news.News.{News}
 use Rattle.fw_head.specs.declared.news.News.TheVariants.{Nothing, Moved, Done, Failed}
 use Rattle.fw_journal.specs.Journal as journal
 use Rattle.fw_journal.specs.declared.journal.Journal.{Journal}
-use Rattle.fw_kept.specs.Kept.{Keeps}
+use Rattle.fw_kept.specs.Kept.{HasBook, Keeps}
 use Rattle.fw_kept.specs.declared.head.KeptHead.{KeptHead}
 
 -- ---- books that offer the same
@@ -20,6 +20,10 @@ shown_in book campaign = option_map (λ (offer : Offered). (offer.release, offer
 -- each campaign offers the same in both books
 abbrev pub OfferSame : Contents → Contents → Type 0
 OfferSame a b = (campaign : Campaign) → shown_in a campaign ≡ shown_in b campaign
+
+-- what the first offers, the second offers too
+abbrev pub OffersAlso : Contents → Contents → Type 0
+OffersAlso a b = (campaign : Campaign) (shown : ℕ × List ℕ) → shown_in a campaign ≡ Some shown → shown_in b campaign ≡ Some shown
 
 -- ---- a kept head end
 
@@ -63,3 +67,15 @@ pub record LosesMark {D : Type 0} (old : KeptHead D) (meter : ℕ) (datagram : L
   pub hears : HeadHears old.head meter datagram told new.head
   pub ends : IsEnd told
   pub broken : new.broken ≡ true
+
+-- ---- where nothing is committed any more
+
+-- the bytes have a book of the same head end, which offers what this one does
+pub record HasOffers (book : Contents) (bytes : List ℕ) : Type 0 where
+  pub other : Contents
+  pub has : HasBook book.head bytes other
+  pub also : OffersAlso book other
+
+-- every power cut leaves a book that offers what the one in memory does
+abbrev pub IsBacked : {D : Type 0} → (D → List ℕ → Type 0) → KeptHead D → Type 0
+IsBacked may_leave kept = (left : List ℕ) → may_leave (device_of kept) left → HasOffers kept.head.book left

@@ -1,10 +1,10 @@
 -- For private clauses alone: what records are refused for, which can be put into a journal, and what is put in where a row ends.
-use Rattle.std.specs.Prelude.{◌≡◌, ℕ, ◌<◌, ◌^◌, List, length, IsSome}
+use Rattle.std.specs.Prelude.{◌≡◌, ◌≢◌, ℕ, ◌<◌, ◌^◌, List, [], length, Option, Some, None, IsSome}
 use Rattle.fw_book.specs.Contents.{Contents, offered_in}
 use Rattle.fw_head.specs.declared.news.News.{News}
 use Rattle.fw_head.specs.declared.news.News.TheVariants as news
 use Rattle.fw_ledger.specs.Entry.{Entry, mark, HasSpelling, entry_bytes}
-use Rattle.fw_ledger.specs.Replay.{Makes, FailsAt}
+use Rattle.fw_ledger.specs.Replay.{Makes, IsBookOf, FailsAt}
 use Rattle.fw_ledger.specs.declared.record.Ending.TheVariants as ending
 use Rattle.fw_kept.specs.declared.error.OpenError.{OpenError}
 use Rattle.fw_kept.specs.declared.error.OpenError.TheVariants.{BadBook, BadRecord, ForeignHead, BookFault, OutOfMemory}
@@ -23,6 +23,19 @@ IsRecordsRefusal head records (BadRecord index) = IsBadAt head records index
 IsRecordsRefusal head records ForeignHead = IsForeign head records
 IsRecordsRefusal head records BookFault = ⊥
 IsRecordsRefusal head records OutOfMemory = Unit {0}
+
+-- what records are read as, whoever's they are
+abbrev pub AreReadAs : List (List ℕ) → Option Contents → Type 0
+AreReadAs records None = records ≡ []
+AreReadAs records (Some book) = IsBookOf book.head records book × (records ≢ [])
+
+-- what they are refused for then
+abbrev pub IsReadingRefusal : List (List ℕ) → OpenError → Type 0
+IsReadingRefusal records (BadBook offset) = ⊥
+IsReadingRefusal records (BadRecord index) = (head : ℕ) × IsBadAt head records index
+IsReadingRefusal records ForeignHead = ⊥
+IsReadingRefusal records BookFault = ⊥
+IsReadingRefusal records OutOfMemory = records ≢ []
 
 -- the record has a spelling, of fewer than 2^32 bytes
 pub record CanBeKept (entry : Entry) : Type 0 where

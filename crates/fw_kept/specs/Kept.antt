@@ -1,5 +1,5 @@
 -- Public vocabulary: a book that is kept in a journal, and what a power cut leaves of it.
-use Rattle.std.specs.Prelude.{◌≡◌, ◌≢◌, ℕ, ◌≤◌, ◌^◌, ◌+◌, ◌⊎◌, List, ◌∷◌, length, Bool, false, ◌||◌}
+use Rattle.std.specs.Prelude.{◌≡◌, ◌≢◌, ℕ, ◌≤◌, ◌^◌, ◌+◌, ◌⊎◌, List, [], ◌∷◌, length, Option, Some, None, Bool, false, ◌||◌}
 use Rattle.fw_names.specs.Name.{Campaign}
 use Rattle.fw_book.specs.Contents.{Contents}
 use Rattle.fw_journal.specs.Book.{Stands}
@@ -16,6 +16,16 @@ pub record HasBook (head : ℕ) (bytes : List ℕ) (book : Contents) : Type 0 wh
   pub records : List (List ℕ)
   pub stands : Stands bytes records
   pub is_book : IsBookOf head records book
+
+-- the bytes have no book of any head end
+abbrev pub HasNoBook : List ℕ → Type 0
+HasNoBook bytes = (head : ℕ) (book : Contents) → ¬ HasBook head bytes book
+
+-- What the bytes are read as, whoever's they are. A journal without records is any head end's; one that has some is the book of one head
+-- end.
+abbrev pub IsReadAs : List ℕ → Option Contents → Type 0
+IsReadAs bytes None = Stands bytes []
+IsReadAs bytes (Some book) = HasBook book.head bytes book × ¬ Stands bytes []
 
 abbrev pub campaign_of : Entry → Campaign
 campaign_of (opening campaign release image meters) = campaign

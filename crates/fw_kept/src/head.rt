@@ -68,6 +68,9 @@ impl<D: JournalDevice> KeptHead<D> {
       is_broken,
       Holds,
       LosesMark,
+      OfferSame,
+      OffersAlso,
+      IsBacked,
     };
     ghost use Rattle.fw_kept.specs.Refusals.{IsRefusedFor, IsCommitRefusal};
 
@@ -161,6 +164,7 @@ impl<D: JournalDevice> KeptHead<D> {
         ensures value { result.now ≡ device_of self.now }
         ensures each_cut { (synced : Contents) → Holds D.honest D.contents D.may_leave self.now synced
             → (left : List ℕ) → D.may_leave (device_of self.now) left → HasBook (book_of self.now).head left synced }
+        ensures backed { (synced : Contents) → Holds D.honest D.contents D.may_leave self.now synced → IsBacked D.may_leave self.now }
     {
         self.journal.device()
     }
@@ -284,6 +288,10 @@ impl<D: JournalDevice> KeptHead<D> {
             → LeavesOnly D.moment D.left_since (device_of self.old) (device_of self.new)
             (λ left. HasBook (book_of self.old).head left synced
             ⊎ HasBook (book_of self.old).head left (opened (book_of self.old) serial release image.now meters.now)) }
+
+        // Also where nothing is committed from now on: every cut leaves a book that offers what the one in memory does.
+        ensures backed { (synced : Contents) → Holds D.honest D.contents D.may_leave self.old synced → IsBacked D.may_leave self.new }
+        ensures stays_backed { IsTrue (is_broken self.old) → IsBacked D.may_leave self.old → IsBacked D.may_leave self.new }
         ensures breaks { IsErrOf result KeptError.BookFault → IsTrue (is_broken self.new) }
         ensures broken { IsTrue (is_broken self.old)
             → opening_refusal (book_of self.old) (campaign_at (head_of self.old) serial) image.now meters.now ≡ None
@@ -332,6 +340,10 @@ impl<D: JournalDevice> KeptHead<D> {
             → LeavesOnly D.moment D.left_since (device_of self.old) (device_of self.new)
             (λ left. HasBook (book_of self.old).head left synced
             ⊎ HasBook (book_of self.old).head left (cancelled (book_of self.old) serial)) }
+
+        // Also where nothing is committed from now on: every cut leaves a book that offers what the one in memory does.
+        ensures backed { (synced : Contents) → Holds D.honest D.contents D.may_leave self.old synced → IsBacked D.may_leave self.new }
+        ensures stays_backed { IsTrue (is_broken self.old) → IsBacked D.may_leave self.old → IsBacked D.may_leave self.new }
         ensures breaks { IsErrOf result KeptError.BookFault → IsTrue (is_broken self.new) }
         ensures broken { IsTrue (is_broken self.old)
             → cancel_refusal (book_of self.old) (campaign_at (head_of self.old) serial) ≡ None
@@ -357,6 +369,12 @@ impl<D: JournalDevice> KeptHead<D> {
         // Nothing is sent that the book on the device doesn't offer.
         ensures permitted { (synced : Contents) → Holds D.honest D.contents D.may_leave self.old synced
             → IfOk result (λ sent. All (IsOfferedIn synced) (bytes_of sent.items)) }
+
+        // Also where nothing is committed any more: nothing is sent but what each book offers that offers what the one in memory does.
+        ensures offered { (book : Contents) → OffersAlso (book_of self.old) book
+            → IfOk result (λ sent. All (IsOfferedIn book) (bytes_of sent.items)) }
+        ensures book { book_of self.new ≡ book_of self.old }
+        ensures backed { IsBacked D.may_leave self.old → IsBacked D.may_leave self.new }
         ensures few { IfOk result (λ sent. length sent.items ≤ 15) }
         ensures ticked { OnOk result (head_of self.new ≡ ticked_head (head_of self.old) meter) }
         ensures same { OnErr result (self.new ≡ self.old) }
@@ -388,6 +406,10 @@ impl<D: JournalDevice> KeptHead<D> {
         ensures memory { OnErr result (RowsMayWant (head_of self.old).rows from datagram.now
             ⊎ LosesMark self.old from datagram.now self.new) }
         ensures refused { IfErr result (λ e. e ≡ KeptError.OutOfMemory) }
+
+        // Also where nothing is committed any more: what is offered stays.
+        ensures offers { OfferSame (book_of self.new) (book_of self.old) }
+        ensures backed { IsBacked D.may_leave self.old → IsBacked D.may_leave self.new }
         ensures device { device_of self.new ≡ device_of self.old }
     {
         fw_head::laws::row_keeps_goal();
@@ -427,6 +449,10 @@ impl<D: JournalDevice> KeptHead<D> {
         ensures any_moment { (synced : Contents) → Holds D.honest D.contents D.may_leave self.old synced
             → LeavesOnly D.moment D.left_since (device_of self.old) (device_of self.new)
             (λ left. HasBook (book_of self.old).head left synced ⊎ HasBook (book_of self.old).head left (book_of self.old)) }
+
+        // Also where nothing is committed from now on: every cut leaves a book that offers what the one in memory does.
+        ensures backed { (synced : Contents) → Holds D.honest D.contents D.may_leave self.old synced → IsBacked D.may_leave self.new }
+        ensures stays_backed { IsTrue (is_broken self.old) → IsBacked D.may_leave self.old → IsBacked D.may_leave self.new }
         ensures breaks { IsErrOf result KeptError.BookFault → IsTrue (is_broken self.new) }
         ensures broken { IsTrue (is_broken self.old) → IsErrOf result KeptError.BookFault × (self.new ≡ self.old) }
         ensures never { IsTrue (D.sound (device_of self.old)) → IsErrOf result KeptError.BookFault → IsTrue (is_broken self.old) }

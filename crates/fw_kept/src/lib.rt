@@ -8,7 +8,9 @@ pub mod laws;
 mod marking;
 mod opening;
 mod putting;
+mod reading;
 
 pub use error::{KeptError, OpenError};
 pub use head::KeptHead;
 pub use kept::KeptBook;
+pub use reading::read_kept;

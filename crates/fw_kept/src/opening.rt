@@ -60,7 +60,7 @@ fn is_foreign(alloc: Global, head: HeadId, records: &[Vec<u8>]) -> Result<bool, 
 }
 
 /// The campaign of a record.
-fn campaign_of(told: &Record<'_>) -> CampaignId
+pub(crate) fn campaign_of(told: &Record<'_>) -> CampaignId
     ensures { result ≡ campaign_of (entry_of told.now) }
 {
     match told {

@@ -1,5 +1,5 @@
 -- That records have one book at most.
-use Rattle.std.proofs.Common.{◌≡◌, ◌≢◌, ℕ, ◌≤◌, List, [], ◌∷◌, ◌++◌, Option, Some, None, Result, Ok, Err, IfErr, Vec, length, arith, refl, sym, ap, subst, ◌∙◌}
+use Rattle.std.proofs.Common.{◌≡◌, ◌≢◌, ◌⊎◌, inl, inr, ℕ, ◌≤◌, List, [], ◌∷◌, ◌++◌, Option, Some, None, Result, Ok, Err, IfErr, IsErrOf, Vec, length, arith, refl, sym, ap, subst, ◌∙◌}
 use Rattle.std.specs.declared.alloc.Global.{Global}
 use Rattle.fw_names.specs.Name.{Campaign}
 use Rattle.fw_book.specs.Contents.{Contents, image_in}
@@ -8,7 +8,9 @@ use Rattle.fw_book.specs.declared.error.BookError.TheVariants.{OutOfMemory}
 use Rattle.fw_book.specs.Changes.{empty_book, opened, opening_refusal, IsRefusal}
 use Rattle.fw_ledger.specs.Entry.{Source, whole, earlier, Entry, opening, mark, cancelling}
 use Rattle.fw_ledger.specs.Replay.{IsImage, MakesOpened, Makes, Adds, AddsNothing, AddsAll, IsBookOf, FailsAt, records_of}
-use Rattle.fw_ledger.specs.Entry.{Spells, NoRecord}
+use Rattle.fw_ledger.specs.Entry.{Spells, NoRecord, IsOpening, BeginsOpening, MayTakeMemory, meters_bytes}
+use Rattle.fw_ledger.specs.declared.error.ReplayError.{ReplayError}
+use Rattle.fw_ledger.specs.declared.error.ReplayError.TheVariants as replay
 use Rattle.fw_ledger.proofs.Spellings.{record_unique}
 
 some_unique : (a b : List ℕ) → Some a ≡ Some b → a ≡ b
@@ -84,6 +86,32 @@ spelled_adds_nothing bytes entry book spells none = λ next adds.
 
 pub no_record_adds_nothing : (bytes : List ℕ) (book : Contents) → NoRecord bytes → AddsNothing bytes book
 no_record_adds_nothing bytes book none = λ next adds. none adds.entry adds.spells
+
+-- ---- memory
+
+pub taken_begins : (bytes : List ℕ) → MayTakeMemory bytes → BeginsOpening bytes
+taken_begins bytes may = record { campaign = may.campaign; release = may.release; image = may.image; meters = may.meters; opened = may.opened; is_source = may.is_source; spelled = may.spelled }
+
+pub spelled_begins : (bytes : List ℕ) (entry : Entry) → Spells bytes entry → IsOpening entry → BeginsOpening bytes
+spelled_begins bytes (opening campaign release source meters) spells is = record {
+  campaign = campaign;
+  release = release;
+  image = source;
+  meters = meters_bytes meters;
+  opened = spells.can.0;
+  is_source = spells.can.1;
+  spelled = spells.spelled;
+}
+spelled_begins bytes (mark campaign meter e) spells is = absurd is
+spelled_begins bytes (cancelling campaign) spells is = absurd is
+
+told_is : {T : Type 0} (a b : ReplayError) → IsErrOf {T = T} (Err a) b → a ≡ b
+told_is a b is = cc is
+
+-- memory was refused where a reading says so
+pub wants_memory : {T : Type 0} (refusal : BookError) (told : ReplayError) (index : ℕ) → ((refusal ≡ OutOfMemory) × (told ≡ replay.OutOfMemory)) ⊎ ((refusal ≢ OutOfMemory) × (told ≡ replay.BadRecord index)) → IsErrOf {T = T} (Err told) replay.OutOfMemory → refusal ≡ OutOfMemory
+wants_memory refusal told index (inl out) is = out.0
+wants_memory refusal told index (inr bad) is = absurd (cc (sym bad.1 ∙ told_is told replay.OutOfMemory is))
 
 -- what follows of each error
 pub if_err : {T E : Type 0} (result : Result T E) (P Q : E → Type 0) → ((e : E) → P e → Q e) → IfErr result P → IfErr result Q

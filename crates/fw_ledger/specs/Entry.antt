@@ -79,6 +79,22 @@ NoOpening bytes =
     (campaign : Campaign) (release : ℕ) (source : Source) (meters : List ℕ) → IsOpened campaign → release < 2 ^ 32 → IsSource source
     → ¬ (bytes ≡ opening_front campaign release source ++ meters_bytes meters)
 
+-- it is an opening
+abbrev pub IsOpening : Entry → Type 0
+IsOpening (opening campaign release image meters) = Unit {0}
+IsOpening (mark campaign meter ending) = ⊥
+IsOpening (cancelling campaign) = ⊥
+
+-- the bytes begin with an opening's fields, up to its meters
+pub record BeginsOpening (bytes : List ℕ) : Type 0 where
+  pub campaign : Campaign
+  pub release : ℕ
+  pub image : Source
+  pub meters : List ℕ
+  pub opened : IsOpened campaign
+  pub is_source : IsSource image
+  pub spelled : bytes ≡ 1 ∷ (opening_front campaign release image ++ meters)
+
 -- Reading these bytes may take memory: they begin with an opening's fields, and then come four bytes for each of its meters, of which there are some.
 pub record MayTakeMemory (bytes : List ℕ) : Type 0 where
   pub campaign : Campaign

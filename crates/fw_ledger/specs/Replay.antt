@@ -9,7 +9,7 @@ use Rattle.fw_book.specs.Contents.{Contents, image_in}
 use Rattle.fw_book.specs.Changes.{empty_book, opened, marked, cancelled, opening_refusal, mark_refusal, cancel_refusal}
 use Rattle.fw_ledger.specs.declared.record.Ending.{Ending}
 use Rattle.fw_ledger.specs.declared.record.Ending.TheVariants as ending
-use Rattle.fw_ledger.specs.Entry.{Source, whole, earlier, Entry, opening, mark, cancelling, Spells}
+use Rattle.fw_ledger.specs.Entry.{Source, whole, earlier, Entry, opening, mark, cancelling, Spells, BeginsOpening}
 
 -- the state in which a row ends
 abbrev pub state_of : Ending → RowState
@@ -62,6 +62,16 @@ pub record FailsAt (head : ℕ) (records : List (List ℕ)) (index : ℕ) (bytes
   pub book : Contents
   pub is_book : IsBookOf head front book
   pub nothing : AddsNothing bytes book
+
+-- The records before one that begins as an opening have a book, so that memory may be taken for it.
+pub record ReachesOpening (head : ℕ) (records : List (List ℕ)) : Type 0 where
+  pub front : List (List ℕ)
+  pub bytes : List ℕ
+  pub rest : List (List ℕ)
+  pub split : records ≡ front ++ bytes ∷ rest
+  pub begins : BeginsOpening bytes
+  pub book : Contents
+  pub is_book : IsBookOf head front book
 
 -- what the vectors hold
 abbrev pub records_of : List (Vec ℕ Global) → List (List ℕ)

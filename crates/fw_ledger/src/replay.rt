@@ -2,6 +2,7 @@
 
 ghost use Rattle.std.specs.Prelude.{◌≡◌, ◌≢◌, ◌⊎◌, ◌≤◌, ℕ, List, Some, None, IfOk, IfErr, OnOk, OnErr, IsErrOf, MatchResult};
 ghost use Rattle.fw_book.specs.Contents.{Contents, image_in};
+ghost use Rattle.fw_ledger.specs.Entry.{IsOpening, BeginsOpening};
 ghost use Rattle.fw_ledger.specs.Replay.{
   MakesOpened,
   Makes,
@@ -9,6 +10,7 @@ ghost use Rattle.fw_ledger.specs.Replay.{
   AddsNothing,
   IsBookOf,
   FailsAt,
+  ReachesOpening,
   records_of,
 };
 ghost use Rattle.fw_ledger.specs.View.{source_of, entry_of};
@@ -61,6 +63,7 @@ fn apply(alloc: Global, book: &mut RestoredBook, told: &Record<'_>) -> Result<()
     ensures made { OnOk result (Makes (entry_of told.now) book.old book.new) }
     ensures refused { IfErr result (λ e. e ≢ BookError.OutOfMemory
         → (next : Contents) → ¬ Makes (entry_of told.now) book.old next) }
+    ensures memory { IsErrOf result BookError.OutOfMemory → IsOpening (entry_of told.now) }
     ensures kept { OnErr result (book.new ≡ book.old) }
 {
     match told {
@@ -86,6 +89,7 @@ fn apply(alloc: Global, book: &mut RestoredBook, told: &Record<'_>) -> Result<()
 fn add(alloc: Global, book: &mut RestoredBook, bytes: &[u8]) -> Result<(), BookError>
     ensures made { OnOk result (Adds bytes.now book.old book.new) }
     ensures refused { IfErr result (λ e. e ≢ BookError.OutOfMemory → AddsNothing bytes.now book.old) }
+    ensures memory { IsErrOf result BookError.OutOfMemory → BeginsOpening bytes.now }
     ensures kept { OnErr result (book.new ≡ book.old) }
 {
     match read_record(alloc, bytes) {
@@ -100,7 +104,7 @@ fn add(alloc: Global, book: &mut RestoredBook, bytes: &[u8]) -> Result<(), BookE
 /// # Errors
 ///
 /// `BadRecord` with the index of the first record that spells none, or says what the book of those before it refuses, as a campaign of
-/// another head end. Otherwise `OutOfMemory` alone.
+/// another head end. Otherwise `OutOfMemory` alone, and only for what begins as an opening, after records that have a book.
 pub fn read_records(alloc: Global, head: HeadId, records: &[Vec<u8>]) -> Result<Book, ReplayError>
     ensures found { IfOk result (λ book. IsBookOf head (records_of records.now) book) }
 
@@ -109,6 +113,7 @@ pub fn read_records(alloc: Global, head: HeadId, records: &[Vec<u8>]) -> Result<
         → MatchResult result (λ found. found ≡ book) (λ e. e ≡ ReplayError.OutOfMemory) }
     ensures bad { (index : ℕ) → IsErrOf result (ReplayError.BadRecord index)
         → (bytes : List ℕ) × FailsAt head (records_of records.now) index bytes }
+    ensures memory { IsErrOf result ReplayError.OutOfMemory → ReachesOpening head (records_of records.now) }
 {
     let mut book = RestoredBook::new(alloc, head);
     let mut rest = records;

@@ -30,6 +30,8 @@ mod outstanding;
 #[cfg(test)]
 mod parts;
 #[cfg(test)]
+mod readings;
+#[cfg(test)]
 mod records;
 #[cfg(test)]
 mod returns;

@@ -1,8 +1,9 @@
-use Rattle.std.proofs.Common.{rules, ◌≡◌, ⊎_elim, ℕ, List, [], ◌∷◌, ◌++◌, length, refl, sym, ap, subst, ◌∙◌, arith, append_assoc, length-append}
+use Rattle.std.proofs.Common.{rules, Err, ◌≡◌, ⊎_elim, ℕ, List, [], ◌∷◌, ◌++◌, length, refl, sym, ap, subst, ◌∙◌, arith, append_assoc, length-append}
 use Rattle.std.proofs.lemmas.List.{append-nil}
 use Rattle.fw_book.specs.Changes.{empty_book}
+use Rattle.fw_book.specs.declared.error.BookError.{BookError}
 use Rattle.fw_ledger.specs.Replay.{IsBookOf, FailsAt, records_of}
-use Rattle.fw_ledger.proofs.Books.{all_push, book_unique, failed_none, first_of, none_of}
+use Rattle.fw_ledger.proofs.Books.{all_push, book_unique, failed_none, first_of, none_of, wants_memory}
 use Rattle.fw_ledger.proofs.replay.read_records.Goals as goal
 
 pub loop-bytes-preserved : goal.loop-bytes-preserved
@@ -44,3 +45,19 @@ returns-clause-only c = λ book is.
     let none = none_of c.loop-bytes.rest.now c.in_default.ensures.cases in
     let all : records_of c.args.records.now ≡ i.front = i.split ∙ ap (λ (l : List (List ℕ)). i.front ++ l) none ∙ append-nil i.front in
     c.into_book.ensures ∙ book_unique c.args.head i.front c.loop-bytes.book book i.is_book (subst (λ (l : List (List ℕ)). IsBookOf c.args.head l book) all is)
+
+pub returns-in-Err-clause-memory : goal.returns-in-Err-clause-memory
+returns-in-Err-clause-memory c = λ is.
+    let i = c.loop-bytes.invariant in
+    let bytes = c.as_slice.result.now in
+    let same : bytes ≡ c.in-Some.bytes.now.items = search rules in
+    let next = first_of c.loop-bytes.rest.now c.in-Some.others.now c.in-Some.bytes.now bytes c.in-Some.ensures.cases.0 same in
+    record {
+      front = i.front;
+      bytes = bytes;
+      rest = records_of c.in-Some.others.now;
+      split = i.split ∙ ap (λ (l : List (List ℕ)). i.front ++ l) next;
+      begins = c.in-Err.ensures.memory (ap (λ (e : BookError). Err e) (wants_memory c.in-Err.refusal c.replay_error.result _ c.replay_error.ensures is));
+      book = c.loop-bytes.book;
+      is_book = i.is_book;
+    }

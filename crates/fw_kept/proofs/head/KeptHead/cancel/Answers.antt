@@ -1,4 +1,4 @@
-use Rattle.std.proofs.Common.{rules, ◌≡◌, inl, inr, ⊎_elim, Err, IfErr, refl, sym, ◌∙◌, ap, subst}
+use Rattle.std.proofs.Common.{rules, ◌≡◌, ◌⊎◌, inl, inr, ⊎_elim, Err, IfErr, refl, sym, ◌∙◌, ap, subst}
 use Rattle.fw_book.specs.Changes.{cancelled, cancel_refusal}
 use Rattle.fw_head.specs.Head.{Head, campaign_at}
 use Rattle.fw_kept.specs.Kept.{HasBook, Keeps}
@@ -6,6 +6,8 @@ use Rattle.fw_kept.specs.Refusals.{IsRefusedFor}
 use Rattle.fw_kept.specs.declared.error.KeptError.{KeptError}
 use Rattle.fw_kept.specs.declared.error.KeptError.TheVariants.{Full, BookFault}
 use Rattle.fw_kept.proofs.Books.{nothing_done, left_has, or_right, or_none, err_is, commit_refused}
+use Rattle.fw_kept.proofs.Heads.{same_also}
+use Rattle.fw_kept.proofs.Backs.{cancelled_also, either_has, left_is, holds_backs}
 use Rattle.fw_kept.proofs.head.KeptHead.cancel.Goals as goal
 
 pub returns-in_err-cancelling-clause-any_moment : goal.returns-in_err-cancelling-clause-any_moment
@@ -81,3 +83,23 @@ returns-clause-any_moment g c = λ synced holds.
 
 pub returns-clause-broken : goal.returns-clause-broken
 returns-clause-broken g c = λ broken admitted. absurd (or_none _ broken c.in_ok-cancelling.ensures.works)
+
+pub returns-in_err-cancelling-clause-backed : goal.returns-in_err-cancelling-clause-backed
+returns-in_err-cancelling-clause-backed g c = λ synced holds. holds_backs g.D.JournalDevice.honest g.D.JournalDevice.contents g.D.JournalDevice.may_leave c.args.self.now synced holds
+
+pub returns-in_err-put-clause-backed : goal.returns-in_err-put-clause-backed
+returns-in_err-put-clause-backed g c = λ synced holds left now.
+    let book = c.args.self.now.head.book in
+    let next = cancelled book c.args.serial in
+    let cuts = c.put.ensures.any_moment book.head synced book next holds.keeps c.in_ok-cancelling.ensures.makes in
+    either_has book synced next left (same_also book synced holds.offers) (cancelled_also book c.args.serial)
+    (left_is g.D.JournalDevice.moment g.D.JournalDevice.left_since g.D.JournalDevice.may_leave g.met.D.JournalDevice.counts_now c.args.self.now.journal.device c.put.new.journal.device (λ l. HasBook book.head l synced ⊎ HasBook book.head l next) cuts left now)
+
+pub returns-in_err-put-clause-stays_backed : goal.returns-in_err-put-clause-stays_backed
+returns-in_err-put-clause-stays_backed g c = λ broken back. absurd (or_none _ broken c.in_ok-cancelling.ensures.works)
+
+pub returns-clause-backed : goal.returns-clause-backed
+returns-clause-backed g c = λ synced holds. holds_backs g.D.JournalDevice.honest g.D.JournalDevice.contents g.D.JournalDevice.may_leave _ _ (returns-clause-acknowledged g c synced holds)
+
+pub returns-clause-stays_backed : goal.returns-clause-stays_backed
+returns-clause-stays_backed g c = λ broken back. absurd (or_none _ broken c.in_ok-cancelling.ensures.works)

@@ -7,6 +7,8 @@ use Rattle.fw_kept.specs.Refusals.{kept_error}
 use Rattle.fw_kept.specs.declared.error.KeptError.TheVariants.{BookFault}
 use Rattle.fw_kept.proofs.Books.{nothing_done, all_join, or_right, or_none, err_is, fault_of}
 use Rattle.fw_kept.proofs.Moments.{weaker}
+use Rattle.fw_kept.proofs.Heads.{same_also}
+use Rattle.fw_kept.proofs.Backs.{either_has, left_is, holds_backs}
 use Rattle.fw_kept.proofs.head.KeptHead.commit.Goals as goal
 
 pub returns-in_err-check_works-clause-any_moment : goal.returns-in_err-check_works-clause-any_moment
@@ -83,3 +85,21 @@ returns-clause-any_moment g c = λ synced holds.
 
 pub returns-clause-broken : goal.returns-clause-broken
 returns-clause-broken g c = λ broken. absurd (or_none _ broken c.in_ok-check_works.ensures.ok)
+
+pub returns-in_err-check_works-clause-backed : goal.returns-in_err-check_works-clause-backed
+returns-in_err-check_works-clause-backed g c = λ synced holds. holds_backs g.D.JournalDevice.honest g.D.JournalDevice.contents g.D.JournalDevice.may_leave c.args.self.now synced holds
+
+pub returns-in_err-commit-clause-backed : goal.returns-in_err-commit-clause-backed
+returns-in_err-commit-clause-backed g c = λ synced holds left now.
+    let book = c.args.self.now.head.book in
+    either_has book synced book left (same_also book synced holds.offers) (λ campaign shown is. is)
+    (left_is g.D.JournalDevice.moment g.D.JournalDevice.left_since g.D.JournalDevice.may_leave g.met.D.JournalDevice.counts_now c.args.self.now.journal.device c.commit.new.self.device (λ l. HasBook book.head l synced ⊎ HasBook book.head l book) (returns-in_err-commit-clause-any_moment g c synced holds) left now)
+
+pub returns-in_err-commit-clause-stays_backed : goal.returns-in_err-commit-clause-stays_backed
+returns-in_err-commit-clause-stays_backed g c = λ broken back. absurd (or_none _ broken c.in_ok-check_works.ensures.ok)
+
+pub returns-clause-backed : goal.returns-clause-backed
+returns-clause-backed g c = λ synced holds. holds_backs g.D.JournalDevice.honest g.D.JournalDevice.contents g.D.JournalDevice.may_leave _ _ (returns-clause-acknowledged g c synced holds)
+
+pub returns-clause-stays_backed : goal.returns-clause-stays_backed
+returns-clause-stays_backed g c = λ broken back. absurd (or_none _ broken c.in_ok-check_works.ensures.ok)

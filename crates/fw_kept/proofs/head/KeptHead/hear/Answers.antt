@@ -2,7 +2,8 @@ use Rattle.std.proofs.Common.{ℕ, sym, subst}
 use Rattle.fw_book.specs.Contents.{Contents}
 use Rattle.fw_kept.specs.Kept.{Keeps}
 use Rattle.fw_kept.specs.Inside.{IsNewsOf}
-use Rattle.fw_kept.proofs.Heads.{head_hears, offers_on}
+use Rattle.fw_kept.proofs.Heads.{head_hears, heard_offers, heard_number, offers_on}
+use Rattle.fw_kept.proofs.Backs.{offers_back}
 use Rattle.fw_kept.proofs.head.KeptHead.hear.Goals as goal
 
 pub keep_end-requires : goal.keep_end-requires
@@ -21,3 +22,24 @@ returns-in-Ok-keep_end-clause-waits g c = λ synced holds.
       keeps = subst (λ (n : ℕ). Keeps g.D.JournalDevice.honest g.D.JournalDevice.contents g.D.JournalDevice.may_leave n c.keep_end.new.journal synced next) (sym hears.number) keeps;
       offers = offers_on next book synced hears.offers holds.offers;
     }
+
+pub returns-in-Ok-keep_end-clause-offers : goal.returns-in-Ok-keep_end-clause-offers
+returns-in-Ok-keep_end-clause-offers g c = heard_offers c.row_keeps_goal.ensures c.hear.result c.args.self.now.head c.hear.new.self c.args.from c.args.datagram.now c.view-view.ensures.live c.hear.ensures.heard c.hear.ensures.same
+
+pub returns-in-Err-clause-offers : goal.returns-in-Err-clause-offers
+returns-in-Err-clause-offers g c = heard_offers c.row_keeps_goal.ensures c.hear.result c.args.self.now.head c.hear.new.self c.args.from c.args.datagram.now c.view-view.ensures.live c.hear.ensures.heard c.hear.ensures.same
+
+pub returns-in-Ok-keep_end-clause-backed : goal.returns-in-Ok-keep_end-clause-backed
+returns-in-Ok-keep_end-clause-backed g c = λ back left now.
+    offers_back c.args.self.now.head.book c.hear.new.self.book left (heard_number c.row_keeps_goal.ensures c.hear.result c.args.self.now.head c.hear.new.self c.args.from c.args.datagram.now c.view-view.ensures.live c.hear.ensures.heard c.hear.ensures.same)
+    (heard_offers c.row_keeps_goal.ensures c.hear.result c.args.self.now.head c.hear.new.self c.args.from c.args.datagram.now c.view-view.ensures.live c.hear.ensures.heard c.hear.ensures.same) (back left (subst (λ d. g.D.JournalDevice.may_leave d left) c.keep_end.ensures.device now))
+
+pub returns-in-Err-clause-backed : goal.returns-in-Err-clause-backed
+returns-in-Err-clause-backed g c = λ back left now.
+    offers_back c.args.self.now.head.book c.hear.new.self.book left (heard_number c.row_keeps_goal.ensures c.hear.result c.args.self.now.head c.hear.new.self c.args.from c.args.datagram.now c.view-view.ensures.live c.hear.ensures.heard c.hear.ensures.same)
+    (heard_offers c.row_keeps_goal.ensures c.hear.result c.args.self.now.head c.hear.new.self c.args.from c.args.datagram.now c.view-view.ensures.live c.hear.ensures.heard c.hear.ensures.same) (back left (subst (λ d. g.D.JournalDevice.may_leave d left) c.keep_end.ensures.device now))
+
+pub returns-in_default-clause-backed : goal.returns-in_default-clause-backed
+returns-in_default-clause-backed g c = λ back left now.
+    offers_back c.args.self.now.head.book c.hear.new.self.book left (heard_number c.row_keeps_goal.ensures c.hear.result c.args.self.now.head c.hear.new.self c.args.from c.args.datagram.now c.view-view.ensures.live c.hear.ensures.heard c.hear.ensures.same)
+    (heard_offers c.row_keeps_goal.ensures c.hear.result c.args.self.now.head c.hear.new.self c.args.from c.args.datagram.now c.view-view.ensures.live c.hear.ensures.heard c.hear.ensures.same) (back left now)

@@ -1,4 +1,4 @@
-use Rattle.std.proofs.Common.{rules, ◌≡◌, inl, inr, ⊎_elim, Err, IfErr, refl, sym, ◌∙◌, ap, subst}
+use Rattle.std.proofs.Common.{rules, ◌≡◌, ◌⊎◌, inl, inr, ⊎_elim, Err, IfErr, refl, sym, ◌∙◌, ap, subst}
 use Rattle.fw_book.specs.Changes.{opened, opening_refusal}
 use Rattle.fw_head.specs.Head.{Head, campaign_at}
 use Rattle.fw_kept.specs.Kept.{HasBook, Keeps}
@@ -6,6 +6,9 @@ use Rattle.fw_kept.specs.Refusals.{IsRefusedFor}
 use Rattle.fw_kept.specs.declared.error.KeptError.{KeptError}
 use Rattle.fw_kept.specs.declared.error.KeptError.TheVariants.{Full, BookFault}
 use Rattle.fw_kept.proofs.Books.{nothing_done, left_has, or_right, or_none, err_is, commit_refused}
+use Rattle.fw_kept.specs.Head.{HasOffers}
+use Rattle.fw_kept.proofs.Heads.{same_also}
+use Rattle.fw_kept.proofs.Backs.{opened_also, either_has, left_is, holds_backs}
 use Rattle.fw_kept.proofs.head.KeptHead.open_campaign.Goals as goal
 
 pub returns-in_err-opening-clause-any_moment : goal.returns-in_err-opening-clause-any_moment
@@ -92,3 +95,35 @@ returns-clause-any_moment g c = λ synced holds.
 
 pub returns-clause-broken : goal.returns-clause-broken
 returns-clause-broken g c = λ broken admitted. absurd (or_none _ broken c.in_ok-opening.ensures.works)
+
+pub returns-in_err-opening-clause-backed : goal.returns-in_err-opening-clause-backed
+returns-in_err-opening-clause-backed g c = λ synced holds. holds_backs g.D.JournalDevice.honest g.D.JournalDevice.contents g.D.JournalDevice.may_leave c.args.self.now synced holds
+
+pub returns-in_err-put-clause-backed : goal.returns-in_err-put-clause-backed
+returns-in_err-put-clause-backed g c = λ synced holds left now.
+    let book = c.args.self.now.head.book in
+    let next = opened book c.args.serial c.args.release c.args.image.now c.args.meters.now in
+    let cuts = c.put.ensures.any_moment book.head synced book next holds.keeps c.in_ok-opening.ensures.makes in
+    either_has book synced next left (same_also book synced holds.offers) (opened_also book c.args.serial c.args.release c.args.image.now c.args.meters.now)
+    (left_is g.D.JournalDevice.moment g.D.JournalDevice.left_since g.D.JournalDevice.may_leave g.met.D.JournalDevice.counts_now c.args.self.now.journal.device c.put.new.journal.device (λ l. HasBook book.head l synced ⊎ HasBook book.head l next) cuts left now)
+
+pub returns-in_err-put-clause-stays_backed : goal.returns-in_err-put-clause-stays_backed
+returns-in_err-put-clause-stays_backed g c = λ broken back. absurd (or_none _ broken c.in_ok-opening.ensures.works)
+
+pub returns-in-Ok-clause-backed : goal.returns-in-Ok-clause-backed
+returns-in-Ok-clause-backed g c = λ synced holds. holds_backs g.D.JournalDevice.honest g.D.JournalDevice.contents g.D.JournalDevice.may_leave _ _ (returns-in-Ok-clause-acknowledged g c synced holds)
+
+pub returns-in-Ok-clause-stays_backed : goal.returns-in-Ok-clause-stays_backed
+returns-in-Ok-clause-stays_backed g c = λ broken back. absurd (or_none _ broken c.in_ok-opening.ensures.works)
+
+pub returns-clause-backed : goal.returns-clause-backed
+returns-clause-backed g c = λ synced holds left now.
+    let book = c.args.self.now.head.book in
+    let next = opened book c.args.serial c.args.release c.args.image.now c.args.meters.now in
+    let cuts = c.put.ensures.any_moment book.head synced book next holds.keeps c.in_ok-opening.ensures.makes in
+    subst (λ (h : Head). HasOffers h.book left) (sym c.in-Err.ensures.same)
+    (either_has book synced next left (same_also book synced holds.offers) (opened_also book c.args.serial c.args.release c.args.image.now c.args.meters.now)
+    (left_is g.D.JournalDevice.moment g.D.JournalDevice.left_since g.D.JournalDevice.may_leave g.met.D.JournalDevice.counts_now c.args.self.now.journal.device c.put.new.journal.device (λ l. HasBook book.head l synced ⊎ HasBook book.head l next) cuts left now))
+
+pub returns-clause-stays_backed : goal.returns-clause-stays_backed
+returns-clause-stays_backed g c = λ broken back. absurd (or_none _ broken c.in_ok-opening.ensures.works)

@@ -1,0 +1,58 @@
+use Rattle.std.proofs.Common.{rules, ◌≡◌, ℕ, List, Vec, Err, IfErr, sym, ◌∙◌, ap, subst}
+use Rattle.std.specs.declared.alloc.Global.{Global}
+use Rattle.fw_journal.specs.declared.error.JournalError.{JournalError}
+use Rattle.fw_ledger.specs.Replay.{records_of}
+use Rattle.fw_kept.specs.Kept.{IsReadAs}
+use Rattle.fw_kept.specs.Inside.{AreReadAs, IsReadingRefusal}
+use Rattle.fw_kept.specs.declared.error.OpenError.{OpenError}
+use Rattle.fw_kept.proofs.Books.{bad_of}
+use Rattle.fw_kept.proofs.Heads.{if_ok}
+use Rattle.fw_kept.proofs.Readings.{read_as, records_bad, records_memory, records_offset, records_plain, open_is, memory_of, no_record_of, plain_open, IsPlain}
+use Rattle.fw_kept.proofs.reading.read_kept.Goals as goal
+
+pub returns-in-Ok-clause-found : goal.returns-in-Ok-clause-found
+returns-in-Ok-clause-found c =
+    let vs = c.in-Ok.records.items in
+    let here : c.deref.result.now ≡ vs = search rules in
+    if_ok c.book_in.result (AreReadAs (records_of c.deref.result.now)) (IsReadAs c.args.bytes.now)
+    (λ o are. read_as c.one_reading.ensures c.args.bytes.now vs o c.in-Ok.ensures.records (subst (λ (l : List (Vec ℕ Global)). AreReadAs (records_of l) o) here are)) c.book_in.ensures.found
+
+pub returns-in-Ok-clause-bad : goal.returns-in-Ok-clause-bad
+returns-in-Ok-clause-bad c = λ offset is. absurd (records_offset (records_of c.deref.result.now) c.book_in.result offset c.book_in.ensures.refused is)
+
+pub returns-in-Ok-clause-bad_record : goal.returns-in-Ok-clause-bad_record
+returns-in-Ok-clause-bad_record c = λ index is.
+    let vs = c.in-Ok.records.items in
+    let here : c.deref.result.now ≡ vs = search rules in
+    records_bad c.args.bytes.now vs c.book_in.result index c.in-Ok.ensures.records (subst (λ (l : List (Vec ℕ Global)). IfErr c.book_in.result (IsReadingRefusal (records_of l))) here c.book_in.ensures.refused) is
+
+pub returns-in-Ok-clause-no_book : goal.returns-in-Ok-clause-no_book
+returns-in-Ok-clause-no_book c = λ index is.
+    let bad = returns-in-Ok-clause-bad_record c index is in
+    c.bad_records_have_none.ensures bad.0 c.args.bytes.now index bad.1
+
+pub returns-in-Ok-clause-memory : goal.returns-in-Ok-clause-memory
+returns-in-Ok-clause-memory c = λ is.
+    let vs = c.in-Ok.records.items in
+    let here : c.deref.result.now ≡ vs = search rules in
+    records_memory c.args.bytes.now vs c.book_in.result c.in-Ok.ensures.records (subst (λ (l : List (Vec ℕ Global)). IfErr c.book_in.result (IsReadingRefusal (records_of l))) here c.book_in.ensures.refused) is
+
+pub returns-in-Ok-clause-only : goal.returns-in-Ok-clause-only
+returns-in-Ok-clause-only c = records_plain (records_of c.deref.result.now) c.book_in.result c.book_in.ensures.refused
+
+pub returns-in-Err-clause-bad : goal.returns-in-Err-clause-bad
+returns-in-Err-clause-bad c = λ offset is. c.in-Err.ensures.bad offset (ap (λ (e : JournalError). Err e) (bad_of c.in-Err.refusal offset (sym c.open_error.ensures ∙ open_is _ _ is)))
+
+pub returns-in-Err-clause-bad_record : goal.returns-in-Err-clause-bad_record
+returns-in-Err-clause-bad_record c = λ index is. absurd (no_record_of c.in-Err.refusal index (sym c.open_error.ensures ∙ open_is _ _ is))
+
+pub returns-in-Err-clause-no_book : goal.returns-in-Err-clause-no_book
+returns-in-Err-clause-no_book c = λ index is. absurd (no_record_of c.in-Err.refusal index (sym c.open_error.ensures ∙ open_is _ _ is))
+
+pub returns-in-Err-clause-memory : goal.returns-in-Err-clause-memory
+returns-in-Err-clause-memory c = λ is. c.in-Err.ensures.memory (ap (λ (e : JournalError). Err e) (memory_of c.in-Err.refusal (sym c.open_error.ensures ∙ open_is _ _ is)))
+
+pub returns-in-Err-clause-only : goal.returns-in-Err-clause-only
+returns-in-Err-clause-only c =
+    subst (λ (e : OpenError). IsPlain e) (sym c.open_error.ensures)
+    (plain_open c.in-Err.refusal c.in-Err.ensures.refusals (λ is. c.in-Err.ensures.no_fault (ap (λ (e : JournalError). Err e) is)))

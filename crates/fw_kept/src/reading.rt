@@ -1,0 +1,73 @@
+//! The book that bytes hold, whoever's it is.
+
+ghost use Rattle.std.specs.Prelude.{◌≡◌, ◌≢◌, ℕ, IfOk, IfErr, IsErrOf};
+ghost use Rattle.fw_journal.specs.Book.{HasRecord, IsBadBook};
+ghost use Rattle.fw_ledger.specs.Entry.{Entry, Spells, NoRecord};
+ghost use Rattle.fw_ledger.specs.Replay.{records_of};
+ghost use Rattle.fw_kept.specs.Kept.{HasBadRecord, HasNoBook, IsReadAs, campaign_of};
+ghost use Rattle.fw_kept.specs.Inside.{AreReadAs, IsReadingRefusal};
+
+use crate::error::{OpenError, open_error};
+use crate::opening::{book_of, campaign_of};
+use fw_book::Book;
+use fw_journal::read_book;
+use fw_ledger::{RecordError, read_record};
+use fw_names::HeadId;
+use std::alloc::Global;
+
+/// The book that the bytes of a journal hold, and `None` where it has no record, so that any head end may have it. The bytes may have been
+/// read from front to back while a head end writes them.
+///
+/// # Errors
+///
+/// `BadBook` with an offset where the bytes are no journal's, `BadRecord` with the index of a record that has no place in the book of those
+/// before it. Such bytes have no book of any head end. Otherwise `OutOfMemory` alone, which may come in place of these, and only where a
+/// whole record stands first.
+pub fn read_kept(alloc: Global, bytes: &[u8]) -> Result<Option<Book>, OpenError>
+    ensures found { IfOk result (IsReadAs bytes.now) }
+    ensures bad { (offset : ℕ) → IsErrOf result (OpenError.BadBook offset) → IsBadBook bytes.now offset }
+    ensures bad_record { (index : ℕ) → IsErrOf result (OpenError.BadRecord index) → (head : ℕ) × HasBadRecord head bytes.now index }
+    ensures no_book { (index : ℕ) → IsErrOf result (OpenError.BadRecord index) → HasNoBook bytes.now }
+    ensures memory { IsErrOf result OpenError.OutOfMemory → HasRecord bytes.now }
+    ensures only { IfErr result (λ e. (e ≢ OpenError.ForeignHead) × (e ≢ OpenError.BookFault)) }
+{
+    fw_journal::laws::one_reading();
+    crate::laws::bad_records_have_none();
+    match read_book(alloc, bytes) {
+        Ok((records, _)) => book_in(alloc, &records),
+        Err(refusal) => Err(open_error(refusal)),
+    }
+}
+
+/// The book of the head end of the first of these records, and `None` where there is none.
+fn book_in(alloc: Global, records: &[Vec<u8>]) -> Result<Option<Book>, OpenError>
+    ensures found { IfOk result (AreReadAs (records_of records.now)) }
+    ensures refused { IfErr result (IsReadingRefusal (records_of records.now)) }
+{
+    fw_ledger::laws::one_record();
+    let Some((first, _)) = records.split_first() else {
+        return Ok(None);
+    };
+    match head_of(alloc, first.as_slice()) {
+        Ok(head) => match book_of(alloc, head, records) {
+            Ok(book) => Ok(Some(book)),
+            Err(refusal) => Err(refusal),
+        },
+        Err(RecordError::BadRecord) => Err(OpenError::BadRecord { index: 0 }),
+        Err(RecordError::OutOfMemory) => Err(OpenError::OutOfMemory),
+    }
+}
+
+/// The head end of the campaign that a record speaks of.
+fn head_of(alloc: Global, bytes: &[u8]) -> Result<HeadId, RecordError>
+    ensures found { IfOk result (λ head. (entry : Entry) × Spells bytes.now entry × ((campaign_of entry).head ≡ head)) }
+    ensures bad { IsErrOf result RecordError.BadRecord → NoRecord bytes.now }
+{
+    match read_record(alloc, bytes) {
+        Ok(record) => match campaign_of(&record).head() {
+            Some(head) => Ok(head),
+            None => unreachable!(),
+        },
+        Err(refusal) => Err(refusal),
+    }
+}
