@@ -1,0 +1,14 @@
+-- The parts that were appended are the record.
+use Rattle.std.proofs.Common.{arith}
+use Rattle.std.specs.Net.Addr.{ipv4_octets}
+use Rattle.std.specs.Net.Socket.{v4_ip, v4_port}
+use Rattle.fw_capture.proofs.Packets.{ipv4_put}
+use Rattle.fw_capture.proofs.writing.put_ipv4.Goals as goal
+
+pub returns-clause-ok : goal.returns-clause-ok
+returns-clause-ok c =
+    ipv4_put c.args.out.now.items c.put_record_header.new.out.items c.put_ipv4_header.new.out.items c.put_udp.new.out.items c.args.nanoseconds
+    c.octets-source.result c.octets-dest.result (ipv4_octets (v4_ip c.args.from)) (ipv4_octets (v4_ip c.args.to)) c.args.bytes.now
+    c.port.result c.port-2.result (v4_port c.args.from) (v4_port c.args.to) c.ipv4_pseudo_sum-pseudo_sum.result
+    (cc) (cc) c.port.ensures c.port-2.ensures c.ipv4_pseudo_sum-pseudo_sum.ensures.sum (omega arith) (omega arith)
+    c.in_ok-put_record_header.ensures.ok c.in_ok-put_ipv4_header.ensures.ok c.in_ok-put_udp.ensures.ok

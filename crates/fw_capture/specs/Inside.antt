@@ -1,0 +1,16 @@
+-- For private clauses alone.
+use Rattle.std.specs.Prelude.{◌≡◌, ℕ, ◌+◌, List, ◌++◌, length, take}
+use Rattle.fw_capture.specs.Checksum.{checksum_of, word_sum}
+use Rattle.fw_capture.specs.Spelling.{udp_header, sent_checksum}
+
+-- new begins with old
+abbrev pub Begins : List ℕ → List ℕ → Type 0
+Begins old new = take (length old) new ≡ old
+
+-- the checksum of a UDP datagram, by the sum of the words of its pseudo header
+abbrev pub udp_checksum : ℕ → ℕ → ℕ → List ℕ → ℕ
+udp_checksum pseudo_sum from to bytes = sent_checksum (checksum_of (pseudo_sum + word_sum (udp_header from to (8 + length bytes) 0 ++ bytes)))
+
+-- the datagram itself
+abbrev pub udp_summed : ℕ → ℕ → ℕ → List ℕ → List ℕ
+udp_summed pseudo_sum from to bytes = udp_header from to (8 + length bytes) (udp_checksum pseudo_sum from to bytes) ++ bytes

@@ -1,0 +1,7 @@
+-- Public vocabulary: the words of public clauses, for callers and readers.
+pub mod View
+pub mod Checksum
+pub mod Spelling
+pub mod Refusal
+-- For private clauses alone: no public clause cites it.
+pub mod Inside

@@ -1,0 +1,28 @@
+-- Public vocabulary: what a packet tells, apart from where it lies in memory.
+use Rattle.std.specs.Prelude.{ℕ, List}
+use Rattle.std.specs.Net.Addr.{ipv4_octets, ipv6_octets}
+use Rattle.std.specs.Net.Socket.{v4_ip, v4_port, v6_ip, v6_port}
+use Rattle.std.specs.declared.net.socket_addr.SocketAddr.{SocketAddr}
+use Rattle.std.specs.declared.net.socket_addr.SocketAddr.TheVariants as socket
+use Rattle.fw_capture.specs.declared.packet.Note.{Note}
+use Rattle.fw_capture.specs.declared.packet.Content.{Content}
+use Rattle.fw_capture.specs.declared.packet.Content.TheVariants as content
+
+-- an address, four or sixteen bytes of it, and a port
+pub data Endpoint : Type 0 where
+  ipv4 : List ℕ → ℕ → Endpoint
+  ipv6 : List ℕ → ℕ → Endpoint
+
+-- what a packet tells: a UDP datagram from one endpoint to another, a note, or something else
+pub data Told : Type 0 where
+  datagram : Endpoint → Endpoint → List ℕ → Told
+  note : Note → Told
+  other : Told
+
+abbrev pub endpoint_of : SocketAddr → Endpoint
+endpoint_of (socket.V4 a) = ipv4 (ipv4_octets (v4_ip a)) (v4_port a)
+endpoint_of (socket.V6 a) = ipv6 (ipv6_octets (v6_ip a)) (v6_port a)
+
+abbrev pub told_of : Content → Told
+told_of (content.Datagram from to bytes) = datagram (endpoint_of from) (endpoint_of to) bytes.now
+told_of (content.Note n) = note n

@@ -1,0 +1,32 @@
+//! Why a packet was not appended.
+
+ghost use Rattle.std.specs.Prelude.{◌≡◌};
+ghost use Rattle.fw_capture.specs.declared.error.AppendError.TheVariants.{OutOfMemory};
+
+use std::alloc::AllocError;
+use thiserror::Error;
+
+/// The refusals of `append_packet`. Where several would apply, the first of them comes.
+#[derive(Clone, Copy, Debug, Drop, PartialEq, Eq, Error)]
+pub enum AppendError {
+    /// The time is past what 32 bits of seconds hold.
+    #[error("TimePast")]
+    TimePast,
+    /// One address is of IPv4 and the other of IPv6.
+    #[error("TwoFamilies")]
+    TwoFamilies,
+    /// The datagram makes an IP packet of more than 65,535 bytes.
+    #[error("TooLong")]
+    TooLong,
+    /// The capture found no memory.
+    #[error("OutOfMemory")]
+    OutOfMemory,
+}
+
+impl From<AllocError> for AppendError {
+    ghost from_gives = { λ _ e. e ≡ OutOfMemory };
+
+    fn from(_error: AllocError) -> AppendError {
+        AppendError::OutOfMemory
+    }
+}

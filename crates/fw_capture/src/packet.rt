@@ -1,0 +1,33 @@
+//! What a packet of a capture tells.
+
+use std::net::SocketAddr;
+
+/// What a process did that no datagram tells.
+#[derive(Clone, Copy, Debug, PartialEq, Eq)]
+pub enum Note {
+    /// The process started.
+    Start,
+    /// The meter took a turn of a verification.
+    Turn,
+}
+
+/// What a packet tells.
+#[derive(Clone, Copy, Debug)]
+pub enum Content<'a> {
+    /// A UDP datagram. Of the addresses only IP address and port count.
+    Datagram {
+        from: SocketAddr,
+        to: SocketAddr,
+        bytes: &'a [u8],
+    },
+    /// A note of the process.
+    Note(Note),
+}
+
+/// A packet, and when it went over the wire.
+#[derive(Clone, Copy, Debug)]
+pub struct Captured<'a> {
+    /// The time since the start of 1970, UTC.
+    pub nanoseconds: u64,
+    pub content: Content<'a>,
+}
