@@ -1,0 +1,112 @@
+-- What a datagram of one meter makes of a head end: of its book, and of which meters have a live row.
+use Rattle.std.proofs.Common.{◌≡◌, ◌≢◌, ℕ, true, false, List, [], ◌∷◌, Option, Some, is_some, inl, inr, refl, sym, ap, subst, ◌∙◌}
+use Rattle.fw_names.specs.Name.{Name, Campaign}
+use Rattle.fw_book.specs.declared.row.RowState.TheVariants as state
+use Rattle.fw_book.specs.Contents.{state_in}
+use Rattle.fw_book.specs.Changes.{marked}
+use Rattle.fw_book.specs.Laws.{StatesFollowCalls}
+use Rattle.fw_head.specs.declared.news.News.{News}
+use Rattle.fw_head.specs.declared.news.News.TheVariants as news
+use Rattle.fw_head.specs.declared.news.RowNews.{RowNews}
+use Rattle.fw_head.specs.declared.news.RowNews.TheVariants as by
+use Rattle.fw_head.specs.Row.{Row}
+use Rattle.fw_head.specs.Head.{Head, IsHead, HeadHears, row_of, without_meter, went_on, news_of}
+use Rattle.fw_head.specs.Laws.{RowKeepsGoal}
+use Rattle.fw_ledger.specs.declared.record.Ending.{Ending}
+use Rattle.fw_ledger.specs.declared.record.Ending.TheVariants as ends
+use Rattle.fw_rollout.specs.declared.ended.Ended.{Ended}
+use Rattle.fw_rollout.specs.Leading.{IsNotedIn, ended_by, state_after}
+use Rattle.fw_rollout.proofs.Marks.{mark_notes, mark_keeps}
+use Rattle.fw_rollout.proofs.Rows.{stays, elsewhere, taken_out}
+
+-- ---- nothing
+
+nothing_took : (old new : Head) (meter : ℕ) (c : Campaign) (next : Row) (heard : RowNews) → news.Nothing ≡ news_of c meter heard → new ≡ went_on old meter next heard → new ≡ old
+nothing_took old new meter c next by.Nothing told is = is
+nothing_took old new meter c next by.Moved told is = absurd (cc told)
+nothing_took old new meter c next (by.Done claim) told is = absurd (cc told)
+nothing_took old new meter c next by.Failed told is = absurd (cc told)
+
+pub hears_nothing : (old new : Head) (meter : ℕ) (datagram : List ℕ) → HeadHears old meter datagram news.Nothing new → new ≡ old
+hears_nothing old new meter datagram (inl takes) = nothing_took old new meter takes.row.name.campaign takes.next takes.heard takes.told_is takes.new_is
+hears_nothing old new meter datagram (inr ignores) = ignores.2
+
+-- ---- an answer
+
+-- the row of a meter went on
+pub record Moves (old new : Head) (meter : ℕ) : Type 0 where
+  pub book : new.book ≡ old.book
+  pub live : is_some (row_of old.rows meter) ≡ true
+  pub rows : (m : ℕ) → is_some (row_of new.rows m) ≡ is_some (row_of old.rows m)
+
+moved_took : (old new : Head) (meter : ℕ) (c : Campaign) (next : Row) (heard : RowNews) → is_some (row_of old.rows meter) ≡ true → news.Moved ≡ news_of c meter heard → new ≡ went_on old meter next heard → Moves old new meter
+moved_took old new meter c next by.Nothing live told is = absurd (cc told)
+moved_took old new meter c next by.Moved live told is = record {
+  book = ap (λ (h : Head). h.book) is;
+  live = live;
+  rows = λ m. ap (λ (h : Head). is_some (row_of h.rows m)) is ∙ stays meter (λ was. next) old.rows m;
+}
+moved_took old new meter c next (by.Done claim) live told is = absurd (cc told)
+moved_took old new meter c next by.Failed live told is = absurd (cc told)
+
+no_move : (let n : News = news.Moved in n ≡ news.Nothing) → ⊥
+no_move e = cc
+
+pub hears_moved : (old new : Head) (meter : ℕ) (datagram : List ℕ) → HeadHears old meter datagram news.Moved new → Moves old new meter
+hears_moved old new meter datagram (inl takes) =
+    moved_took old new meter takes.row.name.campaign takes.next takes.heard (ap (λ (o : Option Row). is_some o) takes.found) takes.told_is takes.new_is
+hears_moved old new meter datagram (inr ignores) = absurd (no_move ignores.1)
+
+-- ---- an end
+
+-- the row of a meter ended, and the book has it so, and those that had ended before
+pub record Ends (old new : Head) (meter : ℕ) (ended : Ended) : Type 0 where
+  pub own : ended.meter ≡ meter
+  pub noted : IsNotedIn new.book ended
+  pub keeps : (other : Ended) → IsNotedIn old.book other → IsNotedIn new.book other
+  pub over : is_some (row_of new.rows meter) ≡ false
+  pub others : (m : ℕ) → ¬ (m ≡ meter) → is_some (row_of new.rows m) ≡ is_some (row_of old.rows m)
+
+ended_state : (ending : Ending) → state_after ending ≢ state.Live
+ended_state ends.Done = λ is. cc
+ended_state ends.Failed = λ is. cc
+
+-- what is left of a head end where a row ended so
+abbrev left_of : Head → ℕ → ℕ → Ending → Head
+left_of head meter serial ending = record head { book = marked head.book serial meter (state_after ending); rows = without_meter meter head.rows }
+
+left_ends : StatesFollowCalls → (old new : Head) (meter : ℕ) (c : Campaign) (ending : Ending) → state_in old.book c meter ≡ Some state.Live → new ≡ left_of old meter c.serial ending → Ends old new meter (record { campaign = c; meter = meter; ending = ending })
+left_ends follow old new meter c ending live is = record {
+  own = refl;
+  noted = ap (λ (h : Head). state_in h.book c meter) is ∙ mark_notes follow old.book c meter (state_after ending) live;
+  keeps = λ other was.
+      ap (λ (h : Head). state_in h.book other.campaign other.meter) is
+      ∙ mark_keeps follow old.book c meter (state_after ending) live other.campaign other.meter (state_after other.ending) (ended_state other.ending) was;
+  over = ap (λ (h : Head). is_some (row_of h.rows meter)) is ∙ ap (λ (o : Option Row). is_some o) (taken_out meter old.rows);
+  others = λ m apart. ap (λ (h : Head). is_some (row_of h.rows m)) is ∙ ap (λ (o : Option Row). is_some o) (elsewhere meter m old.rows apart);
+}
+
+same_ended : (a b : Ended) → (let xs : List Ended = a ∷ [] in xs ≡ b ∷ []) → a ≡ b
+same_ended a b e = cc
+
+none_ended : (b : Ended) → (let xs : List Ended = [] in xs ≡ b ∷ []) → ⊥
+none_ended b e = cc
+
+ends_took : StatesFollowCalls → (old new : Head) (meter : ℕ) (row next : Row) (heard : RowNews) (told : News) (ended : Ended) → next.name ≡ row.name → state_in old.book row.name.campaign meter ≡ Some state.Live
+    → told ≡ news_of row.name.campaign meter heard → new ≡ went_on old meter next heard → ended_by told ≡ ended ∷ [] → Ends old new meter ended
+ends_took follow old new meter row next by.Nothing told ended same live tells is by = absurd (none_ended ended (sym (ap ended_by tells) ∙ by))
+ends_took follow old new meter row next by.Moved told ended same live tells is by = absurd (none_ended ended (sym (ap ended_by tells) ∙ by))
+ends_took follow old new meter row next (by.Done claim) told ended same live tells is by =
+    let e = same_ended (record { campaign = row.name.campaign; meter = meter; ending = ends.Done }) ended (sym (ap ended_by tells) ∙ by) in
+    subst (λ (x : Ended). Ends old new meter x) e
+    (left_ends follow old new meter row.name.campaign ends.Done live (is ∙ ap (λ (n : Name). left_of old meter n.campaign.serial ends.Done) same))
+ends_took follow old new meter row next by.Failed told ended same live tells is by =
+    let e = same_ended (record { campaign = row.name.campaign; meter = meter; ending = ends.Failed }) ended (sym (ap ended_by tells) ∙ by) in
+    subst (λ (x : Ended). Ends old new meter x) e
+    (left_ends follow old new meter row.name.campaign ends.Failed live (is ∙ ap (λ (n : Name). left_of old meter n.campaign.serial ends.Failed) same))
+
+pub hears_end : StatesFollowCalls → RowKeepsGoal → (old new : Head) (meter : ℕ) (datagram : List ℕ) (told : News) (ended : Ended) → IsHead old → HeadHears old meter datagram told new → ended_by told ≡ ended ∷ [] → Ends old new meter ended
+hears_end follow keeps old new meter datagram told ended head (inl takes) by =
+    ends_took follow old new meter takes.row takes.next takes.heard told ended (keeps takes.row takes.next datagram takes.heard takes.hears).name
+    (head.of_book meter takes.row takes.found).live takes.told_is takes.new_is by
+hears_end follow keeps old new meter datagram told ended head (inr ignores) by = absurd (none_ended ended (sym (ap ended_by ignores.1) ∙ by))

@@ -1,0 +1,14 @@
+-- Lemmas.
+pub mod Waiting
+pub mod Turning
+pub mod Moving
+pub mod Placing
+pub mod Adding
+pub mod Counting
+pub mod Rows
+pub mod Marks
+pub mod Lives
+pub mod Daemons
+pub mod Hearing
+pub mod Steps
+pub mod Rounds

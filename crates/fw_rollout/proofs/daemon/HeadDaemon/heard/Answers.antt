@@ -1,0 +1,97 @@
+use Rattle.std.proofs.Common.{rules, ℕ, [], ◌∷◌, ◌++◌, List, refl, sym, ap, subst, ◌∙◌}
+use Rattle.fw_head.specs.Head.{Head, HeadHears, IsHead}
+use Rattle.fw_kept.specs.Head.{Holds, head_of}
+use Rattle.fw_ledger.specs.declared.record.Ending.TheVariants as ends
+use Rattle.fw_rollout.specs.declared.ended.Ended.{Ended}
+use Rattle.fw_rollout.specs.Leading.{ended_by}
+use Rattle.fw_rollout.proofs.Daemons.{ended_on, is_listed, moved_live, moved_on, nothing_on, stranger_on}
+use Rattle.fw_rollout.proofs.Rounds.{at_err}
+use Rattle.fw_rollout.proofs.daemon.HeadDaemon.heard.Goals as goal
+
+-- ---- refused memory is for a datagram of a meter of the list
+
+pub returns-in_err-reserve-clause-listed : goal.returns-in_err-reserve-clause-listed
+returns-in_err-reserve-clause-listed g c = λ leader led.
+    at_err c.from_residual.result (
+      c.in-Some.meter,
+      is_listed g.D.JournalDevice.honest g.D.JournalDevice.contents g.D.JournalDevice.may_leave c.args.self.now leader c.in-Some.place (record { meter = c.in-Some.meter; address = c.args.from }) led
+          (c.in-Some.ensures.found led.schedule),
+    )
+
+pub returns-in_err-hear-clause-listed : goal.returns-in_err-hear-clause-listed
+returns-in_err-hear-clause-listed g c = λ leader led.
+    at_err c.from_residual-in_err-hear.result (
+      c.in-Some.meter,
+      is_listed g.D.JournalDevice.honest g.D.JournalDevice.contents g.D.JournalDevice.may_leave c.args.self.now leader c.in-Some.place (record { meter = c.in-Some.meter; address = c.args.from }) led
+          (c.in-Some.ensures.found led.schedule),
+    )
+
+pub returns-in_err-answered-in-Moved-clause-listed : goal.returns-in_err-answered-in-Moved-clause-listed
+returns-in_err-answered-in-Moved-clause-listed g c = λ leader led.
+    at_err c.from_residual-in_err-answered-in-Moved.result (
+      c.in-Some.meter,
+      is_listed g.D.JournalDevice.honest g.D.JournalDevice.contents g.D.JournalDevice.may_leave c.args.self.now leader c.in-Some.place (record { meter = c.in-Some.meter; address = c.args.from }) led
+          (c.in-Some.ensures.found led.schedule),
+    )
+
+pub returns-in_err-end-in-Done-clause-listed : goal.returns-in_err-end-in-Done-clause-listed
+returns-in_err-end-in-Done-clause-listed g c = λ leader led.
+    at_err c.from_residual-in_err-end-in-Done.result (
+      c.in-Some.meter,
+      is_listed g.D.JournalDevice.honest g.D.JournalDevice.contents g.D.JournalDevice.may_leave c.args.self.now leader c.in-Some.place (record { meter = c.in-Some.meter; address = c.args.from }) led
+          (c.in-Some.ensures.found led.schedule),
+    )
+
+pub returns-in_err-end-in-Failed-clause-listed : goal.returns-in_err-end-in-Failed-clause-listed
+returns-in_err-end-in-Failed-clause-listed g c = λ leader led.
+    at_err c.from_residual-in_err-end-in-Failed.result (
+      c.in-Some.meter,
+      is_listed g.D.JournalDevice.honest g.D.JournalDevice.contents g.D.JournalDevice.may_leave c.args.self.now leader c.in-Some.place (record { meter = c.in-Some.meter; address = c.args.from }) led
+          (c.in-Some.ensures.found led.schedule),
+    )
+
+-- ---- what is heard: the number that is passed on is that of the pair that was found, which search sees
+
+pub returns-in_default-clause-hears : goal.returns-in_default-clause-hears
+returns-in_default-clause-hears g c = λ leader led.
+    stranger_on g.D.JournalDevice.honest g.D.JournalDevice.contents g.D.JournalDevice.may_leave c.args.self.now _ leader c.args.from c.args.datagram.now led (c.in_default.ensures.none led.schedule) refl refl refl
+
+pub returns-in-Nothing-clause-hears : goal.returns-in-Nothing-clause-hears
+returns-in-Nothing-clause-hears g c = λ leader led.
+    let heard = subst (λ (m : ℕ). HeadHears (head_of c.args.self.now.kept) m c.args.datagram.now c.in_ok-hear.field-0 (head_of c.hear.new.self)) (search rules) c.in_ok-hear.ensures.heard in
+    nothing_on g.D.JournalDevice.honest g.D.JournalDevice.contents g.D.JournalDevice.may_leave c.args.self.now
+    (record c.args.self.now { kept = c.hear.new.self; ended = c.reserve.new.self; counts = record c.args.self.now.counts { received = c.count-2.new.counter } }) leader led c.in-Some.place c.in-Some.meter c.args.from
+    (c.in-Some.ensures.found led.schedule) c.args.datagram.now c.in_ok-hear.field-0 heard (c.in_ok-hear.ensures.waits leader.synced led.holds) c.in-Nothing.is c.reserve.ensures.items refl
+
+pub returns-in_ok-answered-in-Moved-clause-hears : goal.returns-in_ok-answered-in-Moved-clause-hears
+returns-in_ok-answered-in-Moved-clause-hears g c = λ leader led.
+    let there = c.in-Some.ensures.found led.schedule in
+    let holds = c.in_ok-hear.ensures.waits leader.synced led.holds in
+    let heard = subst (λ (m : ℕ). HeadHears (head_of c.args.self.now.kept) m c.args.datagram.now c.in_ok-hear.field-0 (head_of c.hear.new.self)) (search rules) c.in_ok-hear.ensures.heard in
+    let live = moved_live g.D.JournalDevice.honest g.D.JournalDevice.contents g.D.JournalDevice.may_leave c.args.self.now (record c.args.self.now { kept = c.hear.new.self }) leader led c.in-Some.place c.in-Some.meter
+    c.args.from there c.args.datagram.now c.in_ok-hear.field-0 heard holds c.in-Moved.is in
+    moved_on g.D.JournalDevice.honest g.D.JournalDevice.contents g.D.JournalDevice.may_leave c.args.self.now
+    (record c.args.self.now { kept = c.hear.new.self; schedule = c.answered.new.self; ended = c.reserve.new.self; counts = record c.args.self.now.counts { received = c.count-2.new.counter } }) leader led c.in-Some.place
+    c.in-Some.meter c.args.from there c.args.datagram.now c.in_ok-hear.field-0 heard holds c.in-Moved.is c.reserve.ensures.items (c.in_ok-answered-in-Moved.ensures.schedule led.schedule live) (c.in_ok-answered-in-Moved.ensures.same live)
+
+pub returns-in_ok-end-in-Done-clause-hears : goal.returns-in_ok-end-in-Done-clause-hears
+returns-in_ok-end-in-Done-clause-hears g c = λ leader led.
+    let one : Ended = record { campaign = c.in-Done.campaign; meter = c.in-Done.meter; ending = ends.Done } in
+    let heard = subst (λ (m : ℕ). HeadHears (head_of c.args.self.now.kept) m c.args.datagram.now c.in_ok-hear.field-0 (head_of c.hear.new.self)) (search rules) c.in_ok-hear.ensures.heard in
+    let hears = subst (λ k. HeadHears (head_of c.args.self.now.kept) c.in-Some.meter c.args.datagram.now c.in_ok-hear.field-0 (head_of k)) (sym c.end.ensures.kept) heard in
+    let holds = subst (λ k. Holds g.D.JournalDevice.honest g.D.JournalDevice.contents g.D.JournalDevice.may_leave k leader.synced) (sym c.end.ensures.kept) (c.in_ok-hear.ensures.waits leader.synced led.holds) in
+    ended_on g.D.JournalDevice.honest g.D.JournalDevice.contents g.D.JournalDevice.may_leave c.args.self.now c.end.new.self leader led c.in-Some.place c.in-Some.meter c.args.from
+    (c.in-Some.ensures.found led.schedule) c.args.datagram.now c.in_ok-hear.field-0 hears holds c.states_follow.ensures c.row_keeps_goal.ensures
+    (subst (λ (h : Head). IsHead h) c.head.ensures c.view-view.ensures.live) one (ap ended_by c.in-Done.is)
+    (c.in_ok-end-in-Done.ensures.ended ∙ ap (λ (xs : List Ended). xs ++ one ∷ []) c.reserve.ensures.items) (c.end.ensures.schedule led.schedule) c.end.ensures.meters
+
+pub returns-in_ok-end-in-Failed-clause-hears : goal.returns-in_ok-end-in-Failed-clause-hears
+returns-in_ok-end-in-Failed-clause-hears g c = λ leader led.
+    let one : Ended = record { campaign = c.in-Failed.campaign; meter = c.in-Failed.meter; ending = ends.Failed } in
+    let heard = subst (λ (m : ℕ). HeadHears (head_of c.args.self.now.kept) m c.args.datagram.now c.in_ok-hear.field-0 (head_of c.hear.new.self)) (search rules) c.in_ok-hear.ensures.heard in
+    let hears = subst (λ k. HeadHears (head_of c.args.self.now.kept) c.in-Some.meter c.args.datagram.now c.in_ok-hear.field-0 (head_of k)) (sym c.end-in-Failed.ensures.kept) heard in
+    let holds = subst (λ k. Holds g.D.JournalDevice.honest g.D.JournalDevice.contents g.D.JournalDevice.may_leave k leader.synced) (sym c.end-in-Failed.ensures.kept) (c.in_ok-hear.ensures.waits leader.synced led.holds) in
+    ended_on g.D.JournalDevice.honest g.D.JournalDevice.contents g.D.JournalDevice.may_leave c.args.self.now c.end-in-Failed.new.self leader led c.in-Some.place c.in-Some.meter c.args.from
+    (c.in-Some.ensures.found led.schedule) c.args.datagram.now c.in_ok-hear.field-0 hears holds c.states_follow.ensures c.row_keeps_goal.ensures
+    (subst (λ (h : Head). IsHead h) c.head.ensures c.view-view.ensures.live) one (ap ended_by c.in-Failed.is)
+    (c.in_ok-end-in-Failed.ensures.ended ∙ ap (λ (xs : List Ended). xs ++ one ∷ []) c.reserve.ensures.items) (c.end-in-Failed.ensures.schedule led.schedule) c.end-in-Failed.ensures.meters

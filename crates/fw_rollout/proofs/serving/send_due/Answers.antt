@@ -1,0 +1,37 @@
+use Rattle.std.proofs.Common.{Bool, IsTrue, sym, subst, ◌∙◌}
+use Rattle.fw_rollout.proofs.Steps.{may_tick}
+use Rattle.fw_rollout.proofs.Rounds.{at_err, begins_on, joined, ticked}
+use Rattle.fw_rollout.proofs.serving.send_due.Goals as goal
+
+pub returns-in_err-due-clause-leads_err : goal.returns-in_err-due-clause-leads_err
+returns-in_err-due-clause-leads_err g c = λ honest start led rests.
+    let one = c.loop.invariant.0 honest start led rests in
+    at_err c.from_residual.result (one.now, one.leads)
+
+pub send_all-requires : goal.send_all-requires
+send_all-requires g c = λ h.
+    let was = c.loop.invariant in
+    let honest : IsTrue (g.P.HeadPort.honest c.args.port.now) = subst (λ (b : Bool). IsTrue b) was.1 h in
+    let begins = begins_on _ _ _ c.args.daemon.now c.loop.daemon (g.P.HeadPort.legal c.args.port.now) (g.P.HeadPort.legal c.loop.port) _ _ was.2
+    (c.requires.begins honest) (was.0 honest) in
+    let made = rw c.in-Some.is at (c.in_ok-due.ensures.ticks begins.leader begins.led begins.rests.sent_all) in
+    (made.0, rw c.deref.ensures.value made.3, may_tick (g.P.HeadPort.legal c.loop.port) begins.leader made.0 c.in-Some.due.meter _ begins.may made.1)
+
+pub returns-in-None-clause-leads : goal.returns-in-None-clause-leads
+returns-in-None-clause-leads g c = λ honest start led rests.
+    let one = c.loop.invariant.0 honest start led rests in
+    let same = rw c.in-None.is at (c.in_ok-due.ensures.ticks one.now one.led one.rests.sent_all) in
+    record { now = one.now; leads = one.leads; led = same; rests = one.rests }
+
+pub loop-preserved : goal.loop-preserved
+loop-preserved g c =
+    let was = c.loop.invariant in (
+      λ honest start led rests.
+          let then : IsTrue (g.P.HeadPort.honest c.loop.port) = subst (λ (b : Bool). IsTrue b) (sym was.1) honest in
+          let one = was.0 honest start led rests in
+          let made = rw c.in-Some.is at (c.in_ok-due.ensures.ticks one.now one.led one.rests.sent_all) in
+          joined _ _ _ c.loop.daemon c.due.new.self start _ _ _ one
+          (ticked _ _ _ c.due.new.self one.now made.0 c.in-Some.due.meter _ _ one.rests made.1 made.2 (c.send_all.ensures.sends then made.0 (rw c.deref.ensures.value made.3))),
+      c.send_all.ensures.honesty ∙ was.1,
+      λ done legal. c.send_all.ensures.law done (was.2 done legal),
+    )

@@ -1,0 +1,35 @@
+use Rattle.std.proofs.Common.{rules, Bool, IsTrue, sym, subst, ◌∙◌}
+use Rattle.fw_rollout.proofs.Rounds.{begins_on, goes_on, has_led_on}
+use Rattle.fw_rollout.proofs.serving.serve_head.Goals as goal
+
+pub step_head-requires : goal.step_head-requires
+step_head-requires g c = record {
+  begins = λ h.
+      let was = c.loop.invariant in
+      let honest : IsTrue (g.P.HeadPort.honest c.args.port.now) = subst (λ (b : Bool). IsTrue b) was.3 h in
+      begins_on _ _ _ c.args.daemon.now c.loop.daemon _ _ _ _ was.4 (c.requires.begins honest) (was.2 honest);
+}
+
+pub loop-preserved : goal.loop-preserved
+loop-preserved g c =
+    let was = c.loop.invariant in (
+      search rules,
+      search rules,
+      λ honest start led rests.
+          let then : IsTrue (g.P.HeadPort.honest c.loop.port) = subst (λ (b : Bool). IsTrue b) (sym was.3) honest in
+          goes_on _ _ _ c.loop.daemon c.step_head.new.daemon start _ _ _ (was.2 honest start led rests) (c.in_ok-step_head.ensures.leads then),
+      c.step_head.ensures.honesty ∙ was.3,
+      λ done legal. c.step_head.ensures.law done (was.4 done legal),
+    )
+
+pub returns-in_err-step_head-clause-leads : goal.returns-in_err-step_head-clause-leads
+returns-in_err-step_head-clause-leads g c = λ honest start led rests.
+    let was = c.loop.invariant in
+    let then : IsTrue (g.P.HeadPort.honest c.loop.port) = subst (λ (b : Bool). IsTrue b) (sym was.3) honest in
+    let one = was.2 honest start led rests in
+    has_led_on _ _ _ c.loop.daemon start _ _ _ one (c.in_err-step_head.ensures.leads_err then one.now one.led one.rests)
+
+pub returns-then-not-stays-clause-leads : goal.returns-then-not-stays-clause-leads
+returns-then-not-stays-clause-leads g c = λ honest start led rests.
+    let one = c.loop.invariant.2 honest start led rests in
+    (one.now, one.leads)

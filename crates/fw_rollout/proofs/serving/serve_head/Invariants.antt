@@ -1,0 +1,13 @@
+use Rattle.std.proofs.Common.{◌≡◌, List, IsTrue}
+use Rattle.fw_rollout.specs.Acts.{Act}
+use Rattle.fw_rollout.proofs.Rounds.{Follows}
+use Rattle.fw_rollout.proofs.serving.serve_head.Given as goal
+
+-- what was done so far is the head end's, and the port goes on to let through what is legal
+abbrev pub invariant-loop : goal.invariant-loop
+invariant-loop g l =
+    (goal.iterator-loop g).can_next l.iterator' × (goal.iterator-loop g).is_finite l.iterator'
+    × (IsTrue (g.P.HeadPort.honest l.fn.port) → Follows g.D.JournalDevice.honest g.D.JournalDevice.contents g.D.JournalDevice.may_leave l.fn.daemon
+    (g.P.HeadPort.acts l.fn.port) (g.P.HeadPort.acts l.port) l.daemon)
+    × (g.P.HeadPort.honest l.port ≡ g.P.HeadPort.honest l.fn.port)
+    × ((done : List Act) → g.P.HeadPort.legal l.fn.port done → g.P.HeadPort.legal l.port done)

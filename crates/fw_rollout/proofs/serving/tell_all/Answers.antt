@@ -1,0 +1,42 @@
+use Rattle.std.proofs.Common.{◌≡◌, ◌∷◌, ◌+◌, ◌<◌, List, [], IsTrue, Bool, ℕ, length, drop, get_or, sym, subst, ap, ◌∙◌, arith}
+use Rattle.std.proofs.lemmas.List.{drop_all, drop_more}
+use Rattle.std.proofs.lemmas.List.Elements.{All-drop}
+use Rattle.fw_rollout.specs.declared.ended.Ended.{Ended}
+use Rattle.fw_rollout.specs.Leading.{IsNotedIn, Leads}
+use Rattle.fw_rollout.proofs.Steps.{may_tell, telling, tells_on}
+use Rattle.fw_rollout.proofs.serving.tell_all.Goals as goal
+
+-- the first of those that are left
+next_ended : (saved : List Ended) (i : ℕ) (ended : Ended) → i < length saved → ended ≡ get_or saved i ended → drop i saved ≡ ended ∷ drop (i + 1) saved
+next_ended saved i ended inside at = drop_more saved i ended inside ∙ ap (λ (e : Ended). e ∷ drop (i + 1) saved) (sym at)
+
+pub tell-requires : goal.tell-requires
+tell-requires g c = λ h.
+    let honest : IsTrue (g.P.HeadPort.honest c.args.port.now) = subst (λ (b : Bool). IsTrue b) c.loop-ended.invariant.1 h in
+    let begins = c.requires honest in
+    let i = c.loop-ended.ended-index in
+    let all = c.args.saved.now in
+    let left = next_ended all i c.ended-item.result (omega arith) c.ended-item.is in
+    may_tell (g.P.HeadPort.legal c.args.port.now) (g.P.HeadPort.legal c.loop-ended.port) begins.0 c.ended-item.result (drop i all) (drop (i + 1) all)
+    (g.P.HeadPort.acts c.args.port.now) (g.P.HeadPort.acts c.loop-ended.port) c.loop-ended.invariant.2 left
+    (All-drop (IsNotedIn begins.0.synced) i all begins.1.on_device) begins.2 (c.loop-ended.invariant.0 honest begins.0 begins.1)
+
+pub loop-ended-preserved : goal.loop-ended-preserved
+loop-ended-preserved g c =
+    let i = c.loop-ended.ended-index in
+    let all = c.args.saved.now in
+    let left = next_ended all i c.ended-item.result (omega arith) c.ended-item.is in (
+      λ honest start about.
+          let is = subst (λ (b : Bool). IsTrue b) (sym c.loop-ended.invariant.1) honest in
+          tells_on start c.ended-item.result (drop i all) (drop (i + 1) all) (g.P.HeadPort.acts c.args.port.now) (g.P.HeadPort.acts c.loop-ended.port)
+          (g.P.HeadPort.acts c.tell.new.self) left (All-drop (IsNotedIn start.synced) i all about.on_device)
+          (c.loop-ended.invariant.0 honest start about) (c.tell.ensures.told is),
+      c.tell.ensures.honesty ∙ c.loop-ended.invariant.1,
+      λ done legal. c.tell.ensures.law done (c.loop-ended.invariant.2 done legal),
+    )
+
+pub returns-clause-tells : goal.returns-clause-tells
+returns-clause-tells g c = λ honest start about.
+    let none : drop c.loop-ended.ended-index c.args.saved.now ≡ [] = drop_all c.loop-ended.ended-index c.args.saved.now (omega arith) in
+    subst (λ (l : List Ended). Leads start (g.P.HeadPort.acts c.args.port.now) (g.P.HeadPort.acts c.loop-ended.port) (telling start l)) none
+    (c.loop-ended.invariant.0 honest start about)

@@ -1,0 +1,24 @@
+use Rattle.std.proofs.Common.{List, sym, subst, refl}
+use Rattle.fw_rollout.specs.declared.ended.Ended.{Ended}
+use Rattle.fw_rollout.specs.Leading.{IsAboutToTell}
+use Rattle.fw_rollout.proofs.Steps.{may_save}
+use Rattle.fw_rollout.proofs.Rounds.{at_err, has_led_same, saved}
+use Rattle.fw_rollout.proofs.serving.tell_saved.Goals as goal
+
+pub tell_all-requires : goal.tell_all-requires
+tell_all-requires g c = λ honest.
+    let begins = c.requires.begins honest in
+    let made = c.in_ok-saved.ensures.saves begins.leader begins.led begins.rests.told_all in (
+      made.0,
+      subst (λ (saved : List Ended). IsAboutToTell made.0 saved) (sym c.deref.ensures.value) made.3,
+      may_save (g.P.HeadPort.legal c.args.port.now) begins.leader made.0 (g.P.HeadPort.acts c.args.port.now) begins.may made.1,
+    )
+
+pub returns-clause-leads : goal.returns-clause-leads
+returns-clause-leads g c = λ honest start led rests.
+    let made = c.in_ok-saved.ensures.saves start led rests.told_all in
+    saved _ _ _ c.saved.new.self start made.0 _ _ rests made.1 made.2
+    (c.tell_all.ensures.tells honest made.0 (subst (λ (saved : List Ended). IsAboutToTell made.0 saved) (sym c.deref.ensures.value) made.3))
+
+pub returns-in_err-saved-clause-leads_err : goal.returns-in_err-saved-clause-leads_err
+returns-in_err-saved-clause-leads_err g c = λ honest start led rests. at_err c.from_residual.result (has_led_same start _ _ refl)

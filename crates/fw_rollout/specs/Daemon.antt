@@ -1,0 +1,83 @@
+-- Public vocabulary: the daemon of a head end as a value.
+use Rattle.std.specs.Prelude.{◌≡◌, ◌≢◌, ℕ, Bool, List, [], ◌∷◌, map, All, Contains, None, is_some}
+use Rattle.fw_book.specs.Contents.{Contents}
+use Rattle.fw_head.specs.Head.{Head, row_of}
+use Rattle.fw_kept.specs.Head.{Holds, head_of}
+use Rattle.fw_kept.specs.declared.head.KeptHead.{KeptHead}
+use Rattle.fw_rollout.specs.declared.daemon.HeadDaemon.{HeadDaemon}
+use Rattle.fw_rollout.specs.declared.ended.Ended.{Ended}
+use Rattle.fw_rollout.specs.declared.link.Listed.{Listed}
+use Rattle.fw_rollout.specs.Acts.{Act}
+use Rattle.fw_rollout.specs.Leading.{IsNotedIn, Leader, Leads, MayLead}
+use Rattle.fw_rollout.specs.Schedule.{IsSchedule, listed_of, lives_of}
+
+-- no number and no address stands twice
+abbrev pub IsList : List Listed → Type 0
+IsList [] = Unit {0}
+IsList (at ∷ others) =
+    ((other : Listed) → Contains others other → (other.meter ≢ at.meter) × (other.address ≢ at.address)) × IsList others
+
+-- the meters that the daemon asks
+abbrev pub meters_of : {D : Type 0} → HeadDaemon D → List Listed
+meters_of daemon = listed_of daemon.schedule
+
+-- the head end that it has, with its book
+abbrev pub kept_of : {D : Type 0} → HeadDaemon D → KeptHead D
+kept_of daemon = daemon.kept
+
+-- how many datagrams are out: sent, and neither answered nor given up
+abbrev pub out_of : {D : Type 0} → HeadDaemon D → ℕ
+out_of daemon = daemon.schedule.out
+
+-- how many may be
+abbrev pub flight_of : {D : Type 0} → HeadDaemon D → ℕ
+flight_of daemon = daemon.schedule.timing.flight
+
+-- the rows that ended and are not on the device yet
+abbrev pub ended_of : {D : Type 0} → HeadDaemon D → List Ended
+ended_of daemon = daemon.ended.items
+
+-- which of these meters have a live row
+abbrev pub live_of : Head → List Listed → List Bool
+live_of head meters = map (λ (at : Listed). is_some (row_of head.rows at.meter)) meters
+
+-- The daemon between two steps. Its book is kept on a device of which this is known.
+pub record IsLed {D : Type 0} (honest : D → Bool) (contents : D → List ℕ) (may_leave : D → List ℕ → Type 0) (daemon : HeadDaemon D) (leader : Leader) : Type 0 where
+  pub holds : Holds honest contents may_leave (kept_of daemon) leader.synced
+  pub meters : leader.meters ≡ meters_of daemon
+  pub list : IsList leader.meters
+  pub head : leader.head ≡ head_of (kept_of daemon)
+  pub unsaved : leader.unsaved ≡ ended_of daemon
+  pub noted : All (IsNotedIn leader.head.book) leader.unsaved
+  pub schedule : IsSchedule daemon.schedule
+  -- a link is live exactly where its meter has a live row
+  pub lives : lives_of daemon.schedule ≡ live_of leader.head leader.meters
+
+-- a head end that begins to lead these meters
+abbrev pub new_leader : List Listed → Head → Contents → Leader
+new_leader meters head synced =
+    record { meters = meters; head = head; synced = synced; going = []; unsaved = []; untold = [] }
+
+-- no meter of the list has a live row, and all that ended is on the device
+pub record IsOver (leader : Leader) : Type 0 where
+  pub saved_all : leader.unsaved ≡ []
+  pub no_row : All (λ (at : Listed). row_of leader.head.rows at.meter ≡ None) leader.meters
+
+-- nothing is about to be sent or reported
+pub record Rests (leader : Leader) : Type 0 where
+  pub sent_all : leader.going ≡ []
+  pub told_all : leader.untold ≡ []
+
+-- the daemon is that of some head end which may do what it does after what was done
+pub record Begins {D : Type 0} (honest : D → Bool) (contents : D → List ℕ) (may_leave : D → List ℕ → Type 0) (daemon : HeadDaemon D) (legal : List Act → Type 0) (before : List Act) : Type 0 where
+  pub leader : Leader
+  pub led : IsLed honest contents may_leave daemon leader
+  pub rests : Rests leader
+  pub may : MayLead legal leader before
+
+-- From start, after what was done before, the head end did this, and the daemon is its own then.
+pub record GoesOn {D : Type 0} (honest : D → Bool) (contents : D → List ℕ) (may_leave : D → List ℕ → Type 0) (start : Leader) (before after : List Act) (daemon : HeadDaemon D) : Type 0 where
+  pub now : Leader
+  pub leads : Leads start before after now
+  pub led : IsLed honest contents may_leave daemon now
+  pub rests : Rests now

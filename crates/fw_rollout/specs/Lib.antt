@@ -1,0 +1,10 @@
+-- Public vocabulary: the words of public clauses, for callers and readers.
+pub mod Acts
+pub mod Timing
+pub mod Leading
+pub mod Daemon
+pub mod Lists
+pub mod Stopping
+-- For private clauses alone: no public clause cites it.
+pub mod Link
+pub mod Schedule

@@ -1,0 +1,116 @@
+-- For private clauses alone: the links of all meters, which of them may be ticked now, and what each call makes of them.
+use Rattle.std.specs.Prelude.{◌≡◌, ◌⊎◌, ◌↔◌, ℕ, ◌<◌, ◌≤◌, ◌^◌, Bool, true, false, List, [], ◌∷◌, ◌++◌, map, Option, Some, Contains, MatchOption, slice_get, slice_set, sum_by, count_by}
+use Rattle.std.specs.declared.net.socket_addr.SocketAddr.{SocketAddr}
+use Rattle.fw_rollout.specs.Link.{IsAnswered, IsGivenUp, IsLiveLink, IsNewLink, IsReady, IsSent, until_of}
+use Rattle.fw_rollout.specs.Timing.{most_out}
+use Rattle.fw_rollout.specs.declared.link.Link.{Link}
+use Rattle.fw_rollout.specs.declared.link.Listed.{Listed}
+use Rattle.fw_rollout.specs.declared.link.Turn.{Turn}
+use Rattle.fw_rollout.specs.declared.link.Turn.TheVariants as turns
+use Rattle.fw_rollout.specs.declared.schedule.Schedule.{Schedule}
+
+abbrev pub links_of : Schedule → List Link
+links_of s = s.links.items
+
+-- the meters of the links and their addresses, in the order of the links
+abbrev pub listed_of : Schedule → List Listed
+listed_of s = map (λ (link : Link). link.at) (links_of s)
+
+-- whether the meter has a live row
+abbrev pub is_live_turn : Turn → Bool
+is_live_turn turns.Over = false
+is_live_turn turns.Ready = true
+is_live_turn (turns.Awaited until) = true
+is_live_turn (turns.Silent until) = true
+
+abbrev pub is_live : Link → Bool
+is_live link = is_live_turn link.turn
+
+-- which of the links are live, in their order
+abbrev pub lives_of : Schedule → List Bool
+lives_of s = map is_live (links_of s)
+
+-- the link at this place has this address
+abbrev pub IsPlaceOf : List Link → SocketAddr → ℕ → Type 0
+IsPlaceOf links address place = (link : Link) × (slice_get links place ≡ Some link) × (link.at.address ≡ address)
+
+-- some link has this address
+abbrev pub HasAddress : List Link → SocketAddr → Type 0
+HasAddress links address = (place : ℕ) × IsPlaceOf links address place
+
+-- the link at this place may be ticked
+abbrev pub IsDueAt : Schedule → ℕ → Type 0
+IsDueAt s place = (link : Link) × (slice_get (links_of s) place ≡ Some link) × IsReady link
+
+-- the meter of the link at this place has a live row
+abbrev pub IsLiveAt : Schedule → ℕ → Type 0
+IsLiveAt s place = (link : Link) × (slice_get (links_of s) place ≡ Some link) × IsLiveLink link
+
+-- the link at this place waits until this time
+abbrev pub IsWaitingAt : List Link → ℕ → ℕ → Type 0
+IsWaitingAt links place until = (link : Link) × (slice_get links place ≡ Some link) × (until_of link.turn ≡ Some until)
+
+-- what was sent counts as out
+abbrev pub IsAwaited : Turn → Type 0
+IsAwaited turns.Over = ⊥
+IsAwaited turns.Ready = ⊥
+IsAwaited (turns.Awaited until) = Unit {0}
+IsAwaited (turns.Silent until) = ⊥
+
+-- What every schedule keeps: how many datagrams are out and how many links are live, the time of each link that waits, and the place of each
+-- address.
+pub record IsSchedule (s : Schedule) : Type 0 where
+  pub flight_fits : s.timing.flight < 2 ^ 64
+  pub counts_live : s.live ≡ count_by is_live (links_of s)
+  pub counts_out : s.out ≡ sum_by (λ (link : Link). link.out) (links_of s)
+  pub within : s.out ≤ most_out s.timing.flight
+  pub awaited : (place : ℕ) (link : Link) → slice_get (links_of s) place ≡ Some link → IsAwaited link.turn ⊎ (link.out ≡ 0)
+  pub waits : (place until : ℕ) → Contains s.waiting.keys (until, place) ↔ IsWaitingAt (links_of s) place until
+  pub addressed : (address : SocketAddr) (place : ℕ) → Contains s.places.entries (address, place) ↔ IsPlaceOf (links_of s) address place
+
+-- the same meters at the same addresses, with the same of them live
+pub record SameMeters (old new : Schedule) : Type 0 where
+  pub timing : new.timing ≡ old.timing
+  pub listed : listed_of new ≡ listed_of old
+  pub lives : lives_of new ≡ lives_of old
+
+-- the meter of the link at this place has no live row any more, and of the others nothing changed
+pub record EndsMeter (place : ℕ) (old new : Schedule) : Type 0 where
+  pub timing : new.timing ≡ old.timing
+  pub listed : listed_of new ≡ listed_of old
+  pub lives : lives_of new ≡ slice_set (lives_of old) place false
+
+-- the link at a place went on, and no other
+pub record GoesOnAt (place : ℕ) (goes : Link → Link → Type 0) (old new : Schedule) : Type 0 where
+  pub timing : new.timing ≡ old.timing
+  pub there : MatchOption (slice_get (links_of old) place) (links_of new ≡ links_of old)
+      (λ link. (next : Link) × goes link next × (links_of new ≡ slice_set (links_of old) place next))
+
+-- a new link is there, at the end
+abbrev pub Adds : Listed → Bool → Schedule → Schedule → Type 0
+Adds at is_live old new = (link : Link) × IsNewLink at is_live old.timing.resend link × (links_of new ≡ links_of old ++ link ∷ [])
+
+abbrev pub Sends : ℕ → ℕ → ℕ → Schedule → Schedule → Type 0
+Sends place now count old new = GoesOnAt place (λ link next. IsSent now count link next) old new
+
+abbrev pub Answers : ℕ → ℕ → Bool → Schedule → Schedule → Type 0
+Answers place now is_waiting old new =
+    GoesOnAt place (λ link next. (answered : ℕ) × IsAnswered now old.timing.resend is_waiting link answered next) old new
+
+abbrev pub GivesUp : ℕ → ℕ → Schedule → Schedule → Type 0
+GivesUp place now old new = GoesOnAt place (λ link next. (given_up : ℕ) × IsGivenUp now link given_up next) old new
+
+abbrev pub EndsAt : ℕ → Schedule → Schedule → Type 0
+EndsAt place old new = GoesOnAt place (λ link next. (next.out ≡ 0) × (next.turn ≡ turns.Over) × (next.at ≡ link.at)) old new
+
+-- the link at a place waits until this time too, if there is one
+pub record Waits (place : ℕ) (until : Option ℕ) (old new : Schedule) : Type 0 where
+  pub others : new ≡ record old { waiting = new.waiting }
+  pub waits : (other time : ℕ) → Contains new.waiting.keys (time, other)
+      ↔ (((other ≡ place) × (until ≡ Some time)) ⊎ Contains old.waiting.keys (time, other))
+
+-- the link at a place doesn't wait until this time any more
+pub record WaitsNoMore (place : ℕ) (until : Option ℕ) (old new : Schedule) : Type 0 where
+  pub others : new ≡ record old { waiting = new.waiting }
+  pub waits : (other time : ℕ) → Contains new.waiting.keys (time, other)
+      ↔ (¬ ((other ≡ place) × (until ≡ Some time)) × Contains old.waiting.keys (time, other))

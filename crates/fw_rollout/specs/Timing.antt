@@ -1,0 +1,26 @@
+-- Public vocabulary: how long an answer is waited for, in microseconds, and how many datagrams are out at once.
+use Rattle.std.specs.Prelude.{◌≡◌, ◌⊎◌, ℕ, ◌+◌, ◌*◌, ◌≤◌, min, max}
+
+-- a minute
+abbrev pub longest_wait : ℕ
+longest_wait = 60000000
+
+-- the most datagrams of one tick
+abbrev pub max_tick : ℕ
+max_tick = 15
+
+-- four times the last round trip, no less than the first wait, and a minute at most
+abbrev pub wait_after : ℕ → ℕ → ℕ
+wait_after resend trip = min (max (4 * trip) resend) longest_wait
+
+-- twice the last wait, after a silence in which nothing at all came
+abbrev pub doubled : ℕ → ℕ
+doubled wait = min (2 * wait) longest_wait
+
+-- nothing is out, or the flight has room for a whole tick
+abbrev pub HasRoom : ℕ → ℕ → Type 0
+HasRoom out flight = (out ≡ 0) ⊎ (out + max_tick ≤ flight)
+
+-- the most datagrams that are out
+abbrev pub most_out : ℕ → ℕ
+most_out flight = max flight max_tick

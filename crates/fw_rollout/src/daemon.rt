@@ -1,0 +1,352 @@
+//! A head end, the meters that it asks, and when it asks which.
+
+ghost use Rattle.std.specs.Prelude.{
+  ◌≡◌,
+  ◌≤◌,
+  ◌↔◌,
+  ℕ,
+  [],
+  ◌∷◌,
+  ◌++◌,
+  All,
+  Contains,
+  Some,
+  IsTrue,
+  IfOk,
+  IfErr,
+  IfNone,
+  IfSome,
+  OnErr,
+  OnOk,
+  MatchOption,
+  slice_get,
+};
+ghost use Rattle.fw_head.specs.Row.{bytes_of};
+ghost use Rattle.fw_head.specs.Head.{IsOfferedIn};
+ghost use Rattle.fw_book.specs.Contents.{Contents};
+ghost use Rattle.fw_kept.specs.Head.{Holds, head_of};
+ghost use Rattle.fw_rollout.specs.Timing.{most_out};
+ghost use Rattle.fw_rollout.specs.Stopping.{IsSaveStop};
+ghost use Rattle.fw_rollout.specs.Leading.{IsAboutToSend, IsAboutToTell, IsListed, Leader, SavesAll, Steps, TicksMeter, hears};
+ghost use Rattle.fw_rollout.specs.Daemon.{IsLed, IsList, IsOver, ended_of, flight_of, kept_of, live_of, meters_of, new_leader, out_of};
+ghost use Rattle.fw_rollout.specs.Schedule.{EndsMeter, IsSchedule, listed_of, lives_of};
+
+use crate::ended::Ended;
+use crate::error::Stop;
+use crate::link::Listed;
+use crate::schedule::Schedule;
+use crate::timing::Timing;
+use fw_head::{HeadCore, News};
+use fw_journal::JournalDevice;
+use fw_kept::KeptHead;
+use fw_ledger::Ending;
+use fw_names::{CampaignId, MeterId};
+use std::alloc::{AllocError, Global};
+use std::mem;
+use std::net::SocketAddr;
+
+/// How long the mark of a row that ended waits for others, in microseconds.
+const HOLD: u64 = 100_000;
+
+/// How far a head end is, since its daemon was made. Each number is 2^64 - 1 at most.
+#[derive(Clone, Copy, Debug, PartialEq, Eq)]
+pub struct Counts {
+    /// The rows that are live.
+    pub live: u64,
+    /// Those that are done, and are on the device.
+    pub done: u64,
+    /// Those that were given up, and are on the device.
+    pub failed: u64,
+    /// The datagrams that were made to be sent.
+    pub sent: u64,
+    /// Those that came from meters of the list.
+    pub received: u64,
+    /// How often a row was ticked again since no answer came.
+    pub resends: u64,
+    /// The datagrams that came from other addresses.
+    pub strangers: u64,
+}
+
+/// What is sent now.
+#[derive(Drop)]
+pub struct Due {
+    /// The meter.
+    pub meter: MeterId,
+    /// Its address.
+    pub to: SocketAddr,
+    /// The datagrams that its row sends, in this order.
+    pub datagrams: Vec<Vec<u8>>,
+}
+
+/// What comes of a datagram.
+#[derive(Clone, Copy, Debug, PartialEq, Eq)]
+pub enum Heard {
+    /// It is dropped, since it came from an address that isn't in the list.
+    Stranger,
+    /// It answers nothing that was asked.
+    Nothing,
+    /// The meter's row took it and is live.
+    Moved,
+    /// The meter's row ended. That is reported once it is on the device.
+    Ended,
+}
+
+/// A head end whose book outlives a power cut, with the meters that it asks. It has no port and no clock: what comes is passed to it with
+/// the time, and what is to be sent is returned.
+#[derive(Drop)]
+pub struct HeadDaemon<D: JournalDevice + Drop> {
+    alloc: Global,
+    kept: KeptHead<D>,
+    schedule: Schedule,
+    /// The rows that ended and are not on the device yet, the oldest first.
+    ended: Vec<Ended>,
+    /// When the oldest of them ended.
+    held_since: u64,
+    counts: Counts,
+}
+
+impl<D: JournalDevice + Drop> HeadDaemon<D> {
+    /// The daemon of a head end that asks these meters, each number and each address once. A live row of a meter that isn't in the list is
+    /// never ticked.
+    ///
+    /// # Errors
+    ///
+    /// `OutOfMemory` alone.
+    pub fn new(
+        alloc: Global,
+        kept: KeptHead<D>,
+        meters: &[Listed],
+        timing: Timing,
+    ) -> Result<HeadDaemon<D>, Stop>
+        requires { IsList meters.now }
+        ensures kept { IfOk result (λ daemon. kept_of daemon ≡ kept) }
+        ensures meters { IfOk result (λ daemon. meters_of daemon ≡ meters.now) }
+        ensures led { (synced : Contents) → Holds D.honest D.contents D.may_leave kept synced
+            → IfOk result (λ daemon. IsLed D.honest D.contents D.may_leave daemon (new_leader meters.now (head_of kept) synced)) }
+        ensures memory { IfErr result (λ stop. stop ≡ Stop.OutOfMemory) }
+    {
+        let schedule = schedule_of(alloc, kept.head(), meters, timing)?;
+        Ok(HeadDaemon {
+            alloc,
+            kept,
+            schedule,
+            ended: Vec::new(alloc),
+            held_since: 0,
+            counts: Counts {
+                live: 0,
+                done: 0,
+                failed: 0,
+                sent: 0,
+                received: 0,
+                resends: 0,
+                strangers: 0,
+            },
+        })
+    }
+
+    /// What is sent at this time, if anything is: what a row sends of which nothing is outstanding, or whose answers were waited for long
+    /// enough. No more is out at once than the flight, or one tick. Each is one that a head end may send of the book on the device.
+    ///
+    /// # Errors
+    ///
+    /// `OutOfMemory` alone. What was to be sent may be lost then.
+    pub fn due(&mut self, now: u64) -> Result<Option<Due>, Stop>
+        ensures ticks { (leader : Leader) → IsLed D.honest D.contents D.may_leave self.old leader → leader.going ≡ []
+            → IfOk result (λ r. MatchOption r (IsLed D.honest D.contents D.may_leave self.new leader)
+            (λ due. (next : Leader) × TicksMeter leader due.meter next × IsLed D.honest D.contents D.may_leave self.new next
+            × IsAboutToSend next due.to (bytes_of due.datagrams.items))) }
+
+        // Nothing is sent that the book on the device doesn't offer.
+        ensures permitted { (synced : Contents) → Holds D.honest D.contents D.may_leave (kept_of self.old) synced
+            → IfOk result (λ r. IfSome r (λ due. All (IsOfferedIn synced) (bytes_of due.datagrams.items))) }
+        ensures flight { IfOk result (λ r. IfSome r (λ due. out_of self.new ≤ most_out (flight_of self.old))) }
+        ensures memory { IfErr result (λ stop. stop ≡ Stop.OutOfMemory) }
+    {
+        let Some(place) = self.schedule.next(now)? else {
+            return Ok(None);
+        };
+        let Some(listed) = self.schedule.at(place) else {
+            return Ok(None);
+        };
+        let datagrams = self.kept.tick(self.alloc, listed.meter)?;
+        let count = datagrams.len() as u64;
+        self.schedule.sent(place, now, count)?;
+        self.counts.sent = self.counts.sent.saturating_add(count);
+        Ok(Some(Due {
+            meter: listed.meter,
+            to: listed.address,
+            datagrams,
+        }))
+    }
+
+    /// Hears a datagram that came from an address at this time, as from the meter that has the address in the list.
+    ///
+    /// # Errors
+    ///
+    /// `OutOfMemory` alone. A row may have ended then whose mark isn't on the device and never will be.
+    pub fn heard(&mut self, now: u64, from: SocketAddr, datagram: &[u8]) -> Result<Heard, Stop>
+        ensures hears { (leader : Leader) → IsLed D.honest D.contents D.may_leave self.old leader
+            → OnOk result ((next : Leader) × Steps leader (hears from datagram.now) next
+            × IsLed D.honest D.contents D.may_leave self.new next) }
+
+        // Memory is refused for a datagram of a listed meter alone.
+        ensures listed { (leader : Leader) → IsLed D.honest D.contents D.may_leave self.old leader
+            → OnErr result ((meter : ℕ) × IsListed leader meter from) }
+        ensures memory { IfErr result (λ stop. stop ≡ Stop.OutOfMemory) }
+    {
+        fw_book::laws::states_follow();
+        fw_head::laws::row_keeps_goal();
+        // For its clauses alone: the live rows are those of the book.
+        let _view = self.kept.head().view();
+        let Some((place, meter)) = place_of(&self.schedule, from) else {
+            count(&mut self.counts.strangers);
+            return Ok(Heard::Stranger);
+        };
+        count(&mut self.counts.received);
+        self.ended.reserve(1)?;
+        match self.kept.hear(self.alloc, meter, datagram)? {
+            News::Nothing => Ok(Heard::Nothing),
+            News::Moved => {
+                let is_waiting = self.kept.head().is_waiting(meter);
+                self.schedule.answered(place, now, is_waiting)?;
+                Ok(Heard::Moved)
+            }
+            News::Done(campaign, meter) => {
+                self.end(place, now, campaign, meter, Ending::Done)?;
+                Ok(Heard::Ended)
+            }
+            News::Failed(campaign, meter) => {
+                self.end(place, now, campaign, meter, Ending::Failed)?;
+                Ok(Heard::Ended)
+            }
+        }
+    }
+
+    /// The row of the meter at this place ended.
+    fn end(
+        &mut self,
+        place: usize,
+        now: u64,
+        campaign: CampaignId,
+        meter: MeterId,
+        ending: Ending,
+    ) -> Result<(), Stop>
+        ensures kept { kept_of self.new ≡ kept_of self.old }
+        ensures ended { OnOk result (ended_of self.new
+            ≡ ended_of self.old ++ record { campaign = campaign; meter = meter; ending = ending } ∷ []) }
+        ensures meters { EndsMeter place self.old.schedule self.new.schedule }
+        ensures schedule { IsSchedule self.old.schedule → IsSchedule self.new.schedule }
+        ensures memory { IfErr result (λ stop. stop ≡ Stop.OutOfMemory) }
+    {
+        self.schedule.end(place);
+        if self.ended.is_empty() {
+            self.held_since = now;
+        }
+        self.ended.push(Ended {
+            campaign,
+            meter,
+            ending,
+        })?;
+        Ok(())
+    }
+
+    /// Whether the rows that ended are to be put on the device at this time: they waited for a tenth of a second, or no row is live.
+    pub fn is_save_due(&self, now: u64) -> bool {
+        !self.ended.is_empty()
+            && (self.schedule.live() == 0 || now.saturating_sub(self.held_since) >= HOLD)
+    }
+
+    /// Puts the rows that ended on the device, and returns them, the oldest first: they may be reported now.
+    ///
+    /// # Errors
+    ///
+    /// `Full`, `BookFault` or `OutOfMemory`, as `KeptHead::commit`. None of them may be reported then.
+    pub fn saved(&mut self) -> Result<Vec<Ended>, Stop>
+        ensures saves { (leader : Leader) → IsLed D.honest D.contents D.may_leave self.old leader → leader.untold ≡ []
+            → IfOk result (λ ended. (next : Leader) × SavesAll leader next × IsLed D.honest D.contents D.may_leave self.new next
+            × IsAboutToTell next ended.items) }
+        ensures returned { IfOk result (λ ended. ended.items ≡ ended_of self.old) }
+        ensures stops { IfErr result IsSaveStop }
+    {
+        self.kept.commit()?;
+        count_ended(&mut self.counts, &self.ended);
+        Ok(mem::replace(&mut self.ended, Vec::new(self.alloc)))
+    }
+
+    /// Whether no row is live, and all that ended is on the device.
+    pub fn is_over(&self) -> bool
+        ensures { (leader : Leader) → IsLed D.honest D.contents D.may_leave self.now leader → IsTrue result ↔ IsOver leader }
+    {
+        self.schedule.live() == 0 && self.ended.is_empty()
+    }
+
+    /// How far the head end is.
+    pub fn counts(&self) -> Counts {
+        Counts {
+            live: self.schedule.live(),
+            resends: self.schedule.resends(),
+            ..self.counts
+        }
+    }
+
+    /// The head end, without its daemon. Marks that wait are not on the device.
+    pub fn into_kept(self) -> KeptHead<D>
+        ensures { result ≡ kept_of self }
+    {
+        let HeadDaemon {
+            alloc: _,
+            kept,
+            schedule: _,
+            ended: _,
+            held_since: _,
+            counts: _,
+        } = self;
+        kept
+    }
+}
+
+/// The schedule of a head end that asks these meters, of which none was asked yet.
+fn schedule_of(
+    alloc: Global,
+    head: &HeadCore,
+    meters: &[Listed],
+    timing: Timing,
+) -> Result<Schedule, AllocError>
+    requires { IsList meters.now }
+    ensures listed { IfOk result (λ schedule. listed_of schedule ≡ meters.now) }
+    ensures lives { IfOk result (λ schedule. lives_of schedule ≡ live_of head.now meters.now) }
+    ensures schedule { IfOk result IsSchedule }
+{
+    let mut schedule = Schedule::new(alloc, timing);
+    for at in meters {
+        schedule.add(*at, head.has_row(at.meter))?;
+    }
+    Ok(schedule)
+}
+
+/// The place of the meter with this address, and its number.
+fn place_of(schedule: &Schedule, address: SocketAddr) -> Option<(usize, MeterId)>
+    ensures found { IsSchedule schedule.now → IfSome result (λ found. slice_get (listed_of schedule.now) found.0
+        ≡ Some (record { meter = found.1; address = address })) }
+    ensures none { IsSchedule schedule.now → IfNone result ((meter : ℕ)
+        → ¬ Contains (listed_of schedule.now) (record { meter = meter; address = address })) }
+{
+    let place = schedule.place_of(address)?;
+    let at = schedule.at(place)?;
+    Some((place, at.meter))
+}
+
+/// Counts these rows, by how they ended.
+fn count_ended(counts: &mut Counts, ended: &[Ended]) {
+    for one in ended {
+        match one.ending {
+            Ending::Done => count(&mut counts.done),
+            Ending::Failed => count(&mut counts.failed),
+        }
+    }
+}
+
+/// Counts one more.
+fn count(counter: &mut u64) {
+    *counter = counter.saturating_add(1);
+}

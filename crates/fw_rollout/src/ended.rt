@@ -1,0 +1,15 @@
+//! Rows that ended.
+
+use fw_ledger::Ending;
+use fw_names::{CampaignId, MeterId};
+
+/// A row that ended.
+#[derive(Clone, Copy, Debug, PartialEq, Eq)]
+pub struct Ended {
+    /// The campaign.
+    pub campaign: CampaignId,
+    /// The meter.
+    pub meter: MeterId,
+    /// How it ended.
+    pub ending: Ending,
+}

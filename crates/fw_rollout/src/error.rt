@@ -1,0 +1,73 @@
+//! Why a head end stops before all rows have ended.
+
+ghost use Rattle.std.specs.Prelude.{◌≡◌};
+ghost use Rattle.fw_rollout.specs.Stopping.{stop_of};
+ghost use Rattle.fw_rollout.specs.declared.error.Stop.TheVariants as stop;
+
+use crate::port::Closed;
+use fw_head::OutOfMemory;
+use fw_kept::KeptError;
+use std::alloc::{AllocError, AllocFailed};
+use thiserror::Error;
+
+/// Why a head end stops before all rows have ended.
+#[derive(Clone, Copy, Debug, PartialEq, Eq, Error)]
+pub enum Stop {
+    /// The port is closed.
+    #[error("Closed")]
+    Closed,
+    /// The book, or what waits for it, has 2^60 bytes or more.
+    #[error("Full")]
+    Full,
+    /// The device of the book failed.
+    #[error("BookFault")]
+    BookFault,
+    /// Memory was refused.
+    #[error("OutOfMemory")]
+    OutOfMemory,
+}
+
+impl From<Closed> for Stop {
+    ghost from_gives = { λ _ e. e ≡ stop.Closed };
+
+    fn from(_closed: Closed) -> Stop {
+        Stop::Closed
+    }
+}
+
+impl From<OutOfMemory> for Stop {
+    ghost from_gives = { λ _ e. e ≡ stop.OutOfMemory };
+
+    fn from(_error: OutOfMemory) -> Stop {
+        Stop::OutOfMemory
+    }
+}
+
+impl From<AllocError> for Stop {
+    ghost from_gives = { λ _ e. e ≡ stop.OutOfMemory };
+
+    fn from(_error: AllocError) -> Stop {
+        Stop::OutOfMemory
+    }
+}
+
+impl<T: Drop> From<AllocFailed<T>> for Stop {
+    ghost from_gives = { λ _ e. e ≡ stop.OutOfMemory };
+
+    fn from(_error: AllocFailed<T>) -> Stop {
+        Stop::OutOfMemory
+    }
+}
+
+impl From<KeptError> for Stop {
+    ghost from_gives = { λ error e. e ≡ stop_of error };
+
+    /// A commit is never refused by the book.
+    fn from(error: KeptError) -> Stop {
+        match error {
+            KeptError::Full => Stop::Full,
+            KeptError::OutOfMemory => Stop::OutOfMemory,
+            KeptError::Refused(_) | KeptError::BookFault => Stop::BookFault,
+        }
+    }
+}

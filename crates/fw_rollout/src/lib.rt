@@ -1,0 +1,22 @@
+//! The daemon of a head end: when it asks which meter, what it does with the datagrams that come to it, and the loop that does it over a
+//! port.
+#![tactic(auto)]
+
+mod daemon;
+mod ended;
+mod error;
+mod link;
+mod list;
+mod port;
+mod schedule;
+mod serving;
+mod timing;
+
+pub use daemon::{Counts, Due, HeadDaemon, Heard};
+pub use ended::Ended;
+pub use error::Stop;
+pub use link::Listed;
+pub use list::{Datagram, Deed, ListHeadPort, lead_list};
+pub use port::{Arrival, Closed, HeadPort, MAX_RECEIVED, Patience};
+pub use serving::{HeadWatch, serve_head, step_head};
+pub use timing::{LONGEST_WAIT, MAX_TICK, Timing};

@@ -1,0 +1,321 @@
+//! Which meter is asked next, by the times of all links. No call goes over all of them.
+
+ghost use Rattle.std.specs.Prelude.{
+  ◌≡◌,
+  ◌↔◌,
+  ◌≤◌,
+  ◌+◌,
+  [],
+  ◌∷◌,
+  ◌++◌,
+  false,
+  All,
+  IfNone,
+  IfOk,
+  IfSome,
+  IsTrue,
+  OnOk,
+  slice_get,
+};
+ghost use Rattle.std.specs.Option.{option_map};
+ghost use Rattle.fw_rollout.specs.Schedule.{
+  Adds,
+  Answers,
+  EndsAt,
+  EndsMeter,
+  GivesUp,
+  HasAddress,
+  IsDueAt,
+  IsLiveAt,
+  IsPlaceOf,
+  IsSchedule,
+  SameMeters,
+  Sends,
+  Waits,
+  WaitsNoMore,
+  links_of,
+  listed_of,
+  lives_of,
+};
+ghost use Rattle.fw_rollout.specs.declared.link.Link.{Link as TheLink};
+ghost use Rattle.fw_rollout.specs.Timing.{HasRoom, max_tick};
+
+use crate::link::{Link, Listed};
+use crate::timing::{Timing, has_room};
+use std::alloc::{AllocError, Global};
+use std::collections::{BTreeSet, HashMap, VecDeque};
+use std::net::SocketAddr;
+
+/// The most links that one call gives up.
+const MAX_GIVEN_UP: usize = 64;
+
+/// The links of all meters of a list. A place is the index of a link.
+#[derive(Drop)]
+pub(crate) struct Schedule {
+    timing: Timing,
+    links: Vec<Link>,
+    /// The place of each address.
+    places: HashMap<SocketAddr, usize>,
+    /// The places of the links that may be ticked, and perhaps some that ended meanwhile.
+    ready: VecDeque<usize>,
+    /// The places of the links that wait, each with the time until which it does, the earliest first.
+    waiting: BTreeSet<(u64, usize)>,
+    /// How many datagrams are out.
+    out: u64,
+    /// How many links have a live row.
+    live: u64,
+    /// How often a row was ticked again since no answer came.
+    resends: u64,
+}
+
+impl Schedule {
+    /// No link. It takes no memory.
+    pub(crate) fn new(alloc: Global, timing: Timing) -> Schedule
+        ensures empty { links_of result ≡ [] }
+        ensures timing { result.timing ≡ timing }
+        ensures schedule { IsSchedule result }
+    {
+        Schedule {
+            timing,
+            links: Vec::new(alloc),
+            places: HashMap::new(alloc),
+            ready: VecDeque::new(alloc),
+            waiting: BTreeSet::new(alloc),
+            out: 0,
+            live: 0,
+            resends: 0,
+        }
+    }
+
+    /// Adds the link of a meter, which is asked at an address that no other link has.
+    ///
+    /// # Errors
+    ///
+    /// `AllocError` where memory was refused. What is left then is unspecified.
+    pub(crate) fn add(&mut self, at: Listed, is_live: bool) -> Result<(), AllocError>
+        requires { ¬ HasAddress (links_of self.old) at.address }
+        ensures added { OnOk result (Adds at is_live self.old self.new) }
+        ensures listed { OnOk result (listed_of self.new ≡ listed_of self.old ++ at ∷ []) }
+        ensures lives { OnOk result (lives_of self.new ≡ lives_of self.old ++ is_live ∷ []) }
+        ensures timing { OnOk result (self.new.timing ≡ self.old.timing) }
+        ensures schedule { IsSchedule self.old → OnOk result (IsSchedule self.new) }
+    {
+        let place = self.links.len();
+        let address = at.address;
+        let link = Link::new(at, is_live, self.timing.resend);
+        self.links.push(link)?;
+        self.places.insert(address, place)?;
+        if is_live {
+            self.ready.push_back(place)?;
+            self.live = self.live.saturating_add(1);
+        }
+        Ok(())
+    }
+
+    /// How many links have a live row.
+    pub(crate) fn live(&self) -> u64
+        ensures live { result ≡ self.now.live }
+        ensures none { IsSchedule self.now → (result ≡ 0) ↔ All (λ live. live ≡ false) (lives_of self.now) }
+    {
+        self.live
+    }
+
+    /// How often a row was ticked again since no answer came.
+    pub(crate) fn resends(&self) -> u64
+        ensures { result ≡ self.now.resends }
+    {
+        self.resends
+    }
+
+    /// The place of the link with this address.
+    pub(crate) fn place_of(&self, address: SocketAddr) -> Option<usize>
+        ensures found { IsSchedule self.now → IfSome result (IsPlaceOf (links_of self.now) address) }
+        ensures none { IsSchedule self.now → IfNone result (¬ HasAddress (links_of self.now) address) }
+    {
+        self.places.get(&address).copied()
+    }
+
+    /// The meter of a link and its address.
+    pub(crate) fn at(&self, place: usize) -> Option<Listed>
+        ensures { result ≡ option_map (λ (link : TheLink). link.at) (slice_get (links_of self.now) place) }
+    {
+        match self.links.get(place) {
+            Some(link) => Some(link.at),
+            None => None,
+        }
+    }
+
+    /// Gives up what was waited for until now, of so many links at most, and returns the place of the link that is ticked next, if one may be
+    /// ticked now.
+    ///
+    /// # Errors
+    ///
+    /// `AllocError` where memory was refused. What is left then is unspecified.
+    pub(crate) fn next(&mut self, now: u64) -> Result<Option<usize>, AllocError>
+        ensures due { IsSchedule self.old → IfOk result (λ r. IfSome r (IsDueAt self.new)) }
+        ensures room { IfOk result (λ r. IfSome r (λ place. HasRoom self.new.out self.new.timing.flight)) }
+        ensures timing { OnOk result (self.new.timing ≡ self.old.timing) }
+        ensures same { IsSchedule self.old → OnOk result (SameMeters self.old self.new) }
+        ensures schedule { IsSchedule self.old → OnOk result (IsSchedule self.new) }
+    {
+        self.give_up(now)?;
+        if !has_room(self.out, self.timing.flight) {
+            return Ok(None);
+        }
+        Ok(self.next_ready())
+    }
+
+    /// The place of the first link that may be ticked.
+    fn next_ready(&mut self) -> Option<usize>
+        ensures due { IfSome result (IsDueAt self.new) }
+        ensures others { self.new ≡ record self.old { ready = self.new.ready } }
+    {
+        while let Some(place) = self.ready.pop_front() {
+            if self.is_ready(place) {
+                return Some(place);
+            }
+        }
+        None
+    }
+
+    /// Gives up what was waited for until now.
+    fn give_up(&mut self, now: u64) -> Result<(), AllocError>
+        ensures timing { OnOk result (self.new.timing ≡ self.old.timing) }
+        ensures same { IsSchedule self.old → OnOk result (SameMeters self.old self.new) }
+        ensures schedule { IsSchedule self.old → OnOk result (IsSchedule self.new) }
+    {
+        for _ in 0..MAX_GIVEN_UP {
+            let Some((until, place)) = self.waiting.first().copied() else {
+                return Ok(());
+            };
+            if now < until {
+                return Ok(());
+            }
+            self.give_up_at(place, now)?;
+        }
+        Ok(())
+    }
+
+    /// Gives up what was waited for at a place.
+    fn give_up_at(&mut self, place: usize, now: u64) -> Result<(), AllocError>
+        ensures given_up { OnOk result (GivesUp place now self.old self.new) }
+        ensures timing { OnOk result (self.new.timing ≡ self.old.timing) }
+        ensures same { IsLiveAt self.old place → OnOk result (SameMeters self.old self.new) }
+        ensures schedule { IsSchedule self.old → IsLiveAt self.old place → OnOk result (IsSchedule self.new) }
+    {
+        let Some(link) = self.links.get_mut(place) else {
+            return Ok(());
+        };
+        let was_until = link.until();
+        let given_up = link.given_up(now);
+        let until = link.until();
+        self.out = self.out.saturating_sub(given_up);
+        self.wait_no_more(place, was_until);
+        self.wait(place, until)?;
+        if until.is_none() {
+            self.resends = self.resends.saturating_add(1);
+            self.ready.push_back(place)?;
+        }
+        Ok(())
+    }
+
+    /// Whether the link at this place may be ticked.
+    fn is_ready(&self, place: usize) -> bool
+        ensures { IsTrue result ↔ IsDueAt self.now place }
+    {
+        match self.links.get(place) {
+            Some(link) => link.is_ready(),
+            None => false,
+        }
+    }
+
+    /// The row of the link at this place was ticked, and so many datagrams were sent. It was the next.
+    ///
+    /// # Errors
+    ///
+    /// `AllocError` where memory was refused. What is left then is unspecified.
+    pub(crate) fn sent(&mut self, place: usize, now: u64, count: u64) -> Result<(), AllocError>
+        ensures sent { OnOk result (Sends place now count self.old self.new) }
+        ensures timing { OnOk result (self.new.timing ≡ self.old.timing) }
+        ensures out { OnOk result (self.new.out ≤ self.old.out + count) }
+        ensures same { IsDueAt self.old place → OnOk result (SameMeters self.old self.new) }
+        ensures schedule { IsSchedule self.old → IsDueAt self.old place → HasRoom self.old.out self.old.timing.flight → count ≤ max_tick
+            → OnOk result (IsSchedule self.new) }
+    {
+        let Some(link) = self.links.get_mut(place) else {
+            return Ok(());
+        };
+        link.sent(now, count);
+        let until = link.until();
+        self.out = self.out.saturating_add(count);
+        self.wait(place, until)?;
+        Ok(())
+    }
+
+    /// The row of the link at this place took an answer, and asks of it are outstanding still, or are not.
+    ///
+    /// # Errors
+    ///
+    /// `AllocError` where memory was refused. What is left then is unspecified.
+    pub(crate) fn answered(
+        &mut self,
+        place: usize,
+        now: u64,
+        is_waiting: bool,
+    ) -> Result<(), AllocError>
+        ensures answered { OnOk result (Answers place now is_waiting self.old self.new) }
+        ensures same { IsLiveAt self.old place → OnOk result (SameMeters self.old self.new) }
+        ensures schedule { IsSchedule self.old → IsLiveAt self.old place → OnOk result (IsSchedule self.new) }
+    {
+        let Some(link) = self.links.get_mut(place) else {
+            return Ok(());
+        };
+        let was_until = link.until();
+        let was_ready = link.is_ready();
+        let answered = link.answered(now, self.timing.resend, is_waiting);
+        let is_ready = link.is_ready();
+        self.out = self.out.saturating_sub(answered);
+        if was_ready || !is_ready {
+            return Ok(());
+        }
+        self.wait_no_more(place, was_until);
+        self.ready.push_back(place)?;
+        Ok(())
+    }
+
+    /// The row of the link at this place ended.
+    pub(crate) fn end(&mut self, place: usize)
+        ensures ended { EndsAt place self.old self.new }
+        ensures meters { EndsMeter place self.old self.new }
+        ensures schedule { IsSchedule self.old → IsSchedule self.new }
+    {
+        let Some(link) = self.links.get_mut(place) else {
+            return;
+        };
+        let was_until = link.until();
+        let was_live = link.is_live();
+        let left = link.over();
+        self.out = self.out.saturating_sub(left);
+        self.live = self.live.saturating_sub(u64::from(was_live));
+        self.wait_no_more(place, was_until);
+    }
+
+    /// The link at this place waits until this time, if there is one.
+    fn wait(&mut self, place: usize, until: Option<u64>) -> Result<(), AllocError>
+        ensures { OnOk result (Waits place until self.old self.new) }
+    {
+        if let Some(until) = until {
+            self.waiting.insert((until, place))?;
+        }
+        Ok(())
+    }
+
+    /// The link at this place waits no more.
+    fn wait_no_more(&mut self, place: usize, was_until: Option<u64>)
+        ensures { WaitsNoMore place was_until self.old self.new }
+    {
+        if let Some(until) = was_until {
+            self.waiting.remove(&(until, place));
+        }
+    }
+}

@@ -1,0 +1,176 @@
+//! The loop of a head end over a port. A port asks at each send and each report whether it may be, so a loop that never ends is held to it
+//! too.
+
+ghost use Rattle.std.specs.Prelude.{◌≡◌, [], List, IsTrue, OnErr, OnOk};
+ghost use Rattle.fw_head.specs.Row.{bytes_of};
+ghost use Rattle.fw_rollout.specs.Acts.{Act};
+ghost use Rattle.fw_rollout.specs.Leading.{HasLed, IsAboutToSend, IsAboutToTell, Leader, Leads, MayLead};
+ghost use Rattle.fw_rollout.specs.Daemon.{Begins, GoesOn, IsLed, Rests};
+
+use crate::daemon::{Counts, HeadDaemon};
+use crate::ended::Ended;
+use crate::error::Stop;
+use crate::port::{HeadPort, MAX_RECEIVED, Patience};
+use fw_journal::JournalDevice;
+use std::net::SocketAddr;
+use std::sync::Wait;
+
+/// The most rows that are ticked between two receives.
+const MAX_TICKS: usize = 64;
+
+/// What looks at a head end while it leads.
+pub trait HeadWatch {
+    /// It is called after each round, with the time in microseconds, how far the head end is, and how often the port failed.
+    fn round(&mut self, now: u64, counts: Counts, faults: u64);
+}
+
+/// One round: what is due is sent, of so many rows at most, a datagram is received and heard, and the rows that ended are put on the device
+/// and reported, where it is time. Where nothing else is due, it is waited for the datagram.
+///
+/// # Errors
+///
+/// `Closed` where the port is closed; `Full`, `BookFault` or `OutOfMemory` of the head end. Of a row that isn't on the device nothing is
+/// reported.
+pub fn step_head<P: HeadPort, D: JournalDevice + Drop>(
+    port: &mut P,
+    daemon: &mut HeadDaemon<D>,
+) -> Result<(), Stop>
+    // An honest port is had only over a device of which it is known what it keeps, and what a head end does that is as this one may be done.
+    requires begins { IsTrue (P.honest port.old) → Begins D.honest D.contents D.may_leave daemon.old (P.legal port.old) (P.acts port.old) }
+    ensures leads { IsTrue (P.honest port.old) → (start : Leader) → IsLed D.honest D.contents D.may_leave daemon.old start → Rests start
+        → OnOk result (GoesOn D.honest D.contents D.may_leave start (P.acts port.old) (P.acts port.new) daemon.new) }
+    ensures leads_err { IsTrue (P.honest port.old) → (start : Leader) → IsLed D.honest D.contents D.may_leave daemon.old start → Rests start
+        → OnErr result (HasLed start (P.acts port.old) (P.acts port.new)) }
+    ensures honesty { P.honest port.new ≡ P.honest port.old }
+    ensures law { (done : List Act) → P.legal port.old done → P.legal port.new done }
+{
+    let patience = send_due(port, daemon)?;
+    receive(port, daemon, patience)?;
+    tell_saved(port, daemon)
+}
+
+/// Sends what is due, of so many rows at most. It returns whether a datagram may be waited for then.
+fn send_due<P: HeadPort, D: JournalDevice + Drop>(
+    port: &mut P,
+    daemon: &mut HeadDaemon<D>,
+) -> Result<Patience, Stop>
+    // An honest port is had only over a device of which it is known what it keeps, and what a head end does that is as this one may be done.
+    requires begins { IsTrue (P.honest port.old) → Begins D.honest D.contents D.may_leave daemon.old (P.legal port.old) (P.acts port.old) }
+    ensures leads { IsTrue (P.honest port.old) → (start : Leader) → IsLed D.honest D.contents D.may_leave daemon.old start → Rests start
+        → OnOk result (GoesOn D.honest D.contents D.may_leave start (P.acts port.old) (P.acts port.new) daemon.new) }
+    ensures leads_err { IsTrue (P.honest port.old) → (start : Leader) → IsLed D.honest D.contents D.may_leave daemon.old start → Rests start
+        → OnErr result (HasLed start (P.acts port.old) (P.acts port.new)) }
+    ensures honesty { P.honest port.new ≡ P.honest port.old }
+    ensures law { (done : List Act) → P.legal port.old done → P.legal port.new done }
+{
+    for _ in 0..MAX_TICKS {
+        let now = port.now();
+        match daemon.due(now)? {
+            Some(due) => send_all(port, due.to, &due.datagrams),
+            None => return Ok(Patience::Waits),
+        }
+    }
+    Ok(Patience::Polls)
+}
+
+/// Sends these datagrams to an address, in their order.
+fn send_all<P: HeadPort>(port: &mut P, to: SocketAddr, datagrams: &[Vec<u8>])
+    requires { IsTrue (P.honest port.old) → (start : Leader) × IsAboutToSend start to (bytes_of datagrams.now)
+        × MayLead (P.legal port.old) start (P.acts port.old) }
+    ensures sends { IsTrue (P.honest port.old) → (start : Leader) → IsAboutToSend start to (bytes_of datagrams.now)
+        → Leads start (P.acts port.old) (P.acts port.new) (record start { going = [] }) }
+    ensures honesty { P.honest port.new ≡ P.honest port.old }
+    ensures law { (done : List Act) → P.legal port.old done → P.legal port.new done }
+{
+    for datagram in datagrams {
+        port.send(to, datagram);
+    }
+}
+
+/// Receives a datagram, if one comes in time, and hears it.
+fn receive<P: HeadPort, D: JournalDevice + Drop>(
+    port: &mut P,
+    daemon: &mut HeadDaemon<D>,
+    patience: Patience,
+) -> Result<(), Stop>
+    // An honest port is had only over a device of which it is known what it keeps, and what a head end does that is as this one may be done.
+    requires begins { IsTrue (P.honest port.old) → Begins D.honest D.contents D.may_leave daemon.old (P.legal port.old) (P.acts port.old) }
+    ensures leads { IsTrue (P.honest port.old) → (start : Leader) → IsLed D.honest D.contents D.may_leave daemon.old start → Rests start
+        → OnOk result (GoesOn D.honest D.contents D.may_leave start (P.acts port.old) (P.acts port.new) daemon.new) }
+    ensures leads_err { IsTrue (P.honest port.old) → (start : Leader) → IsLed D.honest D.contents D.may_leave daemon.old start → Rests start
+        → OnErr result (HasLed start (P.acts port.old) (P.acts port.new)) }
+    ensures honesty { P.honest port.new ≡ P.honest port.old }
+    ensures law { (done : List Act) → P.legal port.old done → P.legal port.new done }
+{
+    let mut buffer = [0u8; MAX_RECEIVED];
+    let Some(arrival) = port.receive(patience, &mut buffer)? else {
+        return Ok(());
+    };
+    let now = port.now();
+    daemon.heard(now, arrival.from, &buffer[..arrival.count])?;
+    Ok(())
+}
+
+/// Puts the rows that ended on the device, where it is time, and reports them then.
+fn tell_saved<P: HeadPort, D: JournalDevice + Drop>(
+    port: &mut P,
+    daemon: &mut HeadDaemon<D>,
+) -> Result<(), Stop>
+    // An honest port is had only over a device of which it is known what it keeps, and what a head end does that is as this one may be done.
+    requires begins { IsTrue (P.honest port.old) → Begins D.honest D.contents D.may_leave daemon.old (P.legal port.old) (P.acts port.old) }
+    ensures leads { IsTrue (P.honest port.old) → (start : Leader) → IsLed D.honest D.contents D.may_leave daemon.old start → Rests start
+        → OnOk result (GoesOn D.honest D.contents D.may_leave start (P.acts port.old) (P.acts port.new) daemon.new) }
+    ensures leads_err { IsTrue (P.honest port.old) → (start : Leader) → IsLed D.honest D.contents D.may_leave daemon.old start → Rests start
+        → OnErr result (HasLed start (P.acts port.old) (P.acts port.new)) }
+    ensures honesty { P.honest port.new ≡ P.honest port.old }
+    ensures law { (done : List Act) → P.legal port.old done → P.legal port.new done }
+{
+    if !daemon.is_save_due(port.now()) {
+        return Ok(());
+    }
+    let saved = daemon.saved()?;
+    tell_all(port, &saved);
+    Ok(())
+}
+
+/// Reports these rows, in their order.
+fn tell_all<P: HeadPort>(port: &mut P, saved: &[Ended])
+    requires { IsTrue (P.honest port.old) → (start : Leader) × IsAboutToTell start saved.now
+        × MayLead (P.legal port.old) start (P.acts port.old) }
+    ensures tells { IsTrue (P.honest port.old) → (start : Leader) → IsAboutToTell start saved.now
+        → Leads start (P.acts port.old) (P.acts port.new) (record start { untold = [] }) }
+    ensures honesty { P.honest port.new ≡ P.honest port.old }
+    ensures law { (done : List Act) → P.legal port.old done → P.legal port.new done }
+{
+    for ended in saved {
+        port.tell(*ended);
+    }
+}
+
+/// Leads the rows to their ends, and returns once none is live, or never, where it stays.
+///
+/// # Errors
+///
+/// Those of `step_head`.
+pub fn serve_head<R: Wait, P: HeadPort, D: JournalDevice + Drop, W: HeadWatch>(
+    rt: &R,
+    port: &mut P,
+    daemon: &mut HeadDaemon<D>,
+    stays: bool,
+    watch: &mut W,
+) -> Result<(), Stop>
+    // An honest port is had only over a device of which it is known what it keeps, and what a head end does that is as this one may be done.
+    requires begins { IsTrue (P.honest port.old) → Begins D.honest D.contents D.may_leave daemon.old (P.legal port.old) (P.acts port.old) }
+    ensures leads { IsTrue (P.honest port.old) → (start : Leader) → IsLed D.honest D.contents D.may_leave daemon.old start → Rests start
+        → HasLed start (P.acts port.old) (P.acts port.new) }
+    ensures honesty { P.honest port.new ≡ P.honest port.old }
+{
+    for _ in rt.forever() {
+        if daemon.is_over() && !stays {
+            return Ok(());
+        }
+        step_head(port, daemon)?;
+        watch.round(port.now(), daemon.counts(), port.faults());
+    }
+    unreachable!()
+}

@@ -1,0 +1,40 @@
+//! How long an answer is waited for. All times are in microseconds.
+
+ghost use Rattle.std.specs.Prelude.{◌≡◌, ◌↔◌, IsTrue};
+ghost use Rattle.fw_rollout.specs.Timing.{HasRoom, doubled, wait_after};
+
+/// The longest wait, a minute.
+pub const LONGEST_WAIT: u64 = 60_000_000;
+
+/// The most datagrams that one tick of a row makes.
+pub const MAX_TICK: u64 = 15;
+
+/// How a head end waits for answers.
+#[derive(Clone, Copy, Debug, PartialEq, Eq)]
+pub struct Timing {
+    /// How long the first answer of a meter is waited for, in microseconds. No later wait is shorter.
+    pub resend: u64,
+    /// How many datagrams are out at once: sent, and neither answered nor given up. One tick is always let out.
+    pub flight: u64,
+}
+
+/// How long an answer is waited for once one took this long: four times as long, within the limits.
+pub(crate) fn wait_after(resend: u64, trip: u64) -> u64
+    ensures { result ≡ wait_after resend trip }
+{
+    trip.saturating_mul(4).max(resend).min(LONGEST_WAIT)
+}
+
+/// How long an answer is waited for after a silence of this time.
+pub(crate) fn doubled(wait: u64) -> u64
+    ensures { result ≡ doubled wait }
+{
+    wait.saturating_mul(2).min(LONGEST_WAIT)
+}
+
+/// Whether another tick may be sent where so many datagrams are out.
+pub(crate) fn has_room(out: u64, flight: u64) -> bool
+    ensures { IsTrue result ↔ HasRoom out flight }
+{
+    out == 0 || (out <= flight && MAX_TICK <= flight - out)
+}
