@@ -50,7 +50,7 @@ pub(crate) fn put_ipv4_header(
     Ok(())
 }
 
-/// Appends the header of an IPv6 packet with `size` bytes behind it.
+/// Appends the header of an IPv6 packet with `size` bytes after it.
 pub(crate) fn put_ipv6_header(
     out: &mut Vec<u8>,
     protocol: u8,

@@ -115,7 +115,7 @@ pub(crate) struct RoundsWatch<'a, E: Eprint> {
 }
 
 impl<'a, E: Eprint> RoundsWatch<'a, E> {
-    /// What is to show so many rounds.
+    /// What is to show this number of rounds.
     pub(crate) fn new(
         terminal: Option<&'a E>,
         setup: &'a Setup,
@@ -128,7 +128,7 @@ impl<'a, E: Eprint> RoundsWatch<'a, E> {
         }
     }
 
-    /// Whether a round is shown: the last one, and of more than a thousand every so many.
+    /// Whether a round is shown: the last one, and of more than a thousand only some.
     fn shows(&self, made: u32) -> bool {
         made == self.rounds || made % (self.rounds / MOST_ROUNDS + 1) == 0
     }
