@@ -1,2 +1,5 @@
 pub mod Sums
 pub mod Packets
+pub mod Octets
+pub mod Readings
+pub mod ReadBack

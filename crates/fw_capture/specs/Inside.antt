@@ -1,5 +1,6 @@
 -- For private clauses alone.
-use Rattle.std.specs.Prelude.{◌≡◌, ℕ, ◌+◌, List, ◌++◌, length, take}
+use Rattle.std.specs.Prelude.{◌≡◌, ℕ, ◌+◌, List, ◌++◌, length, take, Result, Ok, Err}
+use Rattle.fw_capture.specs.declared.fault.CaptureFault.{CaptureFault}
 use Rattle.fw_capture.specs.Checksum.{checksum_of, word_sum}
 use Rattle.fw_capture.specs.Spelling.{udp_header, sent_checksum}
 
@@ -14,3 +15,8 @@ udp_checksum pseudo_sum from to bytes = sent_checksum (checksum_of (pseudo_sum +
 -- the datagram itself
 abbrev pub udp_summed : ℕ → ℕ → ℕ → List ℕ → List ℕ
 udp_summed pseudo_sum from to bytes = udp_header from to (8 + length bytes) (udp_checksum pseudo_sum from to bytes) ++ bytes
+
+-- what a function returned, seen by view, is what was read
+abbrev pub Gives : {X Y : Type 0} → (X → Y) → Result X CaptureFault → Result Y CaptureFault → Type 0
+Gives view (Ok x) read = read ≡ Ok (view x)
+Gives view (Err e) read = read ≡ Err e

@@ -3,5 +3,9 @@ pub mod View
 pub mod Checksum
 pub mod Spelling
 pub mod Refusal
+pub mod Reading
+pub mod Place
+pub mod Steps
+pub mod Laws
 -- For private clauses alone: no public clause cites it.
 pub mod Inside

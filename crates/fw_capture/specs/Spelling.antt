@@ -1,5 +1,5 @@
 -- Public vocabulary: the bytes of a capture that is written: the file header and the records of pcap, and in a record an IP packet.
-use Rattle.std.specs.Prelude.{ℕ, ◌+◌, ◌*◌, ◌/◌, ◌%◌, ◌^◌, List, [], ◌∷◌, ◌++◌, length, codes, ◌==◌, if◌then◌else◌}
+use Rattle.std.specs.Prelude.{ℕ, ◌+◌, ◌/◌, ◌%◌, List, [], ◌∷◌, ◌++◌, length, codes, ◌==◌, if◌then◌else◌}
 use Rattle.std.specs.Int.{w16, w32, to_be_bytes, to_le_bytes}
 use Rattle.fw_capture.specs.declared.packet.Note.{Note}
 use Rattle.fw_capture.specs.declared.packet.Note.TheVariants as notes

@@ -1,5 +1,5 @@
 -- Public vocabulary: what a packet tells, apart from where it lies in memory.
-use Rattle.std.specs.Prelude.{ℕ, List}
+use Rattle.std.specs.Prelude.{◌≡◌, ℕ, ◌<◌, ◌^◌, List, length, Option, Some, None}
 use Rattle.std.specs.Net.Addr.{ipv4_octets, ipv6_octets}
 use Rattle.std.specs.Net.Socket.{v4_ip, v4_port, v6_ip, v6_port}
 use Rattle.std.specs.declared.net.socket_addr.SocketAddr.{SocketAddr}
@@ -26,3 +26,19 @@ endpoint_of (socket.V6 a) = ipv6 (ipv6_octets (v6_ip a)) (v6_port a)
 abbrev pub told_of : Content → Told
 told_of (content.Datagram from to bytes) = datagram (endpoint_of from) (endpoint_of to) bytes.now
 told_of (content.Note n) = note n
+
+-- what a packet tells, or something else
+abbrev pub told_in : Option Content → Told
+told_in None = other
+told_in (Some c) = told_of c
+
+-- an address of IPv4 has four bytes and one of IPv6 sixteen, and a port has 16 bits
+abbrev pub IsEndpoint : Endpoint → Type 0
+IsEndpoint (ipv4 address port) = (length address ≡ 4) × (port < 2 ^ 16)
+IsEndpoint (ipv6 address port) = (length address ≡ 16) × (port < 2 ^ 16)
+
+-- a datagram between two endpoints, or a note
+abbrev pub IsTold : Told → Type 0
+IsTold (datagram from to bytes) = IsEndpoint from × IsEndpoint to
+IsTold (note n) = Unit {0}
+IsTold other = ⊥

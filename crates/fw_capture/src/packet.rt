@@ -2,6 +2,9 @@
 
 use std::net::SocketAddr;
 
+/// The nanoseconds of a second.
+pub(crate) const SECOND: u64 = 1_000_000_000;
+
 /// What a process did that no datagram tells.
 #[derive(Clone, Copy, Debug, PartialEq, Eq)]
 pub enum Note {
@@ -30,4 +33,15 @@ pub struct Captured<'a> {
     /// The time since the start of 1970, UTC.
     pub nanoseconds: u64,
     pub content: Content<'a>,
+}
+
+/// A packet of a capture.
+#[derive(Clone, Copy, Debug)]
+pub struct Packet<'a> {
+    /// Where its record begins in the file.
+    pub offset: usize,
+    /// The time since the start of 1970, UTC.
+    pub nanoseconds: u64,
+    /// What it tells. There is none where it is neither UDP over IP in one piece nor a note.
+    pub content: Option<Content<'a>>,
 }

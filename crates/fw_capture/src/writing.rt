@@ -2,7 +2,7 @@
 
 ghost use Rattle.std.specs.Prelude.{◌≡◌, ◌+◌, ◌/◌, ◌<◌, ◌^◌, ◌++◌, length, None, OnOk, OnErr, IfOk, IfErr};
 ghost use Rattle.std.specs.declared.net.socket_addr.SocketAddr.TheVariants.{V4, V6};
-ghost use Rattle.fw_capture.specs.View.{datagram, endpoint_of, told_of};
+ghost use Rattle.fw_capture.specs.View.{datagram, endpoint_of, told_of, IsTold};
 ghost use Rattle.fw_capture.specs.Spelling.{file_header, record_header, second, note_text, note_protocol, loopback, ip_packet, ipv4_packet, datagram_packet, packet_bytes};
 ghost use Rattle.fw_capture.specs.Refusal.{refusal_of, IsRefusal, two_families, too_long};
 ghost use Rattle.fw_capture.specs.Inside.{Begins};
@@ -11,7 +11,8 @@ use crate::error::AppendError;
 use crate::internet::{
     UDP, ipv4_pseudo_sum, ipv6_pseudo_sum, put_ipv4_header, put_ipv6_header, put_udp,
 };
-use crate::packet::{Captured, Content, Note};
+use crate::note::{NOTE_PROTOCOL, note_text};
+use crate::packet::{Captured, Content, Note, SECOND};
 use std::alloc::{AllocError, Global};
 use std::net::{SocketAddr, SocketAddrV4, SocketAddrV6};
 
@@ -30,28 +31,11 @@ pub fn file_header(alloc: Global) -> Result<Vec<u8>, AllocError>
     Ok(capture)
 }
 
-/// The nanoseconds of a second.
-const SECOND: u64 = 1_000_000_000;
-
 /// The longest IP packet.
 const MAX_PACKET: usize = 65_535;
 
-/// The protocol of a note, which is for experiments (RFC 3692, section 2.1).
-const NOTE_PROTOCOL: u8 = 253;
-
 /// The address that a note goes from and to.
 const LOOPBACK: [u8; 4] = [127, 0, 0, 1];
-
-/// The text of a note.
-fn note_text(note: Note) -> &'static [u8]
-    ensures text { result.now ≡ note_text note }
-    ensures len { length result.now < 2 ^ 8 }
-{
-    match note {
-        Note::Start => b"dlmsfw start",
-        Note::Turn => b"dlmsfw turn",
-    }
-}
 
 /// Why a packet is refused.
 fn refusal_of(captured: &Captured<'_>) -> Option<AppendError>
@@ -117,6 +101,7 @@ fn put_ipv4(
     requires len { 28 + length bytes.now < 2 ^ 16 }
     ensures ok { OnOk result (out.new.items ≡ out.old.items
         ++ packet_bytes nanoseconds (datagram (endpoint_of (V4 from)) (endpoint_of (V4 to)) bytes.now)) }
+    ensures told { OnOk result (IsTold (datagram (endpoint_of (V4 from)) (endpoint_of (V4 to)) bytes.now)) }
     ensures front { Begins out.old.items out.new.items }
 {
     let (source, dest) = (from.ip().octets(), to.ip().octets());
@@ -141,6 +126,7 @@ fn put_ipv6(
     requires len { 48 + length bytes.now < 2 ^ 16 }
     ensures ok { OnOk result (out.new.items ≡ out.old.items
         ++ packet_bytes nanoseconds (datagram (endpoint_of (V6 from)) (endpoint_of (V6 to)) bytes.now)) }
+    ensures told { OnOk result (IsTold (datagram (endpoint_of (V6 from)) (endpoint_of (V6 to)) bytes.now)) }
     ensures front { Begins out.old.items out.new.items }
 {
     let (source, dest) = (from.ip().octets(), to.ip().octets());
@@ -158,6 +144,7 @@ fn put(out: &mut Vec<u8>, captured: &Captured<'_>) -> Result<(), AllocError>
     requires { refusal_of captured.now.nanoseconds (told_of captured.now.content) ≡ None }
     ensures ok { OnOk result (out.new.items ≡ out.old.items
         ++ packet_bytes captured.now.nanoseconds (told_of captured.now.content)) }
+    ensures told { OnOk result (IsTold (told_of captured.now.content)) }
     ensures front { Begins out.old.items out.new.items }
 {
     let time = captured.nanoseconds;
@@ -183,6 +170,7 @@ pub fn append_packet(capture: &mut Vec<u8>, captured: &Captured<'_>) -> Result<(
     ensures appended { OnOk result (capture.new.items ≡ capture.old.items
         ++ packet_bytes captured.now.nanoseconds (told_of captured.now.content)) }
     ensures allowed { OnOk result (refusal_of captured.now.nanoseconds (told_of captured.now.content) ≡ None) }
+    ensures told { OnOk result (IsTold (told_of captured.now.content)) }
     ensures refused { IfErr result (λ e. IsRefusal
         (refusal_of captured.now.nanoseconds (told_of captured.now.content)) e) }
     ensures unchanged { OnErr result (capture.new.items ≡ capture.old.items) }

@@ -15,6 +15,8 @@ mod axdr_tests;
 #[cfg(test)]
 mod block_tests;
 #[cfg(test)]
+mod capture_reading_tests;
+#[cfg(test)]
 mod capture_tests;
 #[cfg(test)]
 mod name_tests;

@@ -1,6 +1,6 @@
 -- The sum over the parts is that over the whole.
 use Rattle.std.proofs.Common.{ℕ, List, [], ◌∷◌, ◌++◌, get_or, ap, arith}
-use Rattle.std.specs.Int.{w16, w32, to_be_bytes}
+use Rattle.std.specs.Int.{w32, to_be_bytes}
 use Rattle.fw_capture.proofs.Sums.{pseudo_words}
 use Rattle.fw_capture.proofs.internet.ipv6_pseudo_sum.Goals as goal
 

@@ -1,0 +1,46 @@
+//! The numbers of headers.
+
+ghost use Rattle.std.specs.Prelude.{◌≡◌, ◌+◌, ◌≤◌, length};
+ghost use Rattle.fw_capture.specs.Reading.{short_at, half_at, number_at};
+
+/// The number of two bytes at a place, high byte first.
+pub(crate) fn short_at(place: usize, bytes: &[u8]) -> u16
+    requires { place + 2 ≤ length bytes.now }
+    ensures { result ≡ short_at place bytes.now }
+{
+    let [high, low, ..] = &bytes[place..] else {
+        unreachable!()
+    };
+    u16::from_be_bytes([*high, *low])
+}
+
+/// The number of two bytes at a place, in the order of the file.
+pub(crate) fn half_at(little: bool, place: usize, bytes: &[u8]) -> u16
+    requires { place + 2 ≤ length bytes.now }
+    ensures { result ≡ half_at little place bytes.now }
+{
+    let [a, b, ..] = &bytes[place..] else {
+        unreachable!()
+    };
+    if little {
+        u16::from_le_bytes([*a, *b])
+    } else {
+        u16::from_be_bytes([*a, *b])
+    }
+}
+
+/// The number of four bytes at a place, in the order of the file.
+pub(crate) fn number_at(little: bool, place: usize, bytes: &[u8]) -> u32
+    requires { place + 4 ≤ length bytes.now }
+    ensures { result ≡ number_at little place bytes.now }
+{
+    let [a, b, c, d, ..] = &bytes[place..] else {
+        unreachable!()
+    };
+    let number = [*a, *b, *c, *d];
+    if little {
+        u32::from_le_bytes(number)
+    } else {
+        u32::from_be_bytes(number)
+    }
+}
