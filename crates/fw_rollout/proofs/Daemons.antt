@@ -21,7 +21,9 @@ use Rattle.fw_rollout.specs.declared.link.Turn.TheVariants as turns
 use Rattle.fw_rollout.specs.declared.schedule.Schedule.{Schedule}
 use Rattle.fw_rollout.specs.Link.{IsLiveLink}
 use Rattle.fw_rollout.specs.declared.daemon.HeadDaemon.{HeadDaemon}
-use Rattle.fw_rollout.specs.Leading.{IsAboutToSend, IsAboutToTell, IsNotedIn, Leader, SavesAll, Steps, TicksMeter, ended_by, hears}
+use Rattle.fw_rollout.specs.declared.daemon.Heard.{Heard}
+use Rattle.fw_rollout.specs.declared.daemon.Heard.TheVariants as returned
+use Rattle.fw_rollout.specs.Leading.{HearsAs, IsAboutToSend, IsAboutToTell, IsNotedIn, Leader, SavesAll, TicksMeter, ended_by, heard_of}
 use Rattle.fw_rollout.specs.Schedule.{EndsMeter, IsLiveAt, IsSchedule, SameMeters, is_live, is_live_turn, links_of, listed_of, lives_of}
 use Rattle.fw_rollout.specs.Daemon.{IsLed, IsList, IsOver, ended_of, kept_of, live_of}
 use Rattle.fw_rollout.specs.Stopping.{IsSaveStop, stop_of}
@@ -86,8 +88,8 @@ in_flight out new count flight (inr room) most few = omega arith
 
 module _ {D : Type 0} (honest : D → Bool) (contents : D → List ℕ) (may_leave : D → List ℕ → Type 0) where
   -- the daemon heard a datagram of a meter, and is that of a head end that did
-  abbrev pub HeardOn : HeadDaemon D → Leader → SocketAddr → List ℕ → Type 0
-  HeardOn new leader from datagram = (next : Leader) × Steps leader (hears from datagram) next × IsLed honest contents may_leave new next
+  abbrev pub HeardOn : HeadDaemon D → Leader → SocketAddr → List ℕ → Heard → Type 0
+  HeardOn new leader from datagram what = (next : Leader) × HearsAs leader from datagram what next × IsLed honest contents may_leave new next
 
   pub is_listed : (old : HeadDaemon D) (leader : Leader) (place : ℕ) (at : Listed) → IsLed honest contents may_leave old leader → slice_get (listed_of old.schedule) place ≡ Some at → Contains leader.meters at
   is_listed old leader place at led there = subst (λ (ms : List Listed). Contains ms at) (sym led.meters) (at_place (listed_of old.schedule) place at there)
@@ -98,16 +100,19 @@ module _ {D : Type 0} (honest : D → Bool) (contents : D → List ℕ) (may_lea
     there_too = ap (λ (ms : List Listed). slice_get ms place) led.meters ∙ there
 
     heard_on : ended_of new ≡ ended_of old ++ ended_by told → All (IsNotedIn (head_of (kept_of new)).book) (leader.unsaved ++ ended_by told) → IsSchedule new.schedule → listed_of new.schedule ≡ listed_of old.schedule
-        → lives_of new.schedule ≡ live_of (head_of (kept_of new)) leader.meters → HeardOn new leader from datagram
+        → lives_of new.schedule ≡ live_of (head_of (kept_of new)) leader.meters → HeardOn new leader from datagram (heard_of told)
     heard_on ended noted schedule listed lives = (
       record leader { head = head_of (kept_of new); unsaved = leader.unsaved ++ ended_by told },
-      inl (record {
-        meter = meter;
-        listed = is_listed old leader place (record { meter = meter; address = from }) led there;
-        heard = told;
-        takes = subst (λ (h : Head). HeadHears h meter datagram told (head_of (kept_of new))) (sym led.head) hears_it;
-        others = refl;
-      }),
+      inl (
+        record {
+          meter = meter;
+          listed = is_listed old leader place (record { meter = meter; address = from }) led there;
+          heard = told;
+          takes = subst (λ (h : Head). HeadHears h meter datagram told (head_of (kept_of new))) (sym led.head) hears_it;
+          others = refl;
+        },
+        refl,
+      ),
       record {
         holds = holds;
         meters = led.meters ∙ sym listed;
@@ -122,7 +127,7 @@ module _ {D : Type 0} (honest : D → Bool) (contents : D → List ℕ) (may_lea
 
     -- nothing ended
     heard_none : ended_by told ≡ [] → (head_of (kept_of new)).book ≡ (head_of (kept_of old)).book → ended_of new ≡ ended_of old → IsSchedule new.schedule → listed_of new.schedule ≡ listed_of old.schedule
-        → lives_of new.schedule ≡ live_of (head_of (kept_of new)) leader.meters → HeardOn new leader from datagram
+        → lives_of new.schedule ≡ live_of (head_of (kept_of new)) leader.meters → HeardOn new leader from datagram (heard_of told)
     heard_none none book ended schedule listed lives =
         let before : All (IsNotedIn (head_of (kept_of new)).book) leader.unsaved =
         subst (λ (b : Contents). All (IsNotedIn b) leader.unsaved) (ap (λ (h : Head). h.book) led.head ∙ sym book) led.noted in
@@ -130,14 +135,15 @@ module _ {D : Type 0} (honest : D → Bool) (contents : D → List ℕ) (may_lea
         (subst (λ (xs : List Ended). All (IsNotedIn (head_of (kept_of new)).book) xs) (sym (append-nil leader.unsaved) ∙ ap (λ (xs : List Ended). leader.unsaved ++ xs) (sym none)) before)
         schedule listed lives
 
-    pub nothing_on : told ≡ news.Nothing → ended_of new ≡ ended_of old → new.schedule ≡ old.schedule → HeardOn new leader from datagram
+    pub nothing_on : told ≡ news.Nothing → ended_of new ≡ ended_of old → new.schedule ≡ old.schedule → HeardOn new leader from datagram returned.Nothing
     nothing_on nothing ended schedule =
         let same : head_of (kept_of new) ≡ head_of (kept_of old) =
         hears_nothing (head_of (kept_of old)) (head_of (kept_of new)) meter datagram
         (subst (λ (n : News). HeadHears (head_of (kept_of old)) meter datagram n (head_of (kept_of new))) nothing hears_it) in
-        heard_none (ap ended_by nothing) (ap (λ (h : Head). h.book) same) ended
+        subst (λ (what : Heard). HeardOn new leader from datagram what) (ap heard_of nothing)
+        (heard_none (ap ended_by nothing) (ap (λ (h : Head). h.book) same) ended
         (subst (λ (s : Schedule). IsSchedule s) (sym schedule) led.schedule) (ap (λ (s : Schedule). listed_of s) schedule)
-        (ap (λ (s : Schedule). lives_of s) schedule ∙ led.lives ∙ ap (λ (h : Head). live_of h leader.meters) (led.head ∙ sym same))
+        (ap (λ (s : Schedule). lives_of s) schedule ∙ led.lives ∙ ap (λ (h : Head). live_of h leader.meters) (led.head ∙ sym same)))
 
     -- the meter's link is live where its row goes on
     pub moved_live : told ≡ news.Moved → IsLiveAt old.schedule place
@@ -147,26 +153,28 @@ module _ {D : Type 0} (honest : D → Bool) (contents : D → List ℕ) (may_lea
         live_link old.schedule (head_of (kept_of old)) leader.meters place (record { meter = meter; address = from })
         (led.lives ∙ ap (λ (h : Head). live_of h leader.meters) led.head) there_too moves.live
 
-    pub moved_on : told ≡ news.Moved → ended_of new ≡ ended_of old → IsSchedule new.schedule → SameMeters old.schedule new.schedule → HeardOn new leader from datagram
+    pub moved_on : told ≡ news.Moved → ended_of new ≡ ended_of old → IsSchedule new.schedule → SameMeters old.schedule new.schedule → HeardOn new leader from datagram returned.Moved
     moved_on moved ended schedule same =
         let moves = hears_moved (head_of (kept_of old)) (head_of (kept_of new)) meter datagram
         (subst (λ (n : News). HeadHears (head_of (kept_of old)) meter datagram n (head_of (kept_of new))) moved hears_it) in
-        heard_none (ap ended_by moved) moves.book ended schedule same.listed
+        subst (λ (what : Heard). HeardOn new leader from datagram what) (ap heard_of moved)
+        (heard_none (ap ended_by moved) moves.book ended schedule same.listed
         (same.lives ∙ led.lives ∙ ap (λ (h : Head). live_of h leader.meters) led.head
-        ∙ sym (live_moved (head_of (kept_of old)) (head_of (kept_of new)) meter leader.meters moves))
+        ∙ sym (live_moved (head_of (kept_of old)) (head_of (kept_of new)) meter leader.meters moves)))
 
     pub ended_on : StatesFollowCalls → RowKeepsGoal → IsHead (head_of (kept_of old)) → (one : Ended) → ended_by told ≡ one ∷ [] → ended_of new ≡ ended_of old ++ one ∷ [] → IsSchedule new.schedule
-        → EndsMeter place old.schedule new.schedule → HeardOn new leader from datagram
-    ended_on follow keeps head one by ended schedule ends =
+        → EndsMeter place old.schedule new.schedule → heard_of told ≡ returned.Ended → HeardOn new leader from datagram returned.Ended
+    ended_on follow keeps head one by ended schedule ends over =
         let was = head_of (kept_of old) in
         let is = head_of (kept_of new) in
         let its = hears_end follow keeps was is meter datagram told one head hears_it by in
         let before : All (IsNotedIn was.book) leader.unsaved = subst (λ (h : Head). All (IsNotedIn h.book) leader.unsaved) led.head led.noted in
-        heard_on (ended ∙ ap (λ (xs : List Ended). ended_of old ++ xs) (sym by))
+        subst (λ (what : Heard). HeardOn new leader from datagram what) over
+        (heard_on (ended ∙ ap (λ (xs : List Ended). ended_of old ++ xs) (sym by))
         (subst (λ (xs : List Ended). All (IsNotedIn is.book) (leader.unsaved ++ xs)) (sym by) (noted_more was is meter one leader.unsaved its before))
         schedule ends.listed
         (ends.lives ∙ ap (λ (bs : List Bool). slice_set bs place false) (led.lives ∙ ap (λ (h : Head). live_of h leader.meters) led.head)
-        ∙ live_ended was is one leader.meters place (record { meter = meter; address = from }) its led.list there_too)
+        ∙ live_ended was is one leader.meters place (record { meter = meter; address = from }) its led.list there_too))
 
   -- a tick
   pub ticked_on : (old new : HeadDaemon D) (leader : Leader) → IsLed honest contents may_leave old leader → leader.going ≡ [] → (place : ℕ) (at : Listed) → slice_get (listed_of old.schedule) place ≡ Some at → (datagrams : List (List ℕ))
@@ -246,13 +254,16 @@ module _ {D : Type 0} (honest : D → Bool) (contents : D → List ℕ) (may_lea
 
   -- one from another address
   pub stranger_on : (old new : HeadDaemon D) (leader : Leader) (from : SocketAddr) (datagram : List ℕ) → IsLed honest contents may_leave old leader → ((meter : ℕ) → ¬ Contains (listed_of old.schedule) (record { meter = meter; address = from }))
-      → kept_of new ≡ kept_of old → ended_of new ≡ ended_of old → new.schedule ≡ old.schedule → HeardOn new leader from datagram
+      → kept_of new ≡ kept_of old → ended_of new ≡ ended_of old → new.schedule ≡ old.schedule → HeardOn new leader from datagram returned.Stranger
   stranger_on old new leader from datagram led strange kept ended schedule = (
     leader,
-    inr (inr (record {
-      strange = λ meter listed. strange meter (subst (λ (ms : List Listed). Contains ms (record { meter = meter; address = from })) led.meters listed);
-      same = refl;
-    })),
+    inr (
+      refl,
+      record {
+        strange = λ meter listed. strange meter (subst (λ (ms : List Listed). Contains ms (record { meter = meter; address = from })) led.meters listed);
+        same = refl;
+      },
+    ),
     waits_on old new leader led kept ended (subst (λ (s : Schedule). IsSchedule s) (sym schedule) led.schedule)
         (record { timing = ap (λ (s : Schedule). s.timing) schedule; listed = ap (λ (s : Schedule). listed_of s) schedule; lives = ap (λ (s : Schedule). lives_of s) schedule }),
   )

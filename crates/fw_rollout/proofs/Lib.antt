@@ -3,6 +3,7 @@ pub mod Waiting
 pub mod Turning
 pub mod Moving
 pub mod Placing
+pub mod Listings
 pub mod Adding
 pub mod Counting
 pub mod Rows

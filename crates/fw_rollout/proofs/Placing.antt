@@ -38,13 +38,13 @@ exact_v4 x y e = search (rules, exact_ipv4, exact_unsigned_eq)
 exact_v6 : (x y : SocketAddrV6) → v6_eq.ghosts.eq x y ≡ true → x ≡ y
 exact_v6 x y e = search (rules, exact_ipv6, exact_unsigned_eq)
 
-exact_socket : (x y : SocketAddr) → socket_eq.ghosts.eq x y ≡ true → x ≡ y
+pub exact_socket : (x y : SocketAddr) → socket_eq.ghosts.eq x y ≡ true → x ≡ y
 exact_socket (socket.V4 x) (socket.V4 y) e = ap socket.V4 (exact_v4 x y e)
 exact_socket (socket.V6 x) (socket.V6 y) e = ap socket.V6 (exact_v6 x y e)
 exact_socket (socket.V4 x) (socket.V6 y) e = absurd (false≢true e)
 exact_socket (socket.V6 x) (socket.V4 y) e = absurd (false≢true e)
 
-equal_sockets : IsEquivalence socket_eq.ghosts.eq
+pub equal_sockets : IsEquivalence socket_eq.ghosts.eq
 equal_sockets = laws-law
 
 -- ---- what a look-up finds

@@ -3,8 +3,9 @@ use Rattle.std.proofs.Common.{◌≡◌, List, [], ◌∷◌, inl, inr, refl, sy
 use Rattle.std.specs.declared.net.socket_addr.SocketAddr.{SocketAddr}
 use Rattle.std.specs.Prelude.{ℕ, Bool, OnErr, Result, Ok, Err}
 use Rattle.fw_rollout.specs.declared.daemon.HeadDaemon.{HeadDaemon}
+use Rattle.fw_rollout.specs.declared.daemon.Heard.{Heard}
 use Rattle.fw_rollout.specs.Acts.{Act, came, quiet}
-use Rattle.fw_rollout.specs.Leading.{HasLed, IsListed, Leader, Leads, SavesAll, Steps, TicksMeter, hears, idles, saves, ticks}
+use Rattle.fw_rollout.specs.Leading.{HasLed, HearsAs, IsListed, Leader, Leads, SavesAll, Steps, TicksMeter, hears, idles, saves, ticks}
 use Rattle.fw_rollout.specs.Daemon.{Begins, GoesOn, IsLed, Rests}
 use Rattle.fw_rollout.proofs.Steps.{leads_by, leads_none, leads_on, may_on}
 
@@ -109,6 +110,11 @@ heard honest contents may_leave new start next from datagram before after is res
   led = led;
   rests = rests_hearing start next from datagram hearing rests;
 }
+
+-- what is returned of a datagram goes with a step
+pub step_of : (old new : Leader) (from : SocketAddr) (datagram : List ℕ) (what : Heard) → HearsAs old from datagram what new → Steps old (hears from datagram) new
+step_of old new from datagram what (inl hearing) = inl hearing.0
+step_of old new from datagram what (inr strange) = inr (inr strange.1)
 
 -- there was no memory for it
 pub unheard : (start : Leader) (from : SocketAddr) (datagram : List ℕ) (before after : List Act) → after ≡ came from datagram ∷ before

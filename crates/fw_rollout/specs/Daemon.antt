@@ -33,6 +33,10 @@ out_of daemon = daemon.schedule.out
 abbrev pub flight_of : {D : Type 0} → HeadDaemon D → ℕ
 flight_of daemon = daemon.schedule.timing.flight
 
+-- the places in the list of the meters that may be asked now, the next one first. The rows of some may have ended meanwhile.
+abbrev pub queue_of : {D : Type 0} → HeadDaemon D → List ℕ
+queue_of daemon = daemon.schedule.ready.items
+
 -- the rows that ended and are not on the device yet
 abbrev pub ended_of : {D : Type 0} → HeadDaemon D → List Ended
 ended_of daemon = daemon.ended.items

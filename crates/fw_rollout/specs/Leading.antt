@@ -9,6 +9,8 @@ use Rattle.fw_head.specs.declared.news.News.TheVariants as news
 use Rattle.fw_head.specs.Head.{Head, HeadHears, IsOfferedIn, sends_to, ticked_head}
 use Rattle.fw_ledger.specs.declared.record.Ending.{Ending}
 use Rattle.fw_ledger.specs.declared.record.Ending.TheVariants as ends
+use Rattle.fw_rollout.specs.declared.daemon.Heard.{Heard}
+use Rattle.fw_rollout.specs.declared.daemon.Heard.TheVariants as returned
 use Rattle.fw_rollout.specs.declared.ended.Ended.{Ended}
 use Rattle.fw_rollout.specs.declared.link.Listed.{Listed}
 use Rattle.fw_rollout.specs.Acts.{Act, came, quiet, sent, told}
@@ -75,6 +77,18 @@ pub record HearsNot (old : Leader) (from : SocketAddr) (datagram : List ℕ) (ne
 pub record HearsStranger (old : Leader) (from : SocketAddr) (new : Leader) : Type 0 where
   pub strange : (meter : ℕ) → ¬ IsListed old meter from
   pub same : new ≡ old
+
+-- what is returned of what the row of a meter heard
+abbrev pub heard_of : News → Heard
+heard_of news.Nothing = returned.Nothing
+heard_of news.Moved = returned.Moved
+heard_of (news.Done campaign meter) = returned.Ended
+heard_of (news.Failed campaign meter) = returned.Ended
+
+-- A datagram was heard, and this is returned of it. Each is a step of a head end, below.
+abbrev pub HearsAs : Leader → SocketAddr → List ℕ → Heard → Leader → Type 0
+HearsAs old from datagram what new =
+    ((hearing : HearsMeter old from datagram new) × (what ≡ heard_of hearing.heard)) ⊎ ((what ≡ returned.Stranger) × HearsStranger old from new)
 
 -- what the row of a meter sends now is about to go to the address of that meter, once all that was is sent
 pub record TicksMeter (old : Leader) (meter : ℕ) (new : Leader) : Type 0 where

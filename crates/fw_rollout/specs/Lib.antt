@@ -8,3 +8,4 @@ pub mod Stopping
 -- For private clauses alone: no public clause cites it.
 pub mod Link
 pub mod Schedule
+pub mod Listing

@@ -8,6 +8,7 @@ ghost use Rattle.std.specs.Prelude.{
   [],
   ◌∷◌,
   ◌++◌,
+  ◌⊎◌,
   All,
   Contains,
   Some,
@@ -16,6 +17,7 @@ ghost use Rattle.std.specs.Prelude.{
   IfErr,
   IfNone,
   IfSome,
+  IsErrOf,
   OnErr,
   OnOk,
   MatchOption,
@@ -24,16 +26,30 @@ ghost use Rattle.std.specs.Prelude.{
 ghost use Rattle.fw_head.specs.Row.{bytes_of};
 ghost use Rattle.fw_head.specs.Head.{IsOfferedIn};
 ghost use Rattle.fw_book.specs.Contents.{Contents};
-ghost use Rattle.fw_kept.specs.Head.{Holds, head_of};
-ghost use Rattle.fw_rollout.specs.Timing.{most_out};
+ghost use Rattle.fw_kept.specs.Head.{Holds, device_of, head_of, is_broken, journal_of};
+ghost use Rattle.fw_kept.specs.Kept.{IsFull};
+ghost use Rattle.fw_rollout.specs.Timing.{HasRoom, most_out};
 ghost use Rattle.fw_rollout.specs.Stopping.{IsSaveStop};
-ghost use Rattle.fw_rollout.specs.Leading.{IsAboutToSend, IsAboutToTell, IsListed, Leader, SavesAll, Steps, TicksMeter, hears};
-ghost use Rattle.fw_rollout.specs.Daemon.{IsLed, IsList, IsOver, ended_of, flight_of, kept_of, live_of, meters_of, new_leader, out_of};
+ghost use Rattle.fw_rollout.specs.Leading.{HearsAs, IsAboutToSend, IsAboutToTell, IsListed, Leader, SavesAll, TicksMeter};
+ghost use Rattle.fw_rollout.specs.Daemon.{
+  IsLed,
+  IsList,
+  IsOver,
+  ended_of,
+  flight_of,
+  kept_of,
+  live_of,
+  meters_of,
+  new_leader,
+  out_of,
+  queue_of,
+};
 ghost use Rattle.fw_rollout.specs.Schedule.{EndsMeter, IsSchedule, listed_of, lives_of};
 
 use crate::ended::Ended;
 use crate::error::Stop;
 use crate::link::Listed;
+use crate::meters::MeterList;
 use crate::schedule::Schedule;
 use crate::timing::Timing;
 use fw_head::{HeadCore, News};
@@ -106,8 +122,7 @@ pub struct HeadDaemon<D: JournalDevice + Drop> {
 }
 
 impl<D: JournalDevice + Drop> HeadDaemon<D> {
-    /// The daemon of a head end that asks these meters, each number and each address once. A live row of a meter that isn't in the list is
-    /// never ticked.
+    /// The daemon of a head end that asks the meters of this list. A live row of a meter that isn't in it is never ticked.
     ///
     /// # Errors
     ///
@@ -115,17 +130,16 @@ impl<D: JournalDevice + Drop> HeadDaemon<D> {
     pub fn new(
         alloc: Global,
         kept: KeptHead<D>,
-        meters: &[Listed],
+        meters: &MeterList,
         timing: Timing,
     ) -> Result<HeadDaemon<D>, Stop>
-        requires { IsList meters.now }
         ensures kept { IfOk result (λ daemon. kept_of daemon ≡ kept) }
         ensures meters { IfOk result (λ daemon. meters_of daemon ≡ meters.now) }
         ensures led { (synced : Contents) → Holds D.honest D.contents D.may_leave kept synced
             → IfOk result (λ daemon. IsLed D.honest D.contents D.may_leave daemon (new_leader meters.now (head_of kept) synced)) }
         ensures memory { IfErr result (λ stop. stop ≡ Stop.OutOfMemory) }
     {
-        let schedule = schedule_of(alloc, kept.head(), meters, timing)?;
+        let schedule = schedule_of(alloc, kept.head(), meters.meters(), timing)?;
         Ok(HeadDaemon {
             alloc,
             kept,
@@ -160,6 +174,9 @@ impl<D: JournalDevice + Drop> HeadDaemon<D> {
         ensures permitted { (synced : Contents) → Holds D.honest D.contents D.may_leave (kept_of self.old) synced
             → IfOk result (λ r. IfSome r (λ due. All (IsOfferedIn synced) (bytes_of due.datagrams.items))) }
         ensures flight { IfOk result (λ r. IfSome r (λ due. out_of self.new ≤ most_out (flight_of self.old))) }
+
+        // Nothing is sent only where no meter may be asked now, or too much is out.
+        ensures none { IfOk result (λ r. IfNone r ((queue_of self.new ≡ []) ⊎ ¬ HasRoom (out_of self.new) (flight_of self.new))) }
         ensures memory { IfErr result (λ stop. stop ≡ Stop.OutOfMemory) }
     {
         let Some(place) = self.schedule.next(now)? else {
@@ -186,7 +203,7 @@ impl<D: JournalDevice + Drop> HeadDaemon<D> {
     /// `OutOfMemory` alone. A row may have ended then whose mark isn't on the device and never will be.
     pub fn heard(&mut self, now: u64, from: SocketAddr, datagram: &[u8]) -> Result<Heard, Stop>
         ensures hears { (leader : Leader) → IsLed D.honest D.contents D.may_leave self.old leader
-            → OnOk result ((next : Leader) × Steps leader (hears from datagram.now) next
+            → IfOk result (λ heard. (next : Leader) × HearsAs leader from datagram.now heard next
             × IsLed D.honest D.contents D.may_leave self.new next) }
 
         // Memory is refused for a datagram of a listed meter alone.
@@ -267,6 +284,14 @@ impl<D: JournalDevice + Drop> HeadDaemon<D> {
             × IsAboutToTell next ended.items) }
         ensures returned { IfOk result (λ ended. ended.items ≡ ended_of self.old) }
         ensures stops { IfErr result IsSaveStop }
+
+        // The causes of a commit that is refused.
+        ensures broken { IsTrue (is_broken (kept_of self.old))
+            → IsErrOf result Stop.BookFault × (kept_of self.new ≡ kept_of self.old) }
+        ensures breaks { IsErrOf result Stop.BookFault → IsTrue (is_broken (kept_of self.new)) }
+        ensures never { IsTrue (D.sound (device_of (kept_of self.old))) → IsErrOf result Stop.BookFault
+            → IsTrue (is_broken (kept_of self.old)) }
+        ensures full { IsErrOf result Stop.Full → IsFull (journal_of (kept_of self.old)) }
     {
         self.kept.commit()?;
         count_ended(&mut self.counts, &self.ended);

@@ -1,8 +1,8 @@
 //! Ports of head ends in memory, of which it is known what they did.
 
-ghost use Rattle.std.specs.Prelude.{◌≡◌, ◌++◌, [], ◌∷◌};
+ghost use Rattle.std.specs.Prelude.{◌≡◌, ◌++◌, [], ◌∷◌, None};
 ghost use Rattle.fw_rollout.specs.Leading.{HasLed, Leader};
-ghost use Rattle.fw_rollout.specs.Daemon.{IsLed, Rests};
+ghost use Rattle.fw_rollout.specs.Daemon.{GoesOn, IsLed, IsOver, Rests};
 ghost use Rattle.fw_rollout.specs.Lists.{acts_of};
 
 use crate::daemon::HeadDaemon;
@@ -149,8 +149,11 @@ pub fn lead_list<R: Wait, D: JournalDevice + Drop, W: HeadWatch>(
     watch: &mut W,
 ) -> (Vec<Deed>, Option<Stop>)
     requires { (start : Leader) × IsLed D.honest D.contents D.may_leave daemon.old start × Rests start }
-    ensures { (start : Leader) → IsLed D.honest D.contents D.may_leave daemon.old start → Rests start
+    ensures leads { (start : Leader) → IsLed D.honest D.contents D.may_leave daemon.old start → Rests start
         → HasLed start [] (acts_of result.0.items) }
+    ensures goes_on { (start : Leader) → IsLed D.honest D.contents D.may_leave daemon.old start → Rests start → result.1 ≡ None
+        → GoesOn D.honest D.contents D.may_leave start [] (acts_of result.0.items) daemon.new }
+    ensures over { (now : Leader) → IsLed D.honest D.contents D.may_leave daemon.new now → result.1 ≡ None → IsOver now }
 {
     let mut port = ListHeadPort::new(rt, alloc, coming);
     let stop = serve_head(rt, &mut port, daemon, false, watch).err();

@@ -8,6 +8,7 @@ ghost use Rattle.std.specs.Prelude.{
   [],
   ◌∷◌,
   ◌++◌,
+  ◌⊎◌,
   false,
   All,
   IfNone,
@@ -152,7 +153,8 @@ impl Schedule {
     ///
     /// `AllocError` where memory was refused. What is left then is unspecified.
     pub(crate) fn next(&mut self, now: u64) -> Result<Option<usize>, AllocError>
-        ensures due { IsSchedule self.old → IfOk result (λ r. IfSome r (IsDueAt self.new)) }
+        ensures due { IfOk result (λ r. IfSome r (IsDueAt self.new)) }
+        ensures none { IfOk result (λ r. IfNone r ((self.new.ready.items ≡ []) ⊎ ¬ HasRoom self.new.out self.new.timing.flight)) }
         ensures room { IfOk result (λ r. IfSome r (λ place. HasRoom self.new.out self.new.timing.flight)) }
         ensures timing { OnOk result (self.new.timing ≡ self.old.timing) }
         ensures same { IsSchedule self.old → OnOk result (SameMeters self.old self.new) }
@@ -168,6 +170,7 @@ impl Schedule {
     /// The place of the first link that may be ticked.
     fn next_ready(&mut self) -> Option<usize>
         ensures due { IfSome result (IsDueAt self.new) }
+        ensures none { IfNone result (self.new.ready.items ≡ []) }
         ensures others { self.new ≡ record self.old { ready = self.new.ready } }
     {
         while let Some(place) = self.ready.pop_front() {

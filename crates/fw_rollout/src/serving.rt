@@ -1,11 +1,11 @@
 //! The loop of a head end over a port. A port asks at each send and each report whether it may be, so a loop that never ends is held to it
 //! too.
 
-ghost use Rattle.std.specs.Prelude.{◌≡◌, [], List, IsTrue, OnErr, OnOk};
+ghost use Rattle.std.specs.Prelude.{◌≡◌, [], List, IsTrue, OnErr, OnOk, false};
 ghost use Rattle.fw_head.specs.Row.{bytes_of};
 ghost use Rattle.fw_rollout.specs.Acts.{Act};
 ghost use Rattle.fw_rollout.specs.Leading.{HasLed, IsAboutToSend, IsAboutToTell, Leader, Leads, MayLead};
-ghost use Rattle.fw_rollout.specs.Daemon.{Begins, GoesOn, IsLed, Rests};
+ghost use Rattle.fw_rollout.specs.Daemon.{Begins, GoesOn, IsLed, IsOver, Rests};
 
 use crate::daemon::{Counts, HeadDaemon};
 use crate::ended::Ended;
@@ -147,7 +147,7 @@ fn tell_all<P: HeadPort>(port: &mut P, saved: &[Ended])
     }
 }
 
-/// Leads the rows to their ends, and returns once none is live, or never, where it stays.
+/// Leads the rows to their ends. It returns `Ok` once none is live and all that ended is on the device, and never where it stays.
 ///
 /// # Errors
 ///
@@ -163,6 +163,12 @@ pub fn serve_head<R: Wait, P: HeadPort, D: JournalDevice + Drop, W: HeadWatch>(
     requires begins { IsTrue (P.honest port.old) → Begins D.honest D.contents D.may_leave daemon.old (P.legal port.old) (P.acts port.old) }
     ensures leads { IsTrue (P.honest port.old) → (start : Leader) → IsLed D.honest D.contents D.may_leave daemon.old start → Rests start
         → HasLed start (P.acts port.old) (P.acts port.new) }
+    ensures goes_on { IsTrue (P.honest port.old) → (start : Leader) → IsLed D.honest D.contents D.may_leave daemon.old start → Rests start
+        → OnOk result (GoesOn D.honest D.contents D.may_leave start (P.acts port.old) (P.acts port.new) daemon.new) }
+
+    // It returns by itself only once no row is live and all that ended is on the device, and never where it stays.
+    ensures over { (now : Leader) → IsLed D.honest D.contents D.may_leave daemon.new now → OnOk result (IsOver now) }
+    ensures stays { OnOk result (stays ≡ false) }
     ensures honesty { P.honest port.new ≡ P.honest port.old }
 {
     for _ in rt.forever() {

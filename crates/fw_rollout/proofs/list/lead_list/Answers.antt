@@ -17,8 +17,8 @@ serve_head-requires g c = record {
   };
 }
 
-pub returns : goal.returns
-returns g c = λ start led rests.
+pub returns-clause-leads : goal.returns-clause-leads
+returns-clause-leads g c = λ start led rests.
     let after = acts_of c.serve_head.new.port.deeds.items in
     let done : leading.HasLed start (acts_of c.new-port.result.deeds.items) after = c.serve_head.ensures.leads refl start led rests in
     let begun : leading.HasLed start [] after = subst (λ (deeds : List Deed). leading.HasLed start (acts_of deeds) after) c.new-port.ensures done in

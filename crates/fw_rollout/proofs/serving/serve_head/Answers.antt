@@ -33,3 +33,6 @@ pub returns-then-not-stays-clause-leads : goal.returns-then-not-stays-clause-lea
 returns-then-not-stays-clause-leads g c = λ honest start led rests.
     let one = c.loop.invariant.2 honest start led rests in
     (one.now, one.leads)
+
+pub returns-then-not-stays-clause-goes_on : goal.returns-then-not-stays-clause-goes_on
+returns-then-not-stays-clause-goes_on g c = c.loop.invariant.2

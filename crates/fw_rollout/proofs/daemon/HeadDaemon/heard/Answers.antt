@@ -3,7 +3,7 @@ use Rattle.fw_head.specs.Head.{Head, HeadHears, IsHead}
 use Rattle.fw_kept.specs.Head.{Holds, head_of}
 use Rattle.fw_ledger.specs.declared.record.Ending.TheVariants as ends
 use Rattle.fw_rollout.specs.declared.ended.Ended.{Ended}
-use Rattle.fw_rollout.specs.Leading.{ended_by}
+use Rattle.fw_rollout.specs.Leading.{ended_by, heard_of}
 use Rattle.fw_rollout.proofs.Daemons.{ended_on, is_listed, moved_live, moved_on, nothing_on, stranger_on}
 use Rattle.fw_rollout.proofs.Rounds.{at_err}
 use Rattle.fw_rollout.proofs.daemon.HeadDaemon.heard.Goals as goal
@@ -84,6 +84,7 @@ returns-in_ok-end-in-Done-clause-hears g c = λ leader led.
     (c.in-Some.ensures.found led.schedule) c.args.datagram.now c.in_ok-hear.field-0 hears holds c.states_follow.ensures c.row_keeps_goal.ensures
     (subst (λ (h : Head). IsHead h) c.head.ensures c.view-view.ensures.live) one (ap ended_by c.in-Done.is)
     (c.in_ok-end-in-Done.ensures.ended ∙ ap (λ (xs : List Ended). xs ++ one ∷ []) c.reserve.ensures.items) (c.end.ensures.schedule led.schedule) c.end.ensures.meters
+    (ap heard_of c.in-Done.is)
 
 pub returns-in_ok-end-in-Failed-clause-hears : goal.returns-in_ok-end-in-Failed-clause-hears
 returns-in_ok-end-in-Failed-clause-hears g c = λ leader led.
@@ -95,3 +96,4 @@ returns-in_ok-end-in-Failed-clause-hears g c = λ leader led.
     (c.in-Some.ensures.found led.schedule) c.args.datagram.now c.in_ok-hear.field-0 hears holds c.states_follow.ensures c.row_keeps_goal.ensures
     (subst (λ (h : Head). IsHead h) c.head.ensures c.view-view.ensures.live) one (ap ended_by c.in-Failed.is)
     (c.in_ok-end-in-Failed.ensures.ended ∙ ap (λ (xs : List Ended). xs ++ one ∷ []) c.reserve.ensures.items) (c.end-in-Failed.ensures.schedule led.schedule) c.end-in-Failed.ensures.meters
+    (ap heard_of c.in-Failed.is)
