@@ -1,9 +1,9 @@
 //! The cause of a fault, where the fault's name doesn't say it, and what the fault is about.
 
 ghost use Rattle.std.specs.Prelude.{◌≡◌, ◌≢◌, MatchBool};
-ghost use Rattle.dlmsfw.specs.Places.{place_of};
+ghost use Rattle.dlmsfw.specs.Places.{book_place_of, place_of};
 
-use fw_cli::{Fault, MeterOptions};
+use fw_cli::{Fault, HeadOptions, MeterOptions, StatusOptions};
 use std::net::{Ipv4Addr, Net, SocketAddr, UdpSocket};
 use thiserror::Error;
 
@@ -92,6 +92,94 @@ pub(crate) fn place_of<'a>(fault: Fault, places: MeterPlaces<'a>) -> Option<Plac
             Some(file) => Some(Place::FactoryFile(file)),
             None => None,
         },
+        _ => None,
+    }
+}
+
+/// The address, the files and the serial numbers that a head end is started with, or the file that `status` reads.
+#[derive(Clone, Copy, Debug)]
+pub(crate) struct BookPlaces<'a> {
+    book: &'a str,
+    listen: Option<SocketAddr>,
+    meters: Option<&'a str>,
+    image: Option<&'a str>,
+    opened: Option<u32>,
+    cancel: Option<u32>,
+}
+
+impl<'a> BookPlaces<'a> {
+    /// Those of these options.
+    pub(crate) fn of_head(options: &HeadOptions<'a>) -> BookPlaces<'a> {
+        let (image, opened) = match options.opening {
+            Some(opening) => (Some(opening.image), Some(opening.serial)),
+            None => (None, None),
+        };
+        BookPlaces {
+            book: options.book.path,
+            listen: Some(options.listen),
+            meters: Some(options.meters),
+            image,
+            opened,
+            cancel: options.cancel,
+        }
+    }
+
+    /// Those of these options.
+    pub(crate) fn of_status(options: &StatusOptions<'a>) -> BookPlaces<'a> {
+        BookPlaces {
+            book: options.book,
+            listen: None,
+            meters: None,
+            image: None,
+            opened: None,
+            cancel: None,
+        }
+    }
+}
+
+/// What a fault of a book is about.
+#[derive(Clone, Copy, Debug, Error)]
+pub(crate) enum BookPlace<'a> {
+    /// The file that has it.
+    #[error("--book {0}")]
+    Book(&'a str),
+    /// The address that its head end listens at.
+    #[error("--listen {0}")]
+    HeadListen(SocketAddr),
+    /// The list of meters.
+    #[error("--meters {0}")]
+    Meters(&'a str),
+    /// The file of an image.
+    #[error("--image {0}")]
+    Image(&'a str),
+    /// The first campaign that is opened.
+    #[error("--open {0}")]
+    Open(u32),
+    /// The campaign that is cancelled.
+    #[error("--cancel {0}")]
+    Cancel(u32),
+}
+
+/// What a fault of a book is about, if it is one of these.
+pub(crate) fn book_place_of<'a>(fault: Fault, places: BookPlaces<'a>) -> Option<BookPlace<'a>>
+    ensures { result ≡ book_place_of fault places.entry }
+{
+    match fault {
+        Fault::NoBook
+        | Fault::BookExists
+        | Fault::Locked
+        | Fault::BookFault
+        | Fault::BadBook(_)
+        | Fault::BadRecord(_)
+        | Fault::ForeignHead
+        | Fault::Full => Some(BookPlace::Book(places.book)),
+        Fault::Socket => Some(BookPlace::HeadListen(places.listen?)),
+        Fault::ListFault | Fault::BadList(_) | Fault::NoAddress(_) => Some(BookPlace::Meters(
+            places.meters?,
+        )),
+        Fault::ImageFault => Some(BookPlace::Image(places.image?)),
+        Fault::BadSetup | Fault::OpenRefused(_) => Some(BookPlace::Open(places.opened?)),
+        Fault::CancelRefused(_) => Some(BookPlace::Cancel(places.cancel?)),
         _ => None,
     }
 }

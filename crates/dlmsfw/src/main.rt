@@ -10,13 +10,14 @@ mod cause;
 mod options;
 mod streams;
 
-use cause::MeterPlaces;
+use cause::{BookPlaces, MeterPlaces};
 use clap::error::ErrorKind;
 use fw_cli::{
-    Ended, Fault, run_answer, run_answer_stored, run_live, run_meter, run_name, run_rehearse,
-    run_replay,
+    Ended, Fault, run_answer, run_answer_stored, run_head, run_live, run_meter, run_name,
+    run_rehearse, run_replay, run_status,
 };
 use options::Invocation;
+use std::fmt::Display;
 use std::fs::File;
 use std::io::IsTerminal;
 use std::net::Net;
@@ -42,6 +43,8 @@ enum Ending<'a> {
     Fault(Fault),
     /// A fault of a meter with this address and these files.
     Meter(Fault, MeterPlaces<'a>),
+    /// A fault of a head end with this address and these files, or of the book that is read.
+    Book(Fault, BookPlaces<'a>),
     /// An event of a script was refused, and the command has reported it.
     Refused,
     /// A wrong command line, or one that asks for help or the version.
@@ -103,6 +106,18 @@ fn run<
                 Err(fault) => Err(Ending::Meter(fault, places)),
             };
         }
+        Invocation::Head(options) => {
+            return match run_head(rt, alloc, writer, terminal, &options) {
+                Ok(()) => Ok(()),
+                Err(fault) => Err(Ending::Book(fault, BookPlaces::of_head(&options))),
+            };
+        }
+        Invocation::Status(options) => {
+            return match run_status(rt, alloc, writer, &options) {
+                Ok(()) => Ok(()),
+                Err(fault) => Err(Ending::Book(fault, BookPlaces::of_status(&options))),
+            };
+        }
     };
     match done {
         Ok(()) => Ok(()),
@@ -127,7 +142,8 @@ fn report(rt: &(impl Print + Eprint + Net), ending: Ending<'_>) -> ExitCode
 {
     match ending {
         Ending::Fault(fault) => fail(rt, fault),
-        Ending::Meter(fault, places) => fail_at(rt, fault, places),
+        Ending::Meter(fault, places) => fail_at(rt, fault, cause::place_of(fault, places)),
+        Ending::Book(fault, places) => fail_at(rt, fault, cause::book_place_of(fault, places)),
         Ending::Refused => ExitCode::from(FAULT),
         Ending::CommandLine(error) => report_parse(rt, error),
         Ending::NoText => {
@@ -154,12 +170,12 @@ fn report_parse(rt: &(impl Print + Eprint + Net), error: clap::Error) -> ExitCod
     }
 }
 
-/// Prints the name of a meter's fault, and on a second line the address or the file that it is about. Returns its exit status.
-fn fail_at(rt: &impl Eprint, fault: Fault, places: MeterPlaces<'_>) -> ExitCode
+/// Prints the name of a fault of a meter or a head end, and on a second line the option that it is about. Returns its exit status.
+fn fail_at<P: Display + Drop>(rt: &impl Eprint, fault: Fault, place: Option<P>) -> ExitCode
     ensures { exit_status result ≡ 1 }
 {
     let _ = eprintln!(rt; "dlmsfw: {fault}");
-    if let Some(place) = cause::place_of(fault, places) {
+    if let Some(place) = place {
         let _ = eprintln!(rt; "{place}");
     }
     ExitCode::from(FAULT)

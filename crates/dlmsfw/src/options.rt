@@ -1,19 +1,22 @@
 //! The command line of `dlmsfw`, and its help.
 
 mod answer;
+mod head;
 mod live;
 mod meter;
 mod name;
 mod rehearse;
 mod replay;
+mod status;
 
 use clap::error::ErrorKind;
 use clap::{Arg, ArgAction, ArgMatches, Command, Error};
 use fw_cli::{
-    AnswerOptions, LiveOptions, MeterOptions, NameOptions, RehearseOptions, ReplayOptions,
-    StoredOptions,
+    AnswerOptions, HeadOptions, LiveOptions, MeterOptions, NameOptions, RehearseOptions,
+    ReplayOptions, StatusOptions, StoredOptions,
 };
 use std::alloc::{AllocError, AllocFailed, Global};
+use std::net::SocketAddr;
 
 /// A command with its options.
 pub(crate) enum Invocation<'a> {
@@ -24,6 +27,8 @@ pub(crate) enum Invocation<'a> {
     Rehearse(RehearseOptions<'a>),
     Live(LiveOptions),
     Meter(MeterOptions<'a>),
+    Head(HeadOptions<'a>),
+    Status(StatusOptions<'a>),
 }
 
 /// Why the values of options that the parser let pass give no command.
@@ -93,6 +98,7 @@ fn found<'a>(
 ) -> Result<Option<Invocation<'a>>, WrongValue<'a>> {
     match matches.subcommand() {
         Some(("meter", given)) => meter::invoked(alloc, given),
+        Some(("head", given)) => head::invoked(given),
         Some((name, given)) => Ok(invoked(name, given)),
         None => Ok(None),
     }
@@ -103,6 +109,7 @@ fn invoked<'a>(name: &str, given: &ArgMatches<'a>) -> Option<Invocation<'a>> {
     match name {
         "answer" => answer::invoked(given),
         "name" => name::invoked(given),
+        "status" => status::invoked(given),
         "replay" => Some(Invocation::Replay(replay::options(given)?)),
         "rehearse" => Some(Invocation::Rehearse(rehearse::options(given)?)),
         "live" => Some(Invocation::Live(live::options(given)?)),
@@ -117,7 +124,7 @@ fn dlmsfw<'a>(alloc: Global) -> Result<Command<'a>, AllocError> {
         .version("0.1.0")
         .propagate_version(true)
         .about(
-            "COSEM firmware distribution: meters that answer datagrams, names of images, and scripts of campaigns",
+            "COSEM firmware distribution: meters that answer datagrams, head ends, names of images, and scripts of campaigns",
         )
         .after_help(ENDINGS)
         .subcommand_required(true)
@@ -126,7 +133,9 @@ fn dlmsfw<'a>(alloc: Global) -> Result<Command<'a>, AllocError> {
         .subcommand(replay::command(alloc)?)?
         .subcommand(rehearse::command(alloc)?)?
         .subcommand(live::command(alloc)?)?
-        .subcommand(meter::command(alloc)?)
+        .subcommand(meter::command(alloc)?)?
+        .subcommand(head::command(alloc)?)?
+        .subcommand(status::command(alloc)?)
 }
 
 /// An option with a value.
@@ -140,4 +149,12 @@ fn trace<'a>(alloc: Global) -> Arg<'a> {
         .long("trace")
         .action(ArgAction::SetTrue)
         .help("Tells each datagram that was sent before the report, in a line")
+}
+
+/// The address that the value of an option is.
+fn address<'a>(option: &'static str, text: &'a str) -> Result<SocketAddr, WrongValue<'a>> {
+    match text.parse() {
+        Ok(address) => Ok(address),
+        Err(_) => Err(WrongValue::NoAddress { option, text }),
+    }
 }

@@ -6,6 +6,7 @@ use Rattle.serde_json.specs.Written.{has_float, items_have_float}
 use Rattle.fw_cli.specs.declared.refusal.Refusal.{Refusal}
 use Rattle.fw_cli.specs.declared.summary.RowEntry.{RowEntry}
 use Rattle.fw_cli.specs.declared.summary.MeterEntry.{MeterEntry}
+use Rattle.fw_cli.specs.Heads.{status_data}
 use Rattle.fw_cli.specs.Json.{row_data, meter_data, refusal_data, report_data}
 
 rows_floatless : (rows : List RowEntry) → items_have_float (items_of (map (λ (row : RowEntry). row_data row) rows)) ≡ false
@@ -22,3 +23,6 @@ refusal_floatless (Some refusal) = refl
 
 pub report_floatless : (rows : List RowEntry) (meters : List MeterEntry) (activations : ℕ) (refusal : Option Refusal) → has_float (report_data rows meters activations refusal) ≡ false
 report_floatless rows meters activations refusal = simp (rows_floatless rows, meters_floatless meters, refusal_floatless refusal)
+
+pub status_floatless : (rows : List RowEntry) → has_float (status_data rows) ≡ false
+status_floatless rows = simp (rows_floatless rows)

@@ -19,3 +19,6 @@ pub mod SaidKinds
 pub mod ScriptLemmas
 pub mod ScriptSteps
 pub mod WordLemmas
+pub mod Listings
+pub mod HeadFaults
+pub mod HeadLeading

@@ -5,8 +5,14 @@ use Rattle.fw_image.specs.declared.error.OpenError.{OpenError}
 use Rattle.fw_image.specs.declared.error.OpenError.TheVariants as opening
 use Rattle.fw_workers.specs.declared.error.RehearseError.{RehearseError}
 use Rattle.fw_workers.specs.declared.error.RehearseError.TheVariants as workers
+use Rattle.fw_journal.specs.declared.error.JournalError.{JournalError}
+use Rattle.fw_journal.specs.declared.error.JournalError.TheVariants as journal
+use Rattle.fw_kept.specs.declared.error.OpenError.{OpenError as ReopenError}
+use Rattle.fw_kept.specs.declared.error.OpenError.TheVariants as reopening
+use Rattle.fw_rollout.specs.declared.error.Stop.{Stop}
+use Rattle.fw_rollout.specs.declared.error.Stop.TheVariants as stop
 use Rattle.fw_cli.specs.declared.fault.Fault.{Fault}
-use Rattle.fw_cli.specs.declared.fault.Fault.TheVariants.{BadFates, BadSetup, StoreFault, Device, BadFile, BadHeader, BadImage, Input, TooMuchInput, BadLine, EmptyImage, ImageTooLong, Event, Mismatch, ThreadRefused, Socket, GateShut, Output, OutOfMemory}
+use Rattle.fw_cli.specs.declared.fault.Fault.TheVariants.{BadFates, BadSetup, StoreFault, Device, BadFile, BadHeader, BadImage, Input, TooMuchInput, BadLine, EmptyImage, ImageTooLong, Event, Mismatch, ThreadRefused, Socket, GateShut, NoBook, BookExists, Locked, BookFault, BadBook, BadRecord, ForeignHead, Full, Output, OutOfMemory}
 
 -- the faults that come before anything is read
 abbrev pub ComesBeforeInput : Fault → Type 0
@@ -113,3 +119,28 @@ abbrev pub IsOfLive : Fault → Type 0
 IsOfLive BadFates = ⊥
 IsOfLive Socket = Unit {0}
 IsOfLive fault = IsOfRehearse fault
+
+-- the fault that says why the file of a book was not made or opened
+abbrev pub fault_of_device : JournalError → Fault
+fault_of_device (journal.BadBook offset) = BadBook offset
+fault_of_device journal.NotEmpty = BookExists
+fault_of_device journal.TooLong = Full
+fault_of_device journal.Full = Full
+fault_of_device journal.Locked = Locked
+fault_of_device journal.BookFault = BookFault
+fault_of_device journal.OutOfMemory = OutOfMemory
+
+-- the fault that says why what a file holds is no book of the head end
+abbrev pub fault_of_reopening : ReopenError → Fault
+fault_of_reopening (reopening.BadBook offset) = BadBook offset
+fault_of_reopening (reopening.BadRecord index) = BadRecord index
+fault_of_reopening reopening.ForeignHead = ForeignHead
+fault_of_reopening reopening.BookFault = BookFault
+fault_of_reopening reopening.OutOfMemory = OutOfMemory
+
+-- the fault that says why a head end stopped
+abbrev pub fault_of_stop : Stop → Fault
+fault_of_stop stop.Closed = Socket
+fault_of_stop stop.Full = Full
+fault_of_stop stop.BookFault = BookFault
+fault_of_stop stop.OutOfMemory = OutOfMemory

@@ -22,6 +22,10 @@ pub mod Trace
 pub mod Replaying
 pub mod Rehearsing
 pub mod Meters
+pub mod Lists
+pub mod Heads
 pub mod Laws
 -- For private clauses alone: no public clause cites it.
 pub mod Inside
+pub mod Openings
+pub mod Fleets

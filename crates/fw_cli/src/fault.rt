@@ -2,9 +2,12 @@
 
 ghost use Rattle.std.specs.Prelude.{◌≡◌};
 ghost use Rattle.fw_cli.specs.declared.fault.Fault.TheVariants.{OutOfMemory};
-ghost use Rattle.fw_cli.specs.Faults.{fault_of_file, fault_of_opening, fault_of_rehearsal};
+ghost use Rattle.fw_cli.specs.Faults.{fault_of_device, fault_of_file, fault_of_opening, fault_of_rehearsal, fault_of_reopening, fault_of_stop};
 
+use fw_book::BookError;
 use fw_image::OpenError;
+use fw_journal::JournalError;
+use fw_rollout::Stop;
 use fw_store::FileStoreError;
 use fw_workers::RehearseError;
 use std::alloc::{AllocError, AllocFailed};
@@ -67,6 +70,48 @@ pub enum Fault {
     /// A worker was not let pass. No command ends so, since the gate of a command lets every worker pass.
     #[error("GateShut")]
     GateShut,
+    /// The list of meters can't be opened or read.
+    #[error("ListFault")]
+    ListFault,
+    /// The line of this number, counted from 1, is none of a list of meters, or has a number or an address that an earlier one has.
+    #[error("BadList {0}")]
+    BadList(u64),
+    /// The file of an image can't be opened or read.
+    #[error("ImageFault")]
+    ImageFault,
+    /// No file of a book is there, and none is to be made.
+    #[error("NoBook")]
+    NoBook,
+    /// A book is to be made where a file is there.
+    #[error("BookExists")]
+    BookExists,
+    /// Another head end has the book.
+    #[error("Locked")]
+    Locked,
+    /// The file of a book can't be made, opened, read, written or synced.
+    #[error("BookFault")]
+    BookFault,
+    /// The bytes of a book from this offset on are none.
+    #[error("BadBook {0}")]
+    BadBook(u64),
+    /// The record of a book with this index, counted from 0, has no place in it.
+    #[error("BadRecord {0}")]
+    BadRecord(usize),
+    /// A book is another head end's.
+    #[error("ForeignHead")]
+    ForeignHead,
+    /// A book has 2^60 bytes or more.
+    #[error("Full")]
+    Full,
+    /// The meter of this number has a live row, and the list has no address of it.
+    #[error("NoAddress {0}")]
+    NoAddress(u32),
+    /// The book refused to open a campaign.
+    #[error("{0}")]
+    OpenRefused(BookError),
+    /// The book refused to cancel a campaign.
+    #[error("{0}")]
+    CancelRefused(BookError),
     /// The writer failed.
     #[error("Output")]
     Output,
@@ -136,6 +181,48 @@ impl From<RehearseError> for Fault {
             RehearseError::Socket => Fault::Socket,
             RehearseError::GateShut => Fault::GateShut,
             RehearseError::BadSetup => Fault::BadSetup,
+        }
+    }
+}
+
+impl From<JournalError> for Fault {
+    ghost from_gives = { λ error fault. fault ≡ fault_of_device error };
+
+    fn from(error: JournalError) -> Fault {
+        match error {
+            JournalError::BadBook { offset } => Fault::BadBook(offset),
+            JournalError::NotEmpty => Fault::BookExists,
+            JournalError::TooLong | JournalError::Full => Fault::Full,
+            JournalError::Locked => Fault::Locked,
+            JournalError::BookFault => Fault::BookFault,
+            JournalError::OutOfMemory => Fault::OutOfMemory,
+        }
+    }
+}
+
+impl From<fw_kept::OpenError> for Fault {
+    ghost from_gives = { λ error fault. fault ≡ fault_of_reopening error };
+
+    fn from(error: fw_kept::OpenError) -> Fault {
+        match error {
+            fw_kept::OpenError::BadBook { offset } => Fault::BadBook(offset),
+            fw_kept::OpenError::BadRecord { index } => Fault::BadRecord(index),
+            fw_kept::OpenError::ForeignHead => Fault::ForeignHead,
+            fw_kept::OpenError::BookFault => Fault::BookFault,
+            fw_kept::OpenError::OutOfMemory => Fault::OutOfMemory,
+        }
+    }
+}
+
+impl From<Stop> for Fault {
+    ghost from_gives = { λ stop fault. fault ≡ fault_of_stop stop };
+
+    fn from(stop: Stop) -> Fault {
+        match stop {
+            Stop::Closed => Fault::Socket,
+            Stop::Full => Fault::Full,
+            Stop::BookFault => Fault::BookFault,
+            Stop::OutOfMemory => Fault::OutOfMemory,
         }
     }
 }

@@ -62,7 +62,11 @@ fn report_value(
 }
 
 /// Adds the value of each row.
-fn push_rows(alloc: Global, values: &mut Vec<Value>, rows: &[RowEntry]) -> Result<(), AllocError>
+pub(crate) fn push_rows(
+    alloc: Global,
+    values: &mut Vec<Value>,
+    rows: &[RowEntry],
+) -> Result<(), AllocError>
     ensures { OnOk result (map view values.new.items ≡ map view values.old.items ++ map (λ row. row_data row) rows.now) }
 {
     for row in rows {

@@ -7,6 +7,7 @@ ghost use Rattle.fw_store.specs.declared.version.HeaderVersion.TheVariants.{Two}
 ghost use Rattle.fw_cli.specs.Meters.{IsOfMeter, activated_line, default_factory, dropped_line, listening_line};
 
 use crate::fault::Fault;
+use crate::fleet::serve_fleet;
 use crate::meter_lines::{activated_line, dropped_line, listening_line};
 use crate::meter_store::{NewMeter, stored_meter};
 use crate::output::write_text;
@@ -34,9 +35,14 @@ pub struct MeterOptions<'a> {
     pub store: &'a str,
     /// What a new meter is made with. Where a file is there, this isn't looked at.
     pub fresh: NewMeter<'a>,
+    /// How many meters there are, at least 1. Without a number there is one, at just this address and in just this file.
+    pub count: Option<u32>,
 }
 
 /// The meter in a file answers datagrams over UDP until the process is ended, at any moment. Where no file is there, it is made.
+///
+/// With a count K there are meters 1 to K: meter N receives at the port of the options and N - 1 more, and its file is that of the options
+/// with `.N` after it.
 ///
 /// The writer gets the line `listening ..`, once datagrams are received, `activated ..` for each image that the meter switches to, and
 /// `dropped ..` where more was dropped, once a minute at most. Each is flushed. After the first, a line that can't be written is lost.
@@ -45,7 +51,8 @@ pub struct MeterOptions<'a> {
 ///
 /// It ends by one of these alone.
 ///
-/// - `Socket`: the address can't be received at. No file was made. Or the socket failed 1,000 times in a row while the meter served.
+/// - `Socket`: the address can't be received at, or is past port 65,535. No file was made, except for meters before it. Or the socket failed
+///   1,000 times in a row while the meter served.
 /// - `StoreFault`: the file can't be made or opened, or another store has it open.
 /// - `Device`, which prints `Fault`: the file can't be read, or its header not be written in version 2.
 /// - `BadFile`, `BadHeader` or `BadImage`: the file holds no meter. It is left as it is.
@@ -54,6 +61,26 @@ pub struct MeterOptions<'a> {
 /// - `Output`: the first line can't be written.
 /// - `OutOfMemory`: it didn't serve.
 pub fn run_meter<R: Files<File = File> + Clock + Net + Wait, W: Write>(
+    rt: &R,
+    alloc: Global,
+    writer: &mut W,
+    options: MeterOptions<'_>,
+) -> Result<(), Fault>
+    ensures ends { IsErr result }
+    ensures bad_setup { options.entry.fresh.factory_file ≡ None → result ≡ Err Fault.BadSetup
+        → ¬ IsSetup Two options.entry.fresh.block_size options.entry.fresh.capacity default_factory }
+    ensures silent { IfErr result (λ f. f ≢ Fault.Socket → f ≢ Fault.Output
+        → Keeps (W.contents writer.old) (W.contents writer.new)) }
+    ensures only { IfErr result IsOfMeter }
+{
+    match options.count {
+        Some(count) => serve_fleet(rt, alloc, writer, &options, count),
+        None => serve_one(rt, alloc, writer, options),
+    }
+}
+
+/// The command for one meter.
+fn serve_one<R: Files<File = File> + Clock + Net + Wait, W: Write>(
     rt: &R,
     alloc: Global,
     writer: &mut W,
@@ -95,7 +122,7 @@ fn bound<N: Net>(net: &N, listen: SocketAddr) -> Result<Listening, Fault>
 
 /// What a daemon reports while it serves.
 #[derive(Drop)]
-struct Teller<'a, C: Clock, W: Write> {
+pub(crate) struct Teller<'a, C: Clock, W: Write> {
     rt: &'a C,
     alloc: Global,
     writer: &'a mut W,
@@ -108,7 +135,7 @@ struct Teller<'a, C: Clock, W: Write> {
 
 impl<'a, C: Clock, W: Write> Teller<'a, C, W> {
     /// Nothing is reported yet, and nothing was dropped.
-    fn new(rt: &'a C, alloc: Global, writer: &'a mut W) -> Teller<'a, C, W> {
+    pub(crate) fn new(rt: &'a C, alloc: Global, writer: &'a mut W) -> Teller<'a, C, W> {
         Teller {
             rt,
             alloc,
@@ -159,7 +186,11 @@ fn is_due(then: Option<Instant>, now: Instant) -> bool {
 }
 
 /// Writes at which address datagrams are received.
-fn tell_listening<W: Write>(alloc: Global, writer: &mut W, at: SocketAddr) -> Result<(), Fault>
+pub(crate) fn tell_listening<W: Write>(
+    alloc: Global,
+    writer: &mut W,
+    at: SocketAddr,
+) -> Result<(), Fault>
     ensures written { OnOk result (Appends (W.contents writer.old) (W.contents writer.new) (listening_line at)) }
     ensures silent { IfErr result (λ f. f ≢ Fault.Output → Keeps (W.contents writer.old) (W.contents writer.new)) }
     ensures only { IfErr result (λ f. (f ≡ Fault.Output) ⊎ (f ≡ Fault.OutOfMemory)) }

@@ -26,7 +26,7 @@ use std::alloc::AllocError;
 const COLUMN: usize = 12;
 
 /// The headings of the rows.
-const ROW_HEADINGS: &str = "head end    campaign    meter       state\n";
+pub(crate) const ROW_HEADINGS: &str = "head end    campaign    meter       state\n";
 
 /// The headings of the meters.
 const METER_HEADINGS: &str =
@@ -90,7 +90,7 @@ fn append_lines(
 }
 
 /// Appends a line for each row.
-fn append_rows(text: &mut String, rows: &[RowEntry]) -> Result<(), AllocError>
+pub(crate) fn append_rows(text: &mut String, rows: &[RowEntry]) -> Result<(), AllocError>
     ensures { OnOk result (string_bytes text.new ≡ string_bytes text.old ++ flat_map (λ row. row_cells row) rows.now) }
 {
     for row in rows {

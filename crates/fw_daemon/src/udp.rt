@@ -28,6 +28,8 @@ impl From<io::Error> for SocketError {
 #[derive(Drop)]
 pub struct UdpPort {
     socket: UdpSocket,
+    /// Whether a receive may wait at all.
+    may_wait: bool,
     /// Whether the socket waits now.
     waits: bool,
     faults: u64,
@@ -42,11 +44,38 @@ impl UdpPort {
     ///
     /// `SocketError` where the system refuses it.
     pub fn bind<N: Net>(net: &N, at: SocketAddr) -> Result<UdpPort, SocketError> {
+        UdpPort::bind_for(net, at, WAIT_LIMIT)
+    }
+
+    /// A port at this address. A receive that waits does so for this time at most, in milliseconds.
+    ///
+    /// # Errors
+    ///
+    /// `SocketError` where the system refuses it, or the time is 0.
+    pub fn bind_for<N: Net>(net: &N, at: SocketAddr, limit: u64) -> Result<UdpPort, SocketError> {
         let socket = UdpSocket::bind(net, at)?;
-        socket.set_read_timeout(Some(Duration::from_millis(WAIT_LIMIT)))?;
+        socket.set_read_timeout(Some(Duration::from_millis(limit)))?;
         Ok(UdpPort {
             socket,
+            may_wait: true,
             waits: true,
+            faults: 0,
+            in_a_row: 0,
+        })
+    }
+
+    /// A port at this address of which no receive waits: one of many that are gone through in turn.
+    ///
+    /// # Errors
+    ///
+    /// `SocketError` where the system refuses it.
+    pub fn bind_polling<N: Net>(net: &N, at: SocketAddr) -> Result<UdpPort, SocketError> {
+        let socket = UdpSocket::bind(net, at)?;
+        socket.set_nonblocking(true)?;
+        Ok(UdpPort {
+            socket,
+            may_wait: false,
+            waits: false,
             faults: 0,
             in_a_row: 0,
         })
@@ -63,7 +92,7 @@ impl UdpPort {
 
     /// Makes the socket wait or not.
     fn turn_to(&mut self, patience: Patience) -> io::Result<()> {
-        let waits = patience == Patience::Waits;
+        let waits = self.may_wait && patience == Patience::Waits;
         if waits != self.waits {
             self.socket.set_nonblocking(!waits)?;
             self.waits = waits;

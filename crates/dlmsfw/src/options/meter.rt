@@ -1,6 +1,6 @@
 //! The command `meter`, and its help.
 
-use super::{Invocation, STATUSES, WrongValue, option};
+use super::{Invocation, STATUSES, WrongValue, address, option};
 use clap::{ArgAction, ArgMatches, Command};
 use fw_cli::{MeterOptions, NewMeter};
 use std::alloc::{AllocError, Global};
@@ -22,6 +22,10 @@ has a FILE.
 With --head just the addresses that are given may ask, each compared whole, with its port. A datagram
 from elsewhere is dropped. An address is IPv4 or IPv6, as 127.0.0.1:4059 or [::1]:4059. Port 0 of
 --listen is one that the system picks.
+
+With --count N there are N meters in one process, a fleet to try a head end on: meter K receives at PORT
+and K - 1 more, and is in FILE.K. What was dropped is that of all. Each needs three open files, which the
+system may limit (`ulimit -n`).
 
 Standard output gets these lines, each at once, of which one that can't be written is lost, except for
 the first:
@@ -109,7 +113,12 @@ pub(super) fn command<'a>(alloc: Global) -> Result<Command<'a>, AllocError> {
         )?
         .arg(option(alloc, "factory-file", "FILE").help(
             "The file whose bytes are the image that it runs, 1 byte to the capacity; without it `abc`",
-        ))
+        ))?
+        .arg(
+            option(alloc, "count", "N")
+                .help("Runs meters 1 to N, 4096 at most, at ports from PORT on")
+                .value_parser(clap::value_parser!(u32).range(1..=4096)),
+        )
 }
 
 /// The command with the options that were given. The parser lets none of the others lack.
@@ -135,6 +144,7 @@ pub(super) fn invoked<'a>(
             capacity,
             factory_file: given.get_str("factory-file"),
         },
+        count: given.get_one("count"),
     })))
 }
 
@@ -145,12 +155,4 @@ fn addresses<'a>(alloc: Global, texts: &[&'a str]) -> Result<Vec<SocketAddr>, Wr
         addresses.push(address("head", *text)?)?;
     }
     Ok(addresses)
-}
-
-/// The address that the value of an option is.
-fn address<'a>(option: &'static str, text: &'a str) -> Result<SocketAddr, WrongValue<'a>> {
-    match text.parse() {
-        Ok(address) => Ok(address),
-        Err(_) => Err(WrongValue::NoAddress { option, text }),
-    }
 }

@@ -1,0 +1,252 @@
+//! The command `head`, and its help.
+
+use super::{Invocation, STATUSES, WrongValue, address, option};
+use clap::{ArgAction, ArgMatches, Command};
+use fw_blocks::Width;
+use fw_cli::{BookOptions, HeadOptions, Opening};
+use fw_names::HeadId;
+use fw_rollout::Timing;
+use std::alloc::{AllocError, Global};
+
+/// The microseconds of a millisecond.
+const MILLISECOND: u64 = 1_000;
+
+/// What the long help begins with.
+const ABOUT: &str = "\
+Runs a head end that leads meters over UDP to the images that they are offered, until none of its rows
+is live. It may be ended at any moment, and goes on there when it is run again.
+
+The meters are in LIST, comma-separated values without a header line: a line has the number of a meter
+and its address, as `1,127.0.0.1:4059` or `2,[::1]:4060`, each number and each address once. A datagram
+from elsewhere is dropped, and one from an address of the list is taken for that meter's.
+
+The book of the head end is in FILE of --book, and stays there for the next run. It is made with --new,
+and only where no such file is there: as FILE.new, which is named FILE once it is whole. One process at
+a time has a FILE. A head end whose book is lost goes on under another number, never under the same.
+
+With --open the image in the file of --image is offered to all meters of LIST, in campaigns of 256
+meters at most, with serial numbers from SERIAL on. A campaign that the book has already, for that image
+and those meters, is gone on with. With --cancel the live rows of that campaign are cancelled first.
+
+A row is asked when nothing of it is outstanding, or after four times its last round trip, which is
+--resend at first and at least; twice as long after each time in which nothing at all came from its
+meter, up to a minute. No more than --flight datagrams are out at once, or those of one row.
+
+Standard output gets these lines, each at once, of which one that can't be written is lost, except for
+the first:
+
+  listening ADDR:PORT                    datagrams are received there
+  cancelled HEAD SERIAL                  this campaign was cancelled, and the disk has that
+  opened HEAD SERIAL RELEASE DIGEST      this campaign was opened, and the disk has it: its release, and
+                                         the SHA-256 of its image in lower-case hexadecimal
+  row HEAD SERIAL METER done             the meter claimed to run the image, and the disk has that
+  row HEAD SERIAL METER failed           the row was given up, and the disk has that
+  over done D failed F                   no row is live, and so many of these lines there were
+
+Where standard error is a terminal, it shows each second how many rows are live, done and failed, and
+how many datagrams went and came.
+
+Example, in two terminals, an image for the meter at port 4059:
+
+  ./dlmsfw meter --listen 127.0.0.1:4059 --store meter.fw
+
+  echo 1,127.0.0.1:4059 > meters.csv
+  ./dlmsfw head --head 7 --book head.book --new --meters meters.csv --listen 127.0.0.1:4058 \\
+    --open 1 --release 2 --image README.md";
+
+/// What ends the long help.
+const ENDINGS: &str = "\
+Exit status:
+  0  no row is live
+  1  a fault: standard error has `dlmsfw: NAME`, with one of these names, and a second line with the
+     option that it is about
+       ListFault       LIST can't be opened or read
+       BadList L       line L of LIST, counted from 1, has no meter's number and address, or a number
+                       or an address that an earlier line has
+       ImageFault      the file of --image can't be opened or read
+       BadSetup        the campaigns need serial numbers above 4294967295
+       Socket          datagrams can't be received at --listen: another program does, it is no address
+                       of this machine, or this user has no right to it. Or the socket failed 1000
+                       times in a row later
+       NoBook          FILE isn't there, and --new isn't given
+       BookExists      FILE is there, and --new is given
+       Locked          another head end has FILE
+       BookFault       FILE can't be made, opened, read or written: there is no such folder, FILE is a
+                       folder, this user may not write it, or the disk is full or failed
+       BadBook N       the bytes of FILE from offset N on are no book's: they were changed
+       BadRecord N     record N of FILE, counted from 0, has no place in a book
+       ForeignHead     FILE is the book of another head end than that of --head
+       Full            FILE has no room for more
+       NoAddress N     meter N has a live row in the book that isn't cancelled, and isn't in LIST
+       NoMeters        --open: LIST has no meter
+       SerialUsed      --open: the book has this campaign, for another image or other meters
+       EmptyImage      --open: the image has no byte
+       ImageTooLong    --open: the image has more than 16777216 bytes
+       MeterBusy       --open: a meter of LIST is live in another campaign
+       NoSuchCampaign  --cancel: the book has no such campaign
+       NotLive         --cancel: none of its rows is live
+       Output          the first line can't be written to standard output
+       OutOfMemory     the system gives no more memory
+     Of a row whose end the disk doesn't have nothing was printed.
+  2  a wrong command line: standard error says what is wrong";
+
+/// The command.
+pub(super) fn command<'a>(alloc: Global) -> Result<Command<'a>, AllocError> {
+    let command = Command::new(alloc, "head")
+        .about("Runs a head end that leads meters over UDP to the images that they are offered")
+        .long_about(ABOUT)
+        .after_help(STATUSES)
+        .after_long_help(ENDINGS)
+        .arg(
+            option(alloc, "head", "N")
+                .required(true)
+                .help("The number of the head end, 1 to 4294967295")
+                .value_parser(clap::value_parser!(u32).range(1..)),
+        )?
+        .arg(
+            option(alloc, "book", "FILE")
+                .required(true)
+                .help("The file that has its book"),
+        )?
+        .arg(
+            clap::Arg::new(alloc, "new")
+                .long("new")
+                .action(ArgAction::SetTrue)
+                .help("Makes the book, where no file is there"),
+        )?
+        .arg(
+            option(alloc, "meters", "LIST").required(true).help(
+                "The file that has the meters, a line NUMBER,ADDR:PORT for each",
+            ),
+        )?
+        .arg(
+            option(alloc, "listen", "ADDR:PORT")
+                .required(true)
+                .help("The address that datagrams are sent from and received at"),
+        )?;
+    with_campaigns(alloc, with_times(alloc, command)?)
+}
+
+/// The command with the options that say what is opened and cancelled.
+fn with_campaigns<'a>(alloc: Global, command: Command<'a>) -> Result<Command<'a>, AllocError> {
+    command
+        .arg(
+            option(alloc, "open", "SERIAL")
+                .requires_arg("image")?
+                .help(
+                    "Opens campaigns for all meters, with serial numbers from this one on, 1 to 4294967295",
+                )
+                .value_parser(clap::value_parser!(u32).range(1..)),
+        )?
+        .arg(
+            option(alloc, "release", "R")
+                .default_value("0")
+                .help("The release of the image, 0 to 4294967295; 0 is none")
+                .value_parser(clap::value_parser!(u32)),
+        )?
+        .arg(
+            option(alloc, "image", "FILE")
+                .requires_arg("open")?
+                .help("The file whose bytes are the image"),
+        )?
+        .arg(
+            option(alloc, "cancel", "SERIAL")
+                .help("Cancels the live rows of this campaign first")
+                .value_parser(clap::value_parser!(u32).range(1..)),
+        )
+}
+
+/// The command with the options that say how meters are asked.
+fn with_times<'a>(alloc: Global, command: Command<'a>) -> Result<Command<'a>, AllocError> {
+    command
+        .arg(
+            option(alloc, "width", "W")
+                .default_value("4")
+                .help("How many blocks are sent to a meter at a time, 1 to 15")
+                .value_parser(clap::value_parser!(u8).range(1..=15)),
+        )?
+        .arg(
+            option(alloc, "flight", "N")
+                .default_value("256")
+                .help("How many datagrams are out at once, 1 to 65536")
+                .value_parser(clap::value_parser!(u32).range(1..=65_536)),
+        )?
+        .arg(
+            option(alloc, "resend", "MS")
+                .default_value("200")
+                .help(
+                    "How long the first answer of a meter is waited for, in milliseconds, 1 to 60000",
+                )
+                .value_parser(clap::value_parser!(u32).range(1..=60_000)),
+        )?
+        .arg(
+            clap::Arg::new(alloc, "stay")
+                .long("stay")
+                .action(ArgAction::SetTrue)
+                .help("Goes on where no row is live"),
+        )
+}
+
+/// The command with the options that were given. The parser lets only those numbers pass that a head end, a campaign or a width can have, and
+/// none of the others lack.
+pub(super) fn invoked<'a>(
+    given: &ArgMatches<'a>,
+) -> Result<Option<Invocation<'a>>, WrongValue<'a>> {
+    let Some(listen) = given.get_str("listen") else {
+        return Ok(None);
+    };
+    let listen = address("listen", listen)?;
+    let (Some(book), Some(meters)) = (given.get_str("book"), given.get_str("meters")) else {
+        return Ok(None);
+    };
+    let (Some(head), Some(width), Some(timing)) = (
+        head_of(given),
+        width_of(given),
+        timing_of(given),
+    ) else {
+        return Ok(None);
+    };
+    Ok(Some(Invocation::Head(HeadOptions {
+        head,
+        book: BookOptions {
+            path: book,
+            is_new: given.get_flag("new"),
+        },
+        meters,
+        listen,
+        cancel: given.get_one("cancel"),
+        opening: opening_of(given),
+        width,
+        timing,
+        stays: given.get_flag("stay"),
+    })))
+}
+
+/// The head end.
+fn head_of<'a>(given: &ArgMatches<'a>) -> Option<HeadId> {
+    HeadId::new(given.get_one("head")?)
+}
+
+/// How many blocks are sent at a time.
+fn width_of<'a>(given: &ArgMatches<'a>) -> Option<Width> {
+    Width::new(given.get_one("width")?)
+}
+
+/// How answers are waited for.
+fn timing_of<'a>(given: &ArgMatches<'a>) -> Option<Timing> {
+    let resend: u32 = given.get_one("resend")?;
+    let flight: u32 = given.get_one("flight")?;
+    Some(Timing {
+        resend: u64::from(resend).saturating_mul(MILLISECOND),
+        flight: u64::from(flight),
+    })
+}
+
+/// What is opened, if anything is.
+fn opening_of<'a>(given: &ArgMatches<'a>) -> Option<Opening<'a>> {
+    Some(Opening {
+        serial: given.get_one("open")?,
+        release: given.get_one("release")?,
+        image: given.get_str("image")?,
+    })
+}

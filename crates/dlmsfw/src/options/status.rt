@@ -1,0 +1,79 @@
+//! The command `status`, and its help.
+
+use super::{Invocation, STATUSES, option};
+use clap::{ArgMatches, Command};
+use fw_cli::{StatusForm, StatusOptions};
+use std::alloc::{AllocError, Global};
+
+/// The names of the forms.
+const TABLE: &str = "table";
+
+const CSV: &str = "csv";
+
+const JSON: &str = "json";
+
+const FORMS: &[&str] = &[TABLE, CSV, JSON];
+
+/// What the long help begins with.
+const ABOUT: &str = "\
+Tells how far the rows of a head end's book are, also while the head end has it. It changes nothing.
+
+Standard output gets the rows by campaigns, in the order in which they were opened, and then by meters
+in the order given: as a table, with how many rows are in which state, as comma-separated values with a
+header line, or as an object of JSON on one line.
+
+Example:
+
+  ./dlmsfw status --book head.book --report csv";
+
+/// What ends the long help.
+const ENDINGS: &str = "\
+Exit status:
+  0  the report was written
+  1  a fault: standard error has `dlmsfw: NAME`, with one of these names, and a second line with the file
+       NoBook       FILE isn't there
+       BookFault    FILE can't be read
+       BadBook N    the bytes of FILE from offset N on are no book's
+       BadRecord N  record N of FILE, counted from 0, has no place in a book
+       Output       standard output can't be written, as on a full disk
+       OutOfMemory  the system gives no more memory
+     Except at Output, nothing was written.
+  2  a wrong command line: standard error says what is wrong";
+
+/// The command.
+pub(super) fn command<'a>(alloc: Global) -> Result<Command<'a>, AllocError> {
+    Command::new(alloc, "status")
+        .about("Tells how far the rows of a head end's book are")
+        .long_about(ABOUT)
+        .after_help(STATUSES)
+        .after_long_help(ENDINGS)
+        .arg(
+            option(alloc, "book", "FILE")
+                .required(true)
+                .help("The file that has the book"),
+        )?
+        .arg(
+            option(alloc, "report", "FORM")
+                .default_value(TABLE)
+                .help("The form of the report")
+                .value_parser(FORMS),
+        )
+}
+
+/// The command with the options that were given.
+pub(super) fn invoked<'a>(given: &ArgMatches<'a>) -> Option<Invocation<'a>> {
+    Some(Invocation::Status(StatusOptions {
+        book: given.get_str("book")?,
+        report: form(given.get_str("report")?)?,
+    }))
+}
+
+/// The form of this name.
+fn form(name: &str) -> Option<StatusForm> {
+    match name {
+        TABLE => Some(StatusForm::Table),
+        CSV => Some(StatusForm::Csv),
+        JSON => Some(StatusForm::Json),
+        _ => None,
+    }
+}

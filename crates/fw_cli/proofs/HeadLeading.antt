@@ -1,0 +1,168 @@
+-- Which faults of the command `head` come when, and which options they need.
+use Rattle.std.proofs.Common.{◌≡◌, ℕ, List, Bool, true, false, Option, Some, None, Result, Ok, Err, IfErr, inl, inr, refl, sym, subst, ap}
+use Rattle.std.specs.Prelude.{IsTrue, is_some, ◌⊎◌}
+use Rattle.fw_book.specs.declared.error.BookError.{BookError}
+use Rattle.fw_rollout.specs.declared.error.Stop.{Stop}
+use Rattle.fw_rollout.specs.declared.error.Stop.TheVariants as stop
+use Rattle.fw_cli.specs.declared.fault.Fault.{Fault}
+use Rattle.fw_cli.specs.declared.fault.Fault.TheVariants as fault
+use Rattle.fw_cli.specs.declared.head.HeadOptions.{HeadOptions}
+use Rattle.fw_cli.specs.Faults.{fault_of_stop}
+use Rattle.fw_cli.specs.Heads.{ComesBeforeLines, IsAskedFor, IsCancelFault, IsOfBook, IsOfCancelling, IsOfHead, IsOfHeadSetup, IsOfList, IsOfNewBook, IsOfOldBook, IsOfOpening, IsOfOpeningSetup, IsOfStop, IsOpenFault}
+use Rattle.fw_cli.specs.Openings.{PartsRefused}
+
+-- ---- the book
+
+old_in_setup : (f : Fault) → IsOfOldBook f → IsOfHeadSetup f
+old_in_setup fault.ListFault is = tt
+old_in_setup (fault.BadList line) is = tt
+old_in_setup fault.ImageFault is = tt
+old_in_setup fault.BadSetup is = tt
+old_in_setup fault.Socket is = tt
+old_in_setup (fault.NoAddress meter) is = tt
+old_in_setup (fault.OpenRefused refusal) is = tt
+old_in_setup fault.BookExists is = tt
+old_in_setup f is = is
+
+new_in_setup : (f : Fault) → IsOfNewBook f → IsOfHeadSetup f
+new_in_setup fault.BookExists is = tt
+new_in_setup fault.Locked is = tt
+new_in_setup fault.BookFault is = tt
+new_in_setup fault.OutOfMemory is = tt
+new_in_setup f is = absurd is
+
+pub book_in_setup : (b : Bool) (f : Fault) → IsOfBook b f → IsOfHeadSetup f
+book_in_setup true f is = new_in_setup f is
+book_in_setup false f is = old_in_setup f is
+
+old_is_asked : (options : HeadOptions) (f : Fault) → options.book.is_new ≡ false → IsOfOldBook f → IsAskedFor options f
+old_is_asked options fault.NoBook e is = e
+old_is_asked options (fault.BadBook offset) e is = e
+old_is_asked options (fault.BadRecord index) e is = e
+old_is_asked options fault.ForeignHead e is = e
+old_is_asked options fault.Locked e is = tt
+old_is_asked options fault.BookFault e is = tt
+old_is_asked options fault.OutOfMemory e is = tt
+old_is_asked options f e is = absurd is
+
+new_is_asked : (options : HeadOptions) (f : Fault) → IsTrue options.book.is_new → IsOfNewBook f → IsAskedFor options f
+new_is_asked options fault.BookExists e is = e
+new_is_asked options fault.Locked e is = tt
+new_is_asked options fault.BookFault e is = tt
+new_is_asked options fault.OutOfMemory e is = tt
+new_is_asked options f e is = absurd is
+
+asked_by : (options : HeadOptions) (b : Bool) (f : Fault) → options.book.is_new ≡ b → IsOfBook b f → IsAskedFor options f
+asked_by options true f e is = new_is_asked options f (subst IsTrue (sym e) refl) is
+asked_by options false f e is = old_is_asked options f e is
+
+pub book_is_asked : (options : HeadOptions) (f : Fault) → IsOfBook options.book.is_new f → IsAskedFor options f
+book_is_asked options f is = asked_by options options.book.is_new f refl is
+
+-- ---- what comes after the first line
+
+pub setup_in_head : (f : Fault) → IsOfHeadSetup f → IsOfHead f
+setup_in_head (fault.CancelRefused refusal) is = tt
+setup_in_head fault.Full is = tt
+setup_in_head fault.Output is = tt
+setup_in_head f is = is
+
+pub record IsLater (options : HeadOptions) (f : Fault) : Type 0 where
+  pub of_head : IsOfHead f
+  pub asked : IsAskedFor options f
+  pub later : ¬ ComesBeforeLines f
+
+pub cancelling : (options : HeadOptions) (serial : ℕ) (f : Fault) → options.cancel ≡ Some serial → IsOfCancelling f → IsLater options f
+cancelling options serial (fault.CancelRefused refusal) e is = record { of_head = tt; asked = subst (λ (o : Option ℕ). IsTrue (is_some o)) (sym e) refl; later = λ h. h }
+cancelling options serial fault.BookFault e is = record { of_head = tt; asked = tt; later = λ h. h }
+cancelling options serial fault.Full e is = record { of_head = tt; asked = tt; later = λ h. h }
+cancelling options serial fault.OutOfMemory e is = record { of_head = tt; asked = tt; later = λ h. h }
+cancelling options serial f e is = absurd is
+
+pub opening : (options : HeadOptions) (f : Fault) → IsTrue (is_some options.opening) → IsOfOpening f → IsLater options f
+opening options (fault.OpenRefused refusal) e is = record { of_head = tt; asked = e; later = λ h. h }
+opening options fault.BookFault e is = record { of_head = tt; asked = tt; later = λ h. h }
+opening options fault.Full e is = record { of_head = tt; asked = tt; later = λ h. h }
+opening options fault.OutOfMemory e is = record { of_head = tt; asked = tt; later = λ h. h }
+opening options f e is = absurd is
+
+pub stopped : (options : HeadOptions) (f : Fault) → IsOfStop f → IsLater options f
+stopped options fault.Socket is = record { of_head = tt; asked = tt; later = λ h. h }
+stopped options fault.BookFault is = record { of_head = tt; asked = tt; later = λ h. h }
+stopped options fault.Full is = record { of_head = tt; asked = tt; later = λ h. h }
+stopped options fault.OutOfMemory is = record { of_head = tt; asked = tt; later = λ h. h }
+stopped options f is = absurd is
+
+of_stop : (error : Stop) → IsOfStop (fault_of_stop error)
+of_stop stop.Closed = tt
+of_stop stop.Full = tt
+of_stop stop.BookFault = tt
+of_stop stop.OutOfMemory = tt
+
+pub stop_fault : (error : Stop) (f : Fault) → f ≡ fault_of_stop error → IsOfStop f
+stop_fault error f e = subst IsOfStop (sym e) (of_stop error)
+
+pub cancel_fault : (refusal : Option BookError) (f : Fault) → IsCancelFault refusal f → IsOfCancelling f
+cancel_fault refusal (fault.CancelRefused e) is = tt
+cancel_fault refusal fault.BookFault is = tt
+cancel_fault refusal fault.Full is = tt
+cancel_fault refusal fault.OutOfMemory is = tt
+cancel_fault refusal f is = absurd is
+
+pub open_fault : (refusal : Option BookError) (f : Fault) → IsOpenFault refusal f → IsOfOpening f
+open_fault refusal (fault.OpenRefused e) is = tt
+open_fault refusal fault.BookFault is = tt
+open_fault refusal fault.Full is = tt
+open_fault refusal fault.OutOfMemory is = tt
+open_fault refusal f is = absurd is
+
+-- ---- what comes before the first line
+
+pub parts_fault : (serial : ℕ) (meters : List ℕ) (f : Fault) → PartsRefused serial meters f → IsOfOpeningSetup f
+parts_fault serial meters fault.BadSetup is = tt
+parts_fault serial meters (fault.OpenRefused refusal) is = tt
+parts_fault serial meters fault.OutOfMemory is = tt
+parts_fault serial meters f is = absurd is
+
+pub list_in_setup : (f : Fault) → IsOfList f → IsOfHeadSetup f
+list_in_setup fault.ListFault is = tt
+list_in_setup (fault.BadList line) is = tt
+list_in_setup fault.OutOfMemory is = tt
+list_in_setup f is = absurd is
+
+pub list_is_asked : (options : HeadOptions) (f : Fault) → IsOfList f → IsAskedFor options f
+list_is_asked options fault.ListFault is = tt
+list_is_asked options (fault.BadList line) is = tt
+list_is_asked options fault.OutOfMemory is = tt
+list_is_asked options f is = absurd is
+
+pub opening_in_setup : (f : Fault) → IsOfOpeningSetup f → IsOfHeadSetup f
+opening_in_setup fault.ImageFault is = tt
+opening_in_setup fault.BadSetup is = tt
+opening_in_setup (fault.OpenRefused refusal) is = tt
+opening_in_setup fault.OutOfMemory is = tt
+opening_in_setup f is = absurd is
+
+pub opening_is_asked : (options : HeadOptions) (f : Fault) → IsTrue (is_some options.opening) → IsOfOpeningSetup f → IsAskedFor options f
+opening_is_asked options fault.ImageFault e is = e
+opening_is_asked options fault.BadSetup e is = e
+opening_is_asked options (fault.OpenRefused refusal) e is = e
+opening_is_asked options fault.OutOfMemory e is = tt
+opening_is_asked options f e is = absurd is
+
+pub address_in_setup : (f : Fault) → (f ≡ fault.OutOfMemory) ⊎ ((number : ℕ) × (f ≡ fault.NoAddress number)) → IsOfHeadSetup f
+address_in_setup f (inl e) = subst IsOfHeadSetup (sym e) tt
+address_in_setup f (inr (number, e)) = subst IsOfHeadSetup (sym e) tt
+
+pub address_is_asked : (options : HeadOptions) (f : Fault) → (f ≡ fault.OutOfMemory) ⊎ ((number : ℕ) × (f ≡ fault.NoAddress number)) → IsAskedFor options f
+address_is_asked options f (inl e) = subst (IsAskedFor options) (sym e) tt
+address_is_asked options f (inr (number, e)) = subst (IsAskedFor options) (sym e) tt
+
+-- what is said of a fault is said of the one that is passed on
+pub passed_on : {A : Type 0} (r : Result A Fault) (P : Fault → Type 0) (e f : Fault) → r ≡ Err e → e ≡ f → P f → IfErr r P
+passed_on {A} r P e f was same is = subst (λ (x : Result A Fault). IfErr x P) (sym was) (subst P (sym same) is)
+
+-- what follows of each fault follows where there is one
+pub on_err : {A : Type 0} (r : Result A Fault) (P Q : Fault → Type 0) → ((f : Fault) → P f → Q f) → IfErr r P → IfErr r Q
+on_err (Ok x) P Q follows is = tt
+on_err (Err f) P Q follows is = follows f is

@@ -1,0 +1,201 @@
+//! The command `meter` with a count: meters in one process, to try a head end on.
+
+ghost use Rattle.std.specs.Prelude.{
+  ◌≡◌,
+  ◌≢◌,
+  ◌≤◌,
+  ◌⊎◌,
+  ◌^◌,
+  flat_map,
+  length,
+  string_bytes,
+  IfErr,
+  IfOk,
+  IsErr,
+  MatchOption,
+  None,
+};
+ghost use Rattle.std.specs.Io.KnownBytes.{Keeps};
+ghost use Rattle.std.specs.Net.Socket.{socket_port};
+ghost use Rattle.fw_store.specs.Setup.{IsSetup};
+ghost use Rattle.fw_store.specs.declared.version.HeaderVersion.TheVariants.{Two};
+ghost use Rattle.fw_cli.specs.Fleets.{IsAddressOf, port_of};
+ghost use Rattle.fw_cli.specs.Meters.{IsOfMeter, IsOfSetup, default_factory, listening_line};
+ghost use Rattle.fw_cli.specs.declared.fleet.Member.{Member};
+
+use crate::fault::Fault;
+use crate::meter::{MeterOptions, Teller};
+use crate::meter_lines::listening_line;
+use crate::meter_store::stored_meter;
+use crate::output::write_text;
+use fw_daemon::{Closed, Dropped, MeterDaemon, Port, UdpPort, Watch, step};
+use fw_store::FileStore;
+use std::alloc::{AllocError, Global};
+use std::fs::File;
+use std::io::Write;
+use std::net::{Net, SocketAddr};
+use std::rt::{Clock, Files};
+use std::sync::Wait;
+use std::thread;
+use std::time::Duration;
+
+/// How long it is waited after each round of all meters, in microseconds.
+const PAUSE: u64 = 200;
+
+/// A meter with its port.
+#[derive(Drop)]
+struct Member {
+    port: UdpPort,
+    at: SocketAddr,
+    daemon: MeterDaemon<FileStore>,
+}
+
+/// Meters, and what of their datagrams was dropped up to the last round.
+#[derive(Drop)]
+struct Fleet {
+    members: Vec<Member>,
+    dropped: Dropped,
+    faults: u64,
+}
+
+/// The command for several meters, of the numbers from 1 to this one. A datagram that comes to a meter is handled once those before it had
+/// their turn.
+pub(crate) fn serve_fleet<R: Files<File = File> + Clock + Net + Wait, W: Write>(
+    rt: &R,
+    alloc: Global,
+    writer: &mut W,
+    options: &MeterOptions<'_>,
+    count: u32,
+) -> Result<(), Fault>
+    ensures ends { IsErr result }
+    ensures bad_setup { options.now.fresh.factory_file ≡ None → result ≡ Err Fault.BadSetup
+        → ¬ IsSetup Two options.now.fresh.block_size options.now.fresh.capacity default_factory }
+    ensures silent { IfErr result (λ f. f ≢ Fault.Socket → f ≢ Fault.Output
+        → Keeps (W.contents writer.old) (W.contents writer.new)) }
+    ensures only { IfErr result IsOfMeter }
+{
+    let mut fleet = Fleet {
+        members: members_of(rt, alloc, options, count)?,
+        dropped: Dropped {
+            strangers: 0,
+            unserved: 0,
+        },
+        faults: 0,
+    };
+    let lines = listening_lines(alloc, &fleet.members)?;
+    write_text(writer, lines.as_str())?;
+    let mut teller = Teller::new(rt, alloc, writer);
+    fleet.serve(rt, alloc, &mut teller);
+    Err(Fault::Socket)
+}
+
+/// Meters of the numbers from 1 to this one, with their ports.
+fn members_of<R: Files<File = File> + Net>(
+    rt: &R,
+    alloc: Global,
+    options: &MeterOptions<'_>,
+    count: u32,
+) -> Result<Vec<Member>, Fault>
+    ensures count { IfOk result (λ members. length members.items ≡ count) }
+    ensures bad_setup { options.now.fresh.factory_file ≡ None → result ≡ Err Fault.BadSetup
+        → ¬ IsSetup Two options.now.fresh.block_size options.now.fresh.capacity default_factory }
+    ensures only { IfErr result (λ f. (f ≡ Fault.Socket) ⊎ IsOfSetup f) }
+{
+    let mut members = Vec::new(alloc);
+    for before in 0..count {
+        members.push(new_member(rt, alloc, options, before + 1)?)?;
+    }
+    Ok(members)
+}
+
+/// The meter of this number, from 1 on.
+fn new_member<R: Files<File = File> + Net>(
+    rt: &R,
+    alloc: Global,
+    options: &MeterOptions<'_>,
+    number: u32,
+) -> Result<Member, Fault>
+    ensures bad_setup { options.now.fresh.factory_file ≡ None → result ≡ Err Fault.BadSetup
+        → ¬ IsSetup Two options.now.fresh.block_size options.now.fresh.capacity default_factory }
+    ensures only { IfErr result (λ f. (f ≡ Fault.Socket) ⊎ IsOfSetup f) }
+{
+    let listen = address_of(options.listen, number).ok_or(Fault::Socket)?;
+    let port = UdpPort::bind_polling(rt, listen).map_err(|_| Fault::Socket)?;
+    let at = port.address().map_err(|_| Fault::Socket)?;
+    let store = options.store;
+    let path = format!(in alloc; "{store}.{number}")?;
+    let meter = stored_meter(rt, alloc, path.as_str(), &options.fresh)?;
+    let heads = Vec::from_slice(alloc, &options.heads)?;
+    Ok(Member {
+        port,
+        at,
+        daemon: MeterDaemon::new(meter, heads),
+    })
+}
+
+/// The address that the meter of this number receives at, if there is such a port: as many ports after that of the first meter as there are
+/// meters before it. Of port 0 the system picks one for each.
+fn address_of(first: SocketAddr, number: u32) -> Option<SocketAddr>
+    ensures { MatchOption result (2 ^ 16 ≤ port_of (socket_port first) number) (IsAddressOf first number) }
+{
+    if first.port() == 0 {
+        return Some(first);
+    }
+    let port = u64::from(first.port()) + u64::from(number.saturating_sub(1));
+    match u16::try_from(port) {
+        Ok(port) => {
+            let mut address = first;
+            address.set_port(port);
+            Some(address)
+        }
+        Err(_) => None,
+    }
+}
+
+/// The lines that tell at which addresses datagrams are received.
+fn listening_lines(alloc: Global, members: &[Member]) -> Result<String, AllocError>
+    ensures { IfOk result (λ lines. string_bytes lines ≡ flat_map (λ (member : Member). listening_line member.at) members.now) }
+{
+    let mut lines = String::new(alloc);
+    for member in members {
+        let line = listening_line(alloc, member.at)?;
+        lines.push_str(line.as_str())?;
+    }
+    Ok(lines)
+}
+
+impl Fleet {
+    /// Rounds of all meters, until the port of one is closed.
+    fn serve<R: Clock + Wait, W: Watch>(&mut self, rt: &R, alloc: Global, watch: &mut W) {
+        for _ in rt.forever() {
+            if self.round(alloc, watch).is_err() {
+                return;
+            }
+            thread::sleep(rt, Duration::from_micros(PAUSE));
+        }
+        unreachable!()
+    }
+
+    /// A round of each meter, as if it were alone.
+    fn round<W: Watch>(&mut self, alloc: Global, watch: &mut W) -> Result<(), Closed> {
+        let mut dropped = Dropped {
+            strangers: 0,
+            unserved: 0,
+        };
+        let mut faults: u64 = 0;
+        for member in &mut self.members {
+            let activated = step(alloc, &mut member.port, &mut member.daemon)?;
+            watch.round(activated, self.dropped, self.faults);
+            let Dropped {
+                strangers,
+                unserved,
+            } = member.daemon.dropped();
+            dropped.strangers = dropped.strangers.saturating_add(strangers);
+            dropped.unserved = dropped.unserved.saturating_add(unserved);
+            faults = faults.saturating_add(member.port.faults());
+        }
+        self.dropped = dropped;
+        self.faults = faults;
+        Ok(())
+    }
+}

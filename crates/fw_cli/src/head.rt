@@ -1,0 +1,338 @@
+//! The command `head`: a head end whose book is in a file leads meters over UDP to the images that they are offered.
+
+ghost use Rattle.std.specs.Prelude.{◌≡◌, ◌⊎◌, ℕ, IfErr, IfOk, IsTrue, is_some};
+ghost use Rattle.std.specs.Io.KnownBytes.{Keeps};
+ghost use Rattle.fw_cli.specs.Heads.{
+  ComesBeforeLines,
+  IsAskedFor,
+  IsOfCancelling,
+  IsOfHead,
+  IsOfHeadSetup,
+  IsOfList,
+  IsOfOpening,
+  IsOfOpeningSetup,
+  IsOfStop,
+};
+
+use crate::fault::Fault;
+use crate::head_book::{BookOptions, kept_head};
+use crate::head_lines::{cancelled_line, opened_line, over_line};
+use crate::head_opening::{Opening, Part, cancel, check_part, is_open, open_part, parts_of};
+use crate::head_port::UdpHeadPort;
+use crate::head_progress::HeadProgress;
+use crate::input::read_input;
+use crate::meter::tell_listening;
+use crate::meter_list::read_list;
+use crate::output::write_text;
+use crate::reads::Reads;
+use fw_blocks::Width;
+use fw_book::BookError;
+use fw_daemon::UdpPort;
+use fw_journal::FileDevice;
+use fw_kept::KeptHead;
+use fw_names::{CampaignId, HeadId};
+use fw_rollout::{HeadDaemon, Listed, MeterList, Timing, serve_head};
+use std::alloc::Global;
+use std::collections::HashSet;
+use std::fs::File;
+use std::io::Write;
+use std::net::{Net, SocketAddr};
+use std::rt::{Clock, Files};
+use std::sync::Wait;
+
+/// How long a receive waits, in milliseconds. It is the least time in which a silence is seen.
+const WAIT_LIMIT: u64 = 5;
+
+/// The options of the command.
+#[derive(Clone, Copy, Debug)]
+pub struct HeadOptions<'a> {
+    /// The head end.
+    pub head: HeadId,
+    /// Where its book is.
+    pub book: BookOptions<'a>,
+    /// The path of the list of its meters.
+    pub meters: &'a str,
+    /// The address that it asks from.
+    pub listen: SocketAddr,
+    /// The serial number of the campaign that is cancelled first, at least 1.
+    pub cancel: Option<u32>,
+    /// What is opened then.
+    pub opening: Option<Opening<'a>>,
+    /// How many blocks are sent to a meter at a time.
+    pub width: Width,
+    /// How answers are waited for.
+    pub timing: Timing,
+    /// Whether it goes on where no row is live.
+    pub stays: bool,
+}
+
+/// The head end leads each live row of its book to its end. It may be ended at any moment, and goes on there when it is run again.
+///
+/// The writer gets the line `listening ..`, once datagrams are received, `cancelled ..` and `opened ..` for each campaign, `row ..` for each
+/// row that ended, each once the disk has it, and `over ..` at the end. Each is flushed. After the first, a line that can't be written is
+/// lost. How far it is, is shown on the terminal, if there is one.
+///
+/// # Errors
+///
+/// - `ListFault`: the list can't be read. `BadList`: this line is none of a list.
+/// - `ImageFault`: the image can't be read. `OpenRefused` with `ImageTooLong`: it has more than 64 MiB.
+/// - `BadSetup`: the campaigns that are opened need greater serial numbers than there are, or begin at 0, which is none.
+/// - `Socket`: the address can't be received at. Or the socket failed 1,000 times in a row while the head end led.
+/// - `NoBook`, `BookExists`, `Locked`, `BadBook`, `BadRecord`, `ForeignHead`: the file has no book that this head end may begin with. It is
+///   left as it is, or as a journal of the same records.
+/// - `NoAddress`: the meter of this number has a live row in the book, and isn't in the list. Rows that are cancelled first need no address.
+/// - `CancelRefused`, `OpenRefused`: the book's refusal.
+/// - `BookFault`, `Full`: the file can't be made, opened or written. Nothing of what it lacks was reported.
+/// - `Output`: the first line can't be written.
+/// - `OutOfMemory`.
+///
+/// Up to `NoAddress` nothing was sent, and the book is as before. Up to `OpenRefused` nothing was sent.
+pub fn run_head<R: Files<File = File> + Clock + Net + Wait, W: Write, E: Eprint>(
+    rt: &R,
+    alloc: Global,
+    writer: &mut W,
+    terminal: Option<&E>,
+    options: &HeadOptions<'_>,
+) -> Result<(), Fault>
+    ensures silent { IfErr result (λ f. ComesBeforeLines f → Keeps (W.contents writer.old) (W.contents writer.new)) }
+    ensures asked { IfErr result (IsAskedFor options.now) }
+    ensures only { IfErr result IsOfHead }
+{
+    let Ready {
+        port,
+        at,
+        list,
+        opened,
+        mut kept,
+    } = set_up(rt, alloc, options)?;
+    tell_listening(alloc, writer, at)?;
+    if let Some(serial) = options.cancel {
+        cancel_one(alloc, writer, &mut kept, options.head, serial)?;
+    }
+    if let Some(opened) = opened {
+        open_all(alloc, writer, &mut kept, &opened)?;
+    }
+    let mut daemon = HeadDaemon::new(alloc, kept, &list, options.timing)?;
+    lead(
+        rt,
+        alloc,
+        writer,
+        terminal,
+        port,
+        &mut daemon,
+        options.stays,
+    )
+}
+
+/// All that the command needs before its first line.
+#[derive(Drop)]
+struct Ready {
+    port: UdpPort,
+    at: SocketAddr,
+    list: MeterList,
+    opened: Option<Opened>,
+    kept: KeptHead<FileDevice>,
+}
+
+/// Campaigns that are opened, of one image.
+#[derive(Drop)]
+struct Opened {
+    parts: Vec<Part>,
+    release: u32,
+    image: Vec<u8>,
+}
+
+/// Reads the list and the image, binds the socket, and opens the book.
+fn set_up<R: Files<File = File> + Net>(
+    rt: &R,
+    alloc: Global,
+    options: &HeadOptions<'_>,
+) -> Result<Ready, Fault>
+    ensures opened { IfOk result (λ ready. IsTrue (is_some ready.opened) → IsTrue (is_some options.now.opening)) }
+    ensures asked { IfErr result (IsAskedFor options.now) }
+    ensures only { IfErr result IsOfHeadSetup }
+{
+    let list = list_of_file(rt, alloc, options.meters)?;
+    let opened = match options.opening {
+        None => None,
+        Some(opening) => Some(opened_of(rt, alloc, opening, list.meters())?),
+    };
+    let port = UdpPort::bind_for(rt, options.listen, WAIT_LIMIT).map_err(|_| Fault::Socket)?;
+    let at = port.address().map_err(|_| Fault::Socket)?;
+    let kept = led_head(rt, alloc, options, list.meters())?;
+    Ok(Ready {
+        port,
+        at,
+        list,
+        opened,
+        kept,
+    })
+}
+
+/// The head end with its book, each of whose meters that it has to ask is in the list.
+fn led_head<F: Files<File = File>>(
+    rt: &F,
+    alloc: Global,
+    options: &HeadOptions<'_>,
+    list: &[Listed],
+) -> Result<KeptHead<FileDevice>, Fault>
+    ensures asked { IfErr result (IsAskedFor options.now) }
+    ensures only { IfErr result IsOfHeadSetup }
+{
+    let kept = kept_head(rt, alloc, options.book, options.head, options.width)?;
+    check_addresses(alloc, &kept, list, options.cancel)?;
+    Ok(kept)
+}
+
+/// The meters of the list in a file.
+fn list_of_file<F: Files<File = File>>(
+    rt: &F,
+    alloc: Global,
+    path: &str,
+) -> Result<MeterList, Fault>
+    ensures only { IfErr result IsOfList }
+{
+    let text = bytes_of_file(rt, alloc, path, Fault::ListFault, Fault::ListFault)?;
+    read_list(alloc, &text)
+}
+
+/// The campaigns of an opening for the meters of a list, with the image of its file.
+fn opened_of<F: Files<File = File>>(
+    rt: &F,
+    alloc: Global,
+    opening: Opening<'_>,
+    list: &[Listed],
+) -> Result<Opened, Fault>
+    ensures only { IfErr result IsOfOpeningSetup }
+{
+    let parts = parts_of(alloc, opening.serial, list)?;
+    let image = bytes_of_file(
+        rt,
+        alloc,
+        opening.image,
+        Fault::ImageFault,
+        Fault::OpenRefused(BookError::ImageTooLong),
+    )?;
+    Ok(Opened {
+        parts,
+        release: opening.release,
+        image,
+    })
+}
+
+/// All bytes of a file, and one of these faults where it can't be read, or has more than 64 MiB.
+fn bytes_of_file<F: Files<File = File>>(
+    rt: &F,
+    alloc: Global,
+    path: &str,
+    fault: Fault,
+    too_long: Fault,
+) -> Result<Vec<u8>, Fault>
+    ensures only { IfErr result (λ f. (f ≡ fault) ⊎ ((f ≡ too_long) ⊎ (f ≡ Fault.OutOfMemory))) }
+{
+    let Ok(mut file) = File::open(rt, path) else {
+        return Err(fault);
+    };
+    let mut reads = Reads::none();
+    match read_input(alloc, &mut file, &mut reads) {
+        Ok(bytes) => Ok(bytes),
+        Err(Fault::OutOfMemory) => Err(Fault::OutOfMemory),
+        Err(Fault::TooMuchInput) => Err(too_long),
+        Err(_) => Err(fault),
+    }
+}
+
+/// Checks that each meter with a live row is in the list, except for the rows of the campaign that is cancelled first.
+fn check_addresses(
+    alloc: Global,
+    kept: &KeptHead<FileDevice>,
+    list: &[Listed],
+    cancelled: Option<u32>,
+) -> Result<(), Fault>
+    ensures only { IfErr result (λ f. (f ≡ Fault.OutOfMemory) ⊎ ((number : ℕ) × (f ≡ Fault.NoAddress number))) }
+{
+    let mut numbers = HashSet::new(alloc);
+    for at in list {
+        numbers.insert(at.meter.number())?;
+    }
+    for row in kept.head().view().rows {
+        let number = row.meter().number();
+        if Some(row.name().campaign.serial()) != cancelled && !numbers.contains(&number) {
+            return Err(Fault::NoAddress(number));
+        }
+    }
+    Ok(())
+}
+
+/// Cancels the campaign of this serial number, and writes a line.
+fn cancel_one<W: Write>(
+    alloc: Global,
+    writer: &mut W,
+    kept: &mut KeptHead<FileDevice>,
+    head: HeadId,
+    serial: u32,
+) -> Result<(), Fault>
+    ensures only { IfErr result IsOfCancelling }
+{
+    cancel(kept, alloc, serial)?;
+    let Some(campaign) = CampaignId::new(head, serial) else {
+        return Ok(());
+    };
+    if let Ok(line) = cancelled_line(alloc, campaign) {
+        let _lost = write_text(writer, line.as_str());
+    }
+    Ok(())
+}
+
+/// Opens the campaigns that the book lacks, once it is known that it takes each of them, and writes a line for each.
+fn open_all<W: Write>(
+    alloc: Global,
+    writer: &mut W,
+    kept: &mut KeptHead<FileDevice>,
+    opened: &Opened,
+) -> Result<(), Fault>
+    ensures only { IfErr result IsOfOpening }
+{
+    let Opened {
+        parts,
+        release,
+        image,
+    } = opened;
+    for part in parts {
+        if !is_open(kept, part, *release, image) {
+            check_part(kept, part, image)?;
+        }
+    }
+    for part in parts {
+        if !is_open(kept, part, *release, image) {
+            let name = open_part(alloc, kept, part, *release, image)?;
+            if let Ok(line) = opened_line(alloc, name) {
+                let _lost = write_text(writer, line.as_str());
+            }
+        }
+    }
+    Ok(())
+}
+
+/// Leads the rows to their ends, and writes how many ended how.
+fn lead<R: Clock + Wait, W: Write, E: Eprint>(
+    rt: &R,
+    alloc: Global,
+    writer: &mut W,
+    terminal: Option<&E>,
+    port: UdpPort,
+    daemon: &mut HeadDaemon<FileDevice>,
+    stays: bool,
+) -> Result<(), Fault>
+    ensures only { IfErr result IsOfStop }
+{
+    let mut port = UdpHeadPort::new(rt, alloc, port, writer);
+    let mut progress = HeadProgress::new(terminal);
+    serve_head(rt, &mut port, daemon, stays, &mut progress)?;
+    drop(progress);
+    drop(port);
+    if let Ok(line) = over_line(alloc, daemon.counts()) {
+        let _lost = write_text(writer, line.as_str());
+    }
+    Ok(())
+}

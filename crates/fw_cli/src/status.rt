@@ -1,0 +1,213 @@
+//! The command `status`: how far the rows of a book are, also while a head end has it.
+
+ghost use Rattle.std.specs.Prelude.{◌≡◌, ◌≢◌, ◌++◌, List, flat_map, IfErr, IfOk, OnOk, string_bytes};
+ghost use Rattle.std.specs.Io.KnownBytes.{Appends, Keeps};
+ghost use Rattle.serde_json.specs.View.{view};
+ghost use Rattle.serde_json.specs.Written.{compact_text};
+ghost use Rattle.fw_cli.specs.declared.summary.RowEntry.{RowEntry};
+ghost use Rattle.fw_cli.specs.Heads.{HasRows, IsOfStatus, count_of, counts_line, csv_row, is_in, status_data, status_text};
+
+use crate::fault::Fault;
+use crate::head_book::is_absent;
+use crate::json::push_rows;
+use crate::output::write_text;
+use crate::report::state_word;
+use crate::summary::{RowEntry, push_book};
+use crate::table::{ROW_HEADINGS, append_rows};
+use fw_book::RowState;
+use fw_kept::read_kept;
+use serde_json::{Value, json};
+use std::alloc::{AllocError, Global};
+use std::fs::File;
+use std::io::{ErrorKind, Read, Write};
+use std::rt::Files;
+
+/// The headings of comma-separated values.
+const CSV_HEADINGS: &str = "head,campaign,meter,state\n";
+
+/// The form of the report.
+#[derive(Clone, Copy, Debug, PartialEq, Eq)]
+pub enum StatusForm {
+    /// A table with headings, and how many rows are in which state.
+    Table,
+    /// Comma-separated values (RFC 4180) with a header line.
+    Csv,
+    /// One object of JSON (RFC 8259), on one line.
+    Json,
+}
+
+/// The options of the command.
+#[derive(Clone, Copy, Debug)]
+pub struct StatusOptions<'a> {
+    /// The path of the file of the book.
+    pub book: &'a str,
+    /// The form of the report.
+    pub report: StatusForm,
+}
+
+/// Writes how far each row of the book in the file is. The file is read alone, and may be another program's meanwhile: what it has is then
+/// what it had on some commit.
+///
+/// # Errors
+///
+/// - `NoBook`: no file is there. `BookFault`: it can't be read.
+/// - `BadBook`, `BadRecord`: it holds no book.
+/// - `Output`: the writer failed. What it holds then is unspecified.
+/// - `OutOfMemory`.
+pub fn run_status<F: Files<File = File>, W: Write>(
+    rt: &F,
+    alloc: Global,
+    writer: &mut W,
+    options: &StatusOptions<'_>,
+) -> Result<(), Fault>
+    // Of the file's contents nothing is known here, so the rows are some.
+    ensures ok { OnOk result ((rows : List RowEntry) × Appends (W.contents writer.old) (W.contents writer.new)
+        (status_text options.now.report rows)) }
+    ensures silent { IfErr result (λ f. f ≢ Fault.Output → Keeps (W.contents writer.old) (W.contents writer.new)) }
+    ensures only { IfErr result IsOfStatus }
+{
+    let bytes = bytes_of_book(rt, alloc, options.book)?;
+    let rows = rows_of(alloc, &bytes)?;
+    let text = status_of(alloc, &rows, options.report)?;
+    write_text(writer, text.as_str())
+}
+
+/// All bytes of the file of a book.
+fn bytes_of_book<F: Files<File = File>>(rt: &F, alloc: Global, path: &str) -> Result<Vec<u8>, Fault>
+    ensures only { IfErr result IsOfStatus }
+{
+    let mut file = match File::open(rt, path) {
+        Ok(file) => file,
+        Err(_) if is_absent(rt, path) => return Err(Fault::NoBook),
+        Err(_) => return Err(Fault::BookFault),
+    };
+    let mut bytes = Vec::new(alloc);
+    match file.read_to_end(&mut bytes) {
+        Ok(_) => Ok(bytes),
+        Err(error) if error.kind() == ErrorKind::OutOfMemory => Err(Fault::OutOfMemory),
+        Err(_) => Err(Fault::BookFault),
+    }
+}
+
+/// The rows of the book that these bytes hold.
+fn rows_of(alloc: Global, bytes: &[u8]) -> Result<Vec<RowEntry>, Fault>
+    ensures rows { IfOk result (λ rows. HasRows bytes.now rows.items) }
+    ensures only { IfErr result IsOfStatus }
+{
+    let mut rows = Vec::new(alloc);
+    let Some(book) = read_kept(alloc, bytes)? else {
+        return Ok(rows);
+    };
+    push_book(&mut rows, book.head().number(), &book)?;
+    Ok(rows)
+}
+
+/// The report of rows in this form.
+fn status_of(alloc: Global, rows: &[RowEntry], form: StatusForm) -> Result<String, AllocError>
+    ensures { IfOk result (λ text. string_bytes text ≡ status_text form rows.now) }
+{
+    let mut text = String::new(alloc);
+    match form {
+        StatusForm::Table => append_status_table(&mut text, rows)?,
+        StatusForm::Csv => append_csv(&mut text, rows)?,
+        StatusForm::Json => append_status_json(alloc, &mut text, rows)?,
+    }
+    Ok(text)
+}
+
+/// How many rows are in this state.
+fn count_of(rows: &[RowEntry], state: RowState) -> usize
+    ensures { result ≡ count_of state rows.now }
+{
+    rows.iter().filter(|row| is_in(state, row.state)).count()
+}
+
+/// Whether a row in the second state is in the first.
+fn is_in(wanted: RowState, state: RowState) -> bool
+    ensures { result ≡ is_in wanted state }
+{
+    wanted == state
+}
+
+/// Appends a table of rows, and how many are in which state.
+fn append_status_table(text: &mut String, rows: &[RowEntry]) -> Result<(), AllocError>
+    ensures { OnOk result (string_bytes text.new ≡ string_bytes text.old ++ status_text StatusForm.Table rows.now) }
+{
+    text.push_str(ROW_HEADINGS)?;
+    append_rows(text, rows)?;
+    append_counts(text, rows)
+}
+
+/// Appends how many rows are in which state.
+fn append_counts(text: &mut String, rows: &[RowEntry]) -> Result<(), AllocError>
+    ensures { OnOk result (string_bytes text.new ≡ string_bytes text.old ++ counts_line rows.now) }
+{
+    let live = count_of(rows, RowState::Live);
+    let done = count_of(rows, RowState::Done);
+    let failed = count_of(rows, RowState::Failed);
+    let cancelled = count_of(rows, RowState::Cancelled);
+    write!(
+        text,
+        "\nlive {live} done {done} failed {failed} cancelled {cancelled}\n"
+    )
+}
+
+/// Appends rows as comma-separated values. No number and no word needs quotes.
+fn append_csv(text: &mut String, rows: &[RowEntry]) -> Result<(), AllocError>
+    ensures { OnOk result (string_bytes text.new ≡ string_bytes text.old ++ status_text StatusForm.Csv rows.now) }
+{
+    text.push_str(CSV_HEADINGS)?;
+    append_csv_rows(text, rows)?;
+    Ok(())
+}
+
+/// Appends a line for each row.
+fn append_csv_rows(text: &mut String, rows: &[RowEntry]) -> Result<(), AllocError>
+    ensures { OnOk result (string_bytes text.new ≡ string_bytes text.old ++ flat_map (λ row. csv_row row) rows.now) }
+{
+    for row in rows {
+        append_csv_row(text, row)?;
+    }
+    Ok(())
+}
+
+/// Appends a row as comma-separated values.
+fn append_csv_row(text: &mut String, row: &RowEntry) -> Result<(), AllocError>
+    ensures { OnOk result (string_bytes text.new ≡ string_bytes text.old ++ csv_row row.now) }
+{
+    let (head, serial, meter) = (row.head, row.serial, row.meter);
+    let state = state_word(row.state);
+    write!(text, "{head},{serial},{meter},{state}\n")
+}
+
+/// Appends rows as JSON, with how many are in which state.
+fn append_status_json(alloc: Global, text: &mut String, rows: &[RowEntry]) -> Result<(), AllocError>
+    ensures { OnOk result (string_bytes text.new ≡ string_bytes text.old ++ status_text StatusForm.Json rows.now) }
+{
+    let json = json_text(alloc, rows)?;
+    text.push_str(json.as_str())?;
+    text.push_str("\n")
+}
+
+/// The text of rows as JSON, without its line feed.
+fn json_text(alloc: Global, rows: &[RowEntry]) -> Result<String, AllocError>
+    ensures { IfOk result (λ text. string_bytes text ≡ compact_text (status_data rows.now)) }
+{
+    let value = status_value(alloc, rows)?;
+    value.to_string(alloc)
+}
+
+/// Rows as a value of JSON.
+fn status_value(alloc: Global, rows: &[RowEntry]) -> Result<Value, AllocError>
+    ensures { IfOk result (λ v. view v ≡ status_data rows.now) }
+{
+    let mut values = Vec::new(alloc);
+    push_rows(alloc, &mut values, rows)?;
+    json!(in alloc; {
+        "cancelled": count_of(rows, RowState::Cancelled),
+        "done": count_of(rows, RowState::Done),
+        "failed": count_of(rows, RowState::Failed),
+        "live": count_of(rows, RowState::Live),
+        "rows": Value::Array(values),
+    })
+}

@@ -1,0 +1,5 @@
+//! Tests of the daemons of a meter and of a head end, through their public calls.
+#![tactic(auto)]
+
+#[cfg(test)]
+mod loopback;
