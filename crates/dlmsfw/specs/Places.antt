@@ -1,8 +1,8 @@
 -- What a fault of a meter or of a head end is about: its address, one of its files, or the serial number of a campaign.
 use Rattle.std.specs.Prelude.{Option, None, Some}
 use Rattle.std.specs.Option.{option_map}
-use Rattle.fw_cli.specs.declared.fault.Fault.{Fault}
-use Rattle.fw_cli.specs.declared.fault.Fault.TheVariants.{StoreFault, Device, BadFile, BadHeader, BadImage, FactoryFault, Socket, NoBook, BookExists, Locked, BookFault, BadBook, BadRecord, ForeignHead, Full, ListFault, BadList, NoAddress, ImageFault, BadSetup, OpenRefused, CancelRefused}
+use Rattle.fw_faults.specs.declared.fault.Fault.{Fault}
+use Rattle.fw_faults.specs.declared.fault.Fault.TheVariants.{StoreFault, Device, BadFile, BadHeader, BadImage, FactoryFault, Socket, NoBook, BookExists, Locked, BookFault, BadBook, BadRecord, ForeignHead, Full, ListFault, BadList, NoAddress, ImageFault, BadSetup, OpenRefused, CancelRefused}
 use Rattle.dlmsfw.specs.declared.cause.BookPlaces.{BookPlaces}
 use Rattle.dlmsfw.specs.declared.cause.BookPlace.{BookPlace}
 use Rattle.dlmsfw.specs.declared.cause.BookPlace.TheVariants.{Book, HeadListen, Meters, Image, Open, Cancel}

@@ -3,7 +3,8 @@
 ghost use Rattle.std.specs.Prelude.{◌≡◌, ◌≢◌, MatchBool};
 ghost use Rattle.dlmsfw.specs.Places.{book_place_of, place_of};
 
-use fw_cli::{Fault, HeadOptions, MeterOptions, StatusOptions};
+use fw_cli::{HeadOptions, MeterOptions, StatusOptions};
+use fw_faults::Fault;
 use std::net::{Ipv4Addr, Net, SocketAddr, UdpSocket};
 use thiserror::Error;
 

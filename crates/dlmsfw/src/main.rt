@@ -13,9 +13,10 @@ mod streams;
 use cause::{BookPlaces, MeterPlaces};
 use clap::error::ErrorKind;
 use fw_cli::{
-    Ended, Fault, run_answer, run_answer_stored, run_head, run_live, run_meter, run_name,
-    run_rehearse, run_replay, run_status,
+    Ended, run_answer, run_answer_stored, run_head, run_live, run_meter, run_name, run_rehearse,
+    run_replay, run_status,
 };
+use fw_faults::Fault;
 use options::Invocation;
 use std::fmt::Display;
 use std::fs::File;

@@ -1,5 +1,5 @@
 -- Which options describe a meter.
-use Rattle.std.proofs.Common.{◌≡◌, ℕ, ◌/◌, length, List, Ok, refl, sym, subst, arith}
+use Rattle.std.proofs.Common.{◌≡◌, ℕ, ◌/◌, length, List, Result, Ok, Err, refl, sym, subst, arith}
 use Rattle.std.specs.Prelude.{IsOk}
 use Rattle.hex.specs.Hex.{decode_of}
 use Rattle.hex.proofs.HexLemmas.{decode_of-ok}
@@ -8,7 +8,12 @@ use Rattle.fw_store.specs.declared.version.HeaderVersion.TheVariants.{Two}
 use Rattle.fw_image.specs.Fresh.{fresh_meter}
 use Rattle.fw_cli.specs.declared.answer.AnswerOptions.{AnswerOptions}
 use Rattle.fw_cli.specs.Options.{DescribesOne, DescribesNone}
-use Rattle.fw_cli.proofs.Digits.{bytes_in}
+use Rattle.hex.specs.declared.error.FromHexError.{FromHexError}
+
+-- what a text decodes to, if it does
+bytes_in : (r : Result (List ℕ) FromHexError) → IsOk r → (bytes : List ℕ) × (r ≡ Ok bytes)
+bytes_in (Ok bytes) h = (bytes, refl)
+bytes_in (Err e) h = cc h
 
 -- the image has half as many bytes as its text
 half : (s bytes : List ℕ) → decode_of s ≡ Ok bytes → length bytes ≡ length s / 2

@@ -4,12 +4,13 @@ use Rattle.std.specs.Prelude.{IsTrue, is_some, ◌⊎◌}
 use Rattle.fw_book.specs.declared.error.BookError.{BookError}
 use Rattle.fw_rollout.specs.declared.error.Stop.{Stop}
 use Rattle.fw_rollout.specs.declared.error.Stop.TheVariants as stop
-use Rattle.fw_cli.specs.declared.fault.Fault.{Fault}
-use Rattle.fw_cli.specs.declared.fault.Fault.TheVariants as fault
+use Rattle.fw_faults.specs.declared.fault.Fault.{Fault}
+use Rattle.fw_faults.specs.declared.fault.Fault.TheVariants as fault
 use Rattle.fw_cli.specs.declared.head.HeadOptions.{HeadOptions}
-use Rattle.fw_cli.specs.Faults.{fault_of_stop}
-use Rattle.fw_cli.specs.Heads.{ComesBeforeLines, IsAskedFor, IsCancelFault, IsOfBook, IsOfCancelling, IsOfHead, IsOfHeadSetup, IsOfList, IsOfNewBook, IsOfOldBook, IsOfOpening, IsOfOpeningSetup, IsOfStop, IsOpenFault}
-use Rattle.fw_cli.specs.Openings.{PartsRefused}
+use Rattle.fw_faults.specs.Faults.{fault_of_stop}
+use Rattle.fw_host.specs.Heads.{ComesBeforeLines, IsCancelFault, IsOfBook, IsOfHead, IsOfHeadSetup, IsOfNewBook, IsOfOldBook, IsOpenFault}
+use Rattle.fw_cli.specs.Heads.{IsAskedFor, IsOfCancelling, IsOfList, IsOfOpening, IsOfOpeningSetup, IsOfStop}
+use Rattle.fw_host.specs.Openings.{PartsRefused}
 
 -- ---- the book
 

@@ -14,7 +14,7 @@ use Rattle.fw_workers.specs.Refusals.{IsBarred}
 use Rattle.fw_workers.specs.Deals.{AreWorkers}
 use Rattle.fw_cli.specs.Rehearsing.{IsBarredIn, ReadsScript, TellsOfWorkers, TellsRehearsal, TracesWorkers, WritesRehearsal}
 use Rattle.fw_cli.specs.Replaying.{MakesNone, MayWantFor, ReadsOne}
-use Rattle.fw_cli.specs.Report.{report_of, board_line}
+use Rattle.fw_report.specs.Report.{report_of, board_line}
 
 -- a script was read, and the text of its rehearsal was written
 pub writes : (trace : Bool) (rounds workers : ℕ) (before after first last : Option (List ℕ)) (setup : Setup) (events : List Given) (text : List ℕ)

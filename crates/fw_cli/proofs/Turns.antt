@@ -4,7 +4,7 @@ use Rattle.std.specs.Prelude.{IsErr, IsOk, OnErr, OnOk, Result, Ok, Err, Bool, t
 use Rattle.std.specs.Bool.{OnTrue, OnFalse}
 use Rattle.hex.specs.Hex.{decode_of}
 use Rattle.fw_image.specs.State.{State}
-use Rattle.fw_cli.specs.Lines.{lines_of}
+use Rattle.fw_text.specs.Lines.{lines_of}
 use Rattle.fw_cli.specs.Session.{AnswersLineOver, AnswersLines, Session, BeginsWell}
 
 -- The first meter answered some lines of the input by the text and became this meter. The line of this number is the

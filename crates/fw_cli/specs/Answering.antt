@@ -7,7 +7,7 @@ use Rattle.fw_image.specs.State.{State}
 use Rattle.fw_cli.specs.declared.answer.AnswerOptions.{AnswerOptions}
 use Rattle.fw_cli.specs.Options.{Describes}
 use Rattle.fw_cli.specs.Session.{AnswersLine, AnswersLineOver, Session}
-use Rattle.fw_cli.specs.Reading.{ReadsAll}
+use Rattle.fw_faults.specs.Reading.{ReadsAll}
 
 -- All input was read, and the meter's answer to it was written. The bad line, if there is one, ended that.
 pub record WritesSession {M : Type 0} (Answers : M → List ℕ → List ℕ → M → Type 0) (meter : M) (bad_line : Option ℕ) (before after first last : Option (List ℕ)) : Type 0 where

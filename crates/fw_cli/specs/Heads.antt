@@ -1,50 +1,23 @@
--- Public vocabulary: the commands `head` and `status`: the lines that they print, and the faults that end them.
-use Rattle.std.specs.Prelude.{◌≡◌, ◌⊎◌, ℕ, List, [], ◌++◌, Option, None, Some, Bool, true, false, IsTrue, is_some, filter, flat_map, length, map, codes, decimal}
-use Rattle.hex.specs.Hex.{encode_lower}
+-- Public vocabulary: the commands `head` and `status`: the faults that `head` has when, and the report and the faults of `status`.
+use Rattle.std.specs.Prelude.{◌≡◌, ◌⊎◌, ℕ, List, [], ◌++◌, Some, Bool, true, false, IsTrue, is_some, filter, flat_map, length, map, codes, decimal}
 use Rattle.serde_json.specs.Data.{Data, array, object, member, no_members}
 use Rattle.serde_json.specs.View.{items_of}
 use Rattle.serde_json.specs.Written.{compact_text}
-use Rattle.fw_names.specs.Name.{Campaign, Name}
 use Rattle.fw_book.specs.declared.row.RowState.{RowState}
 use Rattle.fw_book.specs.declared.row.RowState.TheVariants as state
-use Rattle.fw_book.specs.declared.error.BookError.{BookError}
 use Rattle.fw_book.specs.Contents.{Contents}
 use Rattle.fw_journal.specs.Book.{Stands}
 use Rattle.fw_kept.specs.Kept.{HasBook}
-use Rattle.fw_rollout.specs.declared.daemon.Counts.{Counts}
-use Rattle.fw_rollout.specs.declared.ended.Ended.{Ended}
-use Rattle.fw_rollout.specs.Leading.{state_after}
-use Rattle.fw_cli.specs.declared.fault.Fault.{Fault}
-use Rattle.fw_cli.specs.declared.fault.Fault.TheVariants.{BadList, BadSetup, BookExists, BookFault, BadBook, BadRecord, CancelRefused, ForeignHead, Full, ImageFault, ListFault, Locked, NoAddress, NoBook, OpenRefused, Output, OutOfMemory, Socket}
+use Rattle.fw_faults.specs.declared.fault.Fault.{Fault}
+use Rattle.fw_faults.specs.declared.fault.Fault.TheVariants.{BadList, BadSetup, BookExists, BookFault, BadBook, BadRecord, CancelRefused, ForeignHead, Full, ImageFault, ListFault, NoBook, OpenRefused, Output, OutOfMemory, Socket}
+use Rattle.fw_report.specs.declared.summary.RowEntry.{RowEntry}
+use Rattle.fw_report.specs.Json.{number_data, row_data}
+use Rattle.fw_report.specs.Report.{state_word}
+use Rattle.fw_report.specs.Summary.{rows_of_book}
+use Rattle.fw_report.specs.Table.{row_cells, row_headings}
 use Rattle.fw_cli.specs.declared.head.HeadOptions.{HeadOptions}
 use Rattle.fw_cli.specs.declared.status.StatusForm.{StatusForm}
 use Rattle.fw_cli.specs.declared.status.StatusForm.TheVariants as form
-use Rattle.fw_cli.specs.declared.summary.RowEntry.{RowEntry}
-use Rattle.fw_cli.specs.Json.{number_data, row_data}
-use Rattle.fw_cli.specs.Report.{state_word}
-use Rattle.fw_cli.specs.Summary.{rows_of_book}
-use Rattle.fw_cli.specs.Table.{row_cells, row_headings}
-
--- ---- the lines of `head`
-
--- a campaign that was opened: its head end and its serial number, the release of its image, and the digits of its digest in lower case
-abbrev pub opened_line : Name → List ℕ
-opened_line name =
-    codes "opened " ++ (decimal name.campaign.head ++ (codes " " ++ (decimal name.campaign.serial ++ (codes " " ++ (decimal name.release
-    ++ (codes " " ++ (encode_lower name.digest ++ codes "\n")))))))
-
-abbrev pub cancelled_line : Campaign → List ℕ
-cancelled_line campaign = codes "cancelled " ++ (decimal campaign.head ++ (codes " " ++ (decimal campaign.serial ++ codes "\n")))
-
--- a row that ended, as a report has it
-abbrev pub ended_line : Ended → List ℕ
-ended_line ended =
-    codes "row " ++ (decimal ended.campaign.head ++ (codes " " ++ (decimal ended.campaign.serial ++ (codes " " ++ (decimal ended.meter
-    ++ (codes " " ++ (state_word (state_after ended.ending) ++ codes "\n")))))))
-
--- how many rows were reported as done and as failed
-abbrev pub over_line : Counts → List ℕ
-over_line counts = codes "over done " ++ (decimal counts.done ++ (codes " failed " ++ (decimal counts.failed ++ codes "\n")))
 
 -- ---- the report of `status`
 
@@ -94,30 +67,6 @@ status_text form.Json rows = compact_text (status_data rows) ++ codes "\n"
 
 -- ---- the faults
 
--- of the opening of a book that is there
-abbrev pub IsOfOldBook : Fault → Type 0
-IsOfOldBook NoBook = Unit {0}
-IsOfOldBook Locked = Unit {0}
-IsOfOldBook BookFault = Unit {0}
-IsOfOldBook (BadBook offset) = Unit {0}
-IsOfOldBook (BadRecord index) = Unit {0}
-IsOfOldBook ForeignHead = Unit {0}
-IsOfOldBook OutOfMemory = Unit {0}
-IsOfOldBook fault = ⊥
-
--- of the making of a new one
-abbrev pub IsOfNewBook : Fault → Type 0
-IsOfNewBook BookExists = Unit {0}
-IsOfNewBook Locked = Unit {0}
-IsOfNewBook BookFault = Unit {0}
-IsOfNewBook OutOfMemory = Unit {0}
-IsOfNewBook fault = ⊥
-
--- of a book that is to be made, or is there
-abbrev pub IsOfBook : Bool → Fault → Type 0
-IsOfBook true fault = IsOfNewBook fault
-IsOfBook false fault = IsOfOldBook fault
-
 -- of the list of meters
 abbrev pub IsOfList : Fault → Type 0
 IsOfList ListFault = Unit {0}
@@ -133,25 +82,6 @@ IsOfOpeningSetup (OpenRefused refusal) = Unit {0}
 IsOfOpeningSetup OutOfMemory = Unit {0}
 IsOfOpeningSetup fault = ⊥
 
--- of what comes before the first line
-abbrev pub IsOfHeadSetup : Fault → Type 0
-IsOfHeadSetup ListFault = Unit {0}
-IsOfHeadSetup (BadList line) = Unit {0}
-IsOfHeadSetup ImageFault = Unit {0}
-IsOfHeadSetup BadSetup = Unit {0}
-IsOfHeadSetup Socket = Unit {0}
-IsOfHeadSetup (NoAddress meter) = Unit {0}
-IsOfHeadSetup (OpenRefused refusal) = Unit {0}
-IsOfHeadSetup BookExists = Unit {0}
-IsOfHeadSetup fault = IsOfOldBook fault
-
--- of `head`
-abbrev pub IsOfHead : Fault → Type 0
-IsOfHead (CancelRefused refusal) = Unit {0}
-IsOfHead Full = Unit {0}
-IsOfHead Output = Unit {0}
-IsOfHead fault = IsOfHeadSetup fault
-
 -- those that only these options bring about
 abbrev pub IsAskedFor : HeadOptions → Fault → Type 0
 IsAskedFor options BadSetup = IsTrue (is_some options.opening)
@@ -164,21 +94,6 @@ IsAskedFor options (BadBook offset) = options.book.is_new ≡ false
 IsAskedFor options (BadRecord index) = options.book.is_new ≡ false
 IsAskedFor options ForeignHead = options.book.is_new ≡ false
 IsAskedFor options fault = Unit {0}
-
--- those that come before anything is written, whatever else may come then
-abbrev pub ComesBeforeLines : Fault → Type 0
-ComesBeforeLines ListFault = Unit {0}
-ComesBeforeLines (BadList line) = Unit {0}
-ComesBeforeLines ImageFault = Unit {0}
-ComesBeforeLines BadSetup = Unit {0}
-ComesBeforeLines NoBook = Unit {0}
-ComesBeforeLines BookExists = Unit {0}
-ComesBeforeLines Locked = Unit {0}
-ComesBeforeLines (BadBook offset) = Unit {0}
-ComesBeforeLines (BadRecord index) = Unit {0}
-ComesBeforeLines ForeignHead = Unit {0}
-ComesBeforeLines (NoAddress meter) = Unit {0}
-ComesBeforeLines fault = ⊥
 
 -- of the cancelling of a campaign
 abbrev pub IsOfCancelling : Fault → Type 0
@@ -203,26 +118,6 @@ IsOfStop BookFault = Unit {0}
 IsOfStop Full = Unit {0}
 IsOfStop OutOfMemory = Unit {0}
 IsOfStop fault = ⊥
-
--- of what comes after the first line
-abbrev pub IsOfLeading : Fault → Type 0
-IsOfLeading fault = IsOfHead fault × ¬ ComesBeforeLines fault
-
--- of an opening: the book's refusal, where it has one
-abbrev pub IsOpenFault : Option BookError → Fault → Type 0
-IsOpenFault refusal (OpenRefused e) = refusal ≡ Some e
-IsOpenFault refusal BookFault = refusal ≡ None
-IsOpenFault refusal Full = refusal ≡ None
-IsOpenFault refusal OutOfMemory = refusal ≡ None
-IsOpenFault refusal fault = ⊥
-
--- of a cancelling
-abbrev pub IsCancelFault : Option BookError → Fault → Type 0
-IsCancelFault refusal (CancelRefused e) = refusal ≡ Some e
-IsCancelFault refusal BookFault = refusal ≡ None
-IsCancelFault refusal Full = refusal ≡ None
-IsCancelFault refusal OutOfMemory = refusal ≡ None
-IsCancelFault refusal fault = ⊥
 
 -- of `status`
 abbrev pub IsOfStatus : Fault → Type 0

@@ -5,7 +5,7 @@ use Rattle.std.specs.Io.KnownBytes.{Appends}
 use Rattle.hex.specs.Hex.{encode_lower}
 use Rattle.fw_names.specs.Name.{Campaign, SpellsName, name_of}
 use Rattle.fw_book.specs.Contents.{max_image}
-use Rattle.fw_cli.specs.Reading.{ReadsAll}
+use Rattle.fw_faults.specs.Reading.{ReadsAll}
 
 -- All input was read, and it is an image that a campaign can offer: it has 1 to 16,777,216 bytes.
 pub record ReadsImage (before after : Option (List ℕ)) (image : List ℕ) : Type 0 where

@@ -13,12 +13,12 @@ use Rattle.fw_workers.specs.Refusals.{IsBarred}
 use Rattle.fw_air.specs.Events.{Receipt}
 use Rattle.fw_cli.specs.declared.live.LiveOptions.{LiveOptions}
 use Rattle.fw_cli.specs.declared.rehearse.RehearseOptions.{RehearseOptions}
-use Rattle.fw_cli.specs.Fates.{SpellsSome}
-use Rattle.fw_cli.specs.Reading.{ReadsAll}
+use Rattle.fw_script.specs.Fates.{SpellsSome}
+use Rattle.fw_faults.specs.Reading.{ReadsAll}
 use Rattle.fw_cli.specs.Replaying.{MayWantFor, TellsTraceIf}
-use Rattle.fw_cli.specs.Report.{report_of, board_line}
-use Rattle.fw_cli.specs.Script.{SpellsScript, script_of}
-use Rattle.fw_cli.specs.Trace.{TellsTrace}
+use Rattle.fw_report.specs.Report.{report_of, board_line}
+use Rattle.fw_script.specs.Script.{SpellsScript, script_of}
+use Rattle.fw_report.specs.Trace.{TellsTrace}
 
 -- The trace of the run of which these are the receipts was appended.
 abbrev pub TracesWorkers : Setup → List Event → State → List (List Receipt) → List ℕ → List ℕ → Type 0

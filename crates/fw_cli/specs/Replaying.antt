@@ -15,17 +15,17 @@ use Rattle.fw_world.specs.Step.{Event}
 use Rattle.fw_world.specs.World.{Datagram}
 use Rattle.fw_air.specs.declared.fates.Fate.{Fate}
 use Rattle.fw_air.specs.Schedules.{IsUnscheduled, ScheduleHasFates, Schedules}
-use Rattle.fw_cli.specs.declared.forms.Style.{Style}
-use Rattle.fw_cli.specs.declared.refusal.Refusal.{Refusal}
+use Rattle.fw_report.specs.declared.forms.Style.{Style}
+use Rattle.fw_report.specs.declared.refusal.Refusal.{Refusal}
 use Rattle.fw_cli.specs.declared.replay.Ended.{Ended}
 use Rattle.fw_cli.specs.declared.replay.Ended.TheVariants.{Whole, Refused}
 use Rattle.fw_cli.specs.declared.replay.ReplayOptions.{ReplayOptions}
 use Rattle.fw_cli.specs.declared.replay.Rounds.{Rounds}
-use Rattle.fw_cli.specs.Fates.{SpellsFates, SpellsSome}
-use Rattle.fw_cli.specs.Reading.{Gives, ReadsAll, max_input}
-use Rattle.fw_cli.specs.Forms.{report_in}
-use Rattle.fw_cli.specs.Trace.{TellsTrace}
-use Rattle.fw_cli.specs.Script.{SpellsScript, BeginsScript, script_of}
+use Rattle.fw_script.specs.Fates.{SpellsFates, SpellsSome}
+use Rattle.fw_faults.specs.Reading.{Gives, ReadsAll, max_input}
+use Rattle.fw_report.specs.Forms.{report_in}
+use Rattle.fw_report.specs.Trace.{TellsTrace}
+use Rattle.fw_script.specs.Script.{SpellsScript, BeginsScript, script_of}
 
 -- ---- what is written
 

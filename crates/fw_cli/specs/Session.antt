@@ -5,7 +5,7 @@ use Rattle.fw_names.specs.Name.{Name}
 use Rattle.fw_image.specs.Meter.{Meter}
 use Rattle.fw_image.specs.State.{State, Follows, Counts}
 use Rattle.fw_meter.specs.Handling.{Handles}
-use Rattle.fw_cli.specs.Lines.{lines_of}
+use Rattle.fw_text.specs.Lines.{lines_of}
 
 -- the line for a reply: lower-case hexadecimal, or a dash where there is no reply
 abbrev pub line_for : Option (List ℕ) → List ℕ

@@ -6,16 +6,16 @@ ghost use Rattle.hex.specs.Hex.{decode_of};
 ghost use Rattle.fw_store.specs.Setup.{IsSetup};
 ghost use Rattle.fw_store.specs.declared.version.HeaderVersion.TheVariants.{Two};
 ghost use Rattle.fw_cli.specs.Options.{Describes, DescribesOne, DescribesNone};
-ghost use Rattle.fw_cli.specs.Reading.{ReadsUntil};
+ghost use Rattle.fw_faults.specs.Reading.{ReadsUntil};
 ghost use Rattle.fw_cli.specs.Faults.{ComesBeforeOutput, IsOfAnswer};
 ghost use Rattle.fw_cli.specs.Answering.{Answers};
 
-use crate::fault::Fault;
-use crate::hexadecimal::{bytes_of, is_hexadecimal};
 use crate::serving::serve;
 use fw_blocks::MAX_BLOCK_SIZE;
+use fw_faults::Fault;
 use fw_meter::MeterCore;
 use fw_store::{MAX_CAPACITY, MemoryStore, SetupError};
+use fw_text::hexadecimal::{bytes_of, is_hexadecimal};
 use std::alloc::Global;
 use std::io::{Read, Write};
 

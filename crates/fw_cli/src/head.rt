@@ -2,32 +2,18 @@
 
 ghost use Rattle.std.specs.Prelude.{◌≡◌, ◌⊎◌, ℕ, IfErr, IfOk, IsTrue, is_some};
 ghost use Rattle.std.specs.Io.KnownBytes.{Keeps};
-ghost use Rattle.fw_cli.specs.Heads.{
-  ComesBeforeLines,
-  IsAskedFor,
-  IsOfCancelling,
-  IsOfHead,
-  IsOfHeadSetup,
-  IsOfList,
-  IsOfOpening,
-  IsOfOpeningSetup,
-  IsOfStop,
-};
+ghost use Rattle.fw_host.specs.Heads.{ComesBeforeLines, IsOfHead, IsOfHeadSetup};
+ghost use Rattle.fw_cli.specs.Heads.{IsAskedFor, IsOfCancelling, IsOfList, IsOfOpening, IsOfOpeningSetup, IsOfStop};
 
-use crate::fault::Fault;
-use crate::head_book::{BookOptions, kept_head};
-use crate::head_lines::{cancelled_line, opened_line, over_line};
-use crate::head_opening::{Opening, Part, cancel, check_part, is_open, open_part, parts_of};
-use crate::head_port::UdpHeadPort;
-use crate::head_progress::HeadProgress;
-use crate::input::read_input;
 use crate::meter::tell_listening;
-use crate::meter_list::read_list;
-use crate::output::write_text;
-use crate::reads::Reads;
 use fw_blocks::Width;
 use fw_book::BookError;
 use fw_daemon::UdpPort;
+use fw_faults::{Fault, Reads, read_input, write_text};
+use fw_host::{
+    BookOptions, HeadProgress, Opening, Part, UdpHeadPort, cancel, cancelled_line, check_part,
+    is_open, kept_head, open_part, opened_line, over_line, parts_of, read_list,
+};
 use fw_journal::FileDevice;
 use fw_kept::KeptHead;
 use fw_names::{CampaignId, HeadId};

@@ -4,14 +4,13 @@ ghost use Rattle.std.specs.Prelude.{◌≡◌, ◌≢◌, ◌⊎◌, None, IfErr
 ghost use Rattle.std.specs.Io.KnownBytes.{Appends, Keeps};
 ghost use Rattle.fw_store.specs.Setup.{IsSetup};
 ghost use Rattle.fw_store.specs.declared.version.HeaderVersion.TheVariants.{Two};
-ghost use Rattle.fw_cli.specs.Meters.{IsOfMeter, activated_line, default_factory, dropped_line, listening_line};
+ghost use Rattle.fw_cli.specs.Faults.{IsOfMeter};
+ghost use Rattle.fw_host.specs.Meters.{activated_line, default_factory, dropped_line, listening_line};
 
-use crate::fault::Fault;
 use crate::fleet::serve_fleet;
-use crate::meter_lines::{activated_line, dropped_line, listening_line};
-use crate::meter_store::{NewMeter, stored_meter};
-use crate::output::write_text;
 use fw_daemon::{Closed, Dropped, MeterDaemon, UdpPort, Watch, serve};
+use fw_faults::{Fault, write_text};
+use fw_host::{NewMeter, activated_line, dropped_line, listening_line, stored_meter};
 use fw_names::ImageName;
 use std::alloc::Global;
 use std::fs::File;

@@ -24,12 +24,10 @@ ghost use Rattle.fw_names.specs.Name.{SpellsName};
 ghost use Rattle.fw_book.specs.Contents.{max_image};
 ghost use Rattle.fw_cli.specs.Faults.{ComesBeforeOutput, IsOfName};
 ghost use Rattle.fw_cli.specs.Naming.{ReadsImage, WritesName};
-ghost use Rattle.fw_cli.specs.Reading.{Gives, ReadsAll, ReadsUntil, max_input};
+ghost use Rattle.fw_faults.specs.Reading.{Gives, ReadsAll, ReadsUntil, max_input};
 
-use crate::fault::Fault;
-use crate::input::read_input;
-use crate::reads::Reads;
 use fw_book::MAX_IMAGE_SIZE;
+use fw_faults::{Fault, Reads, read_input};
 use fw_names::{CampaignId, ImageName, MAX_NAME_SIZE, name_of};
 use std::alloc::Global;
 use std::io::{Read, Write};

@@ -5,29 +5,21 @@ ghost use Rattle.std.specs.Io.KnownBytes.{Keeps};
 ghost use Rattle.fw_world.specs.Setup.{IsSetup};
 ghost use Rattle.fw_air.specs.Fates.{IsFates};
 ghost use Rattle.fw_workers.specs.Refusals.{IsBarred};
-ghost use Rattle.fw_cli.specs.Fates.{SpellsSome};
+ghost use Rattle.fw_script.specs.Fates.{SpellsSome};
 ghost use Rattle.fw_cli.specs.Faults.{IsOfRehearse, IsOfWorkers};
-ghost use Rattle.fw_cli.specs.Reading.{ReadsUntil, max_input};
-ghost use Rattle.fw_cli.specs.Report.{report_of, board_line};
-ghost use Rattle.fw_cli.specs.Script.{IsBadLine};
+ghost use Rattle.fw_faults.specs.Reading.{ReadsUntil, max_input};
+ghost use Rattle.fw_report.specs.Report.{report_of, board_line};
+ghost use Rattle.fw_script.specs.Script.{IsBadLine};
 ghost use Rattle.fw_cli.specs.Replaying.{MakesNone, MayTakeMemory, MayWantFor, ReadsOne};
 ghost use Rattle.fw_workers.specs.Deals.{AreWorkers};
-ghost use Rattle.fw_cli.specs.Rehearsing.{
-  IsBarredIn,
-  MayWantToRehearse,
-  Rehearses,
-  RehearsesScript,
-  TellsRehearsal,
-  WritesRehearsal,
-};
+ghost use Rattle.fw_cli.specs.Rehearsing.{IsBarredIn, MayWantToRehearse, Rehearses, RehearsesScript, TellsRehearsal, WritesRehearsal};
 
-use crate::fault::Fault;
-use crate::output::write_text;
 use crate::progress::RowsGate;
 use crate::replay::{Air, Rounds, air_of};
-use crate::script::Script;
 use crate::workers::{script_from, tell_report};
 use fw_air::Fates;
+use fw_faults::{Fault, write_text};
+use fw_script::Script;
 use fw_workers::rehearse;
 use fw_world::{Event, Setup};
 use std::alloc::Global;

@@ -23,11 +23,11 @@ ghost use Rattle.fw_world.specs.Runs.{IsStopped, events_of};
 ghost use Rattle.fw_world.specs.Setup.{IsSetup};
 ghost use Rattle.fw_air.specs.Fates.{IsFates};
 ghost use Rattle.fw_air.specs.Schedules.{IsOfWorld};
-ghost use Rattle.fw_cli.specs.Fates.{SpellsFates, SpellsSome};
+ghost use Rattle.fw_script.specs.Fates.{SpellsFates, SpellsSome};
 ghost use Rattle.fw_cli.specs.Faults.{IsOfReplay};
-ghost use Rattle.fw_cli.specs.Reading.{ReadsUntil, max_input};
+ghost use Rattle.fw_faults.specs.Reading.{ReadsUntil, max_input};
 ghost use Rattle.fw_cli.specs.Inside.{rounds_in};
-ghost use Rattle.fw_cli.specs.Script.{IsBadLine};
+ghost use Rattle.fw_script.specs.Script.{IsBadLine};
 ghost use Rattle.fw_cli.specs.Replaying.{
   Replays,
   WritesRun,
@@ -45,17 +45,11 @@ ghost use Rattle.fw_cli.specs.Replaying.{
   WantsMemory,
 };
 
-use crate::fates::read_fates;
-use crate::fault::Fault;
-use crate::forms::{Style, append_report_in};
-use crate::input::read_input;
-use crate::output::write_text;
 use crate::progress::RoundsWatch;
-use crate::reads::Reads;
-use crate::refusal::Refusal;
-use crate::script::{Script, read_script};
-use crate::trace::append_trace_of;
 use fw_air::{Fate, Fates, schedule_watched};
+use fw_faults::{Fault, Reads, read_input, write_text};
+use fw_report::{Refusal, Style, append_report_in, append_trace_of};
+use fw_script::{Script, read_fates, read_script};
 use fw_world::{Event, RunError, Setup, SetupError, StepError, World, run};
 use std::alloc::{AllocError, Global};
 use std::io::{Read, Write};

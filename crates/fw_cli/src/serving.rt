@@ -5,17 +5,15 @@ ghost use Rattle.hex.specs.Hex.{encode_lower};
 ghost use Rattle.std.specs.Io.KnownBytes.{Keeps};
 ghost use Rattle.fw_meter.specs.Handling.{reply_bytes};
 ghost use Rattle.fw_cli.specs.Session.{AnswersLineOver, BeginsWell, Session, line_for};
-ghost use Rattle.fw_cli.specs.Reading.{Gives, ReadsUntil, max_input};
+ghost use Rattle.fw_faults.specs.Reading.{Gives, ReadsUntil, max_input};
 ghost use Rattle.fw_cli.specs.Faults.{ComesBeforeInput, ComesBeforeOutput, IsOfAnswer};
 ghost use Rattle.fw_cli.specs.Answering.{WritesSession};
 
-use crate::fault::Fault;
-use crate::hexadecimal::{put_bytes, put_digits};
-use crate::input::read_input;
-use crate::lines::first_line;
-use crate::reads::Reads;
+use fw_faults::{Fault, Reads, read_input};
 use fw_meter::MeterCore;
 use fw_store::ImageStore;
+use fw_text::first_line;
+use fw_text::hexadecimal::{put_bytes, put_digits};
 use std::alloc::{AllocError, Global};
 use std::io::{Read, Write};
 

@@ -4,18 +4,16 @@ ghost use Rattle.std.specs.Prelude.{◌≡◌, ◌≢◌, ◌++◌, List, flat_m
 ghost use Rattle.std.specs.Io.KnownBytes.{Appends, Keeps};
 ghost use Rattle.serde_json.specs.View.{view};
 ghost use Rattle.serde_json.specs.Written.{compact_text};
-ghost use Rattle.fw_cli.specs.declared.summary.RowEntry.{RowEntry};
+ghost use Rattle.fw_report.specs.declared.summary.RowEntry.{RowEntry};
 ghost use Rattle.fw_cli.specs.Heads.{HasRows, IsOfStatus, count_of, counts_line, csv_row, is_in, status_data, status_text};
 
-use crate::fault::Fault;
-use crate::head_book::is_absent;
-use crate::json::push_rows;
-use crate::output::write_text;
-use crate::report::state_word;
-use crate::summary::{RowEntry, push_book};
-use crate::table::{ROW_HEADINGS, append_rows};
 use fw_book::RowState;
+use fw_faults::{Fault, write_text};
+use fw_host::is_absent;
 use fw_kept::read_kept;
+use fw_report::json::push_rows;
+use fw_report::table::{ROW_HEADINGS, append_rows};
+use fw_report::{RowEntry, push_book, state_word};
 use serde_json::{Value, json};
 use std::alloc::{AllocError, Global};
 use std::fs::File;

@@ -6,17 +6,18 @@ ghost use Rattle.fw_image.specs.Meter.{restarted};
 ghost use Rattle.fw_image.specs.Stored.{Opens, Refused};
 ghost use Rattle.fw_image.specs.declared.error.OpenError.{OpenError};
 ghost use Rattle.fw_cli.specs.Options.{DescribesOne, DescribesNone};
-ghost use Rattle.fw_cli.specs.Reading.{Gives, ReadsUntil, max_input};
-ghost use Rattle.fw_cli.specs.Faults.{ComesBeforeInput, ComesBeforeOutput, IsOfStoredAnswer, fault_of_opening};
+ghost use Rattle.fw_faults.specs.Reading.{Gives, ReadsUntil, max_input};
+ghost use Rattle.fw_cli.specs.Faults.{ComesBeforeInput, ComesBeforeOutput, IsOfStoredAnswer};
+ghost use Rattle.fw_faults.specs.Faults.{fault_of_opening};
 ghost use Rattle.fw_cli.specs.Answering.{AnswersOpened};
 
 use crate::answer::{AnswerOptions, describes_one, setup_of};
-use crate::fault::Fault;
 use crate::serving::serve;
+use fw_faults::Fault;
+use fw_host::{is_absent, opened};
 use fw_meter::MeterCore;
 use fw_store::{FileStore, FileStoreError, ImageStore};
 use std::alloc::Global;
-use std::fs;
 use std::fs::File;
 use std::io::{Read, Write};
 use std::rt::Files;
@@ -94,20 +95,6 @@ fn set_up<F: Files<File = File>>(
     opened(store)
 }
 
-/// The meter that a store holds, whose header is one of version 2 from then on.
-pub(crate) fn opened<S: ImageStore + Drop>(store: S) -> Result<MeterCore<S>, Fault>
-    ensures opened { IfOk result (λ meter. Opens S.honest S.capacity S.fuse S.device store meter) }
-    ensures begins { IfOk result (λ meter. restarted meter.meter ≡ meter.meter) }
-    ensures faultless { IfOk result (λ meter. meter.faults ≡ S.faults store) }
-    ensures refused { IfErr result (λ f. (error : OpenError) × (f ≡ fault_of_opening error) × (back : S)
-        × Refused S.honest S.sound S.capacity S.faults S.fuse S.device store error back) }
-{
-    match MeterCore::open_store(store) {
-        Ok(meter) => Ok(meter),
-        Err((error, _store)) => Err(Fault::from(error)),
-    }
-}
-
 /// The store in the file, which is made if no file is there.
 fn open_or_make<F: Files<File = File>>(
     rt: &F,
@@ -124,11 +111,6 @@ fn open_or_make<F: Files<File = File>>(
         Err(FileStoreError::StoreFault) if is_absent(rt, options.file) => make(rt, alloc, options),
         Err(error) => Err(Fault::from(error)),
     }
-}
-
-/// Whether no file is there. Where it can't be looked for, one may be there.
-pub(crate) fn is_absent<F: Files<File = File>>(rt: &F, path: &str) -> bool {
-    matches!(fs::exists(rt, path), Ok(false))
 }
 
 /// A new store in a new file. Options that describe no meter are refused before memory is taken.

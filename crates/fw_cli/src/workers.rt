@@ -3,18 +3,15 @@
 ghost use Rattle.std.specs.Prelude.{◌≡◌, ◌⊎◌, ◌++◌, ℕ, IfOk, IfErr, OnOk, string_bytes};
 ghost use Rattle.fw_world.specs.Runs.{events_of};
 ghost use Rattle.fw_world.specs.Setup.{IsSetup};
-ghost use Rattle.fw_cli.specs.Reading.{ReadsUntil};
+ghost use Rattle.fw_faults.specs.Reading.{ReadsUntil};
 ghost use Rattle.fw_cli.specs.Rehearsing.{ReadsScript, TellsOfWorkers, TracesWorkers};
 ghost use Rattle.fw_cli.specs.Replaying.{MayWantFor, ReadsOne};
-ghost use Rattle.fw_cli.specs.Script.{IsBadLine};
+ghost use Rattle.fw_script.specs.Script.{IsBadLine};
 
-use crate::fault::Fault;
-use crate::input::read_input;
-use crate::reads::Reads;
-use crate::report::{append_board, append_report};
-use crate::script::{Script, read_script};
-use crate::trace::append_trace_of;
 use fw_accounts::{Report, recorded_events};
+use fw_faults::{Fault, Reads, read_input};
+use fw_report::{append_board, append_report, append_trace_of};
+use fw_script::{Script, read_script};
 use fw_world::{Event, Setup};
 use std::alloc::{AllocError, Global};
 use std::io::Read;

@@ -1,6 +1,7 @@
 //! The command `answer`, over readers and writers in memory, and over some that fail.
 
-use fw_cli::{AnswerOptions, Fault, run_answer};
+use fw_cli::{AnswerOptions, run_answer};
+use fw_faults::Fault;
 use std::alloc::Global;
 use std::io;
 use std::io::{ErrorKind, Read, Write};
@@ -269,7 +270,7 @@ fn readers_that_fail(rt: HostRuntime) -> Result<(), Fail> {
     Ok(())
 }
 
-/// A million times. That a reader is given up after 2^32 reads, and not before, is proved (`read_input` and `Reads::read` of `fw_cli`), and takes too
+/// A million times. That a reader is given up after 2^32 reads, and not before, is proved (`read_input` and `Reads::read` of `fw_faults`), and takes too
 /// long to run.
 #[test]
 fn an_interrupted_reader_is_asked_again(rt: HostRuntime) -> Result<(), Fail> {

@@ -2,7 +2,8 @@
 //! head end's and the meter's documents.
 
 use crate::answering::{BrokenReader, EndlessReader, FullWriter};
-use fw_cli::{Ended, ReplayOptions, ReportForm, Rounds, Style, run_replay};
+use fw_cli::{Ended, ReplayOptions, Rounds, run_replay};
+use fw_report::{ReportForm, Style};
 use std::alloc::{AllocError, Global};
 use std::io::{Read, Stderr};
 use std::test::Fail;

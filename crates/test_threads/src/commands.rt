@@ -2,7 +2,8 @@
 //! meter's documents.
 
 use crate::terminals::NO_TERMINAL;
-use fw_cli::{Fault, RehearseOptions, Rounds, run_rehearse};
+use fw_cli::{RehearseOptions, Rounds, run_rehearse};
+use fw_faults::Fault;
 use std::alloc::Global;
 use std::io::{Read, Write};
 use std::sync::Wait;

@@ -2,9 +2,9 @@
 
 use crate::commands::{FOUR, FOUR_DONE};
 use fw_cli::{
-    LiveOptions, RehearseOptions, ReplayOptions, ReportForm, Rounds, Style, run_live, run_rehearse,
-    run_replay,
+    LiveOptions, RehearseOptions, ReplayOptions, Rounds, run_live, run_rehearse, run_replay,
 };
+use fw_report::{ReportForm, Style};
 use std::alloc::Global;
 use std::fmt::Display;
 use std::io;

@@ -3,7 +3,8 @@
 use super::{Invocation, STATUSES, WrongValue, address, option};
 use clap::{ArgAction, ArgMatches, Command};
 use fw_blocks::Width;
-use fw_cli::{BookOptions, HeadOptions, Opening};
+use fw_cli::HeadOptions;
+use fw_host::{BookOptions, Opening};
 use fw_names::HeadId;
 use fw_rollout::Timing;
 use std::alloc::{AllocError, Global};

@@ -2,7 +2,8 @@
 
 use super::{Invocation, STATUSES, WrongValue, address, option};
 use clap::{ArgAction, ArgMatches, Command};
-use fw_cli::{MeterOptions, NewMeter};
+use fw_cli::MeterOptions;
+use fw_host::NewMeter;
 use std::alloc::{AllocError, Global};
 use std::net::SocketAddr;
 

@@ -2,7 +2,8 @@
 
 use super::{STATUSES, option, trace};
 use clap::{ArgMatches, Command};
-use fw_cli::{ReplayOptions, ReportForm, Rounds, Style};
+use fw_cli::{ReplayOptions, Rounds};
+use fw_report::{ReportForm, Style};
 use std::alloc::{AllocError, Global};
 
 /// The names of the forms.

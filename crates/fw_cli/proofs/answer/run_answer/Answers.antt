@@ -1,6 +1,6 @@
 use Rattle.std.proofs.Common.{◌≡◌, ◌∙◌, ap, Err, inl, inr}
 use Rattle.std.proofs.lemmas.Result.{err_from_is_err_and}
-use Rattle.fw_cli.specs.declared.fault.Fault.TheVariants.{BadSetup, OutOfMemory}
+use Rattle.fw_faults.specs.declared.fault.Fault.TheVariants.{BadSetup, OutOfMemory}
 use Rattle.fw_cli.proofs.Honest.{writes}
 use Rattle.fw_cli.proofs.Turns.{on_ok}
 use Rattle.fw_cli.proofs.answer.run_answer.Goals as goal

@@ -1,6 +1,6 @@
 use Rattle.std.proofs.Common.{◌≡◌, take, flat_map}
 use Rattle.std.specs.Prelude.{string_bytes}
-use Rattle.fw_cli.specs.Meters.{listening_line}
+use Rattle.fw_host.specs.Meters.{listening_line}
 use Rattle.fw_cli.specs.declared.fleet.Member.{Member}
 use Rattle.fw_cli.proofs.fleet.listening_lines.Given as goal
 

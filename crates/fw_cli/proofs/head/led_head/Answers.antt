@@ -1,6 +1,7 @@
 use Rattle.std.proofs.Common.{◌≡◌}
 use Rattle.std.proofs.lemmas.Result.{err_from_is_err_and}
-use Rattle.fw_cli.specs.Heads.{IsAskedFor, IsOfHeadSetup}
+use Rattle.fw_cli.specs.Heads.{IsAskedFor}
+use Rattle.fw_host.specs.Heads.{IsOfHeadSetup}
 use Rattle.fw_cli.proofs.HeadLeading.{address_in_setup, address_is_asked, book_in_setup, book_is_asked, passed_on}
 use Rattle.fw_cli.proofs.head.led_head.Goals as goal
 

@@ -1,4 +1,5 @@
-use Rattle.fw_cli.specs.Heads.{IsAskedFor, IsOfHead, IsOfStop}
+use Rattle.fw_cli.specs.Heads.{IsAskedFor, IsOfStop}
+use Rattle.fw_host.specs.Heads.{IsOfHead}
 use Rattle.fw_cli.proofs.HeadLeading.{on_err, stopped}
 use Rattle.fw_cli.proofs.head.run_head.Goals as goal
 

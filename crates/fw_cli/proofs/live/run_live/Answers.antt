@@ -2,7 +2,7 @@ use Rattle.std.proofs.Common.{◌≡◌, ◌∙◌, ap, Err, List, subst}
 use Rattle.std.proofs.lemmas.Result.{IfOk-weaker, err_from_is_err_and}
 use Rattle.fw_world.specs.declared.event.Event.{Event as Given}
 use Rattle.fw_workers.specs.Refusals.{IsBarred}
-use Rattle.fw_cli.specs.declared.fault.Fault.TheVariants.{BadSetup, Event, OutOfMemory}
+use Rattle.fw_faults.specs.declared.fault.Fault.TheVariants.{BadSetup, Event, OutOfMemory}
 use Rattle.fw_cli.proofs.Rehearsed.{is_barred, makes_none, may_want, writes}
 use Rattle.fw_cli.proofs.live.run_live.Goals as goal
 

@@ -1,6 +1,6 @@
 use Rattle.std.proofs.Common.{◌≡◌, ◌∙◌, ap, Err, inr}
 use Rattle.std.proofs.lemmas.Result.{err_from_is_err_and}
-use Rattle.fw_cli.specs.declared.fault.Fault.TheVariants.{BadSetup, OutOfMemory}
+use Rattle.fw_faults.specs.declared.fault.Fault.TheVariants.{BadSetup, OutOfMemory}
 use Rattle.fw_cli.proofs.replay.replay_from.Goals as goal
 
 pub returns-in_err-told-clause-bad_setup : goal.returns-in_err-told-clause-bad_setup

@@ -1,6 +1,6 @@
 use Rattle.std.proofs.Common.{◌≡◌, ◌++◌, take, flat_map}
 use Rattle.std.specs.Prelude.{string_bytes}
-use Rattle.fw_cli.specs.declared.summary.RowEntry.{RowEntry}
+use Rattle.fw_report.specs.declared.summary.RowEntry.{RowEntry}
 use Rattle.fw_cli.specs.Heads.{csv_row}
 use Rattle.fw_cli.proofs.status.append_csv_rows.Given as goal
 

@@ -1,9 +1,9 @@
 use Rattle.std.proofs.Common.{◌≡◌, ◌++◌, ◌∙◌, ℕ, List, [], Option, Some, ap, inr, subst}
 use Rattle.fw_book.specs.Contents.{Contents}
 use Rattle.fw_kept.specs.Kept.{IsReadAs}
-use Rattle.fw_cli.specs.declared.summary.RowEntry.{RowEntry}
+use Rattle.fw_report.specs.declared.summary.RowEntry.{RowEntry}
 use Rattle.fw_cli.specs.Heads.{HasRows}
-use Rattle.fw_cli.specs.Summary.{rows_of_book}
+use Rattle.fw_report.specs.Summary.{rows_of_book}
 use Rattle.fw_cli.proofs.status.rows_of.Goals as goal
 
 has_rows : (bytes : List ℕ) (found : Option Contents) (book : Contents) (number : ℕ) (old rows : List RowEntry) → IsReadAs bytes found → found ≡ Some book

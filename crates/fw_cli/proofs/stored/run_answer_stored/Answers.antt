@@ -1,6 +1,6 @@
 use Rattle.std.proofs.Common.{◌≡◌, ◌∙◌, ap, Err}
 use Rattle.std.proofs.lemmas.Result.{err_from_is_err_and}
-use Rattle.fw_cli.specs.declared.fault.Fault.TheVariants.{BadSetup}
+use Rattle.fw_faults.specs.declared.fault.Fault.TheVariants.{BadSetup}
 use Rattle.fw_cli.proofs.Turns.{on_ok}
 use Rattle.fw_cli.proofs.stored.run_answer_stored.Goals as goal
 

@@ -1,8 +1,0 @@
-use Rattle.std.proofs.Common.{◌≡◌, ◌++◌, map, take}
-use Rattle.serde_json.specs.View.{view}
-use Rattle.fw_cli.specs.declared.summary.RowEntry.{RowEntry}
-use Rattle.fw_cli.specs.Json.{row_data}
-use Rattle.fw_cli.proofs.json.push_rows.Given as goal
-
-abbrev pub invariant-loop-row : goal.invariant-loop-row
-invariant-loop-row l = map view l.values.items ≡ map view l.initial.values.items ++ map (λ (row : RowEntry). row_data row) (take l.row-index l.rows)

@@ -1,5 +1,0 @@
-use Rattle.fw_cli.proofs.LineLemmas.{lines_are_cut}
-use Rattle.fw_cli.proofs.laws.lines_are_cut.Goals as goal
-
-pub returns : goal.returns
-returns c = lines_are_cut

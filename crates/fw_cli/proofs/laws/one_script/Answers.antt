@@ -1,5 +1,0 @@
-use Rattle.fw_cli.proofs.OneScript.{one_script}
-use Rattle.fw_cli.proofs.laws.one_script.Goals as goal
-
-pub returns : goal.returns
-returns c = one_script

@@ -1,6 +1,0 @@
-use Rattle.fw_cli.proofs.Listings.{IsRead}
-use Rattle.fw_cli.proofs.meter_list.read_list.Given as goal
-
--- these are the meters of the records so far
-abbrev pub invariant-loop : goal.invariant-loop
-invariant-loop l = IsRead l.fn.text l.reader l.meters

@@ -1,5 +1,0 @@
-use Rattle.fw_cli.proofs.Reasons.{IsFilled}
-use Rattle.fw_cli.proofs.reason.fill.Given as goal
-
-abbrev pub invariant-loop-place : goal.invariant-loop-place
-invariant-loop-place l = IsFilled l.initial.reasons.items l.reasons.items l.count l.place l.reason

@@ -1,0 +1,63 @@
+-- Public vocabulary: the fault that each error of the libraries below is to a command.
+use Rattle.fw_store.specs.declared.error.FileStoreError.{FileStoreError}
+use Rattle.fw_store.specs.declared.error.FileStoreError.TheVariants as file
+use Rattle.fw_image.specs.declared.error.OpenError.{OpenError}
+use Rattle.fw_image.specs.declared.error.OpenError.TheVariants as opening
+use Rattle.fw_workers.specs.declared.error.RehearseError.{RehearseError}
+use Rattle.fw_workers.specs.declared.error.RehearseError.TheVariants as workers
+use Rattle.fw_journal.specs.declared.error.JournalError.{JournalError}
+use Rattle.fw_journal.specs.declared.error.JournalError.TheVariants as journal
+use Rattle.fw_kept.specs.declared.error.OpenError.{OpenError as ReopenError}
+use Rattle.fw_kept.specs.declared.error.OpenError.TheVariants as reopening
+use Rattle.fw_rollout.specs.declared.error.Stop.{Stop}
+use Rattle.fw_rollout.specs.declared.error.Stop.TheVariants as stop
+use Rattle.fw_faults.specs.declared.fault.Fault.{Fault}
+use Rattle.fw_faults.specs.declared.fault.Fault.TheVariants.{BadSetup, StoreFault, Device, BadFile, BadHeader, BadImage, Event, Mismatch, ThreadRefused, Socket, GateShut, BookExists, Locked, BookFault, BadBook, BadRecord, ForeignHead, Full, OutOfMemory}
+
+-- the fault that says why a file was not made or opened
+abbrev pub fault_of_file : FileStoreError → Fault
+fault_of_file file.StoreFault = StoreFault
+fault_of_file file.BadSetup = BadSetup
+fault_of_file file.OutOfMemory = OutOfMemory
+fault_of_file file.BadFile = BadFile
+
+-- the fault that says why a store was not opened
+abbrev pub fault_of_opening : OpenError → Fault
+fault_of_opening opening.Fault = Device
+fault_of_opening opening.BadHeader = BadHeader
+fault_of_opening opening.BadImage = BadImage
+
+-- the fault that says why a rehearsal has no report
+abbrev pub fault_of_rehearsal : RehearseError → Fault
+fault_of_rehearsal workers.Mismatch = Mismatch
+fault_of_rehearsal workers.ThreadRefused = ThreadRefused
+fault_of_rehearsal (workers.Event at) = Event
+fault_of_rehearsal workers.OutOfMemory = OutOfMemory
+fault_of_rehearsal workers.Socket = Socket
+fault_of_rehearsal workers.GateShut = GateShut
+fault_of_rehearsal workers.BadSetup = BadSetup
+
+-- the fault that says why the file of a book was not made or opened
+abbrev pub fault_of_device : JournalError → Fault
+fault_of_device (journal.BadBook offset) = BadBook offset
+fault_of_device journal.NotEmpty = BookExists
+fault_of_device journal.TooLong = Full
+fault_of_device journal.Full = Full
+fault_of_device journal.Locked = Locked
+fault_of_device journal.BookFault = BookFault
+fault_of_device journal.OutOfMemory = OutOfMemory
+
+-- the fault that says why what a file holds is no book of the head end
+abbrev pub fault_of_reopening : ReopenError → Fault
+fault_of_reopening (reopening.BadBook offset) = BadBook offset
+fault_of_reopening (reopening.BadRecord index) = BadRecord index
+fault_of_reopening reopening.ForeignHead = ForeignHead
+fault_of_reopening reopening.BookFault = BookFault
+fault_of_reopening reopening.OutOfMemory = OutOfMemory
+
+-- the fault that says why a head end stopped
+abbrev pub fault_of_stop : Stop → Fault
+fault_of_stop stop.Closed = Socket
+fault_of_stop stop.Full = Full
+fault_of_stop stop.BookFault = BookFault
+fault_of_stop stop.OutOfMemory = OutOfMemory

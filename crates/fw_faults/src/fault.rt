@@ -1,0 +1,228 @@
+//! What ends a command early.
+
+ghost use Rattle.std.specs.Prelude.{◌≡◌};
+ghost use Rattle.fw_faults.specs.declared.fault.Fault.TheVariants.{OutOfMemory};
+ghost use Rattle.fw_faults.specs.Faults.{fault_of_device, fault_of_file, fault_of_opening, fault_of_rehearsal, fault_of_reopening, fault_of_stop};
+
+use fw_book::BookError;
+use fw_image::OpenError;
+use fw_journal::JournalError;
+use fw_rollout::Stop;
+use fw_store::FileStoreError;
+use fw_workers::RehearseError;
+use std::alloc::{AllocError, AllocFailed};
+use thiserror::Error;
+
+/// Why a command ended early. It prints its name, and of a bad line the number too.
+#[derive(Clone, Copy, Debug, PartialEq, Eq, Error)]
+pub enum Fault {
+    /// The fates aren't 1 to 4,096 of the letters `d`, `x`, `t` and `l`.
+    #[error("BadFates")]
+    BadFates,
+    /// The options describe no meter, or a script no world.
+    #[error("BadSetup")]
+    BadSetup,
+    /// The file of a store can't be made or opened.
+    #[error("StoreFault")]
+    StoreFault,
+    /// The device of a store failed while the store was opened.
+    #[error("Fault")]
+    Device,
+    /// The file of a store has a length that no store has, or begins with a capacity that none has.
+    #[error("BadFile")]
+    BadFile,
+    /// The header of a store isn't one that it can have.
+    #[error("BadHeader")]
+    BadHeader,
+    /// An image in a store, which runs or is verified, hasn't the digest of its name.
+    #[error("BadImage")]
+    BadImage,
+    /// The file of a factory image can't be opened or read.
+    #[error("FactoryFault")]
+    FactoryFault,
+    /// The reader failed, or came to no end within 2^32 reads.
+    #[error("Input")]
+    Input,
+    /// The reader had more than 64 MiB.
+    #[error("TooMuchInput")]
+    TooMuchInput,
+    /// The line of this number, counted from 1, is not in the form that the command reads.
+    #[error("BadLine {0}")]
+    BadLine(u64),
+    /// The reader had no byte, and an image has at least one.
+    #[error("EmptyImage")]
+    EmptyImage,
+    /// The reader had more bytes than an image can have, 16,777,216.
+    #[error("ImageTooLong")]
+    ImageTooLong,
+    /// An event of the script that is rehearsed was refused, for another cause than memory.
+    #[error("Event")]
+    Event,
+    /// What the workers of a rehearsal left isn't what their record says.
+    #[error("Mismatch")]
+    Mismatch,
+    /// A thread for a worker of a rehearsal could not be started.
+    #[error("ThreadRefused")]
+    ThreadRefused,
+    /// No socket could be bound for the wires of a live rollout, or at the address of a meter.
+    #[error("Socket")]
+    Socket,
+    /// A worker was not let pass. No command ends so, since the gate of a command lets every worker pass.
+    #[error("GateShut")]
+    GateShut,
+    /// The list of meters can't be opened or read.
+    #[error("ListFault")]
+    ListFault,
+    /// The line of this number, counted from 1, is none of a list of meters, or has a number or an address that an earlier one has.
+    #[error("BadList {0}")]
+    BadList(u64),
+    /// The file of an image can't be opened or read.
+    #[error("ImageFault")]
+    ImageFault,
+    /// No file of a book is there, and none is to be made.
+    #[error("NoBook")]
+    NoBook,
+    /// A book is to be made where a file is there.
+    #[error("BookExists")]
+    BookExists,
+    /// Another head end has the book.
+    #[error("Locked")]
+    Locked,
+    /// The file of a book can't be made, opened, read, written or synced.
+    #[error("BookFault")]
+    BookFault,
+    /// The bytes of a book from this offset on are none.
+    #[error("BadBook {0}")]
+    BadBook(u64),
+    /// The record of a book with this index, counted from 0, has no place in it.
+    #[error("BadRecord {0}")]
+    BadRecord(usize),
+    /// A book is another head end's.
+    #[error("ForeignHead")]
+    ForeignHead,
+    /// A book has 2^60 bytes or more.
+    #[error("Full")]
+    Full,
+    /// The meter of this number has a live row, and the list has no address of it.
+    #[error("NoAddress {0}")]
+    NoAddress(u32),
+    /// The book refused to open a campaign.
+    #[error("{0}")]
+    OpenRefused(BookError),
+    /// The book refused to cancel a campaign.
+    #[error("{0}")]
+    CancelRefused(BookError),
+    /// The writer failed.
+    #[error("Output")]
+    Output,
+    /// Memory ran out.
+    #[error("OutOfMemory")]
+    OutOfMemory,
+}
+
+impl From<AllocError> for Fault {
+    ghost from_gives = { λ _ e. e ≡ OutOfMemory };
+
+    fn from(_error: AllocError) -> Fault {
+        Fault::OutOfMemory
+    }
+}
+
+impl<T: Drop> From<AllocFailed<T>> for Fault {
+    ghost from_gives = { λ _ e. e ≡ OutOfMemory };
+
+    fn from(_error: AllocFailed<T>) -> Fault {
+        Fault::OutOfMemory
+    }
+}
+
+impl From<fw_meter::OutOfMemory> for Fault {
+    ghost from_gives = { λ _ e. e ≡ OutOfMemory };
+
+    fn from(_error: fw_meter::OutOfMemory) -> Fault {
+        Fault::OutOfMemory
+    }
+}
+
+impl From<FileStoreError> for Fault {
+    ghost from_gives = { λ error fault. fault ≡ fault_of_file error };
+
+    fn from(error: FileStoreError) -> Fault {
+        match error {
+            FileStoreError::StoreFault => Fault::StoreFault,
+            FileStoreError::BadSetup => Fault::BadSetup,
+            FileStoreError::OutOfMemory => Fault::OutOfMemory,
+            FileStoreError::BadFile => Fault::BadFile,
+        }
+    }
+}
+
+impl From<OpenError> for Fault {
+    ghost from_gives = { λ error fault. fault ≡ fault_of_opening error };
+
+    fn from(error: OpenError) -> Fault {
+        match error {
+            OpenError::Fault => Fault::Device,
+            OpenError::BadHeader => Fault::BadHeader,
+            OpenError::BadImage => Fault::BadImage,
+        }
+    }
+}
+
+impl From<RehearseError> for Fault {
+    ghost from_gives = { λ error fault. fault ≡ fault_of_rehearsal error };
+
+    fn from(error: RehearseError) -> Fault {
+        match error {
+            RehearseError::Mismatch => Fault::Mismatch,
+            RehearseError::ThreadRefused => Fault::ThreadRefused,
+            RehearseError::Event(_) => Fault::Event,
+            RehearseError::OutOfMemory => Fault::OutOfMemory,
+            RehearseError::Socket => Fault::Socket,
+            RehearseError::GateShut => Fault::GateShut,
+            RehearseError::BadSetup => Fault::BadSetup,
+        }
+    }
+}
+
+impl From<JournalError> for Fault {
+    ghost from_gives = { λ error fault. fault ≡ fault_of_device error };
+
+    fn from(error: JournalError) -> Fault {
+        match error {
+            JournalError::BadBook { offset } => Fault::BadBook(offset),
+            JournalError::NotEmpty => Fault::BookExists,
+            JournalError::TooLong | JournalError::Full => Fault::Full,
+            JournalError::Locked => Fault::Locked,
+            JournalError::BookFault => Fault::BookFault,
+            JournalError::OutOfMemory => Fault::OutOfMemory,
+        }
+    }
+}
+
+impl From<fw_kept::OpenError> for Fault {
+    ghost from_gives = { λ error fault. fault ≡ fault_of_reopening error };
+
+    fn from(error: fw_kept::OpenError) -> Fault {
+        match error {
+            fw_kept::OpenError::BadBook { offset } => Fault::BadBook(offset),
+            fw_kept::OpenError::BadRecord { index } => Fault::BadRecord(index),
+            fw_kept::OpenError::ForeignHead => Fault::ForeignHead,
+            fw_kept::OpenError::BookFault => Fault::BookFault,
+            fw_kept::OpenError::OutOfMemory => Fault::OutOfMemory,
+        }
+    }
+}
+
+impl From<Stop> for Fault {
+    ghost from_gives = { λ stop fault. fault ≡ fault_of_stop stop };
+
+    fn from(stop: Stop) -> Fault {
+        match stop {
+            Stop::Closed => Fault::Socket,
+            Stop::Full => Fault::Full,
+            Stop::BookFault => Fault::BookFault,
+            Stop::OutOfMemory => Fault::OutOfMemory,
+        }
+    }
+}

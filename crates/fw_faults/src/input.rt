@@ -1,0 +1,52 @@
+//! Reading all that a reader has, within limits.
+
+ghost use Rattle.std.specs.Prelude.{◌≡◌, ◌<◌, ◌≤◌, ◌⊎◌, IsTrue, IfOk, IfErr, false};
+ghost use Rattle.fw_faults.specs.Reading.{Gives, ReadsAll, ReadsUntil, max_input, max_reads};
+
+use crate::fault::Fault;
+use crate::reads::Reads;
+use std::alloc::Global;
+use std::io::Read;
+
+/// The most bytes that are read: 64 MiB.
+const MAX_INPUT: usize = 67_108_864;
+
+/// The most times that a reader is asked: 2^32.
+const MAX_READS: u64 = 4_294_967_296;
+
+/// The bytes that a reader is asked for at once.
+const CHUNK: usize = 4096;
+
+/// All the bytes that the reader has left. A read that was interrupted is made again, and counts as one.
+pub fn read_input<R: Read>(
+    alloc: Global,
+    reader: &mut R,
+    reads: &mut Reads,
+) -> Result<Vec<u8>, Fault>
+    requires { reads.old ≡ record { made = 0; failed = false } }
+    ensures all { IfOk result (λ input. ReadsAll (R.remaining reader.old) (R.remaining reader.new) input.items) }
+
+    // The fault that the reading meets first.
+    ensures reading { IfErr result (λ f. ReadsUntil f (R.remaining reader.old) (R.remaining reader.new)) }
+    ensures input_only { result ≡ Err Fault.Input → IsTrue reads.new.failed ⊎ (max_reads ≤ reads.new.made) }
+    ensures memory { result ≡ Err Fault.OutOfMemory
+        → Gives (R.remaining reader.old) (R.remaining reader.new) (λ count. (1 ≤ count) × (count ≤ max_input)) }
+    ensures memory_only { result ≡ Err Fault.OutOfMemory → reads.new.failed ≡ false }
+    ensures only { IfErr result (λ f. (f ≡ Fault.Input) ⊎ ((f ≡ Fault.TooMuchInput) ⊎ (f ≡ Fault.OutOfMemory))) }
+{
+    let mut input = Vec::new(alloc);
+    let mut chunk = [0; CHUNK];
+    while reads.made() < MAX_READS {
+        let Some(count) = reads.read(reader, &mut chunk)? else {
+            continue;
+        };
+        if count == 0 {
+            return Ok(input);
+        }
+        if count > MAX_INPUT - input.len() {
+            return Err(Fault::TooMuchInput);
+        }
+        input.extend_from_slice(&chunk[..count])?;
+    }
+    Err(Fault::Input)
+}

@@ -1,0 +1,61 @@
+//! The reads of a reader, counted.
+
+ghost use Rattle.std.specs.Prelude.{◌≡◌, ◌+◌, ◌<◌, ◌≤◌, length, take, false, IsTrue, OnOk, OnErr, IfOk, IfErr, MatchOption};
+ghost use Rattle.std.specs.Io.KnownBytes.{Consumes, Keeps, IsAtEnd};
+ghost use Rattle.fw_faults.specs.Reading.{max_reads};
+
+use crate::fault::Fault;
+use std::io::{ErrorKind, Read};
+
+/// How many reads were made of a reader, and whether one of them failed. Only `Reads::read` makes one.
+#[derive(Drop)]
+pub struct Reads {
+    made: u64,
+    failed: bool,
+}
+
+impl Reads {
+    /// No read yet.
+    pub fn none() -> Reads
+        ensures { result ≡ record { made = 0; failed = false } }
+    {
+        Reads {
+            made: 0,
+            failed: false,
+        }
+    }
+
+    /// How many reads were made.
+    pub fn made(&self) -> u64
+        ensures { result ≡ self.now.made }
+    {
+        self.made
+    }
+
+    /// Reads once: the number of bytes, or nothing where the reader was interrupted. Any other error is the reader's failure.
+    pub fn read<R: Read>(
+        &mut self,
+        reader: &mut R,
+        chunk: &mut [u8],
+    ) -> Result<Option<usize>, Fault>
+        requires { self.old.made < max_reads }
+        ensures counted { self.new.made ≡ self.old.made + 1 }
+        ensures ok { OnOk result (self.new.failed ≡ self.old.failed) }
+        ensures err { OnErr result (IsTrue self.new.failed) }
+        ensures only { IfErr result (λ f. f ≡ Fault.Input) }
+        ensures bytes { IfOk result (λ read. MatchOption read (Keeps (R.remaining reader.old) (R.remaining reader.new)) (λ count.
+            (count ≤ length chunk.new) × Consumes (R.remaining reader.old) (R.remaining reader.new) (take count chunk.new)
+            × (count ≡ 0 → 0 < length chunk.new → IsAtEnd (R.remaining reader.new)))) }
+        ensures kept { OnErr result (Keeps (R.remaining reader.old) (R.remaining reader.new)) }
+    {
+        self.made += 1;
+        match reader.read(chunk) {
+            Ok(count) => Ok(Some(count)),
+            Err(error) if error.kind() == ErrorKind::Interrupted => Ok(None),
+            Err(_) => {
+                self.failed = true;
+                Err(Fault::Input)
+            }
+        }
+    }
+}

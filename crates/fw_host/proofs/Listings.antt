@@ -1,0 +1,215 @@
+-- The meters of a list: records of comma-separated values, and their fields.
+use Rattle.std.proofs.Common.{Bor, ◌≡◌, ◌≢◌, ℕ, zero, suc, ◌+◌, ◌<◌, Bool, true, false, not, List, [], ◌∷◌, ◌++◌, length, map, Option, Some, None, refl, sym, ap, subst, ◌∙◌, rules, arith, inl, inr, append_assoc}
+use Rattle.std.specs.Prelude.{◌⊎◌, IsUtf8, if◌then◌else◌}
+use Rattle.std.specs.declared.net.socket_addr.SocketAddr.{SocketAddr}
+use Rattle.std.proofs.lemmas.Bool.{false≢true}
+use Rattle.csv.specs.Machine.{Read, ends_at_end, field_after, fields_after, is_end, next_record, step}
+use Rattle.csv.specs.Reading.{AreRecords, ExplainsRead, ReadRecord, Reached, Ready, default_config, source_of, stops_reader, strip_bom}
+use Rattle.csv.specs.declared.error.ErrorKind.{ErrorKind}
+use Rattle.csv.specs.declared.error.ErrorKind.TheVariants as kind
+use Rattle.csv.specs.declared.reader.Reader.{Reader}
+use Rattle.csv.specs.declared.reader.Trim.TheVariants as trim
+use Rattle.csv.proofs.ReadFacts.{rows-end, rows-more}
+use Rattle.csv.specs.declared.parser.Config.{Config}
+use Rattle.csv.specs.declared.parser.State.{State}
+use Rattle.csv.specs.declared.parser.State.TheVariants as st
+use Rattle.fw_rollout.specs.declared.link.Listed.{Listed}
+use Rattle.fw_rollout.specs.Daemon.{IsList}
+use Rattle.std.specs.Net.Grammar.{IsSocketText}
+use Rattle.std.specs.Str.Parse.{digits_value, without_leading_plus}
+use Rattle.std.proofs.NetLemmas.Theorems.{IsSocketText_unique}
+use Rattle.csv.specs.Records.{AllText, field_at}
+use Rattle.fw_host.specs.Lists.{IsNoList, SpellsAll, SpellsList, SpellsListed, SpellsNumber}
+
+-- ---- records
+
+at_end : (ends : Bool) (fields : List (List ℕ)) (r : Read) → (if ends then Some (fields, st.StartRecord, []) else None) ≡ Some r
+    → (length r.2 < 0) ⊎ ((r.1 ≡ st.StartRecord) × (r.2 ≡ []))
+at_end true fields r e = let same : (fields, st.StartRecord, []) ≡ r = cc in inr (sym (ap (λ (p : Read). p.1) same), sym (ap (λ (p : Read). p.2) same))
+at_end false fields r e = absurd (cc e)
+
+goes_on : (ends : Bool) (fields : List (List ℕ)) (s : State) (c : ℕ) (rest : List ℕ) (r : Read) {more : Option Read} → (if ends then Some (fields, s, rest) else more) ≡ Some r
+    → (more ≡ Some r → (length r.2 < length rest) ⊎ ((r.1 ≡ st.StartRecord) × (r.2 ≡ [])))
+    → (length r.2 < length (c ∷ rest)) ⊎ ((r.1 ≡ st.StartRecord) × (r.2 ≡ []))
+goes_on true fields s c rest r e others = let same : (fields, s, rest) ≡ r = cc in inl (omega (arith, ap length (ap (λ (p : Read). p.2) same)))
+goes_on false fields s c rest r e others = elim (others e) [ inl less ↦ inl (omega arith) | inr last ↦ inr last ]
+
+-- a record that was read leaves less, or was the last
+shorter : (config : Config) (s : State) (fields : List (List ℕ)) (field text : List ℕ) (r : Read) → next_record config s fields field text ≡ Some r
+    → (length r.2 < length text) ⊎ ((r.1 ≡ st.StartRecord) × (r.2 ≡ []))
+unfolding next_record
+shorter config s fields field [] r e = at_end (ends_at_end s) _ _ e
+shorter config s fields field (c ∷ rest) r e =
+    goes_on (is_end (step config s c).1) _ _ c rest r e (shorter config (step config s c).0 (fields_after (step config s c).1 fields field) (field_after (step config s c).1 c field) rest r)
+
+pub reached_append : (config : Config) (s t u : State) (text behind last : List ℕ) (rows more : List (List (List ℕ))) → Reached config s text rows t behind
+    → Reached config t behind more u last → Reached config s text (rows ++ more) u last
+unfolding Reached
+reached_append config s t u text behind last [] more reached next = rw (reached.0, reached.1) next
+reached_append config s t u text behind last (row ∷ rows) more reached next =
+    (reached.0, reached.1, reached.2, reached_append config reached.0.1 t u reached.0.2 behind last rows more reached.3 next)
+
+from_next : (config : Config) (n : ℕ) (s : State) (text : List ℕ) (next : Option Read) → next_record config s [] [] text ≡ next → length text < suc n
+    → ((t : State) (rest : List ℕ) → length rest < n → (rows : List (List (List ℕ))) × AreRecords config t rest rows)
+    → (rows : List (List (List ℕ))) × AreRecords config s text rows
+unfolding Reached next_record
+from_next config n s text None e short others = ([], (s, text, (refl, refl), e))
+from_next config n s text (Some r) e short others = elim (shorter config s [] [] text r e) [
+  | inl less ↦ let (rows, (t, last, reached, none)) = others r.1 r.2 (omega arith) in (r.0 ∷ rows, (t, last, (r, e, refl, reached), none))
+  | inr last ↦ (r.0 ∷ [], (st.StartRecord, [], (r, e, refl, (last.0, last.1)), refl))
+]
+
+-- every text has records
+records_within : (config : Config) (n : ℕ) (s : State) (text : List ℕ) → length text < n → (rows : List (List (List ℕ))) × AreRecords config s text rows
+records_within config zero s text short = absurd (omega arith)
+records_within config (suc n) s text short = from_next config n s text (next_record config s [] [] text) refl short (records_within config n)
+
+pub all_records : (config : Config) (s : State) (text : List ℕ) → (rows : List (List (List ℕ))) × AreRecords config s text rows
+all_records config s text = records_within config (suc (length text)) s text (omega arith)
+
+pub spells_more : (records : List (List (List ℕ))) (list : List Listed) (fields : List (List ℕ)) (at : Listed) → SpellsAll records list → SpellsListed fields at
+    → SpellsAll (records ++ fields ∷ []) (list ++ at ∷ [])
+spells_more [] [] fields at all one = (one, tt)
+spells_more [] (first ∷ list) fields at all one = absurd all
+spells_more (row ∷ records) [] fields at all one = absurd all
+spells_more (row ∷ records) (first ∷ list) fields at all one = (all.0, spells_more records list fields at all.1 one)
+
+-- ---- fields
+
+pub two_fields : (fields : List (List ℕ)) (number address : List ℕ) → length fields ≡ 2 → field_at fields 0 ≡ Some number → field_at fields 1 ≡ Some address
+    → fields ≡ number ∷ address ∷ []
+unfolding field_at
+two_fields [] number address two first second = absurd (omega arith)
+two_fields (a ∷ []) number address two first second = absurd (omega arith)
+two_fields (a ∷ b ∷ []) number address two first second = cc
+two_fields (a ∷ b ∷ c ∷ more) number address two first second = absurd (omega arith)
+
+all_text : (number address : List ℕ) → IsUtf8 number → IsUtf8 address → AllText (number ∷ address ∷ [])
+unfolding AllText
+all_text number address a b = (a, (b, tt))
+
+pub spells_listed : (fields : List (List ℕ)) (number address : List ℕ) (at : Listed) → length fields ≡ 2
+    → (field_at fields 0 ≡ Some number) × IsUtf8 number → (field_at fields 1 ≡ Some address) × IsUtf8 address
+    → SpellsNumber number at.meter → IsSocketText address at.address → SpellsListed fields at
+spells_listed fields number address at two first second is_number is_address =
+    let same = two_fields fields number address two first.0 second.0 in
+    record {
+      number = number;
+      address = address;
+      two = same;
+      text = rw same (all_text number address first.1 second.1);
+      is_number = is_number;
+      is_address = is_address;
+    }
+
+-- what a line of a list has in its fields
+pub record HasFields (fields : List (List ℕ)) (at : Listed) : Type 0 where
+  pub number : List ℕ
+  pub address : List ℕ
+  pub two : length fields ≡ 2
+  pub first : field_at fields 0 ≡ Some number
+  pub second : field_at fields 1 ≡ Some address
+  pub number_is_text : IsUtf8 number
+  pub address_is_text : IsUtf8 address
+  pub is_number : SpellsNumber number at.meter
+  pub is_address : IsSocketText address at.address
+
+pub has_fields : (fields : List (List ℕ)) (at : Listed) → SpellsListed fields at → HasFields fields at
+unfolding AllText field_at
+has_fields fields at spells =
+    let text : AllText (spells.number ∷ spells.address ∷ []) = subst AllText spells.two spells.text in
+    record {
+      number = spells.number;
+      address = spells.address;
+      two = rw spells.two refl;
+      first = rw spells.two refl;
+      second = rw spells.two refl;
+      number_is_text = text.0;
+      address_is_text = text.1.0;
+      is_number = spells.is_number;
+      is_address = spells.is_address;
+    }
+
+listed_of : ℕ → SocketAddr → Listed
+listed_of meter address = record { meter = meter; address = address }
+
+same_listed : (a b : Listed) → a.meter ≡ b.meter → a.address ≡ b.address → a ≡ b
+unfolding listed_of
+same_listed a b meter address = ap (λ n. listed_of n a.address) meter ∙ ap (listed_of b.meter) address
+
+-- a line spells one meter at most
+pub one_listed : (fields : List (List ℕ)) (a b : Listed) → SpellsListed fields a → SpellsListed fields b → a ≡ b
+one_listed fields a b x y =
+    let same : x.number ∷ x.address ∷ [] ≡ y.number ∷ y.address ∷ [] = sym x.two ∙ y.two in
+    let numbers : x.number ≡ y.number = cc same in
+    let addresses : x.address ≡ y.address = cc same in
+    same_listed a b (x.is_number.value ∙ ap (λ text. digits_value 10 (without_leading_plus text)) numbers ∙ sym y.is_number.value)
+    (IsSocketText_unique y.address a.address b.address (subst (λ text. IsSocketText text a.address) addresses x.is_address) y.is_address)
+
+-- ---- the list so far
+
+-- these are the meters of the records that the reader gave so far
+pub record IsRead (text : List ℕ) (reader : Reader (Bor (List ℕ))) (meters : List Listed) : Type 0 where
+  pub trim : reader.trim ≡ trim.None
+  pub ready : Ready reader
+  pub config : reader.config ≡ default_config
+  pub flexible : reader.flexible ≡ true
+  pub left : List ℕ
+  pub source : source_of (λ (s : Bor (List ℕ)). Some s.now) reader ≡ Some left
+  pub records : List (List (List ℕ))
+  pub reached : Reached default_config st.StartRecord (strip_bom text) records reader.state left
+  pub spells : SpellsAll records meters
+  pub once : IsList meters
+
+pub record_read : (text : List ℕ) (a b : Reader (Bor (List ℕ))) (meters next : List Listed) (fields : List (List ℕ)) → IsRead text a meters
+    → ReadRecord (λ (s : Bor (List ℕ)). Some s.now) a b true fields → b.first ≡ true → b.flexible ≡ a.flexible → IsList next
+    → (at : Listed) × SpellsListed fields at × (next ≡ meters ++ at ∷ []) → IsRead text b next
+record_read text a b meters next fields is read first flexible once taken =
+    let (left, source, reached) = rows-more (λ (s : Bor (List ℕ)). Some s.now) a b fields default_config st.StartRecord (strip_bom text) is.left is.records is.config is.source is.reached read in
+    let (at, spells, items) = taken in
+    record {
+      trim = read.3 ∙ is.trim;
+      ready = inl first;
+      config = read.2 ∙ is.config;
+      flexible = flexible ∙ is.flexible;
+      left = left;
+      source = source;
+      records = is.records ++ fields ∷ [];
+      reached = reached;
+      spells = rw items (spells_more is.records meters fields at is.spells spells);
+      once = once;
+    }
+
+-- a read of bytes stops for its reader or for memory alone
+pub read_stops : (a b : Reader (Bor (List ℕ))) (why : ErrorKind) → ExplainsRead (λ (s : Bor (List ℕ)). Some s.now) a b false why → a.flexible ≡ true → stops_reader why ≡ true
+read_stops a b (kind.Io e) explained flexible = refl
+read_stops a b kind.OutOfMemory explained flexible = refl
+read_stops a b (kind.UnequalLengths position expected count) explained flexible = absurd (false≢true (sym explained.0 ∙ flexible))
+read_stops a b (kind.Utf8 position e) explained flexible = absurd (false≢true explained.0)
+read_stops a b (kind.Serialize e) explained flexible = absurd explained
+read_stops a b (kind.Deserialize position e) explained flexible = absurd explained
+
+pub list_read : (text : List ℕ) (a b : Reader (Bor (List ℕ))) (meters : List Listed) (fields : List (List ℕ)) → IsRead text a meters
+    → ReadRecord (λ (s : Bor (List ℕ)). Some s.now) a b false fields → SpellsList text meters
+list_read text a b meters fields is read = record {
+  records = is.records;
+  are = (a.state, is.left, is.reached, rows-end (λ (s : Bor (List ℕ)). Some s.now) a b fields default_config is.left is.config is.source read);
+  spells = is.spells;
+  once = is.once;
+}
+
+pub no_list : (text : List ℕ) (a b : Reader (Bor (List ℕ))) (meters : List Listed) (fields : List (List ℕ)) → IsRead text a meters
+    → ReadRecord (λ (s : Bor (List ℕ)). Some s.now) a b true fields → ((at : Listed) → SpellsListed fields at → ¬ IsList (meters ++ at ∷ [])) → IsNoList text
+no_list text a b meters fields is read none =
+    let (left, source, reached) = rows-more (λ (s : Bor (List ℕ)). Some s.now) a b fields default_config st.StartRecord (strip_bom text) is.left is.records is.config is.source is.reached read in
+    let (rest, (last, behind, more, end)) = all_records default_config b.state left in
+    record {
+      before = is.records;
+      bad = fields;
+      rest = rest;
+      are = (last, behind, rw (append_assoc is.records (fields ∷ []) rest) at (reached_append default_config st.StartRecord b.state last (strip_bom text) left behind (is.records ++ fields ∷ []) rest reached more), end);
+      list = meters;
+      spells = is.spells;
+      once = is.once;
+      none = none;
+    }

@@ -1,0 +1,5 @@
+-- Public vocabulary: the words of public clauses, for callers and readers.
+pub mod Meters
+pub mod Lists
+pub mod Heads
+pub mod Openings

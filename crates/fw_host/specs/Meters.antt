@@ -1,0 +1,41 @@
+-- Public vocabulary: the command `meter`: the lines that it prints, the faults of its set-up, and the meter that it makes.
+use Rattle.std.specs.Prelude.{ℕ, List, ◌++◌, codes, decimal}
+use Rattle.std.specs.declared.net.socket_addr.SocketAddr.{SocketAddr}
+use Rattle.std.specs.Net.Text.{socket_text}
+use Rattle.hex.specs.Hex.{encode_lower}
+use Rattle.fw_names.specs.Name.{Name}
+use Rattle.fw_daemon.specs.declared.daemon.Dropped.{Dropped}
+use Rattle.fw_faults.specs.declared.fault.Fault.{Fault}
+use Rattle.fw_faults.specs.declared.fault.Fault.TheVariants.{BadSetup, StoreFault, Device, BadFile, BadHeader, BadImage, FactoryFault, OutOfMemory}
+
+-- the address that datagrams are received at
+abbrev pub listening_line : SocketAddr → List ℕ
+listening_line at = codes "listening " ++ (socket_text at ++ codes "\n")
+
+-- the image that the meter switched to: its campaign's head end and serial number, its release, and the digits of its digest in lower case
+abbrev pub activated_line : Name → List ℕ
+activated_line name =
+    codes "activated " ++ (decimal name.campaign.head ++ (codes " " ++ (decimal name.campaign.serial ++ (codes " " ++ (decimal name.release
+    ++ (codes " " ++ (encode_lower name.digest ++ codes "\n")))))))
+
+-- the datagrams that were dropped, as strangers' and for lack of memory, and how often the socket failed
+abbrev pub dropped_line : Dropped → ℕ → List ℕ
+dropped_line dropped faults =
+    codes "dropped strangers " ++ (decimal dropped.strangers ++ (codes " unserved " ++ (decimal dropped.unserved ++ (codes " faults "
+    ++ (decimal faults ++ codes "\n")))))
+
+-- the image that a new meter runs where none is given
+abbrev pub default_factory : List ℕ
+default_factory = codes "abc"
+
+-- the faults of the set-up of a meter in a file
+abbrev pub IsOfSetup : Fault → Type 0
+IsOfSetup BadSetup = Unit {0}
+IsOfSetup StoreFault = Unit {0}
+IsOfSetup Device = Unit {0}
+IsOfSetup BadFile = Unit {0}
+IsOfSetup BadHeader = Unit {0}
+IsOfSetup BadImage = Unit {0}
+IsOfSetup FactoryFault = Unit {0}
+IsOfSetup OutOfMemory = Unit {0}
+IsOfSetup fault = ⊥

@@ -1,0 +1,45 @@
+-- Public vocabulary: the campaigns of an opening, and when the book has one of them already.
+use Rattle.std.specs.Prelude.{◌≡◌, ◌⊎◌, ℕ, ◌+◌, ◌/◌, ◌<◌, ◌-◌, ◌≤◌, ◌^◌, List, [], map, length, All}
+use Rattle.std.specs.List.{flat_map, range_with_len}
+use Rattle.fw_book.specs.declared.error.BookError.TheVariants.{NoMeters}
+use Rattle.fw_book.specs.Contents.{Offered, max_meters}
+use Rattle.fw_book.specs.Rows.{meters_of}
+use Rattle.fw_rollout.specs.declared.link.Listed.{Listed}
+use Rattle.fw_faults.specs.declared.fault.Fault.{Fault}
+use Rattle.fw_faults.specs.declared.fault.Fault.TheVariants.{BadSetup, OpenRefused, OutOfMemory}
+use Rattle.fw_host.specs.declared.head_opening.part.Part.{Part}
+
+-- the meters of a list, in its order
+abbrev pub listed_meters : List Listed → List ℕ
+listed_meters list = map (λ (at : Listed). at.meter) list
+
+-- how many campaigns so many meters need
+abbrev pub campaigns_for : ℕ → ℕ
+campaigns_for count = (count + (max_meters - 1)) / max_meters
+
+-- a campaign has 1 to 256 meters
+abbrev pub HasMeters : Part → Type 0
+HasMeters part = (1 ≤ length part.meters.items) × (length part.meters.items ≤ max_meters)
+
+-- The campaigns of an opening for these meters. Their serial numbers run on from the first. Each has 1 to 256 meters, and together they have
+-- all of them in their order. There are as few as can be, and at least one.
+pub record ArePartsOf (serial : ℕ) (meters : List ℕ) (parts : List Part) : Type 0 where
+  pub serials : map (λ (part : Part). part.serial) parts ≡ range_with_len serial (length parts)
+  pub sizes : All HasMeters parts
+  pub joined : flat_map (λ (part : Part). part.meters.items) parts ≡ meters
+  pub few : length parts ≡ campaigns_for (length meters)
+  pub some : 1 ≤ length parts
+
+-- Why there are no campaigns for these meters: the first serial number is 0, or there are not enough from it on; there is no meter; or memory
+-- ran out.
+abbrev pub PartsRefused : ℕ → List ℕ → Fault → Type 0
+PartsRefused serial meters BadSetup = (serial ≡ 0) ⊎ (2 ^ 32 < serial + campaigns_for (length meters))
+PartsRefused serial meters (OpenRefused refusal) = (1 ≤ serial) × (meters ≡ []) × (refusal ≡ NoMeters)
+PartsRefused serial meters OutOfMemory = (1 ≤ serial) × (1 ≤ length meters)
+PartsRefused serial meters fault = ⊥
+
+-- what is offered is this image of this release, to just these meters, in this order
+pub record IsOfferOf (release : ℕ) (image meters : List ℕ) (offer : Offered) : Type 0 where
+  pub release_is : offer.release ≡ release
+  pub image_is : offer.image ≡ image
+  pub meters_are : meters_of offer.rows ≡ meters

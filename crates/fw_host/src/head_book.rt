@@ -1,0 +1,163 @@
+//! The book of the command `head`, in a file.
+
+ghost use Rattle.std.specs.Prelude.{◌≡◌, IfErr, IfOk, IsTrue};
+ghost use Rattle.fw_head.specs.Head.{BeginsWith, new_head};
+ghost use Rattle.fw_journal.specs.Refusals.{IsFileRefusal};
+ghost use Rattle.fw_kept.specs.Head.{book_of, head_of};
+ghost use Rattle.fw_host.specs.Heads.{IsOfBook, IsOfNewBook, IsOfOldBook};
+
+use crate::files::is_absent;
+use fw_blocks::Width;
+use fw_faults::Fault;
+use fw_journal::{FileDevice, JournalDevice, JournalError};
+use fw_kept::KeptHead;
+use fw_names::HeadId;
+use std::alloc::Global;
+use std::fs;
+use std::fs::{File, OpenOptions};
+use std::rt::Files;
+
+/// Where the book of a head end is.
+#[derive(Clone, Copy, Debug)]
+pub struct BookOptions<'a> {
+    /// The path of the file.
+    pub path: &'a str,
+    /// Whether it is to be made. Otherwise it is there.
+    pub is_new: bool,
+}
+
+/// The head end of this number whose book is in the file. A new one is made as FILE.new, and named FILE once the disk has all of it.
+pub fn kept_head<F: Files<File = File>>(
+    rt: &F,
+    alloc: Global,
+    book: BookOptions<'_>,
+    head: HeadId,
+    width: Width,
+) -> Result<KeptHead<FileDevice>, Fault>
+    ensures begun { IfOk result (λ kept. BeginsWith (book_of kept) width (head_of kept)) }
+    ensures new { IsTrue book.entry.is_new → IfOk result (λ kept. head_of kept ≡ new_head head width) }
+    ensures only { IfErr result (IsOfBook book.entry.is_new) }
+{
+    if book.is_new {
+        make(rt, alloc, book.path, head, width)
+    } else {
+        open(rt, alloc, book.path, head, width)
+    }
+}
+
+/// The head end whose book is in a file that is there.
+fn open<F: Files<File = File>>(
+    rt: &F,
+    alloc: Global,
+    path: &str,
+    head: HeadId,
+    width: Width,
+) -> Result<KeptHead<FileDevice>, Fault>
+    ensures begun { IfOk result (λ kept. BeginsWith (book_of kept) width (head_of kept)) }
+    ensures only { IfErr result IsOfOldBook }
+{
+    let device = match FileDevice::open(rt, path) {
+        Ok(device) => device,
+        Err(error) => return Err(file_fault(rt, path, error)),
+    };
+    match KeptHead::open(alloc, head, width, device) {
+        Ok(kept) => Ok(kept),
+        Err((error, _device)) => Err(Fault::from(error)),
+    }
+}
+
+/// Why the file of a book isn't opened.
+fn file_fault<F: Files<File = File>>(rt: &F, path: &str, error: JournalError) -> Fault
+    requires { IsFileRefusal error }
+    ensures { IsOfOldBook result }
+{
+    if error == JournalError::BookFault && is_absent(rt, path) {
+        Fault::NoBook
+    } else {
+        Fault::from(error)
+    }
+}
+
+/// A head end without campaigns, with its book in a new file.
+fn make<F: Files<File = File>>(
+    rt: &F,
+    alloc: Global,
+    path: &str,
+    head: HeadId,
+    width: Width,
+) -> Result<KeptHead<FileDevice>, Fault>
+    ensures new { IfOk result (λ kept. head_of kept ≡ new_head head width) }
+    ensures only { IfErr result IsOfNewBook }
+{
+    check_absent(rt, path)?;
+    let new = format!(in alloc; "{path}.new")?;
+    let mut device = new_device(rt, new.as_str())?;
+    // Who had the lock before may have given the file its name meanwhile.
+    check_absent(rt, path)?;
+    // A head end that was killed while it made its book may have left some of it.
+    if device.shorten(0).is_err() {
+        return Err(Fault::BookFault);
+    }
+    let kept = new_book(alloc, head, width, device)?;
+    if fs::rename(rt, new.as_str(), path).is_err() {
+        return Err(Fault::BookFault);
+    }
+    sync_folder(rt, path)?;
+    Ok(kept)
+}
+
+/// Checks that no file is there.
+fn check_absent<F: Files<File = File>>(rt: &F, path: &str) -> Result<(), Fault>
+    ensures only { IfErr result IsOfNewBook }
+{
+    match fs::exists(rt, path) {
+        Ok(false) => Ok(()),
+        Ok(true) => Err(Fault::BookExists),
+        Err(_) => Err(Fault::BookFault),
+    }
+}
+
+/// A file for a new book, under the lock: one that is made, or one that was left.
+fn new_device<F: Files<File = File>>(rt: &F, path: &str) -> Result<FileDevice, Fault>
+    ensures only { IfErr result IsOfNewBook }
+{
+    match FileDevice::create(rt, path) {
+        Ok(device) => Ok(device),
+        Err(JournalError::BookFault) => match FileDevice::open(rt, path) {
+            Ok(device) => Ok(device),
+            Err(error) => Err(Fault::from(error)),
+        },
+        Err(error) => Err(Fault::from(error)),
+    }
+}
+
+/// A head end without campaigns, with its book on a device without bytes.
+fn new_book(
+    alloc: Global,
+    head: HeadId,
+    width: Width,
+    device: FileDevice,
+) -> Result<KeptHead<FileDevice>, Fault>
+    ensures new { IfOk result (λ kept. head_of kept ≡ new_head head width) }
+    ensures only { IfErr result IsOfNewBook }
+{
+    match KeptHead::create(alloc, head, width, device) {
+        Ok(kept) => Ok(kept),
+        Err((error, _device)) => Err(Fault::from(error)),
+    }
+}
+
+/// Puts the names in the folder of a file where a power cut leaves them.
+fn sync_folder<F: Files<File = File>>(rt: &F, path: &str) -> Result<(), Fault>
+    ensures only { IfErr result (λ f. f ≡ Fault.BookFault) }
+{
+    let folder = match path.rsplit_once('/') {
+        Some((folder, _)) if folder.is_empty() => "/",
+        Some((folder, _)) => folder,
+        None => ".",
+    };
+    let mut options = OpenOptions::new();
+    options.read(true);
+    let folder = options.open(rt, folder).map_err(|_| Fault::BookFault)?;
+    folder.sync_all().map_err(|_| Fault::BookFault)
+}

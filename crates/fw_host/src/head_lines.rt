@@ -1,0 +1,62 @@
+//! The lines that the command `head` prints.
+
+ghost use Rattle.std.specs.Prelude.{◌≡◌, IfOk, string_bytes};
+ghost use Rattle.fw_rollout.specs.Leading.{state_after};
+ghost use Rattle.fw_host.specs.Heads.{cancelled_line, ended_line, opened_line, over_line};
+
+use fw_book::RowState;
+use fw_ledger::Ending;
+use fw_names::{CampaignId, ImageName};
+use fw_report::{head_number, state_word};
+use fw_rollout::{Counts, Ended};
+use std::alloc::{AllocError, Global};
+
+/// The line of a campaign that was opened.
+pub fn opened_line(alloc: Global, name: ImageName) -> Result<String, AllocError>
+    ensures { IfOk result (λ text. string_bytes text ≡ opened_line name) }
+{
+    let (head, serial) = (head_number(name.campaign), name.campaign.serial());
+    let release = name.release;
+    let digest = hex::encode(alloc, name.digest)?;
+    format!(in alloc; "opened {head} {serial} {release} {digest}\n")
+}
+
+/// The line of a campaign that was cancelled.
+pub fn cancelled_line(alloc: Global, campaign: CampaignId) -> Result<String, AllocError>
+    ensures { IfOk result (λ text. string_bytes text ≡ cancelled_line campaign) }
+{
+    let (head, serial) = (head_number(campaign), campaign.serial());
+    format!(in alloc; "cancelled {head} {serial}\n")
+}
+
+/// The line of a row that ended, as a report has it.
+pub(crate) fn ended_line(alloc: Global, ended: Ended) -> Result<String, AllocError>
+    ensures { IfOk result (λ text. string_bytes text ≡ ended_line ended) }
+{
+    let Ended {
+        campaign,
+        meter,
+        ending,
+    } = ended;
+    let (head, serial) = (head_number(campaign), campaign.serial());
+    let (number, state) = (meter.number(), state_word(state_after(ending)));
+    format!(in alloc; "row {head} {serial} {number} {state}\n")
+}
+
+/// The line at the end of the command.
+pub fn over_line(alloc: Global, counts: Counts) -> Result<String, AllocError>
+    ensures { IfOk result (λ text. string_bytes text ≡ over_line counts) }
+{
+    let (done, failed) = (counts.done, counts.failed);
+    format!(in alloc; "over done {done} failed {failed}\n")
+}
+
+/// How a book notes the end of a row.
+fn state_after(ending: Ending) -> RowState
+    ensures { result ≡ state_after ending }
+{
+    match ending {
+        Ending::Done => RowState::Done,
+        Ending::Failed => RowState::Failed,
+    }
+}

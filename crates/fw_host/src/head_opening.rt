@@ -1,0 +1,210 @@
+//! The campaigns that the command `head` opens: as many as the meters of its list need.
+
+ghost use Rattle.std.specs.Prelude.{
+  ◌≡◌,
+  ◌≤◌,
+  ◌↔◌,
+  IfErr,
+  IfOk,
+  IsErrOf,
+  IsSomeAnd,
+  IsTrue,
+  None,
+  OnErr,
+  OnOk,
+  Some,
+};
+ghost use Rattle.fw_names.specs.Name.{name_of};
+ghost use Rattle.fw_book.specs.Changes.{cancel_refusal, opening_refusal};
+ghost use Rattle.fw_book.specs.Contents.{Contents, offered_in};
+ghost use Rattle.fw_book.specs.Rows.{meters_of};
+ghost use Rattle.fw_book.specs.declared.error.BookError.{BookError};
+ghost use Rattle.fw_head.specs.Head.{campaign_at, cancelled_head, opened_head};
+ghost use Rattle.fw_kept.specs.Head.{Holds, book_of, head_of};
+ghost use Rattle.fw_host.specs.Heads.{IsCancelFault, IsOfLeading, IsOpenFault};
+ghost use Rattle.fw_host.specs.Openings.{ArePartsOf, IsOfferOf, PartsRefused, listed_meters};
+
+mod part;
+
+use fw_book::{BookError, MAX_METERS, Row};
+use fw_faults::Fault;
+use fw_journal::JournalDevice;
+use fw_kept::{KeptError, KeptHead};
+use fw_names::{CampaignId, ImageName, MeterId};
+use fw_rollout::Listed;
+pub use part::Part;
+use std::alloc::{AllocError, Global};
+
+/// What is opened.
+#[derive(Clone, Copy, Debug)]
+pub struct Opening<'a> {
+    /// The serial number of the first campaign, at least 1.
+    pub serial: u32,
+    /// The release of the image, and 0 where it has none.
+    pub release: u32,
+    /// The path of the file whose bytes are the image.
+    pub image: &'a str,
+}
+
+/// The campaigns that are opened for the meters of a list, each for the next 256 meters at most, with serial numbers from this one on.
+///
+/// # Errors
+///
+/// `BadSetup` where the first serial number is 0, which is none, or there are not enough from it on; `OpenRefused` with `NoMeters` where the
+/// list is empty; and `OutOfMemory`.
+pub fn parts_of(alloc: Global, serial: u32, list: &[Listed]) -> Result<Vec<Part>, Fault>
+    ensures parts { IfOk result (λ parts. ArePartsOf serial (listed_meters list.now) parts.items) }
+    ensures refused { IfErr result (PartsRefused serial (listed_meters list.now)) }
+{
+    if serial == 0 {
+        return Err(Fault::BadSetup);
+    }
+    if list.is_empty() {
+        return Err(Fault::OpenRefused(BookError::NoMeters));
+    }
+    let mut parts = Vec::new(alloc);
+    let mut next = Some(serial);
+    for chunk in list.chunks(MAX_METERS) {
+        let Some(serial) = next else {
+            return Err(Fault::BadSetup);
+        };
+        let meters = listed_meters(alloc, chunk)?;
+        parts.push(Part { serial, meters })?;
+        next = serial.checked_add(1);
+    }
+    Ok(parts)
+}
+
+/// The meters of a list, in its order.
+fn listed_meters(alloc: Global, list: &[Listed]) -> Result<Vec<MeterId>, AllocError>
+    ensures { IfOk result (λ meters. meters.items ≡ listed_meters list.now) }
+{
+    list.iter().map(|at| at.meter).collect(alloc)
+}
+
+/// Whether the head end has this campaign already, for this image and these meters.
+pub fn is_open<D: JournalDevice>(
+    kept: &KeptHead<D>,
+    part: &Part,
+    release: u32,
+    image: &[u8],
+) -> bool
+    ensures { IsTrue result ↔ IsSomeAnd (offered_in (book_of kept.now) (campaign_at (head_of kept.now) part.now.serial))
+        (IsOfferOf release image.now part.now.meters.items) }
+{
+    match kept.head().view().book.offer(campaign_of(kept, part)) {
+        Some(offer) => offer.release() == release
+            && offer.image() == image
+            && are_of(offer.rows(), &part.meters),
+        None => false,
+    }
+}
+
+/// Whether these are the rows of just these meters, in this order.
+fn are_of(rows: &[Row], meters: &[MeterId]) -> bool
+    ensures { IsTrue result ↔ (meters_of rows.now ≡ meters.now) }
+{
+    rows.len() == meters.len()
+        && rows
+            .iter()
+            .zip(meters.iter())
+            .all(|(row, meter)| row.meter == *meter)
+}
+
+/// The campaign of a part, at this head end.
+fn campaign_of<D: JournalDevice>(kept: &KeptHead<D>, part: &Part) -> CampaignId
+    ensures { result ≡ campaign_at (head_of kept.now) part.now.serial }
+{
+    match CampaignId::new(kept.head().view().book.head(), part.serial) {
+        Some(campaign) => campaign,
+        None => unreachable!(),
+    }
+}
+
+/// Checks that the head end takes a campaign of an opening, as far as it is known before those before it are opened.
+///
+/// # Errors
+///
+/// `OpenRefused` with the first refusal of the book.
+pub fn check_part<D: JournalDevice>(
+    kept: &KeptHead<D>,
+    part: &Part,
+    image: &[u8],
+) -> Result<(), Fault>
+    ensures admitted { OnOk result (opening_refusal (book_of kept.now) (campaign_at (head_of kept.now) part.now.serial) image.now
+        part.now.meters.items ≡ None) }
+    ensures refused { IfErr result (λ f. (e : BookError) × (f ≡ Fault.OpenRefused e)
+        × (opening_refusal (book_of kept.now) (campaign_at (head_of kept.now) part.now.serial) image.now part.now.meters.items ≡ Some e)) }
+    ensures only { IfErr result IsOfLeading }
+{
+    let campaign = campaign_of(kept, part);
+    match kept
+        .head()
+        .view()
+        .book
+        .check_opening(campaign, image, &part.meters)
+    {
+        Ok(()) => Ok(()),
+        Err(refusal) => Err(Fault::OpenRefused(refusal)),
+    }
+}
+
+/// Opens a campaign of an opening. From `Ok` on it is on the device.
+///
+/// # Errors
+///
+/// `OpenRefused` with the first refusal of the book; else `Full`, `BookFault` or `OutOfMemory`.
+pub fn open_part<D: JournalDevice>(
+    alloc: Global,
+    kept: &mut KeptHead<D>,
+    part: &Part,
+    release: u32,
+    image: &[u8],
+) -> Result<ImageName, Fault>
+    ensures opened { OnOk result (head_of kept.new ≡ opened_head (head_of kept.old) part.now.serial release image.now part.now.meters.items) }
+    ensures name { IfOk result (λ name. name ≡ name_of (campaign_at (head_of kept.old) part.now.serial) release image.now) }
+    ensures acknowledged { (synced : Contents) → Holds D.honest D.contents D.may_leave kept.old synced
+        → OnOk result (Holds D.honest D.contents D.may_leave kept.new (book_of kept.new)) }
+    ensures same { OnErr result (head_of kept.new ≡ head_of kept.old) }
+    ensures refused { IfErr result (IsOpenFault (opening_refusal (book_of kept.old) (campaign_at (head_of kept.old) part.now.serial) image.now
+        part.now.meters.items)) }
+    ensures only { IfErr result IsOfLeading }
+{
+    match kept.open_campaign(alloc, part.serial, release, image, &part.meters) {
+        Ok(name) => Ok(name),
+        Err(KeptError::Refused(refusal)) => Err(Fault::OpenRefused(refusal)),
+        Err(KeptError::Full) => Err(Fault::Full),
+        Err(KeptError::BookFault) => Err(Fault::BookFault),
+        Err(KeptError::OutOfMemory) => Err(Fault::OutOfMemory),
+    }
+}
+
+/// Cancels the campaign of this serial number. From `Ok` on that is on the device.
+///
+/// # Errors
+///
+/// `CancelRefused` with the first refusal of the book, which has no campaign of number 0; else `Full`, `BookFault` or `OutOfMemory`.
+pub fn cancel<D: JournalDevice>(
+    kept: &mut KeptHead<D>,
+    alloc: Global,
+    serial: u32,
+) -> Result<(), Fault>
+    ensures cancelled { OnOk result (head_of kept.new ≡ cancelled_head (head_of kept.old) serial) }
+    ensures acknowledged { (synced : Contents) → Holds D.honest D.contents D.may_leave kept.old synced
+        → OnOk result (Holds D.honest D.contents D.may_leave kept.new (book_of kept.new)) }
+    ensures same { OnErr result (head_of kept.new ≡ head_of kept.old) }
+    ensures refused { 1 ≤ serial → IfErr result (IsCancelFault (cancel_refusal (book_of kept.old) (campaign_at (head_of kept.old) serial))) }
+    ensures none { serial ≡ 0 → IsErrOf result (Fault.CancelRefused BookError.NoSuchCampaign) }
+    ensures only { IfErr result IsOfLeading }
+{
+    if serial == 0 {
+        return Err(Fault::CancelRefused(BookError::NoSuchCampaign));
+    }
+    match kept.cancel(alloc, serial) {
+        Ok(()) => Ok(()),
+        Err(KeptError::Refused(refusal)) => Err(Fault::CancelRefused(refusal)),
+        Err(KeptError::Full) => Err(Fault::Full),
+        Err(KeptError::BookFault) => Err(Fault::BookFault),
+        Err(KeptError::OutOfMemory) => Err(Fault::OutOfMemory),
+    }
+}

@@ -1,0 +1,92 @@
+//! The port of the command `head`: a UDP socket, and a writer that gets the line of each row that ended.
+
+use crate::head_lines::ended_line;
+use fw_daemon::UdpPort;
+use fw_faults::write_text;
+use fw_rollout::{Arrival, Closed, Ended, HeadPort, Patience};
+use std::alloc::Global;
+use std::io::Write;
+use std::net::SocketAddr;
+use std::rt::Clock;
+use std::time::Instant;
+
+/// A UDP socket with a clock and a writer. Nothing is known of what a network does, so it is not honest.
+#[derive(Drop)]
+pub struct UdpHeadPort<'a, C: Clock, W: Write> {
+    rt: &'a C,
+    alloc: Global,
+    port: UdpPort,
+    writer: &'a mut W,
+    began: Option<Instant>,
+}
+
+impl<'a, C: Clock, W: Write> UdpHeadPort<'a, C, W> {
+    /// The time begins now.
+    pub fn new(
+        rt: &'a C,
+        alloc: Global,
+        port: UdpPort,
+        writer: &'a mut W,
+    ) -> UdpHeadPort<'a, C, W> {
+        UdpHeadPort {
+            rt,
+            alloc,
+            port,
+            writer,
+            began: Instant::now(rt).ok(),
+        }
+    }
+}
+
+impl<'a, C: Clock, W: Write> HeadPort for UdpHeadPort<'a, C, W> {
+    ghost use Rattle.std.specs.Prelude.{false, [], ⊤};
+
+    ghost honest = { λ _. false };
+
+    ghost acts = { λ _. [] };
+
+    ghost legal = { λ _ _. ⊤ };
+
+    /// The microseconds since the port was made, and 0 where the system has no time.
+    fn now(&self) -> u64 {
+        let (Some(began), Ok(now)) = (self.began, Instant::now(self.rt)) else {
+            return 0;
+        };
+        let since = now.saturating_duration_since(began).as_micros();
+        u64::try_from(since).unwrap_or(u64::MAX)
+    }
+
+    fn receive(
+        &mut self,
+        patience: Patience,
+        buffer: &mut [u8],
+    ) -> Result<Option<Arrival>, Closed> {
+        let patience = match patience {
+            Patience::Waits => fw_daemon::Patience::Waits,
+            Patience::Polls => fw_daemon::Patience::Polls,
+        };
+        match fw_daemon::Port::receive(&mut self.port, patience, buffer) {
+            Ok(Some(arrival)) => Ok(Some(Arrival {
+                from: arrival.from,
+                count: arrival.count,
+            })),
+            Ok(None) => Ok(None),
+            Err(fw_daemon::Closed) => Err(Closed),
+        }
+    }
+
+    fn faults(&self) -> u64 {
+        fw_daemon::Port::faults(&self.port)
+    }
+
+    fn send(&mut self, to: SocketAddr, bytes: &[u8]) {
+        fw_daemon::Port::send(&mut self.port, to, bytes);
+    }
+
+    /// Writes the line of the row. One that can't be written is lost.
+    fn tell(&mut self, ended: Ended) {
+        if let Ok(line) = ended_line(self.alloc, ended) {
+            let _lost = write_text(self.writer, line.as_str());
+        }
+    }
+}

@@ -1,0 +1,23 @@
+//! What the commands `meter`, `head` and `status` stand on: the files of stores, books and lists, the lines that they print, and the port
+//! and the terminal of a head end.
+#![tactic(auto)]
+
+mod files;
+mod head_book;
+mod head_lines;
+mod head_opening;
+mod head_port;
+mod head_progress;
+mod meter_lines;
+mod meter_list;
+mod meter_store;
+
+pub use files::is_absent;
+pub use head_book::{BookOptions, kept_head};
+pub use head_lines::{cancelled_line, opened_line, over_line};
+pub use head_opening::{Opening, Part, cancel, check_part, is_open, open_part, parts_of};
+pub use head_port::UdpHeadPort;
+pub use head_progress::HeadProgress;
+pub use meter_lines::{activated_line, dropped_line, listening_line};
+pub use meter_list::read_list;
+pub use meter_store::{NewMeter, opened, stored_meter};

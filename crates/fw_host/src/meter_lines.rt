@@ -1,0 +1,38 @@
+//! The lines that the command `meter` prints.
+
+ghost use Rattle.std.specs.Prelude.{◌≡◌, IfOk, string_bytes};
+ghost use Rattle.fw_host.specs.Meters.{activated_line, dropped_line, listening_line};
+
+use fw_daemon::Dropped;
+use fw_names::ImageName;
+use fw_report::head_number;
+use std::alloc::{AllocError, Global};
+use std::net::SocketAddr;
+
+/// The line that tells at which address datagrams are received.
+pub fn listening_line(alloc: Global, at: SocketAddr) -> Result<String, AllocError>
+    ensures { IfOk result (λ text. string_bytes text ≡ listening_line at) }
+{
+    format!(in alloc; "listening {at}\n")
+}
+
+/// The line that tells which image the meter switched to.
+pub fn activated_line(alloc: Global, name: ImageName) -> Result<String, AllocError>
+    ensures { IfOk result (λ text. string_bytes text ≡ activated_line name) }
+{
+    let (head, serial) = (head_number(name.campaign), name.campaign.serial());
+    let release = name.release;
+    let digest = hex::encode(alloc, name.digest)?;
+    format!(in alloc; "activated {head} {serial} {release} {digest}\n")
+}
+
+/// The line that tells how many datagrams were dropped, and how often the socket failed.
+pub fn dropped_line(alloc: Global, dropped: Dropped, faults: u64) -> Result<String, AllocError>
+    ensures { IfOk result (λ text. string_bytes text ≡ dropped_line dropped faults) }
+{
+    let Dropped {
+        strangers,
+        unserved,
+    } = dropped;
+    format!(in alloc; "dropped strangers {strangers} unserved {unserved} faults {faults}\n")
+}

@@ -1,0 +1,11 @@
+use Rattle.std.proofs.Common.{◌∙◌, ap}
+use Rattle.std.proofs.lemmas.Result.{IfOk-weaker}
+use Rattle.serde_json.specs.Written.{has_float, compact_text}
+use Rattle.fw_report.proofs.Floatless.{report_floatless}
+use Rattle.fw_report.proofs.json.json_text.Goals as goal
+
+pub returns : goal.returns
+returns c =
+    let value = c.in_ok-value.ensures in
+    let s = c.args.summary.now in
+    IfOk-weaker c.to_string.result _ _ (λ text h. h (ap has_float value ∙ report_floatless s.rows.items s.meters.items s.activations c.args.refusal) ∙ ap compact_text value) c.to_string.ensures.text

@@ -1,0 +1,118 @@
+-- Public vocabulary: the trace of a run, a line for each datagram that was sent: its number, who sent it and who it is for, in plain words
+-- what it says, why an initiate was refused that it answers, and what the network did with it.
+use Rattle.std.specs.Prelude.{◌≡◌, ℕ, ◌+◌, ◌==◌, if◌then◌else◌, true, false, List, [], ◌∷◌, ◌++◌, length, slice_index_or, Option, codes, decimal}
+use Rattle.fw_server.specs.declared.object.Reading.{Reading}
+use Rattle.fw_server.specs.declared.object.Reading.TheVariants as reading
+use Rattle.fw_world.specs.declared.datagram.Actor.{Actor}
+use Rattle.fw_world.specs.declared.datagram.Actor.TheVariants as actor
+use Rattle.fw_world.specs.declared.setup.Setup.{Setup}
+use Rattle.fw_world.specs.Step.{Event}
+use Rattle.fw_world.specs.View.{sender, addressee}
+use Rattle.fw_world.specs.World.{Datagram}
+use Rattle.fw_report.specs.declared.course.Course.{Course}
+use Rattle.fw_report.specs.declared.reason.Reason.{Reason}
+use Rattle.fw_report.specs.declared.saying.Brief.{Brief}
+use Rattle.fw_report.specs.declared.saying.Brief.TheVariants as brief
+use Rattle.fw_report.specs.declared.saying.Saying.{Saying}
+use Rattle.fw_report.specs.declared.saying.Saying.TheVariants as saying
+use Rattle.fw_report.specs.declared.saying.Title.{Title}
+use Rattle.fw_report.specs.declared.trace.Note.{Note}
+use Rattle.fw_report.specs.Course.{AreCourses, course_of, course_words}
+use Rattle.fw_report.specs.Reason.{AreReasons, reason_at, reason_told, reason_words}
+use Rattle.fw_report.specs.Saying.{Says}
+
+-- ---- the words
+
+abbrev pub attribute_name : Reading → List ℕ
+attribute_name (reading.LogicalName object) = codes "logical name"
+attribute_name reading.BlockSize = codes "block size"
+attribute_name reading.TransferredBlocks = codes "transferred blocks"
+attribute_name reading.FirstNotTransferred = codes "first not transferred block"
+attribute_name reading.TransferEnabled = codes "transfer enabled"
+attribute_name reading.TransferStatus = codes "transfer status"
+attribute_name reading.ToActivate = codes "image to activate"
+attribute_name reading.ActiveName = codes "active firmware identifier"
+attribute_name reading.ActiveDigest = codes "active firmware signature"
+
+-- a size in bytes
+abbrev pub in_bytes : ℕ → List ℕ
+in_bytes size = codes "(" ++ (decimal size ++ codes " bytes)")
+
+-- a release, and nothing for 0, which is none
+abbrev pub release_words : ℕ → List ℕ
+release_words release = if release == 0 then [] else (codes " release " ++ decimal release)
+
+-- the numbers of a campaign, and the release
+abbrev pub title_words : Title → List ℕ
+title_words title =
+    codes "campaign " ++ (decimal title.campaign.head ++ (codes " " ++ (decimal title.campaign.serial ++ release_words title.release)))
+
+abbrev pub brief_words : Brief → List ℕ
+brief_words (brief.Number n) = decimal n
+brief_words (brief.Flag true) = codes "true"
+brief_words (brief.Flag false) = codes "false"
+brief_words (brief.Status n) = codes "status " ++ decimal n
+brief_words (brief.Bits n) = codes "bits " ++ decimal n
+brief_words (brief.Name title) = title_words title
+brief_words (brief.Octets size) = codes "? " ++ in_bytes size
+brief_words (brief.Images n) = codes "images " ++ decimal n
+brief_words brief.Other = codes "?"
+
+abbrev pub saying_words : Saying → List ℕ
+saying_words (saying.Get attribute) = codes "get " ++ attribute_name attribute
+saying_words (saying.Enable true) = codes "enable"
+saying_words (saying.Enable false) = codes "disable"
+saying_words (saying.Initiate title size) = codes "initiate " ++ (title_words title ++ (codes " " ++ in_bytes size))
+saying_words (saying.InitiateUnnamed size) = codes "initiate ? " ++ in_bytes size
+saying_words (saying.Block number size) = codes "block " ++ (decimal number ++ (codes " " ++ in_bytes size))
+saying_words saying.Verify = codes "verify"
+saying_words saying.Activate = codes "activate"
+saying_words (saying.Got b) = codes "get " ++ brief_words b
+saying_words (saying.GotCode c) = codes "get code " ++ decimal c
+saying_words (saying.SetCode c) = codes "set " ++ decimal c
+saying_words (saying.ActionCode c) = codes "action " ++ decimal c
+saying_words (saying.Unread size) = codes "? " ++ in_bytes size
+
+-- ---- the lines
+
+abbrev pub kind_of : Actor → List ℕ
+kind_of (actor.Head head) = codes "head"
+kind_of (actor.Meter meter) = codes "meter"
+
+abbrev pub number_of : Actor → ℕ
+number_of (actor.Head head) = head
+number_of (actor.Meter meter) = meter
+
+-- who sends a datagram to whom
+abbrev pub ends_words : Actor → Actor → List ℕ
+ends_words from to =
+    kind_of from ++ (codes " " ++ (decimal (number_of from) ++ (codes " -> " ++ (kind_of to ++ (codes " " ++ decimal (number_of to))))))
+
+-- two spaces stand before what is said
+abbrev pub line_of : ℕ → Datagram → Saying → Note → List ℕ
+line_of number d s note =
+    decimal number ++ (codes " " ++ (ends_words (sender d) (addressee d) ++ (codes "  " ++ (saying_words s
+    ++ (reason_words (reason_told s note.reason) ++ (course_words note.course ++ codes "\n"))))))
+
+-- what is known of the datagram of this number beside what it says
+abbrev pub note_of : List Course → List (Option Reason) → ℕ → Note
+note_of courses reasons number = record { reason = reason_at reasons number; course = slice_index_or courses number (course_of number []) }
+
+-- the lines of datagrams, of which the first has this number, one after another
+abbrev pub TracesFrom : (ℕ → Note) → ℕ → List Datagram → List ℕ → Type 0
+TracesFrom notes number [] text = text ≡ []
+TracesFrom notes number (d ∷ sent) text =
+    (s : Saying) × (rest : List ℕ) × Says d.direction d.bytes s × TracesFrom notes (number + 1) sent rest
+    × (text ≡ line_of number d s (notes number) ++ rest)
+
+-- datagrams are numbered from 0
+abbrev pub IsTrace : List Course → List (Option Reason) → List Datagram → List ℕ → Type 0
+IsTrace courses reasons sent text = TracesFrom (note_of courses reasons) 0 sent text
+
+-- the trace of what was sent in a run of these events
+pub record TellsTrace (setup : Setup) (events : List Event) (sent : List Datagram) (text : List ℕ) : Type 0 where
+  pub courses : List Course
+  pub reasons : List (Option Reason)
+  pub courses_are : AreCourses events (length sent) courses
+  pub reasons_are : AreReasons setup events reasons
+  pub trace : IsTrace courses reasons sent text

@@ -1,0 +1,207 @@
+//! What a datagram says, read out of its bytes.
+
+ghost use Rattle.std.specs.Prelude.{length, IfOk};
+ghost use Rattle.fw_axdr.specs.Value.{octet_string};
+ghost use Rattle.fw_axdr.specs.View.{value_of};
+ghost use Rattle.fw_apdu.specs.Request.{SpellsRequest};
+ghost use Rattle.fw_apdu.specs.Response.{SpellsResponse};
+ghost use Rattle.fw_apdu.specs.View.{response_content};
+ghost use Rattle.fw_server.specs.Meaning.{meaning_of};
+ghost use Rattle.fw_server.specs.View.{planned_meaning, operation_meaning};
+ghost use Rattle.fw_report.specs.Saying.{Says, SaysCarried, SaysAsk, SaysAnswer, IsBrief, NamesImage};
+
+use fw_apdu::{ApduError, GetDataResult, Response, read_request, read_response};
+use fw_axdr::Data;
+use fw_names::{CampaignId, ImageName};
+use fw_server::{Operation, Planned, Reading, plan};
+use fw_world::{Datagram, Direction};
+use fw_wrapper::split;
+use std::alloc::{AllocError, Global};
+
+/// What the name of an image tells: its campaign, and its release, which is 0 where it has none.
+#[derive(Clone, Copy, Debug)]
+pub struct Title {
+    pub campaign: CampaignId,
+    pub release: u32,
+}
+
+/// What a datagram says, in short.
+#[derive(Clone, Copy, Debug)]
+pub enum Saying {
+    /// A GET of this attribute.
+    Get(Reading),
+    /// A SET of image_transfer_enabled.
+    Enable(bool),
+    /// An image_transfer_initiate: what the name of the image tells, and its size in bytes.
+    Initiate { title: Title, size: u32 },
+    /// One of an image whose identifier is no name, with its size.
+    InitiateUnnamed(u32),
+    /// An image_block_transfer: the number of the block, and how many bytes it has.
+    Block { number: u32, size: usize },
+    /// An image_verify.
+    Verify,
+    /// An image_activate.
+    Activate,
+    /// The answer to a GET, by a value.
+    Got(Brief),
+    /// The answer to a GET, by a code.
+    GotCode(u8),
+    /// The answer to a SET.
+    SetCode(u8),
+    /// The answer to an ACTION.
+    ActionCode(u8),
+    /// Bytes that can't be read, and how many.
+    Unread(usize),
+}
+
+/// A value that a GET is answered by, in short.
+#[derive(Clone, Copy, Debug)]
+pub enum Brief {
+    Number(u32),
+    Flag(bool),
+    /// image_transfer_status.
+    Status(u8),
+    /// How many bits there are.
+    Bits(usize),
+    /// What the name of an image tells.
+    Name(Title),
+    /// Bytes that are no name, and how many.
+    Octets(usize),
+    /// How many images image_to_activate_info has.
+    Images(usize),
+    /// A value of a type that no attribute has.
+    Other,
+}
+
+/// What a datagram says.
+pub fn saying_of(alloc: Global, datagram: &Datagram) -> Result<Saying, AllocError>
+    ensures { IfOk result (Says datagram.now.direction datagram.now.bytes) }
+{
+    match datagram.direction {
+        Direction::ToMeter => asked(alloc, &datagram.bytes),
+        Direction::ToHead => answered(alloc, &datagram.bytes),
+    }
+}
+
+/// What a datagram to a meter says.
+pub fn asked(alloc: Global, bytes: &[u8]) -> Result<Saying, AllocError>
+    ensures { IfOk result (SaysCarried SpellsRequest (λ content. SaysAsk (length bytes.now) (meaning_of content)) bytes.now) }
+{
+    let Ok(frame) = split(bytes) else {
+        return Ok(Saying::Unread(bytes.len()));
+    };
+    match read_request(alloc, frame.apdu) {
+        Ok(request) => Ok(ask_of(plan(&request), bytes.len())),
+        Err(ApduError::OutOfMemory) => Err(AllocError),
+        Err(_) => Ok(Saying::Unread(bytes.len())),
+    }
+}
+
+/// What a request says that asks for this, in a datagram of this size in bytes.
+fn ask_of(planned: Planned<'_>, size: usize) -> Saying
+    ensures { SaysAsk size (planned_meaning planned.entry) result }
+{
+    match planned {
+        Planned::Read(attribute) => Saying::Get(attribute),
+        Planned::Operate(operation) => operation_of(operation, size),
+        Planned::Block { number, value } => Saying::Block {
+            number,
+            size: value.len(),
+        },
+        Planned::Refused(_) => Saying::Unread(size),
+    }
+}
+
+/// What a request says that asks for this operation.
+fn operation_of(operation: Operation<'_>, size: usize) -> Saying
+    ensures { SaysAsk size (operation_meaning operation.entry) result }
+{
+    match operation {
+        Operation::Enable(enabled) => Saying::Enable(enabled),
+        Operation::Initiate { identifier, size } => match title_in(identifier) {
+            Some(title) => Saying::Initiate { title, size },
+            None => Saying::InitiateUnnamed(size),
+        },
+        Operation::Verify => Saying::Verify,
+        Operation::Activate => Saying::Activate,
+    }
+}
+
+/// What the name tells that the bytes spell, if they spell one.
+fn title_in(bytes: &[u8]) -> Option<Title>
+    ensures { NamesImage bytes.now result }
+{
+    match ImageName::from_bytes(bytes) {
+        Some(name) => Some(Title {
+            campaign: name.campaign,
+            release: name.release,
+        }),
+        None => None,
+    }
+}
+
+/// What a datagram to a head end says.
+pub fn answered(alloc: Global, bytes: &[u8]) -> Result<Saying, AllocError>
+    ensures { IfOk result (SaysCarried SpellsResponse SaysAnswer bytes.now) }
+{
+    let Ok(frame) = split(bytes) else {
+        return Ok(Saying::Unread(bytes.len()));
+    };
+    match read_response(alloc, frame.apdu) {
+        Ok(response) => Ok(answer_of(&response)),
+        Err(ApduError::OutOfMemory) => Err(AllocError),
+        Err(_) => Ok(Saying::Unread(bytes.len())),
+    }
+}
+
+/// What a response says.
+fn answer_of(response: &Response) -> Saying
+    ensures { SaysAnswer (response_content response.now) result }
+{
+    match response {
+        Response::Get {
+            result: GetDataResult::Data(value),
+            ..
+        } => Saying::Got(brief_of(value)),
+        Response::Get {
+            result: GetDataResult::Code(code),
+            ..
+        } => Saying::GotCode(*code),
+        Response::Set { code, .. } => Saying::SetCode(*code),
+        Response::Action { code, .. } => Saying::ActionCode(*code),
+    }
+}
+
+/// A value in short.
+fn brief_of(value: &Data) -> Brief
+    ensures { IsBrief (value_of value.now) result }
+{
+    match value {
+        Data::DoubleLongUnsigned(number) => Brief::Number(*number),
+        Data::Boolean(flag) => Brief::Flag(*flag),
+        Data::BitString(bits) => Brief::Bits(bits.len()),
+        Data::Enumerated(status) => Brief::Status(*status),
+        Data::OctetString(octets) => octets_brief(octets.as_slice()),
+        Data::Array(elements) => Brief::Images(elements.len()),
+        Data::Null
+        | Data::Structure(_)
+        | Data::DoubleLong(_)
+        | Data::VisibleString(_)
+        | Data::Integer(_)
+        | Data::Long(_)
+        | Data::Unsigned(_)
+        | Data::LongUnsigned(_)
+        | Data::Long64(_)
+        | Data::Long64Unsigned(_) => Brief::Other,
+    }
+}
+
+/// An octet-string in short.
+fn octets_brief(bytes: &[u8]) -> Brief
+    ensures { IsBrief (octet_string bytes.now) result }
+{
+    match title_in(bytes) {
+        Some(title) => Brief::Name(title),
+        None => Brief::Octets(bytes.len()),
+    }
+}

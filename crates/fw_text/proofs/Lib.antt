@@ -1,0 +1,4 @@
+pub mod DigitLemmas
+pub mod Digits
+pub mod LineLemmas
+pub mod WordLemmas
