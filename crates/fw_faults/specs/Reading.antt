@@ -1,5 +1,5 @@
 -- Public vocabulary: what a command takes from its reader, where the bytes that the reader has left are known: those before and those after.
-use Rattle.std.specs.Prelude.{ℕ, ◌≤◌, ◌<◌, ◌*◌, ◌^◌, List, length, Option}
+use Rattle.std.specs.Prelude.{ℕ, Bool, ◌≤◌, ◌<◌, ◌*◌, ◌^◌, List, length, Option}
 use Rattle.std.specs.Io.KnownBytes.{Consumes, IsAtEnd}
 use Rattle.fw_faults.specs.declared.fault.Fault.{Fault}
 use Rattle.fw_faults.specs.declared.fault.Fault.TheVariants.{Input, TooMuchInput, Output, OutOfMemory}
@@ -11,6 +11,11 @@ max_input = 64 * 1024 * 1024
 -- the most times that a command asks its reader
 abbrev pub max_reads : ℕ
 max_reads = 2 ^ 32
+
+-- how many reads were made of a reader, and whether one of them failed
+pub record ReadsMade : Type 0 where
+  pub made : ℕ
+  pub failed : Bool
 
 -- The reader gave this input and has nothing left, and the input isn't too long.
 pub record ReadsAll (before after : Option (List ℕ)) (input : List ℕ) : Type 0 where

@@ -6,12 +6,21 @@ ghost use Rattle.fw_faults.specs.Reading.{max_reads};
 
 use crate::fault::Fault;
 use std::io::{ErrorKind, Read};
+use std::marker::Model;
 
 /// How many reads were made of a reader, and whether one of them failed. Only `Reads::read` makes one.
 #[derive(Drop)]
 pub struct Reads {
     made: u64,
     failed: bool,
+}
+
+impl Model for Reads {
+    ghost use Rattle.fw_faults.specs.Reading.{ReadsMade};
+
+    ghost Value = { ReadsMade };
+
+    ghost view = { λ r. record { made = r.made; failed = r.failed } };
 }
 
 impl Reads {
