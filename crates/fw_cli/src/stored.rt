@@ -3,12 +3,9 @@
 ghost use Rattle.std.specs.Prelude.{◌≡◌, ◌<◌, ◌≤◌, ◌⊎◌, ℕ, List, Some, None, IfOk, IfErr, OnOk};
 ghost use Rattle.std.specs.Io.KnownBytes.{Keeps};
 ghost use Rattle.fw_image.specs.Meter.{restarted};
-ghost use Rattle.fw_image.specs.Stored.{Opens, Refused};
-ghost use Rattle.fw_image.specs.declared.error.OpenError.{OpenError};
 ghost use Rattle.fw_cli.specs.Options.{DescribesOne, DescribesNone};
 ghost use Rattle.fw_faults.specs.Reading.{Gives, ReadsUntil, max_input};
 ghost use Rattle.fw_cli.specs.Faults.{ComesBeforeInput, ComesBeforeOutput, IsOfStoredAnswer};
-ghost use Rattle.fw_faults.specs.Faults.{fault_of_opening};
 ghost use Rattle.fw_cli.specs.Answering.{AnswersOpened};
 
 use crate::answer::{AnswerOptions, describes_one, setup_of};

@@ -18,6 +18,12 @@ const MAX_READS: u64 = 4_294_967_296;
 const CHUNK: usize = 4096;
 
 /// All the bytes that the reader has left. A read that was interrupted is made again, and counts as one.
+///
+/// # Errors
+///
+/// - `Input`: the reader failed, or came to no end within 2^32 reads.
+/// - `TooMuchInput`: the reader had more than 64 MiB.
+/// - `OutOfMemory`: 1 byte to 64 MiB were read.
 pub fn read_input<R: Read>(
     alloc: Global,
     reader: &mut R,

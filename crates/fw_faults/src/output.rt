@@ -7,6 +7,10 @@ use crate::fault::Fault;
 use std::io::Write;
 
 /// Writes all of a text, and flushes it.
+///
+/// # Errors
+///
+/// `Output`: the writer failed. What it holds then is unspecified.
 pub fn write_text<W: Write>(writer: &mut W, text: &str) -> Result<(), Fault>
     ensures written { OnOk result (Appends (W.contents writer.old) (W.contents writer.new) text.now) }
     ensures only { IfErr result (λ f. f ≡ Fault.Output) }

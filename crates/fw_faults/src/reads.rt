@@ -41,7 +41,11 @@ impl Reads {
         self.made
     }
 
-    /// Reads once: the number of bytes, or nothing where the reader was interrupted. Any other error is the reader's failure.
+    /// Reads once: the number of bytes, or nothing where the reader was interrupted.
+    ///
+    /// # Errors
+    ///
+    /// `Input`: the reader failed, in any other way.
     pub fn read<R: Read>(
         &mut self,
         reader: &mut R,

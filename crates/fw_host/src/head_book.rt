@@ -27,6 +27,14 @@ pub struct BookOptions<'a> {
 }
 
 /// The head end of this number whose book is in the file. A new one is made as FILE.new, and named FILE once the disk has all of it.
+///
+/// # Errors
+///
+/// - `Locked`: another head end has the book. `BookFault`: its file can't be made, opened, read, written or synced.
+/// - Of a book that is there `NoBook`, `BadBook`, `BadRecord` and `ForeignHead`: the file has no book that this head end may begin with. It is
+///   left as it is, or as a journal of the same records.
+/// - Of a new one `BookExists`.
+/// - `OutOfMemory`.
 pub fn kept_head<F: Files<File = File>>(
     rt: &F,
     alloc: Global,

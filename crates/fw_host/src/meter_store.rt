@@ -4,6 +4,9 @@ ghost use Rattle.std.specs.Prelude.{◌≡◌, ◌⊎◌, None, IfOk, IfErr, OnO
 ghost use Rattle.fw_store.specs.Setup.{IsSetup};
 ghost use Rattle.fw_store.specs.declared.version.HeaderVersion.TheVariants.{Two};
 ghost use Rattle.fw_image.specs.Meter.{restarted};
+ghost use Rattle.fw_image.specs.Stored.{Opens, Refused};
+ghost use Rattle.fw_image.specs.declared.error.OpenError.{OpenError};
+ghost use Rattle.fw_faults.specs.Faults.{fault_of_opening};
 ghost use Rattle.fw_host.specs.Meters.{IsOfSetup, default_factory};
 
 use crate::files::is_absent;
@@ -29,6 +32,15 @@ pub struct NewMeter<'a> {
 }
 
 /// The meter in the file, which is made where no file is there.
+///
+/// # Errors
+///
+/// - `StoreFault`: the file can't be made or opened, or another store has it open.
+/// - `Device`, which prints `Fault`: the file can't be read, or its header not be written in version 2.
+/// - `BadFile`, `BadHeader` or `BadImage`: the file holds no meter. It is left as it is.
+/// - `FactoryFault`: no file is there, and the one of the factory image can't be read. No file was made.
+/// - `BadSetup`: no file is there, and the options describe no meter. No file was made.
+/// - `OutOfMemory`.
 pub fn stored_meter<F: Files<File = File>>(
     rt: &F,
     alloc: Global,
@@ -46,6 +58,11 @@ pub fn stored_meter<F: Files<File = File>>(
 }
 
 /// The meter that a store holds, whose header is one of version 2 from then on.
+///
+/// # Errors
+///
+/// - `Device`: the store failed.
+/// - `BadHeader` or `BadImage`: it holds no meter.
 pub fn opened<S: ImageStore + Drop>(store: S) -> Result<MeterCore<S>, Fault>
     ensures opened { IfOk result (λ meter. Opens S.honest S.capacity S.fuse S.device store meter) }
     ensures begins { IfOk result (λ meter. restarted meter.meter ≡ meter.meter) }

@@ -11,6 +11,10 @@ use std::alloc::Global;
 
 /// The fates that these letters spell: `d` a datagram comes, `x` it is lost, `t` it comes twice, `l` it comes late. Where memory is
 /// refused, the letters are judged without it.
+///
+/// # Errors
+///
+/// `BadFates` where they aren't 1 to 4,096 of these letters, and `OutOfMemory`.
 pub fn read_fates(alloc: Global, letters: &[u8]) -> Result<Vec<Fate>, Fault>
     ensures ok { IfOk result (λ fates. SpellsFates letters.now fates.items) }
     ensures bad_fates { result ≡ Err Fault.BadFates → ¬ SpellsSome letters.now }
