@@ -1,6 +1,6 @@
 -- Why initiates were refused that datagrams answer, one event after another.
 use Rattle.std.proofs.Common.{◌≡◌, ◌≢◌, ◌⊎◌, inl, inr, ℕ, zero, suc, ◌+◌, ◌-◌, ◌<◌, ◌≤◌, length, replicate, take, drop, slice_get, slice_index_or, arith, List, [], ◌∷◌, ◌++◌, Option, Some, None, Result, Ok, Err, max, refl, sym, ap, subst, ◌∙◌, append_assoc}
-use Rattle.std.proofs.lemmas.List.{length-append, length-replicate, length-map}
+use Rattle.std.proofs.lemmas.List.{length-append, length-replicate}
 use Rattle.std.specs.Option.{option_map}
 use Rattle.std.specs.Prelude.{IfOk}
 use Rattle.fw_image.specs.Meter.{Meter}
@@ -19,7 +19,7 @@ use Rattle.fw_air.specs.Laws.{SentGrows}
 use Rattle.fw_air.specs.Rounds.{Admits, AdmittedRun}
 use Rattle.fw_report.specs.declared.reason.Reason.{Reason}
 use Rattle.fw_report.specs.declared.saying.Saying.{Saying}
-use Rattle.fw_report.specs.Reason.{Answers, AreReasons, HappenUpTo, HasReason, HasReasonAt, reason_of}
+use Rattle.fw_report.specs.Reason.{Answers, AreReasons, HasReason, HasReasonAt, reason_of}
 use Rattle.fw_report.specs.Saying.{Says}
 
 -- ---- lists

@@ -1,6 +1,6 @@
 -- Public vocabulary: the report of a world as JSON (RFC 8259), on one line without spaces. The members of an object stand by their keys.
 use Rattle.std.specs.Prelude.{ℕ, List, ◌++◌, map, Option, None, Some, codes}
-use Rattle.serde_json.specs.Data.{Data, number, unsigned, string, null, array, object, Members, member, no_members}
+use Rattle.serde_json.specs.Data.{Data, number, unsigned, string, null, array, object, member, no_members}
 use Rattle.serde_json.specs.View.{items_of}
 use Rattle.serde_json.specs.Written.{compact_text}
 use Rattle.fw_image.specs.Status.{status_number}

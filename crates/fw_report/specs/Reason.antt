@@ -4,7 +4,7 @@ use Rattle.std.specs.Prelude.{◌≡◌, ℕ, ◌<◌, ◌≤◌, ◌==◌, ◌�
 use Rattle.fw_apdu.specs.Cosem.{other_reason}
 use Rattle.fw_image.specs.Meter.{Meter}
 use Rattle.fw_world.specs.declared.datagram.Direction.{Direction}
-use Rattle.fw_world.specs.declared.datagram.Direction.TheVariants.{ToMeter, ToHead}
+use Rattle.fw_world.specs.declared.datagram.Direction.TheVariants.{ToMeter}
 use Rattle.fw_world.specs.declared.error.StepError.{StepError}
 use Rattle.fw_world.specs.declared.setup.Setup.{Setup}
 use Rattle.fw_world.specs.Refusals.{refusal_of}

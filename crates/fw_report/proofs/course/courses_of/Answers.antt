@@ -1,4 +1,4 @@
-use Rattle.std.proofs.Common.{◌≡◌, ◌<◌, ◌-◌, ◌^◌, length, arith}
+use Rattle.std.proofs.Common.{◌<◌, ◌-◌, ◌^◌, length, arith}
 use Rattle.fw_report.proofs.Courses.{one_more}
 use Rattle.fw_report.proofs.course.courses_of.Goals as goal
 
