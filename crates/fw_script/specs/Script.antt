@@ -8,7 +8,7 @@ use Rattle.fw_world.specs.declared.setup.HeadSetup.{HeadSetup}
 use Rattle.fw_world.specs.declared.setup.MeterSetup.{MeterSetup}
 use Rattle.fw_world.specs.declared.setup.Setup.{Setup}
 use Rattle.fw_text.specs.Lines.{lines_of}
-use Rattle.fw_text.specs.Words.{words_of, number_of, number_within, bytes_said, keyword, reading, ending, numbers_of, from_one, byte_of}
+use Rattle.fw_text.specs.Words.{words_of, number_of, bytes_said, keyword, reading, ending, numbers_of, from_one, byte_of}
 
 -- a head end of a setup: its number and its width
 pub record Head : Type 0 where
