@@ -1,13 +1,13 @@
 -- What a schedule keeps where a link is added.
-use Rattle.std.proofs.Common.{◌≡◌, ◌↔◌, ◌⊎◌, ℕ, zero, suc, ◌+◌, ◌-◌, ◌^◌, ◌≤◌, ◌<◌, Bool, true, false, cond, List, [], ◌∷◌, ◌++◌, length, Contains, Some, None, inl, inr, ⊎_elim, refl, sym, ap, subst, ◌∙◌, arith}
+use Rattle.std.proofs.Common.{◌≡◌, ◌≢◌, ◌↔◌, ◌⊎◌, ℕ, zero, suc, ◌+◌, ◌-◌, ◌^◌, ◌≤◌, ◌<◌, Bool, true, false, cond, List, [], ◌∷◌, ◌++◌, length, Contains, Option, Some, None, inl, inr, ⊎_elim, refl, sym, ap, subst, ◌∙◌, arith}
 use Rattle.std.specs.Prelude.{if◌then◌else◌, min, slice_get, sum_by, count_by}
-use Rattle.std.proofs.lemmas.Bool.{false≢true}
+use Rattle.std.proofs.lemmas.Bool.{cases_eq, false≢true}
 use Rattle.std.specs.declared.net.socket_addr.SocketAddr.{SocketAddr}
 use Rattle.std.proofs.lemmas.List.Sums.{sum_by_push}
 use Rattle.std.proofs.lemmas.Option.{none-some, same_Some}
 use Rattle.fw_rollout.specs.Link.{until_of}
 use Rattle.fw_rollout.specs.Timing.{most_out}
-use Rattle.fw_rollout.specs.Schedule.{HasAddress, IsAwaited, IsPlaceOf, IsSchedule, IsWaitingAt, is_live, is_live_turn, links_of}
+use Rattle.fw_rollout.specs.Schedule.{HasAddress, IsAwaited, IsPlaceOf, IsSchedule, IsWaitingAt, Queues, QueuesTurn, is_live, is_live_turn, links_of, times}
 use Rattle.fw_rollout.specs.declared.link.Link.{Link}
 use Rattle.fw_rollout.specs.declared.link.Listed.{Listed}
 use Rattle.fw_rollout.specs.declared.link.Turn.{Turn}
@@ -15,6 +15,7 @@ use Rattle.fw_rollout.specs.declared.link.Turn.TheVariants as turns
 use Rattle.fw_rollout.specs.declared.schedule.Schedule.{Schedule}
 use Rattle.std.specs.List.Sorted.{IsPermutation}
 use Rattle.fw_rollout.proofs.Placing.{Entries, PutsPlace, puts_place}
+use Rattle.fw_rollout.proofs.Queueing.{pushed_apart, pushed_here}
 use Rattle.fw_rollout.proofs.Turning.{one_if_live}
 
 -- ---- one more item
@@ -46,6 +47,8 @@ pub record IsAdded (link : Link) (old new : Schedule) : Type 0 where
   pub out : new.out ≡ old.out
   pub live : new.live ≡ old.live + one_if_live link
   pub places : PutsPlace old.places.entries link.at.address (length (links_of old)) new.places.entries
+  pub queue_here : QueuesTurn link.turn (times (length (links_of old)) new.ready.items)
+  pub queue_apart : (other : ℕ) → other ≢ length (links_of old) → times other new.ready.items ≡ times other old.ready.items
 
 same_sum : (a b c d x : ℕ) → a ≡ c → b ≡ a + x → d ≡ c + x → b ≡ d
 same_sum a b c d x e f g = omega arith
@@ -108,6 +111,48 @@ addressed link old new s a address place = (
       (found link old new a place p.0 p.1)),
 )
 
+no_more : {X : Type 0} (xs : List X) (y : X) (k : ℕ) → k ≢ length xs → slice_get (xs ++ y ∷ []) k ≡ slice_get xs k
+no_more [] y zero n = absurd (n refl)
+no_more [] y (suc k) n = refl
+no_more (x ∷ xs) y zero n = refl
+no_more (x ∷ xs) y (suc k) n = no_more xs y k (λ e. n (ap suc e))
+
+past_end : {X : Type 0} (xs : List X) → slice_get xs (length xs) ≡ None
+past_end [] = refl
+past_end (x ∷ xs) = past_end xs
+
+queue : (link : Link) (old new : Schedule) → IsSchedule old → IsAdded link old new → (place : ℕ) → Queues (slice_get (links_of new) place) (times place new.ready.items)
+queue link old new s a place = ⊎_elim
+    (λ (e : place ≡ length (links_of old)). subst (λ (n : ℕ). Queues (slice_get (links_of new) n) (times n new.ready.items)) (sym e)
+    (subst (λ (o : Option Link). Queues o (times (length (links_of old)) new.ready.items)) (sym (last link old new a)) a.queue_here))
+    (λ (n : place ≢ length (links_of old)). subst (λ (k : ℕ). Queues (slice_get (links_of new) place) k) (sym (a.queue_apart place n))
+    (subst (λ (o : Option Link). Queues o (times place old.ready.items))
+    (sym (ap (λ (l : List Link). slice_get l place) a.links ∙ no_more (links_of old) link place n)) (s.queue place)))
+    (cases_eq place (length (links_of old)))
+
+-- no place stands in the queue that no link has
+pub none_queued : (s : Schedule) → IsSchedule s → times (length (links_of s)) s.ready.items ≡ 0
+none_queued s i = subst (λ (o : Option Link). Queues o (times (length (links_of s)) s.ready.items)) (past_end (links_of s)) (i.queue (length (links_of s)))
+
+pub queue_off : (n : ℕ) (link : Link) (lives : Bool) → link.turn ≡ (if lives then turns.Ready else turns.Over) → lives ≡ false → n ≡ 0 → QueuesTurn link.turn n
+queue_off n link true e f none = absurd (false≢true (sym f))
+queue_off n link false e f none = subst (λ (t : Turn). QueuesTurn t n) (sym e) (omega arith)
+
+pub queue_on : (n : ℕ) (link : Link) (lives : Bool) → link.turn ≡ (if lives then turns.Ready else turns.Over) → lives ≡ true → n ≡ 1 → QueuesTurn link.turn n
+queue_on n link true e f one = subst (λ (t : Turn). QueuesTurn t n) (sym e) one
+queue_on n link false e f one = absurd (false≢true f)
+
+-- a new link at the end of the queue
+pub at_queue_end : (s : Schedule) (place : ℕ) (items : List ℕ) → IsSchedule s → place ≡ length (links_of s) → items ≡ s.ready.items ++ place ∷ [] → times (length (links_of s)) items ≡ 1
+at_queue_end s place items i e f =
+    ap (λ (l : List ℕ). times (length (links_of s)) l) (f ∙ ap (λ (n : ℕ). s.ready.items ++ n ∷ []) e)
+    ∙ pushed_here (length (links_of s)) s.ready.items ∙ ap (λ n. n + 1) (none_queued s i)
+
+pub before_queue_end : (s : Schedule) (place : ℕ) (items : List ℕ) → place ≡ length (links_of s) → items ≡ s.ready.items ++ place ∷ []
+    → (other : ℕ) → other ≢ length (links_of s) → times other items ≡ times other s.ready.items
+before_queue_end s place items e f other n =
+    ap (λ (l : List ℕ). times other l) (f ∙ ap (λ (k : ℕ). s.ready.items ++ k ∷ []) e) ∙ pushed_apart other (length (links_of s)) s.ready.items n
+
 pub added : (link : Link) (old new : Schedule) → IsSchedule old → IsAdded link old new → IsSchedule new
 added link old new s a = record {
   flight_fits = subst (λ m. m.flight < 2 ^ 64) (sym a.timing) s.flight_fits;
@@ -117,6 +162,7 @@ added link old new s a = record {
   awaited = awaited link old new s a;
   waits = waits link old new s a;
   addressed = addressed link old new s a;
+  queue = queue link old new s a;
 }
 
 -- an address that no link has is in no entry

@@ -49,6 +49,7 @@ live_turn turns.Over e = absurd (cc e)
 live_turn turns.Ready e = λ is. cc
 live_turn (turns.Awaited until) e = λ is. cc
 live_turn (turns.Silent until) e = λ is. cc
+live_turn (turns.Paused until) e = λ is. cc
 
 live_at : (o : Option Link) → option_map is_live o ≡ Some true → (link : Link) × (o ≡ Some link) × IsLiveLink link
 live_at None e = absurd (none-some true e)

@@ -1,7 +1,10 @@
 -- Lemmas.
 pub mod Waiting
+pub mod Queueing
 pub mod Turning
 pub mod Moving
+pub mod Settling
+pub mod Dues
 pub mod Placing
 pub mod Listings
 pub mod Adding

@@ -1,12 +1,14 @@
 -- What each call makes of a link, and of the numbers that a schedule keeps.
-use Rattle.std.proofs.Common.{◌≡◌, ◌≢◌, ◌↔◌, ◌⊎◌, ℕ, ◌+◌, ◌-◌, ◌^◌, ◌≤◌, ◌<◌, Bool, true, false, cond, List, map, Some, inl, inr, ⊎_elim, refl, sym, ap, subst, ◌∙◌, arith}
+use Rattle.std.proofs.Common.{◌≡◌, ◌≢◌, ◌↔◌, ◌⊎◌, ℕ, Option, ◌+◌, ◌-◌, ◌^◌, ◌≤◌, ◌<◌, Bool, true, false, cond, List, map, Some, inl, inr, ⊎_elim, refl, sym, ap, subst, ◌∙◌, arith}
 use Rattle.std.specs.Int.{from_bool}
 use Rattle.std.specs.Prelude.{IsTrue, min, max, slice_get, slice_set}
 use Rattle.std.proofs.lemmas.Bool.{false≢true}
 use Rattle.std.proofs.lemmas.List.{map-set}
-use Rattle.fw_rollout.specs.Link.{IsAnswered, IsGivenUp, IsLiveLink, IsReady, IsSent, until_of}
+use Rattle.fw_rollout.specs.Link.{IsAnswered, IsGivenUp, IsLiveLink, IsReady, IsSent, turn_after, until_of}
 use Rattle.fw_rollout.specs.Timing.{HasRoom, max_tick, most_out}
 use Rattle.fw_rollout.specs.Schedule.{EndsMeter, IsAwaited, IsSchedule, is_live, is_live_turn, links_of}
+use Rattle.fw_rollout.specs.declared.link.Answer.{Answer}
+use Rattle.fw_rollout.specs.declared.link.Answer.TheVariants as answer
 use Rattle.fw_rollout.specs.declared.link.Link.{Link}
 use Rattle.fw_rollout.specs.declared.link.Turn.{Turn}
 use Rattle.fw_rollout.specs.declared.link.Turn.TheVariants as turns
@@ -108,9 +110,29 @@ none_left n a l e f = omega arith
 all_left : (n a l : ℕ) → n ≡ l - a → a ≡ l → n ≡ 0
 all_left n a l e f = omega arith
 
-is_answered : (now resend : ℕ) (waits : Bool) (link : Link) (answered : ℕ) (next : Link) → IsAnswered now resend waits link answered next → IsLiveLink link → IsAwaited link.turn ⊎ (link.out ≡ 0)
+-- a live link is live after an answer
+pub live_after : (a : Answer) (until : ℕ) (turn : Turn) → turn ≢ turns.Over → turn_after a until turn ≢ turns.Over
+live_after answer.Partial until turn live = live
+live_after answer.Last until turn live = λ e. cc
+live_after answer.Early until turns.Over live = λ e. cc
+live_after answer.Early until turns.Ready live = λ e. cc
+live_after answer.Early until (turns.Awaited time) live = λ e. cc
+live_after answer.Early until (turns.Silent time) live = λ e. cc
+live_after answer.Early until (turns.Paused time) live = λ e. cc
+
+-- one that waits for another time than before had waited
+pub waited_before : (a : Answer) (until : ℕ) (turn : Turn) → turn ≢ turns.Over → until_of (turn_after a until turn) ≢ until_of turn → (time : ℕ) × (until_of turn ≡ Some time)
+waited_before a until turns.Over live apart = absurd (live refl)
+waited_before answer.Partial until turns.Ready live apart = absurd (apart refl)
+waited_before answer.Last until turns.Ready live apart = absurd (apart refl)
+waited_before answer.Early until turns.Ready live apart = absurd (apart refl)
+waited_before a until (turns.Awaited time) live apart = (time, refl)
+waited_before a until (turns.Silent time) live apart = (time, refl)
+waited_before a until (turns.Paused time) live apart = (time, refl)
+
+is_answered : (now resend : ℕ) (a : Answer) (link : Link) (answered : ℕ) (next : Link) → IsAnswered now resend a link answered next → IsLiveLink link → IsAwaited link.turn ⊎ (link.out ≡ 0)
     → Answered link answered next
-is_answered now resend true link answered next h lives was = record {
+is_answered now resend answer.Partial link answered next h lives was = record {
   same_at = ap (λ (l : Link). l.at) h.1;
   out = one_answered next.out answered link.out (ap (λ (l : Link). l.out) h.1) h.0;
   live = ap is_live h.1;
@@ -118,18 +140,24 @@ is_answered now resend true link answered next h lives was = record {
       (λ (a : IsAwaited link.turn). inl (subst IsAwaited (sym (ap (λ (l : Link). l.turn) h.1)) a))
       (λ (z : link.out ≡ 0). inr (none_left next.out answered link.out (ap (λ (l : Link). l.out) h.1) z)) was;
 }
-is_answered now resend false link answered next h lives was = record {
+is_answered now resend answer.Last link answered next h lives was = record {
   same_at = ap (λ (l : Link). l.at) h.1;
   out = all_answered next.out answered link.out (ap (λ (l : Link). l.out) h.1) h.0;
   live = ap is_live h.1 ∙ sym (live_true link.turn lives);
   awaited = inr (all_left next.out answered link.out (ap (λ (l : Link). l.out) h.1) h.0);
 }
+is_answered now resend answer.Early link answered next h lives was = record {
+  same_at = ap (λ (l : Link). l.at) h.1;
+  out = all_answered next.out answered link.out (ap (λ (l : Link). l.out) h.1) h.0;
+  live = ap is_live h.1 ∙ live_true _ (live_after answer.Early _ link.turn lives) ∙ sym (live_true link.turn lives);
+  awaited = inr (all_left next.out answered link.out (ap (λ (l : Link). l.out) h.1) h.0);
+}
 
-pub answers : (place now resend : ℕ) (waits : Bool) (answered : ℕ) (link next : Link) (old new : Schedule) → IsSchedule old → slice_get (links_of old) place ≡ Some link → IsLiveLink link
-    → IsAnswered now resend waits link answered next → links_of new ≡ slice_set (links_of old) place next → new.timing ≡ old.timing → new.places ≡ old.places
+pub answers : (place now resend : ℕ) (a : Answer) (answered : ℕ) (link next : Link) (old new : Schedule) → IsSchedule old → slice_get (links_of old) place ≡ Some link → IsLiveLink link
+    → IsAnswered now resend a link answered next → links_of new ≡ slice_set (links_of old) place next → new.timing ≡ old.timing → new.places ≡ old.places
     → new.out ≡ old.out - answered → new.live ≡ old.live → Moves place link next old new
-answers place now resend waits answered link next old new s was lives goes links timing places out live =
-    let k = is_answered now resend waits link answered next goes lives (s.awaited place link was) in record {
+answers place now resend a answered link next old new s was lives goes links timing places out live =
+    let k = is_answered now resend a link answered next goes lives (s.awaited place link was) in record {
       was = was;
       links = links;
       timing = timing;
@@ -141,16 +169,10 @@ answers place now resend waits answered link next old new s was lives goes links
       awaited = k.awaited;
     }
 
-pub answered_alike : (now resend : ℕ) (waits : Bool) (link : Link) (answered : ℕ) (next : Link) → IsAnswered now resend waits link answered next → IsLiveLink link
+pub answered_alike : (now resend : ℕ) (a : Answer) (link : Link) (answered : ℕ) (next : Link) → IsAnswered now resend a link answered next → IsLiveLink link
     → (next.at ≡ link.at) × (is_live next ≡ is_live link)
-answered_alike now resend true link answered next h lives = (ap (λ (l : Link). l.at) h.1, ap is_live h.1)
-answered_alike now resend false link answered next h lives = (ap (λ (l : Link). l.at) h.1, ap is_live h.1 ∙ sym (live_true link.turn lives))
-
-pub waits_alike : (now resend : ℕ) (waits : Bool) (link : Link) (answered : ℕ) (next : Link) → IsAnswered now resend waits link answered next → (IsReady next → IsReady link)
-    → until_of next.turn ≡ until_of link.turn
-waits_alike now resend true link answered next h ready = ap (λ (l : Link). until_of l.turn) h.1
-waits_alike now resend false link answered next h ready =
-    let e : next.turn ≡ turns.Ready = ap (λ (l : Link). l.turn) h.1 in ap until_of (e ∙ sym (ready e))
+answered_alike now resend a link answered next h lives =
+    (ap (λ (l : Link). l.at) h.1, ap is_live h.1 ∙ live_true _ (live_after a _ link.turn lives) ∙ sym (live_true link.turn lives))
 
 -- ---- it ends
 
@@ -159,6 +181,7 @@ over_turn turns.Over h = refl
 over_turn turns.Ready h = absurd (h (λ e. cc))
 over_turn (turns.Awaited until) h = absurd (h (λ e. cc))
 over_turn (turns.Silent until) h = absurd (h (λ e. cc))
+over_turn (turns.Paused until) h = absurd (h (λ e. cc))
 
 pub ends : (place left was_live : ℕ) (link next : Link) (old new : Schedule) → IsSchedule old → slice_get (links_of old) place ≡ Some link → left ≡ link.out → was_live ≡ one_if_live link
     → next.out ≡ 0 → next.turn ≡ turns.Over → next.at ≡ link.at → links_of new ≡ slice_set (links_of old) place next → new.timing ≡ old.timing → new.places ≡ old.places
@@ -187,3 +210,13 @@ ended_meter place link next old new was links timing same_at over = record {
   listed = ap (λ (l : List Link). map (λ (k : Link). k.at) l) links ∙ map_kept (λ (k : Link). k.at) (links_of old) place link next was same_at;
   lives = ap (λ (l : List Link). map is_live l) links ∙ (map-set is_live (links_of old) place next ∙ ap (λ (b : Bool). slice_set (map is_live (links_of old)) place b) (ap is_live_turn over));
 }
+
+-- ---- it is answered: where the link is then
+
+pub went_on_live : (now resend : ℕ) (a : Answer) (link : Link) (answered : ℕ) (next : Link) → IsAnswered now resend a link answered next → IsLiveLink link → IsLiveLink next
+went_on_live now resend a link answered next h lives = subst IsLiveLink (sym h.1) (live_after a _ link.turn lives)
+
+pub waited_until : (now resend : ℕ) (a : Answer) (link : Link) (answered : ℕ) (next : Link) → IsAnswered now resend a link answered next → IsLiveLink link
+    → until_of next.turn ≢ until_of link.turn → (time : ℕ) × (until_of link.turn ≡ Some time)
+waited_until now resend a link answered next h lives apart =
+    waited_before a _ link.turn lives (λ e. apart (ap (λ (l : Link). until_of l.turn) h.1 ∙ e))

@@ -7,11 +7,12 @@ use Rattle.std.proofs.lemmas.List.Sums.{get_or-le-sum_by, sum_by-set}
 use Rattle.std.proofs.lemmas.Option.{get_or_from_slice_get, none-some, same_Some, slice_get_within}
 use Rattle.fw_rollout.specs.Link.{IsLiveLink, IsReady, until_of}
 use Rattle.fw_rollout.specs.Timing.{most_out}
-use Rattle.fw_rollout.specs.Schedule.{GoesOnAt, IsAwaited, IsDueAt, IsLiveAt, IsPlaceOf, IsSchedule, IsWaitingAt, SameMeters, Waits, WaitsNoMore, is_live, is_live_turn, links_of}
+use Rattle.fw_rollout.specs.Schedule.{GoesOnAt, IsAwaited, IsDueAt, IsLiveAt, IsPlaceOf, IsSchedule, IsWaitingAt, Queues, SameMeters, Turns, Waits, WaitsNoMore, is_live, is_live_turn, links_of, times}
 use Rattle.fw_rollout.specs.declared.link.Link.{Link}
 use Rattle.fw_rollout.specs.declared.link.Turn.{Turn}
 use Rattle.fw_rollout.specs.declared.link.Turn.TheVariants as turns
 use Rattle.fw_rollout.specs.declared.schedule.Schedule.{Schedule}
+use Rattle.fw_rollout.proofs.Queueing.{Requeues}
 
 -- ---- an item of a list that another takes the place of
 
@@ -145,8 +146,17 @@ addressed place link next old new s t address other =
           subst (λ m. Contains m.entries (address, other)) (sym t.places) (was.1 (kept.0 (subst (λ (l : List Link). IsPlaceOf l address other) t.links p))),
     )
 
-pub turned : (place : ℕ) (link next : Link) (old new : Schedule) → IsSchedule old → Moves place link next old new → Rewaits place next old new → IsSchedule new
-turned place link next old new s t w = record {
+queue : (place : ℕ) (link next : Link) (old new : Schedule) → IsSchedule old → Moves place link next old new → Requeues place next old new
+    → (other : ℕ) → Queues (slice_get (links_of new) other) (times other new.ready.items)
+queue place link next old new s t q other = ⊎_elim
+    (λ (e : other ≡ place). subst (λ (n : ℕ). Queues (slice_get (links_of new) n) (times n new.ready.items)) (sym e)
+    (subst (λ (o : Option Link). Queues o (times place new.ready.items)) (sym (is_next place link next old new t)) q.here))
+    (λ (n : other ≢ place). subst (λ (k : ℕ). Queues (slice_get (links_of new) other) k) (sym (q.others other n))
+    (subst (λ (o : Option Link). Queues o (times other old.ready.items)) (sym (is_other place link next old new t other n)) (s.queue other)))
+    (cases_eq other place)
+
+pub turned : (place : ℕ) (link next : Link) (old new : Schedule) → IsSchedule old → Moves place link next old new → Rewaits place next old new → Requeues place next old new → IsSchedule new
+turned place link next old new s t w q = record {
   flight_fits = subst (λ m. m.flight < 2 ^ 64) (sym t.timing) s.flight_fits;
   counts_live = counts_live place link next old new s t;
   counts_out = counts_out place link next old new s t;
@@ -154,6 +164,7 @@ turned place link next old new s t w = record {
   awaited = awaited place link next old new s t;
   waits = waits place link next old new s t w;
   addressed = addressed place link next old new s t;
+  queue = queue place link next old new s t q;
 }
 
 -- ---- how the times of those that wait change
@@ -230,8 +241,8 @@ pub rest_kept : (place : ℕ) (was until : Option ℕ) (first middle new : Sched
     → new ≡ record first { waiting = new.waiting }
 rest_kept place was until first middle new out put = put.others ∙ ap (λ (s : Schedule). record s { waiting = new.waiting }) out.others
 
-pub moves_on : (place : ℕ) (link next : Link) (old first new : Schedule) → new ≡ record first { waiting = new.waiting } → Moves place link next old first → Moves place link next old new
-moves_on place link next old first new e m = subst (λ (s : Schedule). Moves place link next old s) (sym e) (record {
+pub moves_by : (place : ℕ) (link next : Link) (old first last new : Schedule) → new ≡ record first { waiting = last.waiting; ready = last.ready } → Moves place link next old first → Moves place link next old new
+moves_by place link next old first last new e m = subst (λ (s : Schedule). Moves place link next old s) (sym e) (record {
   was = m.was;
   links = m.links;
   timing = m.timing;
@@ -244,11 +255,34 @@ moves_on place link next old first new e m = subst (λ (s : Schedule). Moves pla
 })
 
 pub waited : (place : ℕ) (was until : Option ℕ) (link next : Link) (old first middle new : Schedule) → IsSchedule old → Moves place link next old first → first.waiting ≡ old.waiting
-    → was ≡ until_of link.turn → until ≡ until_of next.turn → WaitsNoMore place was first middle → Waits place until middle new → IsSchedule new
-waited place was until link next old first middle new s m same e f out put =
-    turned place link next old new s (moves_on place link next old first new (rest_kept place was until first middle new out put) m)
+    → was ≡ until_of link.turn → until ≡ until_of next.turn → WaitsNoMore place was first middle → Waits place until middle new → Requeues place next old new → IsSchedule new
+waited place was until link next old first middle new s m same e f out put q =
+    turned place link next old new s
+    (moves_by place link next old first (record first { waiting = new.waiting }) new (rest_kept place was until first middle new out put) m)
     (by_calls place link next old first middle new s m.was same
     (subst (λ (u : Option ℕ). WaitsNoMore place u first middle) e out) (subst (λ (u : Option ℕ). Waits place u middle new) f put))
+    q
+
+-- the times and the queue are all that a turn changes
+pub turn_kept : (place : ℕ) (was until : Option ℕ) (first new : Schedule) → Turns place was until first new → new ≡ record first { waiting = new.waiting; ready = new.ready }
+turn_kept place was until first new t =
+    let rest : t.last ≡ record first { waiting = t.last.waiting } = rest_kept place was until first t.middle t.last t.waits_no_more t.waits in
+    let e : new ≡ record first { waiting = t.last.waiting; ready = new.ready } = t.others ∙ ap (λ (s : Schedule). record s { ready = new.ready }) rest in
+    let w : t.last.waiting ≡ new.waiting = sym (ap (λ (s : Schedule). s.waiting) t.others) in
+    e ∙ ap (λ x. record first { waiting = x; ready = new.ready }) w
+
+pub turned_on : (place : ℕ) (was until : Option ℕ) (link next : Link) (old first new : Schedule) → IsSchedule old → Moves place link next old first → first.waiting ≡ old.waiting
+    → was ≡ until_of link.turn → until ≡ until_of next.turn → Turns place was until first new → Requeues place next old new → IsSchedule new
+turned_on place was until link next old first new s m same e f t q =
+    let w = by_calls place link next old first t.middle t.last s m.was same
+    (subst (λ (u : Option ℕ). WaitsNoMore place u first t.middle) e t.waits_no_more) (subst (λ (u : Option ℕ). Waits place u t.middle t.last) f t.waits) in
+    let k : new.waiting ≡ t.last.waiting = ap (λ (x : Schedule). x.waiting) t.others in
+    turned place link next old new s (moves_by place link next old first new new (turn_kept place was until first new t) m)
+    (record {
+      here = λ until. subst (λ m. Contains m.keys (until, place) ↔ (until_of next.turn ≡ Some until)) (sym k) (w.here until);
+      others = λ other until n. subst (λ m. Contains m.keys (until, other) ↔ Contains old.waiting.keys (until, other)) (sym k) (w.others other until n);
+    })
+    q
 
 -- ---- what is known of each link
 
@@ -269,6 +303,14 @@ live_true turns.Over h = absurd (h refl)
 live_true turns.Ready h = refl
 live_true (turns.Awaited until) h = refl
 live_true (turns.Silent until) h = refl
+live_true (turns.Paused until) h = refl
+
+pub live_over : (turn : Turn) → is_live_turn turn ≡ true → turn ≢ turns.Over
+live_over turns.Over h = absurd (cc h)
+live_over turns.Ready h = λ e. cc
+live_over (turns.Awaited until) h = λ e. cc
+live_over (turns.Silent until) h = λ e. cc
+live_over (turns.Paused until) h = λ e. cc
 
 pub not_out : (turn : Turn) (out : ℕ) → IsAwaited turn ⊎ (out ≡ 0) → turn ≡ turns.Ready → out ≡ 0
 not_out turn out either is = ⊎_elim (λ (a : IsAwaited turn). absurd (subst IsAwaited is a)) (λ (e : out ≡ 0). e) either
@@ -282,13 +324,6 @@ same_meters place link next old new was links timing same_at same_live = record 
   listed = ap (λ (l : List Link). map (λ (k : Link). k.at) l) links ∙ map_kept (λ (k : Link). k.at) (links_of old) place link next was same_at;
   lives = ap (λ (l : List Link). map is_live l) links ∙ map_kept is_live (links_of old) place link next was same_live;
 }
-
-pub same_after : (place : ℕ) (was until : Option ℕ) (link next : Link) (old first middle new : Schedule) → slice_get (links_of old) place ≡ Some link
-    → links_of first ≡ slice_set (links_of old) place next → first.timing ≡ old.timing → next.at ≡ link.at → is_live next ≡ is_live link
-    → WaitsNoMore place was first middle → Waits place until middle new → SameMeters old new
-same_after place was until link next old first middle new at links timing same_at same_live out put =
-    let e = rest_kept place was until first middle new out put in
-    same_meters place link next old new at (ap links_of e ∙ links) (ap (λ (s : Schedule). s.timing) e ∙ timing) same_at same_live
 
 -- ---- a link that goes on, and no other
 
@@ -321,15 +356,3 @@ pub waiting_lives : (place until : ℕ) (s : Schedule) → IsSchedule s → Cont
 waiting_lives place until s i has =
     let w = (i.waits place until).0 has in
     (w.0, w.1, λ (e : w.0.turn ≡ turns.Over). none-some until (ap until_of (sym e) ∙ w.2))
-
--- which links may be ticked isn't kept
-pub ready_apart : (old new : Schedule) → new ≡ record old { ready = new.ready } → IsSchedule old → IsSchedule new
-ready_apart old new e s = subst IsSchedule (sym e) (record {
-  flight_fits = s.flight_fits;
-  counts_live = s.counts_live;
-  counts_out = s.counts_out;
-  within = s.within;
-  awaited = s.awaited;
-  waits = s.waits;
-  addressed = s.addressed;
-})

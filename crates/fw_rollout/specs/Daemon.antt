@@ -1,5 +1,5 @@
 -- Public vocabulary: the daemon of a head end as a value.
-use Rattle.std.specs.Prelude.{◌≡◌, ◌≢◌, ℕ, Bool, List, [], ◌∷◌, map, All, Contains, None, is_some}
+use Rattle.std.specs.Prelude.{◌≡◌, ◌≢◌, ℕ, Bool, List, [], ◌∷◌, map, All, Contains, Some, None, is_some, slice_get, sum_by}
 use Rattle.fw_book.specs.Contents.{Contents}
 use Rattle.fw_head.specs.Head.{Head, row_of}
 use Rattle.fw_kept.specs.Head.{Holds, head_of}
@@ -7,9 +7,11 @@ use Rattle.fw_kept.specs.declared.head.KeptHead.{KeptHead}
 use Rattle.fw_rollout.specs.declared.daemon.HeadDaemon.{HeadDaemon}
 use Rattle.fw_rollout.specs.declared.ended.Ended.{Ended}
 use Rattle.fw_rollout.specs.declared.link.Listed.{Listed}
+use Rattle.fw_rollout.specs.declared.link.Link.{Link}
 use Rattle.fw_rollout.specs.Acts.{Act}
 use Rattle.fw_rollout.specs.Leading.{IsNotedIn, Leader, Leads, MayLead}
-use Rattle.fw_rollout.specs.Schedule.{IsSchedule, listed_of, lives_of}
+use Rattle.fw_rollout.specs.Link.{IsReadyBy, out_by}
+use Rattle.fw_rollout.specs.Schedule.{IsDueAt, IsSchedule, links_of, listed_of, lives_of}
 
 -- no number and no address stands twice
 abbrev pub IsList : List Listed → Type 0
@@ -36,6 +38,24 @@ flight_of daemon = daemon.schedule.timing.flight
 -- the places in the list of the meters that may be asked now, the next one first. The rows of some may have ended meanwhile.
 abbrev pub queue_of : {D : Type 0} → HeadDaemon D → List ℕ
 queue_of daemon = daemon.schedule.ready.items
+
+-- the meter at this place of the list may be asked now
+abbrev pub IsDueNow : {D : Type 0} → HeadDaemon D → ℕ → Type 0
+IsDueNow daemon place = IsDueAt daemon.schedule place
+
+-- or at this time, where what is waited for no longer is given up
+abbrev pub IsDueBy : {D : Type 0} → ℕ → HeadDaemon D → ℕ → Type 0
+IsDueBy now daemon place = (link : Link) × (slice_get (links_of daemon.schedule) place ≡ Some link) × IsReadyBy now link
+
+-- a meter of the list, with its address, may be asked at this time
+pub record IsAskedBy {D : Type 0} (now : ℕ) (daemon : HeadDaemon D) (at : Listed) : Type 0 where
+  pub place : ℕ
+  pub there : slice_get (meters_of daemon) place ≡ Some at
+  pub due : IsDueBy now daemon place
+
+-- how many datagrams are out at this time
+abbrev pub out_at : {D : Type 0} → ℕ → HeadDaemon D → ℕ
+out_at now daemon = sum_by (λ (link : Link). out_by now link) (links_of daemon.schedule)
 
 -- the rows that ended and are not on the device yet
 abbrev pub ended_of : {D : Type 0} → HeadDaemon D → List Ended

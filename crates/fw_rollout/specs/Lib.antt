@@ -9,3 +9,4 @@ pub mod Stopping
 pub mod Link
 pub mod Schedule
 pub mod Listing
+pub mod Early

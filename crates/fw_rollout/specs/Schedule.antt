@@ -1,8 +1,9 @@
 -- For private clauses alone: the links of all meters, which of them may be ticked now, and what each call makes of them.
-use Rattle.std.specs.Prelude.{◌≡◌, ◌⊎◌, ◌↔◌, ℕ, ◌<◌, ◌≤◌, ◌^◌, Bool, true, false, List, [], ◌∷◌, ◌++◌, map, Option, Some, Contains, MatchOption, slice_get, slice_set, sum_by, count_by}
+use Rattle.std.specs.Prelude.{◌≡◌, ◌⊎◌, ◌↔◌, ℕ, ◌<◌, ◌≤◌, ◌==◌, ◌^◌, Bool, true, false, List, [], ◌∷◌, ◌++◌, map, Option, Some, None, Contains, MatchOption, slice_get, slice_set, sum_by, count_by}
 use Rattle.std.specs.declared.net.socket_addr.SocketAddr.{SocketAddr}
-use Rattle.fw_rollout.specs.Link.{IsAnswered, IsGivenUp, IsLiveLink, IsNewLink, IsReady, IsSent, until_of}
+use Rattle.fw_rollout.specs.Link.{IsAnswered, IsGivenUp, IsLiveLink, IsNewLink, IsReady, IsSent, is_expired, until_of}
 use Rattle.fw_rollout.specs.Timing.{most_out}
+use Rattle.fw_rollout.specs.declared.link.Answer.{Answer}
 use Rattle.fw_rollout.specs.declared.link.Link.{Link}
 use Rattle.fw_rollout.specs.declared.link.Listed.{Listed}
 use Rattle.fw_rollout.specs.declared.link.Turn.{Turn}
@@ -22,6 +23,7 @@ is_live_turn turns.Over = false
 is_live_turn turns.Ready = true
 is_live_turn (turns.Awaited until) = true
 is_live_turn (turns.Silent until) = true
+is_live_turn (turns.Paused until) = true
 
 abbrev pub is_live : Link → Bool
 is_live link = is_live_turn link.turn
@@ -56,9 +58,30 @@ IsAwaited turns.Over = ⊥
 IsAwaited turns.Ready = ⊥
 IsAwaited (turns.Awaited until) = Unit {0}
 IsAwaited (turns.Silent until) = ⊥
+IsAwaited (turns.Paused until) = ⊥
 
--- What every schedule keeps: how many datagrams are out and how many links are live, the time of each link that waits, and the place of each
--- address.
+-- how often a place stands in a list of places
+abbrev pub times : ℕ → List ℕ → ℕ
+times place places = count_by (λ (other : ℕ). place == other) places
+
+-- how often a link stands in the queue: once where it may be ticked, and not where it waits. One that ended may be left there.
+abbrev pub QueuesTurn : Turn → ℕ → Type 0
+QueuesTurn turns.Over n = n ≤ 1
+QueuesTurn turns.Ready n = n ≡ 1
+QueuesTurn (turns.Awaited until) n = n ≡ 0
+QueuesTurn (turns.Silent until) n = n ≡ 0
+QueuesTurn (turns.Paused until) n = n ≡ 0
+
+abbrev pub Queues : Option Link → ℕ → Type 0
+Queues None n = n ≡ 0
+Queues (Some link) n = QueuesTurn link.turn n
+
+-- the link at this place is the next in the queue
+abbrev pub IsFirst : Schedule → ℕ → Type 0
+IsFirst s place = slice_get s.ready.items 0 ≡ Some place
+
+-- What every schedule keeps: how many datagrams are out and how many links are live, the time of each link that waits, the place of each
+-- address, and the queue of the links that may be ticked.
 pub record IsSchedule (s : Schedule) : Type 0 where
   pub flight_fits : s.timing.flight < 2 ^ 64
   pub counts_live : s.live ≡ count_by is_live (links_of s)
@@ -67,6 +90,7 @@ pub record IsSchedule (s : Schedule) : Type 0 where
   pub awaited : (place : ℕ) (link : Link) → slice_get (links_of s) place ≡ Some link → IsAwaited link.turn ⊎ (link.out ≡ 0)
   pub waits : (place until : ℕ) → Contains s.waiting.keys (until, place) ↔ IsWaitingAt (links_of s) place until
   pub addressed : (address : SocketAddr) (place : ℕ) → Contains s.places.entries (address, place) ↔ IsPlaceOf (links_of s) address place
+  pub queue : (place : ℕ) → Queues (slice_get (links_of s) place) (times place s.ready.items)
 
 -- the same meters at the same addresses, with the same of them live
 pub record SameMeters (old new : Schedule) : Type 0 where
@@ -93,9 +117,9 @@ Adds at is_live old new = (link : Link) × IsNewLink at is_live old.timing.resen
 abbrev pub Sends : ℕ → ℕ → ℕ → Schedule → Schedule → Type 0
 Sends place now count old new = GoesOnAt place (λ link next. IsSent now count link next) old new
 
-abbrev pub Answers : ℕ → ℕ → Bool → Schedule → Schedule → Type 0
-Answers place now is_waiting old new =
-    GoesOnAt place (λ link next. (answered : ℕ) × IsAnswered now old.timing.resend is_waiting link answered next) old new
+abbrev pub Answers : ℕ → ℕ → Answer → Schedule → Schedule → Type 0
+Answers place now answer old new =
+    GoesOnAt place (λ link next. (answered : ℕ) × IsAnswered now old.timing.resend answer link answered next) old new
 
 abbrev pub GivesUp : ℕ → ℕ → Schedule → Schedule → Type 0
 GivesUp place now old new = GoesOnAt place (λ link next. (given_up : ℕ) × IsGivenUp now link given_up next) old new
@@ -114,3 +138,29 @@ pub record WaitsNoMore (place : ℕ) (until : Option ℕ) (old new : Schedule) :
   pub others : new ≡ record old { waiting = new.waiting }
   pub waits : (other time : ℕ) → Contains new.waiting.keys (time, other)
       ↔ (¬ ((other ≡ place) × (until ≡ Some time)) × Contains old.waiting.keys (time, other))
+
+-- what stands in the queue of a link whose time this is
+abbrev pub queued_of : ℕ → Option ℕ → List ℕ
+queued_of place None = place ∷ []
+queued_of place (Some until) = []
+
+-- the link at a place, which waited until a time, waits until another now, or stands in the queue
+pub record Turns (place : ℕ) (was until : Option ℕ) (old new : Schedule) : Type 0 where
+  pub middle : Schedule
+  pub last : Schedule
+  pub waits_no_more : WaitsNoMore place was old middle
+  pub waits : Waits place until middle last
+  pub others : new ≡ record last { ready = new.ready }
+  pub queued : new.ready.items ≡ old.ready.items ++ queued_of place until
+
+-- what a link is once what was waited for until now is given up
+abbrev pub SettlesLink : ℕ → Option Link → Option Link → Type 0
+SettlesLink now None new = new ≡ None
+SettlesLink now (Some link) new =
+    (next : Link) × (new ≡ Some next)
+    × ((next ≡ link) ⊎ ((is_expired now link ≡ true) × ((given_up : ℕ) × IsGivenUp now link given_up next)))
+
+-- what was waited for until now is given up, of each link
+pub record Settles (now : ℕ) (old new : Schedule) : Type 0 where
+  pub each : (place : ℕ) → SettlesLink now (slice_get (links_of old) place) (slice_get (links_of new) place)
+  pub all : (place : ℕ) (link : Link) → slice_get (links_of new) place ≡ Some link → is_expired now link ≡ false

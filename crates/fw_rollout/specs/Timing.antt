@@ -5,6 +5,14 @@ use Rattle.std.specs.Prelude.{◌≡◌, ◌⊎◌, ℕ, ◌+◌, ◌*◌, ◌�
 abbrev pub longest_wait : ℕ
 longest_wait = 60000000
 
+-- the first pause before a meter is asked again that isn't ready for what it was asked
+abbrev pub first_pause : ℕ
+first_pause = 5000
+
+-- half a second
+abbrev pub longest_pause : ℕ
+longest_pause = 500000
+
 -- the most datagrams of one tick
 abbrev pub max_tick : ℕ
 max_tick = 15
@@ -16,6 +24,10 @@ wait_after resend trip = min (max (4 * trip) resend) longest_wait
 -- twice the last wait, after a silence in which nothing at all came
 abbrev pub doubled : ℕ → ℕ
 doubled wait = min (2 * wait) longest_wait
+
+-- twice the last pause, where the meter isn't ready still
+abbrev pub longer : ℕ → ℕ
+longer pause = min (2 * pause) longest_pause
 
 -- nothing is out, or the flight has room for a whole tick
 abbrev pub HasRoom : ℕ → ℕ → Type 0

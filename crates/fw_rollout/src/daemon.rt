@@ -32,6 +32,9 @@ ghost use Rattle.fw_rollout.specs.Timing.{HasRoom, most_out};
 ghost use Rattle.fw_rollout.specs.Stopping.{IsSaveStop};
 ghost use Rattle.fw_rollout.specs.Leading.{HearsAs, IsAboutToSend, IsAboutToTell, IsListed, Leader, SavesAll, TicksMeter};
 ghost use Rattle.fw_rollout.specs.Daemon.{
+  IsAskedBy,
+  IsDueBy,
+  IsDueNow,
   IsLed,
   IsList,
   IsOver,
@@ -41,14 +44,16 @@ ghost use Rattle.fw_rollout.specs.Daemon.{
   live_of,
   meters_of,
   new_leader,
+  out_at,
   out_of,
   queue_of,
 };
-ghost use Rattle.fw_rollout.specs.Schedule.{EndsMeter, IsSchedule, listed_of, lives_of};
+ghost use Rattle.fw_rollout.specs.Schedule.{EndsMeter, IsSchedule, listed_of, lives_of, times};
 
+use crate::early::is_early;
 use crate::ended::Ended;
 use crate::error::Stop;
-use crate::link::Listed;
+use crate::link::{Answer, Listed};
 use crate::meters::MeterList;
 use crate::schedule::Schedule;
 use crate::timing::Timing;
@@ -175,15 +180,28 @@ impl<D: JournalDevice + Drop> HeadDaemon<D> {
             → IfOk result (λ r. IfSome r (λ due. All (IsOfferedIn synced) (bytes_of due.datagrams.items))) }
         ensures flight { IfOk result (λ r. IfSome r (λ due. out_of self.new ≤ most_out (flight_of self.old))) }
 
-        // Nothing is sent only where no meter may be asked now, or too much is out.
-        ensures none { IfOk result (λ r. IfNone r ((queue_of self.new ≡ []) ⊎ ¬ HasRoom (out_of self.new) (flight_of self.new))) }
+        // A meter is asked that may be asked at this time.
+        ensures asked { (leader : Leader) → IsLed D.honest D.contents D.may_leave self.old leader
+            → IfOk result (λ r. IfSome r (λ due. IsAskedBy now self.old (record { meter = due.meter; address = due.to }))) }
+
+        // Nothing is sent only where no meter may be asked at this time, or too much is out.
+        ensures none { (leader : Leader) → IsLed D.honest D.contents D.may_leave self.old leader
+            → IfOk result (λ r. IfNone r (((place : ℕ) → ¬ IsDueBy now self.old place) ⊎ ¬ HasRoom (out_at now self.old) (flight_of self.old))) }
+        ensures queue { IfOk result (λ r. IfNone r ((queue_of self.new ≡ []) ⊎ ¬ HasRoom (out_of self.new) (flight_of self.new))) }
+
+        // A meter that may be asked is in the queue, once.
+        ensures queued { (leader : Leader) → IsLed D.honest D.contents D.may_leave self.old leader
+            → OnOk result ((place : ℕ) → IsDueNow self.new place → times place (queue_of self.new) ≡ 1) }
+
+        // Memory is wanted only where a row is live.
+        ensures wanted { (leader : Leader) → IsLed D.honest D.contents D.may_leave self.old leader → OnErr result (¬ IsOver leader) }
         ensures memory { IfErr result (λ stop. stop ≡ Stop.OutOfMemory) }
     {
         let Some(place) = self.schedule.next(now)? else {
             return Ok(None);
         };
         let Some(listed) = self.schedule.at(place) else {
-            return Ok(None);
+            unreachable!();
         };
         let datagrams = self.kept.tick(self.alloc, listed.meter)?;
         let count = datagrams.len() as u64;
@@ -224,8 +242,8 @@ impl<D: JournalDevice + Drop> HeadDaemon<D> {
         match self.kept.hear(self.alloc, meter, datagram)? {
             News::Nothing => Ok(Heard::Nothing),
             News::Moved => {
-                let is_waiting = self.kept.head().is_waiting(meter);
-                self.schedule.answered(place, now, is_waiting)?;
+                let answer = self.answer_of(meter, datagram);
+                self.schedule.answered(place, now, answer)?;
                 Ok(Heard::Moved)
             }
             News::Done(campaign, meter) => {
@@ -237,6 +255,17 @@ impl<D: JournalDevice + Drop> HeadDaemon<D> {
                 Ok(Heard::Ended)
             }
         }
+    }
+
+    /// What an answer of a meter leaves of what its row asked.
+    fn answer_of(&self, meter: MeterId, datagram: &[u8]) -> Answer {
+        if self.kept.head().is_waiting(meter) {
+            return Answer::Partial;
+        }
+        if is_early(self.alloc, datagram) {
+            return Answer::Early;
+        }
+        Answer::Last
     }
 
     /// The row of the meter at this place ended.

@@ -3,6 +3,7 @@
 #![tactic(auto)]
 
 mod daemon;
+mod early;
 mod ended;
 mod error;
 mod link;
@@ -21,4 +22,4 @@ pub use list::{Datagram, Deed, ListHeadPort, lead_list};
 pub use meters::MeterList;
 pub use port::{Arrival, Closed, HeadPort, MAX_RECEIVED, Patience};
 pub use serving::{HeadWatch, serve_head, step_head};
-pub use timing::{LONGEST_WAIT, MAX_TICK, Timing};
+pub use timing::{FIRST_PAUSE, LONGEST_PAUSE, LONGEST_WAIT, MAX_TICK, Timing};

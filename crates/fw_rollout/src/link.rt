@@ -1,9 +1,21 @@
 //! What a head end knows of the link of one meter.
 
 ghost use Rattle.std.specs.Prelude.{◌≡◌, ◌↔◌, IsTrue};
-ghost use Rattle.fw_rollout.specs.Link.{IsNewLink, IsSent, IsAnswered, IsGivenUp, IsReady, IsLiveLink, until_of};
+ghost use Rattle.fw_rollout.specs.Link.{
+  IsNewLink,
+  IsSent,
+  IsAnswered,
+  IsGivenUp,
+  IsReady,
+  IsLiveLink,
+  is_paused,
+  answered_of,
+  pause_after,
+  turn_after,
+  until_of,
+};
 
-use crate::timing::{doubled, wait_after};
+use crate::timing::{FIRST_PAUSE, doubled, longer, wait_after};
 use fw_names::MeterId;
 use std::net::SocketAddr;
 
@@ -27,6 +39,58 @@ pub(crate) enum Turn {
     Awaited { until: u64 },
     /// What was sent was given up, and nothing at all came. The row is ticked again at this time.
     Silent { until: u64 },
+    /// All was answered, and the meter isn't ready for what it was asked. The row is ticked again at this time.
+    Paused { until: u64 },
+}
+
+/// What an answer leaves of what a row asked.
+#[derive(Clone, Copy, Debug, PartialEq, Eq)]
+pub(crate) enum Answer {
+    /// Other asks are outstanding.
+    Partial,
+    /// None is.
+    Last,
+    /// None is, and the meter isn't ready for what it was asked.
+    Early,
+}
+
+impl Answer {
+    /// How many of the datagrams that are out it answers.
+    fn answers(self, out: u64) -> u64
+        ensures { result ≡ answered_of self out }
+    {
+        match self {
+            Answer::Partial => out.min(1),
+            Answer::Last | Answer::Early => out,
+        }
+    }
+
+    /// Where the link is then, which pauses until this time if it does. One that may be ticked already doesn't.
+    fn turn(self, until: u64, turn: Turn) -> Turn
+        ensures { result ≡ turn_after self until turn }
+    {
+        match self {
+            Answer::Partial => turn,
+            Answer::Last => Turn::Ready,
+            Answer::Early => match turn {
+                Turn::Ready => Turn::Ready,
+                Turn::Over | Turn::Awaited { .. } | Turn::Silent { .. } | Turn::Paused { .. } => {
+                    Turn::Paused { until }
+                }
+            },
+        }
+    }
+
+    /// How long the next pause is.
+    fn pause(self, pause: u64) -> u64
+        ensures { result ≡ pause_after self pause }
+    {
+        match self {
+            Answer::Partial => pause,
+            Answer::Last => FIRST_PAUSE,
+            Answer::Early => longer(pause),
+        }
+    }
 }
 
 /// A link. All times are in microseconds.
@@ -46,6 +110,8 @@ pub(crate) struct Link {
     wait: u64,
     /// How long nothing at all may come until the row is ticked again. It is no shorter than that.
     patience: u64,
+    /// How long the next pause is.
+    pause: u64,
 }
 
 impl Link {
@@ -62,6 +128,7 @@ impl Link {
             is_heard: false,
             wait: resend,
             patience: resend,
+            pause: FIRST_PAUSE,
         }
     }
 
@@ -84,8 +151,20 @@ impl Link {
         ensures { result ≡ until_of self.now.turn }
     {
         match self.turn {
-            Turn::Awaited { until } | Turn::Silent { until } => Some(until),
+            Turn::Awaited { until } | Turn::Silent { until } | Turn::Paused { until } => Some(
+                until,
+            ),
             Turn::Over | Turn::Ready => None,
+        }
+    }
+
+    /// Whether the link pauses.
+    pub(crate) fn is_paused(&self) -> bool
+        ensures { result ≡ is_paused self.now.turn }
+    {
+        match self.turn {
+            Turn::Paused { .. } => true,
+            Turn::Over | Turn::Ready | Turn::Awaited { .. } | Turn::Silent { .. } => false,
         }
     }
 
@@ -101,22 +180,18 @@ impl Link {
         };
     }
 
-    /// The row took an answer. Where an ask of it is outstanding still, the others are waited for. It returns how many datagrams are out
-    /// no more.
-    pub(crate) fn answered(&mut self, now: u64, resend: u64, is_waiting: bool) -> u64
-        ensures { IsAnswered now resend is_waiting self.old result self.new }
+    /// The row took an answer. Where an ask of it is outstanding still, the others are waited for. Where the meter isn't ready, it is asked
+    /// again after a pause. It returns how many datagrams are out no more.
+    pub(crate) fn answered(&mut self, now: u64, resend: u64, answer: Answer) -> u64
+        ensures { IsAnswered now resend answer self.old result self.new }
     {
+        let answered = answer.answers(self.out);
+        self.turn = answer.turn(now.saturating_add(self.pause), self.turn);
+        self.out = self.out.saturating_sub(answered);
         self.is_heard = true;
         self.wait = wait_after(resend, now.saturating_sub(self.sent_at));
         self.patience = self.wait;
-        if is_waiting {
-            let answered = self.out.min(1);
-            self.out -= answered;
-            return answered;
-        }
-        let answered = self.out;
-        self.out = 0;
-        self.turn = Turn::Ready;
+        self.pause = answer.pause(self.pause);
         answered
     }
 

@@ -1,6 +1,7 @@
 //! Which meter is asked next, by the times of all links. No call goes over all of them.
 
 ghost use Rattle.std.specs.Prelude.{
+  ℕ,
   ◌≡◌,
   ◌↔◌,
   ◌≤◌,
@@ -15,6 +16,7 @@ ghost use Rattle.std.specs.Prelude.{
   IfOk,
   IfSome,
   IsTrue,
+  OnErr,
   OnOk,
   slice_get,
 };
@@ -27,11 +29,15 @@ ghost use Rattle.fw_rollout.specs.Schedule.{
   GivesUp,
   HasAddress,
   IsDueAt,
+  IsFirst,
   IsLiveAt,
   IsPlaceOf,
   IsSchedule,
+  IsWaitingAt,
   SameMeters,
   Sends,
+  Settles,
+  Turns,
   Waits,
   WaitsNoMore,
   links_of,
@@ -41,14 +47,11 @@ ghost use Rattle.fw_rollout.specs.Schedule.{
 ghost use Rattle.fw_rollout.specs.declared.link.Link.{Link as TheLink};
 ghost use Rattle.fw_rollout.specs.Timing.{HasRoom, max_tick};
 
-use crate::link::{Link, Listed};
+use crate::link::{Answer, Link, Listed};
 use crate::timing::{Timing, has_room};
 use std::alloc::{AllocError, Global};
 use std::collections::{BTreeSet, HashMap, VecDeque};
 use std::net::SocketAddr;
-
-/// The most links that one call gives up.
-const MAX_GIVEN_UP: usize = 64;
 
 /// The links of all meters of a list. A place is the index of a link.
 #[derive(Drop)]
@@ -57,7 +60,7 @@ pub(crate) struct Schedule {
     links: Vec<Link>,
     /// The place of each address.
     places: HashMap<SocketAddr, usize>,
-    /// The places of the links that may be ticked, and perhaps some that ended meanwhile.
+    /// The places of the links that may be ticked, each once, the next one first, and perhaps some that ended meanwhile.
     ready: VecDeque<usize>,
     /// The places of the links that wait, each with the time until which it does, the earliest first.
     waiting: BTreeSet<(u64, usize)>,
@@ -146,19 +149,22 @@ impl Schedule {
         }
     }
 
-    /// Gives up what was waited for until now, of so many links at most, and returns the place of the link that is ticked next, if one may be
-    /// ticked now.
+    /// Gives up what was waited for until now, and returns the place of the link that is ticked next, if one may be ticked now. It stays the
+    /// next until it is ticked.
     ///
     /// # Errors
     ///
-    /// `AllocError` where memory was refused. What is left then is unspecified.
+    /// `AllocError` where memory was refused, and only where a link is live. What is left then is unspecified.
     pub(crate) fn next(&mut self, now: u64) -> Result<Option<usize>, AllocError>
         ensures due { IfOk result (λ r. IfSome r (IsDueAt self.new)) }
+        ensures first { IfOk result (λ r. IfSome r (IsFirst self.new)) }
         ensures none { IfOk result (λ r. IfNone r ((self.new.ready.items ≡ []) ⊎ ¬ HasRoom self.new.out self.new.timing.flight)) }
         ensures room { IfOk result (λ r. IfSome r (λ place. HasRoom self.new.out self.new.timing.flight)) }
         ensures timing { OnOk result (self.new.timing ≡ self.old.timing) }
+        ensures settles { IsSchedule self.old → OnOk result (Settles now self.old self.new) }
         ensures same { IsSchedule self.old → OnOk result (SameMeters self.old self.new) }
         ensures schedule { IsSchedule self.old → OnOk result (IsSchedule self.new) }
+        ensures live { IsSchedule self.old → OnErr result (¬ All (λ live. live ≡ false) (lives_of self.old)) }
     {
         self.give_up(now)?;
         if !has_room(self.out, self.timing.flight) {
@@ -167,16 +173,19 @@ impl Schedule {
         Ok(self.next_ready())
     }
 
-    /// The place of the first link that may be ticked.
+    /// The place of the first link that may be ticked. Those before it have ended, and are taken out of the queue.
     fn next_ready(&mut self) -> Option<usize>
         ensures due { IfSome result (IsDueAt self.new) }
+        ensures first { IfSome result (IsFirst self.new) }
         ensures none { IfNone result (self.new.ready.items ≡ []) }
         ensures others { self.new ≡ record self.old { ready = self.new.ready } }
+        ensures schedule { IsSchedule self.old → IsSchedule self.new }
     {
-        while let Some(place) = self.ready.pop_front() {
+        while let Some(place) = self.ready.front().copied() {
             if self.is_ready(place) {
                 return Some(place);
             }
+            self.ready.pop_front();
         }
         None
     }
@@ -184,10 +193,13 @@ impl Schedule {
     /// Gives up what was waited for until now.
     fn give_up(&mut self, now: u64) -> Result<(), AllocError>
         ensures timing { OnOk result (self.new.timing ≡ self.old.timing) }
+        ensures settles { IsSchedule self.old → OnOk result (Settles now self.old self.new) }
         ensures same { IsSchedule self.old → OnOk result (SameMeters self.old self.new) }
         ensures schedule { IsSchedule self.old → OnOk result (IsSchedule self.new) }
+        ensures live { IsSchedule self.old → OnErr result (¬ All (λ live. live ≡ false) (lives_of self.old)) }
     {
-        for _ in 0..MAX_GIVEN_UP {
+        let most = self.links.len();
+        for given_up in 0..most {
             let Some((until, place)) = self.waiting.first().copied() else {
                 return Ok(());
             };
@@ -204,22 +216,28 @@ impl Schedule {
         ensures given_up { OnOk result (GivesUp place now self.old self.new) }
         ensures timing { OnOk result (self.new.timing ≡ self.old.timing) }
         ensures same { IsLiveAt self.old place → OnOk result (SameMeters self.old self.new) }
-        ensures schedule { IsSchedule self.old → IsLiveAt self.old place → OnOk result (IsSchedule self.new) }
+        ensures schedule { (until : ℕ) → IsSchedule self.old → IsWaitingAt (links_of self.old) place until → OnOk result (IsSchedule self.new) }
     {
         let Some(link) = self.links.get_mut(place) else {
             return Ok(());
         };
         let was_until = link.until();
+        let was_paused = link.is_paused();
         let given_up = link.given_up(now);
         let until = link.until();
         self.out = self.out.saturating_sub(given_up);
-        self.wait_no_more(place, was_until);
-        self.wait(place, until)?;
-        if until.is_none() {
-            self.resends = self.resends.saturating_add(1);
-            self.ready.push_back(place)?;
-        }
+        self.count_resend(was_paused, until);
+        self.turn(place, was_until, until)?;
         Ok(())
+    }
+
+    /// Counts a row that is ticked again since no answer came: one that didn't pause, and waits no more.
+    fn count_resend(&mut self, was_paused: bool, until: Option<u64>)
+        ensures { self.new ≡ record self.old { resends = self.new.resends } }
+    {
+        if !was_paused && until.is_none() {
+            self.resends = self.resends.saturating_add(1);
+        }
     }
 
     /// Whether the link at this place may be ticked.
@@ -242,20 +260,21 @@ impl Schedule {
         ensures timing { OnOk result (self.new.timing ≡ self.old.timing) }
         ensures out { OnOk result (self.new.out ≤ self.old.out + count) }
         ensures same { IsDueAt self.old place → OnOk result (SameMeters self.old self.new) }
-        ensures schedule { IsSchedule self.old → IsDueAt self.old place → HasRoom self.old.out self.old.timing.flight → count ≤ max_tick
-            → OnOk result (IsSchedule self.new) }
+        ensures schedule { IsSchedule self.old → IsDueAt self.old place → IsFirst self.old place → HasRoom self.old.out self.old.timing.flight
+            → count ≤ max_tick → OnOk result (IsSchedule self.new) }
     {
         let Some(link) = self.links.get_mut(place) else {
             return Ok(());
         };
         link.sent(now, count);
         let until = link.until();
+        self.ready.pop_front();
         self.out = self.out.saturating_add(count);
         self.wait(place, until)?;
         Ok(())
     }
 
-    /// The row of the link at this place took an answer, and asks of it are outstanding still, or are not.
+    /// The row of the link at this place took an answer.
     ///
     /// # Errors
     ///
@@ -264,9 +283,9 @@ impl Schedule {
         &mut self,
         place: usize,
         now: u64,
-        is_waiting: bool,
+        answer: Answer,
     ) -> Result<(), AllocError>
-        ensures answered { OnOk result (Answers place now is_waiting self.old self.new) }
+        ensures answered { OnOk result (Answers place now answer self.old self.new) }
         ensures same { IsLiveAt self.old place → OnOk result (SameMeters self.old self.new) }
         ensures schedule { IsSchedule self.old → IsLiveAt self.old place → OnOk result (IsSchedule self.new) }
     {
@@ -274,15 +293,13 @@ impl Schedule {
             return Ok(());
         };
         let was_until = link.until();
-        let was_ready = link.is_ready();
-        let answered = link.answered(now, self.timing.resend, is_waiting);
-        let is_ready = link.is_ready();
+        let answered = link.answered(now, self.timing.resend, answer);
+        let until = link.until();
         self.out = self.out.saturating_sub(answered);
-        if was_ready || !is_ready {
+        if is_same(until, was_until) {
             return Ok(());
         }
-        self.wait_no_more(place, was_until);
-        self.ready.push_back(place)?;
+        self.turn(place, was_until, until)?;
         Ok(())
     }
 
@@ -303,6 +320,23 @@ impl Schedule {
         self.wait_no_more(place, was_until);
     }
 
+    /// The link at this place, which waited until a time if there was one, waits until another, or may be ticked.
+    fn turn(
+        &mut self,
+        place: usize,
+        was_until: Option<u64>,
+        until: Option<u64>,
+    ) -> Result<(), AllocError>
+        ensures { OnOk result (Turns place was_until until self.old self.new) }
+    {
+        self.wait_no_more(place, was_until);
+        self.wait(place, until)?;
+        if until.is_none() {
+            self.ready.push_back(place)?;
+        }
+        Ok(())
+    }
+
     /// The link at this place waits until this time, if there is one.
     fn wait(&mut self, place: usize, until: Option<u64>) -> Result<(), AllocError>
         ensures { OnOk result (Waits place until self.old self.new) }
@@ -320,5 +354,16 @@ impl Schedule {
         if let Some(until) = was_until {
             self.waiting.remove(&(until, place));
         }
+    }
+}
+
+/// Whether two times are the same, or neither is one.
+fn is_same(one: Option<u64>, other: Option<u64>) -> bool
+    ensures { IsTrue result ↔ (one ≡ other) }
+{
+    match (one, other) {
+        (Some(one), Some(other)) => one == other,
+        (None, None) => true,
+        (Some(_), None) | (None, Some(_)) => false,
     }
 }

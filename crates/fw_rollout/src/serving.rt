@@ -44,8 +44,27 @@ pub fn step_head<P: HeadPort, D: JournalDevice + Drop>(
     ensures honesty { P.honest port.new ≡ P.honest port.old }
     ensures law { (done : List Act) → P.legal port.old done → P.legal port.new done }
 {
+    let mut buffer = [0u8; MAX_RECEIVED];
+    step_with(port, daemon, &mut buffer)
+}
+
+/// One round, as `step_head`, with a buffer that datagrams are received into.
+fn step_with<P: HeadPort, D: JournalDevice + Drop>(
+    port: &mut P,
+    daemon: &mut HeadDaemon<D>,
+    buffer: &mut [u8],
+) -> Result<(), Stop>
+    // An honest port is had only over a device of which it is known what it keeps, and what a head end does that is as this one may be done.
+    requires begins { IsTrue (P.honest port.old) → Begins D.honest D.contents D.may_leave daemon.old (P.legal port.old) (P.acts port.old) }
+    ensures leads { IsTrue (P.honest port.old) → (start : Leader) → IsLed D.honest D.contents D.may_leave daemon.old start → Rests start
+        → OnOk result (GoesOn D.honest D.contents D.may_leave start (P.acts port.old) (P.acts port.new) daemon.new) }
+    ensures leads_err { IsTrue (P.honest port.old) → (start : Leader) → IsLed D.honest D.contents D.may_leave daemon.old start → Rests start
+        → OnErr result (HasLed start (P.acts port.old) (P.acts port.new)) }
+    ensures honesty { P.honest port.new ≡ P.honest port.old }
+    ensures law { (done : List Act) → P.legal port.old done → P.legal port.new done }
+{
     let patience = send_due(port, daemon)?;
-    receive(port, daemon, patience)?;
+    receive(port, daemon, patience, buffer)?;
     tell_saved(port, daemon)
 }
 
@@ -92,6 +111,7 @@ fn receive<P: HeadPort, D: JournalDevice + Drop>(
     port: &mut P,
     daemon: &mut HeadDaemon<D>,
     patience: Patience,
+    buffer: &mut [u8],
 ) -> Result<(), Stop>
     // An honest port is had only over a device of which it is known what it keeps, and what a head end does that is as this one may be done.
     requires begins { IsTrue (P.honest port.old) → Begins D.honest D.contents D.may_leave daemon.old (P.legal port.old) (P.acts port.old) }
@@ -102,8 +122,7 @@ fn receive<P: HeadPort, D: JournalDevice + Drop>(
     ensures honesty { P.honest port.new ≡ P.honest port.old }
     ensures law { (done : List Act) → P.legal port.old done → P.legal port.new done }
 {
-    let mut buffer = [0u8; MAX_RECEIVED];
-    let Some(arrival) = port.receive(patience, &mut buffer)? else {
+    let Some(arrival) = port.receive(patience, buffer)? else {
         return Ok(());
     };
     let now = port.now();
@@ -171,11 +190,12 @@ pub fn serve_head<R: Wait, P: HeadPort, D: JournalDevice + Drop, W: HeadWatch>(
     ensures stays { OnOk result (stays ≡ false) }
     ensures honesty { P.honest port.new ≡ P.honest port.old }
 {
+    let mut buffer = [0u8; MAX_RECEIVED];
     for _ in rt.forever() {
         if daemon.is_over() && !stays {
             return Ok(());
         }
-        step_head(port, daemon)?;
+        step_with(port, daemon, &mut buffer)?;
         watch.round(port.now(), daemon.counts(), port.faults());
     }
     unreachable!()

@@ -1,10 +1,16 @@
 //! How long an answer is waited for. All times are in microseconds.
 
 ghost use Rattle.std.specs.Prelude.{◌≡◌, ◌↔◌, IsTrue};
-ghost use Rattle.fw_rollout.specs.Timing.{HasRoom, doubled, wait_after};
+ghost use Rattle.fw_rollout.specs.Timing.{HasRoom, doubled, longer, wait_after};
 
 /// The longest wait, a minute.
 pub const LONGEST_WAIT: u64 = 60_000_000;
+
+/// The first pause before a meter is asked again that isn't ready for what it was asked.
+pub const FIRST_PAUSE: u64 = 5_000;
+
+/// The longest pause, half a second.
+pub const LONGEST_PAUSE: u64 = 500_000;
 
 /// The most datagrams that one tick of a row makes.
 pub const MAX_TICK: u64 = 15;
@@ -30,6 +36,13 @@ pub(crate) fn doubled(wait: u64) -> u64
     ensures { result ≡ doubled wait }
 {
     wait.saturating_mul(2).min(LONGEST_WAIT)
+}
+
+/// The pause after one of this time, where the meter isn't ready still.
+pub(crate) fn longer(pause: u64) -> u64
+    ensures { result ≡ longer pause }
+{
+    pause.saturating_mul(2).min(LONGEST_PAUSE)
 }
 
 /// Whether another tick may be sent where so many datagrams are out.

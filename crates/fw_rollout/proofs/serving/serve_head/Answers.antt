@@ -2,8 +2,8 @@ use Rattle.std.proofs.Common.{rules, Bool, IsTrue, sym, subst, ◌∙◌}
 use Rattle.fw_rollout.proofs.Rounds.{begins_on, goes_on, has_led_on}
 use Rattle.fw_rollout.proofs.serving.serve_head.Goals as goal
 
-pub step_head-requires : goal.step_head-requires
-step_head-requires g c = record {
+pub step_with-requires : goal.step_with-requires
+step_with-requires g c = record {
   begins = λ h.
       let was = c.loop.invariant in
       let honest : IsTrue (g.P.HeadPort.honest c.args.port.now) = subst (λ (b : Bool). IsTrue b) was.3 h in
@@ -17,17 +17,17 @@ loop-preserved g c =
       search rules,
       λ honest start led rests.
           let then : IsTrue (g.P.HeadPort.honest c.loop.port) = subst (λ (b : Bool). IsTrue b) (sym was.3) honest in
-          goes_on _ _ _ c.loop.daemon c.step_head.new.daemon start _ _ _ (was.2 honest start led rests) (c.in_ok-step_head.ensures.leads then),
-      c.step_head.ensures.honesty ∙ was.3,
-      λ done legal. c.step_head.ensures.law done (was.4 done legal),
+          goes_on _ _ _ c.loop.daemon c.step_with.new.daemon start _ _ _ (was.2 honest start led rests) (c.in_ok-step_with.ensures.leads then),
+      c.step_with.ensures.honesty ∙ was.3,
+      λ done legal. c.step_with.ensures.law done (was.4 done legal),
     )
 
-pub returns-in_err-step_head-clause-leads : goal.returns-in_err-step_head-clause-leads
-returns-in_err-step_head-clause-leads g c = λ honest start led rests.
+pub returns-in_err-step_with-clause-leads : goal.returns-in_err-step_with-clause-leads
+returns-in_err-step_with-clause-leads g c = λ honest start led rests.
     let was = c.loop.invariant in
     let then : IsTrue (g.P.HeadPort.honest c.loop.port) = subst (λ (b : Bool). IsTrue b) (sym was.3) honest in
     let one = was.2 honest start led rests in
-    has_led_on _ _ _ c.loop.daemon start _ _ _ one (c.in_err-step_head.ensures.leads_err then one.now one.led one.rests)
+    has_led_on _ _ _ c.loop.daemon start _ _ _ one (c.in_err-step_with.ensures.leads_err then one.now one.led one.rests)
 
 pub returns-then-not-stays-clause-leads : goal.returns-then-not-stays-clause-leads
 returns-then-not-stays-clause-leads g c = λ honest start led rests.

@@ -1,10 +1,67 @@
-use Rattle.std.proofs.Common.{◌≡◌, ◌≤◌, List, Some, slice_get, refl, sym, ap, ◌∙◌, arith}
+use Rattle.std.proofs.Common.{◌≡◌, ◌≤◌, ℕ, List, Some, inl, inr, slice_get, refl, sym, ap, subst, ◌∙◌, ⊎_elim, arith}
 use Rattle.fw_rollout.specs.Schedule.{links_of, listed_of}
-use Rattle.fw_rollout.specs.Timing.{max_tick}
+use Rattle.fw_rollout.specs.Timing.{HasRoom, max_tick}
 use Rattle.fw_rollout.specs.declared.link.Listed.{Listed}
 use Rattle.fw_rollout.proofs.Lives.{listed_at}
-use Rattle.fw_rollout.proofs.Daemons.{same_on, ticked_on}
+use Rattle.fw_rollout.proofs.Daemons.{none_live, same_on, ticked_on}
+use Rattle.fw_rollout.proofs.Dues.{due_before, due_lives, due_there, none_asked}
+use Rattle.fw_rollout.proofs.Queueing.{queued_once}
+use Rattle.fw_rollout.proofs.Rounds.{at_err}
+use Rattle.fw_rollout.proofs.Settling.{some_live_before}
 use Rattle.fw_rollout.proofs.daemon.HeadDaemon.due.Goals as goal
+
+-- ---- nothing is sent
+
+pub returns-in_default-clause-none : goal.returns-in_default-clause-none
+returns-in_default-clause-none g c = λ leader led.
+    none_asked c.args.now c.args.self.now.schedule c.next.new.self (c.in_ok-place.ensures.schedule led.schedule) (c.in_ok-place.ensures.settles led.schedule) c.in_ok-place.ensures.timing
+    (rw c.in_default.is at c.in_ok-place.ensures.none)
+
+pub returns-in_default-clause-queued : goal.returns-in_default-clause-queued
+returns-in_default-clause-queued g c = λ leader led place due. queued_once c.next.new.self place (c.in_ok-place.ensures.schedule led.schedule) due
+
+-- ---- memory is refused
+
+pub returns-in_err-place-clause-wanted : goal.returns-in_err-place-clause-wanted
+returns-in_err-place-clause-wanted g c = λ leader led.
+    at_err c.from_residual.result
+    (λ over. c.in_err-place.ensures.live led.schedule
+    (none_live g.D.JournalDevice.honest g.D.JournalDevice.contents g.D.JournalDevice.may_leave c.args.self.now leader led over))
+
+pub returns-in_err-datagrams-clause-wanted : goal.returns-in_err-datagrams-clause-wanted
+returns-in_err-datagrams-clause-wanted g c = λ leader led.
+    at_err c.from_residual-in_err-datagrams.result
+    (λ over. some_live_before c.args.self.now.schedule c.next.new.self c.in-Some.place (c.in_ok-place.ensures.same led.schedule)
+    (due_lives c.next.new.self c.in-Some.place (rw c.in-Some.is at c.in_ok-place.ensures.due))
+    (none_live g.D.JournalDevice.honest g.D.JournalDevice.contents g.D.JournalDevice.may_leave c.args.self.now leader led over))
+
+pub returns-in_err-sent-clause-wanted : goal.returns-in_err-sent-clause-wanted
+returns-in_err-sent-clause-wanted g c = λ leader led.
+    at_err c.from_residual-in_err-sent.result
+    (λ over. some_live_before c.args.self.now.schedule c.next.new.self c.in-Some.place (c.in_ok-place.ensures.same led.schedule)
+    (due_lives c.next.new.self c.in-Some.place (rw c.in-Some.is at c.in_ok-place.ensures.due))
+    (none_live g.D.JournalDevice.honest g.D.JournalDevice.contents g.D.JournalDevice.may_leave c.args.self.now leader led over))
+
+-- ---- a meter is asked
+
+pub returns-clause-asked : goal.returns-clause-asked
+returns-clause-asked g c = λ leader led.
+    let place = c.in-Some.place in
+    let schedule = c.next.new.self in
+    let at : Listed = c.in-Some-at.listed in
+    let same = c.in_ok-place.ensures.same led.schedule in
+    record {
+      place = place;
+      there = ap (λ (ls : List Listed). slice_get ls place) (sym same.listed) ∙ listed_at (links_of schedule) place at (sym c.at.ensures ∙ c.in-Some-at.is);
+      due = due_before c.args.now c.args.self.now.schedule schedule place (c.in_ok-place.ensures.settles led.schedule) (rw c.in-Some.is at c.in_ok-place.ensures.due);
+    }
+
+pub returns-clause-queued : goal.returns-clause-queued
+returns-clause-queued g c = λ leader led place due.
+    let few : c.len-count.result ≤ max_tick = omega (arith, c.in_ok-datagrams.ensures.few, c.len-count.ensures) in
+    queued_once c.sent.new.self place
+    (c.in_ok-sent.ensures.schedule (c.in_ok-place.ensures.schedule led.schedule) (rw c.in-Some.is at c.in_ok-place.ensures.due) (rw c.in-Some.is at c.in_ok-place.ensures.first)
+    (rw c.in-Some.is at c.in_ok-place.ensures.room) few) due
 
 pub returns-clause-ticks : goal.returns-clause-ticks
 returns-clause-ticks g c = λ leader led sent_all.
@@ -13,6 +70,7 @@ returns-clause-ticks g c = λ leader led sent_all.
     let at : Listed = c.in-Some-at.listed in
     let same = c.in_ok-place.ensures.same led.schedule in
     let due = rw c.in-Some.is at c.in_ok-place.ensures.due in
+    let first = rw c.in-Some.is at c.in_ok-place.ensures.first in
     let room = rw c.in-Some.is at c.in_ok-place.ensures.room in
     let few : c.len-count.result ≤ max_tick = omega (arith, c.in_ok-datagrams.ensures.few, c.len-count.ensures) in
     let there : slice_get (listed_of c.args.self.now.schedule) place ≡ Some at =
@@ -21,5 +79,5 @@ returns-clause-ticks g c = λ leader led sent_all.
     ticked_on g.D.JournalDevice.honest g.D.JournalDevice.contents g.D.JournalDevice.may_leave c.args.self.now _ leader led sent_all place at there
     _ c.in_ok-datagrams.ensures.sent (c.in_ok-datagrams.ensures.permitted leader.synced led.holds) c.in_ok-datagrams.ensures.ticked
     (c.in_ok-datagrams.ensures.waits leader.synced led.holds) refl
-    (c.in_ok-sent.ensures.schedule (c.in_ok-place.ensures.schedule led.schedule) due room few)
+    (c.in_ok-sent.ensures.schedule (c.in_ok-place.ensures.schedule led.schedule) due first room few)
     (same_on c.args.self.now.schedule schedule c.sent.new.self same (c.in_ok-sent.ensures.same due))

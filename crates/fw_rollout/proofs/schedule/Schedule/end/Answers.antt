@@ -3,6 +3,7 @@ use Rattle.std.proofs.lemmas.Option.{slice_get_read}
 use Rattle.fw_rollout.specs.Link.{until_of}
 use Rattle.fw_rollout.specs.Schedule.{links_of}
 use Rattle.fw_rollout.proofs.Moving.{ended_meter, ends, one_live, over_turn}
+use Rattle.fw_rollout.proofs.Queueing.{queue_over}
 use Rattle.fw_rollout.proofs.Turning.{no_new_time, waited}
 use Rattle.fw_rollout.proofs.schedule.Schedule.end.Goals as goal
 
@@ -27,3 +28,4 @@ returns-clause-schedule c = λ s.
     (ends c.args.place c.over-left.result c.from.result link next c.args.self.now _ s was c.over-left.ensures.out one c.over-left.ensures.over.0 over c.over-left.ensures.at refl refl refl
     c.saturating_sub-self.ensures c.saturating_sub-self-2.ensures)
     refl c.until-was_until.ensures (sym (ap until_of over)) c.wait_no_more.ensures (no_new_time c.args.place None c.wait_no_more.new.self refl)
+    (queue_over c.args.place link next c.args.self.now c.wait_no_more.new.self s was over (ap (λ x. x.ready.items) c.wait_no_more.ensures.others))

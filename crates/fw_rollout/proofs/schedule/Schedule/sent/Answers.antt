@@ -3,6 +3,7 @@ use Rattle.std.proofs.lemmas.Option.{slice_get_read}
 use Rattle.fw_rollout.specs.Link.{until_of}
 use Rattle.fw_rollout.specs.Schedule.{is_live, is_live_turn, links_of}
 use Rattle.fw_rollout.proofs.Moving.{sends_out}
+use Rattle.fw_rollout.proofs.Queueing.{queue_sent}
 use Rattle.fw_rollout.proofs.Turning.{is_due_there, no_time, same_meters, waited}
 use Rattle.fw_rollout.proofs.schedule.Schedule.sent.Goals as goal
 
@@ -16,7 +17,7 @@ returns-clause-same c = λ due.
     (ap is_live c.sent.ensures ∙ sym (ap is_live_turn (is_due_there c.args.place link c.args.self.now was due)))
 
 pub returns-clause-schedule : goal.returns-clause-schedule
-returns-clause-schedule c = λ s due room few.
+returns-clause-schedule c = λ s due first room few.
     let link = c.in-Some.link.now in
     let links = links_of c.args.self.now in
     let was = slice_get_read links (length links) c.args.place link refl c.in-Some.ensures.item.3.0 c.in-Some.ensures.value in
@@ -24,3 +25,5 @@ returns-clause-schedule c = λ s due room few.
     waited c.args.place (until_of link.turn) c.until-until.result link c.sent.new.self c.args.self.now _ _ c.wait.new.self s
     (sends_out c.args.place c.args.now c.args.count link c.sent.new.self c.args.self.now _ s was ready c.sent.ensures refl refl refl c.saturating_add-self.ensures refl s.flight_fits room few)
     refl refl c.until-until.ensures (no_time c.args.place (until_of link.turn) _ (ap until_of ready)) c.in_ok-wait.ensures
+    (queue_sent c.args.place _ link c.sent.new.self c.args.self.now c.wait.new.self s was ready (ap (λ l. l.turn) c.sent.ensures) first
+    (ap (λ x. x.ready.items) c.in_ok-wait.ensures.others ∙ c.pop_front.ensures.rest))

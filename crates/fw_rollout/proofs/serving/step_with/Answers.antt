@@ -1,7 +1,7 @@
 use Rattle.std.proofs.Common.{Bool, IsTrue, sym, subst}
 use Rattle.std.proofs.lemmas.Result.{on_ok_weaker, on_err_weaker}
 use Rattle.fw_rollout.proofs.Rounds.{at_err, begins_on, has_led_on, joined}
-use Rattle.fw_rollout.proofs.serving.step_head.Goals as goal
+use Rattle.fw_rollout.proofs.serving.step_with.Goals as goal
 
 pub receive-requires : goal.receive-requires
 receive-requires g c = record {
