@@ -1,6 +1,9 @@
 -- The daemon of a head end: which of its links are live, as its rows go on and end.
-use Rattle.std.proofs.Common.{◌≡◌, ◌≢◌, ℕ, ◌+◌, ◌≤◌, arith, Bool, true, false, List, [], ◌∷◌, ◌++◌, map, All, Contains, Option, Some, None, is_some, option_map, slice_get, slice_set, inl, inr, refl, sym, ap, subst, ◌∙◌, append-nil}
+use Rattle.std.proofs.Common.{◌≡◌, ◌≢◌, ◌↔◌, ⊎_elim, cond, ℕ, ◌+◌, ◌≤◌, arith, Bool, true, false, List, [], ◌∷◌, ◌++◌, map, All, Contains, Option, Some, None, is_some, option_map, slice_get, slice_set, inl, inr, refl, sym, ap, subst, ◌∙◌, append-nil}
+use Rattle.std.specs.Prelude.{IsTrue, count_by}
+use Rattle.std.proofs.lemmas.Bool.{false≢true}
 use Rattle.std.proofs.lemmas.List.Elements.{All-nil, All-push, All-weaker}
+use Rattle.std.proofs.lemmas.List.Sums.{sum_by-cons}
 use Rattle.std.proofs.lemmas.Option.{none-some, same_Some, slice_get-map}
 use Rattle.std.specs.declared.net.socket_addr.SocketAddr.{SocketAddr}
 use Rattle.fw_book.specs.Contents.{Contents}
@@ -25,7 +28,7 @@ use Rattle.fw_rollout.specs.declared.daemon.Heard.{Heard}
 use Rattle.fw_rollout.specs.declared.daemon.Heard.TheVariants as returned
 use Rattle.fw_rollout.specs.Leading.{HearsAs, IsAboutToSend, IsAboutToTell, IsNotedIn, Leader, SavesAll, TicksMeter, ended_by, heard_of}
 use Rattle.fw_rollout.specs.Schedule.{EndsMeter, IsLiveAt, IsSchedule, SameMeters, is_live, is_live_turn, links_of, listed_of, lives_of}
-use Rattle.fw_rollout.specs.Daemon.{IsLed, IsList, IsOver, ended_of, kept_of, live_of}
+use Rattle.fw_rollout.specs.Daemon.{IsLed, IsList, IsOver, IsSaveDue, ended_of, hold, kept_of, live_of, live_rows}
 use Rattle.fw_rollout.specs.Stopping.{IsSaveStop, stop_of}
 use Rattle.fw_rollout.specs.Timing.{HasRoom, most_out}
 use Rattle.fw_rollout.proofs.Hearing.{Moves, Ends, hears_nothing, hears_moved, hears_end}
@@ -78,6 +81,16 @@ commit_stop kept.OutOfMemory is = tt
 
 pub same_on : (a b c : Schedule) → SameMeters a b → SameMeters b c → SameMeters a c
 same_on a b c first second = record { timing = second.timing ∙ first.timing; listed = second.listed ∙ first.listed; lives = second.lives ∙ first.lives }
+
+-- ---- how many there are
+
+same_more : (a b x s t : ℕ) → a ≡ x + s → b ≡ x + t → s ≡ t → a ≡ b
+same_more a b x s t e f g = omega arith
+
+count_mapped : {X : Type 0} (p : X → Bool) (xs : List X) → count_by p xs ≡ count_by (λ (b : Bool). b) (map p xs)
+count_mapped p [] = refl
+count_mapped {X = X} p (x ∷ xs) =
+    same_more _ _ (cond (p x) 1 0) _ _ (sum_by-cons (λ (y : X). cond (p y) 1 0) x xs) (sum_by-cons (λ (b : Bool). cond b 1 0) (p x) (map p xs)) (count_mapped p xs)
 
 -- ---- how much is out
 
@@ -239,6 +252,11 @@ module _ {D : Type 0} (honest : D → Bool) (contents : D → List ℕ) (may_lea
         },
       )
 
+  over_rows : (daemon : HeadDaemon D) (leader : Leader) → IsLed honest contents may_leave daemon leader → All (λ b. b ≡ false) (lives_of daemon.schedule)
+      → All (λ (at : Listed). row_of leader.head.rows at.meter ≡ None) leader.meters
+  over_rows daemon leader led none =
+      none_of_false (λ (at : Listed). row_of leader.head.rows at.meter) leader.meters (subst (λ (bs : List Bool). All (λ b. b ≡ false) bs) led.lives none)
+
   -- nothing is left to do
   pub over_of : (daemon : HeadDaemon D) (leader : Leader) → IsLed honest contents may_leave daemon leader → All (λ b. b ≡ false) (lives_of daemon.schedule) → ended_of daemon ≡ [] → IsOver leader
   over_of daemon leader led none all = record {
@@ -268,3 +286,30 @@ module _ {D : Type 0} (honest : D → Bool) (contents : D → List ℕ) (may_lea
     waits_on old new leader led kept ended (subst (λ (s : Schedule). IsSchedule s) (sym schedule) led.schedule)
         (record { timing = ap (λ (s : Schedule). s.timing) schedule; listed = ap (λ (s : Schedule). listed_of s) schedule; lives = ap (λ (s : Schedule). lives_of s) schedule }),
   )
+
+  -- when rows that ended are put on the device
+  pub saves_none : (daemon : HeadDaemon D) (leader : Leader) (now since : ℕ) → IsLed honest contents may_leave daemon leader → ended_of daemon ≡ [] → IsTrue false ↔ IsSaveDue now since leader
+  saves_none daemon leader now since led empty = (λ e. absurd (false≢true e), λ s. absurd (s.some (led.unsaved ∙ empty)))
+
+  pub saves_all : (daemon : HeadDaemon D) (leader : Leader) (now since : ℕ) → IsLed honest contents may_leave daemon leader → ended_of daemon ≢ [] → All (λ b. b ≡ false) (lives_of daemon.schedule)
+      → IsTrue true ↔ IsSaveDue now since leader
+  saves_all daemon leader now since led some none = (
+    λ e. record { some = λ (is : leader.unsaved ≡ []). some (sym led.unsaved ∙ is); due = inl (over_rows daemon leader led none) },
+    λ s. refl,
+  )
+
+  pub saves_by : (daemon : HeadDaemon D) (leader : Leader) (now since : ℕ) (r : Bool) → IsLed honest contents may_leave daemon leader → ended_of daemon ≢ [] → ¬ All (λ b. b ≡ false) (lives_of daemon.schedule)
+      → (IsTrue r ↔ (since + hold ≤ now)) → IsTrue r ↔ IsSaveDue now since leader
+  saves_by daemon leader now since r led some live by = (
+    λ e. record { some = λ (is : leader.unsaved ≡ []). some (sym led.unsaved ∙ is); due = inr (by.0 e) },
+    λ s. by.1 (⊎_elim
+        (λ (none : All (λ (at : Listed). row_of leader.head.rows at.meter ≡ None) leader.meters). absurd (live (subst (λ (bs : List Bool). All (λ b. b ≡ false) bs) (sym led.lives)
+        (false_of_none (λ (at : Listed). row_of leader.head.rows at.meter) leader.meters none))))
+        (λ (h : since + hold ≤ now). h) s.due),
+  )
+
+  -- how many rows are live
+  pub counts_rows : (daemon : HeadDaemon D) (leader : Leader) → IsLed honest contents may_leave daemon leader → daemon.schedule.live ≡ live_rows leader
+  counts_rows daemon leader led =
+      led.schedule.counts_live ∙ count_mapped is_live (links_of daemon.schedule) ∙ ap (λ (bs : List Bool). count_by (λ (b : Bool). b) bs) led.lives
+      ∙ sym (count_mapped (λ (at : Listed). is_some (row_of leader.head.rows at.meter)) leader.meters)

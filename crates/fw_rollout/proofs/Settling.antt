@@ -1,6 +1,6 @@
 -- Links whose time is over.
-use Rattle.std.proofs.Common.{◌≡◌, ◌≢◌, ◌↔◌, ◌⊎◌, ℕ, ◌+◌, ◌<◌, ◌≤◌, ◌==◌, Bool, true, false, cond, List, [], ◌∷◌, map, All, Bor, Contains, length, leb, Option, Some, None, inl, inr, ⊎_elim, refl, sym, ap, subst, ◌∙◌, arith}
-use Rattle.std.specs.Prelude.{IfSome, IsSome, IsTrue, count_by, slice_get, slice_set, sum_by}
+use Rattle.std.proofs.Common.{◌≡◌, ◌≢◌, ◌↔◌, ℕ, ◌+◌, ◌<◌, ◌≤◌, ◌==◌, Bool, true, false, cond, List, All, Bor, Contains, length, leb, Option, Some, None, inl, inr, ⊎_elim, refl, sym, ap, subst, ◌∙◌, arith}
+use Rattle.std.specs.Prelude.{IfSome, IsSome, count_by, slice_get, slice_set}
 use Rattle.std.specs.Option.{option_copied, option_map}
 use Rattle.std.specs.BTreeMap.Range.{IsLeBy}
 use Rattle.std.specs.Ordering.{is_gt, nat_cmp, ordering_then}
@@ -11,11 +11,9 @@ use Rattle.std.proofs.lemmas.Bool.Decides.{Decides-eqb, leb_tells}
 use Rattle.std.proofs.lemmas.List.Elements.{All-contains}
 use Rattle.std.proofs.lemmas.List.Sums.{count_by-le-length, get_or-le-sum_by}
 use Rattle.std.proofs.lemmas.Option.{get_or_from_slice_get, none-some, same_Some, slice_get-map, slice_get_within}
-use Rattle.fw_rollout.specs.Link.{IsGivenUp, IsReady, IsReadyBy, after, has_passed, is_expired, out_by, until_of}
+use Rattle.fw_rollout.specs.Link.{IsGivenUp, after, has_passed, is_expired, until_of}
 use Rattle.fw_rollout.specs.Schedule.{GivesUp, IsLiveAt, IsSchedule, IsWaitingAt, SameMeters, Settles, SettlesLink, is_live, links_of, lives_of}
 use Rattle.fw_rollout.specs.declared.link.Link.{Link}
-use Rattle.fw_rollout.specs.declared.link.Turn.{Turn}
-use Rattle.fw_rollout.specs.declared.link.Turn.TheVariants as turns
 use Rattle.fw_rollout.specs.declared.schedule.Schedule.{Schedule}
 use Rattle.fw_rollout.proofs.Turning.{at_place, elsewhere, live_true, sum_moved}
 use Rattle.fw_rollout.proofs.Waiting.{by_time}

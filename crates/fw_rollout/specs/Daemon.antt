@@ -1,9 +1,10 @@
 -- Public vocabulary: the daemon of a head end as a value.
-use Rattle.std.specs.Prelude.{◌≡◌, ◌≢◌, ℕ, Bool, List, [], ◌∷◌, map, All, Contains, Some, None, is_some, slice_get, sum_by}
+use Rattle.std.specs.Prelude.{◌≡◌, ◌≢◌, ℕ, Bool, List, [], ◌∷◌, map, All, Contains, Some, None, is_some, slice_get, sum_by, count_by, ◌⊎◌, ◌+◌, ◌≤◌}
 use Rattle.fw_book.specs.Contents.{Contents}
 use Rattle.fw_head.specs.Head.{Head, row_of}
 use Rattle.fw_kept.specs.Head.{Holds, head_of}
 use Rattle.fw_kept.specs.declared.head.KeptHead.{KeptHead}
+use Rattle.fw_rollout.specs.declared.daemon.Counts.{Counts}
 use Rattle.fw_rollout.specs.declared.daemon.HeadDaemon.{HeadDaemon}
 use Rattle.fw_rollout.specs.declared.ended.Ended.{Ended}
 use Rattle.fw_rollout.specs.declared.link.Listed.{Listed}
@@ -61,6 +62,14 @@ out_at now daemon = sum_by (λ (link : Link). out_by now link) (links_of daemon.
 abbrev pub ended_of : {D : Type 0} → HeadDaemon D → List Ended
 ended_of daemon = daemon.ended.items
 
+-- when the oldest of them ended
+abbrev pub since_of : {D : Type 0} → HeadDaemon D → ℕ
+since_of daemon = daemon.held_since
+
+-- how far the head end is
+abbrev pub counts_of : {D : Type 0} → HeadDaemon D → Counts
+counts_of daemon = record daemon.counts { live = daemon.schedule.live; resends = daemon.schedule.resends }
+
 -- which of these meters have a live row
 abbrev pub live_of : Head → List Listed → List Bool
 live_of head meters = map (λ (at : Listed). is_some (row_of head.rows at.meter)) meters
@@ -86,6 +95,19 @@ new_leader meters head synced =
 pub record IsOver (leader : Leader) : Type 0 where
   pub saved_all : leader.unsaved ≡ []
   pub no_row : All (λ (at : Listed). row_of leader.head.rows at.meter ≡ None) leader.meters
+
+-- how many meters of the list have a live row
+abbrev pub live_rows : Leader → ℕ
+live_rows leader = count_by (λ (at : Listed). is_some (row_of leader.head.rows at.meter)) leader.meters
+
+-- the longest that the mark of a row that ended waits for others, in microseconds
+abbrev pub hold : ℕ
+hold = 100000
+
+-- rows that ended wait to be put on the device, the oldest since this time, and no row is live or it waited for long enough
+pub record IsSaveDue (now since : ℕ) (leader : Leader) : Type 0 where
+  pub some : leader.unsaved ≢ []
+  pub due : All (λ (at : Listed). row_of leader.head.rows at.meter ≡ None) leader.meters ⊎ (since + hold ≤ now)
 
 -- nothing is about to be sent or reported
 pub record Rests (leader : Leader) : Type 0 where

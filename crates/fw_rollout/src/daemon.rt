@@ -38,15 +38,19 @@ ghost use Rattle.fw_rollout.specs.Daemon.{
   IsLed,
   IsList,
   IsOver,
+  IsSaveDue,
+  counts_of,
   ended_of,
   flight_of,
   kept_of,
   live_of,
+  live_rows,
   meters_of,
   new_leader,
   out_at,
   out_of,
   queue_of,
+  since_of,
 };
 ghost use Rattle.fw_rollout.specs.Schedule.{EndsMeter, IsSchedule, listed_of, lives_of, times};
 
@@ -297,9 +301,14 @@ impl<D: JournalDevice + Drop> HeadDaemon<D> {
     }
 
     /// Whether the rows that ended are to be put on the device at this time: they waited for a tenth of a second, or no row is live.
-    pub fn is_save_due(&self, now: u64) -> bool {
-        !self.ended.is_empty()
-            && (self.schedule.live() == 0 || now.saturating_sub(self.held_since) >= HOLD)
+    pub fn is_save_due(&self, now: u64) -> bool
+        ensures { (leader : Leader) → IsLed D.honest D.contents D.may_leave self.now leader
+            → IsTrue result ↔ IsSaveDue now (since_of self.now) leader }
+    {
+        if self.ended.is_empty() {
+            return false;
+        }
+        self.schedule.live() == 0 || now.saturating_sub(self.held_since) >= HOLD
     }
 
     /// Puts the rows that ended on the device, and returns them, the oldest first: they may be reported now.
@@ -335,7 +344,10 @@ impl<D: JournalDevice + Drop> HeadDaemon<D> {
     }
 
     /// How far the head end is.
-    pub fn counts(&self) -> Counts {
+    pub fn counts(&self) -> Counts
+        ensures counts { result ≡ counts_of self.now }
+        ensures live { (leader : Leader) → IsLed D.honest D.contents D.may_leave self.now leader → result.live ≡ live_rows leader }
+    {
         Counts {
             live: self.schedule.live(),
             resends: self.schedule.resends(),

@@ -1,10 +1,10 @@
-use Rattle.std.proofs.Common.{◌≡◌, ◌≤◌, ℕ, List, Some, inl, inr, slice_get, refl, sym, ap, subst, ◌∙◌, ⊎_elim, arith}
+use Rattle.std.proofs.Common.{◌≡◌, ◌≤◌, List, Some, slice_get, refl, sym, ap, ◌∙◌, arith}
 use Rattle.fw_rollout.specs.Schedule.{links_of, listed_of}
-use Rattle.fw_rollout.specs.Timing.{HasRoom, max_tick}
+use Rattle.fw_rollout.specs.Timing.{max_tick}
 use Rattle.fw_rollout.specs.declared.link.Listed.{Listed}
 use Rattle.fw_rollout.proofs.Lives.{listed_at}
 use Rattle.fw_rollout.proofs.Daemons.{none_live, same_on, ticked_on}
-use Rattle.fw_rollout.proofs.Dues.{due_before, due_lives, due_there, none_asked}
+use Rattle.fw_rollout.proofs.Dues.{due_before, due_lives, none_asked}
 use Rattle.fw_rollout.proofs.Queueing.{queued_once}
 use Rattle.fw_rollout.proofs.Rounds.{at_err}
 use Rattle.fw_rollout.proofs.Settling.{some_live_before}

@@ -1,7 +1,6 @@
-use Rattle.std.proofs.Common.{◌++◌, refl, length, ap, sym, ◌∙◌}
+use Rattle.std.proofs.Common.{refl, length, ap, sym, ◌∙◌}
 use Rattle.std.proofs.lemmas.Bool.{false≢true}
 use Rattle.std.proofs.lemmas.Option.{slice_get_read}
-use Rattle.fw_rollout.specs.Link.{until_of}
 use Rattle.fw_rollout.specs.Schedule.{links_of}
 use Rattle.fw_rollout.proofs.Moving.{answered_alike, answers, went_on_live, waited_until}
 use Rattle.fw_rollout.proofs.Queueing.{queue_same, queue_turned}
