@@ -1,0 +1,7 @@
+mod Maps
+mod Mini
+mod Hearing
+mod Following
+mod Meters
+mod Heads
+mod Courses

@@ -1,0 +1,269 @@
+-- The moves of meters.
+use Rattle.std.proofs.Common.{◌≡◌, ℕ, nat_eq, Bool, true, false, cond, ◌⊎◌, inl, inr, List, [], ◌∷◌, ◌++◌, Option, Some, None, IsTrue, slice_get, Contains, refl, sym, ap, subst, ◌∙◌, eqb-true, append-nil}
+use Rattle.std.proofs.lemmas.Bool.{cond-true, cond-false}
+use Rattle.std.specs.declared.net.socket_addr.SocketAddr.{SocketAddr}
+use Rattle.fw_names.specs.Name.{Name}
+use Rattle.fw_blocks.specs.Cuts.{max_blocks}
+use Rattle.fw_image.specs.Meter.{Meter, Phase, idle, receiving, verifying, sealed, spoilt, switched, reopened, reopened_phase, restarted}
+use Rattle.fw_image.specs.State.{State, Turns}
+use Rattle.fw_image.specs.Step.{Turn}
+use Rattle.fw_meter.specs.Handling.{Handles, reply_bytes}
+use Rattle.fw_meter.specs.Laws.{Faultless, StopAfterIsStop, TurnFaultIsStop}
+use Rattle.fw_daemon.specs.Daemon.{Daemon, Hears, IsServed, MayAsk, TakesTurn}
+use Rattle.fw_daemon.specs.Rounds.{GoesOnAfter, activated_by, reply_of}
+use Rattle.fw_daemon.specs.declared.daemon.Heard.{Heard}
+use Rattle.fw_daemon.specs.declared.daemon.Heard.TheVariants as heard
+use Rattle.fw_world.specs.World.{Activation, Datagram, World, with_meter}
+use Rattle.fw_world.specs.Step.{Event, deliver, restart_meter, stop, stop_restart, turn, activated, replies}
+use Rattle.fw_field.specs.Field.{Field, Has}
+use Rattle.fw_field.specs.Moves.{HearsAt, IsKilledAt, IsKilledIn, TurnsAt, WasSent, to_meter}
+use Rattle.fw_field.proofs.Maps.{itself as number_itself, number_of}
+use Rattle.fw_field.proofs.Following.{Follows, Goes, IsSound, Simulates, meter_moves, meter_of, meter_sound, next_meter}
+
+-- a restart after one that was cut is a restart
+again_is : (m : Meter) → restarted (reopened m) ≡ restarted m
+again_is m = ap (λ (p : Phase). (let n : Meter = record m { phase = p; limit = max_blocks } in n)) (twice m.phase)
+  where
+    twice : (p : Phase) → reopened_phase (reopened_phase p) ≡ reopened_phase p
+    twice idle = refl
+    twice (receiving goal) = refl
+    twice (verifying goal taken) = refl
+    twice (sealed goal) = refl
+    twice (spoilt goal) = refl
+    twice switched = refl
+
+itself : (daemon : Daemon) (m : Meter) → Has daemon m → Has daemon daemon.state.meter
+itself daemon m h = record { meter_is = refl; honest = h.honest; sound = h.sound }
+
+module _ (old : Field) (w : World) (number : ℕ) (s : Simulates old w) where
+  -- the world with another meter in that place
+  abbrev changed : Meter → List Datagram → List Activation → World
+  changed m sent activations = record (with_meter w number m) { sent = sent; activations = activations }
+
+  becomes : (after : Daemon) (m : Meter) (sent more_sent : List Datagram) (activations more : List Activation) → after.state.meter ≡ m → more_sent ≡ sent → more ≡ activations
+      → Simulates (next_meter old number after sent activations) (changed m more_sent more)
+  becomes after m sent more_sent activations more is same_sent same =
+      meter_moves old number after sent activations w (changed m more_sent more) s same_sent same refl refl
+      (λ q here. cond-true (nat_eq q number) (Some m) (w.meters q) here ∙ ap (λ (x : Meter). (let o : Option Meter = Some x in o)) (sym is))
+      (λ q away. cond-false (nat_eq q number) (Some m) (w.meters q) away)
+
+  -- the meter stays as it was
+  stays : (before after : Daemon) (sent : List Datagram) (activations : List Activation) → old.meters number ≡ Some before → after.state.meter ≡ before.state.meter
+      → w.sent ≡ sent → w.activations ≡ activations → Follows w (next_meter old number after sent activations)
+  stays before after sent activations there is same_sent same = record {
+    events = [];
+    world = w;
+    run = refl;
+    simulates = meter_moves old number after sent activations w w s same_sent same refl refl
+        (λ q here. ap (λ n. w.meters n) (eqb-true q number here) ∙ meter_of old w number before s there ∙ ap (λ (x : Meter). (let o : Option Meter = Some x in o)) (sym is))
+        (λ q away. refl);
+  }
+
+  module _ (turn_law : TurnFaultIsStop) where
+    turns : (before after : Daemon) (sent : List Datagram) (activations : List Activation) → old.meters number ≡ Some before → IsTrue before.state.honest → Turns before.state after.state
+        → w.sent ≡ sent → w.activations ≡ activations → Follows w (next_meter old number after sent activations)
+    turns before after sent activations there honest t same_sent same = go (turn_law before.state after.state t.faultless honest t.turn)
+      where
+        m : Meter
+        m = after.state.meter
+
+        new : World
+        new = changed m w.sent w.activations
+
+        is : Simulates (next_meter old number after sent activations) new
+        is = becomes after m sent w.sent activations w.activations refl same_sent same
+
+        at : w.meters number ≡ Some before.state.meter
+        at = meter_of old w number before s there
+
+        go : (m ≡ reopened before.state.meter) ⊎ Turn true before.state.meter true m → Follows w (next_meter old number after sent activations)
+        go (inl cut) = record {
+          events = stop_restart number 0 0 ∷ [];
+          world = new;
+          run = (new, (before.state.meter, at, inr (ap (λ x. with_meter w number x) cut)), refl);
+          simulates = is;
+        }
+        go (inr made) = record { events = turn number ∷ []; world = new; run = (new, (before.state.meter, m, at, made, refl), refl); simulates = is }
+
+    killed_at : (before : Daemon) (left : Meter) (after : Daemon) → old.meters number ≡ Some before
+        → (left ≡ before.state.meter) ⊎ ((faultless : Bool) × Turn true before.state.meter faultless left) → Has after (restarted left)
+        → Follows w (next_meter old number after old.sent old.activations)
+    killed_at before left after there leaves again = go leaves
+      where
+        m : Meter
+        m = before.state.meter
+
+        at : w.meters number ≡ Some m
+        at = meter_of old w number before s there
+
+        restarts : restarted left ≡ restarted m → Follows w (next_meter old number after old.sent old.activations)
+        restarts same = record {
+          events = restart_meter number ∷ [];
+          world = changed (restarted m) w.sent w.activations;
+          run = (changed (restarted m) w.sent w.activations, (m, at, refl), refl);
+          simulates = becomes after (restarted m) old.sent w.sent old.activations w.activations (again.meter_is ∙ same) s.sent s.activations;
+        }
+
+        turned : Turn true m true left → Follows w (next_meter old number after old.sent old.activations)
+        turned made =
+            let mid : World = with_meter w number left in
+            let new : World = with_meter mid number (restarted left) in
+            record {
+              events = turn number ∷ restart_meter number ∷ [];
+              world = new;
+              run = (mid, (m, left, at, made, refl), (new, (left, cond-true (nat_eq number number) (Some left) (w.meters number) (number_itself number), refl), refl));
+              simulates = meter_moves old number after old.sent old.activations w new s s.sent s.activations refl refl
+                  (λ q here. cond-true (nat_eq q number) (Some (restarted left)) (mid.meters q) here ∙ ap (λ (x : Meter). (let o : Option Meter = Some x in o)) (sym again.meter_is))
+                  (λ q away. cond-false (nat_eq q number) (Some (restarted left)) (mid.meters q) away ∙ cond-false (nat_eq q number) (Some left) (w.meters q) away);
+            }
+
+        state : Meter → State
+        state x = record before.state { meter = x; honest = true }
+
+        go : (left ≡ m) ⊎ ((faultless : Bool) × Turn true m faultless left) → Follows w (next_meter old number after old.sent old.activations)
+        go (inl same) = restarts (ap restarted same)
+        go (inr (faultless, t)) = cut (turn_law (state m) (state left) faultless refl t)
+          where
+            cut : (left ≡ reopened m) ⊎ Turn true m true left → Follows w (next_meter old number after old.sent old.activations)
+            cut (inl same) = restarts (ap restarted same ∙ again_is m)
+            cut (inr made) = turned made
+
+  module _ (faultless_law : Faultless) (turn_law : TurnFaultIsStop) where
+    -- a datagram was heard, and its reply sent
+    HeardField : Daemon → ℕ → List ℕ → Option (List ℕ) → Option Name → Field
+    HeardField after head datagram reply activates =
+        next_meter old number after (old.sent ++ replies (to_meter head number datagram) reply) (old.activations ++ activated number activates after.state.meter)
+
+    served : (before after : Daemon) (from : SocketAddr) (datagram : List ℕ) (reply : Option (List ℕ)) (activates : Option Name) (head : ℕ) → old.meters number ≡ Some before → Has before before.state.meter
+        → IsServed before datagram reply activates after → Contains old.sent (to_meter head number datagram) → Follows w (HeardField after head datagram reply activates)
+    unfolding HeardField
+    served before after from datagram reply activates head there has is came =
+        let d : Datagram = to_meter head number datagram in
+        let at = number_of old.sent d came in
+        let m : Meter = after.state.meter in
+        let new : World = changed m (w.sent ++ replies d reply) (w.activations ++ activated number activates m) in
+        record {
+          events = deliver at.0 ∷ [];
+          world = new;
+          run = (
+            new,
+            (
+              d,
+              ap (λ (sent : List Datagram). slice_get sent at.0) s.sent ∙ at.1,
+              record {
+                before = before.state.meter;
+                after = m;
+                reply = reply;
+                name = activates;
+                there = meter_of old w number before s there;
+                handles = faultless_law before.state after.state datagram reply activates has.honest has.sound is.answers.handles;
+                new_is = refl;
+              },
+            ),
+            refl,
+          );
+          simulates = becomes after m (old.sent ++ replies d reply) (w.sent ++ replies d reply) (old.activations ++ activated number activates m) (w.activations ++ activated number activates m) refl
+              (ap (λ sent. sent ++ replies d reply) s.sent) (ap (λ made. made ++ activated number activates m) s.activations);
+        }
+
+    -- nothing is sent and nothing switched to
+    silent : (after : Daemon) (head : ℕ) (datagram : List ℕ) → ((sent : List Datagram) (activations : List Activation) → w.sent ≡ sent → w.activations ≡ activations → Follows w (next_meter old number after sent activations))
+        → Follows w (HeardField after head datagram None None)
+    unfolding HeardField
+    silent after head datagram goes = goes (old.sent ++ []) (old.activations ++ []) (s.sent ∙ sym (append-nil old.sent)) (s.activations ∙ sym (append-nil old.activations))
+
+    hears : (what : Heard) (before middle after : Daemon) (from : SocketAddr) (datagram : List ℕ) (head : ℕ) (address : ℕ → SocketAddr) → old.meters number ≡ Some before → Has before before.state.meter
+        → Hears before from datagram what middle → GoesOnAfter what middle after → (MayAsk before.heads from → WasSent address old number head from datagram)
+        → Follows w (HeardField after head datagram (reply_of what) (activated_by what)) × Has after after.state.meter
+    hears (heard.Handled h) before middle after from datagram head address there has (may, is) same came =
+        let P : Daemon → Type 0 = λ d. Follows w (HeardField d head datagram (reply_bytes h.reply) h.activated) × Has d d.state.meter in
+        subst P (sym same) (
+          served before middle from datagram (reply_bytes h.reply) h.activated head there has is (came may).sent,
+          record { meter_is = refl; honest = is.answers.follows.honesty ∙ has.honest; sound = is.answers.follows.soundness has.sound },
+        )
+    hears heard.Stranger before middle after from datagram head address there has (not, same) t came =
+        let state : middle.state ≡ before.state = ap (λ (d : Daemon). d.state) same in
+        let P : State → Type 0 = λ x. Turns x after.state in
+        let made : Turns before.state after.state = subst P state t.turns in (
+          silent after head datagram (λ sent activations a b. turns turn_law before after sent activations there has.honest made a b),
+          record { meter_is = refl; honest = made.follows.honesty ∙ has.honest; sound = made.follows.soundness has.sound },
+        )
+    hears heard.OutOfMemory before middle after from datagram head address there has (may, wants, same) equal came =
+        let state : after.state ≡ before.state = ap (λ (d : Daemon). d.state) (equal ∙ same) in
+        let H : State → Type 0 = λ x. Has (record after { state = x }) x.meter in (
+          silent after head datagram (λ sent activations a b. stays before after sent activations there (ap (λ (x : State). x.meter) state) a b),
+          subst H (sym state) (record { meter_is = refl; honest = has.honest; sound = has.sound }),
+        )
+
+    heard_at : (address : ℕ → SocketAddr) (new : Field) → IsSound old → HearsAt address old number new → Goes w new
+    unfolding HeardField
+    heard_at address new sound h =
+        let x = h.hears in
+        let went = hears x.what h.before x.middle h.after x.from x.datagram h.head address h.there (sound.meters number h.before h.there) x.hears x.goes_on h.came in
+        let P : Option Name → Type 0 = λ activates. Follows w (HeardField h.after h.head x.datagram (reply_of x.what) activates) in
+        let G : Field → Type 0 = λ f. Goes w f in
+        subst G (sym h.new_is) (record {
+          follows = subst P (sym x.activates) went.0;
+          sound = meter_sound old number h.after (old.sent ++ replies (to_meter h.head number x.datagram) (reply_of x.what)) (old.activations ++ activated number h.activates h.after.state.meter) sound went.1;
+        })
+
+  turned_at : TurnFaultIsStop → (new : Field) → IsSound old → TurnsAt old number new → Goes w new
+  turned_at law new sound t =
+      let has = sound.meters number t.before t.there in
+      let made = t.turns.turns in
+      let G : Field → Type 0 = λ f. Goes w f in
+      subst G (sym t.new_is) (record {
+        follows = turns law t.before t.after old.sent old.activations t.there has.honest made s.sent s.activations;
+        sound = meter_sound old number t.after old.sent old.activations sound (record { meter_is = refl; honest = made.follows.honesty ∙ has.honest; sound = made.follows.soundness has.sound });
+      })
+
+  rested_at : TurnFaultIsStop → (new : Field) → IsSound old → IsKilledAt old number new → Goes w new
+  rested_at law new sound k =
+      let G : Field → Type 0 = λ f. Goes w f in
+      subst G (sym k.new_is) (record {
+        follows = killed_at law k.before k.left k.after k.there k.leaves k.again;
+        sound = meter_sound old number k.after old.sent old.activations sound (itself k.after (restarted k.left) k.again);
+      })
+
+  killed_in : StopAfterIsStop → (address : ℕ → SocketAddr) (new : Field) → IsSound old → IsKilledIn address old number new → Goes w new
+  killed_in law address new sound k =
+      let d : Datagram = to_meter k.head number k.datagram in
+      let at = number_of old.sent d k.came.sent in
+      let more : List Activation = w.activations ++ activated number k.activates k.left in
+      let made : World = changed (restarted k.left) w.sent more in
+      let G : Field → Type 0 = λ f. Goes w f in
+      subst G (sym k.new_is) (record {
+        follows = record {
+          events = stop at.0 k.calls k.torn ∷ [];
+          world = made;
+          run = (
+            made,
+            (
+              d,
+              ap (λ (sent : List Datagram). slice_get sent at.0) s.sent ∙ at.1,
+              refl,
+              record {
+                before = k.before.state.meter;
+                after = k.left;
+                name = k.activates;
+                there = meter_of old w number k.before s k.there;
+                stops = law k.calls k.torn k.before.state.meter k.left k.datagram k.activates k.stops;
+                new_is = refl;
+              },
+            ),
+            refl,
+          );
+          simulates = becomes k.after (restarted k.left) old.sent w.sent (old.activations ++ activated number k.activates k.left) more k.again.meter_is s.sent
+              (ap (λ xs. xs ++ activated number k.activates k.left) s.activations);
+        };
+        sound = meter_sound old number k.after old.sent (old.activations ++ activated number k.activates k.left) sound (itself k.after (restarted k.left) k.again);
+      })
+
+module _ (faultless_law : Faultless) (turn_law : TurnFaultIsStop) (stop_law : StopAfterIsStop) (address : ℕ → SocketAddr) (old new : Field) (w : World) (number : ℕ) (s : Simulates old w) (sound : IsSound old) where
+  pub round_goes : TurnsAt old number new ⊎ HearsAt address old number new → Goes w new
+  round_goes (inl t) = turned_at old w number s turn_law new sound t
+  round_goes (inr h) = heard_at old w number s faultless_law turn_law address new sound h
+
+  pub kill_goes : IsKilledAt old number new ⊎ IsKilledIn address old number new → Goes w new
+  kill_goes (inl k) = rested_at old w number s turn_law new sound k
+  kill_goes (inr k) = killed_in old w number s stop_law address new sound k

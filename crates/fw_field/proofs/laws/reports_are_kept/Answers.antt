@@ -1,0 +1,5 @@
+use Rattle.fw_field.proofs.Courses.{reports_are_kept}
+use Rattle.fw_field.proofs.laws.reports_are_kept.Goals as goal
+
+pub returns : goal.returns
+returns c = reports_are_kept c.faultless.ensures c.turn_fault_is_stop.ensures c.stop_after_is_stop.ensures c.done_by_claim.ensures c.state_steps_as_world.ensures

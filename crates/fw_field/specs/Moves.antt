@@ -1,0 +1,188 @@
+-- Public vocabulary: what may happen in a field, one move at a time. The one premise on the network is that it makes no datagrams up: what
+-- comes from an address that a daemon heeds was sent there, to it.
+use Rattle.std.specs.Prelude.{◌≡◌, ◌⊎◌, ℕ, Bool, true, List, [], ◌∷◌, ◌++◌, Option, Some, None, Contains}
+use Rattle.std.specs.declared.net.socket_addr.SocketAddr.{SocketAddr}
+use Rattle.fw_names.specs.Name.{Campaign, Name, IsOpened}
+use Rattle.fw_image.specs.Meter.{Meter, restarted}
+use Rattle.fw_image.specs.Step.{Turn}
+use Rattle.fw_meter.specs.Stopping.{StopsAfter}
+use Rattle.fw_book.specs.Changes.{opening_refusal, cancel_refusal}
+use Rattle.fw_book.specs.Contents.{Contents}
+use Rattle.fw_head.specs.Head.{BeginsWith, Head, IsHead, opened_head, cancelled_head}
+use Rattle.fw_daemon.specs.Acts.{Act}
+use Rattle.fw_daemon.specs.Daemon.{Daemon, MayAsk, TakesTurn}
+use Rattle.fw_daemon.specs.Rounds.{IsExchange, reply_of}
+use Rattle.fw_rollout.specs.Daemon.{new_leader}
+use Rattle.fw_rollout.specs.Leading.{Leader, Step, hears, idles, ticks, sends, saves, tells, IsListed, Steps}
+use Rattle.fw_rollout.specs.declared.ended.Ended.{Ended}
+use Rattle.fw_world.specs.declared.datagram.Direction.TheVariants.{ToMeter, ToHead}
+use Rattle.fw_world.specs.Step.{activated, replies}
+use Rattle.fw_world.specs.World.{Datagram}
+use Rattle.fw_field.specs.Field.{Field, Has, with_daemon, with_leader}
+
+pub data Move : Type 0 where
+  -- the daemon of a meter makes a round
+  round : ℕ → Move
+  -- it is killed, and started again
+  kill_meter : ℕ → Move
+  -- a head end makes a step
+  step : ℕ → Step → Move
+  -- a campaign is opened or cancelled by its head end
+  open_campaign : Campaign → ℕ → List ℕ → List ℕ → Move
+  cancel_campaign : Campaign → Move
+  -- a head end is killed, and started again
+  kill_head : ℕ → Move
+
+-- ---- the network
+
+-- these bytes on the link of a head end and a meter, either way
+abbrev pub to_meter : ℕ → ℕ → List ℕ → Datagram
+to_meter head meter bytes = record { head = head; meter = meter; direction = ToMeter; bytes = bytes }
+
+abbrev pub to_head : ℕ → ℕ → List ℕ → Datagram
+to_head head meter bytes = record { head = head; meter = meter; direction = ToHead; bytes = bytes }
+
+-- a datagram from the address of a head end was sent by that head end to the meter
+pub record WasSent (address : ℕ → SocketAddr) (f : Field) (meter head : ℕ) (from : SocketAddr) (datagram : List ℕ) : Type 0 where
+  pub at : from ≡ address head
+  pub sent : Contains f.sent (to_meter head meter datagram)
+
+-- a datagram from the address that a head end has of a meter was sent by that meter to the head end
+abbrev pub WasAnswered : Field → ℕ → Leader → SocketAddr → List ℕ → Type 0
+WasAnswered f head leader from datagram = (meter : ℕ) → IsListed leader meter from → Contains f.sent (to_head head meter datagram)
+
+-- ---- meters
+
+-- nothing came, and the daemon takes a turn
+pub record TurnsAt (old : Field) (number : ℕ) (new : Field) : Type 0 where
+  pub before : Daemon
+  pub after : Daemon
+  pub there : old.meters number ≡ Some before
+  pub turns : TakesTurn before after
+  pub new_is : new ≡ with_daemon old number after
+
+-- A datagram came. It is of the head end `head`, where it came from an address that may ask, and the reply is sent on that link.
+pub record HearsAt (address : ℕ → SocketAddr) (old : Field) (number : ℕ) (new : Field) : Type 0 where
+  pub before : Daemon
+  pub after : Daemon
+  pub acts : List Act
+  pub activates : Option Name
+  pub head : ℕ
+  pub there : old.meters number ≡ Some before
+  pub hears : IsExchange before [] acts activates after
+  pub came : MayAsk before.heads hears.from → WasSent address old number head hears.from hears.datagram
+  pub new_is : new ≡ record (with_daemon old number after) {
+    sent = old.sent ++ replies (to_meter head number hears.datagram) (reply_of hears.what);
+    activations = old.activations ++ activated number activates after.state.meter;
+  }
+
+-- A daemon is killed while it takes a turn, or before or after one. Then it is started again. That may be killed too, before it changed the
+-- store or after, and begun anew.
+pub record IsKilledAt (old : Field) (number : ℕ) (new : Field) : Type 0 where
+  pub before : Daemon
+  pub left : Meter
+  pub after : Daemon
+  pub there : old.meters number ≡ Some before
+  pub leaves : (left ≡ before.state.meter) ⊎ ((faultless : Bool) × Turn true before.state.meter faultless left)
+  pub again : Has after (restarted left)
+  pub new_is : new ≡ with_daemon old number after
+
+-- A daemon is killed while its meter handles a datagram, after some calls of its store, with a byte in what was being written. Its reply
+-- isn't sent. Then it is started again.
+pub record IsKilledIn (address : ℕ → SocketAddr) (old : Field) (number : ℕ) (new : Field) : Type 0 where
+  pub before : Daemon
+  pub from : SocketAddr
+  pub datagram : List ℕ
+  pub head : ℕ
+  pub calls : ℕ
+  pub torn : ℕ
+  pub left : Meter
+  pub activates : Option Name
+  pub after : Daemon
+  pub there : old.meters number ≡ Some before
+  pub may_ask : MayAsk before.heads from
+  pub came : WasSent address old number head from datagram
+  pub stops : StopsAfter calls torn before.state.meter datagram activates left
+  pub again : Has after (restarted left)
+  pub new_is : new ≡ record (with_daemon old number after) { activations = old.activations ++ activated number activates left }
+
+-- ---- head ends
+
+-- what comes to a head end comes from the network
+abbrev pub Comes : Field → ℕ → Leader → Step → Type 0
+Comes f head leader (hears from datagram) = WasAnswered f head leader from datagram
+Comes f head leader made = Unit {0}
+
+-- what it sends goes on the link of the meter of which it has that address
+abbrev pub GoesOut : ℕ → Leader → Step → List Datagram → Type 0
+GoesOut head leader (sends to bytes) out = (meter : ℕ) × IsListed leader meter to × (out ≡ to_meter head meter bytes ∷ [])
+GoesOut head leader made out = out ≡ []
+
+-- what it reports
+abbrev pub told_by : Step → List Ended
+told_by (tells ended) = ended ∷ []
+told_by made = []
+
+-- a head end makes a step; its live rows are those of its book, as every head end has them
+pub record StepsAt (old : Field) (number : ℕ) (made : Step) (new : Field) : Type 0 where
+  pub before : Leader
+  pub after : Leader
+  pub out : List Datagram
+  pub there : old.heads number ≡ Some before
+  pub is_head : IsHead before.head
+  pub steps : Steps before made after
+  pub came : Comes old number before made
+  pub goes_out : GoesOut number before made out
+  pub new_is : new ≡ record (with_leader old number after) { sent = old.sent ++ out; told = old.told ++ told_by made }
+
+-- A head end is led anew with this head end in memory, and its book on the device. Which meters are listed may change.
+abbrev pub IsLedAnew : Leader → Head → Type 0
+IsLedAnew leader head = leader ≡ new_leader leader.meters head head.book
+
+-- A head end opens a campaign, which nothing refuses, and has it on the device before anything of it is sent. Where that was killed, the
+-- device has the campaign, and it is an opening before a kill, or has not, and it is a kill alone.
+pub record OpensAt (old : Field) (campaign : Campaign) (release : ℕ) (image meters : List ℕ) (new : Field) : Type 0 where
+  pub before : Leader
+  pub after : Leader
+  pub is_opened : IsOpened campaign
+  pub there : old.heads campaign.head ≡ Some before
+  pub admitted : opening_refusal before.head.book campaign image meters ≡ None
+  pub led : IsLedAnew after (opened_head before.head campaign.serial release image meters)
+  pub new_is : new ≡ with_leader old campaign.head after
+
+-- so it is with a cancelling
+pub record CancelsAt (old : Field) (campaign : Campaign) (new : Field) : Type 0 where
+  pub before : Leader
+  pub after : Leader
+  pub there : old.heads campaign.head ≡ Some before
+  pub admitted : cancel_refusal before.head.book campaign ≡ None
+  pub led : IsLedAnew after (cancelled_head before.head campaign.serial)
+  pub new_is : new ≡ with_leader old campaign.head after
+
+-- A head end is killed, and started again with the book that is read back from the device. That is the last one that was synced, or, where
+-- it was killed while it put the marks that wait on the device, the one in memory.
+pub record HeadIsKilledAt (old : Field) (number : ℕ) (new : Field) : Type 0 where
+  pub before : Leader
+  pub after : Leader
+  pub book : Contents
+  pub width : ℕ
+  pub there : old.heads number ≡ Some before
+  pub leaves : (book ≡ before.synced) ⊎ (book ≡ before.head.book)
+  pub begins : BeginsWith book width after.head
+  pub led : IsLedAnew after after.head
+  pub new_is : new ≡ with_leader old number after
+
+-- ---- moves
+
+abbrev pub Goes : (ℕ → SocketAddr) → Field → Move → Field → Type 0
+Goes address old (round number) new = TurnsAt old number new ⊎ HearsAt address old number new
+Goes address old (kill_meter number) new = IsKilledAt old number new ⊎ IsKilledIn address old number new
+Goes address old (step number made) new = StepsAt old number made new
+Goes address old (open_campaign campaign release image meters) new = OpensAt old campaign release image meters new
+Goes address old (cancel_campaign campaign) new = CancelsAt old campaign new
+Goes address old (kill_head number) new = HeadIsKilledAt old number new
+
+-- A list of moves, each from the field that the one before it led to. Head ends have these addresses.
+abbrev pub Course : (ℕ → SocketAddr) → Field → List Move → Field → Type 0
+Course address old [] new = new ≡ old
+Course address old (move ∷ moves) new = (next : Field) × Goes address old move next × Course address next moves new
