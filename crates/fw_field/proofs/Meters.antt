@@ -9,14 +9,12 @@ use Rattle.fw_image.specs.State.{State, Turns}
 use Rattle.fw_image.specs.Step.{Turn}
 use Rattle.fw_meter.specs.Handling.{Handles, reply_bytes}
 use Rattle.fw_meter.specs.Laws.{Faultless, StopAfterIsStop, TurnFaultIsStop}
-use Rattle.fw_daemon.specs.Daemon.{Daemon, Hears, IsServed, MayAsk, TakesTurn}
-use Rattle.fw_daemon.specs.Rounds.{GoesOnAfter, activated_by, reply_of}
-use Rattle.fw_daemon.specs.declared.daemon.Heard.{Heard}
-use Rattle.fw_daemon.specs.declared.daemon.Heard.TheVariants as heard
+use Rattle.fw_daemon.specs.Daemon.{Daemon, IsServed, MayAsk, TakesTurn}
+use Rattle.fw_daemon.specs.Serving.{IsStrange, IsUnserved}
 use Rattle.fw_world.specs.World.{Activation, Datagram, World, with_meter}
 use Rattle.fw_world.specs.Step.{Event, deliver, restart_meter, stop, stop_restart, turn, activated, replies}
 use Rattle.fw_field.specs.Field.{Field, Has}
-use Rattle.fw_field.specs.Moves.{HearsAt, IsKilledAt, IsKilledIn, TurnsAt, WasSent, to_meter}
+use Rattle.fw_field.specs.Moves.{HearsAt, IsKilledAt, IsKilledIn, TakesAs, TurnsAt, WasSent, to_meter}
 use Rattle.fw_field.proofs.Maps.{itself as number_itself, number_of}
 use Rattle.fw_field.proofs.Following.{Follows, Goes, IsSound, Simulates, meter_moves, meter_of, meter_sound, next_meter}
 
@@ -172,39 +170,43 @@ module _ (old : Field) (w : World) (number : ℕ) (s : Simulates old w) where
     unfolding HeardField
     silent after head datagram goes = goes (old.sent ++ []) (old.activations ++ []) (s.sent ∙ sym (append-nil old.sent)) (s.activations ∙ sym (append-nil old.activations))
 
-    hears : (what : Heard) (before middle after : Daemon) (from : SocketAddr) (datagram : List ℕ) (head : ℕ) (address : ℕ → SocketAddr) → old.meters number ≡ Some before → Has before before.state.meter
-        → Hears before from datagram what middle → GoesOnAfter what middle after → (MayAsk before.heads from → WasSent address old number head from datagram)
-        → Follows w (HeardField after head datagram (reply_of what) (activated_by what)) × Has after after.state.meter
-    hears (heard.Handled h) before middle after from datagram head address there has (may, is) same came =
-        let P : Daemon → Type 0 = λ d. Follows w (HeardField d head datagram (reply_bytes h.reply) h.activated) × Has d d.state.meter in
-        subst P (sym same) (
-          served before middle from datagram (reply_bytes h.reply) h.activated head there has is (came may).sent,
-          record { meter_is = refl; honest = is.answers.follows.honesty ∙ has.honest; sound = is.answers.follows.soundness has.sound },
-        )
-    hears heard.Stranger before middle after from datagram head address there has (not, same) t came =
-        let state : middle.state ≡ before.state = ap (λ (d : Daemon). d.state) same in
-        let P : State → Type 0 = λ x. Turns x after.state in
-        let made : Turns before.state after.state = subst P state t.turns in (
-          silent after head datagram (λ sent activations a b. turns turn_law before after sent activations there has.honest made a b),
-          record { meter_is = refl; honest = made.follows.honesty ∙ has.honest; sound = made.follows.soundness has.sound },
-        )
-    hears heard.OutOfMemory before middle after from datagram head address there has (may, wants, same) equal came =
-        let state : after.state ≡ before.state = ap (λ (d : Daemon). d.state) (equal ∙ same) in
+    -- what is not served
+    others : (before after : Daemon) (from : SocketAddr) (datagram : List ℕ) (reply : Option (List ℕ)) (head : ℕ) → old.meters number ≡ Some before → Has before before.state.meter
+        → IsUnserved before from datagram reply after ⊎ IsStrange before from reply after → Follows w (HeardField after head datagram reply None) × Has after after.state.meter
+    others before after from datagram reply head there has (inl u) =
+        let state : after.state ≡ before.state = ap (λ (d : Daemon). d.state) u.counted in
+        let F : Option (List ℕ) → Type 0 = λ r. Follows w (HeardField after head datagram r None) in
         let H : State → Type 0 = λ x. Has (record after { state = x }) x.meter in (
-          silent after head datagram (λ sent activations a b. stays before after sent activations there (ap (λ (x : State). x.meter) state) a b),
+          subst F (sym u.silent) (silent after head datagram (λ sent activations a b. stays before after sent activations there (ap (λ (x : State). x.meter) state) a b)),
           subst H (sym state) (record { meter_is = refl; honest = has.honest; sound = has.sound }),
         )
+    others before after from datagram reply head there has (inr x) =
+        let made : Turns before.state after.state = x.goes_on.turns in
+        let F : Option (List ℕ) → Type 0 = λ r. Follows w (HeardField after head datagram r None) in (
+          subst F (sym x.silent) (silent after head datagram (λ sent activations a b. turns turn_law before after sent activations there has.honest made a b)),
+          record { meter_is = refl; honest = made.follows.honesty ∙ has.honest; sound = made.follows.soundness has.sound },
+        )
+
+    takes_goes : (before after : Daemon) (from : SocketAddr) (datagram : List ℕ) (reply : Option (List ℕ)) (activates : Option Name) (head : ℕ) (address : ℕ → SocketAddr) → old.meters number ≡ Some before
+        → Has before before.state.meter → TakesAs before from datagram reply activates after → (MayAsk before.heads from → WasSent address old number head from datagram)
+        → Follows w (HeardField after head datagram reply activates) × Has after after.state.meter
+    takes_goes before after from datagram reply activates head address there has (inl (may, is)) came = (
+      served before after from datagram reply activates head there has is (came may).sent,
+      record { meter_is = refl; honest = is.answers.follows.honesty ∙ has.honest; sound = is.answers.follows.soundness has.sound },
+    )
+    takes_goes before after from datagram reply activates head address there has (inr (none, other)) came =
+        let F : Option Name → Type 0 = λ n. Follows w (HeardField after head datagram reply n) in
+        let went = others before after from datagram reply head there has other in
+        (subst F (sym none) went.0, went.1)
 
     heard_at : (address : ℕ → SocketAddr) (new : Field) → IsSound old → HearsAt address old number new → Goes w new
     unfolding HeardField
     heard_at address new sound h =
-        let x = h.hears in
-        let went = hears x.what h.before x.middle h.after x.from x.datagram h.head address h.there (sound.meters number h.before h.there) x.hears x.goes_on h.came in
-        let P : Option Name → Type 0 = λ activates. Follows w (HeardField h.after h.head x.datagram (reply_of x.what) activates) in
+        let went = takes_goes h.before h.after h.from h.datagram h.reply h.activates h.head address h.there (sound.meters number h.before h.there) h.takes h.came in
         let G : Field → Type 0 = λ f. Goes w f in
         subst G (sym h.new_is) (record {
-          follows = subst P (sym x.activates) went.0;
-          sound = meter_sound old number h.after (old.sent ++ replies (to_meter h.head number x.datagram) (reply_of x.what)) (old.activations ++ activated number h.activates h.after.state.meter) sound went.1;
+          follows = went.0;
+          sound = meter_sound old number h.after (old.sent ++ replies (to_meter h.head number h.datagram) h.reply) (old.activations ++ activated number h.activates h.after.state.meter) sound went.1;
         })
 
   turned_at : TurnFaultIsStop → (new : Field) → IsSound old → TurnsAt old number new → Goes w new

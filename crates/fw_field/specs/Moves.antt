@@ -9,9 +9,8 @@ use Rattle.fw_meter.specs.Stopping.{StopsAfter}
 use Rattle.fw_book.specs.Changes.{opening_refusal, cancel_refusal}
 use Rattle.fw_book.specs.Contents.{Contents}
 use Rattle.fw_head.specs.Head.{BeginsWith, Head, IsHead, opened_head, cancelled_head}
-use Rattle.fw_daemon.specs.Acts.{Act}
-use Rattle.fw_daemon.specs.Daemon.{Daemon, MayAsk, TakesTurn}
-use Rattle.fw_daemon.specs.Rounds.{IsExchange, reply_of}
+use Rattle.fw_daemon.specs.Daemon.{Daemon, IsServed, MayAsk, TakesTurn}
+use Rattle.fw_daemon.specs.Serving.{IsStrange, IsUnserved}
 use Rattle.fw_rollout.specs.Daemon.{new_leader}
 use Rattle.fw_rollout.specs.Leading.{Leader, Step, hears, idles, ticks, sends, saves, tells, IsListed, Steps}
 use Rattle.fw_rollout.specs.declared.ended.Ended.{Ended}
@@ -61,18 +60,26 @@ pub record TurnsAt (old : Field) (number : ℕ) (new : Field) : Type 0 where
   pub turns : TakesTurn before after
   pub new_is : new ≡ with_daemon old number after
 
--- A datagram came. It is of the head end `head`, where it came from an address that may ask, and the reply is sent on that link.
+-- a daemon takes a datagram from an address, with the name of the image that its meter switched to by that
+abbrev pub TakesAs : Daemon → SocketAddr → List ℕ → Option (List ℕ) → Option Name → Daemon → Type 0
+TakesAs old from datagram reply activates new =
+    (MayAsk old.heads from × IsServed old datagram reply activates new)
+    ⊎ ((activates ≡ None) × (IsUnserved old from datagram reply new ⊎ IsStrange old from reply new))
+
+-- A datagram came. Where it came from an address that may ask, it is of the head end `head`, and the reply is sent on that link.
 pub record HearsAt (address : ℕ → SocketAddr) (old : Field) (number : ℕ) (new : Field) : Type 0 where
   pub before : Daemon
   pub after : Daemon
-  pub acts : List Act
+  pub from : SocketAddr
+  pub datagram : List ℕ
+  pub reply : Option (List ℕ)
   pub activates : Option Name
   pub head : ℕ
   pub there : old.meters number ≡ Some before
-  pub hears : IsExchange before [] acts activates after
-  pub came : MayAsk before.heads hears.from → WasSent address old number head hears.from hears.datagram
+  pub takes : TakesAs before from datagram reply activates after
+  pub came : MayAsk before.heads from → WasSent address old number head from datagram
   pub new_is : new ≡ record (with_daemon old number after) {
-    sent = old.sent ++ replies (to_meter head number hears.datagram) (reply_of hears.what);
+    sent = old.sent ++ replies (to_meter head number datagram) reply;
     activations = old.activations ++ activated number activates after.state.meter;
   }
 
