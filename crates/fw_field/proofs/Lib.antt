@@ -5,3 +5,5 @@ mod Following
 mod Meters
 mod Heads
 mod Courses
+mod Serving
+mod Leading

@@ -10,7 +10,15 @@ ghost use Rattle.fw_world.specs.Headline.{
   ReleasesNeverFall,
 };
 ghost use Rattle.fw_field.specs.Field.{world_of};
-ghost use Rattle.fw_field.specs.Laws.{AfterEachCourse, IsRun, ReportsAreKept, ReportsAreTrue};
+ghost use Rattle.fw_field.specs.Laws.{
+  AfterEachCourse,
+  IsRun,
+  ReportsAreKept,
+  ReportsAreTrue,
+  RoundsAreTaken,
+  ServingIsMoves,
+  LeadingIsMoves,
+};
 
 /// Whatever daemons did, and however often they were killed, is a run of the world, which leads to the world that the field is: with the
 /// meters as they are, what the books in memory offer, and the rows that are done there. Where a head end was started again with a book
@@ -53,3 +61,19 @@ pub fn every_course_is_safe()
     reports_are_kept();
     fw_world::laws::every_run_is_safe();
 }
+
+/// A round of the daemon of a meter is a turn, or a datagram that was taken: what a move of a field is made of.
+pub fn rounds_are_taken()
+    ensures { RoundsAreTaken }
+{}
+
+/// Whatever the daemon of a meter does that is in a field is moves of it, where each datagram that it heeded was sent to it there.
+pub fn serving_is_moves()
+    ensures { ServingIsMoves }
+{}
+
+/// Whatever a head end does that is in a field is moves of it, where each datagram that it heard as that of a meter was sent to it by that
+/// meter there.
+pub fn leading_is_moves()
+    ensures { LeadingIsMoves }
+{}

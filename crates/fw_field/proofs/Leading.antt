@@ -1,0 +1,127 @@
+-- What a head end does, as moves of a field.
+use Rattle.std.proofs.Common.{◌≡◌, ℕ, nat_eq, ◌⊎◌, inl, inr, List, [], ◌∷◌, ◌++◌, map, Option, Some, None, All, Contains, refl, sym, ap, subst, ◌∙◌}
+use Rattle.std.proofs.lemmas.Bool.{cond-true}
+use Rattle.std.proofs.lemmas.List.Elements.{All-nil, All-cons, All-head, All-tail, Contains-append_left}
+use Rattle.std.specs.declared.net.socket_addr.SocketAddr.{SocketAddr}
+use Rattle.fw_head.specs.Head.{IsHead, sends_to}
+use Rattle.fw_rollout.specs.Leading.{Leader, Leading, Step, hears, idles, ticks, sends, saves, tells, IsListed, Steps}
+use Rattle.fw_rollout.specs.declared.link.Listed.{Listed}
+use Rattle.fw_world.specs.World.{Datagram}
+use Rattle.fw_field.specs.Field.{Field, with_leader}
+use Rattle.fw_field.specs.Moves.{Move, step, Comes, Course, GoesOut, WasAnswered, to_head, to_meter, told_by}
+use Rattle.fw_field.specs.Laws.{CameToHead, LeadingIsMoves}
+use Rattle.fw_field.proofs.Maps.{itself}
+use Rattle.fw_field.proofs.Serving.{course_on, first_is, later}
+
+abbrev Goes_to : Leader → SocketAddr × List ℕ → Type 0
+Goes_to start going = (meter : ℕ) × IsListed start meter going.0
+
+listed_all : (start : Leader) (meter : ℕ) (to : SocketAddr) → IsListed start meter to → (xs : List (List ℕ)) → All (Goes_to start) (map (λ (bytes : List ℕ). (to, bytes)) xs)
+listed_all start meter to listed [] = All-nil (Goes_to start)
+listed_all start meter to listed (x ∷ xs) = All-cons (Goes_to start) (to, x) (map (λ (bytes : List ℕ). (to, bytes)) xs) (meter, listed) (listed_all start meter to listed xs)
+
+relisted : (a b : Leader) (meter : ℕ) (to : SocketAddr) → b.meters ≡ a.meters → IsListed a meter to → IsListed b meter to
+relisted a b meter to same listed = subst (λ (xs : List Listed). Contains xs (record { meter = meter; address = to })) (sym same) listed
+
+-- what a step sends, and what is about to be sent after it
+record Out (number : ℕ) (start before now : Leader) (made : Step) : Type 0 where
+  pub out : List Datagram
+  pub goes_out : GoesOut number before made out
+  pub going : All (Goes_to start) now.going
+  pub meters : now.meters ≡ before.meters
+
+module _ (number : ℕ) (start before now : Leader) (same : before.meters ≡ start.meters) (going : All (Goes_to start) before.going) where
+  stay : now.going ≡ before.going → All (Goes_to start) now.going
+  stay e = subst (λ (xs : List (SocketAddr × List ℕ)). All (Goes_to start) xs) (sym e) going
+
+  out_of : (made : Step) → Steps before made now → Out number start before now made
+  out_of (hears from datagram) (inl h) = record { out = []; goes_out = refl; going = stay (ap (λ (l : Leader). l.going) h.others); meters = ap (λ (l : Leader). l.meters) h.others }
+  out_of (hears from datagram) (inr (inl h)) = record { out = []; goes_out = refl; going = stay (ap (λ (l : Leader). l.going) h.same); meters = ap (λ (l : Leader). l.meters) h.same }
+  out_of (hears from datagram) (inr (inr h)) = record { out = []; goes_out = refl; going = stay (ap (λ (l : Leader). l.going) h.same); meters = ap (λ (l : Leader). l.meters) h.same }
+  out_of idles e = record { out = []; goes_out = refl; going = stay (ap (λ (l : Leader). l.going) e); meters = ap (λ (l : Leader). l.meters) e }
+  out_of (ticks meter) t = record {
+    out = [];
+    goes_out = refl;
+    going = subst (λ (xs : List (SocketAddr × List ℕ)). All (Goes_to start) xs) (sym (ap (λ (l : Leader). l.going) t.others))
+        (listed_all start meter t.to (relisted before start meter t.to (sym same) t.listed) (sends_to before.head meter));
+    meters = ap (λ (l : Leader). l.meters) t.others;
+  }
+  out_of (sends to bytes) t =
+      let all = subst (λ (xs : List (SocketAddr × List ℕ)). All (Goes_to start) xs) t.next going in
+      let to_it = All-head (Goes_to start) (to, bytes) now.going all in
+      record {
+        out = to_meter number to_it.0 bytes ∷ [];
+        goes_out = (to_it.0, relisted start before to_it.0 to same to_it.1, refl);
+        going = All-tail (Goes_to start) (to, bytes) now.going all;
+        meters = ap (λ (l : Leader). l.meters) t.others;
+      }
+  out_of saves e = record { out = []; goes_out = refl; going = stay (ap (λ (l : Leader). l.going) e); meters = ap (λ (l : Leader). l.meters) e }
+  out_of (tells ended) t = record { out = []; goes_out = refl; going = stay (ap (λ (l : Leader). l.going) t.others); meters = ap (λ (l : Leader). l.meters) t.others }
+
+record Led (address : ℕ → SocketAddr) (f : Field) (number : ℕ) (start now : Leader) : Type 0 where
+  pub moves : List Move
+  pub new : Field
+  pub course : Course address f moves new
+  pub there : new.heads number ≡ Some now
+  pub stays : (d : Datagram) → Contains f.sent d → Contains new.sent d
+  pub meters : now.meters ≡ start.meters
+  pub going : All (Goes_to start) now.going
+
+module _ (address : ℕ → SocketAddr) (f : Field) (number : ℕ) (start : Leader) (heads : (done : List Step) (mid : Leader) → Leading start done mid → IsHead mid.head) where
+  from_net : (g : Field) (before : Leader) (made : Step) → before.meters ≡ start.meters → ((d : Datagram) → Contains f.sent d → Contains g.sent d)
+      → ((from : SocketAddr) (datagram : List ℕ) → made ≡ hears from datagram → WasAnswered f number start from datagram) → Comes g number before made
+  from_net g before (hears from datagram) same more was =
+      λ meter listed. more (to_head number meter datagram) (was from datagram refl meter (relisted before start meter from (sym same) listed))
+  from_net g before idles same more was = tt
+  from_net g before (ticks meter) same more was = tt
+  from_net g before (sends to bytes) same more was = tt
+  from_net g before saves same more was = tt
+  from_net g before (tells ended) same more was = tt
+
+  goes_on : (before now : Leader) (made : Step) → Led address f number start before → IsHead before.head → Steps before made now
+      → ((from : SocketAddr) (datagram : List ℕ) → made ≡ hears from datagram → WasAnswered f number start from datagram) → Led address f number start now
+  goes_on before now made l is steps was =
+      let o = out_of number start before now l.meters l.going made steps in
+      let new : Field = record (with_leader l.new number now) { sent = l.new.sent ++ o.out; told = l.new.told ++ told_by made } in
+      record {
+        moves = l.moves ++ step number made ∷ [];
+        new = new;
+        course = course_on address f l.new new l.moves (step number made) l.course (record {
+          before = before;
+          after = now;
+          out = o.out;
+          there = l.there;
+          is_head = is;
+          steps = steps;
+          came = from_net l.new before made l.meters l.stays was;
+          goes_out = o.goes_out;
+          new_is = refl;
+        });
+        there = cond-true (nat_eq number number) (Some now) (l.new.heads number) (itself number);
+        stays = λ d has. Contains-append_left l.new.sent o.out d (l.stays d has);
+        meters = o.meters ∙ l.meters;
+        going = o.going;
+      }
+
+  leads : f.heads number ≡ Some start → start.going ≡ [] → (now : Leader) (steps : List Step) → Leading start steps now → CameToHead f number start steps → Led address f number start now
+  leads there rests now [] same from_it =
+      let G : List (SocketAddr × List ℕ) → Type 0 = λ xs. All (Goes_to start) xs in
+      record {
+        moves = [];
+        new = f;
+        course = refl;
+        there = there ∙ ap (λ (l : Leader). (let o : Option Leader = Some l in o)) (sym same);
+        stays = λ d has. has;
+        meters = ap (λ (l : Leader). l.meters) same;
+        going = subst G (sym (ap (λ (l : Leader). l.going) same ∙ rests)) (All-nil (Goes_to start));
+      }
+  leads there rests now (made ∷ done) (before, led, steps) from_it =
+      goes_on before now made
+      (leads there rests before done led (λ from datagram has. from_it from datagram (later made (hears from datagram) done has)))
+      (heads done before led) steps
+      (λ from datagram same. from_it from datagram (subst (λ (x : Step). Contains (x ∷ done) (hears from datagram)) (sym same) (first_is (hears from datagram) done)))
+
+pub leading_is_moves : LeadingIsMoves
+leading_is_moves address f number start now steps there rests led heads from_it =
+    let r = leads address f number start heads there rests now steps led from_it in
+    (r.moves, r.new, r.course, r.there)
