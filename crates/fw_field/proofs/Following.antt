@@ -1,5 +1,5 @@
 -- A world that a field is, except that it may have marks which the books in memory lack, and what holds of each field.
-use Rattle.std.proofs.Common.{◌≡◌, ℕ, nat_eq, Bool, true, false, cond, ◌⊎◌, inl, inr, ⊎_elim, List, [], ◌∷◌, ◌++◌, Option, Some, None, option_map, Contains, refl, sym, ap, subst, ◌∙◌, eqb-true}
+use Rattle.std.proofs.Common.{◌≡◌, ℕ, nat_eq, Bool, true, false, cond, ◌⊎◌, ⊎_elim, List, Option, Some, option_map, Contains, refl, sym, ap, subst, ◌∙◌, eqb-true}
 use Rattle.std.proofs.lemmas.Bool.{cond-true}
 use Rattle.fw_names.specs.Name.{Campaign}
 use Rattle.fw_image.specs.Meter.{Meter}
@@ -10,9 +10,9 @@ use Rattle.fw_rollout.specs.Leading.{Leader}
 use Rattle.fw_rollout.specs.declared.ended.Ended.{Ended}
 use Rattle.fw_world.specs.State.{is_done}
 use Rattle.fw_world.specs.Step.{Event, Run}
-use Rattle.fw_world.specs.World.{Activation, Datagram, World, put}
+use Rattle.fw_world.specs.World.{Activation, Datagram, World}
 use Rattle.fw_field.specs.Field.{Field, Has, is_saved, offered_by, done_by, saved_by, with_daemon, with_leader, world_of}
-use Rattle.fw_field.proofs.Maps.{put_cases, some_is}
+use Rattle.fw_field.proofs.Maps.{put_cases}
 
 pub record Simulates (f : Field) (w : World) : Type 0 where
   pub offered : (c : Campaign) → w.offered c ≡ (world_of f).offered c

@@ -1,5 +1,5 @@
 -- The moves of head ends.
-use Rattle.std.proofs.Common.{◌≡◌, ℕ, nat_eq, Bool, true, false, ◌&&◌, cond, ◌⊎◌, inl, inr, ⊎_elim, List, [], ◌∷◌, ◌++◌, Option, Some, None, option_map, option_and_then, slice_get, All, Contains, refl, sym, ap, subst, ◌∙◌, eqb-true, append-nil}
+use Rattle.std.proofs.Common.{◌≡◌, ℕ, nat_eq, true, false, ◌&&◌, cond, ◌⊎◌, inl, inr, ⊎_elim, List, [], ◌∷◌, ◌++◌, Option, Some, None, option_map, option_and_then, slice_get, Contains, refl, sym, ap, subst, ◌∙◌, eqb-true, append-nil}
 use Rattle.std.specs.Map.{lookup}
 use Rattle.std.proofs.lemmas.Bool.{cases_Bool, cond-false}
 use Rattle.std.proofs.lemmas.List.Elements.{All-nil, All-cons, Contains-push_cases}
@@ -8,28 +8,26 @@ use Rattle.fw_names.specs.Name.{Campaign, IsRelease, name_of}
 use Rattle.fw_client.specs.Ask.{Ask, block_size, first_missing, blocks, status, info, active_name, enable, initiate, block, verify, activate}
 use Rattle.fw_client.specs.State.{invoke_byte}
 use Rattle.fw_book.specs.declared.row.RowState.{RowState}
-use Rattle.fw_book.specs.declared.row.RowState.TheVariants as state
 use Rattle.fw_book.specs.Rows.{state_of}
-use Rattle.fw_book.specs.Contents.{Contents, Offered, image_in, offered_in, state_in}
+use Rattle.fw_book.specs.Contents.{Contents, Offered, image_in, state_in}
 use Rattle.fw_ledger.specs.declared.record.Ending.{Ending}
 use Rattle.fw_ledger.specs.declared.record.Ending.TheVariants.{Done as IsDone}
 use Rattle.fw_head.specs.declared.news.News.{News}
 use Rattle.fw_head.specs.declared.news.RowNews.{RowNews}
 use Rattle.fw_head.specs.declared.news.RowNews.TheVariants as by
 use Rattle.fw_head.specs.Row.{MaySend, Row}
-use Rattle.fw_head.specs.Head.{Head, HeadHears, IsHead, IsOfferedIn, cancelled_head, opened_head, ticked_head, went_on}
+use Rattle.fw_head.specs.Head.{Head, HeadHears, IsHead, IsOfferedIn, cancelled_head, opened_head, went_on}
 use Rattle.fw_head.specs.Laws.{DoneByClaim}
-use Rattle.fw_rollout.specs.Leading.{Leader, Step, hears, idles, ticks, sends, saves, tells, IsListed, Steps, HearsMeter, state_after}
+use Rattle.fw_rollout.specs.Leading.{Leader, Step, hears, idles, ticks, sends, saves, tells, Steps, HearsMeter, state_after}
 use Rattle.fw_rollout.specs.declared.ended.Ended.{Ended}
-use Rattle.fw_world.specs.declared.datagram.Direction.TheVariants.{ToMeter}
 use Rattle.fw_world.specs.Laws.{StateStepsAsWorld}
 use Rattle.fw_world.specs.State.{is_done}
 use Rattle.fw_world.specs.Step as worlds
 use Rattle.fw_world.specs.Step.{Event, MayAsk, Permits, deliver, restart_head, tick}
-use Rattle.fw_world.specs.World.{Datagram, Offers, World, put, same_campaign, with_done, with_offer}
-use Rattle.fw_field.specs.Field.{Field, world_of, with_leader}
+use Rattle.fw_world.specs.World.{Datagram, Offers, World, same_campaign, with_done, with_offer}
+use Rattle.fw_field.specs.Field.{Field}
 use Rattle.fw_field.specs.Moves.{CancelsAt, Comes, GoesOut, HeadIsKilledAt, OpensAt, StepsAt, WasAnswered, to_head, to_meter, told_by}
-use Rattle.fw_field.proofs.Maps.{Done, itself, marked, mark_follows, mark_keeps, none_some, number_of, some_is}
+use Rattle.fw_field.proofs.Maps.{itself, mark_follows, mark_keeps, none_some, number_of}
 use Rattle.fw_field.proofs.Mini.{Marked, Opened, Same, cancelling, hearing, mark_of, marks_in, opening, same_book}
 use Rattle.fw_field.proofs.Following.{Follows, Goes, IsKept, IsSound, Saves, Simulates, done_of, head_moves, head_sound, next_head, offered_of}
 

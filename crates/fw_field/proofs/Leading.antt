@@ -1,5 +1,5 @@
 -- What a head end does, as moves of a field.
-use Rattle.std.proofs.Common.{◌≡◌, ℕ, nat_eq, ◌⊎◌, inl, inr, List, [], ◌∷◌, ◌++◌, map, Option, Some, None, All, Contains, refl, sym, ap, subst, ◌∙◌}
+use Rattle.std.proofs.Common.{◌≡◌, ℕ, nat_eq, inl, inr, List, [], ◌∷◌, ◌++◌, map, Option, Some, All, Contains, refl, sym, ap, subst, ◌∙◌}
 use Rattle.std.proofs.lemmas.Bool.{cond-true}
 use Rattle.std.proofs.lemmas.List.Elements.{All-nil, All-cons, All-head, All-tail, Contains-append_left}
 use Rattle.std.specs.declared.net.socket_addr.SocketAddr.{SocketAddr}
@@ -8,10 +8,10 @@ use Rattle.fw_rollout.specs.Leading.{Leader, Leading, Step, hears, idles, ticks,
 use Rattle.fw_rollout.specs.declared.link.Listed.{Listed}
 use Rattle.fw_world.specs.World.{Datagram}
 use Rattle.fw_field.specs.Field.{Field, with_leader}
-use Rattle.fw_field.specs.Moves.{Move, step, Comes, Course, GoesOut, WasAnswered, to_head, to_meter, told_by}
+use Rattle.fw_field.specs.Moves.{Move, step, Comes, MovesLead, GoesOut, WasAnswered, to_head, to_meter, told_by}
 use Rattle.fw_field.specs.Laws.{CameToHead, LeadingIsMoves}
 use Rattle.fw_field.proofs.Maps.{itself}
-use Rattle.fw_field.proofs.Serving.{course_on, first_is, later}
+use Rattle.fw_field.proofs.Serving.{move_on, first_is, later}
 
 abbrev Goes_to : Leader → SocketAddr × List ℕ → Type 0
 Goes_to start going = (meter : ℕ) × IsListed start meter going.0
@@ -61,7 +61,7 @@ module _ (number : ℕ) (start before now : Leader) (same : before.meters ≡ st
 record Led (address : ℕ → SocketAddr) (f : Field) (number : ℕ) (start now : Leader) : Type 0 where
   pub moves : List Move
   pub new : Field
-  pub course : Course address f moves new
+  pub reaches : MovesLead address f moves new
   pub there : new.heads number ≡ Some now
   pub stays : (d : Datagram) → Contains f.sent d → Contains new.sent d
   pub meters : now.meters ≡ start.meters
@@ -86,7 +86,7 @@ module _ (address : ℕ → SocketAddr) (f : Field) (number : ℕ) (start : Lead
       record {
         moves = l.moves ++ step number made ∷ [];
         new = new;
-        course = course_on address f l.new new l.moves (step number made) l.course (record {
+        reaches = move_on address f l.new new l.moves (step number made) l.reaches (record {
           before = before;
           after = now;
           out = o.out;
@@ -109,7 +109,7 @@ module _ (address : ℕ → SocketAddr) (f : Field) (number : ℕ) (start : Lead
       record {
         moves = [];
         new = f;
-        course = refl;
+        reaches = refl;
         there = there ∙ ap (λ (l : Leader). (let o : Option Leader = Some l in o)) (sym same);
         stays = λ d has. has;
         meters = ap (λ (l : Leader). l.meters) same;
@@ -124,4 +124,4 @@ module _ (address : ℕ → SocketAddr) (f : Field) (number : ℕ) (start : Lead
 pub leading_is_moves : LeadingIsMoves
 leading_is_moves address f number start now steps there rests led heads from_it =
     let r = leads address f number start heads there rests now steps led from_it in
-    (r.moves, r.new, r.course, r.there)
+    (r.moves, r.new, r.reaches, r.there)

@@ -4,6 +4,6 @@ mod Hearing
 mod Following
 mod Meters
 mod Heads
-mod Courses
+mod Runs
 mod Serving
 mod Leading

@@ -1,5 +1,5 @@
 -- The moves of meters.
-use Rattle.std.proofs.Common.{◌≡◌, ℕ, nat_eq, Bool, true, false, cond, ◌⊎◌, inl, inr, List, [], ◌∷◌, ◌++◌, Option, Some, None, IsTrue, slice_get, Contains, refl, sym, ap, subst, ◌∙◌, eqb-true, append-nil}
+use Rattle.std.proofs.Common.{◌≡◌, ℕ, nat_eq, Bool, true, ◌⊎◌, inl, inr, List, [], ◌∷◌, ◌++◌, Option, Some, None, IsTrue, slice_get, Contains, refl, sym, ap, subst, ◌∙◌, eqb-true, append-nil}
 use Rattle.std.proofs.lemmas.Bool.{cond-true, cond-false}
 use Rattle.std.specs.declared.net.socket_addr.SocketAddr.{SocketAddr}
 use Rattle.fw_names.specs.Name.{Name}
@@ -7,12 +7,11 @@ use Rattle.fw_blocks.specs.Cuts.{max_blocks}
 use Rattle.fw_image.specs.Meter.{Meter, Phase, idle, receiving, verifying, sealed, spoilt, switched, reopened, reopened_phase, restarted}
 use Rattle.fw_image.specs.State.{State, Turns}
 use Rattle.fw_image.specs.Step.{Turn}
-use Rattle.fw_meter.specs.Handling.{Handles, reply_bytes}
 use Rattle.fw_meter.specs.Laws.{Faultless, StopAfterIsStop, TurnFaultIsStop}
-use Rattle.fw_daemon.specs.Daemon.{Daemon, IsServed, MayAsk, TakesTurn}
+use Rattle.fw_daemon.specs.Daemon.{Daemon, IsServed, MayAsk}
 use Rattle.fw_daemon.specs.Serving.{IsStrange, IsUnserved}
 use Rattle.fw_world.specs.World.{Activation, Datagram, World, with_meter}
-use Rattle.fw_world.specs.Step.{Event, deliver, restart_meter, stop, stop_restart, turn, activated, replies}
+use Rattle.fw_world.specs.Step.{deliver, restart_meter, stop, stop_restart, turn, activated, replies}
 use Rattle.fw_field.specs.Field.{Field, Has}
 use Rattle.fw_field.specs.Moves.{HearsAt, IsKilledAt, IsKilledIn, TakesAs, TurnsAt, WasSent, to_meter}
 use Rattle.fw_field.proofs.Maps.{itself as number_itself, number_of}

@@ -1,26 +1,23 @@
 -- A world of one head end alone, in which its calls are the events that the world's law knows.
-use Rattle.std.proofs.Common.{◌≡◌, ℕ, nat_eq, Bool, true, false, cond, ◌⊎◌, inl, inr, List, [], ◌∷◌, Option, Some, None, option_map, option_and_then, slice_get, refl, sym, ap, subst, ◌∙◌, eqb-true}
+use Rattle.std.proofs.Common.{◌≡◌, ℕ, nat_eq, Bool, true, false, cond, ◌⊎◌, inl, inr, List, [], ◌∷◌, Option, Some, None, option_and_then, slice_get, refl, sym, ap, subst, ◌∙◌, eqb-true}
 use Rattle.std.proofs.lemmas.Bool.{cond-true}
 use Rattle.std.specs.Map.{lookup}
 use Rattle.fw_names.specs.Name.{Campaign, IsOpened, SpellsName, name_of}
 use Rattle.fw_axdr.specs.Value.{octet_string}
 use Rattle.fw_apdu.specs.Response.{value, get_response}
 use Rattle.fw_client.specs.Hearing.{CarriesResponse}
-use Rattle.fw_book.specs.Contents.{Contents, Offered, image_in, state_in}
-use Rattle.fw_book.specs.Rows.{state_of}
+use Rattle.fw_book.specs.Contents.{Contents, image_in, state_in}
 use Rattle.fw_book.specs.Changes.{opening_refusal, cancel_refusal}
 use Rattle.fw_head.specs.declared.news.News.{News}
 use Rattle.fw_head.specs.Head.{Head, HeadHears, IsHead, opened_head, cancelled_head}
 use Rattle.fw_head.specs.Laws.{DoneByClaim}
-use Rattle.fw_world.specs.declared.datagram.Direction.TheVariants.{ToHead}
-use Rattle.fw_world.specs.World as worlds
-use Rattle.fw_world.specs.World.{Datagram, Offers, World, put, same_campaign, with_done, with_offer}
+use Rattle.fw_world.specs.World.{Datagram, World, put, same_campaign}
 use Rattle.fw_world.specs.Step.{open_campaign, cancel_campaign, deliver, Delivers, Marks}
 use Rattle.fw_world.specs.State as kept
 use Rattle.fw_world.specs.State.{State, IsState, head_at, is_done, set_head}
 use Rattle.fw_world.specs.Laws.{StateStepsAsWorld}
 use Rattle.fw_field.specs.Moves.{to_head}
-use Rattle.fw_field.proofs.Maps.{Done, itself, marked, mark_keeps, some_is, none_some}
+use Rattle.fw_field.proofs.Maps.{Done, itself, marked, some_is, none_some}
 use Rattle.fw_field.proofs.Hearing.{only_done, is_done_by}
 
 abbrev pub mini : ℕ → Head → List Datagram → State
@@ -95,7 +92,7 @@ module _ (steps : StateStepsAsWorld) where
       let number = campaign.head in
       let b = opened_head a campaign.serial release image meters in
       let s = steps (mini number a []) (mini number b []) (open_campaign campaign release image meters) (is_state number a [] own)
-          (record { is_opened = is; head = a; there = there number a []; admitted = admitted; new_is = set_is number a b [] }) in
+      (record { is_opened = is; head = a; there = there number a []; admitted = admitted; new_is = set_is number a b [] }) in
       record {
         none = sym (image_of number a [] campaign (itself number)) ∙ s.1;
         images = λ c at. sym (image_of number b [] c at) ∙ ap (λ (w : World). w.offered c) s.2;

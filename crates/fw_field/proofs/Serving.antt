@@ -1,20 +1,20 @@
 -- What the daemon of a meter does, as moves of a field.
-use Rattle.std.proofs.Common.{◌≡◌, ℕ, nat_eq, ◌⊎◌, inl, inr, List, [], ◌∷◌, ◌++◌, Option, Some, None, Contains, refl, sym, ap, subst, ◌∙◌}
+use Rattle.std.proofs.Common.{◌≡◌, ℕ, nat_eq, inl, inr, List, [], ◌∷◌, ◌++◌, Option, Some, None, Contains, refl, sym, ap, subst, ◌∙◌}
 use Rattle.std.proofs.lemmas.Bool.{cond-true}
 use Rattle.std.proofs.lemmas.List.Elements.{Contains-append_left, Contains-append_right, Contains-push}
 use Rattle.std.specs.declared.net.socket_addr.SocketAddr.{SocketAddr}
 use Rattle.fw_names.specs.Name.{Name}
 use Rattle.fw_meter.specs.Handling.{reply_bytes}
 use Rattle.fw_daemon.specs.Acts.{Act, came, quiet, sent}
-use Rattle.fw_daemon.specs.Daemon.{Daemon, Hears, MayAsk, TakesTurn, one_more}
-use Rattle.fw_daemon.specs.Rounds.{GoesOnAfter, activated_by, reply_of, with_reply}
+use Rattle.fw_daemon.specs.Daemon.{Daemon, Hears, MayAsk, TakesTurn}
+use Rattle.fw_daemon.specs.Rounds.{GoesOnAfter, activated_by, reply_of}
 use Rattle.fw_daemon.specs.Serving.{Serving, Takes}
 use Rattle.fw_daemon.specs.declared.daemon.Heard.{Heard}
 use Rattle.fw_daemon.specs.declared.daemon.Heard.TheVariants as heard
 use Rattle.fw_world.specs.Step.{activated, replies}
 use Rattle.fw_world.specs.World.{Datagram}
 use Rattle.fw_field.specs.Field.{Field, with_daemon}
-use Rattle.fw_field.specs.Moves.{Move, round, Course, Goes, TakesAs, WasSent, to_meter}
+use Rattle.fw_field.specs.Moves.{Move, round, MovesLead, Goes, TakesAs, WasSent, to_meter}
 use Rattle.fw_field.specs.Laws.{CameToMeter, RoundsAreTaken, ServingIsMoves}
 use Rattle.fw_field.proofs.Maps.{itself}
 
@@ -39,9 +39,9 @@ rounds_are_taken before after earlier later activates (inr x) =
 
 -- ---- moves one after the other
 
-pub course_on : (address : ℕ → SocketAddr) (old mid new : Field) (moves : List Move) (move : Move) → Course address old moves mid → Goes address mid move new → Course address old (moves ++ move ∷ []) new
-course_on address old mid new [] move same goes = (new, subst (λ (f : Field). Goes address f move new) same goes, refl)
-course_on address old mid new (first ∷ moves) move (next, goes, course) last = (next, goes, course_on address next mid new moves move course last)
+pub move_on : (address : ℕ → SocketAddr) (old mid new : Field) (moves : List Move) (move : Move) → MovesLead address old moves mid → Goes address mid move new → MovesLead address old (moves ++ move ∷ []) new
+move_on address old mid new [] move same goes = (new, subst (λ (f : Field). Goes address f move new) same goes, refl)
+move_on address old mid new (first ∷ moves) move (next, goes, more) last = (next, goes, move_on address next mid new moves move more last)
 
 pub later : {X : Type 0} (first x : X) (xs : List X) → Contains xs x → Contains (first ∷ xs) x
 later first x xs has = Contains-append_right (first ∷ []) xs x has
@@ -54,7 +54,7 @@ first_is x xs = Contains-append_left (x ∷ []) xs x (Contains-push [] x)
 record Served (address : ℕ → SocketAddr) (f : Field) (number : ℕ) (start now : Daemon) : Type 0 where
   pub moves : List Move
   pub new : Field
-  pub course : Course address f moves new
+  pub reaches : MovesLead address f moves new
   pub there : new.meters number ≡ Some now
   pub stays : (d : Datagram) → Contains f.sent d → Contains new.sent d
   pub heads : now.heads ≡ start.heads
@@ -82,7 +82,7 @@ module _ (address : ℕ → SocketAddr) (f : Field) (number : ℕ) (start : Daem
       record {
         moves = s.moves ++ round number ∷ [];
         new = new;
-        course = course_on address f s.new new s.moves (round number) s.course (inl (record { before = before; after = now; there = s.there; turns = turn; new_is = refl }));
+        reaches = move_on address f s.new new s.moves (round number) s.reaches (inl (record { before = before; after = now; there = s.there; turns = turn; new_is = refl }));
         there = cond-true (nat_eq number number) (Some now) (s.new.meters number) (itself number);
         stays = s.stays;
         heads = ap (λ (d : Daemon). d.heads) turn.others ∙ s.heads;
@@ -94,14 +94,14 @@ module _ (address : ℕ → SocketAddr) (f : Field) (number : ℕ) (start : Daem
       let by = as_taken before now from datagram reply takes in
       let M : List SocketAddr → Type 0 = λ heads. MayAsk heads from in
       let from_it = source address s.new number before now from datagram reply takes (λ may.
-          let it = sent_by (subst M s.heads may) in
-          (it.0, record { at = it.1.at; sent = s.stays (to_meter it.0 number datagram) it.1.sent })) in
+      let it = sent_by (subst M s.heads may) in
+      (it.0, record { at = it.1.at; sent = s.stays (to_meter it.0 number datagram) it.1.sent })) in
       let more : List Datagram = replies (to_meter from_it.0 number datagram) reply in
       let new : Field = record (with_daemon s.new number now) { sent = s.new.sent ++ more; activations = s.new.activations ++ activated number by.0 now.state.meter } in
       record {
         moves = s.moves ++ round number ∷ [];
         new = new;
-        course = course_on address f s.new new s.moves (round number) s.course (inr (record {
+        reaches = move_on address f s.new new s.moves (round number) s.reaches (inr (record {
           before = before;
           after = now;
           from = from;
@@ -123,7 +123,7 @@ module _ (address : ℕ → SocketAddr) (f : Field) (number : ℕ) (start : Daem
   serves there now [] same from_it = record {
     moves = [];
     new = f;
-    course = refl;
+    reaches = refl;
     there = there ∙ ap (λ (d : Daemon). (let o : Option Daemon = Some d in o)) (sym same);
     stays = λ d has. has;
     heads = ap (λ (d : Daemon). d.heads) same;
@@ -144,4 +144,4 @@ module _ (address : ℕ → SocketAddr) (f : Field) (number : ℕ) (start : Daem
 pub serving_is_moves : ServingIsMoves
 serving_is_moves address f number start now acts there s from_it =
     let r = serves address f number start there now acts s from_it in
-    (r.moves, r.new, r.course, r.there)
+    (r.moves, r.new, r.reaches, r.there)

@@ -8,7 +8,7 @@ use Rattle.fw_store.specs.declared.version.HeaderVersion.{HeaderVersion}
 use Rattle.fw_image.specs.Fresh.{fresh_meter}
 use Rattle.fw_image.specs.Meter.{Meter}
 use Rattle.fw_book.specs.Changes.{empty_book}
-use Rattle.fw_book.specs.Contents.{Contents, image_in, state_in}
+use Rattle.fw_book.specs.Contents.{image_in, state_in}
 use Rattle.fw_head.specs.Head.{new_head}
 use Rattle.fw_daemon.specs.Daemon.{Daemon}
 use Rattle.fw_rollout.specs.Daemon.{new_leader}

@@ -12,14 +12,13 @@ use Rattle.fw_rollout.specs.Leading.{Leader, Leading, Step, hears}
 use Rattle.fw_rollout.specs.declared.ended.Ended.{Ended}
 use Rattle.fw_world.specs.Headline.{IsDoneSafely}
 use Rattle.fw_world.specs.Step.{Event, IsOpening, Run}
-use Rattle.fw_world.specs.World.{World}
 use Rattle.fw_field.specs.Field.{Field, IsBeginning, is_saved, world_of}
-use Rattle.fw_field.specs.Moves.{Move, Course, TakesAs, WasAnswered, WasSent}
+use Rattle.fw_field.specs.Moves.{Move, MovesLead, TakesAs, WasAnswered, WasSent}
 
--- what holds of each field that a course leads to, with the beginning one
-abbrev pub AfterEachCourse : (Field → Field → Type 0) → Type 0
-AfterEachCourse P =
-    (address : ℕ → SocketAddr) (beginning now : Field) (moves : List Move) → IsBeginning beginning → Course address beginning moves now → P beginning now
+-- what holds of each field that moves lead to, with the beginning one
+abbrev pub AfterMoves : (Field → Field → Type 0) → Type 0
+AfterMoves P =
+    (address : ℕ → SocketAddr) (beginning now : Field) (moves : List Move) → IsBeginning beginning → MovesLead address beginning moves now → P beginning now
 
 -- the world that the one field is leads to that of the other
 abbrev pub IsRun : Field → Field → Type 0
@@ -58,7 +57,7 @@ abbrev pub ServingIsMoves : Type 0
 ServingIsMoves =
     (address : ℕ → SocketAddr) (f : Field) (number : ℕ) (start now : Daemon) (acts : List Act) → f.meters number ≡ Some start
     → Serving start acts now → CameToMeter address f number start.heads acts
-    → (moves : List Move) × (new : Field) × Course address f moves new × (new.meters number ≡ Some now)
+    → (moves : List Move) × (new : Field) × MovesLead address f moves new × (new.meters number ≡ Some now)
 
 -- each datagram that came to a head end from the address of a meter was sent to it by that meter in a field
 abbrev pub CameToHead : Field → ℕ → Leader → List Step → Type 0
@@ -70,4 +69,4 @@ abbrev pub LeadingIsMoves : Type 0
 LeadingIsMoves =
     (address : ℕ → SocketAddr) (f : Field) (number : ℕ) (start now : Leader) (steps : List Step) → f.heads number ≡ Some start → start.going ≡ []
     → Leading start steps now → ((done : List Step) (mid : Leader) → Leading start done mid → IsHead mid.head) → CameToHead f number start steps
-    → (moves : List Move) × (new : Field) × Course address f moves new × (new.heads number ≡ Some now)
+    → (moves : List Move) × (new : Field) × MovesLead address f moves new × (new.heads number ≡ Some now)

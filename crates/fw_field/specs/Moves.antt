@@ -12,7 +12,7 @@ use Rattle.fw_head.specs.Head.{BeginsWith, Head, IsHead, opened_head, cancelled_
 use Rattle.fw_daemon.specs.Daemon.{Daemon, IsServed, MayAsk, TakesTurn}
 use Rattle.fw_daemon.specs.Serving.{IsStrange, IsUnserved}
 use Rattle.fw_rollout.specs.Daemon.{new_leader}
-use Rattle.fw_rollout.specs.Leading.{Leader, Step, hears, idles, ticks, sends, saves, tells, IsListed, Steps}
+use Rattle.fw_rollout.specs.Leading.{Leader, Step, hears, sends, tells, IsListed, Steps}
 use Rattle.fw_rollout.specs.declared.ended.Ended.{Ended}
 use Rattle.fw_world.specs.declared.datagram.Direction.TheVariants.{ToMeter, ToHead}
 use Rattle.fw_world.specs.Step.{activated, replies}
@@ -189,7 +189,7 @@ Goes address old (open_campaign campaign release image meters) new = OpensAt old
 Goes address old (cancel_campaign campaign) new = CancelsAt old campaign new
 Goes address old (kill_head number) new = HeadIsKilledAt old number new
 
--- A list of moves, each from the field that the one before it led to. Head ends have these addresses.
-abbrev pub Course : (ℕ → SocketAddr) → Field → List Move → Field → Type 0
-Course address old [] new = new ≡ old
-Course address old (move ∷ moves) new = (next : Field) × Goes address old move next × Course address next moves new
+-- These moves lead from a field to another one, each from the field that the one before it led to. Head ends have these addresses.
+abbrev pub MovesLead : (ℕ → SocketAddr) → Field → List Move → Field → Type 0
+MovesLead address old [] new = new ≡ old
+MovesLead address old (move ∷ moves) new = (next : Field) × Goes address old move next × MovesLead address next moves new

@@ -11,7 +11,7 @@ ghost use Rattle.fw_world.specs.Headline.{
 };
 ghost use Rattle.fw_field.specs.Field.{world_of};
 ghost use Rattle.fw_field.specs.Laws.{
-  AfterEachCourse,
+  AfterMoves,
   IsRun,
   ReportsAreKept,
   ReportsAreTrue,
@@ -23,8 +23,8 @@ ghost use Rattle.fw_field.specs.Laws.{
 /// Whatever daemons did, and however often they were killed, is a run of the world, which leads to the world that the field is: with the
 /// meters as they are, what the books in memory offer, and the rows that are done there. Where a head end was started again with a book
 /// that lacks its last marks, that run lacks the deliveries which made them.
-pub fn courses_are_runs()
-    ensures { AfterEachCourse IsRun }
+pub fn moves_are_runs()
+    ensures { AfterMoves IsRun }
 {
     fw_meter::laws::faultless();
     fw_meter::laws::turn_fault_is_stop();
@@ -37,7 +37,7 @@ pub fn courses_are_runs()
 /// A row that was ever reported as done is done in the book that every power cut leaves of its head end from then on, and in the one in
 /// memory.
 pub fn reports_are_kept()
-    ensures { AfterEachCourse (λ beginning now. ReportsAreKept now) }
+    ensures { AfterMoves (λ beginning now. ReportsAreKept now) }
 {
     fw_meter::laws::faultless();
     fw_meter::laws::turn_fault_is_stop();
@@ -48,16 +48,16 @@ pub fn reports_are_kept()
 
 /// The headline of daemons: what the daemon of a meter switched to is what the campaign in its name offers, releases never fall, and a
 /// meter whose row was reported as done switched to the image of that campaign.
-pub fn every_course_is_safe()
-    ensures initiates { AfterEachCourse (λ beginning now. InitiatesAreOffered (world_of now)) }
-    ensures names { AfterEachCourse (λ beginning now. NamesAreOwn (IsFirstName (world_of beginning)) (world_of now)) }
-    ensures goals { AfterEachCourse (λ beginning now. GoalsAreOffered (world_of now)) }
-    ensures activations { AfterEachCourse (λ beginning now. ActivationsAreSafe (world_of now)) }
-    ensures equal { AfterEachCourse (λ beginning now. ActivationsAreEqual (world_of now)) }
-    ensures releases { AfterEachCourse (λ beginning now. ReleasesNeverFall (world_of now)) }
-    ensures reports { AfterEachCourse (λ beginning now. ReportsAreTrue now) }
+pub fn moves_are_safe()
+    ensures initiates { AfterMoves (λ beginning now. InitiatesAreOffered (world_of now)) }
+    ensures names { AfterMoves (λ beginning now. NamesAreOwn (IsFirstName (world_of beginning)) (world_of now)) }
+    ensures goals { AfterMoves (λ beginning now. GoalsAreOffered (world_of now)) }
+    ensures activations { AfterMoves (λ beginning now. ActivationsAreSafe (world_of now)) }
+    ensures equal { AfterMoves (λ beginning now. ActivationsAreEqual (world_of now)) }
+    ensures releases { AfterMoves (λ beginning now. ReleasesNeverFall (world_of now)) }
+    ensures reports { AfterMoves (λ beginning now. ReportsAreTrue now) }
 {
-    courses_are_runs();
+    moves_are_runs();
     reports_are_kept();
     fw_world::laws::every_run_is_safe();
 }

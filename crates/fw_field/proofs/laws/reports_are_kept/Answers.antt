@@ -1,4 +1,4 @@
-use Rattle.fw_field.proofs.Courses.{reports_are_kept}
+use Rattle.fw_field.proofs.Runs.{reports_are_kept}
 use Rattle.fw_field.proofs.laws.reports_are_kept.Goals as goal
 
 pub returns : goal.returns

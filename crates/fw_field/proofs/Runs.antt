@@ -1,5 +1,5 @@
--- A course of moves is a run of the world.
-use Rattle.std.proofs.Common.{◌≡◌, ℕ, nat_eq, ◌==◌, if◌then◌else◌, Bool, true, false, not, ◌&&◌, ◌⊎◌, inl, inr, List, [], ◌∷◌, ◌++◌, Option, Some, None, option_map, option_and_then, length, arith, Contains, refl, sym, ap, subst, ◌∙◌}
+-- Moves are a run of the world.
+use Rattle.std.proofs.Common.{◌≡◌, ℕ, ◌==◌, if◌then◌else◌, Bool, true, false, not, ◌&&◌, List, [], ◌∷◌, ◌++◌, Option, Some, None, option_map, option_and_then, arith, Contains, refl, sym, ap, subst, ◌∙◌}
 use Rattle.std.specs.declared.net.socket_addr.SocketAddr.{SocketAddr}
 use Rattle.fw_names.specs.Name.{Campaign}
 use Rattle.fw_store.specs.Setup.{IsSetup}
@@ -10,21 +10,18 @@ use Rattle.fw_meter.specs.Laws.{Faultless, StopAfterIsStop, TurnFaultIsStop}
 use Rattle.fw_book.specs.Rows.{state_of}
 use Rattle.fw_book.specs.Contents.{Contents, Offered, image_in, state_in}
 use Rattle.fw_book.specs.Changes.{empty_book}
-use Rattle.fw_ledger.specs.declared.record.Ending.TheVariants.{Done as IsDone}
-use Rattle.fw_head.specs.Head.{new_head}
 use Rattle.fw_head.specs.Laws.{DoneByClaim}
 use Rattle.fw_daemon.specs.Daemon.{Daemon}
-use Rattle.fw_rollout.specs.Daemon.{new_leader}
 use Rattle.fw_rollout.specs.Leading.{Leader}
 use Rattle.fw_rollout.specs.declared.ended.Ended.{Ended}
 use Rattle.fw_world.specs.Headline.{ActivationsAreSafe}
 use Rattle.fw_world.specs.Laws.{AfterEachRun, AreLess, LacksMarks, MarksMayBeMissing, StateStepsAsWorld}
 use Rattle.fw_world.specs.State.{is_done}
 use Rattle.fw_world.specs.Step.{Event, IsOpening, Run}
-use Rattle.fw_world.specs.World.{Datagram, World}
-use Rattle.fw_field.specs.Field.{Field, Has, IsBeginning, done_by, is_saved, offered_by, saved_by, world_of}
-use Rattle.fw_field.specs.Moves.{Move, round, kill_meter, step, open_campaign, cancel_campaign, kill_head, Course, Goes as Move_goes}
-use Rattle.fw_field.specs.Laws.{AfterEachCourse, IsKeptDone, IsRun, ReportsAreKept, ReportsAreTrue}
+use Rattle.fw_world.specs.World.{World}
+use Rattle.fw_field.specs.Field.{Field, IsBeginning, done_by, is_saved, offered_by, saved_by, world_of}
+use Rattle.fw_field.specs.Moves.{Move, round, kill_meter, step, open_campaign, cancel_campaign, kill_head, MovesLead, Goes as Move_goes}
+use Rattle.fw_field.specs.Laws.{AfterMoves, IsRun, ReportsAreKept, ReportsAreTrue}
 use Rattle.fw_field.proofs.Maps.{funext, itself, none_some, run_append, same_world, some_is}
 use Rattle.fw_field.proofs.Following.{Goes, IsKept, IsSound, Simulates}
 use Rattle.fw_field.proofs.Meters as meters
@@ -101,7 +98,7 @@ module _ (f : Field) (is : IsBeginning f) where
 itself_simulates : (f : Field) → Simulates f (world_of f)
 itself_simulates f = record { offered = λ c. refl; sent = refl; meters = λ n. refl; activations = refl; done = λ c m e. e }
 
--- ---- a course
+-- ---- moves
 
 module _ (faultless : Faultless) (turn_law : TurnFaultIsStop) (stop_law : StopAfterIsStop) (done_law : DoneByClaim) (steps : StateStepsAsWorld) where
   move_goes : (address : ℕ → SocketAddr) (old new : Field) (move : Move) (w : World) → Simulates old w → IsSound old → Move_goes address old move new → Goes w new
@@ -112,13 +109,13 @@ module _ (faultless : Faultless) (turn_law : TurnFaultIsStop) (stop_law : StopAf
   move_goes address old new (cancel_campaign campaign) w s sound m = heads.cancel_goes steps old new w s sound campaign m
   move_goes address old new (kill_head number) w s sound m = heads.kill_goes steps old new w s sound number m
 
-  course_goes : (address : ℕ → SocketAddr) (old new : Field) (moves : List Move) (w : World) → Simulates old w → IsSound old → Course address old moves new → Goes w new
-  course_goes address old new [] w s sound same =
+  moves_go : (address : ℕ → SocketAddr) (old new : Field) (moves : List Move) (w : World) → Simulates old w → IsSound old → MovesLead address old moves new → Goes w new
+  moves_go address old new [] w s sound same =
       let G : Field → Type 0 = λ f. Goes w f in
       subst G (sym same) (record { follows = record { events = []; world = w; run = refl; simulates = s }; sound = sound })
-  course_goes address old new (move ∷ moves) w s sound (next, m, course) =
+  moves_go address old new (move ∷ moves) w s sound (next, m, more) =
       let one = move_goes address old next move w s sound m in
-      let rest = course_goes address next new moves one.follows.world one.follows.simulates one.sound course in
+      let rest = moves_go address next new moves one.follows.world one.follows.simulates one.sound more in
       record {
         follows = record {
           events = one.follows.events ++ rest.follows.events;
@@ -129,24 +126,24 @@ module _ (faultless : Faultless) (turn_law : TurnFaultIsStop) (stop_law : StopAf
         sound = rest.sound;
       }
 
-  course : (address : ℕ → SocketAddr) (beginning now : Field) (moves : List Move) → IsBeginning beginning → Course address beginning moves now → Goes (world_of beginning) now
-  course address beginning now moves is made = course_goes address beginning now moves (world_of beginning) (itself_simulates beginning) (is_sound beginning is) made
+  after_moves : (address : ℕ → SocketAddr) (beginning now : Field) (moves : List Move) → IsBeginning beginning → MovesLead address beginning moves now → Goes (world_of beginning) now
+  after_moves address beginning now moves is made = moves_go address beginning now moves (world_of beginning) (itself_simulates beginning) (is_sound beginning is) made
 
   -- without the marks that the books in memory lack
-  pub courses_are_runs : MarksMayBeMissing → AfterEachCourse IsRun
-  courses_are_runs law address beginning now moves is made = (is_opening beginning is, less.0, subst R same less.3)
+  pub moves_are_runs : MarksMayBeMissing → AfterMoves IsRun
+  moves_are_runs law address beginning now moves is made = (is_opening beginning is, less.0, subst R same less.3)
     where
       w : World
-      w = (course address beginning now moves is made).follows.world
+      w = (after_moves address beginning now moves is made).follows.world
 
       s : Simulates now w
-      s = (course address beginning now moves is made).follows.simulates
+      s = (after_moves address beginning now moves is made).follows.simulates
 
       missing : Campaign → ℕ → Bool
       missing c m = not ((world_of now).done c m)
 
-      less : (kept : List Event) × AreLess w.sent (course address beginning now moves is made).follows.events kept × (less : World) × Run (world_of beginning) kept less × LacksMarks missing w less
-      less = law (world_of beginning) w (course address beginning now moves is made).follows.events missing (is_opening beginning is) (course address beginning now moves is made).follows.run
+      less : (kept : List Event) × AreLess w.sent (after_moves address beginning now moves is made).follows.events kept × (less : World) × Run (world_of beginning) kept less × LacksMarks missing w less
+      less = law (world_of beginning) w (after_moves address beginning now moves is made).follows.events missing (is_opening beginning is) (after_moves address beginning now moves is made).follows.run
 
       R : World → Type 0
       R x = Run (world_of beginning) less.0 x
@@ -168,11 +165,11 @@ module _ (faultless : Faultless) (turn_law : TurnFaultIsStop) (stop_law : StopAf
           (funext less.2.done (world_of now).done (λ c. funext (less.2.done c) ((world_of now).done c)
           (λ m. less.4.done c m ∙ keeps (w.done c m) ((world_of now).done c m) (s.done c m))))
 
-  pub reports_are_kept : AfterEachCourse (λ beginning now. ReportsAreKept now)
+  pub reports_are_kept : AfterMoves (λ beginning now. ReportsAreKept now)
   reports_are_kept address beginning now moves is made ended has done = record { saved = saved; done = in_memory (now.heads ended.campaign.head) refl saved }
     where
       sound : IsSound now
-      sound = (course address beginning now moves is made).sound
+      sound = (after_moves address beginning now moves is made).sound
 
       saved : is_saved now ended.campaign ended.meter ≡ true
       saved = sound.told ended has done
@@ -181,15 +178,15 @@ module _ (faultless : Faultless) (turn_law : TurnFaultIsStop) (stop_law : StopAf
       in_memory None there e = e
       in_memory (Some leader) there e = (sound.heads ended.campaign.head leader there).done ended.campaign ended.meter (itself ended.campaign.head) e
 
--- ---- what holds after each run holds after each course
+-- ---- what holds after each run holds after moves
 
-module _ (runs : AfterEachCourse IsRun) where
-  pub after_each : (P : World → World → Type 0) → AfterEachRun P → AfterEachCourse (λ beginning now. P (world_of beginning) (world_of now))
+module _ (runs : AfterMoves IsRun) where
+  pub after_each : (P : World → World → Type 0) → AfterEachRun P → AfterMoves (λ beginning now. P (world_of beginning) (world_of now))
   after_each P holds address beginning now moves is made =
       let run = runs address beginning now moves is made in
       holds (world_of beginning) (world_of now) run.1 run.0 run.2
 
-  pub reports_are_true : AfterEachCourse (λ beginning now. ReportsAreKept now) → AfterEachRun (λ opening w. ActivationsAreSafe w) → AfterEachCourse (λ beginning now. ReportsAreTrue now)
+  pub reports_are_true : AfterMoves (λ beginning now. ReportsAreKept now) → AfterEachRun (λ opening w. ActivationsAreSafe w) → AfterMoves (λ beginning now. ReportsAreTrue now)
   reports_are_true kept holds address beginning now moves is made ended has done =
       let run = runs address beginning now moves is made in
       (holds (world_of beginning) (world_of now) run.1 run.0 run.2).done ended.campaign ended.meter (kept address beginning now moves is made ended has done).done

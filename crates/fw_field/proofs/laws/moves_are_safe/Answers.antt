@@ -1,10 +1,10 @@
 use Rattle.fw_world.specs.Headline.{IsFirstName, InitiatesAreOffered, NamesAreOwn, GoalsAreOffered, ActivationsAreSafe, ActivationsAreEqual, ReleasesNeverFall}
-use Rattle.fw_field.proofs.Courses.{after_each, reports_are_true}
-use Rattle.fw_field.proofs.laws.every_course_is_safe.Goals as goal
+use Rattle.fw_field.proofs.Runs.{after_each, reports_are_true}
+use Rattle.fw_field.proofs.laws.moves_are_safe.Goals as goal
 
 pub returns : goal.returns
 returns c =
-    let runs = c.courses_are_runs.ensures in
+    let runs = c.moves_are_runs.ensures in
     let safe = c.every_run_is_safe.ensures in
     record {
       initiates = after_each runs (λ opening w. InitiatesAreOffered w) safe.initiates;

@@ -1,6 +1,0 @@
-use Rattle.fw_field.proofs.Courses.{courses_are_runs}
-use Rattle.fw_field.proofs.laws.courses_are_runs.Goals as goal
-
-pub returns : goal.returns
-returns c =
-    courses_are_runs c.faultless.ensures c.turn_fault_is_stop.ensures c.stop_after_is_stop.ensures c.done_by_claim.ensures c.state_steps_as_world.ensures c.marks_may_be_missing.ensures
