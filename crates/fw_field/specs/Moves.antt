@@ -1,5 +1,5 @@
 -- Public vocabulary: what may happen in a field, one move at a time. The one premise on the network is that it makes no datagrams up: what
--- comes from an address that a daemon heeds was sent there, to it.
+-- comes from the address of another daemon was sent by that one, to this one.
 use Rattle.std.specs.Prelude.{◌≡◌, ◌⊎◌, ℕ, Bool, true, List, [], ◌∷◌, ◌++◌, Option, Some, None, Contains}
 use Rattle.std.specs.declared.net.socket_addr.SocketAddr.{SocketAddr}
 use Rattle.fw_names.specs.Name.{Campaign, Name, IsOpened}
@@ -83,8 +83,8 @@ pub record HearsAt (address : ℕ → SocketAddr) (old : Field) (number : ℕ) (
     activations = old.activations ++ activated number activates after.state.meter;
   }
 
--- A daemon is killed while it takes a turn, or before or after one. Then it is started again. That may be killed too, before it changed the
--- store or after, and begun anew.
+-- A daemon is killed while it takes a turn, or before or after one. Then it is started again. That start may be killed too, before it
+-- changed the store or after: the next one leads to the same meter.
 pub record IsKilledAt (old : Field) (number : ℕ) (new : Field) : Type 0 where
   pub before : Daemon
   pub left : Meter
@@ -94,8 +94,8 @@ pub record IsKilledAt (old : Field) (number : ℕ) (new : Field) : Type 0 where
   pub again : Has after (restarted left)
   pub new_is : new ≡ with_daemon old number after
 
--- A daemon is killed while its meter handles a datagram, after some calls of its store, with a byte in what was being written. Its reply
--- isn't sent. Then it is started again.
+-- A daemon is killed while its meter handles a datagram, after some calls of its store, with a byte in what was being written. No reply is
+-- sent. Then it is started again.
 pub record IsKilledIn (address : ℕ → SocketAddr) (old : Field) (number : ℕ) (new : Field) : Type 0 where
   pub before : Daemon
   pub from : SocketAddr
@@ -146,8 +146,8 @@ pub record StepsAt (old : Field) (number : ℕ) (made : Step) (new : Field) : Ty
 abbrev pub IsLedAnew : Leader → Head → Type 0
 IsLedAnew leader head = leader ≡ new_leader leader.meters head head.book
 
--- A head end opens a campaign, which nothing refuses, and has it on the device before anything of it is sent. Where that was killed, the
--- device has the campaign, and it is an opening before a kill, or has not, and it is a kill alone.
+-- A head end opens a campaign, which nothing refuses, and has it on the device before anything of it is sent. Where it was killed meanwhile,
+-- the device has the campaign, and that is an opening and then a kill; or the device lacks it, and that is a kill alone.
 pub record OpensAt (old : Field) (campaign : Campaign) (release : ℕ) (image meters : List ℕ) (new : Field) : Type 0 where
   pub before : Leader
   pub after : Leader
