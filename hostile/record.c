@@ -1,6 +1,7 @@
 /* Records the calls by which a program changes files: preloaded, it writes a line for each that was done into the file RECORD, with the
- * bytes in hexadecimal. Where FAIL is a number, the call with that number and all later ones are refused, as on a full disk.
- * hostile/power compiles and uses it; nothing of the product does. */
+ * bytes in hexadecimal. So it does for what is written to standard output. Where FAIL is a number, the call with that number and all later
+ * ones are refused, as on a full disk, except those to standard output. hostile/power and hostile/book compile and use it; nothing of
+ * the product does. */
 #define _GNU_SOURCE
 #include <errno.h>
 #include <fcntl.h>
@@ -102,5 +103,11 @@ int rename(const char *from, const char *to) {
 int unlink(const char *path) {
     int done = syscall(SYS_unlinkat, AT_FDCWD, path, 0);
     if (!done) tell("unlink", 0, 0, path, strlen(path));
+    return done;
+}
+
+ssize_t write(int file, const void *bytes, size_t size) {
+    ssize_t done = syscall(SYS_write, file, bytes, size);
+    if (file == 1 && done > 0) tell("print", file, 0, bytes, done);
     return done;
 }
