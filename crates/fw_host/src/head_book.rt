@@ -68,10 +68,13 @@ fn open<F: Files<File = File>>(
         Ok(device) => device,
         Err(error) => return Err(file_fault(rt, path, error)),
     };
-    match KeptHead::open(alloc, head, width, device) {
-        Ok(kept) => Ok(kept),
-        Err((error, _device)) => Err(Fault::from(error)),
-    }
+    let kept = match KeptHead::open(alloc, head, width, device) {
+        Ok(kept) => kept,
+        Err((error, _device)) => return Err(Fault::from(error)),
+    };
+    // A head end that made the file may have been ended before a power cut left its name there.
+    sync_folder(rt, path)?;
+    Ok(kept)
 }
 
 /// Why the file of a book isn't opened.
