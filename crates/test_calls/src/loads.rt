@@ -17,9 +17,13 @@
 //!   `rehearsed` does the same, with a line before: the time of that by the clock, in nanoseconds.
 //! - `audit METERS SIZE`: that schedule is made, and the parts of a run of it are audited. `audited` does the same, with a line before:
 //!   the times by the clock of the schedule and of the audit, in nanoseconds.
+//! - `book ROWS SIZE`: a book in the file `book`, which is made anew and removed: campaigns with ROWS rows in all are opened, of an image
+//!   of SIZE bytes `a`, all rows are marked, the marks are committed, and the book is read back. `booked` does the same, with a line before:
+//!   the processor time of each of the four, in nanoseconds.
 
 mod campaign;
 mod codec;
+mod kept;
 mod meter;
 mod rehearsal;
 mod schedule;
@@ -69,6 +73,8 @@ fn measure<R: Threads + Wait + Sync>(rt: &HostRuntime, threads: &R, line: &str) 
         "rehearsed" => rehearsal::measure(rt, threads, first, second, workers(&bytes)?, true),
         "audit" => rehearsal::audited(rt, first, second, false),
         "audited" => rehearsal::audited(rt, first, second, true),
+        "book" => kept::measure(rt, first, second, false),
+        "booked" => kept::measure(rt, first, second, true),
         _ => bail!("no load has this name"),
     }
 }
