@@ -5,7 +5,7 @@ use fw_daemon::{Closed as MeterClosed, MeterDaemon, Port, UdpPort, step};
 use fw_journal::FileDevice;
 use fw_kept::KeptHead;
 use fw_meter::MeterCore;
-use fw_names::{HeadId, MeterId};
+use fw_names::{HeadId, ImageName, MeterId};
 use fw_rollout::{
     Arrival, Closed, Ended, HeadDaemon, HeadPort, Listed, MeterList, Patience, Stop, Timing,
     step_head,
@@ -16,7 +16,7 @@ use std::net::{Ipv4Addr, SocketAddr};
 use std::path::PathBuf;
 use std::test::Fail;
 use std::{env, fs};
-use test_support::expect_at;
+use test_support::{Kept, expect_at};
 
 /// The image, of twenty blocks, and its SHA-256 by `sha256sum`.
 const IMAGE: &[u8; 40] = b"forty bytes of an image in blocks of two";
@@ -85,11 +85,25 @@ impl HeadPort for HeadSocket {
     }
 }
 
-/// A meter in a file with its socket.
-#[derive(Drop)]
+/// A meter in a file with its socket. Its drop is written out, so that each place that drops it calls that, and isn't proved to drop what it
+/// has.
 struct Served {
     port: UdpPort,
     daemon: MeterDaemon<FileStore>,
+}
+
+impl Drop for Served {
+    fn drop(self) {
+        let Served { port: _, daemon: _ } = self;
+    }
+}
+
+impl Served {
+    /// The name of the image that it runs.
+    fn active(self) -> ImageName {
+        let Served { port: _, daemon } = self;
+        daemon.into_meter().view().active
+    }
 }
 
 /// Any port of this machine.
@@ -135,32 +149,49 @@ fn begin_meter(
     name: &str,
     at: SocketAddr,
 ) -> Result<Served, Fail> {
+    let port = UdpPort::bind_polling(rt, at)?;
+    match MeterCore::open_store(store_of(rt, name)?) {
+        Ok(meter) => Ok(Served {
+            port,
+            daemon: MeterDaemon::new(meter, Vec::new(alloc)),
+        }),
+        Err((error, _store)) => Err(error.into()),
+    }
+}
+
+/// The store in a file.
+fn store_of(rt: &HostRuntime, name: &str) -> Result<FileStore, Fail> {
     let path = path_of(rt, name)?;
-    let meter = match MeterCore::open_store(FileStore::reopen(rt, path.as_path())?) {
-        Ok(meter) => meter,
-        Err((error, _store)) => return Err(error.into()),
-    };
-    Ok(Served {
-        port: UdpPort::bind_polling(rt, at)?,
-        daemon: MeterDaemon::new(meter, Vec::new(alloc)),
-    })
+    Ok(FileStore::reopen(rt, path.as_path())?)
 }
 
 /// The book of head end 7 in a new file, with a campaign for these meters.
 fn make_book(rt: &HostRuntime, alloc: Global, meters: &[Listed]) -> Result<(), Fail> {
-    remove(rt, BOOK)?;
-    let path = path_of(rt, BOOK)?;
-    let device = FileDevice::create(rt, path.as_path())?;
-    let Ok(kept) = KeptHead::create(alloc, head()?, width()?, device) else {
-        return Err("no book was made".into());
-    };
-    let mut kept: KeptHead<FileDevice> = kept;
     let mut numbers = Vec::new(alloc);
     for at in meters {
         numbers.push(at.meter)?;
     }
-    kept.open_campaign(alloc, 1, 2, IMAGE, &numbers)?;
+    let mut kept = new_book(rt, alloc)?;
+    kept.0.open_campaign(alloc, 1, 2, IMAGE, &numbers)?;
     Ok(())
+}
+
+fn new_book(rt: &HostRuntime, alloc: Global) -> Result<Kept<KeptHead<FileDevice>>, Fail> {
+    match KeptHead::create(alloc, head()?, width()?, new_device(rt)?) {
+        Ok(kept) => Ok(Kept(kept)),
+        Err(_refusal) => Err("no book was made".into()),
+    }
+}
+
+fn new_device(rt: &HostRuntime) -> Result<FileDevice, Fail> {
+    remove(rt, BOOK)?;
+    let path = path_of(rt, BOOK)?;
+    Ok(FileDevice::create(rt, path.as_path())?)
+}
+
+fn open_device(rt: &HostRuntime) -> Result<FileDevice, Fail> {
+    let path = path_of(rt, BOOK)?;
+    Ok(FileDevice::open(rt, path.as_path())?)
 }
 
 fn head() -> Result<HeadId, Fail> {
@@ -171,22 +202,21 @@ fn width() -> Result<Width, Fail> {
     Ok(Width::new(4).ok_or("a width")?)
 }
 
+const TIMING: Timing = Timing {
+    resend: 200_000,
+    flight: 64,
+};
+
 /// The daemon of the head end whose book is in the file.
 fn begin_head(
     rt: &HostRuntime,
     alloc: Global,
     list: &MeterList,
-) -> Result<HeadDaemon<FileDevice>, Fail> {
-    let path = path_of(rt, BOOK)?;
-    let device = FileDevice::open(rt, path.as_path())?;
-    let Ok(kept) = KeptHead::open(alloc, head()?, width()?, device) else {
-        return Err("the book was not opened".into());
-    };
-    let timing = Timing {
-        resend: 200_000,
-        flight: 64,
-    };
-    Ok(HeadDaemon::new(alloc, kept, list, timing)?)
+) -> Result<Kept<HeadDaemon<FileDevice>>, Fail> {
+    match KeptHead::open(alloc, head()?, width()?, open_device(rt)?) {
+        Ok(kept) => Ok(Kept(HeadDaemon::new(alloc, kept, list, TIMING)?)),
+        Err(_refusal) => Err("the book was not opened".into()),
+    }
 }
 
 /// Rounds of a head end and its meters in turn, until all is over or there were this many.
@@ -232,50 +262,96 @@ fn same_meters(rt: &HostRuntime, alloc: Global, list: &[Listed]) -> Result<Vec<S
 fn list_of(alloc: Global, meters: &[Served]) -> Result<MeterList, Fail> {
     let mut list = MeterList::none(alloc);
     for (number, meter) in (1..).zip(meters.iter()) {
-        let _new = list.add(Listed {
-            meter: MeterId::new(number).ok_or("a meter's number begins at 1")?,
-            address: meter.port.address()?,
-        })?;
+        let _new = list.add(listed(number, &meter.port)?)?;
     }
     Ok(list)
+}
+
+/// The meter of this number at its address.
+fn listed(number: u32, port: &UdpPort) -> Result<Listed, Fail> {
+    Ok(Listed {
+        meter: MeterId::new(number).ok_or("a meter's number begins at 1")?,
+        address: port.address()?,
+    })
 }
 
 /// What each meter runs: its campaign, its release and its digest.
 fn running(alloc: Global, meters: Vec<Served>) -> Result<String, Fail> {
     let mut text = String::new(alloc);
     for meter in meters {
-        let active = meter.daemon.into_meter().view().active;
-        let digest = hex::encode(alloc, active.digest)?;
-        let (serial, release) = (active.campaign.serial(), active.release);
-        write!(text, "{serial} {release} {digest};")?;
+        push_name(alloc, &mut text, meter.active())?;
     }
     Ok(text)
+}
+
+fn push_name(alloc: Global, text: &mut String, active: ImageName) -> Result<(), Fail> {
+    let digest = hex::encode(alloc, active.digest)?;
+    let (serial, release) = (active.campaign.serial(), active.release);
+    write!(text, "{serial} {release} {digest};")?;
+    Ok(())
+}
+
+/// The head end has told of this many rows.
+fn has_told(socket: &HeadSocket, want: u32) -> Result<(), Fail> {
+    if socket.told == want {
+        return Ok(());
+    }
+    Err("it told of another number of rows".into())
+}
+
+/// The head end begins with its file, and ends after sixty rounds.
+fn first_rounds(
+    rt: &HostRuntime,
+    alloc: Global,
+    socket: &mut HeadSocket,
+    list: &MeterList,
+    meters: &mut [Served],
+) -> Result<(), Fail> {
+    let mut head = begin_head(rt, alloc, list)?;
+    rounds(alloc, socket, &mut head.0, meters, 60)
+}
+
+/// The meters begin with their files, and the campaign goes on to its end. What they run then.
+fn last_rounds(
+    rt: &HostRuntime,
+    alloc: Global,
+    socket: &mut HeadSocket,
+    list: &MeterList,
+    head: &mut HeadDaemon<FileDevice>,
+) -> Result<String, Fail> {
+    let mut meters = Kept(same_meters(rt, alloc, list.meters())?);
+    has_told(socket, 0)?;
+    rounds(alloc, socket, head, &mut meters.0, 20_000)?;
+    has_told(socket, 4)?;
+    running(alloc, meters.into_inner())
+}
+
+/// The campaign, in whose middle first the head end is ended and then the meters are. What these run after it.
+fn campaign(rt: &HostRuntime, alloc: Global, socket: &mut HeadSocket) -> Result<String, Fail> {
+    let mut meters = Kept(new_meters(rt, alloc)?);
+    let list = Kept(list_of(alloc, &meters.0)?);
+    make_book(rt, alloc, list.0.meters())?;
+    first_rounds(rt, alloc, socket, &list.0, &mut meters.0)?;
+    let mut head = begin_head(rt, alloc, &list.0)?;
+    rounds(alloc, socket, &mut head.0, &mut meters.0, 60)?;
+    drop(meters);
+    last_rounds(rt, alloc, socket, &list.0, &mut head.0)
+}
+
+fn new_socket(rt: &HostRuntime) -> Result<HeadSocket, Fail> {
+    Ok(HeadSocket {
+        port: UdpPort::bind_polling(rt, any_port())?,
+        receives: 0,
+        told: 0,
+    })
 }
 
 #[test]
 fn a_campaign_goes_on_once_both_ends_were_ended(rt: HostRuntime) -> Result<(), Fail> {
     let alloc = rt.alloc();
-    let mut meters = new_meters(&rt, alloc)?;
-    let list = list_of(alloc, &meters)?;
-    make_book(&rt, alloc, list.meters())?;
-    let mut socket = HeadSocket {
-        port: UdpPort::bind_polling(&rt, any_port())?,
-        receives: 0,
-        told: 0,
-    };
-    let mut head = begin_head(&rt, alloc, &list)?;
-    rounds(alloc, &mut socket, &mut head, &mut meters, 60)?;
-    drop(head);
-    let mut head = begin_head(&rt, alloc, &list)?;
-    rounds(alloc, &mut socket, &mut head, &mut meters, 60)?;
-    drop(meters);
-    let mut meters = same_meters(&rt, alloc, list.meters())?;
-    assert_eq!(rt; socket.told, 0);
-    rounds(alloc, &mut socket, &mut head, &mut meters, 20_000)?;
-    assert_eq!(rt; socket.told, 4);
-    let want = format!(in alloc; "1 2 {DIGEST};1 2 {DIGEST};1 2 {DIGEST};1 2 {DIGEST};")?;
-    let seen = running(alloc, meters)?;
-    drop(head);
+    let mut socket = new_socket(&rt)?;
+    let seen = campaign(&rt, alloc, &mut socket)?;
     forget(&rt)?;
+    let want = format!(in alloc; "1 2 {DIGEST};1 2 {DIGEST};1 2 {DIGEST};1 2 {DIGEST};")?;
     expect_at(alloc, "what runs", seen.as_str(), want.as_str())
 }
