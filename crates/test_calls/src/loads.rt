@@ -56,21 +56,33 @@ fn measure<R: Threads + Wait + Sync>(rt: &HostRuntime, threads: &R, line: &str) 
     };
     let (first, second) = (number(first)?, number(second)?);
     let bytes = bytes_of(rt.alloc(), strings)?;
-    match *word {
-        "codec" => codec::measure(rt.alloc(), first, second, &bytes),
-        "memory" => meter::in_memory(rt.alloc(), first, second, &bytes),
-        "file" => meter::in_file(rt, first, second, &bytes),
+    done(rt, threads, word, first, second, &bytes)
+}
+
+/// Does the load of this name.
+fn done<R: Threads + Wait + Sync>(
+    rt: &HostRuntime,
+    threads: &R,
+    word: &str,
+    first: u32,
+    second: u32,
+    bytes: &[Vec<u8>],
+) -> Result<u64> {
+    match word {
+        "codec" => codec::measure(rt.alloc(), first, second, bytes),
+        "memory" => meter::in_memory(rt.alloc(), first, second, bytes),
+        "file" => meter::in_file(rt, first, second, bytes),
         "copy" => Ok(meter::copy(rt.alloc(), first, second)?),
-        "verify" => verify::measure(rt, first, second, &bytes, false),
-        "timed" => verify::measure(rt, first, second, &bytes, true),
+        "verify" => verify::measure(rt, first, second, bytes, false),
+        "timed" => verify::measure(rt, first, second, bytes, true),
         "events" => world::count(rt.alloc(), first, second),
         "world" => world::measure(rt, first, second, false),
         "paced" => world::measure(rt, first, second, true),
         "open" => schedule::open(rt.alloc(), first, second),
         "schedule" => schedule::measure(rt, first, second, false),
         "scheduled" => schedule::measure(rt, first, second, true),
-        "rehearse" => rehearsal::measure(rt, threads, first, second, workers(&bytes)?, false),
-        "rehearsed" => rehearsal::measure(rt, threads, first, second, workers(&bytes)?, true),
+        "rehearse" => rehearsal::measure(rt, threads, first, second, workers(bytes)?, false),
+        "rehearsed" => rehearsal::measure(rt, threads, first, second, workers(bytes)?, true),
         "audit" => rehearsal::audited(rt, first, second, false),
         "audited" => rehearsal::audited(rt, first, second, true),
         "book" => kept::measure(rt, first, second, false),

@@ -187,9 +187,14 @@ impl Case for Counted {
         let contents = vec![in alloc; 0x00; size as usize]?;
         let short = joined(alloc, &[&[tag], shortest, &contents])?;
         let longest = joined(alloc, &[&[tag, 0x84], &len.to_be_bytes(), &contents])?;
-        let both = is_short(alloc, &short, &short)? && is_short(alloc, &longest, &short)?;
-        Ok(format!(in alloc; "{both}")?)
+        are_short_text(alloc, &short, &longest)
     }
+}
+
+/// Whether both are spellings of the value whose short one is the first.
+fn are_short_text(alloc: Global, short: &[u8], longest: &[u8]) -> Result<String, Fail> {
+    let both = is_short(alloc, short, short)? && is_short(alloc, longest, short)?;
+    Ok(format!(in alloc; "{both}")?)
 }
 
 /// Whether the bytes are a spelling of the value whose short one is there too.

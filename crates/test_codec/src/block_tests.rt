@@ -143,26 +143,31 @@ struct EveryOther(u32);
 impl Case for EveryOther {
     fn told(&self, alloc: Global) -> Result<String, Fail> {
         let mut set = BlockSet::empty(alloc, self.0)?;
-        for half in 0..self.0 {
-            if half < 8192 && 2 * half < set.count() {
-                set.mark(2 * half);
-            }
-        }
-        let bits = set.to_bits(alloc)?;
-        let all = bits.as_bytes().iter().all(|byte| *byte == 0xaa);
-        let Some(width) = Width::new(3) else {
-            return Err("no width".into());
-        };
-        let next = Window::next(&set, width);
-        Ok(format!(in alloc;
-            "{} bits, {} bytes, {all}, {} {:?}, {} runs",
-            bits.len(),
-            bits.as_bytes().len(),
-            set.first_missing(),
-            next.as_slice(),
-            set.runs().len()
-        )?)
+        mark_every_other(&mut set);
+        every_other_text(alloc, &set)
     }
+}
+
+fn mark_every_other(set: &mut BlockSet) {
+    for half in 0..8192u32 {
+        if 2 * half < set.count() {
+            set.mark(2 * half);
+        }
+    }
+}
+
+fn every_other_text(alloc: Global, set: &BlockSet) -> Result<String, Fail> {
+    let width = Width::new(3).ok_or("a width")?;
+    let next = Window::next(set, width);
+    let bits = set.to_bits(alloc)?;
+    let (len, bytes) = (bits.len(), bits.as_bytes());
+    let all = bytes.iter().all(|byte| *byte == 0xaa);
+    let (first, runs) = (set.first_missing(), set.runs().len());
+    Ok(format!(in alloc;
+        "{len} bits, {} bytes, {all}, {first} {:?}, {runs} runs",
+        bytes.len(),
+        next.as_slice()
+    )?)
 }
 
 const EVERY_OTHER: &[(EveryOther, &str)] = &[

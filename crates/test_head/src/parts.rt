@@ -64,13 +64,18 @@ impl Last {
             }
             Last::Hears(apdu) => {
                 let mut last = rows.pop().ok_or("four rows")?;
-                let _asked = last.tick(alloc, b"abc", Width::new(4).ok_or("a width")?)?;
-                let _news = last.hear(alloc, &carried(alloc, apdu)?)?;
+                asks_and_hears(alloc, &mut last, apdu)?;
                 rows.push(last)?;
             }
         }
         Ok(())
     }
+}
+
+fn asks_and_hears(alloc: Global, row: &mut RowCore, apdu: &str) -> Result<(), Fail> {
+    let _asked = row.tick(alloc, b"abc", Width::new(4).ok_or("a width")?)?;
+    let _news = row.hear(alloc, &carried(alloc, apdu)?)?;
+    Ok(())
 }
 
 /// What the only row, that of meter 1, hears while the head end is parted. It waits for the name of the image that runs.
@@ -84,9 +89,7 @@ impl Case for Confirm {
         let mut given = Vec::new(alloc);
         let mut claims = Vec::new(alloc);
         for mut row in rows {
-            for apdu in self.0 {
-                let _news = row.hear(alloc, &carried(alloc, apdu)?)?;
-            }
+            hear_all(alloc, &mut row, self.0)?;
             claims.push(row.claim().map(|claim| claim.meter().number()))?;
             given.push(row)?;
         }
@@ -94,6 +97,13 @@ impl Case for Confirm {
         let shown = shown(alloc, Kept(head))?;
         Ok(format!(in alloc; "{:?} {shown}", claims.as_slice())?)
     }
+}
+
+fn hear_all(alloc: Global, row: &mut RowCore, apdus: &[&str]) -> Result<(), Fail> {
+    for apdu in apdus {
+        let _news = row.hear(alloc, &carried(alloc, apdu)?)?;
+    }
+    Ok(())
 }
 
 /// The head end with no campaign.

@@ -8,6 +8,7 @@ use fw_world::{Datagram, Direction, Event, World, run};
 use fw_wrapper::join;
 use std::alloc::Global;
 use std::test::Fail;
+use test_support::Kept;
 
 /// The phase of the row of the meter, and how often it returned to its start; none where it isn't live.
 fn row(core: &HeadCore) -> Result<Option<(Phase, u32)>, Fail> {
@@ -17,13 +18,18 @@ fn row(core: &HeadCore) -> Result<Option<(Phase, u32)>, Fail> {
     Ok(row.map(|row| (row.phase(), u32::from(row.returns()))))
 }
 
+/// Whether something is heard in these bytes.
+fn hears(alloc: Global, core: &mut HeadCore, bytes: &[u8]) -> Result<bool, Fail> {
+    let news = core.hear(alloc, meter()?, bytes)?;
+    Ok(!matches!(news, News::Nothing))
+}
+
 /// Nothing is heard in what an answer begins with, and the row stays.
 fn cut(alloc: Global, core: &mut HeadCore, answer: &[u8]) -> Result<usize, Fail> {
     let before = row(core)?;
     for count in 0..answer.len() {
-        let news = core.hear(alloc, meter()?, &answer[..count])?;
-        if !matches!(news, News::Nothing) || row(core)? != before {
-            failed(alloc, "something was heard", count)?;
+        if hears(alloc, core, &answer[..count])? || row(core)? != before {
+            return failed(alloc, "something was heard", count);
         }
     }
     Ok(answer.len())
@@ -32,9 +38,8 @@ fn cut(alloc: Global, core: &mut HeadCore, answer: &[u8]) -> Result<usize, Fail>
 /// An answer: first what it begins with, and then whole.
 fn answered(alloc: Global, core: &mut HeadCore, answer: &[u8]) -> Result<usize, Fail> {
     let tried = cut(alloc, core, answer)?;
-    let news = core.hear(alloc, meter()?, answer)?;
-    if matches!(news, News::Nothing) {
-        failed(alloc, "the answer wasn't heard", tried)?;
+    if !hears(alloc, core, answer)? {
+        return failed(alloc, "the answer wasn't heard", tried);
     }
     Ok(tried)
 }
@@ -63,9 +68,11 @@ fn had(alloc: Global, core: &mut HeadCore, world: &World, event: &Event) -> Resu
 }
 
 /// A head end that sends up to `width` blocks at a time, and offers this image to the meter.
-fn opened(alloc: Global, width: u8, image: &[u8]) -> Result<HeadCore, Fail> {
-    let mut core = HeadCore::new(alloc, head()?, Width::new(width).ok_or("a width")?);
-    core.open_campaign(alloc, 1, 0, image, &[meter()?])?;
+fn opened(alloc: Global, width: u8, image: &[u8]) -> Result<Kept<HeadCore>, Fail> {
+    let meters = [meter()?];
+    let width = Width::new(width).ok_or("a width")?;
+    let mut core = Kept(HeadCore::new(alloc, head()?, width));
+    core.0.open_campaign(alloc, 1, 0, image, &meters)?;
     Ok(core)
 }
 
@@ -74,15 +81,21 @@ fn opened(alloc: Global, width: u8, image: &[u8]) -> Result<HeadCore, Fail> {
 fn each_answer_cut_short(rt: HostRuntime) -> Result<(), Fail> {
     let alloc = rt.alloc();
     let events = events(alloc, ALL)?;
-    let Ok(world) = run(alloc, &setup(alloc)?, &events) else {
-        return Err("an event of the campaign is refused".into());
+    let tried = match run(alloc, &setup(alloc)?, &events) {
+        Ok(world) => had_all(alloc, &world, &events)?,
+        Err(_) => return Err("an event of the campaign is refused".into()),
     };
+    expect_tried(alloc, tried, 264)
+}
+
+/// All events of the campaign, as a head end has them.
+fn had_all(alloc: Global, world: &World, events: &[Event]) -> Result<usize, Fail> {
     let mut core = opened(alloc, 4, b"abc")?;
     let mut tried = 0usize;
-    for event in &events {
-        tried = tried.saturating_add(had(alloc, &mut core, &world, event)?);
+    for event in events {
+        tried = tried.saturating_add(had(alloc, &mut core.0, world, event)?);
     }
-    expect_tried(alloc, tried, 264)
+    Ok(tried)
 }
 
 /// What is answered to each tick, while a head end that sends three blocks at a time has sent six of them: the block size, and that all is
@@ -112,10 +125,15 @@ fn round(alloc: Global, core: &mut HeadCore, answers: &[&str]) -> Result<usize, 
     core.tick(alloc, meter()?)?;
     let mut tried = 0usize;
     for apdu in answers {
-        let answer = join(alloc, 1, 1, &hex::decode(alloc, *apdu)?)?;
-        tried = tried.saturating_add(answered(alloc, core, &answer)?);
+        tried = tried.saturating_add(answered(alloc, core, &carried(alloc, apdu)?)?);
     }
     Ok(tried)
+}
+
+/// The datagram that carries an APDU.
+fn carried(alloc: Global, apdu: &str) -> Result<Vec<u8>, Fail> {
+    let apdu = hex::decode(alloc, apdu)?;
+    Ok(join(alloc, 1, 1, &apdu)?)
 }
 
 /// The same for several ticks, each with its answers.
@@ -130,8 +148,8 @@ fn rounds(alloc: Global, core: &mut HeadCore, part: &[&[&str]]) -> Result<usize,
 /// A head end that offers an image of six blocks hears the answers up to the gaps, and then these.
 fn behind_gaps(alloc: Global, then: &[&[&str]]) -> Result<usize, Fail> {
     let mut core = opened(alloc, 3, b"abcdefghijkl")?;
-    let tried = rounds(alloc, &mut core, UP_TO_GAPS)?;
-    Ok(tried.saturating_add(rounds(alloc, &mut core, then)?))
+    let tried = rounds(alloc, &mut core.0, UP_TO_GAPS)?;
+    Ok(tried.saturating_add(rounds(alloc, &mut core.0, then)?))
 }
 
 /// Up to the gaps the answers have 17, 12, 13, three times 13 twice, and 17 bytes; then 15, three times 13, 17 and 13, or 15.

@@ -29,6 +29,11 @@ pub(crate) fn meter() -> Result<MeterId, Fail> {
     Ok(MeterId::new(1).ok_or("every number is a meter's")?)
 }
 
+/// The campaign.
+pub(crate) fn campaign() -> Result<CampaignId, Fail> {
+    Ok(CampaignId::new(head()?, 1).ok_or("a serial number begins at 1")?)
+}
+
 /// What the world is made with.
 pub(crate) fn setup(alloc: Global) -> Result<Setup, Fail> {
     setup_with(alloc, false)
@@ -41,41 +46,48 @@ pub(crate) fn old_setup(alloc: Global) -> Result<Setup, Fail> {
 
 /// The same with a meter that is an old one or not.
 fn setup_with(alloc: Global, old: bool) -> Result<Setup, Fail> {
-    let mut heads = Vec::new(alloc);
-    heads.push(HeadSetup {
-        head: head()?,
-        width: 4,
-    })?;
+    let (head, meter) = (head()?, meter()?);
+    let factory = b"x".to_vec(alloc)?;
     let mut meters = Vec::new(alloc);
     meters.push(MeterSetup {
-        meter: meter()?,
+        meter,
         block_size: 2,
         capacity: 64,
-        factory: b"x".to_vec(alloc)?,
+        factory,
         old,
     })?;
+    let mut heads = Vec::new(alloc);
+    heads.push(HeadSetup { head, width: 4 })?;
     Ok(Setup { heads, meters })
 }
 
 /// The first `count` of its events: the opening, and then by rounds the tick and the datagrams that come.
 pub(crate) fn events(alloc: Global, count: usize) -> Result<Vec<Event>, Fail> {
-    let mut meters = Vec::new(alloc);
-    meters.push(meter()?)?;
+    let (head, meter) = (head()?, meter()?);
     let mut events = Vec::new(alloc);
-    events.push(Event::OpenCampaign {
-        campaign: CampaignId::new(head()?, 1).ok_or("a serial number begins at 1")?,
-        release: 0,
-        image: b"abc".to_vec(alloc)?,
-        meters,
-    })?;
+    events.push(opening(alloc, meter)?)?;
     for round in ROUNDS {
-        events.push(Event::Tick(head()?, meter()?))?;
+        events.push(Event::Tick(head, meter))?;
         for datagram in *round {
             events.push(Event::Deliver(*datagram))?;
         }
     }
     events.truncate(count);
     Ok(events)
+}
+
+/// The opening of the campaign.
+fn opening(alloc: Global, meter: MeterId) -> Result<Event, Fail> {
+    let campaign = campaign()?;
+    let image = b"abc".to_vec(alloc)?;
+    let mut meters = Vec::new(alloc);
+    meters.push(meter)?;
+    Ok(Event::OpenCampaign {
+        campaign,
+        release: 0,
+        image,
+        meters,
+    })
 }
 
 /// How many there are.

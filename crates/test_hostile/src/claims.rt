@@ -24,8 +24,9 @@ const CLAIMS: &[&str] = &[
 ];
 
 /// Reading refuses it as cut short.
-fn is_truncated(alloc: Global, bytes: &[u8]) -> bool {
-    matches!(read(alloc, bytes), Err(AxdrError::Truncated))
+fn is_truncated(alloc: Global, text: &str) -> Result<bool, Fail> {
+    let bytes = hex::decode(alloc, text)?;
+    Ok(matches!(read(alloc, &bytes), Err(AxdrError::Truncated)))
 }
 
 #[test]
@@ -33,9 +34,8 @@ fn each_claim(rt: HostRuntime) -> Result<(), Fail> {
     let alloc = rt.alloc();
     let mut tried = 0usize;
     for (at, text) in CLAIMS.iter().enumerate() {
-        let bytes = hex::decode(alloc, *text)?;
-        if !is_truncated(alloc, &bytes) {
-            failed(alloc, "it wasn't refused as cut short", at)?;
+        if !is_truncated(alloc, text)? {
+            return failed(alloc, "it wasn't refused as cut short", at);
         }
         tried = tried.saturating_add(1);
     }

@@ -7,6 +7,7 @@ use fw_store::MemoryStore;
 use fw_wrapper::{join, split};
 use std::alloc::Global;
 use std::test::Fail;
+use test_support::Kept;
 
 /// Sets image_transfer_enabled to true.
 const ENABLE: &str = "000100010001000fc101c1001200002c0000ff05000301";
@@ -26,19 +27,27 @@ const DATAGRAMS: &[&str] = &[
 ];
 
 /// A new meter that runs `abc`, with blocks of two bytes and room for 64, whose transfer is enabled.
-fn enabled(alloc: Global) -> Result<MeterCore<MemoryStore>, Fail> {
-    let mut meter = opened(MemoryStore::new(alloc, 64, 2, b"abc")?)?;
-    replies(alloc, &mut meter, &[ENABLE])?;
-    if !meter.view().enabled {
-        return Err("transfer isn't enabled".into());
+fn enabled(alloc: Global) -> Result<Kept<MeterCore<MemoryStore>>, Fail> {
+    let mut meter = Kept(opened(MemoryStore::new(alloc, 64, 2, b"abc")?)?);
+    replies(alloc, &mut meter.0, &[ENABLE])?;
+    if meter.0.view().enabled {
+        Ok(meter)
+    } else {
+        Err("transfer isn't enabled".into())
     }
-    Ok(meter)
 }
 
 /// What such a meter replies to a datagram, and the name of the image that it switches to.
 fn handled(alloc: Global, datagram: &[u8]) -> Result<(Option<Vec<u8>>, Option<ImageName>), Fail> {
-    let handled = enabled(alloc)?.handle(alloc, datagram)?;
+    let mut meter = enabled(alloc)?;
+    let handled = meter.0.handle(alloc, datagram)?;
     Ok((handled.reply, handled.activated))
+}
+
+/// Whether such a meter switches to another image.
+fn switches(alloc: Global, datagram: &[u8]) -> Result<bool, Fail> {
+    let (_reply, activated) = handled(alloc, datagram)?;
+    Ok(activated.is_some())
 }
 
 /// With each byte turned to each value a new meter switches to nothing.
@@ -48,9 +57,8 @@ fn turned(alloc: Global, datagram: &[u8]) -> Result<usize, Fail> {
     for (at, whole) in datagram.iter().enumerate() {
         for value in 0..=255u8 {
             bytes[at] = value;
-            let (_reply, activated) = handled(alloc, &bytes)?;
-            if activated.is_some() {
-                failed(alloc, "an image was switched to", at)?;
+            if switches(alloc, &bytes)? {
+                return failed(alloc, "an image was switched to", at);
             }
             tried = tried.saturating_add(1);
         }
@@ -64,8 +72,7 @@ fn each_byte_turned(rt: HostRuntime) -> Result<(), Fail> {
     let alloc = rt.alloc();
     let mut tried = 0usize;
     for text in DATAGRAMS {
-        let datagram = hex::decode(alloc, *text)?;
-        tried = tried.saturating_add(turned(alloc, &datagram)?);
+        tried = tried.saturating_add(turned(alloc, &hex::decode(alloc, *text)?)?);
     }
     expect_tried(alloc, tried, 297 * 256)
 }
@@ -74,7 +81,7 @@ fn each_byte_turned(rt: HostRuntime) -> Result<(), Fail> {
 fn is_silent(alloc: Global, datagram: &[u8]) -> Result<(), Fail> {
     let (reply, activated) = handled(alloc, datagram)?;
     if reply.is_some() || activated.is_some() {
-        failed(alloc, "it wasn't dropped", datagram.len())?;
+        return failed(alloc, "it wasn't dropped", datagram.len());
     }
     Ok(())
 }
@@ -96,8 +103,7 @@ fn each_beginning(rt: HostRuntime) -> Result<(), Fail> {
     let alloc = rt.alloc();
     let mut tried = 0usize;
     for text in DATAGRAMS {
-        let datagram = hex::decode(alloc, *text)?;
-        tried = tried.saturating_add(cut(alloc, &datagram)?);
+        tried = tried.saturating_add(cut(alloc, &hex::decode(alloc, *text)?)?);
     }
     expect_tried(alloc, tried, 297 + 233)
 }

@@ -9,6 +9,7 @@ use fw_names::ImageName;
 use fw_store::{DeviceStore, FileStoreError, VERSION_TWO_SIZE};
 use std::alloc::Global;
 use std::test::Fail;
+use test_support::Kept;
 
 /// Where the header of a file begins: after the capacity.
 const HEADER_AT: usize = 4;
@@ -101,6 +102,16 @@ enum Outcome {
     BadImage,
 }
 
+/// A meter was opened that shows what the header of its file says.
+fn shown(alloc: Global, disk: &Disk, view: &MeterView) -> Result<Outcome, Fail> {
+    let header = header_of(&disk.bytes(alloc)?)?;
+    if shows(view, &header) {
+        Ok(Outcome::Opened)
+    } else {
+        Err("a meter was opened as its header doesn't say".into())
+    }
+}
+
 /// What comes of the file on a disk. A meter that is opened shows what its header says.
 fn judged(alloc: Global, disk: &Disk) -> Result<Outcome, Fail> {
     let store = match DeviceStore::reopen_on(disk.open()?) {
@@ -110,11 +121,9 @@ fn judged(alloc: Global, disk: &Disk) -> Result<Outcome, Fail> {
     };
     match MeterCore::open_store(store) {
         Ok(meter) => {
-            let header = header_of(&disk.bytes(alloc)?)?;
-            if !shows(&meter.view(), &header) {
-                return Err("a meter was opened as its header doesn't say".into());
-            }
-            Ok(Outcome::Opened)
+            let view = meter.view();
+            drop(meter);
+            shown(alloc, disk, &view)
         }
         Err((OpenError::BadHeader, _store)) => Ok(Outcome::BadHeader),
         Err((OpenError::BadImage, _store)) => Ok(Outcome::BadImage),
@@ -152,8 +161,26 @@ fn is_right(outcome: Outcome, old: bool, len: usize, size: usize) -> bool {
     }
 }
 
+/// Bytes of a file, which are taken for what they are. What isn't opened stays as it is, and what is, is the file of a new store then.
+fn is_taken_right(
+    alloc: Global,
+    cut: &[u8],
+    new: &[u8],
+    old: bool,
+    size: usize,
+) -> Result<bool, Fail> {
+    let disk = Disk::with(alloc, cut)?;
+    let outcome = judged(alloc, &disk)?;
+    let left = if matches!(outcome, Outcome::Opened) {
+        new
+    } else {
+        cut
+    };
+    Ok(is_right(outcome, old, cut.len(), size) && disk.holds(left))
+}
+
 /// The file of a store of this capacity at each length: no byte, and so on up to one byte more than it has; once it is a new one, and once
-/// its header begins as one of version 1. What isn't opened stays as it is, and what is, is the file of a new store then.
+/// its header begins as one of version 1.
 fn each_length(alloc: Global, capacity: u32, size: usize, old: bool) -> Result<usize, Fail> {
     let new = new_file(alloc, capacity)?.bytes(alloc)?;
     let mut bytes = new.as_slice().to_vec(alloc)?;
@@ -164,15 +191,8 @@ fn each_length(alloc: Global, capacity: u32, size: usize, old: bool) -> Result<u
     let mut tried = 0usize;
     for len in 0..=size.saturating_add(1) {
         let cut = bytes.get(..len).ok_or("as many bytes")?;
-        let disk = Disk::with(alloc, cut)?;
-        let outcome = judged(alloc, &disk)?;
-        let left = if matches!(outcome, Outcome::Opened) {
-            new.as_slice()
-        } else {
-            cut
-        };
-        if !is_right(outcome, old, len, size) || !disk.holds(left) {
-            failed(alloc, "the file isn't taken for what it is", len)?;
+        if !is_taken_right(alloc, cut, &new, old, size)? {
+            return failed(alloc, "the file isn't taken for what it is", len);
         }
         tried = tried.saturating_add(1);
     }
@@ -230,20 +250,23 @@ impl Count {
 /// What comes of a file with one byte turned to each value.
 fn turned(alloc: Global, file: &[u8], at: usize, count: &mut Count) -> Result<(), Fail> {
     for value in 0..=255u8 {
-        let disk = Disk::with(alloc, file)?;
-        disk.set(at, value);
-        count.note(judged(alloc, &disk)?);
+        count.note(judged_with(alloc, file, at, value)?);
     }
     Ok(())
+}
+
+/// What comes of a file with this byte at this place.
+fn judged_with(alloc: Global, file: &[u8], at: usize, value: u8) -> Result<Outcome, Fail> {
+    let disk = Disk::with(alloc, file)?;
+    disk.set(at, value);
+    judged(alloc, &disk)
 }
 
 /// What comes of a file with one bit of a byte turned.
 fn bits_turned(alloc: Global, file: &[u8], at: usize, count: &mut Count) -> Result<(), Fail> {
     let whole = *file.get(at).ok_or("a byte of the file")?;
     for bit in 0..8u32 {
-        let disk = Disk::with(alloc, file)?;
-        disk.set(at, whole ^ (1 << bit));
-        count.note(judged(alloc, &disk)?);
+        count.note(judged_with(alloc, file, at, whole ^ (1 << bit))?);
     }
     Ok(())
 }
@@ -267,9 +290,15 @@ const TO_RECEIVING: &[&str] = &[
 /// The file of a meter that runs `x` and receives `abc`, of which the second block is there, with eight bytes a slot.
 fn receiving(alloc: Global) -> Result<Vec<u8>, Fail> {
     let disk = new_file(alloc, 8)?;
-    let mut meter = opened(DeviceStore::reopen_on(disk.open()?)?)?;
-    replies(alloc, &mut meter, TO_RECEIVING)?;
+    receive(alloc, &disk)?;
     disk.bytes(alloc)
+}
+
+/// The meter in the file on a disk receives `abc`.
+fn receive(alloc: Global, disk: &Disk) -> Result<(), Fail> {
+    let mut meter = Kept(opened(DeviceStore::reopen_on(disk.open()?)?)?);
+    replies(alloc, &mut meter.0, TO_RECEIVING)?;
+    Ok(())
 }
 
 /// Of each of the 626 bytes that stand before the slots or are releases the value that it has opens the meter. Beside these a store can

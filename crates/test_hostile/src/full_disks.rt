@@ -9,6 +9,7 @@ use fw_store::{DeviceStore, FileStoreError};
 use std::alloc::Global;
 use std::ops::Range;
 use std::test::Fail;
+use test_support::Kept;
 
 /// A request to a meter.
 struct Operation {
@@ -98,14 +99,15 @@ const READS: &[&str] = &[
 
 /// The replies of the meter in the file on a disk to these requests, one after the other.
 fn replies(alloc: Global, disk: &Disk, asks: &[&str]) -> Result<Vec<Vec<u8>>, Fail> {
-    let mut meter = opened(DeviceStore::reopen_on(disk.open()?)?)?;
-    support::replies(alloc, &mut meter, asks)
+    let mut meter = Kept(opened(DeviceStore::reopen_on(disk.open()?)?)?);
+    support::replies(alloc, &mut meter.0, asks)
 }
 
 /// Whether a meter gives this reply to a request.
 fn is_reply(alloc: Global, disk: &Disk, asks: &str, want: &str) -> Result<bool, Fail> {
+    let want = hex::decode(alloc, want)?;
     let replies = replies(alloc, disk, &[asks])?;
-    Ok(replies.len() == 1 && replies[0].as_slice() == hex::decode(alloc, want)?.as_slice())
+    Ok(replies.len() == 1 && replies[0].as_slice() == want.as_slice())
 }
 
 /// The file of a new meter, and then the one after each operation.
@@ -116,7 +118,7 @@ fn files(alloc: Global) -> Result<Vec<Vec<u8>>, Fail> {
     files.push(disk.bytes(alloc)?)?;
     for (at, operation) in CAMPAIGN.iter().enumerate() {
         if !is_reply(alloc, &disk, operation.asks, operation.done)? {
-            failed(alloc, "the operation isn't done", at)?;
+            return failed(alloc, "the operation isn't done", at);
         }
         files.push(disk.bytes(alloc)?)?;
     }
@@ -137,36 +139,47 @@ fn on_full_disk(
     alloc: Global,
     operation: &Operation,
     before: &[u8],
-    after: &[u8],
     room: usize,
 ) -> Result<Vec<u8>, Fail> {
     let disk = Disk::with(alloc, before)?;
     disk.takes(Takes::Only(room));
-    let is_done = room == operation.writes;
-    let want = if is_done {
+    let want = if room == operation.writes {
         operation.done
     } else {
         operation.fault
     };
     if !is_reply(alloc, &disk, operation.asks, want)? {
-        failed(alloc, "another reply", room)?;
+        return failed(alloc, "another reply", room);
     }
-    let found = disk.bytes(alloc)?;
-    let is_right = if is_done {
-        found.as_slice() == after
+    disk.bytes(alloc)
+}
+
+/// The bytes of a file after an operation on a disk that took `room` bytes more.
+fn is_right(operation: &Operation, found: &[u8], before: &[u8], after: &[u8], room: usize) -> bool {
+    if room == operation.writes {
+        found == after
     } else {
-        is_between(&found, before, after, &operation.block)
-    };
-    if !is_right {
-        failed(alloc, "another file", room)?;
+        is_between(found, before, after, &operation.block)
     }
-    Ok(found)
 }
 
 /// The replies to the reads of the meter in a file, which is opened again.
 fn reads_of(alloc: Global, file: &[u8]) -> Result<Vec<Vec<u8>>, Fail> {
     let disk = Disk::with(alloc, file)?;
     replies(alloc, &disk, READS)
+}
+
+/// The same, and whether the file is right then and its reads are answered so.
+fn is_left_right(
+    alloc: Global,
+    operation: &Operation,
+    (before, after): (&[u8], &[u8]),
+    room: usize,
+    want: &[Vec<u8>],
+) -> Result<bool, Fail> {
+    let found = on_full_disk(alloc, operation, before, room)?;
+    let is_right = is_right(operation, &found, before, after, room);
+    Ok(is_right && reads_of(alloc, &found)?.as_slice() == want)
 }
 
 /// An operation with room for each number of bytes up to those that it writes. With less than these the reads are answered as before it.
@@ -180,11 +193,9 @@ fn on_full_disks(
     let new = reads_of(alloc, after)?;
     let mut tried = 0usize;
     for room in 0..=operation.writes {
-        let found = on_full_disk(alloc, operation, before, after, room)?;
-        let found = reads_of(alloc, &found)?;
         let want = if room == operation.writes { &new } else { &old };
-        if found != *want {
-            failed(alloc, "another meter", room)?;
+        if !is_left_right(alloc, operation, (before, after), room, want)? {
+            return failed(alloc, "another file, or another meter", room);
         }
         tried = tried.saturating_add(1);
     }
@@ -230,16 +241,21 @@ fn is_opened(disk: &Disk, takes: Takes) -> Result<bool, Fail> {
     }
 }
 
+/// The meter in an old file is opened with room for those of a header of version 2 alone, and the file is as wanted then.
+fn is_opened_right(alloc: Global, old: &[u8], room: usize, want: &[u8]) -> Result<bool, Fail> {
+    let disk = Disk::with(alloc, old)?;
+    let opened = is_opened(&disk, Takes::Only(room))?;
+    Ok(opened == (room == 2_158) && disk.holds(want))
+}
+
 /// The meter in an old file is opened with room for each number of bytes up to those of a header of version 2. With less than these it
 /// isn't, and the file is as before; with these the file is the new one.
 fn opened_on_full_disks(alloc: Global, old: &[u8], new: &[u8]) -> Result<usize, Fail> {
     let mut tried = 0usize;
     for room in 0..=2_158 {
-        let disk = Disk::with(alloc, old)?;
-        let is_done = room == 2_158;
-        let want = if is_done { new } else { old };
-        if is_opened(&disk, Takes::Only(room))? != is_done || !disk.holds(want) {
-            failed(alloc, "another file", room)?;
+        let want = if room == 2_158 { new } else { old };
+        if !is_opened_right(alloc, old, room, want)? {
+            return failed(alloc, "another file", room);
         }
         tried = tried.saturating_add(1);
     }
@@ -260,8 +276,20 @@ fn an_old_store_on_a_full_disk(rt: HostRuntime) -> Result<(), Fail> {
     expect_tried(alloc, tried, 8 * 2 * 2_159)
 }
 
-/// On a disk that is only read the meter isn't opened, and the file is as before. Where its header is kept it is, and answers the reads as
-/// the one in the new file.
+/// The meter in an old file on a disk that is only read: it isn't opened, and the file stays as it is. Where its header is kept it is, and
+/// answers the reads so.
+fn on_read_only_disk_as_old(alloc: Global, old: &[u8], want: &[Vec<u8>]) -> Result<(), Fail> {
+    let disk = Disk::with(alloc, old)?;
+    if is_opened(&disk, Takes::Nothing)? {
+        return failed(alloc, "it is opened", old.len());
+    }
+    if kept_reads(alloc, &disk)?.as_slice() != want || !disk.holds(old) {
+        return failed(alloc, "another meter", old.len());
+    }
+    Ok(())
+}
+
+/// The meter in the old file answers the reads as the one in the new file.
 #[test]
 fn an_old_store_on_a_disk_that_is_only_read(rt: HostRuntime) -> Result<(), Fail> {
     let alloc = rt.alloc();
@@ -269,14 +297,7 @@ fn an_old_store_on_a_disk_that_is_only_read(rt: HostRuntime) -> Result<(), Fail>
     for new in &files(alloc)? {
         let want = reads_of(alloc, new)?;
         for size in OLD_SIZES {
-            let old = old_file(alloc, new, *size)?;
-            let disk = Disk::with(alloc, &old)?;
-            if is_opened(&disk, Takes::Nothing)? {
-                failed(alloc, "it is opened", *size)?;
-            }
-            if kept_reads(alloc, &disk)? != want || !disk.holds(&old) {
-                failed(alloc, "another meter", *size)?;
-            }
+            on_read_only_disk_as_old(alloc, &old_file(alloc, new, *size)?, &want)?;
             tried = tried.saturating_add(1);
         }
     }
@@ -286,7 +307,7 @@ fn an_old_store_on_a_disk_that_is_only_read(rt: HostRuntime) -> Result<(), Fail>
 /// The replies to the reads of the meter in the file on a disk, whose header is kept.
 fn kept_reads(alloc: Global, disk: &Disk) -> Result<Vec<Vec<u8>>, Fail> {
     match MeterCore::open_kept(DeviceStore::reopen_on(disk.open()?)?) {
-        Ok(mut meter) => support::replies(alloc, &mut meter, READS),
+        Ok(meter) => support::replies(alloc, &mut Kept(meter).0, READS),
         Err((error, _store)) => Err(error.into()),
     }
 }
@@ -303,24 +324,35 @@ fn is_made(disk: &Disk, takes: Takes) -> Result<bool, Fail> {
     Ok(made)
 }
 
+/// Whether there is a store on the disk.
+fn holds_a_store(disk: &Disk) -> Result<bool, Fail> {
+    match DeviceStore::reopen_on(disk.open()?) {
+        Ok(_store) => Ok(true),
+        Err(FileStoreError::BadFile) => Ok(false),
+        Err(refusal) => Err(refusal.into()),
+    }
+}
+
+/// A store is made with so much room over this file: it is there where it was made, which it is with room for all.
+fn made_with_room(alloc: Global, file: &[u8], room: usize) -> Result<(), Fail> {
+    let disk = Disk::with(alloc, file)?;
+    let made = is_made(&disk, Takes::Only(room))?;
+    if made != (room == 2_163) || holds_a_store(&disk)? != made {
+        return failed(alloc, "a store that isn't whole", room);
+    }
+    Ok(())
+}
+
 /// What is made in part is no store: the capacity, which is written last, isn't there. The image has one byte, the header 2,158 and the
 /// capacity 4.
 #[test]
 fn a_store_on_a_full_disk(rt: HostRuntime) -> Result<(), Fail> {
     let alloc = rt.alloc();
     let files = files(alloc)?;
+    let file = files.last().ok_or("a file")?;
     let mut tried = 0usize;
     for room in 0..=2_163 {
-        let disk = Disk::with(alloc, files.last().ok_or("a file")?)?;
-        let made = is_made(&disk, Takes::Only(room))?;
-        let opened = match DeviceStore::reopen_on(disk.open()?) {
-            Ok(_store) => true,
-            Err(FileStoreError::BadFile) => false,
-            Err(refusal) => return Err(refusal.into()),
-        };
-        if made != (room == 2_163) || opened != made {
-            failed(alloc, "a store that isn't whole", room)?;
-        }
+        made_with_room(alloc, file, room)?;
         tried = tried.saturating_add(1);
     }
     expect_tried(alloc, tried, 2_164)
@@ -332,11 +364,11 @@ fn on_read_only_disk(alloc: Global, operation: &Operation, before: &[u8]) -> Res
     let want = replies(alloc, &disk, READS)?;
     disk.takes(Takes::Nothing);
     if !is_reply(alloc, &disk, operation.asks, operation.fault)? {
-        failed(alloc, "another reply", 0)?;
+        return failed(alloc, "another reply", 0);
     }
     let found = replies(alloc, &disk, READS)?;
     if found != want || !disk.holds(before) {
-        failed(alloc, "it isn't as before", 0)?;
+        return failed(alloc, "it isn't as before", 0);
     }
     Ok(found.len().saturating_add(1))
 }
@@ -349,7 +381,7 @@ fn a_disk_that_is_only_read(rt: HostRuntime) -> Result<(), Fail> {
     let whole = files.last().ok_or("a file")?;
     let disk = Disk::with(alloc, whole)?;
     if is_made(&disk, Takes::Nothing)? || !disk.holds(whole) {
-        failed(alloc, "a store is made", 0)?;
+        return failed(alloc, "a store is made", 0);
     }
     let mut tried = 1usize;
     for (operation, before) in CAMPAIGN.iter().zip(&files) {

@@ -9,6 +9,7 @@ use fw_store::{
 };
 use std::alloc::Global;
 use std::test::Fail;
+use test_support::Kept;
 
 /// Sets image_transfer_enabled to true; initiates `abc` of campaign 1 of head end 7; its two blocks; verify.
 const TO_VERIFIED: &[&str] = &[
@@ -87,9 +88,10 @@ fn new_store(alloc: Global, version: HeaderVersion, factory: &[u8]) -> Result<Me
 /// What is left of such a store of a meter that these datagrams came to. Its header keeps its version.
 fn store_after(alloc: Global, version: HeaderVersion, asks: &[&str]) -> Result<MemoryStore, Fail> {
     match MeterCore::open_kept(new_store(alloc, version, b"x")?) {
-        Ok(mut meter) => {
-            replies(alloc, &mut meter, asks)?;
-            store_of(meter)
+        Ok(meter) => {
+            let mut meter = Kept(meter);
+            replies(alloc, &mut meter.0, asks)?;
+            store_of(meter.into_inner())
         }
         Err((error, _store)) => Err(error.into()),
     }
@@ -107,23 +109,25 @@ fn store_of(mut meter: MeterCore<MemoryStore>) -> Result<MemoryStore, Fail> {
     }
 }
 
+/// The meter shows what a header has.
+fn shows(meter: &MeterCore<MemoryStore>, header: &HeaderBytes) -> bool {
+    let view = meter.view();
+    match header.as_slice() {
+        [_, _, _, _, enabled, _, status, ..] => {
+            view.enabled == (*enabled == 1)
+                && view.status.number() == *status
+                && view.limit == 16_384
+        }
+        _ => false,
+    }
+}
+
 /// What comes of a header in a store.
 fn judged(mut store: MemoryStore, header: &HeaderBytes) -> Result<(Outcome, MemoryStore), Fail> {
     store.write_header(header)?;
     match MeterCore::open_store(store) {
-        Ok(meter) => {
-            let view = meter.view();
-            let [_, _, _, _, enabled, _, status, ..] = header.as_slice() else {
-                return Err("a header".into());
-            };
-            if view.enabled != (*enabled == 1)
-                || view.status.number() != *status
-                || view.limit != 16_384
-            {
-                return Err("a meter was opened as its header doesn't say".into());
-            }
-            Ok((Outcome::Opened, store_of(meter)?))
-        }
+        Ok(meter) if shows(&meter, header) => Ok((Outcome::Opened, store_of(meter)?)),
+        Ok(_meter) => Err("a meter was opened as its header doesn't say".into()),
         Err((OpenError::BadHeader, store)) => Ok((Outcome::BadHeader, store)),
         Err((OpenError::BadImage, store)) => Ok((Outcome::BadImage, store)),
         Err((OpenError::Fault, _store)) => Err("a call of the store failed".into()),

@@ -1,7 +1,7 @@
 //! Stops of the meter in each datagram of a campaign, at each call of its store. The meter is then as before the datagram or as after it,
 //! and the campaign goes on to its end. So it does after a stop in each restart of an old meter.
 
-use crate::campaign::{ALL, events, head, meter, old_setup, setup};
+use crate::campaign::{ALL, campaign, events, head, meter, old_setup, setup};
 use crate::support::{expect_tried, failed};
 use fw_air::{Fate, Fates, schedule};
 use fw_book::RowState;
@@ -44,39 +44,72 @@ fn sight(world: &World) -> Result<Sight, Fail> {
     ))
 }
 
-/// What is seen after the first `count` events of the campaign and then these.
-fn seen(alloc: Global, count: usize, then: [Option<Event>; 2]) -> Result<Sight, Fail> {
-    let mut events = events(alloc, count)?;
-    for event in then {
-        if let Some(event) = event {
-            events.push(event)?;
-        }
-    }
-    match run(alloc, &setup(alloc)?, &events) {
+/// What is seen after these events.
+fn seen(alloc: Global, setup: &Setup, given: &[Event]) -> Result<Sight, Fail> {
+    match run(alloc, setup, given) {
         Ok(world) => sight(&world),
         Err(_) => Err("an event is refused".into()),
     }
 }
 
+/// The first `count` events of the campaign, then a datagram, if there is one, and a restart of the meter.
+fn restarted(alloc: Global, count: usize, datagram: Option<usize>) -> Result<Vec<Event>, Fail> {
+    let meter = meter()?;
+    let mut given = events(alloc, count)?;
+    if let Some(datagram) = datagram {
+        given.push(Event::Deliver(datagram))?;
+    }
+    given.push(Event::RestartMeter(meter))?;
+    Ok(given)
+}
+
+/// The first `count` events of the campaign, and then this one.
+fn events_and(alloc: Global, count: usize, last: Event) -> Result<Vec<Event>, Fail> {
+    let mut given = events(alloc, count)?;
+    given.push(last)?;
+    Ok(given)
+}
+
 /// Each image that was switched to is the one that the campaign offers, and the meter is done.
 fn is_done(world: &World) -> Result<bool, Fail> {
     let book = world.book(head()?).ok_or("the head end of the setup")?;
-    let campaign = CampaignId::new(head()?, 1).ok_or("a serial number begins at 1")?;
     let same = world.activations().iter().all(|activation| activation.bytes.as_slice()
         == b"abc".as_slice());
-    Ok(same && book.state(campaign, meter()?) == Some(RowState::Done))
+    Ok(same && book.state(campaign()?, meter()?) == Some(RowState::Done))
 }
 
 /// The campaign goes on after these events.
 fn goes_on(alloc: Global, setup: &Setup, given: &[Event]) -> Result<bool, Fail> {
     let fates = Fates::new(&[Fate::Deliver]).ok_or("1 to 4,096 fates")?;
-    let Ok(events) = schedule(alloc, setup, given, 20, &fates) else {
-        return Err("an event is refused".into());
-    };
-    match run(alloc, setup, &events) {
+    match schedule(alloc, setup, given, 20, &fates) {
+        Ok(events) => ends(alloc, setup, &events),
+        Err(_) => Err("an event is refused".into()),
+    }
+}
+
+/// These events end the campaign.
+fn ends(alloc: Global, setup: &Setup, events: &[Event]) -> Result<bool, Fail> {
+    match run(alloc, setup, events) {
         Ok(world) => is_done(&world),
         Err(_) => Err("an event of the schedule is refused".into()),
     }
+}
+
+/// After these events the meter is as is wanted, and the campaign goes on to its end.
+fn is_as_wanted(
+    alloc: Global,
+    setup: &Setup,
+    given: &[Event],
+    want: &Sight,
+    at: usize,
+) -> Result<(), Fail> {
+    if seen(alloc, setup, given)? != *want {
+        return failed(alloc, "the meter is another one", at);
+    }
+    if !goes_on(alloc, setup, given)? {
+        return failed(alloc, "the campaign doesn't end", at);
+    }
+    Ok(())
 }
 
 /// A stop in a datagram at each call of its store. Before the last call is made the meter is as before.
@@ -87,35 +120,21 @@ fn stopped(
     calls: u64,
     all_calls: u64,
 ) -> Result<usize, Fail> {
-    let restart = Event::RestartMeter(meter()?);
-    let want = if calls < all_calls {
-        seen(alloc, count, [Some(restart), None])?
+    let handled = if calls < all_calls {
+        None
     } else {
-        seen(
-            alloc,
-            count,
-            [Some(Event::Deliver(datagram)), Some(restart)],
-        )?
+        Some(datagram)
     };
+    let setup = setup(alloc)?;
+    let want = seen(alloc, &setup, &restarted(alloc, count, handled)?)?;
     for torn in TORN {
         let stop = Event::Stop {
             datagram,
             calls,
             torn: *torn,
         };
-        let mut given = events(alloc, count)?;
-        given.push(stop)?;
-        let stop = Event::Stop {
-            datagram,
-            calls,
-            torn: *torn,
-        };
-        if seen(alloc, count, [Some(stop), None])? != want {
-            failed(alloc, "the meter is another one", datagram)?;
-        }
-        if !goes_on(alloc, &setup(alloc)?, &given)? {
-            failed(alloc, "the campaign doesn't end", datagram)?;
-        }
+        let given = events_and(alloc, count, stop)?;
+        is_as_wanted(alloc, &setup, &given, &want, datagram)?;
     }
     Ok(TORN.len())
 }
@@ -135,30 +154,41 @@ fn each_call_of_each_datagram(rt: HostRuntime) -> Result<(), Fail> {
 /// After how many events the image is verified and doesn't run yet.
 const VERIFIED: Range<usize> = 20..26;
 
+/// How many blocks an image for the meter may have after these events.
+fn limit_after(alloc: Global, setup: &Setup, given: &[Event]) -> Result<u32, Fail> {
+    match run(alloc, setup, given) {
+        Ok(world) => limit(&world),
+        Err(_) => Err("an event is refused".into()),
+    }
+}
+
+fn limit(world: &World) -> Result<u32, Fail> {
+    let core = world.meter(meter()?).ok_or("the meter of the setup")?;
+    Ok(core.view().limit)
+}
+
 /// A stop in a restart of the old meter. Its header is one of version 2 where the calls suffice for the write of it, which comes after
 /// those of the checks. All else is as after a restart without a stop.
 fn restart_stopped(alloc: Global, count: usize, calls: u64) -> Result<(), Fail> {
     let checks = if VERIFIED.contains(&count) { 3 } else { 2 };
     let limit = if calls > checks { 16_384 } else { 4_096 };
-    let setup = old_setup(alloc)?;
-    let mut given = events(alloc, count)?;
-    given.push(Event::StopRestart {
+    let stop = Event::StopRestart {
         meter: meter()?,
         calls,
         torn: 238,
-    })?;
-    let Ok(world) = run(alloc, &setup, &given) else {
-        return Err("an event is refused".into());
     };
-    let core = world.meter(meter()?).ok_or("the meter of the setup")?;
-    let want = seen(alloc, count, [Some(Event::RestartMeter(meter()?)), None])?;
-    if core.view().limit != limit || sight(&world)? != want {
-        failed(alloc, "the meter is another one", count)?;
+    let given = events_and(alloc, count, stop)?;
+    let setup = old_setup(alloc)?;
+    if limit_after(alloc, &setup, &given)? != limit {
+        return failed(alloc, "the meter has another limit", count);
     }
-    if !goes_on(alloc, &setup, &given)? {
-        failed(alloc, "the campaign doesn't end", count)?;
-    }
-    Ok(())
+    let want = seen_restarted(alloc, count)?;
+    is_as_wanted(alloc, &setup, &given, &want, count)
+}
+
+/// What is seen of a meter that isn't old, after a restart.
+fn seen_restarted(alloc: Global, count: usize) -> Result<Sight, Fail> {
+    seen(alloc, &setup(alloc)?, &restarted(alloc, count, None)?)
 }
 
 /// After 1 to 30 events, and after 0 to 4 calls.

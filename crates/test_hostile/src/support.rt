@@ -15,7 +15,7 @@ pub(crate) fn expect_tried(alloc: Global, tried: usize, want: usize) -> Result<(
 }
 
 /// A case that went wrong, by its place.
-pub(crate) fn failed(alloc: Global, what: &str, at: usize) -> Result<(), Fail> {
+pub(crate) fn failed<T>(alloc: Global, what: &str, at: usize) -> Result<T, Fail> {
     let told = format!(in alloc; "case {at}: {what}")?;
     Err(Fail::from(told))
 }
@@ -36,8 +36,18 @@ pub(crate) fn replies<S: ImageStore + Drop>(
 ) -> Result<Vec<Vec<u8>>, Fail> {
     let mut replies = Vec::new(alloc);
     for text in asks {
-        let handled = meter.handle(alloc, &hex::decode(alloc, *text)?)?;
-        replies.push(handled.reply.ok_or("a reply")?)?;
+        replies.push(reply(alloc, meter, text)?)?;
     }
     Ok(replies)
+}
+
+/// The reply of a meter to a datagram.
+fn reply<S: ImageStore + Drop>(
+    alloc: Global,
+    meter: &mut MeterCore<S>,
+    text: &str,
+) -> Result<Vec<u8>, Fail> {
+    let datagram = hex::decode(alloc, text)?;
+    let handled = meter.handle(alloc, &datagram)?;
+    Ok(handled.reply.ok_or("a reply")?)
 }

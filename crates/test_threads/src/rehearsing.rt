@@ -235,21 +235,27 @@ struct Scheduled(Rehearsal);
 impl Scheduled {
     /// What it reports.
     fn told<R: Threads + Wait + Sync>(&self, rt: &R, alloc: Global) -> Result<String, Fail> {
-        let Rehearsal(given, lines, rounds, _, fates) = self.0;
-        let setup = setup_of(alloc, given)?;
-        let given = events_of(alloc, &[lines])?;
-        let fates = Fates::new(fates).ok_or("1 to 4,096 fates")?;
-        let Ok(events) = schedule(alloc, &setup, &given, rounds, &fates) else {
-            return Err("an event is refused".into());
-        };
+        let (events, given) = self.scheduled(alloc)?;
         let report = self.0.ended(rt, alloc, &Open)??;
         let [receipts] = report.receipts.as_slice() else {
             return Err("not one worker".into());
         };
         let receipts = receipts.as_slice();
-        expect_same(alloc, receipts, &events, given.len())?;
+        expect_same(alloc, receipts, &events, given)?;
         let (count, turns) = (receipts.len(), turns_in(receipts));
         Ok(format!(in alloc; "{count} events, {turns} turns")?)
+    }
+
+    /// The events of its schedule, and how many of them are given.
+    fn scheduled(&self, alloc: Global) -> Result<(Vec<Event>, usize), Fail> {
+        let Rehearsal(given, lines, rounds, _, fates) = self.0;
+        let setup = setup_of(alloc, given)?;
+        let given = events_of(alloc, &[lines])?;
+        let fates = Fates::new(fates).ok_or("1 to 4,096 fates")?;
+        match schedule(alloc, &setup, &given, rounds, &fates) {
+            Ok(events) => Ok((events, given.len())),
+            Err(_) => Err("an event is refused".into()),
+        }
     }
 }
 

@@ -3,12 +3,13 @@
 ghost use Rattle.std.specs.Prelude.{◌≡◌};
 
 use crate::campaigns::{SMALL, UP_TO_ACTIVATE, UP_TO_BLOCKS, UP_TO_DONE, UP_TO_VERIFY};
-use fw_world::{Actor, Datagram, World};
+use crate::script::world_after;
+use fw_world::{Activation, Actor, Datagram, Event, World};
 use std::alloc::{AllocError, Global};
 use std::test::Fail;
 use test_support::{
-    Case, Given, Line, each, events_of, head, head_number, meter, meter_text, push, push_rows,
-    report, setup_of,
+    Case, Given, Kept, Line, each, events_of, head, head_number, meter, meter_text, push,
+    push_rows, report, setup_of,
 };
 
 /// A world takes the events one after another, also after one that is refused: each refusal, and then the report.
@@ -17,16 +18,22 @@ struct Made(&'static Given, &'static [&'static [Line]]);
 impl Case for Made {
     fn told(&self, alloc: Global) -> Result<String, Fail> {
         let setup = setup_of(alloc, self.0)?;
-        let mut world = World::new(alloc, &setup)?;
-        let mut text = String::new(alloc);
-        for event in &events_of(alloc, self.1)? {
-            if let Err(refusal) = world.step(alloc, event) {
-                push(&mut text, refusal.to_string(alloc)?.as_str())?;
-            }
-        }
-        push(&mut text, report(alloc, &setup, &world)?.as_str())?;
+        let mut world = Kept(World::new(alloc, &setup)?);
+        let mut text = refusals_text(alloc, &mut world.0, &events_of(alloc, self.1)?)?;
+        push(&mut text, report(alloc, &setup, &world.0)?.as_str())?;
         Ok(text)
     }
+}
+
+/// What a world refuses of these events, of which it takes each.
+fn refusals_text(alloc: Global, world: &mut World, events: &[Event]) -> Result<String, Fail> {
+    let mut text = String::new(alloc);
+    for event in events {
+        if let Err(refusal) = world.step(alloc, event) {
+            push(&mut text, refusal.to_string(alloc)?.as_str())?;
+        }
+    }
+    Ok(text)
 }
 
 const EVENTS: &[(Made, &str)] = &[
@@ -82,18 +89,18 @@ enum Shown {
 
 impl Case for Shown {
     fn told(&self, alloc: Global) -> Result<String, Fail> {
-        let setup = setup_of(alloc, SMALL)?;
-        let mut world = World::new(alloc, &setup)?;
         let parts = &[UP_TO_BLOCKS, UP_TO_VERIFY, UP_TO_ACTIVATE, UP_TO_DONE];
-        for event in &events_of(alloc, parts)? {
-            world.step(alloc, event)?;
-        }
-        match *self {
-            Shown::Meter(number) => shown_meter(alloc, &world, number),
-            Shown::Book(number) => shown_book(alloc, &world, number),
-            Shown::Sent => shown_sent(alloc, &world),
-            Shown::Activations => shown_activations(alloc, &world),
-        }
+        let world = world_after(alloc, &setup_of(alloc, SMALL)?, parts)?;
+        shown_text(alloc, &world.0, self)
+    }
+}
+
+fn shown_text(alloc: Global, world: &World, what: &Shown) -> Result<String, Fail> {
+    match *what {
+        Shown::Meter(number) => shown_meter(alloc, world, number),
+        Shown::Book(number) => shown_book(alloc, world, number),
+        Shown::Sent => shown_sent(alloc, world),
+        Shown::Activations => shown_activations(alloc, world),
     }
 }
 
@@ -145,18 +152,17 @@ fn actor_text(alloc: Global, actor: Actor) -> Result<String, AllocError> {
 fn shown_activations(alloc: Global, world: &World) -> Result<String, Fail> {
     let mut text = String::new(alloc);
     for activation in world.activations() {
-        let campaign = activation.name.campaign;
-        let (head, serial) = (head_number(campaign.head()), campaign.serial());
-        let (meter, bytes) = (
-            activation.meter.number(),
-            hex::encode(alloc, activation.bytes.as_slice())?,
-        );
-        push(
-            &mut text,
-            format!(in alloc; "meter {meter} {head} {serial} {bytes}")?.as_str(),
-        )?;
+        push(&mut text, activation_text(alloc, activation)?.as_str())?;
     }
     Ok(text)
+}
+
+fn activation_text(alloc: Global, activation: &Activation) -> Result<String, Fail> {
+    let campaign = activation.name.campaign;
+    let (head, serial) = (head_number(campaign.head()), campaign.serial());
+    let meter = activation.meter.number();
+    let bytes = hex::encode(alloc, activation.bytes.as_slice())?;
+    Ok(format!(in alloc; "meter {meter} {head} {serial} {bytes}")?)
 }
 
 /// The first datagram reads image_block_size under the invoke byte c0, and the second answers 2.
@@ -183,11 +189,8 @@ struct Joined(&'static Given, &'static [&'static [Line]]);
 impl Case for Joined {
     fn told(&self, alloc: Global) -> Result<String, Fail> {
         let setup = setup_of(alloc, self.0)?;
-        let mut world = World::new(alloc, &setup)?;
-        for event in &events_of(alloc, self.1)? {
-            world.step(alloc, event)?;
-        }
-        report(alloc, &setup, &rejoined(world))
+        let world = world_after(alloc, &setup, self.1)?;
+        report(alloc, &setup, &Kept(rejoined(world.into_inner())).0)
     }
 }
 

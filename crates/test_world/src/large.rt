@@ -4,7 +4,7 @@ use fw_names::{CampaignId, HeadId, MeterId};
 use fw_world::{Event, HeadSetup, MeterSetup, Setup, World};
 use std::alloc::Global;
 use std::test::Fail;
-use test_support::{expect, head, meter, report};
+use test_support::{Kept, expect, head, meter, report};
 
 /// The bytes of the image: 65 blocks of 1,024 bytes at most, and 17 slices.
 const SIZE: usize = 65_537;
@@ -65,21 +65,32 @@ fn round(
     Ok(answered)
 }
 
+/// The opening and all rounds.
+fn make_campaign(
+    alloc: Global,
+    world: &mut World,
+    head: HeadId,
+    meter: MeterId,
+) -> Result<(), Fail> {
+    world.step(alloc, &opening(alloc, head, meter)?)?;
+    let mut next = 0;
+    for _ in 0..ROUNDS {
+        next = round(alloc, world, head, meter, next)?;
+    }
+    Ok(())
+}
+
 #[test]
 fn campaign_of_65537_bytes(rt: HostRuntime) -> Result<(), Fail> {
     let alloc = rt.alloc();
     let (head, meter) = (head(7)?, meter(1)?);
     let setup = setup(alloc, head, meter)?;
-    let mut world = World::new(alloc, &setup)?;
-    world.step(alloc, &opening(alloc, head, meter)?)?;
-    let mut next = 0;
-    for _ in 0..ROUNDS {
-        next = round(alloc, &mut world, head, meter, next)?;
-    }
+    let mut world = Kept(World::new(alloc, &setup)?);
+    make_campaign(alloc, &mut world.0, head, meter)?;
     expect(
         alloc,
         0,
-        report(alloc, &setup, &world)?.as_str(),
+        report(alloc, &setup, &world.0)?.as_str(),
         "row 7 1 1 done; meter 1 status 6 active 7 1 size 65537; activations 1; sent 178",
     )
 }

@@ -1,13 +1,12 @@
 //! Old meters, whose stores have a header of version 1 before they start again: the most blocks that an image may have, and the report.
 
 use crate::campaigns::{SMALL, UP_TO_BLOCKS, UP_TO_VERIFY};
+use crate::script::world_after;
 use crate::slices::{LARGE, NINE};
 use fw_world::{Setup, World};
 use std::alloc::Global;
 use std::test::Fail;
-use test_support::{
-    Case, Given, Line, each, events_of, meter, old_setup_of, push, report, setup_of,
-};
+use test_support::{Case, Given, Line, each, meter, old_setup_of, push, report, setup_of};
 
 /// A world of old meters after all parts: the limit of meter 1, and then the report.
 struct Old(&'static Given, &'static [&'static [Line]]);
@@ -28,14 +27,15 @@ impl Case for New {
 }
 
 fn limited(alloc: Global, setup: &Setup, parts: &[&[Line]]) -> Result<String, Fail> {
-    let mut world = World::new(alloc, setup)?;
-    for event in &events_of(alloc, parts)? {
-        world.step(alloc, event)?;
-    }
+    let world = world_after(alloc, setup, parts)?;
+    limited_text(alloc, setup, &world.0)
+}
+
+fn limited_text(alloc: Global, setup: &Setup, world: &World) -> Result<String, Fail> {
     let core = world.meter(meter(1)?).ok_or("meter 1 of the setup")?;
     let limit = core.view().limit;
     let mut text = format!(in alloc; "limit {limit}")?;
-    push(&mut text, report(alloc, setup, &world)?.as_str())?;
+    push(&mut text, report(alloc, setup, world)?.as_str())?;
     Ok(text)
 }
 

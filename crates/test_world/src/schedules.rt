@@ -2,7 +2,7 @@
 
 use crate::campaigns::SMALL;
 use fw_air::{Fate, Fates, schedule};
-use fw_world::{Event, RunError, Setup, run};
+use fw_world::{Event, RunError, Setup, World, run};
 use std::alloc::{AllocError, Global};
 use std::rt::HostRuntime;
 use std::test::Fail;
@@ -29,11 +29,15 @@ impl Case for Schedule {
                 Told::Events => Ok(events_text(alloc, &events.as_slice()[given.len()..])?),
                 Told::Report => told_of(alloc, &setup, &events),
             },
-            Err(RunError::Setup(error)) => Ok(error.to_string(alloc)?),
-            Err(RunError::Event { at, cause, .. }) => Ok(format!(in alloc;
-                "refused {at} {cause}"
-            )?),
+            Err(error) => Ok(refused_text(alloc, &error)?),
         }
+    }
+}
+
+fn refused_text(alloc: Global, error: &RunError) -> Result<String, AllocError> {
+    match error {
+        RunError::Setup(error) => error.to_string(alloc),
+        RunError::Event { at, cause, .. } => format!(in alloc; "refused {at} {cause}"),
     }
 }
 
@@ -67,13 +71,15 @@ fn told_of(alloc: Global, setup: &Setup, events: &[Event]) -> Result<String, Fai
         .filter(|event| matches!(event, Event::Turn(_)))
         .count();
     match run(alloc, setup, events) {
-        Ok(world) => {
-            let mut text = report(alloc, setup, &world)?;
-            push(&mut text, format!(in alloc; "turns {turns}")?.as_str())?;
-            Ok(text)
-        }
+        Ok(world) => turned_text(alloc, setup, &world, turns),
         Err(_) => Err("a schedule is refused at no event".into()),
     }
+}
+
+fn turned_text(alloc: Global, setup: &Setup, world: &World, turns: usize) -> Result<String, Fail> {
+    let mut text = report(alloc, setup, world)?;
+    push(&mut text, format!(in alloc; "turns {turns}")?.as_str())?;
+    Ok(text)
 }
 
 const OPENED: &[Line] = &[Line::Open(7, 1, b"abc", &[1])];

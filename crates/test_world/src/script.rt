@@ -1,9 +1,23 @@
 //! Scripts: a world, what happens in it, and how it ends.
 
-use fw_world::{RunError, Setup, run};
+use fw_world::{RunError, Setup, World, run};
 use std::alloc::Global;
 use std::test::Fail;
-use test_support::{Case, Given, Line, events_of, push, report, setup_of};
+use test_support::{Case, Given, Kept, Line, events_of, push, report, setup_of};
+
+/// The world after all parts, of which no event is refused.
+pub(crate) fn world_after(
+    alloc: Global,
+    setup: &Setup,
+    parts: &[&[Line]],
+) -> Result<Kept<World>, Fail> {
+    let events = events_of(alloc, parts)?;
+    let mut world = Kept(World::new(alloc, setup)?);
+    for event in &events {
+        world.0.step(alloc, event)?;
+    }
+    Ok(world)
+}
 
 /// The report of the world after all parts, or where an event is refused, of that before it.
 pub(crate) struct Script(
@@ -28,11 +42,9 @@ fn stopped(alloc: Global, setup: &Setup, error: &RunError) -> Result<String, Fai
     match error {
         RunError::Setup(_) => Ok(name),
         RunError::Event { at, world, .. } => {
+            let refused = format!(in alloc; "refused {at} {name}")?;
             let mut text = report(alloc, setup, world)?;
-            push(
-                &mut text,
-                format!(in alloc; "refused {at} {name}")?.as_str(),
-            )?;
+            push(&mut text, refused.as_str())?;
             Ok(text)
         }
     }

@@ -20,25 +20,36 @@ struct Many(u32, u32);
 
 impl Case for Many {
     fn told(&self, alloc: Global) -> Result<String, Fail> {
-        let mut heads = Vec::new(alloc);
-        for number in 0..self.0 {
-            heads.push(HeadSetup {
-                head: head(number.wrapping_add(1))?,
-                width: 4,
-            })?;
-        }
-        let mut meters = Vec::new(alloc);
-        for number in 0..self.1 {
-            meters.push(MeterSetup {
-                meter: meter(number.wrapping_add(1))?,
-                block_size: 2,
-                capacity: 64,
-                factory: b"x".to_vec(alloc)?,
-                old: false,
-            })?;
-        }
+        let heads = first_heads(alloc, self.0)?;
+        let meters = first_meters(alloc, self.1)?;
         made(alloc, &Setup { heads, meters })
     }
+}
+
+fn first_heads(alloc: Global, count: u32) -> Result<Vec<HeadSetup>, Fail> {
+    let mut heads = Vec::new(alloc);
+    for number in 1..=count {
+        heads.push(HeadSetup {
+            head: head(number)?,
+            width: 4,
+        })?;
+    }
+    Ok(heads)
+}
+
+fn first_meters(alloc: Global, count: u32) -> Result<Vec<MeterSetup>, Fail> {
+    let mut meters = Vec::new(alloc);
+    for number in 1..=count {
+        let meter = meter(number)?;
+        meters.push(MeterSetup {
+            meter,
+            block_size: 2,
+            capacity: 64,
+            factory: b"x".to_vec(alloc)?,
+            old: false,
+        })?;
+    }
+    Ok(meters)
 }
 
 fn made(alloc: Global, setup: &Setup) -> Result<String, Fail> {

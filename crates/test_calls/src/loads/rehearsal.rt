@@ -4,7 +4,7 @@
 use crate::loads::schedule::{given, rounds_of};
 use anyhow::{Context, Result, bail};
 use fw_air::{Fate, Fates, audit, schedule};
-use fw_workers::{Gate, rehearse};
+use fw_workers::{Gate, Report, rehearse};
 use fw_world::{Event, Parts, Setup, run};
 use std::sync::Wait;
 use std::thread::Threads;
@@ -30,19 +30,7 @@ pub fn measure<R: Threads + Wait + Sync>(
     timed: bool,
 ) -> Result<u64> {
     let (setup, given) = given(rt.alloc(), meters, size)?;
-    let fates = Fates::new(&[Fate::Deliver]).context("a fate")?;
-    let start = Instant::now(rt)?;
-    let made = rehearse(
-        threads,
-        rt.alloc(),
-        &setup,
-        &given,
-        rounds_of(size),
-        workers,
-        &fates,
-        &Open,
-    )?;
-    let took = start.elapsed(rt)?;
+    let (made, took) = rehearsed(rt, threads, &setup, &given, rounds_of(size), workers)?;
     if made.board != u64::from(meters) {
         bail!("not every meter is done");
     }
@@ -56,21 +44,56 @@ pub fn measure<R: Threads + Wait + Sync>(
     Ok(count)
 }
 
+/// What workers make of these rounds, and how long that takes.
+fn rehearsed<R: Threads + Wait + Sync>(
+    rt: &HostRuntime,
+    threads: &R,
+    setup: &Setup,
+    given: &[Event],
+    rounds: u32,
+    workers: u32,
+) -> Result<(Report, Duration)> {
+    let fates = Fates::new(&[Fate::Deliver]).context("a fate")?;
+    let start = Instant::now(rt)?;
+    let made = rehearse(
+        threads,
+        rt.alloc(),
+        setup,
+        given,
+        rounds,
+        workers,
+        &fates,
+        &Open,
+    )?;
+    Ok((made, start.elapsed(rt)?))
+}
+
 /// Makes the schedule of the campaign, and audits the parts of a run of it. Counts its events.
 pub fn audited(rt: &HostRuntime, meters: u32, size: u32, timed: bool) -> Result<u64> {
     let (setup, given) = given(rt.alloc(), meters, size)?;
-    let fates = Fates::new(&[Fate::Deliver]).context("a fate")?;
-    let start = Instant::now(rt)?;
-    let made = schedule(rt.alloc(), &setup, &given, rounds_of(size), &fates);
-    let scheduled = start.elapsed(rt)?;
-    let Ok(events) = made else {
-        bail!("an event was refused");
-    };
+    let (events, scheduled) = time_schedule(rt, &setup, &given, rounds_of(size))?;
     let audited = time_audit(rt, &setup, &events)?;
     if timed {
         println!(rt; "{} {}", scheduled.as_nanos(), audited.as_nanos())?;
     }
     Ok(events.len() as u64)
+}
+
+/// The events of these rounds, and how long their schedule takes.
+fn time_schedule(
+    rt: &HostRuntime,
+    setup: &Setup,
+    given: &[Event],
+    rounds: u32,
+) -> Result<(Vec<Event>, Duration)> {
+    let fates = Fates::new(&[Fate::Deliver]).context("a fate")?;
+    let start = Instant::now(rt)?;
+    let made = schedule(rt.alloc(), setup, given, rounds, &fates);
+    let took = start.elapsed(rt)?;
+    match made {
+        Ok(events) => Ok((events, took)),
+        Err(_) => bail!("an event was refused"),
+    }
 }
 
 /// How long an audit of the parts of a run takes.

@@ -7,7 +7,7 @@ use fw_names::{CampaignId, HeadId, MeterId};
 use fw_world::{Event, HeadSetup, MeterSetup, Setup, World};
 use std::alloc::Global;
 
-/// The datagrams that come after each tick, by their places among all that are sent.
+/// The datagrams that come behind each tick, by their places among all that are sent.
 const ROUNDS: &[&[usize]] = &[
     &[0, 1],
     &[2, 3],
@@ -92,26 +92,33 @@ fn step(alloc: Global, actors: Actors, world: &mut World, event: &Event) -> Resu
     .map_err(|_| Ending::Unexpected)
 }
 
-/// Prints how the campaign ends.
-pub(crate) fn row(rt: &HostRuntime) -> Result<(), Ending> {
-    let alloc = rt.alloc();
-    let actors = Actors::new().ok_or(Ending::Unexpected)?;
+/// A new world.
+fn new_world(alloc: Global, actors: Actors) -> Result<World, Ending> {
     let setup = made(|| setup(alloc, actors))?;
-    let mut world = made(|| World::new(alloc, &setup).map_err(|_| Refused))?;
+    made(|| World::new(alloc, &setup).map_err(|_| Refused))
+}
+
+/// The opening of the campaign.
+fn open(alloc: Global, actors: Actors, world: &mut World) -> Result<(), Ending> {
     let opening = made(|| opening(alloc, actors))?;
-    step(alloc, actors, &mut world, &opening)?;
+    step(alloc, actors, world, &opening)
+}
+
+/// Its rounds.
+fn make_rounds(alloc: Global, actors: Actors, world: &mut World) -> Result<(), Ending> {
+    let tick = Event::Tick(actors.head, actors.meter);
     for round in ROUNDS {
-        step(
-            alloc,
-            actors,
-            &mut world,
-            &Event::Tick(actors.head, actors.meter),
-        )?;
+        step(alloc, actors, world, &tick)?;
         for datagram in *round {
-            step(alloc, actors, &mut world, &Event::Deliver(*datagram))?;
+            step(alloc, actors, world, &Event::Deliver(*datagram))?;
         }
     }
-    let (row, view, _sent, activations) = sight(actors, &world);
+    Ok(())
+}
+
+/// Tells what is seen of the world.
+fn tell(rt: &HostRuntime, actors: Actors, world: &World) -> Result<(), Ending> {
+    let (row, view, _sent, activations) = sight(actors, world);
     let row = row.ok_or(Ending::Unexpected)?;
     let view = view.ok_or(Ending::Unexpected)?;
     let status = view.status.number();
@@ -121,4 +128,14 @@ pub(crate) fn row(rt: &HostRuntime) -> Result<(), Ending> {
         Hex(name.as_slice())
     )?;
     Ok(())
+}
+
+/// Tells how the campaign ends.
+pub(crate) fn row(rt: &HostRuntime) -> Result<(), Ending> {
+    let alloc = rt.alloc();
+    let actors = Actors::new().ok_or(Ending::Unexpected)?;
+    let mut world = new_world(alloc, actors)?;
+    open(alloc, actors, &mut world)?;
+    make_rounds(alloc, actors, &mut world)?;
+    tell(rt, actors, &world)
 }
