@@ -6,7 +6,7 @@ use fw_kept::{KeptBook, KeptError, OpenError};
 use fw_names::HeadId;
 use std::alloc::Global;
 use std::test::Fail;
-use test_support::{Case, Takes, each, session};
+use test_support::{Case, Kept, Takes, each, session};
 
 /// A call of a book of head end 7, or a look at it.
 #[derive(Clone, Copy)]
@@ -106,10 +106,10 @@ fn joined_text(alloc: Global, records: &[Vec<u8>]) -> Result<String, Fail> {
 }
 
 /// A new book of a head end on a device in memory.
-fn new_book(alloc: Global, head: u32) -> Result<KeptBook<MemoryDevice>, Fail> {
+fn new_book(alloc: Global, head: u32) -> Result<Kept<KeptBook<MemoryDevice>>, Fail> {
     let head = HeadId::new(head).ok_or("no head end")?;
     match KeptBook::create(alloc, head, device_of(alloc, &[])?) {
-        Ok(book) => Ok(book),
+        Ok(book) => Ok(Kept(book)),
         Err((refusal, _)) => Err(Fail::from(refusal.to_string(alloc)?)),
     }
 }
@@ -118,7 +118,7 @@ fn new_book(alloc: Global, head: u32) -> Result<KeptBook<MemoryDevice>, Fail> {
 fn a_kept_book_outlives_a_cut(rt: HostRuntime) -> Result<(), Fail> {
     let alloc = rt.alloc();
     let mut book = new_book(alloc, 7)?;
-    session(alloc, &mut book, KEPT)
+    session(alloc, &mut book.0, KEPT)
 }
 
 /// The book with campaign 1, of release 5 and image `abc`, for meters 1 to 3.
@@ -182,29 +182,39 @@ struct Cut {
 
 impl Case for Cut {
     fn told(&self, alloc: Global) -> Result<String, Fail> {
-        let mut book = new_book(alloc, 7)?;
-        book.take(alloc, &Step::Open(1, 5, b"abc", &[1, 2, 3]))?;
-        let mut device = device_of(alloc, book.device().bytes())?;
-        device.fuse(self.calls.saturating_add(3), self.torn);
         let head = HeadId::new(7).ok_or("no head end")?;
+        let mut device = device_with_one(alloc)?;
+        device.fuse(self.calls.saturating_add(3), self.torn);
         match KeptBook::open(alloc, head, device) {
-            Ok(book) => opened_again_text(alloc, book),
+            Ok(book) => opened_again_text(alloc, &mut Kept(book).0),
             Err((refusal, _)) => refused_text(alloc, refusal),
         }
     }
 }
 
+/// A device with the book of campaign 1.
+fn device_with_one(alloc: Global) -> Result<MemoryDevice, Fail> {
+    let mut book = new_book(alloc, 7)?;
+    book.0.take(alloc, &Step::Open(1, 5, b"abc", &[1, 2, 3]))?;
+    device_of(alloc, book.0.device().bytes())
+}
+
 /// What comes of marks that wait and of an opening.
-fn opened_again_text(alloc: Global, book: KeptBook<MemoryDevice>) -> Result<String, Fail> {
-    let mut book = book;
+fn opened_again_text(alloc: Global, book: &mut KeptBook<MemoryDevice>) -> Result<String, Fail> {
     book.take(alloc, &Step::Fail(1, 2))?;
     book.take(alloc, &Step::Done(1, 1))?;
     let answer = book.take(alloc, &Step::Open(2, 0, b"abc", &[4]))?;
     let again = book.take(alloc, &Step::Commit)?;
     judge_cuts(alloc, book.device())?;
+    let books = books_text(alloc, book)?;
+    Ok(format!(in alloc; "{answer} {again}: {books}")?)
+}
+
+/// The book in memory, and the one that its device has.
+fn books_text(alloc: Global, book: &KeptBook<MemoryDevice>) -> Result<String, Fail> {
     let memory = name_of(alloc, &bytes_of(alloc, book.book())?)?;
     let read = name_of(alloc, &read_text(alloc, 7, book.device().bytes())?)?;
-    Ok(format!(in alloc; "{answer} {again}: {memory} {read}")?)
+    Ok(format!(in alloc; "{memory} {read}")?)
 }
 
 fn name_of(alloc: Global, text: &String) -> Result<String, Fail> {
@@ -228,17 +238,21 @@ fn judge_cuts(alloc: Global, device: &MemoryDevice) -> Result<(), Fail> {
 fn judge_disk(alloc: Global, disk: &Disk) -> Result<(), Fail> {
     for byte in [0, 1, 2, 255] {
         for size in [0, 1, 51, 160] {
-            let mut fate = Vec::new(alloc);
-            fate.resize(size, byte)?;
-            let mut fates = Vec::new(alloc);
-            fates.push(fate)?;
-            let told = read_text(alloc, 7, &disk.cut(alloc, &fates)?)?;
-            if told.as_str() != ONE && told.as_str() != TWO {
-                return Err(Fail::from(told));
-            }
+            judge_cut(alloc, disk, size, byte)?;
         }
     }
     Ok(())
+}
+
+/// The same of a cut that leaves this many bytes of the first write that waits.
+fn judge_cut(alloc: Global, disk: &Disk, size: usize, byte: u8) -> Result<(), Fail> {
+    let fates = vec![in alloc; vec![in alloc; byte; size]?]?;
+    let told = read_text(alloc, 7, &disk.cut(alloc, &fates)?)?;
+    if told.as_str() == ONE || told.as_str() == TWO {
+        Ok(())
+    } else {
+        Err(Fail::from(told))
+    }
 }
 
 const CUTS: &[(Cut, &str)] = &[
@@ -262,7 +276,7 @@ struct Opened(&'static [&'static str]);
 impl Case for Opened {
     fn told(&self, alloc: Global) -> Result<String, Fail> {
         match Journal::create(alloc, device_of(alloc, &[])?) {
-            Ok(journal) => opened_text_of(alloc, journal, self.0),
+            Ok(journal) => opened_text_of(alloc, &mut Kept(journal).0, self.0),
             Err((refusal, _)) => Err(Fail::from(refusal.to_string(alloc)?)),
         }
     }
@@ -270,10 +284,9 @@ impl Case for Opened {
 
 fn opened_text_of(
     alloc: Global,
-    journal: Journal<MemoryDevice>,
+    journal: &mut Journal<MemoryDevice>,
     records: &[&str],
 ) -> Result<String, Fail> {
-    let mut journal = journal;
     for record in records {
         journal.append(alloc, &hex::decode(alloc, record)?)?;
     }

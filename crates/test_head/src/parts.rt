@@ -6,7 +6,7 @@ use crate::client::abc_name;
 use crate::head::carried;
 use crate::transfers::{CLAIM, TO_CONFIRM};
 use fw_blocks::Width;
-use fw_head::{HeadCore, HeadParts, RowCore};
+use fw_head::{HeadCore, HeadParts, RowCore, TakenRows};
 use fw_names::{HeadId, name_of};
 use std::alloc::Global;
 use std::test::Fail;
@@ -33,12 +33,9 @@ enum Last {
 impl Case for Last {
     fn told(&self, alloc: Global) -> Result<String, Fail> {
         let HeadParts { book, width, rows } = opened(alloc)?.into_inner().take_rows();
-        let mut given = Vec::new(alloc);
-        for row in rows {
-            given.push(row)?;
-        }
-        self.change(alloc, &mut given)?;
-        match HeadCore::put_rows(alloc, book, width, given) {
+        let book = Kept(book);
+        let given = self.changed(alloc, rows)?;
+        match HeadCore::put_rows(alloc, book.into_inner(), width, given) {
             Ok(head) => shown(alloc, Kept(head)),
             Err(refused) => Ok(format!(in alloc; "{refused}")?),
         }
@@ -46,6 +43,16 @@ impl Case for Last {
 }
 
 impl Last {
+    /// The rows, of which the last one is changed.
+    fn changed(&self, alloc: Global, taken: TakenRows) -> Result<Vec<RowCore>, Fail> {
+        let mut rows = Vec::new(alloc);
+        for row in taken {
+            rows.push(row)?;
+        }
+        self.change(alloc, &mut rows)?;
+        Ok(rows)
+    }
+
     fn change(&self, alloc: Global, rows: &mut Vec<RowCore>) -> Result<(), Fail> {
         match *self {
             Last::Kept => {}
@@ -60,12 +67,11 @@ impl Last {
             Last::Doubled(serial, meter, size) => rows.push(new_row(serial, meter, size)?)?,
             Last::Released(release) => {
                 let _last = rows.pop();
-                rows.push(RowCore::new(meter(4)?, abc_name(release).ok_or("a name")?, 3))?;
+                rows.push(released_row(release)?)?;
             }
             Last::Hears(apdu) => {
-                let mut last = rows.pop().ok_or("four rows")?;
-                asks_and_hears(alloc, &mut last, apdu)?;
-                rows.push(last)?;
+                let last = rows.last_mut().ok_or("four rows")?;
+                asks_and_hears(alloc, last, apdu)?;
             }
         }
         Ok(())
@@ -86,17 +92,30 @@ impl Case for Confirm {
         let mut head = fresh(alloc)?;
         session(alloc, &mut head.0, TO_CONFIRM)?;
         let HeadParts { book, width, rows } = head.into_inner().take_rows();
-        let mut given = Vec::new(alloc);
+        let book = Kept(book);
         let mut claims = Vec::new(alloc);
-        for mut row in rows {
-            hear_all(alloc, &mut row, self.0)?;
-            claims.push(row.claim().map(|claim| claim.meter().number()))?;
-            given.push(row)?;
-        }
-        let head = HeadCore::put_rows(alloc, book, width, given)?;
-        let shown = shown(alloc, Kept(head))?;
+        let given = heard_rows(alloc, rows, self.0, &mut claims)?;
+        let head = Kept(HeadCore::put_rows(alloc, book.into_inner(), width, given)?);
+        let shown = shown(alloc, head)?;
         Ok(format!(in alloc; "{:?} {shown}", claims.as_slice())?)
     }
+}
+
+/// The rows after each heard these APDUs. The meters of their claims go to `claims`.
+fn heard_rows(
+    alloc: Global,
+    taken: TakenRows,
+    apdus: &[&str],
+    claims: &mut Vec<Option<u32>>,
+) -> Result<Vec<RowCore>, Fail> {
+    let mut rows = Vec::new(alloc);
+    for row in taken {
+        let mut row = Kept(row);
+        hear_all(alloc, &mut row.0, apdus)?;
+        claims.push(row.0.claim().map(|claim| claim.meter().number()))?;
+        rows.push(row.into_inner())?;
+    }
+    Ok(rows)
 }
 
 fn hear_all(alloc: Global, row: &mut RowCore, apdus: &[&str]) -> Result<(), Fail> {
@@ -119,6 +138,12 @@ fn opened(alloc: Global) -> Result<Kept<HeadCore>, Fail> {
     let meters = meters(alloc, &[1, 2, 3, 4])?;
     let _name = head.0.open_campaign(alloc, 1, 0, b"abc", &meters)?;
     Ok(head)
+}
+
+/// A new row of meter 4 for an image of this release.
+fn released_row(release: u32) -> Result<RowCore, Fail> {
+    let name = abc_name(release).ok_or("a name")?;
+    Ok(RowCore::new(meter(4)?, name, 3))
 }
 
 fn new_row(serial: u32, number: u32, size: u32) -> Result<RowCore, Fail> {

@@ -6,19 +6,23 @@ use fw_journal::{Journal, MemoryDevice, read_book};
 use fw_kept::read_kept;
 use std::alloc::Global;
 use std::test::Fail;
-use test_support::{Case, each};
+use test_support::{Case, Kept, each};
 
 /// A journal of these records, all committed.
-fn journal_of(alloc: Global, records: &[&str]) -> Result<Journal<MemoryDevice>, Fail> {
-    let mut journal = match Journal::create(alloc, device_of(alloc, &[])?) {
-        Ok(journal) => journal,
-        Err((refusal, _)) => return Err(Fail::from(refusal.to_string(alloc)?)),
-    };
+fn journal_of(alloc: Global, records: &[&str]) -> Result<Kept<Journal<MemoryDevice>>, Fail> {
+    let mut journal = new_journal(alloc)?;
     for record in records {
-        journal.append(alloc, &hex::decode(alloc, record)?)?;
+        journal.0.append(alloc, &hex::decode(alloc, record)?)?;
     }
-    journal.commit()?;
+    journal.0.commit()?;
     Ok(journal)
+}
+
+fn new_journal(alloc: Global) -> Result<Kept<Journal<MemoryDevice>>, Fail> {
+    match Journal::create(alloc, device_of(alloc, &[])?) {
+        Ok(journal) => Ok(Kept(journal)),
+        Err((refusal, _)) => Err(Fail::from(refusal.to_string(alloc)?)),
+    }
 }
 
 /// The records that bytes have and how many bytes there are up to their end, or what the bytes are refused for.
@@ -43,7 +47,7 @@ struct Listed(&'static [&'static str]);
 
 impl Case for Listed {
     fn told(&self, alloc: Global) -> Result<String, Fail> {
-        records_text(alloc, journal_of(alloc, self.0)?.device().bytes())
+        records_text(alloc, journal_of(alloc, self.0)?.0.device().bytes())
     }
 }
 
@@ -81,7 +85,7 @@ struct Held(&'static [&'static str]);
 
 impl Case for Held {
     fn told(&self, alloc: Global) -> Result<String, Fail> {
-        book_text(alloc, journal_of(alloc, self.0)?.device().bytes())
+        book_text(alloc, journal_of(alloc, self.0)?.0.device().bytes())
     }
 }
 

@@ -74,11 +74,11 @@ struct Made(&'static [&'static str]);
 
 impl Case for Made {
     fn told(&self, alloc: Global) -> Result<String, Fail> {
+        let head = HeadId::new(7).ok_or("no head end")?;
         let mut records = Vec::new(alloc);
         for record in self.0 {
             records.push(hex::decode(alloc, record)?)?;
         }
-        let head = HeadId::new(7).ok_or("no head end")?;
         match read_records(alloc, head, &records) {
             Ok(book) => bytes_of(alloc, &book),
             Err(refusal) => Ok(refusal.to_string(alloc)?),

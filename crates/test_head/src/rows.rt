@@ -7,7 +7,7 @@ use fw_blocks::Width;
 use fw_head::{RowCore, RowNews};
 use std::alloc::Global;
 use std::test::Fail;
-use test_support::{Takes, session};
+use test_support::{Kept, Takes, session};
 
 /// A step of a row.
 enum Step {
@@ -57,9 +57,10 @@ fn row_session(alloc: Global, parts: &[&[(Step, &str)]]) -> Result<(), Fail> {
 
 /// A new row of an image of this release takes the steps of all parts.
 fn release_session(alloc: Global, release: u32, parts: &[&[(Step, &str)]]) -> Result<(), Fail> {
-    let mut row = RowCore::new(meter()?, abc_name(release).ok_or("a name")?, 3);
+    let name = abc_name(release).ok_or("a name")?;
+    let mut row = Kept(RowCore::new(meter()?, name, 3));
     for part in parts {
-        session(alloc, &mut row, part)?;
+        session(alloc, &mut row.0, part)?;
     }
     Ok(())
 }

@@ -5,7 +5,7 @@ use fw_store::{Scratch, prepare_journal, recover};
 use fw_undo::{Change, HeaderWrite, MAX_JOURNAL_SIZE, MAX_PART_SIZE};
 use std::alloc::Global;
 use std::test::Fail;
-use test_support::{Case, each, expect};
+use test_support::{Case, Kept, each, expect};
 
 /// A write of two bytes at place 511, across the end of a sector, and of some after place 513 where there were none.
 fn write() -> HeaderWrite<'static> {
@@ -27,12 +27,20 @@ const JOURNAL: &str =
 fn the_bytes_of_a_journal(rt: HostRuntime) -> Result<(), Fail> {
     let alloc = rt.alloc();
     let bytes = write().to_bytes().ok_or("a journal")?;
-    let text = hex::encode(alloc, bytes.as_slice())?;
-    expect(alloc, 0, text.as_str(), JOURNAL)?;
+    spells(alloc, 0, bytes.as_slice(), JOURNAL)?;
     let read = HeaderWrite::from_bytes(bytes.as_slice()).ok_or("a write")?;
-    let again = read.to_bytes().ok_or("a journal")?;
-    let text = hex::encode(alloc, again.as_slice())?;
-    expect(alloc, 1, text.as_str(), JOURNAL)
+    spells(
+        alloc,
+        1,
+        read.to_bytes().ok_or("a journal")?.as_slice(),
+        JOURNAL,
+    )
+}
+
+/// These bytes have this spelling in hexadecimal.
+fn spells(alloc: Global, row: usize, bytes: &[u8], want: &str) -> Result<(), Fail> {
+    let text = hex::encode(alloc, bytes)?;
+    expect(alloc, row, text.as_str(), want)
 }
 
 /// What stands in the places of both parts.
@@ -105,21 +113,28 @@ fn prepare(
 #[test]
 fn a_journal_takes_a_cut_back(rt: HostRuntime) -> Result<(), Fail> {
     let alloc = rt.alloc();
-    let mut device = device_of(alloc, b"ab")?;
-    let mut journal = TestDevice::new(alloc, MAX_JOURNAL_SIZE)?;
-    prepare(&mut device, &mut journal, b"cd", b"e")?;
-    let text = hex::encode(alloc, journal.bytes.as_slice())?;
-    expect(alloc, 0, text.as_str(), JOURNAL)?;
-    let mut cut = device_of(alloc, b"cb")?;
-    recover(&mut cut, journal.bytes.as_slice())?;
-    expect(alloc, 1, last_of(alloc, &cut)?.as_str(), "6162")?;
-    let mut whole = device_of(alloc, b"cde")?;
-    recover(&mut whole, journal.bytes.as_slice())?;
-    expect(alloc, 2, last_of(alloc, &whole)?.as_str(), "636465")?;
-    let change = prepare(&mut device, &mut journal, b"cb", b"")?;
+    let mut device = Kept(device_of(alloc, b"ab")?);
+    let mut journal = Kept(TestDevice::new(alloc, MAX_JOURNAL_SIZE)?);
+    prepare(&mut device.0, &mut journal.0, b"cd", b"e")?;
+    spells(alloc, 0, &journal.0.bytes, JOURNAL)?;
+    recovers(alloc, 1, &journal.0.bytes, b"cb", "6162")?;
+    recovers(alloc, 2, &journal.0.bytes, b"cde", "636465")?;
+    let change = prepare(&mut device.0, &mut journal.0, b"cb", b"")?;
     if change != Change::FirstPart {
         return Err("the last part stays".into());
     }
-    let text = hex::encode(alloc, journal.bytes.as_slice())?;
-    expect(alloc, 3, text.as_str(), "")
+    spells(alloc, 3, &journal.0.bytes, "")
+}
+
+/// With this journal a device that ends with these bytes has others after its recovery.
+fn recovers(
+    alloc: Global,
+    row: usize,
+    journal: &[u8],
+    last: &[u8],
+    want: &str,
+) -> Result<(), Fail> {
+    let mut device = Kept(device_of(alloc, last)?);
+    recover(&mut device.0, journal)?;
+    expect(alloc, row, last_of(alloc, &device.0)?.as_str(), want)
 }

@@ -6,7 +6,7 @@ use crate::test_device::TestDevice;
 use fw_store::{ByteDevice, DeviceStore, FileStoreError, ImageStore, Slot};
 use std::alloc::{AllocError, Global};
 use std::test::Fail;
-use test_support::{Case, each, each_prints, session};
+use test_support::{Case, Kept, each, each_prints, session};
 
 /// A new store of 8 bytes a slot, on a device with room for as many bytes as it has.
 fn fresh(alloc: Global) -> Result<DeviceStore<TestDevice>, Fail> {
@@ -183,12 +183,12 @@ fn the_bytes_of_a_store(rt: HostRuntime) -> Result<(), Fail> {
 #[test]
 fn keeps_what_is_written(rt: HostRuntime) -> Result<(), Fail> {
     let alloc = rt.alloc();
-    let mut store = fresh(alloc)?;
-    session(alloc, &mut store, FRESH)?;
-    session(alloc, &mut store, WRITES)?;
-    session(alloc, &mut store, KEPT)?;
-    let mut again = DeviceStore::reopen_on(store.into_device())?;
-    session(alloc, &mut again, KEPT)
+    let mut store = Kept(fresh(alloc)?);
+    session(alloc, &mut store.0, FRESH)?;
+    session(alloc, &mut store.0, WRITES)?;
+    session(alloc, &mut store.0, KEPT)?;
+    let mut again = Kept(DeviceStore::reopen_on(store.into_inner().into_device())?);
+    session(alloc, &mut again.0, KEPT)
 }
 
 /// A device of N bytes, these and then zeros: the capacity of the store on it, or the refusal.
@@ -339,9 +339,9 @@ impl Case for Left {
     fn told(&self, alloc: Global) -> Result<String, Fail> {
         let mut device = fresh(alloc)?.into_device();
         device.calls_left = Some(2);
-        let mut store = DeviceStore::reopen_on(device)?;
-        session(alloc, &mut store, self.0)?;
-        let mut device = store.into_device();
+        let mut store = Kept(DeviceStore::reopen_on(device)?);
+        session(alloc, &mut store.0, self.0)?;
+        let mut device = store.into_inner().into_device();
         let fails = device.len().is_err();
         let bytes = stored_text(alloc, device.bytes.as_slice())?;
         Ok(format!(in alloc; "{fails} {bytes}")?)

@@ -5,7 +5,7 @@ use fw_verify::{Digesting, digest};
 use sha2::{Digest, Sha256};
 use std::alloc::Global;
 use std::test::Fail;
-use test_support::{Case, each};
+use test_support::{Case, Kept, each};
 
 /// The digest of the first bytes of a slot that has these bytes and others after them, over a store that fails after `calls` calls. A
 /// failure is one fault.
@@ -125,8 +125,8 @@ impl Case for Steps {
     fn told(&self, alloc: Global) -> Result<String, Fail> {
         let whole = Sha256::digest(counted(alloc, self.0)?.as_slice());
         let bytes = counted(alloc, 8_200)?;
-        let mut store = MemoryStore::new(alloc, 8_200, 2, b"xyz")?;
-        steps_text(alloc, &mut store, &bytes, self.0, &whole)
+        let mut store = Kept(MemoryStore::new(alloc, 8_200, 2, b"xyz")?);
+        steps_text(alloc, &mut store.0, &bytes, self.0, &whole)
     }
 }
 

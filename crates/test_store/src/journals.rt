@@ -5,10 +5,10 @@ use fw_journal::{
     Disk, FileDevice, FileJournal, Journal, JournalDevice, JournalError, MemoryDevice,
 };
 use std::alloc::Global;
-use std::path::PathBuf;
+use std::path::{Path, PathBuf};
 use std::test::Fail;
 use std::{env, fs};
-use test_support::{Case, Takes, each, expect, session};
+use test_support::{Case, Kept, Takes, each, expect, session};
 
 /// What opening a journal returns: its records, each with a bar after it, or the refusal.
 fn told_of<D: JournalDevice + Drop>(
@@ -68,10 +68,10 @@ fn answer_text(alloc: Global, answer: Result<(), JournalError>) -> Result<String
 }
 
 /// A new journal on a device in memory.
-fn new_journal(alloc: Global) -> Result<Journal<MemoryDevice>, Fail> {
+fn new_journal(alloc: Global) -> Result<Kept<Journal<MemoryDevice>>, Fail> {
     let device = MemoryDevice::new(alloc, Vec::new(alloc))?;
     match Journal::create(alloc, device) {
-        Ok(journal) => Ok(journal),
+        Ok(journal) => Ok(Kept(journal)),
         Err((refusal, _)) => Err(Fail::from(refusal.to_string(alloc)?)),
     }
 }
@@ -80,7 +80,7 @@ fn new_journal(alloc: Global) -> Result<Journal<MemoryDevice>, Fail> {
 fn keeps_what_is_committed(rt: HostRuntime) -> Result<(), Fail> {
     let alloc = rt.alloc();
     let mut journal = new_journal(alloc)?;
-    session(alloc, &mut journal, KEPT)
+    session(alloc, &mut journal.0, KEPT)
 }
 
 const KEPT: &[(Step, &str)] = &[
@@ -107,11 +107,18 @@ const KEPT: &[(Step, &str)] = &[
 
 /// A device with the journal of `one`, which has no past.
 fn device_of_one(alloc: Global) -> Result<MemoryDevice, Fail> {
-    let mut journal = new_journal(alloc)?;
-    journal.append(alloc, b"one")?;
-    journal.commit()?;
-    let bytes = journal.device().bytes().to_vec(alloc)?;
+    let bytes = bytes_after(alloc, &[b"one"])?;
     Ok(MemoryDevice::new(alloc, bytes)?)
+}
+
+/// The bytes of the journal of these records.
+fn bytes_after(alloc: Global, records: &[&[u8]]) -> Result<Vec<u8>, Fail> {
+    let mut journal = new_journal(alloc)?;
+    for record in records {
+        journal.0.append(alloc, record)?;
+    }
+    journal.0.commit()?;
+    Ok(journal.0.device().bytes().to_vec(alloc)?)
 }
 
 /// A device with the journal of `one` that fails after `calls` calls: what opening it returns, and a commit of `two` and `three`. Then
@@ -126,17 +133,23 @@ impl Case for Cut {
         let mut device = device_of_one(alloc)?;
         device.fuse(self.calls, self.torn);
         match Journal::open(alloc, device) {
-            Ok((journal, records)) => {
-                let opened = records_text(alloc, records.as_slice())?;
-                committed(alloc, journal, opened.as_str())
-            }
-            Err((refusal, device)) => left_text(alloc, refusal.to_string(alloc)?.as_str(), &device),
+            Ok((journal, records)) => committed(alloc, &mut Kept(journal).0, &records),
+            Err((refusal, device)) => refused(alloc, refusal, &Kept(device).0),
         }
     }
 }
 
-fn committed(alloc: Global, journal: Journal<MemoryDevice>, opened: &str) -> Result<String, Fail> {
-    let mut journal = journal;
+fn refused(alloc: Global, refusal: JournalError, device: &MemoryDevice) -> Result<String, Fail> {
+    let told = refusal.to_string(alloc)?;
+    left_text(alloc, told.as_str(), device)
+}
+
+fn committed(
+    alloc: Global,
+    journal: &mut Journal<MemoryDevice>,
+    records: &[Vec<u8>],
+) -> Result<String, Fail> {
+    let opened = records_text(alloc, records)?;
     journal.append(alloc, b"two")?;
     journal.append(alloc, b"three")?;
     let answer = answer_text(alloc, journal.commit())?;
@@ -160,22 +173,26 @@ fn left_text(alloc: Global, told: &str, device: &MemoryDevice) -> Result<String,
 fn judge_cuts(alloc: Global, disk: &Disk) -> Result<(), Fail> {
     for byte in [0, 1, 2, 255] {
         for size in [0, 1, 4, 43, 85] {
-            let left = disk.cut(alloc, &same_fates(alloc, disk.changes().len(), size, byte)?)?;
-            let told = read_text(alloc, &left)?;
-            if told.as_str() != "one|" && told.as_str() != "one|two|three|" {
-                return Err(Fail::from(told));
-            }
+            judge_cut(alloc, disk, size, byte)?;
         }
     }
     Ok(())
 }
 
+fn judge_cut(alloc: Global, disk: &Disk, size: usize, byte: u8) -> Result<(), Fail> {
+    let left = disk.cut(alloc, &same_fates(alloc, disk.changes().len(), size, byte)?)?;
+    let told = read_text(alloc, &left)?;
+    if told.as_str() == "one|" || told.as_str() == "one|two|three|" {
+        Ok(())
+    } else {
+        Err(Fail::from(told))
+    }
+}
+
 fn same_fates(alloc: Global, changes: usize, size: usize, byte: u8) -> Result<Vec<Vec<u8>>, Fail> {
     let mut fates = Vec::new(alloc);
     for _ in 0..changes {
-        let mut fate = Vec::new(alloc);
-        fate.resize(size, byte)?;
-        fates.push(fate)?;
+        fates.push(vec![in alloc; byte; size]?)?;
     }
     Ok(fates)
 }
@@ -186,16 +203,20 @@ struct Fates(&'static [&'static str]);
 
 impl Case for Fates {
     fn told(&self, alloc: Global) -> Result<String, Fail> {
-        let mut device = MemoryDevice::new(alloc, hex::decode(alloc, "00112233")?)?;
-        device.write_at(2, &[0xAA, 0xBB, 0xCC, 0xDD])?;
-        device.shorten(5)?;
         let mut fates = Vec::new(alloc);
         for fate in self.0 {
             fates.push(hex::decode(alloc, fate)?)?;
         }
-        let left = device.disk().cut(alloc, &fates)?;
+        let left = left_by(alloc, &fates)?;
         Ok(hex::encode(alloc, &left)?)
     }
+}
+
+fn left_by(alloc: Global, fates: &[Vec<u8>]) -> Result<Vec<u8>, Fail> {
+    let mut device = Kept(MemoryDevice::new(alloc, hex::decode(alloc, "00112233")?)?);
+    device.0.write_at(2, &[0xAA, 0xBB, 0xCC, 0xDD])?;
+    device.0.shorten(5)?;
+    Ok(device.0.disk().cut(alloc, fates)?)
 }
 
 /// Any bytes stand in the range of a write that isn't synced, some or all of those past the old end.
@@ -258,11 +279,7 @@ struct Turned(usize);
 
 impl Case for Turned {
     fn told(&self, alloc: Global) -> Result<String, Fail> {
-        let mut journal = new_journal(alloc)?;
-        journal.append(alloc, b"one")?;
-        journal.append(alloc, b"two")?;
-        journal.commit()?;
-        let mut bytes = journal.device().bytes().to_vec(alloc)?;
+        let mut bytes = bytes_after(alloc, &[b"one", b"two"])?;
         let byte = bytes.get_mut(self.0).ok_or("no such byte")?;
         *byte ^= 8;
         read_text(alloc, bytes.as_slice())
@@ -298,16 +315,28 @@ impl Case for Opened {
     fn told(&self, alloc: Global) -> Result<String, Fail> {
         let device = MemoryDevice::new(alloc, hex::decode(alloc, self.0)?)?;
         match Journal::open(alloc, device) {
-            Ok((journal, records)) => {
-                let told = records_text(alloc, records.as_slice())?;
-                device_text(alloc, told.as_str(), journal.device())
-            }
-            Err((refusal, device)) => {
-                let told = refusal.to_string(alloc)?;
-                device_text(alloc, told.as_str(), &device)
-            }
+            Ok((journal, records)) => opened_text(alloc, &Kept(journal).0, &records),
+            Err((refusal, device)) => refused_text(alloc, refusal, &Kept(device).0),
         }
     }
+}
+
+fn opened_text(
+    alloc: Global,
+    journal: &Journal<MemoryDevice>,
+    records: &[Vec<u8>],
+) -> Result<String, Fail> {
+    let told = records_text(alloc, records)?;
+    device_text(alloc, told.as_str(), journal.device())
+}
+
+fn refused_text(
+    alloc: Global,
+    refusal: JournalError,
+    device: &MemoryDevice,
+) -> Result<String, Fail> {
+    let told = refusal.to_string(alloc)?;
+    device_text(alloc, told.as_str(), device)
 }
 
 fn device_text(alloc: Global, told: &str, device: &MemoryDevice) -> Result<String, Fail> {
@@ -339,11 +368,8 @@ impl Case for Created {
     fn told(&self, alloc: Global) -> Result<String, Fail> {
         let device = MemoryDevice::new(alloc, hex::decode(alloc, self.0)?)?;
         match Journal::create(alloc, device) {
-            Ok(journal) => device_text(alloc, "made", journal.device()),
-            Err((refusal, device)) => {
-                let told = refusal.to_string(alloc)?;
-                device_text(alloc, told.as_str(), &device)
-            }
+            Ok(journal) => device_text(alloc, "made", Kept(journal).0.device()),
+            Err((refusal, device)) => refused_text(alloc, refusal, &Kept(device).0),
         }
     }
 }
@@ -379,32 +405,34 @@ fn file_text(opened: Result<FileDevice, JournalError>) -> &'static str {
 /// A file takes one journal at a time, and isn't made twice.
 #[test]
 fn keeps_what_is_committed_in_a_file(rt: HostRuntime) -> Result<(), Fail> {
-    let alloc = rt.alloc();
     let path = new_path(&rt, "journals.fwj")?;
-    let made = Journal::create(alloc, FileDevice::create(&rt, path.as_path())?);
-    let Ok(journal) = made else {
-        return Err("not made".into());
-    };
-    let mut journal: FileJournal = journal;
+    keeps_in(&rt, rt.alloc(), path.as_path())
+}
+
+fn keeps_in(rt: &HostRuntime, alloc: Global, path: Path) -> Result<(), Fail> {
+    match Journal::create(alloc, FileDevice::create(rt, path)?) {
+        Ok(journal) => commit_one(rt, alloc, path, &mut Kept(journal).0)?,
+        Err(_) => return Err("not made".into()),
+    }
+    let opened = Journal::open(alloc, FileDevice::open(rt, path)?);
+    let told = told_of(alloc, &opened)?;
+    fs::remove_file(rt, path)?;
+    expect(alloc, 2, told.as_str(), "one|")
+}
+
+fn commit_one(
+    rt: &HostRuntime,
+    alloc: Global,
+    path: Path,
+    journal: &mut FileJournal,
+) -> Result<(), Fail> {
     expect(
         alloc,
         0,
-        file_text(FileDevice::create(&rt, path.as_path())),
+        file_text(FileDevice::create(rt, path)),
         "BookFault",
     )?;
-    expect(
-        alloc,
-        1,
-        file_text(FileDevice::open(&rt, path.as_path())),
-        "Locked",
-    )?;
+    expect(alloc, 1, file_text(FileDevice::open(rt, path)), "Locked")?;
     journal.append(alloc, b"one")?;
-    journal.commit()?;
-    drop(journal.into_device());
-    let told = told_of(
-        alloc,
-        &Journal::open(alloc, FileDevice::open(&rt, path.as_path())?),
-    )?;
-    fs::remove_file(&rt, path.as_path())?;
-    expect(alloc, 2, told.as_str(), "one|")
+    Ok(journal.commit()?)
 }

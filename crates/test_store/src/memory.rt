@@ -4,26 +4,26 @@ use crate::calls::{Call, FRESH, KEPT, OLD_FRESH, OLD_FRONT, WRITES, called};
 use fw_store::{ImageStore, MAX_CAPACITY, MemoryStore, SetupError, Slot, StoreFault};
 use std::alloc::Global;
 use std::test::Fail;
-use test_support::{Case, Takes, each, each_prints, session};
+use test_support::{Case, Kept, Takes, each, each_prints, session};
 
 #[test]
 fn keeps_what_is_written(rt: HostRuntime) -> Result<(), Fail> {
     let alloc = rt.alloc();
-    let mut store = MemoryStore::new(alloc, 8, 2, b"abc")?;
-    session(alloc, &mut store, FRESH)?;
-    session(alloc, &mut store, WRITES)?;
-    session(alloc, &mut store, KEPT)
+    let mut store = Kept(MemoryStore::new(alloc, 8, 2, b"abc")?);
+    session(alloc, &mut store.0, FRESH)?;
+    session(alloc, &mut store.0, WRITES)?;
+    session(alloc, &mut store.0, KEPT)
 }
 
 /// An old store has a header of version 1, and takes one of either version.
 #[test]
 fn keeps_what_is_written_into_an_old_one(rt: HostRuntime) -> Result<(), Fail> {
     let alloc = rt.alloc();
-    let mut store = MemoryStore::new_old(alloc, 8, 2, b"abc")?;
-    session(alloc, &mut store, OLD_FRESH)?;
-    session(alloc, &mut store, WRITES)?;
-    session(alloc, &mut store, KEPT)?;
-    session(alloc, &mut store, OLD_AGAIN)
+    let mut store = Kept(MemoryStore::new_old(alloc, 8, 2, b"abc")?);
+    session(alloc, &mut store.0, OLD_FRESH)?;
+    session(alloc, &mut store.0, WRITES)?;
+    session(alloc, &mut store.0, KEPT)?;
+    session(alloc, &mut store.0, OLD_AGAIN)
 }
 
 const OLD_AGAIN: &[(Call, &str)] = &[
@@ -133,11 +133,11 @@ fn same_text(
     capacity: u32,
     call: &Option<Call>,
 ) -> Result<String, Fail> {
-    let mut other = MemoryStore::new(alloc, capacity, 2, b"abc")?;
+    let mut other = Kept(MemoryStore::new(alloc, capacity, 2, b"abc")?);
     if let Some(call) = call {
-        let _told = called(alloc, &mut other, call)?;
+        let _told = called(alloc, &mut other.0, call)?;
     }
-    let same = store.same(&other);
+    let same = store.same(&other.0);
     Ok(format!(in alloc; "{same}")?)
 }
 

@@ -125,13 +125,14 @@ fn refusal(
 /// The store, and the same once its fuse is set.
 fn made(alloc: Global, stored: &Stored) -> Result<MemoryStore, Fail> {
     let Stored(head, spare, _) = stored;
-    let mut store = MemoryStore::new(alloc, 64, 2, b"abc")?;
-    if spare.len() > store.capacity() as usize {
+    let header = bytes_of(head)?;
+    let mut store = test_support::Kept(MemoryStore::new(alloc, 64, 2, b"abc")?);
+    if spare.len() > store.0.capacity() as usize {
         return Err("the bytes don't fit".into());
     }
-    store.write_header(&bytes_of(head)?)?;
-    store.write(Slot::Second, 0, spare)?;
-    Ok(store)
+    store.0.write_header(&header)?;
+    store.0.write(Slot::Second, 0, spare)?;
+    Ok(store.into_inner())
 }
 
 fn fused(alloc: Global, stored: &Stored) -> Result<MemoryStore, Fail> {
