@@ -1,2 +1,1 @@
 pub mod Listings
-pub mod HeadFaults
