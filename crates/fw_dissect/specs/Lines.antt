@@ -1,0 +1,69 @@
+-- Public vocabulary: what is told of a capture. Each datagram has a line: its number, the address and the port that it came from and went to,
+-- and what it says. Each note has one too. Other packets have none.
+use Rattle.std.specs.Prelude.{◌≡◌, ℕ, ◌+◌, ◌==◌, ◌||◌, if◌then◌else◌, Bool, false, List, [], ◌∷◌, ◌++◌, Option, Some, None, slice_get, codes, decimal}
+use Rattle.std.specs.Net.Addr.{segments_of}
+use Rattle.std.specs.Net.Text.{ipv4_text, ipv6_text}
+use Rattle.fw_capture.specs.declared.fault.CaptureError.{CaptureError}
+use Rattle.fw_capture.specs.declared.packet.Note.{Note}
+use Rattle.fw_capture.specs.declared.packet.Note.TheVariants as notes
+use Rattle.fw_capture.specs.View.{Endpoint, ipv4, ipv6, Told, datagram, note, other}
+use Rattle.fw_world.specs.declared.datagram.Direction.{Direction}
+use Rattle.fw_world.specs.declared.datagram.Direction.TheVariants.{ToMeter, ToHead}
+use Rattle.fw_report.specs.declared.saying.Saying.{Saying}
+use Rattle.fw_report.specs.Saying.{Says}
+use Rattle.fw_report.specs.Trace.{saying_words}
+use Rattle.fw_dissect.specs.Records.{HoldsRecords}
+
+-- ---- which way a datagram goes
+
+-- the first byte of a GET.request, a SET.request or an ACTION.request
+abbrev pub is_request : Option ℕ → Bool
+is_request None = false
+is_request (Some tag) = tag == 0xc0 || tag == 0xc1 || tag == 0xc3
+
+-- A capture doesn't say which end is the meter. A request is for a meter, and anything else for a head end: the APDU, which is after the eight
+-- bytes of the wrapper, begins with the service.
+abbrev pub direction_of : List ℕ → Direction
+direction_of bytes = if is_request (slice_get bytes 8) then ToMeter else ToHead
+
+-- ---- the lines
+
+-- an address and a port
+abbrev pub endpoint_text : Endpoint → List ℕ
+endpoint_text (ipv4 octets port) = ipv4_text octets ++ (codes ":" ++ decimal port)
+endpoint_text (ipv6 octets port) = codes "[" ++ (ipv6_text (segments_of octets) ++ (codes "]:" ++ decimal port))
+
+abbrev pub ends_text : Endpoint → Endpoint → List ℕ
+ends_text from to = endpoint_text from ++ (codes " -> " ++ endpoint_text to)
+
+abbrev pub datagram_line : ℕ → Endpoint → Endpoint → Saying → List ℕ
+datagram_line number from to s =
+    decimal number ++ (codes " " ++ (ends_text from to ++ (codes "  " ++ (saying_words s ++ codes "\n"))))
+
+abbrev pub note_line : Note → List ℕ
+note_line notes.Start = codes "start\n"
+note_line notes.Turn = codes "turn\n"
+
+-- the line of a record, of which the datagram has this number if it tells one
+abbrev pub IsLine : ℕ → Told → List ℕ → Type 0
+IsLine number (datagram from to bytes) line = (s : Saying) × Says (direction_of bytes) bytes s × (line ≡ datagram_line number from to s)
+IsLine number (note n) line = line ≡ note_line n
+IsLine number other line = line ≡ []
+
+-- the number of the next datagram
+abbrev pub number_after : ℕ → Told → ℕ
+number_after number (datagram from to bytes) = number + 1
+number_after number (note n) = number
+number_after number other = number
+
+-- the lines of records, one after another, of which the first datagram has this number
+abbrev pub AreLines : ℕ → List (ℕ × Told) → List ℕ → Type 0
+AreLines number [] text = text ≡ []
+AreLines number (r ∷ records) text =
+    (line : List ℕ) × (rest : List ℕ) × IsLine number r.1 line × AreLines (number_after number r.1) records rest × (text ≡ line ++ rest)
+
+-- The text tells all of a capture up to its end, or up to its first fault. Datagrams are numbered from 0.
+pub record TellsCapture (capture : List ℕ) (ending : Option CaptureError) (text : List ℕ) : Type 0 where
+  pub records : List (ℕ × Told)
+  pub holds : HoldsRecords capture records ending
+  pub lines : AreLines 0 records text

@@ -1,0 +1,62 @@
+//! A capture, told up to its first fault.
+
+ghost use Rattle.std.specs.Prelude.{◌≡◌, ◌<◌, ◌≤◌, ◌^◌, ◌++◌, ℕ, List, IfOk, OnErr, length, string_bytes};
+ghost use Rattle.fw_capture.specs.View.{Told};
+ghost use Rattle.fw_dissect.specs.Records.{HasRecords};
+ghost use Rattle.fw_dissect.specs.Lines.{AreLines, TellsCapture};
+
+use crate::line::append_line;
+use fw_capture::{CaptureError, Reader};
+use std::alloc::{AllocError, Global};
+
+/// What is told of a capture.
+#[derive(Debug, Drop)]
+pub struct Dissection {
+    /// A line for each datagram, and one for each note, in the order of the capture.
+    pub text: String,
+    /// The first fault of the capture, if it has one. The text tells what stands before it.
+    pub fault: Option<CaptureError>,
+}
+
+/// What a capture tells. Each datagram has a line, with its number, from 0 on, the address and port that it came from and went to, and what
+/// it says. Each note has one too. Other packets are passed over.
+///
+/// # Errors
+///
+/// Out of memory, and only for a capture that has a file header.
+pub fn dissect(alloc: Global, capture: &[u8]) -> Result<Dissection, AllocError>
+    ensures tells { IfOk result (λ told. TellsCapture capture.now told.fault (string_bytes told.text)) }
+    ensures memory { OnErr result (24 ≤ length capture.now) }
+{
+    let mut text = String::new(alloc);
+    match Reader::new(capture) {
+        Ok(mut reader) => {
+            let fault = append_records(alloc, &mut text, &mut reader)?;
+            Ok(Dissection { text, fault })
+        }
+        Err(error) => Ok(Dissection {
+            text,
+            fault: Some(error),
+        }),
+    }
+}
+
+/// Appends the lines of the records that are left, and returns the fault at which the capture ends, if it ends at one.
+fn append_records(
+    alloc: Global,
+    text: &mut String,
+    reader: &mut Reader<'_>,
+) -> Result<Option<CaptureError>, AllocError>
+    requires { length reader.old.rest < 2 ^ 64 }
+    ensures { IfOk result (λ fault. (records : List (ℕ × Told)) × (lines : List ℕ) × HasRecords reader.old records fault
+        × AreLines 0 records lines × (string_bytes text.new ≡ string_bytes text.old ++ lines)) }
+{
+    let mut number = 0;
+    'records: loop {
+        match reader.next() {
+            Ok(Some(packet)) => number = append_line(alloc, text, number, packet.content)?,
+            Ok(None) => return Ok(None),
+            Err(error) => return Ok(Some(error)),
+        }
+    }
+}

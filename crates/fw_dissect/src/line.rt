@@ -1,0 +1,130 @@
+//! The line of a record.
+
+ghost use Rattle.std.specs.Prelude.{◌≡◌, ◌+◌, ◌<◌, ◌^◌, ◌++◌, ℕ, List, codes, IfOk, OnOk, string_bytes};
+ghost use Rattle.fw_capture.specs.View.{endpoint_of, told_in};
+ghost use Rattle.fw_report.specs.declared.saying.Saying.{Saying};
+ghost use Rattle.fw_report.specs.Saying.{Says};
+ghost use Rattle.fw_dissect.specs.Lines.{IsLine, datagram_line, direction_of, endpoint_text, ends_text, note_line, number_after};
+
+use fw_capture::{Content, Note};
+use fw_report::{Saying, answered, append_saying, asked};
+use fw_world::Direction;
+use std::alloc::{AllocError, Global};
+use std::net::{Ipv6Addr, SocketAddr};
+
+/// Appends the line of what a record tells, and returns the number of the next datagram.
+pub(crate) fn append_line(
+    alloc: Global,
+    text: &mut String,
+    number: u64,
+    content: Option<Content<'_>>,
+) -> Result<u64, AllocError>
+    requires { number + 1 < 2 ^ 64 }
+    ensures number { IfOk result (λ next. next ≡ number_after number (told_in content.entry)) }
+    ensures line { OnOk result ((line : List ℕ) × IsLine number (told_in content.entry) line
+        × (string_bytes text.new ≡ string_bytes text.old ++ line)) }
+{
+    match content {
+        None => Ok(number),
+        Some(Content::Note(note)) => {
+            text.push_str(note_line(note))?;
+            Ok(number)
+        }
+        Some(Content::Datagram { from, to, bytes }) => {
+            append_datagram(alloc, text, number, from, to, bytes)?;
+            Ok(number + 1)
+        }
+    }
+}
+
+/// The line of a note.
+fn note_line(note: Note) -> &'static str
+    ensures { result.now ≡ note_line note }
+{
+    match note {
+        Note::Start => "start\n",
+        Note::Turn => "turn\n",
+    }
+}
+
+/// Appends the line of a datagram.
+fn append_datagram(
+    alloc: Global,
+    text: &mut String,
+    number: u64,
+    from: SocketAddr,
+    to: SocketAddr,
+    bytes: &[u8],
+) -> Result<(), AllocError>
+    ensures { OnOk result ((s : Saying) × Says (direction_of bytes.now) bytes.now s
+        × (string_bytes text.new ≡ string_bytes text.old ++ datagram_line number (endpoint_of from) (endpoint_of to) s)) }
+{
+    match said(alloc, bytes) {
+        Ok(saying) => append_said(text, number, from, to, saying),
+        Err(error) => Err(error),
+    }
+}
+
+/// Appends the line of a datagram that says this.
+fn append_said(
+    text: &mut String,
+    number: u64,
+    from: SocketAddr,
+    to: SocketAddr,
+    saying: Saying,
+) -> Result<(), AllocError>
+    ensures { OnOk result (string_bytes text.new
+        ≡ string_bytes text.old ++ datagram_line number (endpoint_of from) (endpoint_of to) saying) }
+{
+    write!(text, "{number} ")?;
+    append_ends(text, from, to)?;
+    text.push_str("  ")?;
+    append_saying(text, saying)?;
+    text.push_str("\n")
+}
+
+/// Appends where a datagram came from and went to.
+fn append_ends(text: &mut String, from: SocketAddr, to: SocketAddr) -> Result<(), AllocError>
+    ensures { OnOk result (string_bytes text.new ≡ string_bytes text.old ++ ends_text (endpoint_of from) (endpoint_of to)) }
+{
+    append_endpoint(text, from)?;
+    text.push_str(" -> ")?;
+    append_endpoint(text, to)
+}
+
+/// Appends an address and a port.
+fn append_endpoint(text: &mut String, at: SocketAddr) -> Result<(), AllocError>
+    ensures { OnOk result (string_bytes text.new ≡ string_bytes text.old ++ endpoint_text (endpoint_of at)) }
+{
+    match at {
+        SocketAddr::V4(at) => {
+            let (ip, port) = (at.ip(), at.port());
+            write!(text, "{ip}:{port}")
+        }
+        SocketAddr::V6(at) => {
+            // Of the octets alone, without a scope.
+            let (ip, port) = (Ipv6Addr::from_octets(at.ip().octets()), at.port());
+            write!(text, "[{ip}]:{port}")
+        }
+    }
+}
+
+/// What a datagram says.
+fn said(alloc: Global, bytes: &[u8]) -> Result<Saying, AllocError>
+    ensures { IfOk result (Says (direction_of bytes.now) bytes.now) }
+{
+    match direction_of(bytes) {
+        Direction::ToMeter => asked(alloc, bytes),
+        Direction::ToHead => answered(alloc, bytes),
+    }
+}
+
+/// Which way a datagram goes.
+fn direction_of(bytes: &[u8]) -> Direction
+    ensures { result ≡ direction_of bytes.now }
+{
+    match bytes.get(8) {
+        Some(0xc0 | 0xc1 | 0xc3) => Direction::ToMeter,
+        _ => Direction::ToHead,
+    }
+}
