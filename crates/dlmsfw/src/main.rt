@@ -14,7 +14,7 @@ use cause::{BookPlaces, MeterPlaces};
 use clap::error::ErrorKind;
 use fw_cli::{
     Ended, run_answer, run_answer_stored, run_head, run_live, run_meter, run_name, run_rehearse,
-    run_replay, run_status,
+    run_replay, run_status, run_trace,
 };
 use fw_faults::Fault;
 use options::Invocation;
@@ -100,6 +100,11 @@ fn run<
             rt, alloc, reader, writer, terminal, &options,
         ),
         Invocation::Live(options) => run_live(rt, alloc, reader, writer, terminal, &options),
+        Invocation::Trace(None) => run_trace(alloc, reader, writer),
+        Invocation::Trace(Some(path)) => match File::open(rt, path) {
+            Ok(mut file) => run_trace(alloc, &mut file, writer),
+            Err(_) => Err(Fault::CaptureFault),
+        },
         Invocation::Meter(options) => {
             let places = MeterPlaces::of(&options);
             return match run_meter(rt, alloc, writer, options) {

@@ -8,6 +8,7 @@ mod name;
 mod rehearse;
 mod replay;
 mod status;
+mod tracing;
 
 use clap::error::ErrorKind;
 use clap::{Arg, ArgAction, ArgMatches, Command, Error};
@@ -29,6 +30,8 @@ pub(crate) enum Invocation<'a> {
     Meter(MeterOptions<'a>),
     Head(HeadOptions<'a>),
     Status(StatusOptions<'a>),
+    /// The capture in this file is told, or that of standard input.
+    Trace(Option<&'a str>),
 }
 
 /// Why the values of options that the parser let pass give no command.
@@ -110,6 +113,7 @@ fn invoked<'a>(name: &str, given: &ArgMatches<'a>) -> Option<Invocation<'a>> {
         "answer" => answer::invoked(given),
         "name" => name::invoked(given),
         "status" => status::invoked(given),
+        "trace" => tracing::invoked(given),
         "replay" => Some(Invocation::Replay(replay::options(given)?)),
         "rehearse" => Some(Invocation::Rehearse(rehearse::options(given)?)),
         "live" => Some(Invocation::Live(live::options(given)?)),
@@ -124,7 +128,7 @@ fn dlmsfw<'a>(alloc: Global) -> Result<Command<'a>, AllocError> {
         .version("0.1.0")
         .propagate_version(true)
         .about(
-            "COSEM firmware distribution: meters that answer datagrams, head ends, names of images, and scripts of campaigns",
+            "COSEM firmware distribution: meters that answer datagrams, head ends, names of images, scripts of campaigns, and captures",
         )
         .after_help(ENDINGS)
         .subcommand_required(true)
@@ -135,7 +139,8 @@ fn dlmsfw<'a>(alloc: Global) -> Result<Command<'a>, AllocError> {
         .subcommand(live::command(alloc)?)?
         .subcommand(meter::command(alloc)?)?
         .subcommand(head::command(alloc)?)?
-        .subcommand(status::command(alloc)?)
+        .subcommand(status::command(alloc)?)?
+        .subcommand(tracing::command(alloc)?)
 }
 
 /// An option with a value.

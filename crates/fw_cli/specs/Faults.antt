@@ -1,6 +1,6 @@
 -- Public vocabulary: which faults a command has, and which come before it reads or writes anything.
 use Rattle.fw_faults.specs.declared.fault.Fault.{Fault}
-use Rattle.fw_faults.specs.declared.fault.Fault.TheVariants.{BadFates, BadSetup, StoreFault, Device, BadFile, BadHeader, BadImage, Input, TooMuchInput, BadLine, EmptyImage, ImageTooLong, Event, Mismatch, ThreadRefused, Socket, Output, OutOfMemory}
+use Rattle.fw_faults.specs.declared.fault.Fault.TheVariants.{BadFates, BadSetup, StoreFault, Device, BadFile, BadHeader, BadImage, Input, TooMuchInput, BadLine, EmptyImage, ImageTooLong, BadCapture, Event, Mismatch, ThreadRefused, Socket, Output, OutOfMemory}
 use Rattle.fw_host.specs.Meters.{IsOfSetup}
 
 -- the faults that come before anything is read
@@ -16,6 +16,7 @@ ComesBeforeInput fault = ⊥
 -- the faults that come before anything is written
 abbrev pub ComesBeforeOutput : Fault → Type 0
 ComesBeforeOutput (BadLine number) = ⊥
+ComesBeforeOutput (BadCapture error) = ⊥
 ComesBeforeOutput Output = ⊥
 ComesBeforeOutput fault = Unit {0}
 
@@ -47,6 +48,15 @@ IsOfName ImageTooLong = Unit {0}
 IsOfName Output = Unit {0}
 IsOfName OutOfMemory = Unit {0}
 IsOfName fault = ⊥
+
+-- the faults of `trace`
+abbrev pub IsOfTrace : Fault → Type 0
+IsOfTrace Input = Unit {0}
+IsOfTrace TooMuchInput = Unit {0}
+IsOfTrace (BadCapture error) = Unit {0}
+IsOfTrace Output = Unit {0}
+IsOfTrace OutOfMemory = Unit {0}
+IsOfTrace fault = ⊥
 
 -- the faults of `replay`
 abbrev pub IsOfReplay : Fault → Type 0

@@ -4,6 +4,7 @@ pub mod Options
 pub mod Session
 pub mod Answering
 pub mod Naming
+pub mod Tracing
 pub mod Replaying
 pub mod Rehearsing
 pub mod Heads

@@ -14,6 +14,7 @@ mod replay;
 mod serving;
 mod status;
 mod stored;
+mod trace;
 mod workers;
 
 pub use answer::{AnswerOptions, run_answer};
@@ -25,3 +26,4 @@ pub use rehearse::{RehearseOptions, run_rehearse};
 pub use replay::{Ended, ReplayOptions, Rounds, run_replay};
 pub use status::{StatusForm, StatusOptions, run_status};
 pub use stored::{StoredOptions, run_answer_stored};
+pub use trace::run_trace;

@@ -5,6 +5,7 @@ ghost use Rattle.fw_faults.specs.declared.fault.Fault.TheVariants.{OutOfMemory};
 ghost use Rattle.fw_faults.specs.Faults.{fault_of_device, fault_of_file, fault_of_opening, fault_of_rehearsal, fault_of_reopening, fault_of_stop};
 
 use fw_book::BookError;
+use fw_capture::CaptureError;
 use fw_image::OpenError;
 use fw_journal::JournalError;
 use fw_rollout::Stop;
@@ -13,7 +14,7 @@ use fw_workers::RehearseError;
 use std::alloc::{AllocError, AllocFailed};
 use thiserror::Error;
 
-/// Why a command ended early. It prints its name, and of a bad line the number too.
+/// Why a command ended early. It prints its name, and of a bad line the number too, and of a bad capture its fault and the offset.
 #[derive(Clone, Copy, Debug, PartialEq, Eq, Error)]
 pub enum Fault {
     /// The fates aren't 1 to 4,096 of the letters `d`, `x`, `t` and `l`.
@@ -55,6 +56,12 @@ pub enum Fault {
     /// The reader had more bytes than an image can have, 16,777,216.
     #[error("ImageTooLong")]
     ImageTooLong,
+    /// The file of a capture can't be opened.
+    #[error("CaptureFault")]
+    CaptureFault,
+    /// The first fault of a capture, with the offset of its record.
+    #[error("BadCapture {0}")]
+    BadCapture(CaptureError),
     /// An event of the script that is rehearsed was refused, for another cause than memory.
     #[error("Event")]
     Event,

@@ -1,5 +1,6 @@
 //! The command `answer`, over readers and writers in memory, and over some that fail.
 
+use fw_capture::{CaptureError, CaptureFault};
 use fw_cli::{AnswerOptions, run_answer};
 use fw_faults::Fault;
 use std::alloc::Global;
@@ -337,6 +338,14 @@ const FAULTS: &[(Fault, &str)] = &[
     (Fault::TooMuchInput, "TooMuchInput"),
     (Fault::EmptyImage, "EmptyImage"),
     (Fault::ImageTooLong, "ImageTooLong"),
+    (Fault::CaptureFault, "CaptureFault"),
+    (
+        Fault::BadCapture(CaptureError {
+            fault: CaptureFault::CutPacket,
+            offset: 24,
+        }),
+        "BadCapture CutPacket 24",
+    ),
     (Fault::ListFault, "ListFault"),
     (Fault::BadList(3), "BadList 3"),
     (Fault::ImageFault, "ImageFault"),

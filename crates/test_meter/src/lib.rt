@@ -39,6 +39,8 @@ mod stored;
 #[cfg(test)]
 mod stores;
 #[cfg(test)]
+mod tracing;
+#[cfg(test)]
 mod transfer;
 #[cfg(test)]
 mod wire;

@@ -1,0 +1,58 @@
+//! The command `trace`, and its help.
+
+use super::{Invocation, STATUSES};
+use clap::{Arg, ArgMatches, Command};
+use std::alloc::{AllocError, Global};
+
+/// What the long help begins with.
+const ABOUT: &str = "\
+Tells what went over the wire: a line for each UDP datagram of a capture, in the words of `replay --trace`.
+
+CAPTURE is a file in the classic form of pcap, of dlmsfw or of a tool such as tcpdump, with microseconds or
+nanoseconds, and with the link type Ethernet, Linux cooked capture or raw IP. `tcpdump -w FILE udp port 4059`
+makes one, and `editcap -F pcap` makes one of a file in the form pcapng.
+
+Standard output gets `N FROM -> TO  WORDS` for each datagram: its number, from 0 on, the addresses and ports
+that it came from and went to, and what it says. A request is for a meter, and anything else for a head end.
+`? (N bytes)` is one that can't be read. A note of dlmsfw has a line too: `start`, where its process started, or
+`turn`, where a meter took a turn of a verification. Other packets are passed over: fragments, and those that
+aren't UDP over IP. All input is read before anything is written.
+
+Example:
+
+  ./dlmsfw trace campaign.pcap";
+
+/// What ends the long help.
+const ENDINGS: &str = "\
+Exit status:
+  0  the capture was told
+  1  a fault: standard error has `dlmsfw: NAME`, with one of these names
+       CaptureFault       CAPTURE can't be opened
+       Input              a read of CAPTURE or of standard input failed, as where it is a folder
+       TooMuchInput       the capture has more than 64 MiB
+       BadCapture F N     its first fault is F, in the record at offset N, or in the file header at 0;
+                          what stands before it was told
+       Output             standard output can't be written, as on a full disk
+       OutOfMemory        the system gives no more memory; nothing was written
+     F is ShortHeader, BadMagic, BadVersion, UnknownLink, ShortRecord, BadFraction, CutPacket, ShortLink,
+     BadIpVersion, ShortIp, BadIpHeader, BadIpLength or BadUdpLength.
+  2  a wrong command line: standard error says what is wrong";
+
+/// The command.
+pub(super) fn command<'a>(alloc: Global) -> Result<Command<'a>, AllocError> {
+    Command::new(alloc, "trace")
+        .about("Tells what the datagrams of a capture say")
+        .long_about(ABOUT)
+        .after_help(STATUSES)
+        .after_long_help(ENDINGS)
+        .arg(
+            Arg::new(alloc, "capture").value_name("CAPTURE").help(
+                "The file that has the capture; standard input if left out",
+            ),
+        )
+}
+
+/// The command with its file.
+pub(super) fn invoked<'a>(given: &ArgMatches<'a>) -> Option<Invocation<'a>> {
+    Some(Invocation::Trace(given.get_str("capture")))
+}
