@@ -1,0 +1,366 @@
+-- A dissector for Wireshark and tshark: firmware image transfer of DLMS/COSEM meters over UDP.
+--
+--   tshark -X lua_script:tools/dlmsfw.lua -r CAPTURE
+--   wireshark -X lua_script:tools/dlmsfw.lua CAPTURE
+--
+-- The fields of a datagram are the wrapper's (IEC 62056-4-7), the service's (IEC 62056-5-3), those of class 18 (IEC 62056-6-2), and the
+-- parts of an image name. What it says, in the column Info and in the field dlmsfw.says, is what `dlmsfw trace` says of it.
+--
+-- Datagrams of port 4059 are taken, and on every port those whose wrapper is right. For meters on other ports:
+-- -d udp.port==PORT,dlmsfw.
+
+local dlmsfw = Proto("dlmsfw", "DLMS/COSEM image transfer")
+local note = Proto("dlmsfw_note", "dlmsfw note")
+
+local SERVICES = {
+  [0xc0] = "GET.request", [0xc1] = "SET.request", [0xc3] = "ACTION.request",
+  [0xc4] = "GET.response", [0xc5] = "SET.response", [0xc7] = "ACTION.response",
+}
+
+local RESULTS = {
+  [0] = "success", [1] = "hardware-fault", [2] = "temporary-failure", [3] = "read-write-denied", [4] = "object-undefined",
+  [9] = "object-class-inconsistent", [11] = "object-unavailable", [12] = "type-unmatched", [13] = "scope-of-access-violated",
+  [14] = "data-block-unavailable", [15] = "long-get-or-read-aborted", [16] = "no-long-get-or-read-in-progress",
+  [17] = "long-set-or-write-aborted", [18] = "no-long-set-or-write-in-progress", [19] = "data-block-number-invalid",
+  [250] = "other-reason",
+}
+
+local CLASSES = { [1] = "Data", [18] = "Image transfer" }
+
+local METHODS = {
+  [1] = "image_transfer_initiate", [2] = "image_block_transfer", [3] = "image_verify", [4] = "image_activate",
+}
+
+local ATTRIBUTES = {
+  [1] = "logical_name", [2] = "image_block_size", [3] = "image_transferred_blocks_status",
+  [4] = "image_first_not_transferred_block_number", [5] = "image_transfer_enabled", [6] = "image_transfer_status",
+  [7] = "image_to_activate_info",
+}
+
+local STATUSES = {
+  [0] = "not initiated", [1] = "initiated", [2] = "verification initiated", [3] = "verification successful",
+  [4] = "verification failed", [5] = "activation initiated", [6] = "activation successful", [7] = "activation failed",
+}
+
+-- The objects: their class, and what the trace calls their attributes.
+local IMAGE_TRANSFER = {
+  class = 18,
+  says = {
+    [1] = "logical name", [2] = "block size", [3] = "transferred blocks", [4] = "first not transferred block",
+    [5] = "transfer enabled", [6] = "transfer status", [7] = "image to activate",
+  },
+}
+
+local OBJECTS = {
+  ["00002c0000ff"] = IMAGE_TRANSFER,
+  ["0100000200ff"] = { class = 1, says = { [1] = "logical name", [2] = "active firmware identifier" } },
+  ["0100000208ff"] = { class = 1, says = { [1] = "logical name", [2] = "active firmware signature" } },
+}
+
+local MAX_APDU = 2304
+local MAX_DEPTH = 8
+
+local fields = {
+  version = ProtoField.uint16("dlmsfw.version", "Version"),
+  source = ProtoField.uint16("dlmsfw.source", "Source wPort"),
+  destination = ProtoField.uint16("dlmsfw.destination", "Destination wPort"),
+  length = ProtoField.uint16("dlmsfw.length", "Length"),
+  service = ProtoField.uint8("dlmsfw.service", "Service", base.HEX, SERVICES),
+  invoke = ProtoField.uint8("dlmsfw.invoke", "Invoke-id and priority", base.HEX),
+  class = ProtoField.uint16("dlmsfw.class", "Class", base.DEC, CLASSES),
+  instance = ProtoField.string("dlmsfw.instance", "Instance"),
+  attribute = ProtoField.int8("dlmsfw.attribute", "Attribute", base.DEC),
+  method = ProtoField.int8("dlmsfw.method", "Method", base.DEC),
+  block = ProtoField.uint32("dlmsfw.block", "Block number"),
+  block_length = ProtoField.uint32("dlmsfw.block_length", "Bytes of the block"),
+  size = ProtoField.uint32("dlmsfw.size", "Image size"),
+  result = ProtoField.uint8("dlmsfw.result", "Result", base.DEC, RESULTS),
+  status = ProtoField.uint8("dlmsfw.status", "Image transfer status", base.DEC, STATUSES),
+  head = ProtoField.uint32("dlmsfw.name.head", "Head end"),
+  serial = ProtoField.uint32("dlmsfw.name.serial", "Campaign"),
+  release = ProtoField.uint32("dlmsfw.name.release", "Release"),
+  digest = ProtoField.bytes("dlmsfw.name.digest", "SHA-256"),
+  says = ProtoField.string("dlmsfw.says", "Says"),
+}
+dlmsfw.fields = fields
+
+local note_says = ProtoField.string("dlmsfw_note.says", "Says")
+note.fields = { note_says }
+
+-- ---- bytes that are read from left to right; each read answers nothing where they lack
+
+local function reader(buffer, offset)
+  return { buffer = buffer, at = offset, last = buffer:len() }
+end
+
+local function take(bytes, count)
+  if bytes.at + count > bytes.last then return nil end
+  local range = bytes.buffer(bytes.at, count)
+  bytes.at = bytes.at + count
+  return range
+end
+
+local function number(bytes, count)
+  local range = take(bytes, count)
+  return range and range:uint(), range
+end
+
+local function length(bytes)
+  local first = number(bytes, 1)
+  if not first then return nil end
+  if first < 0x80 then return first end
+  if first < 0x81 or first > 0x84 then return nil end
+  return (number(bytes, first - 0x80))
+end
+
+-- ---- A-XDR Data: a table with its tag and what it holds, or nothing where it is refused
+
+local SIZES = { [0] = 0, [3] = 1, [5] = 4, [6] = 4, [15] = 1, [16] = 2, [17] = 1, [18] = 2, [20] = 8, [21] = 8, [22] = 1 }
+
+local function read_data(bytes, depth)
+  if depth > MAX_DEPTH then return nil end
+  local tag = number(bytes, 1)
+  if not tag then return nil end
+  if SIZES[tag] == 0 then return { tag = tag } end
+  if SIZES[tag] then
+    local range = take(bytes, SIZES[tag])
+    return range and { tag = tag, range = range }
+  end
+  if tag ~= 1 and tag ~= 2 and tag ~= 4 and tag ~= 9 and tag ~= 10 then return nil end
+  local count = length(bytes)
+  if not count then return nil end
+  if tag == 1 or tag == 2 then
+    local items = {}
+    for i = 1, count do
+      items[i] = read_data(bytes, depth + 1)
+      if not items[i] then return nil end
+    end
+    return { tag = tag, count = count, items = items }
+  end
+  local size = tag == 4 and math.floor((count + 7) / 8) or count
+  if bytes.at + size > bytes.last then return nil end
+  local range = size > 0 and take(bytes, size) or nil
+  return { tag = tag, count = count, range = range }
+end
+
+-- ---- image names
+
+-- The parts of a name, or nothing where the bytes spell none.
+local function name_of(range, count)
+  if not range or (count ~= 41 and count ~= 45) then return nil end
+  local form, head, serial = range(0, 1):uint(), range(1, 4):uint(), range(5, 4):uint()
+  local release = 0
+  if count == 41 then
+    if form ~= 1 or (head == 0) ~= (serial == 0) then return nil end
+  else
+    release = range(9, 4):uint()
+    if form ~= 2 or head == 0 or serial == 0 or release == 0 then return nil end
+  end
+  return { head = head, serial = serial, release = release, range = range, count = count }
+end
+
+local function show_name(tree, name)
+  local part = tree:add(dlmsfw, name.range, "Image name")
+  part:add(fields.head, name.range(1, 4))
+  part:add(fields.serial, name.range(5, 4))
+  if name.count == 45 then part:add(fields.release, name.range(9, 4)) end
+  part:add(fields.digest, name.range(name.count - 32, 32))
+end
+
+local function title(name)
+  local words = string.format("campaign %u %u", name.head, name.serial)
+  if name.release == 0 then return words end
+  return string.format("%s release %u", words, name.release)
+end
+
+-- ---- what is said: words, or nothing where a datagram can't be read
+
+local function show_octets(tree, data)
+  local name = name_of(data.range, data.count)
+  if name then
+    show_name(tree, name)
+    return title(name)
+  end
+end
+
+local function brief(tree, data)
+  if data.tag == 6 then return string.format("%u", data.range:uint()) end
+  if data.tag == 3 then return data.range:uint() == 0 and "false" or "true" end
+  if data.tag == 4 then return string.format("bits %u", data.count) end
+  if data.tag == 22 then
+    tree:add(fields.status, data.range)
+    return string.format("status %u", data.range:uint())
+  end
+  if data.tag == 9 then return show_octets(tree, data) or string.format("? (%u bytes)", data.count) end
+  if data.tag == 1 then
+    for _, element in ipairs(data.items) do
+      local second = element.tag == 2 and element.items[2]
+      if second and second.tag == 9 then show_octets(tree, second) end
+    end
+    return string.format("images %u", data.count)
+  end
+  return "?"
+end
+
+-- The two elements of a structure, of these tags.
+local function two(data, first, second)
+  if not data or data.tag ~= 2 or data.count ~= 2 then return nil end
+  if data.items[1].tag ~= first or data.items[2].tag ~= second then return nil end
+  return data.items[1], data.items[2]
+end
+
+local function says_method(tree, method, parameter)
+  if method == 1 then
+    local identifier, size = two(parameter, 9, 6)
+    if not identifier then return nil end
+    tree:add(fields.size, size.range)
+    return string.format("initiate %s (%u bytes)", show_octets(tree, identifier) or "?", size.range:uint())
+  elseif method == 2 then
+    local block, bytes = two(parameter, 6, 9)
+    if not block then return nil end
+    tree:add(fields.block, block.range)
+    tree:add(fields.block_length, bytes.count):set_generated()
+    return string.format("block %u (%u bytes)", block.range:uint(), bytes.count)
+  elseif method == 3 or method == 4 then
+    if not parameter or parameter.tag ~= 15 then return nil end
+    return method == 3 and "verify" or "activate"
+  end
+end
+
+-- The descriptor of a request: class, instance, and attribute or method.
+local function read_descriptor(tree, bytes, is_action)
+  local class, class_range = number(bytes, 2)
+  local instance = take(bytes, 6)
+  local range = take(bytes, 1)
+  if not range then return nil end
+  local text = string.format("%u-%u:%u.%u.%u.%u", instance(0, 1):uint(), instance(1, 1):uint(), instance(2, 1):uint(),
+    instance(3, 1):uint(), instance(4, 1):uint(), instance(5, 1):uint())
+  tree:add(fields.class, class_range)
+  tree:add(fields.instance, instance, text)
+  local name = (is_action and METHODS or (class == 18 and ATTRIBUTES or { [1] = "logical_name", [2] = "value" }))[range:int()]
+  local item = tree:add(is_action and fields.method or fields.attribute, range)
+  if name then item:append_text(" (" .. name .. ")") end
+  local object = OBJECTS[tostring(instance:bytes()):lower()]
+  return { number = range:int(), object = object and object.class == class and object or nil }
+end
+
+local function says_request(tree, service, bytes)
+  local asked = read_descriptor(tree, bytes, service == 0xc3)
+  local choice = asked and number(bytes, 1)
+  if not choice then return nil end
+  local data
+  if service == 0xc3 then
+    if choice ~= 0 then
+      data = read_data(bytes, 1)
+      if not data then return nil end
+    end
+  else
+    if choice ~= 0 then return nil end
+    if service == 0xc1 then
+      data = read_data(bytes, 1)
+      if not data then return nil end
+    end
+  end
+  if bytes.at ~= bytes.last or not asked.object then return nil end
+  if service == 0xc0 then
+    local name = asked.object.says[asked.number]
+    return name and "get " .. name
+  end
+  if asked.object ~= IMAGE_TRANSFER then return nil end
+  if service == 0xc3 then return says_method(tree, asked.number, data) end
+  if asked.number ~= 5 or data.tag ~= 3 then return nil end
+  return data.range:uint() == 0 and "disable" or "enable"
+end
+
+local function show_result(tree, bytes)
+  local code, range = number(bytes, 1)
+  if code then tree:add(fields.result, range) end
+  return code
+end
+
+-- A Get-Data-Result: a Data, or a code, with what it says.
+local function get_data_result(tree, bytes)
+  local choice = number(bytes, 1)
+  if choice == 0 then
+    local data = read_data(bytes, 1)
+    return data and brief(tree, data)
+  elseif choice == 1 then
+    local code = show_result(tree, bytes)
+    return code and string.format("code %u", code)
+  end
+end
+
+local function says_response(tree, service, bytes)
+  local words
+  if service == 0xc4 then
+    local got = get_data_result(tree, bytes)
+    words = got and "get " .. got
+  else
+    local code = show_result(tree, bytes)
+    words = code and string.format(service == 0xc5 and "set %u" or "action %u", code)
+    if code and service == 0xc7 then
+      local returned = number(bytes, 1)
+      if not returned or (returned ~= 0 and not get_data_result(tree, bytes)) then return nil end
+    end
+  end
+  if bytes.at ~= bytes.last then return nil end
+  return words
+end
+
+local function says_apdu(tree, bytes)
+  local service, service_range = number(bytes, 1)
+  if not service or not SERVICES[service] then return nil end
+  tree:add(fields.service, service_range)
+  local form = number(bytes, 1)
+  local _, invoke = number(bytes, 1)
+  if form ~= 1 or not invoke then return nil end
+  tree:add(fields.invoke, invoke)
+  if service < 0xc4 then return says_request(tree, service, bytes) end
+  return says_response(tree, service, bytes)
+end
+
+-- ---- the wrapper
+
+local function is_wrapped(buffer)
+  local size = buffer:len()
+  return size >= 8 and size <= 8 + MAX_APDU and buffer(0, 2):uint() == 1 and buffer(6, 2):uint() == size - 8
+end
+
+function dlmsfw.dissector(buffer, pinfo, tree)
+  local size = buffer:len()
+  pinfo.cols.protocol = "dlmsfw"
+  local part = tree:add(dlmsfw, buffer())
+  local words
+  if is_wrapped(buffer) then
+    part:add(fields.version, buffer(0, 2))
+    part:add(fields.source, buffer(2, 2))
+    part:add(fields.destination, buffer(4, 2))
+    part:add(fields.length, buffer(6, 2))
+    words = says_apdu(part, reader(buffer, 8))
+  end
+  words = words or string.format("? (%u bytes)", size)
+  part:add(fields.says, words):set_generated()
+  pinfo.cols.info = words
+  return size
+end
+
+local function heuristic(buffer, pinfo, tree)
+  if not is_wrapped(buffer) or buffer:len() < 9 or not SERVICES[buffer(8, 1):uint()] then return false end
+  dlmsfw.dissector(buffer, pinfo, tree)
+  return true
+end
+
+-- A note of a process that wrote the capture: the words after "dlmsfw ".
+function note.dissector(buffer, pinfo, tree)
+  local text = buffer():string()
+  local words = text == "dlmsfw start" and "start" or (text == "dlmsfw turn" and "turn" or nil)
+  if not words then return 0 end
+  pinfo.cols.protocol = "dlmsfw"
+  pinfo.cols.info = words
+  tree:add(note, buffer()):add(note_says, buffer(), words)
+  return buffer:len()
+end
+
+DissectorTable.get("udp.port"):add(4059, dlmsfw)
+DissectorTable.get("ip.proto"):add(253, note)
+dlmsfw:register_heuristic("udp", heuristic)
