@@ -20,7 +20,7 @@ aren't UDP over IP. All input is read before anything is written.
 
 Example:
 
-  ./dlmsfw trace campaign.pcap";
+  ./dlmsfw trace examples/transfer.pcap";
 
 /// What ends the long help.
 const ENDINGS: &str = "\
