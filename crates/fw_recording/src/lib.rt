@@ -1,6 +1,10 @@
-//! Captures of what was sent in a run, for field tools.
+//! Captures of what was sent in a run, and of what a process sends and receives, for field tools.
 #![tactic(auto)]
 
+mod error;
+mod record;
 mod recording;
 
+pub use error::RecordError;
+pub use record::{write_header, write_record};
 pub use recording::capture_of;

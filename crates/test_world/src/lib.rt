@@ -10,6 +10,8 @@ mod large;
 #[cfg(test)]
 mod old_meters;
 #[cfg(test)]
+mod recording;
+#[cfg(test)]
 mod refusals;
 #[cfg(test)]
 mod restarts;
