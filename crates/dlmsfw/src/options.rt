@@ -8,7 +8,7 @@ mod name;
 mod rehearse;
 mod replay;
 mod status;
-mod tracing;
+mod trace;
 
 use clap::error::ErrorKind;
 use clap::{Arg, ArgAction, ArgMatches, Command, Error};
@@ -113,7 +113,7 @@ fn invoked<'a>(name: &str, given: &ArgMatches<'a>) -> Option<Invocation<'a>> {
         "answer" => answer::invoked(given),
         "name" => name::invoked(given),
         "status" => status::invoked(given),
-        "trace" => tracing::invoked(given),
+        "trace" => trace::invoked(given),
         "replay" => Some(Invocation::Replay(replay::options(given)?)),
         "rehearse" => Some(Invocation::Rehearse(rehearse::options(given)?)),
         "live" => Some(Invocation::Live(live::options(given)?)),
@@ -140,7 +140,7 @@ fn dlmsfw<'a>(alloc: Global) -> Result<Command<'a>, AllocError> {
         .subcommand(meter::command(alloc)?)?
         .subcommand(head::command(alloc)?)?
         .subcommand(status::command(alloc)?)?
-        .subcommand(tracing::command(alloc)?)
+        .subcommand(trace::command(alloc)?)
 }
 
 /// An option with a value.
@@ -149,7 +149,7 @@ fn option<'a>(alloc: Global, name: &'a str, value_name: &'a str) -> Arg<'a> {
 }
 
 /// The option that asks for a trace.
-fn trace<'a>(alloc: Global) -> Arg<'a> {
+fn trace_flag<'a>(alloc: Global) -> Arg<'a> {
     Arg::new(alloc, "trace")
         .long("trace")
         .action(ArgAction::SetTrue)

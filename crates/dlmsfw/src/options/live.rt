@@ -1,6 +1,6 @@
 //! The command `live`, and its help.
 
-use super::{STATUSES, option, trace};
+use super::{STATUSES, option, trace_flag};
 use clap::{ArgMatches, Command};
 use fw_cli::LiveOptions;
 use std::alloc::{AllocError, Global};
@@ -77,7 +77,7 @@ pub(super) fn command<'a>(alloc: Global) -> Result<Command<'a>, AllocError> {
                 .help("How many workers make them, 1 to 8")
                 .value_parser(clap::value_parser!(u32).range(1..=8)),
         )?
-        .arg(trace(alloc))
+        .arg(trace_flag(alloc))
 }
 
 /// The options that were given. The parser lets none of them lack.

@@ -1,6 +1,6 @@
 //! The command `rehearse`, and its help.
 
-use super::{STATUSES, option, trace};
+use super::{STATUSES, option, trace_flag};
 use clap::{ArgMatches, Command};
 use fw_cli::{RehearseOptions, Rounds};
 use std::alloc::{AllocError, Global};
@@ -82,7 +82,7 @@ pub(super) fn command<'a>(alloc: Global) -> Result<Command<'a>, AllocError> {
                 "The fates of datagrams: d it comes, x it is lost, t it comes twice, l it comes a round late",
             ),
         )?
-        .arg(trace(alloc))
+        .arg(trace_flag(alloc))
 }
 
 /// The options that were given. The parser lets none of them lack: the fates have a default.

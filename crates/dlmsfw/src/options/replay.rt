@@ -1,6 +1,6 @@
 //! The command `replay`, and its help.
 
-use super::{STATUSES, option, trace};
+use super::{STATUSES, option, trace_flag};
 use clap::{ArgMatches, Command};
 use fw_cli::{ReplayOptions, Rounds};
 use fw_report::{ReportForm, Style};
@@ -146,7 +146,7 @@ pub(super) fn command<'a>(alloc: Global) -> Result<Command<'a>, AllocError> {
                 "The fates of datagrams: d it comes, x it is lost, t it comes twice, l it comes a round late",
             ),
         )?
-        .arg(trace(alloc))?
+        .arg(trace_flag(alloc))?
         .arg(
             option(alloc, "report", "FORM")
                 .default_value(LINES)

@@ -6,17 +6,19 @@ use std::alloc::{AllocError, Global};
 
 /// What the long help begins with.
 const ABOUT: &str = "\
-Tells what went over the wire: a line for each UDP datagram of a capture, in the words of `replay --trace`.
+Tells what went over the wire: a line for each UDP datagram of a capture, in the words of a trace
+of `replay`.
 
-CAPTURE is a file in the classic form of pcap, of dlmsfw or of a tool such as tcpdump, with microseconds or
-nanoseconds, and with the link type Ethernet, Linux cooked capture or raw IP. `tcpdump -w FILE udp port 4059`
-makes one, and `editcap -F pcap` makes one of a file in the form pcapng.
+CAPTURE is a file in the classic form of pcap, as of tcpdump, with microseconds or nanoseconds, and
+with the link type Ethernet, Linux cooked capture or raw IP. `tcpdump -w FILE udp port 4059` makes
+one, and `editcap -F pcap` makes one of a file in the form pcapng.
 
-Standard output gets `N FROM -> TO  WORDS` for each datagram: its number, from 0 on, the addresses and ports
-that it came from and went to, and what it says. A request is for a meter, and anything else for a head end.
-`? (N bytes)` is one that can't be read. A note of dlmsfw has a line too: `start`, where its process started, or
-`turn`, where a meter took a turn of a verification. Other packets are passed over: fragments, and those that
-aren't UDP over IP. All input is read before anything is written.
+Standard output gets `N FROM -> TO  WORDS` for each datagram: its number, from 0 on, the addresses
+and ports that it came from and went to, and what it says. A request is for a meter, and anything
+else for a head end. `? (N bytes)` is one that can't be read. A note of dlmsfw has a line too: `start`
+where its process started, or `turn` where a meter took a turn of a verification. Other packets are
+passed over: fragments, and those that aren't UDP over IP. All input is read before anything is
+written.
 
 Example:
 
