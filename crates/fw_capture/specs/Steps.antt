@@ -1,5 +1,5 @@
 -- Public vocabulary: what the next packet of a capture is.
-use Rattle.std.specs.Prelude.{◌≡◌, ℕ, ◌+◌, List, [], drop, Option, Some, None, Result, Ok, Err}
+use Rattle.std.specs.Prelude.{◌≡◌, ◌≢◌, ℕ, ◌+◌, List, [], drop, Option, Some, None, Result, Ok, Err}
 use Rattle.fw_capture.specs.declared.fault.CaptureError.{CaptureError}
 use Rattle.fw_capture.specs.declared.packet.Packet.{Packet}
 use Rattle.fw_capture.specs.Place.{Place}
@@ -15,9 +15,10 @@ OpensAs capture (Err e) = (header_at capture ≡ Err e.fault) × (e.offset ≡ 0
 abbrev pub after : ℕ → Place → Place
 after size p = record { format = p.format; rest = drop size p.rest; offset = p.offset + size }
 
--- at the end of the capture, nothing; else the record there, which is passed; or what is wrong with it, and nothing is passed
+-- at the end of the capture, nothing; else the record there, which is passed; or what is wrong with it, and nothing is passed. At the end
+-- nothing is wrong
 abbrev pub NextGives : Place → Place → Result (Option Packet) CaptureError → Type 0
 NextGives old new (Ok None) = (old.rest ≡ []) × (new ≡ old)
 NextGives old new (Ok (Some p)) =
     (size : ℕ) × (record_at old.format old.rest ≡ Ok (p.nanoseconds, told_in p.content, size)) × (p.offset ≡ old.offset) × (new ≡ after size old)
-NextGives old new (Err e) = (record_at old.format old.rest ≡ Err e.fault) × (e.offset ≡ old.offset) × (new ≡ old)
+NextGives old new (Err e) = (record_at old.format old.rest ≡ Err e.fault) × (e.offset ≡ old.offset) × (new ≡ old) × (old.rest ≢ [])
