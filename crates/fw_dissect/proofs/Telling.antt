@@ -11,7 +11,7 @@ use Rattle.fw_capture.specs.View.{Told, datagram, note, other}
 use Rattle.fw_capture.specs.Reading.{record_at, header_at, size_at, fraction_at, time_at, fractions, ◌>>=◌}
 use Rattle.fw_capture.specs.declared.packet.Packet.{Packet}
 use Rattle.fw_capture.specs.Steps.{OpensAs, NextGives, after}
-use Rattle.fw_dissect.specs.Records.{EndsAt, HasRecords}
+use Rattle.fw_recording.specs.Records.{EndsAt, HasRecords}
 use Rattle.fw_dissect.specs.Lines.{AreLines, IsLine, number_after}
 
 -- The text went on by some lines. What tells the records from this place on goes on with these.

@@ -12,7 +12,7 @@ use Rattle.fw_world.specs.declared.datagram.Direction.TheVariants.{ToMeter, ToHe
 use Rattle.fw_report.specs.declared.saying.Saying.{Saying}
 use Rattle.fw_report.specs.Saying.{Says}
 use Rattle.fw_report.specs.Trace.{saying_words}
-use Rattle.fw_dissect.specs.Records.{HoldsRecords}
+use Rattle.fw_recording.specs.Records.{HoldsRecords}
 
 -- ---- which way a datagram goes
 

@@ -2,7 +2,7 @@
 
 ghost use Rattle.std.specs.Prelude.{◌≡◌, ◌<◌, ◌≤◌, ◌^◌, ◌++◌, ℕ, List, IfOk, OnErr, length, string_bytes};
 ghost use Rattle.fw_capture.specs.View.{Told};
-ghost use Rattle.fw_dissect.specs.Records.{HasRecords};
+ghost use Rattle.fw_recording.specs.Records.{HasRecords};
 ghost use Rattle.fw_dissect.specs.Lines.{AreLines, TellsCapture};
 
 use crate::line::append_line;

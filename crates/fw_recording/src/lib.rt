@@ -2,6 +2,7 @@
 #![tactic(auto)]
 
 mod error;
+pub mod laws;
 mod record;
 mod recording;
 

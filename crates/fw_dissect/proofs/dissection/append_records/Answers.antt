@@ -45,4 +45,4 @@ returns-in-Ok-None c =
 pub returns-in-Err : goal.returns-in-Err
 returns-in-Err c =
     ends c.args.reader.now c.records.reader c.records.number (string_bytes c.args.text.now) (string_bytes c.records.text) (Some c.in-Err.error) c.records.invariant.so_far
-    (c.in-Err.ensures.0, c.in-Err.ensures.1)
+    (c.in-Err.ensures.0, c.in-Err.ensures.1, c.in-Err.ensures.3)

@@ -1,5 +1,5 @@
 -- Public vocabulary: what the records of a whole capture tell, and how the capture ends.
-use Rattle.std.specs.Prelude.{◌≡◌, ◌⊎◌, ℕ, List, [], ◌∷◌, Option, Some, None, Ok, Err}
+use Rattle.std.specs.Prelude.{◌≡◌, ◌≢◌, ◌⊎◌, ℕ, List, [], ◌∷◌, Option, Some, None, Ok, Err}
 use Rattle.fw_capture.specs.declared.fault.CaptureError.{CaptureError}
 use Rattle.fw_capture.specs.Place.{Place}
 use Rattle.fw_capture.specs.View.{Told}
@@ -9,7 +9,7 @@ use Rattle.fw_capture.specs.Steps.{OpensAs, after}
 -- the capture ends with its last record, or at one that has this fault first
 abbrev pub EndsAt : Place → Option CaptureError → Type 0
 EndsAt place None = place.rest ≡ []
-EndsAt place (Some e) = (record_at place.format place.rest ≡ Err e.fault) × (e.offset ≡ place.offset)
+EndsAt place (Some e) = (record_at place.format place.rest ≡ Err e.fault) × (e.offset ≡ place.offset) × (place.rest ≢ [])
 
 -- from a place on there are these records, each a time and what it tells, and then the capture ends so
 abbrev pub HasRecords : Place → List (ℕ × Told) → Option CaptureError → Type 0
