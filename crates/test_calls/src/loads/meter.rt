@@ -5,28 +5,34 @@ use fw_meter::{MeterCore, OutOfMemory};
 use fw_store::{FileStore, ImageStore, MemoryStore};
 use std::alloc::{AllocError, Global};
 use std::fs;
+use test_support::Kept;
 
 /// Room for the longest image of a load.
-pub const CAPACITY: u32 = 16_777_216;
+const CAPACITY: u32 = 16_777_216;
 
 /// The image that a meter runs at first.
-pub const FACTORY: &[u8] = b"abc";
+const FACTORY: &[u8] = b"abc";
 
 /// The file of a store.
 const PATH: &str = "store";
 
 /// How often a new meter switches to an image, by the first datagrams.
 pub fn in_memory(alloc: Global, block_size: u32, sent: u32, datagrams: &[Vec<u8>]) -> Result<u64> {
+    let mut meter = new_meter(alloc, block_size)?;
+    Ok(handle(alloc, &mut meter.0, sent, datagrams)?)
+}
+
+/// A new meter over a store in memory.
+pub fn new_meter(alloc: Global, block_size: u32) -> Result<Kept<MeterCore<MemoryStore>>> {
     let store = MemoryStore::new(alloc, CAPACITY, block_size, FACTORY)?;
-    let mut meter = MeterCore::open_store(store).ok().context("a new store")?;
-    Ok(handle(alloc, &mut meter, sent, datagrams)?)
+    Ok(Kept(MeterCore::open_store(store).ok().context("a new store")?))
 }
 
 /// The same over a store in a file.
 pub fn in_file(rt: &HostRuntime, block_size: u32, sent: u32, datagrams: &[Vec<u8>]) -> Result<u64> {
     let store = FileStore::create(rt, PATH, CAPACITY, block_size, FACTORY)?;
-    let mut meter = MeterCore::open_store(store).ok().context("a new store")?;
-    let switched = handle(rt.alloc(), &mut meter, sent, datagrams)?;
+    let mut meter = Kept(MeterCore::open_store(store).ok().context("a new store")?);
+    let switched = handle(rt.alloc(), &mut meter.0, sent, datagrams)?;
     fs::remove_file(rt, PATH)?;
     Ok(switched)
 }

@@ -4,7 +4,7 @@
 use crate::loads::schedule::{given, rounds_of};
 use anyhow::{Context, Result, bail};
 use fw_air::{Fate, Fates, audit, schedule};
-use fw_workers::{Gate, Report, rehearse};
+use fw_workers::{Gate, rehearse};
 use fw_world::{Event, Parts, Setup, run};
 use std::sync::Wait;
 use std::thread::Threads;
@@ -30,7 +30,19 @@ pub fn measure<R: Threads + Wait + Sync>(
     timed: bool,
 ) -> Result<u64> {
     let (setup, given) = given(rt.alloc(), meters, size)?;
-    let (made, took) = rehearsed(rt, threads, &setup, &given, rounds_of(size), workers)?;
+    let fates = Fates::new(&[Fate::Deliver]).context("a fate")?;
+    let start = Instant::now(rt)?;
+    let made = rehearse(
+        threads,
+        rt.alloc(),
+        &setup,
+        &given,
+        rounds_of(size),
+        workers,
+        &fates,
+        &Open,
+    )?;
+    let took = start.elapsed(rt)?;
     if made.board != u64::from(meters) {
         bail!("not every meter is done");
     }
@@ -42,30 +54,6 @@ pub fn measure<R: Threads + Wait + Sync>(
         count = count.saturating_add(receipts.as_slice().len() as u64);
     }
     Ok(count)
-}
-
-/// What workers make of these rounds, and how long that takes.
-fn rehearsed<R: Threads + Wait + Sync>(
-    rt: &HostRuntime,
-    threads: &R,
-    setup: &Setup,
-    given: &[Event],
-    rounds: u32,
-    workers: u32,
-) -> Result<(Report, Duration)> {
-    let fates = Fates::new(&[Fate::Deliver]).context("a fate")?;
-    let start = Instant::now(rt)?;
-    let made = rehearse(
-        threads,
-        rt.alloc(),
-        setup,
-        given,
-        rounds,
-        workers,
-        &fates,
-        &Open,
-    )?;
-    Ok((made, start.elapsed(rt)?))
 }
 
 /// Makes the schedule of the campaign, and audits the parts of a run of it. Counts its events.

@@ -1,6 +1,6 @@
 //! Verifying an image, beside hashing the same bytes alone.
 
-use crate::loads::meter::{CAPACITY, FACTORY, handle};
+use crate::loads::meter::{handle, new_meter};
 use anyhow::{Context, Result, bail};
 use fw_meter::MeterCore;
 use fw_store::MemoryStore;
@@ -22,10 +22,9 @@ pub fn measure(
     timed: bool,
 ) -> Result<u64> {
     let image = vec![in rt.alloc(); b'a'; size as usize]?;
-    let store = MemoryStore::new(rt.alloc(), CAPACITY, BLOCK_SIZE, FACTORY)?;
-    let mut meter = MeterCore::open_store(store).ok().context("a new store")?;
+    let mut meter = new_meter(rt.alloc(), BLOCK_SIZE)?;
     for _ in 0..rounds {
-        let (verify, alone) = round(rt, &mut meter, &image, datagrams)?;
+        let (verify, alone) = round(rt, &mut meter.0, &image, datagrams)?;
         if timed {
             println!(rt; "{verify} {alone}")?;
         }

@@ -7,6 +7,7 @@ use fw_names::MeterId;
 use fw_world::{Event, Setup, World, run};
 use std::alloc::Global;
 use std::time::CpuClock;
+use test_support::Kept;
 
 /// How many blocks the head end sends at a time.
 const WIDTH: u32 = 15;
@@ -28,10 +29,11 @@ pub fn measure(rt: &HostRuntime, meters: u32, size: u32, timed: bool) -> Result<
     let start = rt.thread_cpu_time()?;
     let ended = run(rt.alloc(), &setup, &events);
     let end = rt.thread_cpu_time()?;
-    let Ok(world) = ended else {
-        bail!("an event was refused");
+    let switched = match ended {
+        Ok(world) => world.activations().len(),
+        Err(_) => bail!("an event was refused"),
     };
-    if world.activations().len() != meters as usize {
+    if switched != meters as usize {
         bail!("not every meter switched");
     }
     if timed {
@@ -42,15 +44,27 @@ pub fn measure(rt: &HostRuntime, meters: u32, size: u32, timed: bool) -> Result<
 
 /// The campaign's events. In each round the head end ticks the meters in their order, and both ends hear at once what is sent.
 fn events_of(alloc: Global, setup: &Setup, size: u32) -> Result<Vec<Event>> {
-    let mut world = World::new(alloc, setup)?;
+    let mut world = Kept(World::new(alloc, setup)?);
     let mut events = Vec::new(alloc);
-    make(alloc, &mut world, &mut events, opening(alloc, setup, size)?)?;
+    let opening = opening(alloc, setup, size)?;
+    make(alloc, &mut world.0, &mut events, opening)?;
+    make_rounds(alloc, setup, &mut world.0, &mut events)?;
+    Ok(events)
+}
+
+/// The rounds up to where no row is live.
+fn make_rounds(
+    alloc: Global,
+    setup: &Setup,
+    world: &mut World,
+    events: &mut Vec<Event>,
+) -> Result<()> {
     for _ in 0..MANY {
-        if !is_live(&world)? {
-            return Ok(events);
+        if !is_live(world)? {
+            return Ok(());
         }
         for meter in &setup.meters {
-            link_round(alloc, &mut world, &mut events, meter.meter)?;
+            link_round(alloc, world, events, meter.meter)?;
         }
     }
     bail!("the campaign has no end");

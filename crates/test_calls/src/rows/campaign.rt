@@ -6,6 +6,7 @@ use fw_image::MeterView;
 use fw_names::{CampaignId, HeadId, MeterId};
 use fw_world::{Event, HeadSetup, MeterSetup, Setup, World};
 use std::alloc::Global;
+use test_support::Kept;
 
 /// The datagrams that come behind each tick, by their places among all that are sent.
 const ROUNDS: &[&[usize]] = &[
@@ -116,7 +117,7 @@ fn make_rounds(alloc: Global, actors: Actors, world: &mut World) -> Result<(), E
     Ok(())
 }
 
-/// Tells what is seen of the world.
+/// Prints what is seen of the world.
 fn tell(rt: &HostRuntime, actors: Actors, world: &World) -> Result<(), Ending> {
     let (row, view, _sent, activations) = sight(actors, world);
     let row = row.ok_or(Ending::Unexpected)?;
@@ -130,12 +131,12 @@ fn tell(rt: &HostRuntime, actors: Actors, world: &World) -> Result<(), Ending> {
     Ok(())
 }
 
-/// Tells how the campaign ends.
+/// Prints how the campaign ends.
 pub(crate) fn row(rt: &HostRuntime) -> Result<(), Ending> {
     let alloc = rt.alloc();
     let actors = Actors::new().ok_or(Ending::Unexpected)?;
-    let mut world = new_world(alloc, actors)?;
-    open(alloc, actors, &mut world)?;
-    make_rounds(alloc, actors, &mut world)?;
-    tell(rt, actors, &world)
+    let mut world = Kept(new_world(alloc, actors)?);
+    open(alloc, actors, &mut world.0)?;
+    make_rounds(alloc, actors, &mut world.0)?;
+    tell(rt, actors, &world.0)
 }

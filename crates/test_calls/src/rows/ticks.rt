@@ -10,6 +10,7 @@ use fw_meter::MeterCore;
 use fw_names::MeterId;
 use fw_store::MemoryStore;
 use std::alloc::Global;
+use test_support::Kept;
 
 /// How many ticks are answered, and how many aren't, the last of which asks under the id of the first.
 const ANSWERED: u8 = 8;
@@ -28,11 +29,11 @@ fn sight(meter: MeterId, head: &HeadCore) -> Sight {
     row.map(|row| (row.phase(), row.returns()))
 }
 
-fn opened(alloc: Global, actors: Actors) -> Result<HeadCore, Ending> {
+fn opened(alloc: Global, actors: Actors) -> Result<Kept<HeadCore>, Ending> {
     let width = Width::new(4).ok_or(Ending::Unexpected)?;
-    let mut head = HeadCore::new(alloc, actors.head, width);
+    let mut head = Kept(HeadCore::new(alloc, actors.head, width));
     retried(
-        &mut head,
+        &mut head.0,
         |head: &HeadCore| -> Sight { sight(actors.meter, head) },
         |head: &mut HeadCore| head
             .open_campaign(alloc, 1, 0, b"abc", &[actors.meter])
@@ -80,9 +81,9 @@ fn round(
 
 /// The ticks that are answered.
 fn answered(alloc: Global, number: MeterId, head: &mut HeadCore) -> Result<(), Ending> {
-    let mut core = meter(alloc, b"x")?;
+    let mut core = Kept(meter(alloc, b"x")?);
     for _ in 0..ANSWERED {
-        round(alloc, number, head, &mut core)?;
+        round(alloc, number, head, &mut core.0)?;
     }
     Ok(())
 }
@@ -119,7 +120,7 @@ pub(crate) fn row(rt: &HostRuntime) -> Result<(), Ending> {
     let actors = Actors::new().ok_or(Ending::Unexpected)?;
     let number = actors.meter;
     let mut head = opened(alloc, actors)?;
-    answered(alloc, number, &mut head)?;
-    let invoke = unanswered(alloc, number, &mut head)?;
-    tell(rt, number, &mut head, invoke)
+    answered(alloc, number, &mut head.0)?;
+    let invoke = unanswered(alloc, number, &mut head.0)?;
+    tell(rt, number, &mut head.0, invoke)
 }
