@@ -105,14 +105,26 @@ fn open(alloc: Global, actors: Actors, world: &mut World) -> Result<(), Ending> 
     step(alloc, actors, world, &opening)
 }
 
+/// A round: a tick, and the datagrams that come after it.
+fn make_round(
+    alloc: Global,
+    actors: Actors,
+    world: &mut World,
+    datagrams: &[usize],
+) -> Result<(), Ending> {
+    let tick = Event::Tick(actors.head, actors.meter);
+    step(alloc, actors, world, &tick)?;
+    for datagram in datagrams {
+        let delivery = Event::Deliver(*datagram);
+        step(alloc, actors, world, &delivery)?;
+    }
+    Ok(())
+}
+
 /// Its rounds.
 fn make_rounds(alloc: Global, actors: Actors, world: &mut World) -> Result<(), Ending> {
-    let tick = Event::Tick(actors.head, actors.meter);
     for round in ROUNDS {
-        step(alloc, actors, world, &tick)?;
-        for datagram in *round {
-            step(alloc, actors, world, &Event::Deliver(*datagram))?;
-        }
+        make_round(alloc, actors, world, *round)?;
     }
     Ok(())
 }
