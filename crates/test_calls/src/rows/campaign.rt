@@ -6,9 +6,8 @@ use fw_image::MeterView;
 use fw_names::{CampaignId, HeadId, MeterId};
 use fw_world::{Event, HeadSetup, MeterSetup, Setup, World};
 use std::alloc::Global;
-use test_support::Kept;
 
-/// The datagrams that come behind each tick, by their places among all that are sent.
+/// The datagrams that come after each tick, by their places among all that are sent.
 const ROUNDS: &[&[usize]] = &[
     &[0, 1],
     &[2, 3],
@@ -93,45 +92,26 @@ fn step(alloc: Global, actors: Actors, world: &mut World, event: &Event) -> Resu
     .map_err(|_| Ending::Unexpected)
 }
 
-/// A new world.
-fn new_world(alloc: Global, actors: Actors) -> Result<World, Ending> {
+/// Prints how the campaign ends.
+pub(crate) fn row(rt: &HostRuntime) -> Result<(), Ending> {
+    let alloc = rt.alloc();
+    let actors = Actors::new().ok_or(Ending::Unexpected)?;
     let setup = made(|| setup(alloc, actors))?;
-    made(|| World::new(alloc, &setup).map_err(|_| Refused))
-}
-
-/// The opening of the campaign.
-fn open(alloc: Global, actors: Actors, world: &mut World) -> Result<(), Ending> {
+    let mut world = made(|| World::new(alloc, &setup).map_err(|_| Refused))?;
     let opening = made(|| opening(alloc, actors))?;
-    step(alloc, actors, world, &opening)
-}
-
-/// A round: a tick, and the datagrams that come after it.
-fn make_round(
-    alloc: Global,
-    actors: Actors,
-    world: &mut World,
-    datagrams: &[usize],
-) -> Result<(), Ending> {
-    let tick = Event::Tick(actors.head, actors.meter);
-    step(alloc, actors, world, &tick)?;
-    for datagram in datagrams {
-        let delivery = Event::Deliver(*datagram);
-        step(alloc, actors, world, &delivery)?;
-    }
-    Ok(())
-}
-
-/// Its rounds.
-fn make_rounds(alloc: Global, actors: Actors, world: &mut World) -> Result<(), Ending> {
+    step(alloc, actors, &mut world, &opening)?;
     for round in ROUNDS {
-        make_round(alloc, actors, world, *round)?;
+        step(
+            alloc,
+            actors,
+            &mut world,
+            &Event::Tick(actors.head, actors.meter),
+        )?;
+        for datagram in *round {
+            step(alloc, actors, &mut world, &Event::Deliver(*datagram))?;
+        }
     }
-    Ok(())
-}
-
-/// Prints what is seen of the world.
-fn tell(rt: &HostRuntime, actors: Actors, world: &World) -> Result<(), Ending> {
-    let (row, view, _sent, activations) = sight(actors, world);
+    let (row, view, _sent, activations) = sight(actors, &world);
     let row = row.ok_or(Ending::Unexpected)?;
     let view = view.ok_or(Ending::Unexpected)?;
     let status = view.status.number();
@@ -141,14 +121,4 @@ fn tell(rt: &HostRuntime, actors: Actors, world: &World) -> Result<(), Ending> {
         Hex(name.as_slice())
     )?;
     Ok(())
-}
-
-/// Prints how the campaign ends.
-pub(crate) fn row(rt: &HostRuntime) -> Result<(), Ending> {
-    let alloc = rt.alloc();
-    let actors = Actors::new().ok_or(Ending::Unexpected)?;
-    let mut world = Kept(new_world(alloc, actors)?);
-    open(alloc, actors, &mut world.0)?;
-    make_rounds(alloc, actors, &mut world.0)?;
-    tell(rt, actors, &world.0)
 }
