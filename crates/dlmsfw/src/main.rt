@@ -17,10 +17,11 @@ use fw_cli::{
     run_replay, run_status, run_trace,
 };
 use fw_faults::Fault;
-use options::Invocation;
+use options::{Invocation, TraceOptions};
+use std::alloc::Global;
 use std::fmt::Display;
 use std::fs::File;
-use std::io::IsTerminal;
+use std::io::{IsTerminal, Read, Write};
 use std::net::Net;
 use std::process::ExitCode;
 use std::rt::{Clock, Env, Files};
@@ -100,11 +101,7 @@ fn run<
             rt, alloc, reader, writer, terminal, &options,
         ),
         Invocation::Live(options) => run_live(rt, alloc, reader, writer, terminal, &options),
-        Invocation::Trace(None) => run_trace(alloc, reader, writer),
-        Invocation::Trace(Some(path)) => match File::open(rt, path) {
-            Ok(mut file) => run_trace(alloc, &mut file, writer),
-            Err(_) => Err(Fault::CaptureFault),
-        },
+        Invocation::Trace(options) => trace(rt, alloc, reader, writer, &options),
         Invocation::Meter(options) => {
             let places = MeterPlaces::of(&options);
             return match run_meter(rt, alloc, writer, options) {
@@ -129,6 +126,23 @@ fn run<
         Ok(()) => Ok(()),
         Err(fault) => Err(Ending::Fault(fault)),
     }
+}
+
+/// Tells the capture in the file that is named, or that of standard input.
+fn trace<F: Files<File = File>, R: Read, W: Write>(
+    rt: &F,
+    alloc: Global,
+    reader: &mut R,
+    writer: &mut W,
+    options: &TraceOptions<'_>,
+) -> Result<(), Fault> {
+    let Some(path) = options.capture else {
+        return run_trace(alloc, reader, writer);
+    };
+    let Ok(mut file) = File::open(rt, path) else {
+        return Err(Fault::CaptureFault);
+    };
+    run_trace(alloc, &mut file, writer)
 }
 
 /// The words of the command line, the first of which is the program's name.

@@ -18,6 +18,7 @@ use fw_cli::{
 };
 use std::alloc::{AllocError, AllocFailed, Global};
 use std::net::SocketAddr;
+pub(crate) use trace::TraceOptions;
 
 /// A command with its options.
 pub(crate) enum Invocation<'a> {
@@ -30,8 +31,7 @@ pub(crate) enum Invocation<'a> {
     Meter(MeterOptions<'a>),
     Head(HeadOptions<'a>),
     Status(StatusOptions<'a>),
-    /// The capture in this file is told, or that of standard input.
-    Trace(Option<&'a str>),
+    Trace(TraceOptions<'a>),
 }
 
 /// Why the values of options that the parser let pass give no command.
@@ -113,7 +113,7 @@ fn invoked<'a>(name: &str, given: &ArgMatches<'a>) -> Option<Invocation<'a>> {
         "answer" => answer::invoked(given),
         "name" => name::invoked(given),
         "status" => status::invoked(given),
-        "trace" => trace::invoked(given),
+        "trace" => Some(Invocation::Trace(trace::options(given))),
         "replay" => Some(Invocation::Replay(replay::options(given)?)),
         "rehearse" => Some(Invocation::Rehearse(rehearse::options(given)?)),
         "live" => Some(Invocation::Live(live::options(given)?)),

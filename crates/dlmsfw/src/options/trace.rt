@@ -1,6 +1,6 @@
 //! The command `trace`, and its help.
 
-use super::{Invocation, STATUSES};
+use super::STATUSES;
 use clap::{Arg, ArgMatches, Command};
 use std::alloc::{AllocError, Global};
 
@@ -54,7 +54,16 @@ pub(super) fn command<'a>(alloc: Global) -> Result<Command<'a>, AllocError> {
         )
 }
 
-/// The command with its file.
-pub(super) fn invoked<'a>(given: &ArgMatches<'a>) -> Option<Invocation<'a>> {
-    Some(Invocation::Trace(given.get_str("capture")))
+/// The options of the command.
+#[derive(Clone, Copy, Debug)]
+pub(crate) struct TraceOptions<'a> {
+    /// The file that has the capture; where it lacks, standard input has it.
+    pub(crate) capture: Option<&'a str>,
+}
+
+/// The options that were given.
+pub(super) fn options<'a>(given: &ArgMatches<'a>) -> TraceOptions<'a> {
+    TraceOptions {
+        capture: given.get_str("capture"),
+    }
 }
