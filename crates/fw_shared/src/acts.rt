@@ -143,7 +143,7 @@ impl<S: ImageStore + Drop> GuardedMeter<S> {
         ensures event { IfOk result (λ act. act.event ≡ deliver number) }
         ensures step { IfOk result (λ act. MeterServes self.old.core datagram.now act.sent self.new.core) }
         ensures left { IfOk result (λ act. act.left ≡ self.new) }
-        ensures few { IfOk result (λ act. length act.sent ≤ 1) }
+        ensures most { IfOk result (λ act. length act.sent ≤ 1) }
         ensures same { OnErr result (self.new.core ≡ self.old.core) }
     {
         let handled = self.core.handle(alloc, &datagram.bytes)?;
@@ -243,7 +243,7 @@ impl Shard {
         ensures event { IfOk result (λ act. act.event ≡ tick book.now.head meter) }
         ensures step { IfOk result (λ act. RowsTick book.now width meter self.old.rows.items act.sent self.new.rows.items) }
         ensures left { IfOk result (λ act. act.left ≡ self.new) }
-        ensures few { IfOk result (λ act. length act.sent ≤ 15) }
+        ensures most { IfOk result (λ act. length act.sent ≤ 15) }
         ensures same { OnErr result (self.new.rows.items ≡ self.old.rows.items) }
     {
         let head = book.head();
@@ -353,7 +353,7 @@ fn reply(room: &mut Room, datagram: &Datagram, meter: MeterId, reply: Option<Vec
     requires addressee { addressee datagram.now ≡ actor.Meter meter }
     requires empty { room.old ≡ [] }
     ensures sent { room.new ≡ replies datagram.now (reply_bytes reply) }
-    ensures few { length room.new ≤ 1 }
+    ensures most { length room.new ≤ 1 }
 {
     let Some(bytes) = reply else {
         return;

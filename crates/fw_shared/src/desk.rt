@@ -105,7 +105,7 @@ impl Desk {
     ) -> Result<Sent, StepError>
         requires board { seat.old.board ≡ board.now.id }
         ensures ticked { IfOk result (λ sent. seat.new ≡ noted seat.old sent.event (tick self.now.book.head meter)) }
-        ensures few { IfOk result (λ sent. sent.count ≤ 15) }
+        ensures most { IfOk result (λ sent. sent.count ≤ 15) }
         ensures listed { OnOk result (IsTrue (stands_in self.now.book meter)) }
         ensures cause { IfErr result (λ e. e ≡ (if stands_in self.now.book meter then OutOfMemory else NoSuchActor)) }
         ensures refused { IfErr result IsCoreRefusal }

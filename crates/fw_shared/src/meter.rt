@@ -72,7 +72,7 @@ impl<S: ImageStore + Drop> SharedMeter<S> {
         number: usize,
     ) -> Result<Sent, StepError>
         ensures served { IfOk result (λ sent. seat.new ≡ noted seat.old sent.event (deliver number)) }
-        ensures few { IfOk result (λ sent. sent.count ≤ 1) }
+        ensures most { IfOk result (λ sent. sent.count ≤ 1) }
         ensures refused { IfErr result IsCoreRefusal }
         ensures same { OnErr result (seat.new ≡ seat.old) }
     {

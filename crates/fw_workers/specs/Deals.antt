@@ -7,9 +7,9 @@ abbrev pub AreWorkers : ℕ → Type 0
 AreWorkers workers = (1 ≤ workers) × (workers ≤ 8)
 
 -- what worker i has of the xs: those whose place, modulo the number of workers, is i, in their order
-abbrev pub hand : {X : Type 0} → ℕ → List X → ℕ → List X
-hand {X} workers xs i = map (λ (p : ℕ × X). p.1) (filter (λ (p : ℕ × X). p.0 % workers == i) (enumerate_from 0 xs))
+abbrev pub share : {X : Type 0} → ℕ → List X → ℕ → List X
+share {X} workers xs i = map (λ (p : ℕ × X). p.1) (filter (λ (p : ℕ × X). p.0 % workers == i) (enumerate_from 0 xs))
 
--- the hand of each worker, from worker 0 on
-abbrev pub hands : {X : Type 0} → ℕ → List X → List (List X)
-hands workers xs = map (hand workers xs) (range_with_len 0 workers)
+-- the share of each worker, from worker 0 on
+abbrev pub shares : {X : Type 0} → ℕ → List X → List (List X)
+shares workers xs = map (share workers xs) (range_with_len 0 workers)

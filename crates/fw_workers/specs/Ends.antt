@@ -13,16 +13,16 @@ lowest_refusal [] = None
 lowest_refusal (Err refusal ∷ ends) = Some refusal
 lowest_refusal (Ok done ∷ ends) = lowest_refusal ends
 
--- Of these hands, in the order of their workers' numbers, the rounds of one may be refused so, and those of all lower ones may end
--- well. How the rounds of a hand may end, `may_end` says.
+-- Of these shares, in the order of their workers' numbers, the rounds of one may be refused so, and those of all lower ones may end
+-- well. How the rounds of a share may end, `may_end` says.
 abbrev pub IsLowestRefusal : {H : Type 0} → (H → End → Type 0) → List H → RoundsError → Type 0
 IsLowestRefusal may_end [] refusal = ⊥
-IsLowestRefusal may_end (hand ∷ hands) refusal = may_end hand (Err refusal) ⊎ (may_end hand (Ok tt) × IsLowestRefusal may_end hands refusal)
+IsLowestRefusal may_end (share ∷ shares) refusal = may_end share (Err refusal) ⊎ (may_end share (Ok tt) × IsLowestRefusal may_end shares refusal)
 
--- a reason of the crew itself: nothing but a worker is refused by a gate
-abbrev pub IsOfCrew : RoundsError → Type 0
-IsOfCrew unaccounted.GateShut = ⊥
-IsOfCrew other = Unit {0}
+-- a reason that is no single worker's: a gate refuses nothing but a worker
+abbrev pub IsOfAll : RoundsError → Type 0
+IsOfAll unaccounted.GateShut = ⊥
+IsOfAll other = Unit {0}
 
 -- a reason of an event of a worker: no thread is started for one
 abbrev pub IsOfEvent : RoundsError → Type 0
@@ -33,6 +33,6 @@ IsOfEvent other = Unit {0}
 abbrev pub EndsUnder : Type 0 → End → Type 0
 EndsUnder may_shut end = IsErrOf end unaccounted.GateShut → may_shut
 
--- a worker with this hand ends as its hand may end, or was not to begin
+-- a worker with this share ends as its share may end, or was not to begin
 abbrev pub EndsAs : {H : Type 0} → (H → End → Type 0) → H → End → Type 0
-EndsAs may_end hand end = may_end hand end ⊎ (end ≡ Err unaccounted.ThreadRefused)
+EndsAs may_end share end = may_end share end ⊎ (end ≡ Err unaccounted.ThreadRefused)

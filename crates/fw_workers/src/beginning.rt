@@ -42,7 +42,7 @@ pub fn begin(
     ensures workers { OnOk result (AreWorkers workers) }
     ensures setup { OnOk result (IsSetup setup.now) }
     ensures bad_setup { IsErrOf result RehearseError.BadSetup → AreWorkers workers → ¬ IsSetup setup.now }
-    ensures few { ¬ AreWorkers workers → IsErrOf result RehearseError.BadSetup }
+    ensures count { ¬ AreWorkers workers → IsErrOf result RehearseError.BadSetup }
     ensures event { IfErr result (TellsOfEvent setup.now events.now) }
     ensures made { IfErr result (λ e. e ≢ RehearseError.BadSetup → IsSetup setup.now) }
     ensures wireless { IfErr result (λ e. e ≢ RehearseError.Socket) }

@@ -1,7 +1,7 @@
 //! What is dealt to which worker.
 
 ghost use Rattle.std.specs.Prelude.{◌≡◌, ◌≤◌, IfOk, map};
-ghost use Rattle.fw_workers.specs.Deals.{hands};
+ghost use Rattle.fw_workers.specs.Deals.{shares};
 
 use std::alloc::{AllocError, Global};
 
@@ -12,14 +12,14 @@ use std::alloc::{AllocError, Global};
 /// Out of memory alone. The links are then lost.
 pub fn dealt<L: Drop>(alloc: Global, links: Vec<L>, workers: u32) -> Result<Vec<Vec<L>>, AllocError>
     requires { 1 ≤ workers }
-    ensures dealt { IfOk result (λ all. map (λ hand. hand.items) all.items ≡ hands workers links.items) }
+    ensures dealt { IfOk result (λ all. map (λ share. share.items) all.items ≡ shares workers links.items) }
 {
-    let mut hands = Vec::new(alloc);
+    let mut shares = Vec::new(alloc);
     for _ in 0..workers {
-        hands.push(Vec::new(alloc))?;
+        shares.push(Vec::new(alloc))?;
     }
     for (j, link) in links.into_iter().enumerate() {
-        hands[j % workers as usize].push(link)?;
+        shares[j % workers as usize].push(link)?;
     }
-    Ok(hands)
+    Ok(shares)
 }

@@ -1,7 +1,7 @@
 //! Why a rehearsal or a live rollout has no report.
 
 ghost use Rattle.std.specs.Prelude.{◌≡◌, ◌≢◌};
-ghost use Rattle.fw_workers.specs.Ends.{IsOfCrew, IsOfEvent};
+ghost use Rattle.fw_workers.specs.Ends.{IsOfAll, IsOfEvent};
 ghost use Rattle.fw_workers.specs.Refusals.{IsLater, of_account, of_put, of_rounds, of_setup, of_step};
 ghost use Rattle.fw_workers.specs.declared.error.RehearseError.TheVariants as refused;
 ghost use Rattle.fw_workers.specs.declared.error.RoundsError.TheVariants as unaccounted;
@@ -129,7 +129,7 @@ impl From<StepError> for RoundsError {
 }
 
 impl From<PutError> for RoundsError {
-    ghost from_gives = { λ refusal e. (e ≡ of_put refusal) × IsOfCrew e };
+    ghost from_gives = { λ refusal e. (e ≡ of_put refusal) × IsOfAll e };
 
     fn from(refusal: PutError) -> RoundsError {
         match refusal {
@@ -140,7 +140,7 @@ impl From<PutError> for RoundsError {
 }
 
 impl From<AccountError> for RoundsError {
-    ghost from_gives = { λ refusal e. (e ≡ of_account refusal) × IsOfCrew e };
+    ghost from_gives = { λ refusal e. (e ≡ of_account refusal) × IsOfAll e };
 
     fn from(refusal: AccountError) -> RoundsError {
         match refusal {

@@ -2,26 +2,26 @@
 #![tactic(auto)]
 
 mod beginning;
-mod carrier;
-mod crew;
 mod deal;
 mod error;
+mod fated_rounds;
 mod gate;
-mod lines;
 mod rehearsal;
-mod rollout;
+mod seating;
 mod shared_world;
-mod stage;
 mod start;
+mod threads;
+mod wire_thread;
 mod wired;
+mod wired_links;
 mod worker;
 
 pub use beginning::{Beginning, begin};
-pub use crew::{Hand, Task, work};
 pub use deal::dealt;
 pub use error::{RehearseError, RoundsError};
 pub use gate::Gate;
 pub use rehearsal::rehearse;
 pub use shared_world::SharedWorld;
+pub use threads::{Share, Task, work};
 pub use wired::{live, live_over};
 pub use worker::Worker;

@@ -21,12 +21,12 @@ ghost use Rattle.fw_workers.specs.Ends.{EndsUnder};
 ghost use Rattle.fw_workers.specs.Refusals.{TellsOfEvent};
 
 use crate::beginning::{Beginning, begin};
-use crate::crew::{Hand, Task, work};
 use crate::deal::dealt;
 use crate::error::{RehearseError, RoundsError};
+use crate::fated_rounds::{FatedLink, FatedRounds};
 use crate::gate::Gate;
-use crate::rollout::{FatedLink, FatedRounds};
 use crate::shared_world::SharedWorld;
+use crate::threads::{Share, Task, work};
 use crate::worker::Worker;
 use fw_accounts::Report;
 use fw_air::{Fate, Fates, links_of};
@@ -38,12 +38,12 @@ use std::thread::Threads;
 /// The links of a worker, and the fates of what is sent on them.
 #[derive(Drop)]
 struct FatedLinks<'a> {
-    lines: Vec<FatedLink>,
+    links: Vec<FatedLink>,
     fates: &'a [Fate],
     ghost are_fates: { IsFates fates.now },
 }
 
-impl<'a> Hand for FatedLinks<'a> {
+impl<'a> Share for FatedLinks<'a> {
     ghost may_end = { λ may_shut _ end. EndsUnder may_shut end };
 
     fn rounds<R: Wait, G: Gate>(
@@ -57,12 +57,12 @@ impl<'a> Hand for FatedLinks<'a> {
         let Some(fates) = Fates::new(self.fates) else {
             unreachable!();
         };
-        let rollout = FatedRounds {
+        let all = FatedRounds {
             shared,
             fates: &fates,
             rounds,
         };
-        rollout.rounds(rt, alloc, worker, &mut self.lines)
+        all.rounds(rt, alloc, worker, &mut self.links)
     }
 }
 
@@ -96,7 +96,7 @@ pub fn rehearse<R: Threads + Wait + Sync, G: Gate + Sync>(
     ensures workers { OnOk result (AreWorkers workers) }
     ensures setup { OnOk result (IsSetup setup.now) }
     ensures bad_setup { IsErrOf result RehearseError.BadSetup → AreWorkers workers → ¬ IsSetup setup.now }
-    ensures few { ¬ AreWorkers workers → IsErrOf result RehearseError.BadSetup }
+    ensures count { ¬ AreWorkers workers → IsErrOf result RehearseError.BadSetup }
     ensures event { IfErr result (TellsOfEvent setup.now events.now) }
     ensures made { IfErr result (λ e. e ≢ RehearseError.BadSetup → IsSetup setup.now) }
     ensures wireless { IfErr result (λ e. e ≢ RehearseError.Socket) }
@@ -127,22 +127,22 @@ fn by_fates<R: Threads + Wait + Sync, G: Gate + Sync>(
         r.world r.board r.receipts.items) }
     ensures shut { IsErrOf result RoundsError.GateShut → G.may_shut }
 {
-    let lines = lines_of(alloc, task.setup, &opening.world)?;
-    let mut hands = Vec::new(alloc);
-    for lines in dealt(alloc, lines, task.workers)? {
+    let links = fated_links(alloc, task.setup, &opening.world)?;
+    let mut shares = Vec::new(alloc);
+    for links in dealt(alloc, links, task.workers)? {
         let fates = fates.as_slice();
-        hands.push(FatedLinks { lines, fates })?;
+        shares.push(FatedLinks { links, fates })?;
     }
-    work(rt, alloc, task, opening, hands)
+    work(rt, alloc, task, opening, shares)
 }
 
 /// The links of a world, on which nothing was sent.
-fn lines_of(alloc: Global, setup: &Setup, world: &World) -> Result<Vec<FatedLink>, RoundsError>
+fn fated_links(alloc: Global, setup: &Setup, world: &World) -> Result<Vec<FatedLink>, RoundsError>
     ensures { IfErr result (λ e. e ≡ RoundsError.OutOfMemory) }
 {
-    let mut lines = Vec::new(alloc);
+    let mut links = Vec::new(alloc);
     for link in links_of(alloc, setup, world)? {
-        lines.push(FatedLink::new(link))?;
+        links.push(FatedLink::new(link))?;
     }
-    Ok(lines)
+    Ok(links)
 }

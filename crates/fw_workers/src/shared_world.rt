@@ -5,7 +5,7 @@ ghost use Rattle.std.specs.Prelude.{◌≡◌, ◌≤◌, false, IsTrue, None, I
 ghost use Rattle.std.specs.Option.{option_copied};
 ghost use Rattle.fw_air.specs.Rounds.{stands_in};
 ghost use Rattle.fw_world.specs.Step.{deliver, tick};
-ghost use Rattle.fw_workers.specs.Ends.{IsOfCrew, IsOfEvent};
+ghost use Rattle.fw_workers.specs.Ends.{IsOfAll, IsOfEvent};
 ghost use Rattle.fw_workers.specs.Seated.{HasLetHear, HasLooked, HasMade, HasTurned, desk_of, meter_of};
 
 use crate::beginning::Beginning;
@@ -64,7 +64,7 @@ impl SharedWorld {
         receipts: Vec<Receipts>,
     ) -> Result<LeftByWorkers, RoundsError>
         requires { seat.board ≡ self.board.id }
-        ensures { IfErr result IsOfCrew }
+        ensures { IfErr result IsOfAll }
     {
         let SharedWorld {
             desks,
@@ -108,7 +108,7 @@ impl SharedWorld {
         requires { worker.old.board ≡ self.now.board.id }
         ensures board { worker.new.board ≡ worker.old.board }
         ensures made { IfOk result (λ sent. HasMade worker.old sent.event (tick head meter) worker.new) }
-        ensures few { IfOk result (λ sent. sent.count ≤ 15) }
+        ensures most { IfOk result (λ sent. sent.count ≤ 15) }
         ensures unknown { desk_of self.now.desks.items head ≡ None → IsErrOf result RoundsError.Mismatch }
         ensures mismatch { IsErrOf result RoundsError.Mismatch
             → IfSome (desk_of self.now.desks.items head) (λ desk. stands_in desk.book meter ≡ false) }
@@ -141,7 +141,7 @@ impl SharedWorld {
         requires { worker.old.board ≡ self.now.board.id }
         ensures board { worker.new.board ≡ worker.old.board }
         ensures made { IfOk result (λ sent. HasMade worker.old sent.event (deliver number) worker.new) }
-        ensures few { IfOk result (λ sent. sent.count ≤ 1) }
+        ensures most { IfOk result (λ sent. sent.count ≤ 1) }
         ensures unknown { meter_of self.now.meters.items meter ≡ None → IsErrOf result RoundsError.Mismatch }
         ensures shut { IsErrOf result RoundsError.GateShut → G.may_shut }
         ensures threadless { IfErr result IsOfEvent }
@@ -244,7 +244,7 @@ fn desks_of(alloc: Global, heads: Vec<HeadCore>) -> Result<Vec<Desk>, RoundsErro
 
 /// The head ends as the workers left them.
 fn heads_of(alloc: Global, desks: Vec<Desk>) -> Result<Vec<HeadCore>, RoundsError>
-    ensures { IfErr result IsOfCrew }
+    ensures { IfErr result IsOfAll }
 {
     let mut heads = Vec::new(alloc);
     for desk in desks {

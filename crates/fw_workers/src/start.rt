@@ -3,7 +3,7 @@
 ghost use Rattle.std.specs.Prelude.{◌≡◌, []};
 
 use crate::error::RoundsError;
-use crate::stage::Job;
+use crate::seating::Job;
 use std::sync::{Condvar, Mutex, Wait};
 
 /// Whether the workers begin, once this is decided.

@@ -21,13 +21,13 @@ ghost use Rattle.fw_workers.specs.Refusals.{IsLater, IsOfRounds, TellsOfEvent};
 ghost use Rattle.fw_workers.specs.Wires.{HasLinks, HasOtherLinks};
 
 use crate::beginning::{Beginning, begin};
-use crate::carrier::{Carrier, WireThread};
-use crate::crew::{Hand, Task, work};
 use crate::deal::dealt;
 use crate::error::{RehearseError, RoundsError};
 use crate::gate::Gate;
-use crate::lines::WiredLinks;
 use crate::shared_world::SharedWorld;
+use crate::threads::{Share, Task, work};
+use crate::wire_thread::{WireLoop, WireThread};
+use crate::wired_links::WiredLinks;
 use crate::worker::Worker;
 use fw_accounts::Report;
 use fw_air::{LinkQueue, PairError, UdpWire, Wire, links_of};
@@ -49,10 +49,10 @@ struct WiredLink<W: Wire + Drop> {
 #[derive(Drop)]
 struct Wired {
     links: Vec<LinkQueue>,
-    post: WireThread,
+    wire_thread: WireThread,
 }
 
-impl Hand for Wired {
+impl Share for Wired {
     ghost may_end = { λ may_shut _ end. EndsUnder may_shut end };
 
     fn rounds<R: Wait, G: Gate>(
@@ -63,12 +63,12 @@ impl Hand for Wired {
         worker: &mut Worker<'_, G>,
         rounds: u32,
     ) -> Result<(), RoundsError> {
-        let lines = WiredLinks {
+        let links = WiredLinks {
             shared,
             links: &self.links,
-            post: &self.post,
+            wire_thread: &self.wire_thread,
         };
-        lines.rounds(rt, alloc, worker, rounds)
+        links.rounds(rt, alloc, worker, rounds)
     }
 }
 
@@ -106,7 +106,7 @@ pub fn live_over<R: Threads + Wait + Sync, G: Gate + Sync, W: Wire + Send + Drop
     ensures workers { OnOk result (AreWorkers workers) }
     ensures setup { OnOk result (IsSetup setup.now) }
     ensures bad_setup { IsErrOf result RehearseError.BadSetup → AreWorkers workers → ¬ IsSetup setup.now }
-    ensures few { ¬ AreWorkers workers → IsErrOf result RehearseError.BadSetup }
+    ensures count { ¬ AreWorkers workers → IsErrOf result RehearseError.BadSetup }
     ensures event { IfErr result (TellsOfEvent setup.now events.now) }
     ensures made { IfErr result (λ e. e ≢ RehearseError.BadSetup → IsSetup setup.now) }
     ensures wires { OnOk result (HasLinks setup.now (events_of events.now) (length wires.items)) }
@@ -116,7 +116,7 @@ pub fn live_over<R: Threads + Wait + Sync, G: Gate + Sync, W: Wire + Send + Drop
 {
     let opening = begin(alloc, setup, events, workers)?;
     let links = links_of(alloc, setup, &opening.world)?;
-    let lines = with_wires(alloc, links, wires)?;
+    let wired = with_wires(alloc, links, wires)?;
     let task = Task {
         setup,
         given: events,
@@ -124,7 +124,7 @@ pub fn live_over<R: Threads + Wait + Sync, G: Gate + Sync, W: Wire + Send + Drop
         workers,
         gate,
     };
-    let report = over_wires(rt, alloc, &task, opening, lines)?;
+    let report = over_wires(rt, alloc, &task, opening, wired)?;
     Ok(report)
 }
 
@@ -152,7 +152,7 @@ pub fn live<R: Threads + Wait + Net + Sync, G: Gate + Sync>(
     ensures workers { OnOk result (AreWorkers workers) }
     ensures setup { OnOk result (IsSetup setup.now) }
     ensures bad_setup { IsErrOf result RehearseError.BadSetup → AreWorkers workers → ¬ IsSetup setup.now }
-    ensures few { ¬ AreWorkers workers → IsErrOf result RehearseError.BadSetup }
+    ensures count { ¬ AreWorkers workers → IsErrOf result RehearseError.BadSetup }
     ensures event { IfErr result (TellsOfEvent setup.now events.now) }
     ensures made { IfErr result (λ e. e ≢ RehearseError.BadSetup → IsSetup setup.now) }
     ensures socket { IsErrOf result RehearseError.Socket → HasOtherLinks setup.now (events_of events.now) 0 }
@@ -160,7 +160,7 @@ pub fn live<R: Threads + Wait + Net + Sync, G: Gate + Sync>(
 {
     let opening = begin(alloc, setup, events, workers)?;
     let links = links_of(alloc, setup, &opening.world)?;
-    let lines = bound(rt, alloc, links)?;
+    let wired = bound(rt, alloc, links)?;
     let task = Task {
         setup,
         given: events,
@@ -168,7 +168,7 @@ pub fn live<R: Threads + Wait + Net + Sync, G: Gate + Sync>(
         workers,
         gate,
     };
-    let report = over_wires(rt, alloc, &task, opening, lines)?;
+    let report = over_wires(rt, alloc, &task, opening, wired)?;
     Ok(report)
 }
 
@@ -187,11 +187,11 @@ fn with_wires<W: Wire + Drop>(
     if links.len() != wires.len() {
         return Err(RehearseError::Socket);
     }
-    let mut lines = Vec::new(alloc);
+    let mut wired = Vec::new(alloc);
     for (link, ends) in links.into_iter().zip(wires) {
-        lines.push(WiredLink { link, ends })?;
+        wired.push(WiredLink { link, ends })?;
     }
-    Ok(lines)
+    Ok(wired)
 }
 
 /// Each link with a wire of UDP sockets.
@@ -204,16 +204,16 @@ fn bound<N: Net>(
     ensures only { IfErr result IsLater }
     ensures roundless { IfErr result (λ e. ¬ IsOfRounds e) }
 {
-    let mut lines = Vec::new(alloc);
+    let mut wired = Vec::new(alloc);
     for link in links {
         let ends = match UdpWire::pair(net, alloc) {
             Ok(ends) => ends,
             Err(PairError::Socket) => return Err(RehearseError::Socket),
             Err(PairError::OutOfMemory) => return Err(RehearseError::OutOfMemory),
         };
-        lines.push(WiredLink { link, ends })?;
+        wired.push(WiredLink { link, ends })?;
     }
-    Ok(lines)
+    Ok(wired)
 }
 
 /// Lets the workers make their rounds over these wires.
@@ -222,16 +222,16 @@ fn over_wires<R: Threads + Wait + Sync, G: Gate + Sync, W: Wire + Send + Drop>(
     alloc: Global,
     task: &Task<'_, G>,
     opening: Beginning,
-    lines: Vec<WiredLink<W>>,
+    wired: Vec<WiredLink<W>>,
 ) -> Result<Report, RoundsError>
     requires { 1 ≤ task.now.workers }
     ensures reported { IfOk result (λ r. IsReported task.now.setup.now (events_of task.now.given.now) task.now.rounds task.now.workers
         r.world r.board r.receipts.items) }
     ensures shut { IsErrOf result RoundsError.GateShut → G.may_shut }
 {
-    let lines = dealt(alloc, lines, task.workers)?;
-    let (hands, carriers) = crews(alloc, lines)?;
-    carried(
+    let wired = dealt(alloc, wired, task.workers)?;
+    let (shares, wire_loops) = with_wire_loops(alloc, wired)?;
+    beside_wire_loops(
         rt,
         alloc,
         task.setup,
@@ -240,44 +240,44 @@ fn over_wires<R: Threads + Wait + Sync, G: Gate + Sync, W: Wire + Send + Drop>(
         task.workers,
         task.gate,
         opening,
-        hands,
-        carriers,
+        shares,
+        wire_loops,
     )
 }
 
 /// What each worker is dealt, and what its wire thread does.
-fn crews<W: Wire + Drop>(
+fn with_wire_loops<W: Wire + Drop>(
     alloc: Global,
-    hands: Vec<Vec<WiredLink<W>>>,
-) -> Result<(Vec<Wired>, Vec<Carrier<W>>), AllocError> {
-    let mut crews = Vec::new(alloc);
-    let mut carriers = Vec::new(alloc);
-    for lines in hands {
-        let (hand, carrier) = parted(alloc, lines)?;
-        crews.push(hand)?;
-        carriers.push(carrier)?;
+    shares: Vec<Vec<WiredLink<W>>>,
+) -> Result<(Vec<Wired>, Vec<WireLoop<W>>), AllocError> {
+    let mut all = Vec::new(alloc);
+    let mut wire_loops = Vec::new(alloc);
+    for wired in shares {
+        let (share, wire_loop) = parted(alloc, wired)?;
+        all.push(share)?;
+        wire_loops.push(wire_loop)?;
     }
-    Ok((crews, carriers))
+    Ok((all, wire_loops))
 }
 
 /// What a worker is dealt, and what its wire thread does.
 fn parted<W: Wire + Drop>(
     alloc: Global,
-    lines: Vec<WiredLink<W>>,
-) -> Result<(Wired, Carrier<W>), AllocError> {
+    wired: Vec<WiredLink<W>>,
+) -> Result<(Wired, WireLoop<W>), AllocError> {
     let mut links = Vec::new(alloc);
     let mut wires = Vec::new(alloc);
-    for WiredLink { link, ends } in lines {
+    for WiredLink { link, ends } in wired {
         links.push(link)?;
         wires.push(ends)?;
     }
-    let (post, carrier) = WireThread::with(alloc, wires)?;
-    Ok((Wired { links, post }, carrier))
+    let (wire_thread, wire_loop) = WireThread::with(alloc, wires)?;
+    Ok((Wired { links, wire_thread }, wire_loop))
 }
 
 /// The wires of each worker in a thread of their own, and after them the workers. Each wire thread ends when its worker has. The task
 /// is passed part by part, since a closure's clauses are lost where it captures a value whose type has a lifetime.
-fn carried<R: Threads + Wait + Sync, G: Gate + Sync, W: Wire + Send + Drop>(
+fn beside_wire_loops<R: Threads + Wait + Sync, G: Gate + Sync, W: Wire + Send + Drop>(
     rt: &R,
     alloc: Global,
     setup: &Setup,
@@ -286,8 +286,8 @@ fn carried<R: Threads + Wait + Sync, G: Gate + Sync, W: Wire + Send + Drop>(
     workers: u32,
     gate: &G,
     opening: Beginning,
-    hands: Vec<Wired>,
-    carriers: Vec<Carrier<W>>,
+    shares: Vec<Wired>,
+    wire_loops: Vec<WireLoop<W>>,
 ) -> Result<Report, RoundsError>
     requires { 1 ≤ workers }
     ensures reported { IfOk result (λ r. IsReported setup.now (events_of given.now) rounds workers r.world r.board r.receipts.items) }
@@ -302,10 +302,10 @@ fn carried<R: Threads + Wait + Sync, G: Gate + Sync, W: Wire + Send + Drop>(
                 r.world r.board r.receipts.items) }
             ensures shut { IsErrOf result RoundsError.GateShut → G.may_shut }
         {
-            let mut rest = carriers;
-            'carriers: while !rest.is_empty() {
-                let carrier = rest.remove(0);
-                if scope.spawn(move || carrier.run(rt, alloc)).is_err() {
+            let mut rest = wire_loops;
+            'wire_loops: while !rest.is_empty() {
+                let wire_loop = rest.remove(0);
+                if scope.spawn(move || wire_loop.run(rt, alloc)).is_err() {
                     return Err(RoundsError::ThreadRefused);
                 }
             }
@@ -316,7 +316,7 @@ fn carried<R: Threads + Wait + Sync, G: Gate + Sync, W: Wire + Send + Drop>(
                 workers,
                 gate,
             };
-            work(rt, alloc, &task, opening, hands)
+            work(rt, alloc, &task, opening, shares)
         },
     )
 }

@@ -12,8 +12,6 @@ mod commands;
 #[cfg(test)]
 mod gates;
 #[cfg(test)]
-mod hands;
-#[cfg(test)]
 mod links;
 #[cfg(test)]
 mod live;
@@ -25,6 +23,8 @@ mod log;
 mod ports;
 #[cfg(test)]
 mod rehearsing;
+#[cfg(test)]
+mod shares;
 #[cfg(test)]
 mod sharing;
 #[cfg(test)]
