@@ -281,7 +281,7 @@ impl Record {
         ensures none { result ≡ false → last_turn self.now.world meter ≡ [] }
     {
         match self.world.meter(meter) {
-            Some(core) => core.view().status == TransferStatus::VerificationInitiated,
+            Some(core) => core.status() == TransferStatus::VerificationInitiated,
             None => false,
         }
     }

@@ -82,7 +82,7 @@ impl<S: ImageStore + Drop> MeterDaemon<S> {
     pub fn is_verifying(&self) -> bool
         ensures { IsTrue result ↔ (status_of (daemon_of self.now).state.meter.phase ≡ status.VerificationInitiated) }
     {
-        self.meter.view().status == TransferStatus::VerificationInitiated
+        self.meter.status() == TransferStatus::VerificationInitiated
     }
 
     /// How many datagrams were dropped.

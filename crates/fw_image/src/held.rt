@@ -313,8 +313,22 @@ impl<S: ImageStore> Held<S> {
         }
     }
 
+    /// Whether transfer is enabled.
+    pub(crate) fn enabled(&self) -> bool
+        ensures { result ≡ self.now.meter.enabled }
+    {
+        self.header.enabled
+    }
+
+    /// The name of the image that runs.
+    pub(crate) fn active(&self) -> ImageName
+        ensures { result ≡ self.now.meter.running.name }
+    {
+        self.header.running_name
+    }
+
     /// The image that is received, or was verified.
-    fn goal(&self) -> Option<Goal>
+    pub(crate) fn goal(&self) -> Option<Goal>
         ensures { result ≡ goal_of self.now.meter.phase }
     {
         self.header.goal

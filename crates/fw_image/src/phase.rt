@@ -20,7 +20,7 @@ ghost use Rattle.std.specs.Prelude.{
 ghost use Rattle.fw_blocks.specs.Cuts.{max_blocks};
 ghost use Rattle.fw_store.specs.Faults.{HasCause, Spends};
 ghost use Rattle.fw_image.specs.Calls.{verified_size, opening_calls, restart_calls};
-ghost use Rattle.fw_image.specs.Meter.{Meter, status_of, count_of, marks_of, reopened, migrated, IsTrusted};
+ghost use Rattle.fw_image.specs.Meter.{Meter, status_of, goal_of, count_of, marks_of, reopened, migrated, IsTrusted};
 ghost use Rattle.fw_image.specs.Phases.{state_in, IsInPhase, left_in, left_begun};
 ghost use Rattle.fw_image.specs.Shown.{shown_of, IsView};
 ghost use Rattle.fw_image.specs.Fits.{IsFit};
@@ -36,7 +36,7 @@ use crate::transfer::{Idle, Receiving, Spoilt, Switched, Transfer, Verified, Ver
 use crate::view::MeterView;
 use fw_blocks::Pages;
 use fw_names::ImageName;
-use fw_store::{ImageStore, MemoryStore, StoreFault};
+use fw_store::{Goal, ImageStore, MemoryStore, StoreFault};
 
 /// A transfer in one of its statuses. What all of them can do can be asked of it as well.
 #[derive(Drop)]
@@ -193,6 +193,34 @@ impl<S: ImageStore> Phase<S> {
         let mut held = self.into_held();
         held.turn();
         Phase::of(held)
+    }
+
+    /// Whether image transfer is enabled, as `view` shows it (IEC 62056-6-2, image_transfer_enabled).
+    pub fn enabled(&self) -> bool
+        ensures { result ≡ (state_in self.now).meter.enabled }
+    {
+        self.held().enabled()
+    }
+
+    /// How far the transfer is, as `view` shows it (IEC 62056-6-2, image_transfer_status).
+    pub fn status(&self) -> TransferStatus
+        ensures { result ≡ status_of (state_in self.now).meter.phase }
+    {
+        self.held().status()
+    }
+
+    /// The name of the image that runs, as `view` shows it.
+    pub fn active(&self) -> ImageName
+        ensures { result ≡ (state_in self.now).meter.running.name }
+    {
+        self.held().active()
+    }
+
+    /// The image that is to be received, or was received and is not yet activated, as `view` shows it.
+    pub fn goal(&self) -> Option<Goal>
+        ensures { result ≡ goal_of (state_in self.now).meter.phase }
+    {
+        self.held().goal()
     }
 
     /// How many bytes a block has, except the last of an image, which may be shorter (IEC 62056-6-2, image_block_size).

@@ -28,7 +28,7 @@ ghost use Rattle.fw_meter.specs.Step.{got, answer_of, activation_of, coded};
 ghost use Rattle.fw_apdu.specs.Request.{is_confirmed};
 ghost use Rattle.fw_apdu.specs.View.{request_content, request_invoke};
 ghost use Rattle.fw_image.specs.Calls.{verified_size, opening_calls, restart_calls};
-ghost use Rattle.fw_image.specs.Meter.{Meter, reopened, migrated, restarted, IsTrusted};
+ghost use Rattle.fw_image.specs.Meter.{Meter, status_of, reopened, migrated, restarted, IsTrusted};
 ghost use Rattle.fw_image.specs.Shown.{shown_of, IsView};
 ghost use Rattle.fw_image.specs.Fits.{IsFit};
 ghost use Rattle.fw_image.specs.State.{Follows, Counts, Turns, IsOver, stored};
@@ -42,7 +42,7 @@ use crate::error::OutOfMemory;
 use crate::operation::{activated, block, make};
 use crate::replies::Replies;
 use crate::serving::{Heard, hear};
-use fw_image::{MeterView, OpenError, Phase};
+use fw_image::{MeterView, OpenError, Phase, TransferStatus};
 use fw_names::ImageName;
 use fw_server::{Operation, Planned, Reading, ResultCode, plan};
 use fw_store::{ImageStore, MemoryStore, StoreFault};
@@ -223,6 +223,36 @@ impl<S: ImageStore + Drop> MeterCore<S> {
     {
         match &self.phase {
             Some(phase) => phase.verified_size(),
+            None => unreachable!(),
+        }
+    }
+
+    /// Whether image transfer is enabled, as `view` shows it.
+    pub fn enabled(&self) -> bool
+        ensures { result ≡ self.now.meter.enabled }
+    {
+        match &self.phase {
+            Some(phase) => phase.enabled(),
+            None => unreachable!(),
+        }
+    }
+
+    /// How far the transfer is, as `view` shows it.
+    pub fn status(&self) -> TransferStatus
+        ensures { result ≡ status_of self.now.meter.phase }
+    {
+        match &self.phase {
+            Some(phase) => phase.status(),
+            None => unreachable!(),
+        }
+    }
+
+    /// The name of the image that runs, as `view` shows it.
+    pub fn active(&self) -> ImageName
+        ensures { result ≡ self.now.meter.running.name }
+    {
+        match &self.phase {
+            Some(phase) => phase.active(),
             None => unreachable!(),
         }
     }

@@ -62,7 +62,7 @@ fn offer<S: ImageStore>(phase: Phase<S>, identifier: &[u8], size: u32) -> (Resul
 fn nameless<S: ImageStore>(phase: &Phase<S>) -> ResultCode
     ensures { result ≡ (if (state_in phase.now).meter.enabled then code.OtherReason else code.ReadWriteDenied) }
 {
-    if phase.view().enabled {
+    if phase.enabled() {
         ResultCode::OtherReason
     } else {
         ResultCode::ReadWriteDenied
@@ -132,7 +132,7 @@ fn activate<S: ImageStore>(phase: Phase<S>) -> (ResultCode, Phase<S>)
 fn lacking<S: ImageStore>(phase: &Phase<S>) -> ResultCode
     ensures { result ≡ (if (state_in phase.now).meter.enabled then code.TemporaryFailure else code.ReadWriteDenied) }
 {
-    if phase.view().enabled {
+    if phase.enabled() {
         ResultCode::TemporaryFailure
     } else {
         ResultCode::ReadWriteDenied
@@ -148,7 +148,7 @@ pub(crate) fn activated<S: ImageStore>(
     ensures { result ≡ activation_of (operation_meaning operation.entry) (coded (code_number code)) (state_in next.now).meter }
 {
     match (operation, code) {
-        (Operation::Activate, ResultCode::Success) => Some(next.view().active),
+        (Operation::Activate, ResultCode::Success) => Some(next.active()),
         _ => None,
     }
 }

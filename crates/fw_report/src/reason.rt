@@ -127,7 +127,7 @@ fn running_release(world: &World, meter: MeterId) -> Option<u32>
     ensures { result ≡ option_map (λ (m : Meter). m.running.name.release) (meter_at world.now meter) }
 {
     let core = world.meter(meter)?;
-    Some(core.view().active.release)
+    Some(core.active().release)
 }
 
 /// Why an initiate can't be that these bytes ask of a meter which runs this release.

@@ -177,7 +177,7 @@ impl<S: ImageStore + Drop> GuardedMeter<S> {
     pub(crate) fn is_verifying(&self) -> bool
         ensures { result ≡ is_verifying self.now.core.meter.phase }
     {
-        self.core.view().status == TransferStatus::VerificationInitiated
+        self.core.status() == TransferStatus::VerificationInitiated
     }
 }
 

@@ -102,7 +102,7 @@ impl Served {
     /// The name of the image that it runs.
     fn active(self) -> ImageName {
         let Served { port: _, daemon } = self;
-        daemon.into_meter().view().active
+        daemon.into_meter().active()
     }
 }
 

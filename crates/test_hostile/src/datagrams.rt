@@ -30,7 +30,7 @@ const DATAGRAMS: &[&str] = &[
 fn enabled(alloc: Global) -> Result<Kept<MeterCore<MemoryStore>>, Fail> {
     let mut meter = Kept(opened(MemoryStore::new(alloc, 64, 2, b"abc")?)?);
     replies(alloc, &mut meter.0, &[ENABLE])?;
-    if meter.0.view().enabled {
+    if meter.0.enabled() {
         Ok(meter)
     } else {
         Err("transfer isn't enabled".into())

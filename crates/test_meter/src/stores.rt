@@ -19,7 +19,7 @@ struct New(u32, u32);
 impl Case for New {
     fn told(&self, alloc: Global) -> Result<String, Fail> {
         let meter = Kept(opened(MemoryStore::new(alloc, self.1, self.0, b"abc")?)?);
-        Ok(format!(in alloc; "{:?}", meter.0.view().status)?)
+        Ok(format!(in alloc; "{:?}", meter.0.status())?)
     }
 }
 

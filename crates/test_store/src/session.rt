@@ -182,7 +182,7 @@ impl Trial {
     /// The status that is shown.
     pub(crate) fn status(&self) -> Result<TransferStatus, Fail> {
         match &self.meter {
-            Some(meter) => Ok(meter.view().status),
+            Some(meter) => Ok(meter.status()),
             None => Err("there is no meter".into()),
         }
     }
@@ -236,7 +236,7 @@ impl Trial {
     /// What can be seen of it.
     pub(crate) fn sight(&self, alloc: Global) -> Result<String, Fail> {
         match &self.meter {
-            Some(meter) => Ok(sight(alloc, &meter.view())?),
+            Some(meter) => Ok(sight(alloc, &seen(meter))?),
             None => Err("there is no meter".into()),
         }
     }
@@ -529,6 +529,17 @@ fn limited(meter: &Meter, wanted: u32) -> Result<(), Fail> {
         Ok(())
     } else {
         Err("it has another limit".into())
+    }
+}
+
+/// What a meter shows, where its calls of one field have each theirs.
+fn seen(meter: &Phase<MemoryStore>) -> MeterView {
+    MeterView {
+        enabled: meter.enabled(),
+        status: meter.status(),
+        active: meter.active(),
+        goal: meter.goal(),
+        ..meter.view()
     }
 }
 

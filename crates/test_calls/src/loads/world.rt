@@ -101,7 +101,7 @@ fn link_round(
 }
 
 fn is_verifying(world: &World, meter: MeterId) -> Result<bool> {
-    let status = world.meter(meter).context("a meter")?.view().status;
+    let status = world.meter(meter).context("a meter")?.status();
     Ok(status == TransferStatus::VerificationInitiated)
 }
 
