@@ -13,4 +13,6 @@ mod response;
 pub use error::ApduError;
 pub use fields::{Invoke, LogicalName};
 pub use request::{Request, read_request, write_request};
-pub use response::{GetDataResult, Response, read_response, write_response};
+pub use response::{
+    GetDataResult, Response, action_code, get_code, read_response, set_code, write_response,
+};

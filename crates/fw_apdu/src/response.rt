@@ -3,6 +3,10 @@
 ghost use Rattle.std.specs.Prelude.{◌≡◌, ◌∷◌, ◌++◌, None, IfOk, IfErr, OnOk};
 ghost use Rattle.std.specs.Option.{option_map};
 ghost use Rattle.fw_apdu.specs.Response.{
+  get_response,
+  set_response,
+  action_response,
+  code as refused,
   SpellsResult,
   NoResponse,
   SpellsResponse,
@@ -240,15 +244,13 @@ pub fn write_response(alloc: Global, response: &Response) -> Result<Vec<u8>, Apd
         Response::Get { invoke, result } => {
             ending_in(alloc, &[GET_RESPONSE, NORMAL, invoke.0], result)
         }
-        Response::Set { invoke, code } => {
-            Ok([SET_RESPONSE, NORMAL, invoke.0, *code].to_vec(alloc)?)
-        }
+        Response::Set { invoke, code } => Ok(set_code(*invoke, *code).to_vec(alloc)?),
         Response::Action {
             invoke,
             code,
             returned,
         } => match returned {
-            None => Ok([ACTION_RESPONSE, NORMAL, invoke.0, *code, ABSENT].to_vec(alloc)?),
+            None => Ok(action_code(*invoke, *code).to_vec(alloc)?),
             Some(result) => ending_in(
                 alloc,
                 &[ACTION_RESPONSE, NORMAL, invoke.0, *code, PRESENT],
@@ -256,6 +258,31 @@ pub fn write_response(alloc: Global, response: &Response) -> Result<Vec<u8>, Apd
             ),
         },
     }
+}
+
+/// The spelling of a response to a GET that has the code of a Data-Access-Result. No memory is taken.
+pub fn get_code(invoke: Invoke, code: u8) -> [u8; 5]
+    ensures written { result ≡ response_bytes invoke.0 (get_response (refused code)) }
+    ensures spelled { SpellsResponse result invoke.0 (get_response (refused code)) }
+{
+    [GET_RESPONSE, NORMAL, invoke.0, CODE, code]
+}
+
+/// The spelling of a response to a SET, with the code of a Data-Access-Result. No memory is taken.
+pub fn set_code(invoke: Invoke, code: u8) -> [u8; 4]
+    ensures written { result ≡ response_bytes invoke.0 (set_response code) }
+    ensures spelled { SpellsResponse result invoke.0 (set_response code) }
+{
+    [SET_RESPONSE, NORMAL, invoke.0, code]
+}
+
+/// The short spelling of a response to an ACTION, with the code of an Action-Result and no return parameters. No memory is
+/// taken.
+pub fn action_code(invoke: Invoke, code: u8) -> [u8; 5]
+    ensures written { result ≡ response_bytes invoke.0 (action_response code None) }
+    ensures spelled { SpellsResponse result invoke.0 (action_response code None) }
+{
+    [ACTION_RESPONSE, NORMAL, invoke.0, code, ABSENT]
 }
 
 /// The bytes, and after them the short spelling of a result.

@@ -7,4 +7,3 @@ mod Calling
 mod Cutting
 mod Telling
 mod Restarts
-pub mod Coding

@@ -1,28 +1,22 @@
 -- For private clauses alone: what the types of the code stand for.
-use Rattle.std.specs.Prelude.{◌≡◌, ◌⊎◌, ℕ, Bool, false, IsTrue, List, [], Option, Some, None, slice_set, if◌then◌else◌}
-use Rattle.std.specs.Option.{option_map}
+use Rattle.std.specs.Prelude.{◌≡◌, ◌≤◌, ◌⊎◌, ℕ, Bool, false, IsTrue, List, [], Option, Some, None, vec_capacity}
+use Rattle.std.specs.Global.{Vec}
 use Rattle.std.specs.FinMap.{empty}
 use Rattle.fw_names.specs.Name.{factory}
 use Rattle.fw_image.specs.Meter.{Meter, idle}
 use Rattle.fw_image.specs.Calls.{calls_for, left_by_fault}
 use Rattle.fw_store.specs.Faults.{Spends}
 use Rattle.fw_store.specs.declared.fuse.Fuse.{Fuse}
-use Rattle.fw_wrapper.specs.Wrapper.{wrapped}
-use Rattle.fw_apdu.specs.Request.{RequestContent, get_request, set_request, action_request, is_confirmed}
-use Rattle.fw_apdu.specs.Response.{response_bytes}
+use Rattle.fw_apdu.specs.Request.{is_confirmed}
 use Rattle.fw_apdu.specs.View.{request_content, request_invoke}
-use Rattle.fw_server.specs.Answer.{response_of}
-use Rattle.fw_server.specs.Meaning.{Meaning, code_number}
-use Rattle.fw_server.specs.declared.code.ResultCode.{ResultCode}
-use Rattle.fw_server.specs.declared.outcome.Outcome.{Outcome}
+use Rattle.fw_server.specs.Meaning.{Meaning}
 use Rattle.fw_image.specs.Phases.{state_in, IsInPhase}
 use Rattle.fw_image.specs.State.{State, Follows, Counts, Makes}
 use Rattle.fw_image.specs.Step as image
 use Rattle.fw_image.specs.declared.phase.Phase.{Phase}
 use Rattle.fw_meter.specs.Step.{coded, tells_no_fault, operation_code, MeterStep}
-use Rattle.fw_meter.specs.Handling.{Brings, BringsNothing, reply_to, reply_bytes}
+use Rattle.fw_meter.specs.Handling.{Brings, BringsNothing}
 use Rattle.fw_meter.specs.Stopping.{AsksFor}
-use Rattle.fw_meter.specs.declared.replies.Replies.{Replies}
 use Rattle.fw_meter.specs.declared.serving.Heard.{Heard}
 
 -- what a datagram brought
@@ -30,26 +24,10 @@ abbrev pub IsHeard : List ℕ → Option Heard → Type 0
 IsHeard datagram (Some heard) = Brings datagram heard.source (request_invoke heard.request) (request_content heard.request)
 IsHeard datagram None = BringsNothing datagram
 
--- the datagram that reports an outcome, where a response was asked for
-abbrev pub told_by : ℕ → ℕ → Outcome → Option (List ℕ)
-told_by source invoke outcome = if is_confirmed invoke then Some (wrapped 1 source (response_bytes invoke (response_of outcome))) else None
-
--- the reply to a request by a code
-abbrev pub coded_reply : Heard → ℕ → Option (List ℕ)
-coded_reply heard c = reply_to heard.source (request_invoke heard.request) (request_content heard.request) (coded c)
-
--- where the code stands in that reply: after the header of the wrapper and three bytes, and in an answer to GET after 01 as well
-abbrev pub code_place : RequestContent → ℕ
-code_place (get_request d) = 12
-code_place (set_request d v) = 11
-code_place (action_request d parameter) = 11
-
--- the reply with a code in its place
-abbrev pub reply_in : Replies → ℕ → Option (List ℕ)
-reply_in r c = option_map (λ bytes. slice_set bytes r.place c) (reply_bytes r.reply)
-
-abbrev pub AnswersEach : Heard → Replies → Type 0
-AnswersEach heard replies = (c : ResultCode) → reply_in replies (code_number c) ≡ coded_reply heard (code_number c)
+-- room for the datagram that carries a code back, of 13 bytes at most, just where a response was asked for
+abbrev pub IsRoomFor : Heard → Option (Vec ℕ) → Type 0
+IsRoomFor heard None = is_confirmed (request_invoke heard.request) ≡ false
+IsRoomFor heard (Some room) = IsTrue (is_confirmed (request_invoke heard.request)) × (room.items ≡ []) × (13 ≤ vec_capacity room)
 
 -- an operation is made, and has this code
 abbrev pub IsMade : State → image.Operation → ℕ → State → Type 0

@@ -7,7 +7,6 @@ mod error;
 pub mod laws;
 mod meter;
 mod operation;
-mod replies;
 mod serving;
 
 pub use error::OutOfMemory;

@@ -40,7 +40,6 @@ ghost use Rattle.fw_meter.specs.Stopping.{CallsStore, StopsAfter};
 use crate::attributes::read;
 use crate::error::OutOfMemory;
 use crate::operation::{activated, block, make};
-use crate::replies::Replies;
 use crate::serving::{Heard, hear};
 use fw_image::{MeterView, OpenError, Phase, TransferStatus};
 use fw_names::ImageName;
@@ -307,7 +306,7 @@ impl<S: ImageStore + Drop> MeterCore<S> {
         fw_server::laws::request_refusals();
         match plan(&heard.request) {
             Planned::Read(reading) => Ok(unchanged(self.tell(alloc, heard, reading)?)),
-            Planned::Refused(code) => Ok(unchanged(heard.code(alloc, code.number())?)),
+            Planned::Refused(code) => Ok(unchanged(heard.code(alloc, code)?)),
             Planned::Operate(operation) => self.operate(alloc, heard, operation),
             Planned::Block { number, value } => self.take_block(alloc, heard, number, value),
         }
@@ -333,7 +332,7 @@ impl<S: ImageStore + Drop> MeterCore<S> {
         }
     }
 
-    /// Makes the operation that a request asks for. Its reply is made before, except the code.
+    /// Makes the operation that a request asks for. Room for its reply is taken before.
     fn operate(
         &mut self,
         alloc: Global,
@@ -348,15 +347,15 @@ impl<S: ImageStore + Drop> MeterCore<S> {
         ensures err { OnErr result (self.new ≡ self.old) }
         ensures memory { OnErr result (IsTrue (is_confirmed (request_invoke heard.now.request))) }
     {
-        let replies = Replies::prepare(alloc, heard)?;
+        let room = heard.room(alloc)?;
         let (code, activated) = self.change(operation);
         Ok(Handled {
-            reply: replies.with(code),
+            reply: heard.code_in(room, code),
             activated,
         })
     }
 
-    /// Takes the block that a request carries, which leaves the phase where it is. Its reply is made before, except the code.
+    /// Takes the block that a request carries, which leaves the phase where it is. Room for its reply is taken before.
     fn take_block(
         &mut self,
         alloc: Global,
@@ -372,9 +371,9 @@ impl<S: ImageStore + Drop> MeterCore<S> {
         ensures err { OnErr result (self.new ≡ self.old) }
         ensures memory { OnErr result (IsTrue (is_confirmed (request_invoke heard.now.request))) }
     {
-        let replies = Replies::prepare(alloc, heard)?;
+        let room = heard.room(alloc)?;
         let code = self.receive(number, value);
-        Ok(unchanged(replies.with(code)))
+        Ok(unchanged(heard.code_in(room, code)))
     }
 
     /// Receives a block. The phase stays where it is.

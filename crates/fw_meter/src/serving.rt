@@ -4,19 +4,23 @@ ghost use Rattle.std.specs.Prelude.{◌≡◌, ◌≤◌, IfOk, OnErr, IsTrue};
 ghost use Rattle.fw_blocks.specs.Cuts.{max_blocks};
 ghost use Rattle.fw_apdu.specs.Request.{is_confirmed};
 ghost use Rattle.fw_apdu.specs.View.{request_content, request_invoke};
-ghost use Rattle.fw_server.specs.Answer.{bits_in};
+ghost use Rattle.fw_server.specs.Answer.{bits_in_answer};
+ghost use Rattle.fw_server.specs.Meaning.{code_number};
 ghost use Rattle.fw_meter.specs.Step.{got, coded};
 ghost use Rattle.fw_meter.specs.Handling.{AsksForResponse, MayBringData, reply_to, reply_bytes};
-ghost use Rattle.fw_meter.specs.Inside.{IsHeard, told_by};
+ghost use Rattle.fw_meter.specs.Inside.{IsHeard, IsRoomFor};
 
 use crate::error::OutOfMemory;
-use fw_apdu::{ApduError, Request, read_request};
-use fw_server::{Answer, Outcome, answer};
-use fw_wrapper::{WrapError, join, split};
+use fw_apdu::{ApduError, Request, action_code, get_code, read_request, set_code};
+use fw_server::{Answer, Outcome, ResultCode, answer};
+use fw_wrapper::{WrapError, join, join_in, split};
 use std::alloc::Global;
 
 /// The wPort of the management process, which a meter serves.
 const METER_PORT: u16 = 1;
+
+/// The most bytes of a datagram that carries a code back: the header of the wrapper, and the response to a GET or to an ACTION.
+const CODE_REPLY_SIZE: usize = 13;
 
 /// A request, and the wPort that it comes from.
 #[derive(Drop)]
@@ -69,38 +73,16 @@ pub fn asks_for_response(alloc: Global, datagram: &[u8]) -> Result<bool, OutOfMe
 impl Heard {
     /// The datagram that carries a value back, if the request asked for a response.
     pub(crate) fn value(&self, alloc: Global, value: Answer) -> Result<Option<Vec<u8>>, OutOfMemory>
-        requires { bits_in (Outcome.Got value) ≤ max_blocks }
+        requires { bits_in_answer value ≤ max_blocks }
         ensures told { IfOk result (λ reply. reply_bytes reply
             ≡ reply_to self.now.source (request_invoke self.now.request) (request_content self.now.request) (got value)) }
-        ensures memory { OnErr result (IsTrue (is_confirmed (request_invoke self.now.request))) }
-    {
-        self.tell(alloc, Outcome::Got(value))
-    }
-
-    /// The datagram that carries a code back, if the request asked for a response.
-    pub(crate) fn code(&self, alloc: Global, code: u8) -> Result<Option<Vec<u8>>, OutOfMemory>
-        ensures told { IfOk result (λ reply. reply_bytes reply
-            ≡ reply_to self.now.source (request_invoke self.now.request) (request_content self.now.request) (coded code)) }
-        ensures memory { OnErr result (IsTrue (is_confirmed (request_invoke self.now.request))) }
-    {
-        let outcome = match &self.request {
-            Request::Get { .. } => Outcome::GetCode(code),
-            Request::Set { .. } => Outcome::SetCode(code),
-            Request::Action { .. } => Outcome::ActionCode(code),
-        };
-        self.tell(alloc, outcome)
-    }
-
-    fn tell(&self, alloc: Global, outcome: Outcome) -> Result<Option<Vec<u8>>, OutOfMemory>
-        requires { bits_in outcome ≤ max_blocks }
-        ensures told { IfOk result (λ reply. reply_bytes reply ≡ told_by self.now.source (request_invoke self.now.request) outcome) }
         ensures memory { OnErr result (IsTrue (is_confirmed (request_invoke self.now.request))) }
     {
         let invoke = self.request.invoke();
         if !invoke.confirmed() {
             return Ok(None);
         }
-        let apdu = match answer(alloc, &invoke, &outcome) {
+        let apdu = match answer(alloc, &invoke, &Outcome::Got(value)) {
             Ok(apdu) => apdu,
             Err(ApduError::OutOfMemory) => return Err(OutOfMemory),
             Err(_) => unreachable!(),
@@ -110,5 +92,52 @@ impl Heard {
             Err(WrapError::OutOfMemory) => Err(OutOfMemory),
             Err(_) => unreachable!(),
         }
+    }
+
+    /// The datagram that carries a code back, if the request asked for a response.
+    pub(crate) fn code(
+        &self,
+        alloc: Global,
+        code: ResultCode,
+    ) -> Result<Option<Vec<u8>>, OutOfMemory>
+        ensures told { IfOk result (λ reply. reply_bytes reply ≡ reply_to self.now.source
+            (request_invoke self.now.request) (request_content self.now.request) (coded (code_number code))) }
+        ensures memory { OnErr result (IsTrue (is_confirmed (request_invoke self.now.request))) }
+    {
+        let room = self.room(alloc)?;
+        Ok(self.code_in(room, code))
+    }
+
+    /// Room for the datagram that carries a code back, if the request asked for a response. It is taken before the store is
+    /// called, so that no memory is wanted afterwards.
+    pub(crate) fn room(&self, alloc: Global) -> Result<Option<Vec<u8>>, OutOfMemory>
+        ensures room { IfOk result (IsRoomFor self.now) }
+        ensures memory { OnErr result (IsTrue (is_confirmed (request_invoke self.now.request))) }
+    {
+        if !self.request.invoke().confirmed() {
+            return Ok(None);
+        }
+        Ok(Some(Vec::with_capacity(alloc, CODE_REPLY_SIZE)?))
+    }
+
+    /// The datagram that carries a code back, in the room for it. No memory is taken.
+    pub(crate) fn code_in(&self, room: Option<Vec<u8>>, code: ResultCode) -> Option<Vec<u8>>
+        requires { IsRoomFor self.now room }
+        ensures { reply_bytes result ≡ reply_to self.now.source
+            (request_invoke self.now.request) (request_content self.now.request) (coded (code_number code)) }
+    {
+        let mut reply = room?;
+        let (invoke, code, to) = (self.request.invoke(), code.number(), self.source);
+        match &self.request {
+            Request::Get { .. } => join_in(&mut reply, METER_PORT, to, &get_code(invoke, code)),
+            Request::Set { .. } => join_in(&mut reply, METER_PORT, to, &set_code(invoke, code)),
+            Request::Action { .. } => join_in(
+                &mut reply,
+                METER_PORT,
+                to,
+                &action_code(invoke, code),
+            ),
+        }
+        Some(reply)
     }
 }

@@ -1,6 +1,22 @@
 //! Datagrams of one wrapped APDU each (IEC 62056-4-7).
 
-ghost use Rattle.std.specs.Prelude.{◌≡◌, ℕ, ◌<◌, ◌⊎◌, ◌↔◌, List, length, IfOk, IfErr, IsOkAnd};
+ghost use Rattle.std.specs.Prelude.{
+  ◌≡◌,
+  ℕ,
+  ◌+◌,
+  ◌<◌,
+  ◌≤◌,
+  ◌⊎◌,
+  ◌↔◌,
+  List,
+  ◌++◌,
+  length,
+  IfOk,
+  IfErr,
+  IsOkAnd,
+  vec_len,
+  vec_capacity,
+};
 ghost use Rattle.std.specs.Result.{result_err};
 ghost use Rattle.fw_wrapper.specs.Wrapper.{max_apdu, Wraps, wrapped, fault_of};
 
@@ -72,10 +88,22 @@ pub fn join(alloc: Global, source: u16, dest: u16, apdu: &[u8]) -> Result<Vec<u8
         return Err(WrapError::TooLong);
     }
     let mut datagram = Vec::with_capacity(alloc, HEADER_SIZE + apdu.len())?;
-    datagram.extend_from_slice(&VERSION.to_be_bytes())?;
-    datagram.extend_from_slice(&source.to_be_bytes())?;
-    datagram.extend_from_slice(&dest.to_be_bytes())?;
-    datagram.extend_from_slice(&(apdu.len() as u16).to_be_bytes())?;
-    datagram.extend_from_slice(apdu)?;
+    join_in(&mut datagram, source, dest, apdu);
     Ok(datagram)
+}
+
+/// Puts the datagram that carries the APDU from one wPort to another into room that was taken before, after what is there. It
+/// asks that the APDU has at most `MAX_APDU` bytes, and that there is room for eight bytes more than it has. No memory is
+/// taken.
+pub fn join_in(room: &mut Vec<u8>, source: u16, dest: u16, apdu: &[u8])
+    requires size { length apdu.now ≤ max_apdu }
+    requires room { vec_len room.old + 8 + length apdu.now ≤ vec_capacity room.old }
+    ensures { room.new.items ≡ room.old.items ++ wrapped source dest apdu.now }
+{
+    // There is room for each.
+    let _ = room.extend_from_slice(&VERSION.to_be_bytes());
+    let _ = room.extend_from_slice(&source.to_be_bytes());
+    let _ = room.extend_from_slice(&dest.to_be_bytes());
+    let _ = room.extend_from_slice(&(apdu.len() as u16).to_be_bytes());
+    let _ = room.extend_from_slice(apdu);
 }

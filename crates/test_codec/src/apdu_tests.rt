@@ -2,8 +2,8 @@
 
 use crate::support::{Way, deepened, each_by};
 use fw_apdu::{
-    ApduError, GetDataResult, Invoke, LogicalName, Request, Response, read_request, read_response,
-    write_request, write_response,
+    ApduError, GetDataResult, Invoke, LogicalName, Request, Response, action_code, get_code,
+    read_request, read_response, set_code, write_request, write_response,
 };
 use fw_axdr::AxdrError;
 use std::alloc::Global;
@@ -112,6 +112,30 @@ const RESPONSES: &[(&str, &str)] = &[
     ),
 ];
 
+/// The answer to a service by a code.
+enum Code {
+    Get(u8),
+    Set(u8),
+    Action(u8),
+}
+
+impl Case for Code {
+    fn told(&self, alloc: Global) -> Result<String, Fail> {
+        let invoke = Invoke(0xc1);
+        Ok(match self {
+            Code::Get(code) => hex::encode(alloc, get_code(invoke, *code))?,
+            Code::Set(code) => hex::encode(alloc, set_code(invoke, *code))?,
+            Code::Action(code) => hex::encode(alloc, action_code(invoke, *code))?,
+        })
+    }
+}
+
+const CODES: &[(Code, &str)] = &[
+    (Code::Get(4), "c401c10104"),
+    (Code::Set(0), "c501c100"),
+    (Code::Action(250), "c701c1fa00"),
+];
+
 /// A request: its invoke byte, and the class_id and the logical name of the object that it addresses.
 struct Addressed;
 
@@ -210,6 +234,7 @@ const NINE: &[(Nine, &str)] = &[
 fn requests_and_responses(rt: HostRuntime) -> Result<(), Fail> {
     each_by(rt.alloc(), &Asked, REQUESTS)?;
     each_by(rt.alloc(), &Answered, RESPONSES)?;
+    each(rt.alloc(), CODES)?;
     each_by(rt.alloc(), &Addressed, OBJECTS)?;
     each(rt.alloc(), INVOKES)?;
     each(rt.alloc(), NINE)

@@ -2,7 +2,7 @@
 
 use crate::split_back;
 use crate::support::{Way, each_by, joined};
-use fw_wrapper::{Frame, join, split};
+use fw_wrapper::{Frame, join, join_in, split};
 use std::alloc::Global;
 use std::test::Fail;
 use test_support::{Case, each};
@@ -88,9 +88,24 @@ const CARRIED: &[(Carried, &str)] = &[
     (Carried(2305), "TooLong"),
 ];
 
+/// The datagram of the APDU c001c1 from wPort 0102 to wPort 0304, after a byte that is there.
+struct Later(u8);
+
+impl Case for Later {
+    fn told(&self, alloc: Global) -> Result<String, Fail> {
+        let mut room = Vec::with_capacity(alloc, 12)?;
+        room.push_reserved(self.0);
+        join_in(&mut room, 0x0102, 0x0304, &[0xc0, 0x01, 0xc1]);
+        Ok(hex::encode(alloc, room)?)
+    }
+}
+
+const LATER: &[(Later, &str)] = &[(Later(0xff), "ff0001010203040003c001c1")];
+
 #[test]
 fn splits_and_joins(rt: HostRuntime) -> Result<(), Fail> {
     each_by(rt.alloc(), &Datagram, DATAGRAMS)?;
     each(rt.alloc(), LENGTHS)?;
-    each(rt.alloc(), CARRIED)
+    each(rt.alloc(), CARRIED)?;
+    each(rt.alloc(), LATER)
 }

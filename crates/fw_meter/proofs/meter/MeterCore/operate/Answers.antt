@@ -1,4 +1,3 @@
-use Rattle.std.proofs.Common.{◌∙◌}
 use Rattle.fw_apdu.specs.View.{request_content, request_invoke}
 use Rattle.fw_server.specs.Meaning.{code_number}
 use Rattle.fw_server.specs.View.{operation_meaning}
@@ -10,4 +9,4 @@ returns-clause-step g c =
     let heard = c.args.heard.now in
     responds c.args.self.now c.change-code.new.self (operation_meaning c.args.operation) heard.source (request_invoke heard.request) (request_content heard.request) (code_number c.change-code.result.0) _ _
     c.requires c.change-code.ensures.steps
-    (c.with.ensures ∙ c.in_ok-replies.ensures.each c.change-code.result.0) c.change-code.ensures.activated
+    c.code_in.ensures c.change-code.ensures.activated

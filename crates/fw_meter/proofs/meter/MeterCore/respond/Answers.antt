@@ -18,4 +18,4 @@ returns-in_ok-code-in-Refused-clause-step g c =
     let asks : refused c.in-Refused.code ≡ meaning_of content = ap planned_meaning (sym c.in-Refused.is) ∙ c.plan.ensures in
     responds_code c.args.self.now c.in-Refused.code heard.source (request_invoke heard.request) content _ _
     (c.request_refusals.ensures content c.in-Refused.code (sym asks)) asks
-    (rw (c.unchanged-in-Refused.ensures, ← c.number.ensures) c.in_ok-code-in-Refused.ensures.told) (rw c.unchanged-in-Refused.ensures refl)
+    (rw c.unchanged-in-Refused.ensures c.in_ok-code-in-Refused.ensures.told) (rw c.unchanged-in-Refused.ensures refl)
