@@ -1,5 +1,5 @@
 -- Rows in any order: when they are the live ones of a book.
-use Rattle.std.proofs.Common.{◌≡◌, ℕ, ◌==◌, nat_eq, not, Bool, true, false, cond, ◌||◌, ◌&&◌, find, List, [], ◌∷◌, ◌++◌, append_assoc, Option, Some, None, option_map, MatchBool, refl, sym, ap, subst, ◌∙◌, ⊎_elim}
+use Rattle.std.proofs.Common.{◌≡◌, ℕ, ◌==◌, nat_eq, not, Bool, true, false, cond, ◌||◌, ◌&&◌, find, List, [], ◌∷◌, ◌++◌, append_assoc, map, Option, Some, None, option_map, MatchBool, refl, sym, ap, subst, ◌∙◌, ⊎_elim}
 use Rattle.std.specs.List.{IsDistinct, AllByRecursion, list_any, list_all}
 use Rattle.std.specs.Map.{lookup, keys_of, values_of}
 use Rattle.std.specs.Option.{option_and_then}
@@ -63,32 +63,43 @@ all_from P (r ∷ rows) once holds = (
       (λ m row found. holds m row (cond-false (nat_eq m r.client.meter) (Some r) (row_of (by_meter rows) m) (behind (r.client.meter, r) (by_meter rows) m row once found) ∙ found)),
 )
 
-abbrev renew : Row → Row
+abbrev pub renew : Row → Row
 renew row = new_row row.client.meter row.name row.size
 
-row_renewed : (es : Rows) (m : ℕ) → row_of (renewed es) m ≡ option_map renew (row_of es m)
-row_renewed [] m = refl
-row_renewed (entry ∷ es) m =
+-- of each row this is made
+abbrev pub made : (Row → Row) → Rows → Rows
+made f es = map (λ (entry : ℕ × Row). (entry.0, f entry.1)) es
+
+row_made : (f : Row → Row) (es : Rows) (m : ℕ) → row_of (made f es) m ≡ option_map f (row_of es m)
+row_made f [] m = refl
+row_made f (entry ∷ es) m =
     ⊎_elim
     (λ here.
-    cond-true (nat_eq m entry.0) (Some (renew entry.1)) (lookup (nat_eq m) (renewed es)) here
-    ∙ ap (λ (o : Option Row). option_map renew o) (sym (cond-true (nat_eq m entry.0) (Some entry.1) (lookup (nat_eq m) es) here)))
+    cond-true (nat_eq m entry.0) (Some (f entry.1)) (lookup (nat_eq m) (made f es)) here
+    ∙ ap (λ (o : Option Row). option_map f o) (sym (cond-true (nat_eq m entry.0) (Some entry.1) (lookup (nat_eq m) es) here)))
     (λ away.
-    cond-false (nat_eq m entry.0) (Some (renew entry.1)) (lookup (nat_eq m) (renewed es)) away
-    ∙ row_renewed es m
-    ∙ ap (λ (o : Option Row). option_map renew o) (sym (cond-false (nat_eq m entry.0) (Some entry.1) (lookup (nat_eq m) es) away)))
+    cond-false (nat_eq m entry.0) (Some (f entry.1)) (lookup (nat_eq m) (made f es)) away
+    ∙ row_made f es m
+    ∙ ap (λ (o : Option Row). option_map f o) (sym (cond-false (nat_eq m entry.0) (Some entry.1) (lookup (nat_eq m) es) away)))
     (cases_Bool (nat_eq m entry.0))
 
-mapped : (o : Option Row) (x : Row) → option_map renew o ≡ Some x → (row : Row) × (o ≡ Some row) × (x ≡ renew row)
-mapped None x e = absurd (none_row x e)
-mapped (Some row) x e = (row, refl, sym (some_row (renew row) x e))
+mapped : (f : Row → Row) (o : Option Row) (x : Row) → option_map f o ≡ Some x → (row : Row) × (o ≡ Some row) × (x ≡ f row)
+mapped f None x e = absurd (none_row x e)
+mapped f (Some row) x e = (row, refl, sym (some_row (f row) x e))
 
--- a row that is found among new ones was made of one
+-- a row that is found among them was made of one
+pub made_from : (f : Row → Row) (es : Rows) (m : ℕ) (x : Row) → row_of (made f es) m ≡ Some x → (row : Row) × (row_of es m ≡ Some row) × (x ≡ f row)
+made_from f es m x found = mapped f (row_of es m) x (sym (row_made f es m) ∙ found)
+
+pub made_to : (f : Row → Row) (es : Rows) (m : ℕ) (row : Row) → row_of es m ≡ Some row → row_of (made f es) m ≡ Some (f row)
+made_to f es m row found = row_made f es m ∙ ap (λ (o : Option Row). option_map f o) found
+
+-- so it is with new ones
 pub renewed_from : (es : Rows) (m : ℕ) (x : Row) → row_of (renewed es) m ≡ Some x → (row : Row) × (row_of es m ≡ Some row) × (x ≡ renew row)
-renewed_from es m x found = mapped (row_of es m) x (sym (row_renewed es m) ∙ found)
+renewed_from es m x found = made_from renew es m x found
 
 pub renewed_to : (es : Rows) (m : ℕ) (row : Row) → row_of es m ≡ Some row → row_of (renewed es) m ≡ Some (renew row)
-renewed_to es m row found = row_renewed es m ∙ ap (λ (o : Option Row). option_map renew o) found
+renewed_to es m row found = made_to renew es m row found
 
 -- ---- no meter twice
 

@@ -1,6 +1,7 @@
 pub mod FreeIds
 pub mod Sending
 pub mod OwnClaims
+pub mod Asking
 pub mod Heard
 pub mod LiveRows
 pub mod SameRows

@@ -1,5 +1,5 @@
 -- A campaign is opened in the book, and each of its meters has a new row: that keeps a head end.
-use Rattle.std.proofs.Common.{◌≡◌, ◌≢◌, ℕ, ◌==◌, nat_eq, Bool, true, false, cond, ◌||◌, ◌&&◌, ◌⊎◌, inl, inr, is_some, find, List, [], ◌∷◌, ◌++◌, length, Option, Some, None, option_map, refl, sym, ap, subst, ◌∙◌, ⊎_elim}
+use Rattle.std.proofs.Common.{◌≡◌, ◌≢◌, ℕ, ◌==◌, nat_eq, Bool, true, false, cond, ◌||◌, ◌&&◌, ◌⊎◌, inl, inr, is_some, find, List, [], ◌∷◌, ◌++◌, map, length, Option, Some, None, option_map, refl, sym, ap, subst, ◌∙◌, ⊎_elim}
 use Rattle.std.specs.List.{IsDistinct, AllByRecursion, list_any}
 use Rattle.std.specs.Map.{lookup, keys_of}
 use Rattle.std.specs.Option.{option_and_then}
@@ -7,7 +7,7 @@ use Rattle.std.proofs.lemmas.List.{map-append}
 use Rattle.std.proofs.lemmas.Map.Keys.{IsDistinct-head, IsDistinct-tail, IsDistinct-cons}
 use Rattle.std.proofs.lemmas.Bool.{cases_Bool, cond-true, cond-false, false≢true, or_parts, or_cases, or_left, or_right, and_from}
 use Rattle.std.proofs.lemmas.Bool.Decides.{Decides-eqb}
-use Rattle.fw_names.specs.Name.{Name, Campaign, name_of}
+use Rattle.fw_names.specs.Name.{Campaign, name_of}
 use Rattle.fw_book.specs.declared.row.Row as book_row
 use Rattle.fw_book.specs.declared.row.RowState.{RowState}
 use Rattle.fw_book.specs.declared.row.RowState.TheVariants.{Live}
@@ -72,34 +72,38 @@ none_state s e = cc
 abbrev pub among : List ℕ → ℕ → Bool
 among meters m = list_any (λ other. other == m) meters
 
--- a new row that is found is that of the meter
-pub new_found : (name : Name) (size : ℕ) (meters : List ℕ) (m : ℕ) (row : Row) → row_of (new_rows name size meters) m ≡ Some row → (row ≡ new_row m name size) × (among meters m ≡ true)
-new_found name size [] m row found = absurd (none_row row found)
-new_found name size (meter ∷ meters) m row found =
-    let new : Row = new_row meter name size in
+-- a row for each meter
+abbrev pub each : (ℕ → Row) → List ℕ → Rows
+each make meters = map (λ meter. (meter, make meter)) meters
+
+-- one that is found is that of the meter
+pub each_found : (make : ℕ → Row) (meters : List ℕ) (m : ℕ) (row : Row) → row_of (each make meters) m ≡ Some row → (row ≡ make m) × (among meters m ≡ true)
+each_found make [] m row found = absurd (none_row row found)
+each_found make (meter ∷ meters) m row found =
+    let new : Row = make meter in
     ⊎_elim
     (λ here.
     let same : m ≡ meter = (Decides-eqb m meter).0 here in
-    let is : new ≡ row = some_row new row (sym (cond-true (nat_eq m meter) (Some new) (lookup (nat_eq m) (new_rows name size meters)) here) ∙ found) in
-    (sym is ∙ ap (λ n. new_row n name size) (sym same), ap (λ b. b || among meters m) ((Decides-eqb meter m).1 (sym same))))
+    let is : new ≡ row = some_row new row (sym (cond-true (nat_eq m meter) (Some new) (lookup (nat_eq m) (each make meters)) here) ∙ found) in
+    (sym is ∙ ap make (sym same), ap (λ b. b || among meters m) ((Decides-eqb meter m).1 (sym same))))
     (λ away.
-    let later = new_found name size meters m row (sym (cond-false (nat_eq m meter) (Some new) (lookup (nat_eq m) (new_rows name size meters)) away) ∙ found) in
+    let later = each_found make meters m row (sym (cond-false (nat_eq m meter) (Some new) (lookup (nat_eq m) (each make meters)) away) ∙ found) in
     (later.0, or_right (meter == m) (among meters m) later.1))
     (cases_Bool (nat_eq m meter))
 
 -- and each of the meters has one
-pub new_there : (name : Name) (size : ℕ) (meters : List ℕ) (m : ℕ) → among meters m ≡ true → row_of (new_rows name size meters) m ≡ Some (new_row m name size)
-new_there name size [] m there = absurd (false≢true there)
-new_there name size (meter ∷ meters) m there =
-    let new : Row = new_row meter name size in
+pub each_there : (make : ℕ → Row) (meters : List ℕ) (m : ℕ) → among meters m ≡ true → row_of (each make meters) m ≡ Some (make m)
+each_there make [] m there = absurd (false≢true there)
+each_there make (meter ∷ meters) m there =
+    let new : Row = make meter in
     ⊎_elim
     (λ here.
     let same : m ≡ meter = (Decides-eqb m meter).0 here in
-    cond-true (nat_eq m meter) (Some new) (lookup (nat_eq m) (new_rows name size meters)) here
-    ∙ ap (λ n. (let o : Option Row = Some (new_row n name size) in o)) (sym same))
+    cond-true (nat_eq m meter) (Some new) (lookup (nat_eq m) (each make meters)) here
+    ∙ ap (λ n. (let o : Option Row = Some (make n) in o)) (sym same))
     (λ away.
-    cond-false (nat_eq m meter) (Some new) (lookup (nat_eq m) (new_rows name size meters)) away
-    ∙ new_there name size meters m (ap (λ b. b || among meters m) (sym (flipped m meter away)) ∙ there))
+    cond-false (nat_eq m meter) (Some new) (lookup (nat_eq m) (each make meters)) away
+    ∙ each_there make meters m (ap (λ b. b || among meters m) (sym (flipped m meter away)) ∙ there))
     (cases_Bool (nat_eq m meter))
 
 -- ---- a meter that is live in no campaign has no row
@@ -212,9 +216,9 @@ pub all_once : (book : Contents) (width : ℕ) (rows : Rows) (campaign : Campaig
 all_once book width rows campaign image meters is o =
     once_behind rows meters is.once (distinct_meters meters o.meters_once) (all_free book width rows meters is o.meters_free)
 
-pub keys_new : (name : Name) (size : ℕ) (meters : List ℕ) → keys_of (new_rows name size meters) ≡ meters
-keys_new name size [] = refl
-keys_new name size (meter ∷ meters) = ap (λ (ms : List ℕ). (let all : List ℕ = meter ∷ ms in all)) (keys_new name size meters)
+pub keys_each : (make : ℕ → Row) (meters : List ℕ) → keys_of (each make meters) ≡ meters
+keys_each make [] = refl
+keys_each make (meter ∷ meters) = ap (λ (ms : List ℕ). (let all : List ℕ = meter ∷ ms in all)) (keys_each make meters)
 
 -- ---- the head end
 
@@ -257,7 +261,7 @@ module _ (follow : StatesFollowCalls) (offers : OpeningOffers) where
       (λ same.
       let there : among meters m ≡ true = among_of meters m (sym (goes.own m) ∙ ap (λ x. state_in (opened book campaign.serial release image meters) x m) (sym (same ∙ whole)) ∙ live) in
       let free : row_of rows m ≡ None = one_of (λ n. row_of rows n ≡ None) meters m (all_free book width rows meters is o.meters_free) there in
-      (new_row m name (length image), found_behind m rows (new_rows name (length image) meters) free ∙ new_there name (length image) meters m there, sym (same ∙ whole)))
+      (new_row m name (length image), found_behind m rows (new_rows name (length image) meters) free ∙ each_there (λ n. new_row n name (length image)) meters m there, sym (same ∙ whole)))
       (λ other.
       let was = is.of_rows c m (sym (goes.others c m (λ same. other (same ∙ sym whole))) ∙ live) in
       (was.0, found_before m rows (new_rows name (length image) meters) was.0 was.1, was.2))
@@ -283,14 +287,14 @@ module _ (follow : StatesFollowCalls) (offers : OpeningOffers) where
         of_book = λ m r at.
             ⊎_elim
             (λ none.
-            let found = new_found name (length image) meters m r (sym (found_behind m rows added none) ∙ at) in
+            let found = each_found (λ n. new_row n name (length image)) meters m r (sym (found_behind m rows added none) ∙ at) in
             subst (P m) (sym found.0) (new_is book campaign release image meters m o found.1))
             (λ was.
             let same : was.0 ≡ r = some_row was.0 r (sym (found_before m rows added was.0 was.1) ∙ at) in
             subst (P m) same (old_is book campaign release image meters m was.0 o (is.of_book m was.0 was.1)))
             (either (row_of rows m));
         of_rows = λ c m live. live_has_row book width rows campaign release image meters c m o is live;
-        once = subst Q (sym (map-append (λ (entry : ℕ × Row). entry.0) rows added ∙ ap (λ (ks : List ℕ). keys_of rows ++ ks) (keys_new name (length image) meters))) (all_once book width rows campaign image meters is o);
+        once = subst Q (sym (map-append (λ (entry : ℕ × Row). entry.0) rows added ∙ ap (λ (ks : List ℕ). keys_of rows ++ ks) (keys_each (λ n. new_row n name (length image)) meters))) (all_once book width rows campaign image meters is o);
       }
 
   -- the same for a book and rows that equal these

@@ -1,4 +1,4 @@
--- The new rows of the meters that are live in a book: they make a head end of it, the one that starts again.
+-- The new rows of the meters that are live in a book, each of which asks first: they make a head end of it, the one that starts again.
 use Rattle.std.proofs.Common.{◌≡◌, ◌≢◌, ℕ, ◌==◌, nat_eq, Bool, true, false, cond, ◌||◌, ◌&&◌, ◌⊎◌, List, [], ◌∷◌, ◌++◌, length, Option, Some, None, option_map, refl, sym, ap, subst, ◌∙◌, ⊎_elim, append_assoc}
 use Rattle.std.specs.List.{IsDistinct, AllByRecursion, list_any}
 use Rattle.std.specs.Map.{lookup, keys_of}
@@ -12,13 +12,13 @@ use Rattle.fw_book.specs.declared.row.RowState.{RowState}
 use Rattle.fw_book.specs.declared.row.RowState.TheVariants.{Live, Done, Failed, Cancelled}
 use Rattle.fw_book.specs.Rows.{is_live, meters_of, repeats, state_of, is_live_in}
 use Rattle.fw_book.specs.Contents.{Contents, Offered, IsEntry, Apart, AllApart, IsBook, image_in, name_in}
-use Rattle.fw_head.specs.Row.{Row, new_row}
-use Rattle.fw_head.specs.Head.{Head, Rows, row_of, new_rows, renewed, restarted, IsRowOf, AreRowsOf, IsHead, BeginsWith}
+use Rattle.fw_head.specs.Row.{Row, reopened_row}
+use Rattle.fw_head.specs.Head.{Head, Rows, row_of, reopened_rows, renewed, asking, IsRowOf, AreRowsOf}
 use Rattle.fw_head.specs.Inside.{live_meters, rows_in, live_rows}
-use Rattle.fw_head.specs.Laws.{BeginsRestarted, IsAsBefore}
+use Rattle.fw_head.specs.Laws.{BeginsRestarted}
 use Rattle.fw_head.proofs.LiveRows.{some_row}
-use Rattle.fw_head.proofs.ByMeter.{renewed_from, renewed_to}
-use Rattle.fw_head.proofs.Openings.{among, either, found_before, found_behind, new_found, new_there, none_row, all_among, all_append, once_behind, keys_new, first, skipped, live_in, state_at, offer_at}
+use Rattle.fw_head.proofs.ByMeter.{renew, made_from, made_to, renewed_from, renewed_to}
+use Rattle.fw_head.proofs.Openings.{among, either, found_before, found_behind, each_found, each_there, none_row, all_among, all_append, once_behind, keys_each, first, skipped, live_in, state_at, offer_at}
 
 -- ---- the meters that are live in the rows of a campaign
 
@@ -86,7 +86,15 @@ live_state (row ∷ rows) m once live =
 abbrev row_in : ℕ → ℕ → Offered → ℕ → Row
 row_in head serial offer m =
     let campaign : Campaign = record { head = head; serial = serial } in
-    new_row m (name_of campaign offer.release offer.image) (length offer.image)
+    reopened_row m (name_of campaign offer.release offer.image) (length offer.image)
+
+-- the row that asks first
+abbrev ask : Row → Row
+ask row = record row { asks_first = true }
+
+-- and is new
+abbrev reopen : Row → Row
+reopen row = reopened_row row.client.meter row.name row.size
 
 some_offer : (a b : Offered) → (let o : Option Offered = Some a in o ≡ Some b) → a ≡ b
 some_offer a b e = cc
@@ -112,7 +120,7 @@ none_in : (head : ℕ) (entry : ℕ × Offered) (m : ℕ) → is_live_in entry.1
 none_in head entry m ended =
     ⊎_elim
     (λ none. none)
-    (λ found. absurd (false≢true (sym (among_live entry.1.rows m ∙ ended) ∙ (new_found (row_in head entry.0 entry.1 m).name (length entry.1.image) (live_meters entry.1.rows) m found.0 found.1).1)))
+    (λ found. absurd (false≢true (sym (among_live entry.1.rows m ∙ ended) ∙ (each_found (row_in head entry.0 entry.1) (live_meters entry.1.rows) m found.0 found.1).1)))
     (either (row_of (rows_in head entry) m))
 
 -- a campaign beside another: who is live there isn't live here
@@ -132,7 +140,7 @@ there head (entry ∷ entries) apart serial offer m found live =
     let same : entry.1 ≡ offer = some_offer entry.1 offer (sym (cond-true (nat_eq serial entry.0) (Some entry.1) (lookup (nat_eq serial) entries) here) ∙ found) in
     let at : serial ≡ entry.0 = (Decides-eqb serial entry.0).0 here in
     let among_them : among (live_meters entry.1.rows) m ≡ true = among_live entry.1.rows m ∙ ap (λ (o : Offered). is_live_in o.rows m) same ∙ live in
-    found_before m (rows_in head entry) rest (row_in head entry.0 entry.1 m) (new_there (row_in head entry.0 entry.1 m).name (length entry.1.image) (live_meters entry.1.rows) m among_them)
+    found_before m (rows_in head entry) rest (row_in head entry.0 entry.1 m) (each_there (row_in head entry.0 entry.1) (live_meters entry.1.rows) m among_them)
     ∙ ap (λ n. (let o : Option Row = Some (row_in head n entry.1 m) in o)) (sym at)
     ∙ ap (λ (x : Offered). (let o : Option Row = Some (row_in head serial x m) in o)) same)
     (λ away.
@@ -167,7 +175,7 @@ back head (entry ∷ entries) apart m row found =
     })
     (λ here.
     let same : here.0 ≡ row = some_row here.0 row (sym (found_before m (rows_in head entry) rest here.0 here.1) ∙ found) in
-    let new = new_found (row_in head entry.0 entry.1 m).name (length entry.1.image) (live_meters entry.1.rows) m here.0 here.1 in
+    let new = each_found (row_in head entry.0 entry.1) (live_meters entry.1.rows) m here.0 here.1 in
     record {
       serial = entry.0;
       offer = entry.1;
@@ -185,7 +193,7 @@ all_of P (m ∷ ms) f =
     (f m (or_left (m == m) (among ms m) ((Decides-eqb m m).1 refl)), all_of P ms (λ n h. f n (or_right (m == n) (among ms n) h)))
 
 keys_in : (head : ℕ) (entry : ℕ × Offered) → keys_of (rows_in head entry) ≡ live_meters entry.1.rows
-keys_in head entry = keys_new (row_in head entry.0 entry.1 0).name (length entry.1.image) (live_meters entry.1.rows)
+keys_in head entry = keys_each (row_in head entry.0 entry.1) (live_meters entry.1.rows)
 
 keys_more : (head : ℕ) (entry : ℕ × Offered) (rest : Rows) → keys_of (rows_in head entry ++ rest) ≡ keys_of (rows_in head entry) ++ keys_of rest
 keys_more head entry rest = map-append (λ (e : ℕ × Row). e.0) (rows_in head entry) rest
@@ -242,20 +250,22 @@ are_rows book is =
       once = once book.head book.campaigns is.entries is.apart;
     }
 
--- each of them is new
+-- each of them is new, except that it asks first
 
-renewed_append : (es fs : Rows) → renewed (es ++ fs) ≡ renewed es ++ renewed fs
-renewed_append es fs = map-append (λ (entry : ℕ × Row). (entry.0, new_row entry.1.client.meter entry.1.name entry.1.size)) es fs
+reopened_append : (es fs : Rows) → asking (renewed (es ++ fs)) ≡ asking (renewed es) ++ asking (renewed fs)
+reopened_append es fs =
+    ap (λ (rs : Rows). asking rs) (map-append (λ (entry : ℕ × Row). (entry.0, renew entry.1)) es fs)
+    ∙ map-append (λ (entry : ℕ × Row). (entry.0, ask entry.1)) (renewed es) (renewed fs)
 
-renewed_new : (name : Name) (size : ℕ) (ms : List ℕ) → renewed (new_rows name size ms) ≡ new_rows name size ms
-renewed_new name size [] = refl
-renewed_new name size (m ∷ ms) = ap (λ (es : Rows). (let all : Rows = (m, new_row m name size) ∷ es in all)) (renewed_new name size ms)
+reopened_new : (name : Name) (size : ℕ) (ms : List ℕ) → asking (renewed (reopened_rows name size ms)) ≡ reopened_rows name size ms
+reopened_new name size [] = refl
+reopened_new name size (m ∷ ms) = ap (λ (es : Rows). (let all : Rows = (m, reopened_row m name size) ∷ es in all)) (reopened_new name size ms)
 
-pub all_new : (head : ℕ) (entries : List (ℕ × Offered)) → renewed (live_rows head entries) ≡ live_rows head entries
+pub all_new : (head : ℕ) (entries : List (ℕ × Offered)) → asking (renewed (live_rows head entries)) ≡ live_rows head entries
 all_new head [] = refl
 all_new head (entry ∷ entries) =
-    renewed_append (rows_in head entry) (live_rows head entries)
-    ∙ ap (λ (es : Rows). es ++ renewed (live_rows head entries)) (renewed_new (row_in head entry.0 entry.1 0).name (length entry.1.image) (live_meters entry.1.rows))
+    reopened_append (rows_in head entry) (live_rows head entries)
+    ∙ ap (λ (es : Rows). es ++ asking (renewed (live_rows head entries))) (reopened_new (row_in head entry.0 entry.1 0).name (length entry.1.image) (live_meters entry.1.rows))
     ∙ ap (λ (es : Rows). rows_in head entry ++ es) (all_new head entries)
 
 -- ---- it is the one that starts again
@@ -266,39 +276,47 @@ some_name a b e = cc
 some_size : (a b : ℕ) → (let o : Option ℕ = Some a in o ≡ Some b) → a ≡ b
 some_size a b e = cc
 
+-- a row that asks first, where the meter has one, is made of that
+reopened_from : (es : Rows) (m : ℕ) (x : Row) → row_of (asking (renewed es)) m ≡ Some x → (row : Row) × (row_of es m ≡ Some row) × (x ≡ reopen row)
+reopened_from es m x found =
+    let asks = made_from ask (renewed es) m x found in
+    let was = renewed_from es m asks.0 asks.1 in
+    (was.0, was.1, asks.2 ∙ ap ask was.2)
+
+reopened_to : (es : Rows) (m : ℕ) (row : Row) → row_of es m ≡ Some row → row_of (asking (renewed es)) m ≡ Some (reopen row)
+reopened_to es m row found = made_to ask (renewed es) m (renew row) (renewed_to es m row found)
+
 pub begins_restarted : BeginsRestarted
 begins_restarted head begun is begins =
     record { book = begins.book_is; width = begins.width_is; rows = same }
   where
     -- a row of the one is that of the other
-    alike : (m : ℕ) (row was : Row) → IsRowOf head.book m row → IsRowOf head.book m was → row.name.campaign ≡ was.name.campaign
-        → new_row row.client.meter row.name row.size ≡ new_row was.client.meter was.name was.size
+    alike : (m : ℕ) (row was : Row) → IsRowOf head.book m row → IsRowOf head.book m was → row.name.campaign ≡ was.name.campaign → reopen row ≡ reopen was
     alike m row was a b same_of =
         let names : row.name ≡ was.name = some_name row.name was.name (sym a.named ∙ ap (λ c. name_in head.book c) same_of ∙ b.named) in
         let sizes : row.size ≡ was.size = some_size row.size was.size (sym a.sized ∙ ap (λ c. option_map length (image_in head.book c)) same_of ∙ b.sized) in
-        ap (λ k. new_row k row.name row.size) (a.asks ∙ sym b.asks)
-        ∙ ap (λ n. new_row was.client.meter n row.size) names
-        ∙ ap (λ k. new_row was.client.meter was.name k) sizes
+        ap (λ k. reopened_row k row.name row.size) (a.asks ∙ sym b.asks)
+        ∙ ap (λ n. reopened_row was.client.meter n row.size) names
+        ∙ ap (λ k. reopened_row was.client.meter was.name k) sizes
 
-    same : (m : ℕ) → row_of begun.rows m ≡ row_of (renewed head.rows) m
+    same : (m : ℕ) → row_of begun.rows m ≡ row_of (asking (renewed head.rows)) m
     same m =
         ⊎_elim
         (λ none.
         none ∙ ⊎_elim
         (λ none_either. sym none_either)
         (λ found.
-        let was = renewed_from head.rows m found.0 found.1 in
+        let was = reopened_from head.rows m found.0 found.1 in
         let there_is = begins.live.of_rows was.0.name.campaign m (is.of_book m was.0 was.1).live in
         absurd (none_row there_is.0 (sym none ∙ there_is.1)))
-        (either (row_of (renewed head.rows) m)))
+        (either (row_of (asking (renewed head.rows)) m)))
         (λ found.
-        let new = renewed_from begun.rows m found.0 (ap (λ (es : Rows). row_of es m) begins.new ∙ found.1) in
+        let new = reopened_from begun.rows m found.0 (ap (λ (es : Rows). row_of es m) begins.new ∙ found.1) in
         let row = begins.live.of_book m new.0 new.1 in
         let was = is.of_rows new.0.name.campaign m row.live in
-        let o : Option Row = Some found.0 in
         found.1
         ∙ ap (λ (r : Row). (let o : Option Row = Some r in o)) (new.2 ∙ alike m new.0 was.0 row (is.of_book m was.0 was.1) (sym was.2))
-        ∙ sym (renewed_to head.rows m was.0 was.1))
+        ∙ sym (reopened_to head.rows m was.0 was.1))
         (either (row_of begun.rows m))
 
 -- ---- one campaign after the other, and one row after the other

@@ -17,7 +17,7 @@ use Rattle.fw_head.specs.declared.answers.Step.TheVariants.{Stay, Took, Move, Re
 use Rattle.fw_head.specs.declared.news.RowNews.{RowNews}
 use Rattle.fw_head.specs.declared.news.RowNews.TheVariants as news
 use Rattle.fw_head.specs.Phase.{phase_of, rows, otherwise, First, Leads}
-use Rattle.fw_head.specs.Row.{Row, RowTakes, RowIgnores, max_returns, moved, settled, stepped, with_block, news_in}
+use Rattle.fw_head.specs.Row.{Row, RowTakes, RowIgnores, max_returns, moved, settled, went, confirm_first, asked_first, stepped, with_block, news_in}
 use Rattle.fw_head.specs.Inside.{StageHolds, StepHolds}
 use Rattle.fw_head.specs.Laws.{OneRow, IsConfirmedBy, DoneByClaim}
 use Rattle.fw_head.proofs.OwnClaims.{Ended, ended_step}
@@ -89,11 +89,34 @@ ended_stage E (Done other) claim ends e = subst E (same_claim other claim e) end
 ended_stage E Failed claim ends e = absurd (failed_done claim e)
 ended_stage E _ claim ends e = absurd (moved_done claim e)
 
+ended_went : (E : Claim → Type 0) (row : Row) (step : Step) (claim : Claim) → ¬ (phase_of row.stage ≡ phase.Done) → StepHolds (λ g. Unit {0}) E step → news_in (went row step).stage ≡ news.Done claim → E claim
+ended_went E row Stay claim live ends e = absurd (live (not_done row.stage claim e))
+ended_went E row (Took number) claim live ends e = absurd (live (block_done row.stage number claim (sym (ap news_in (settled_stage row (with_block row.stage number))) ∙ e)))
+ended_went E row (Move stage) claim live ends e = ended_stage E stage claim ends e
+ended_went E row (Return g) claim live ends e = absurd (return_done row g claim (nat_lt (row.returns + 1) max_returns) e)
+
+ended_first : (E : Claim → Type 0) (stage : Stage) (claim : Claim) → StageHolds (λ g. Unit {0}) E stage → news_in (confirm_first stage) ≡ news.Done claim → E claim
+ended_first E (Start g) claim ends e = absurd (moved_done claim e)
+ended_first E stage claim ends e = ended_stage E stage claim ends e
+
+ended_asking : (E : Claim → Type 0) (row : Row) (step : Step) (claim : Claim) → ¬ (phase_of row.stage ≡ phase.Done) → StepHolds (λ g. Unit {0}) E step → news_in (asked_first row step).stage ≡ news.Done claim → E claim
+ended_asking E row (Move stage) claim live ends e = ended_first E stage claim ends e
+ended_asking E row (Return g) claim live ends e = absurd (moved_done claim e)
+ended_asking E row step claim live ends e = ended_went E row step claim live ends e
+
 ended_by : (E : Claim → Type 0) (row : Row) (step : Step) (claim : Claim) → ¬ (phase_of row.stage ≡ phase.Done) → StepHolds (λ g. Unit {0}) E step → news_in (stepped row step).stage ≡ news.Done claim → E claim
-ended_by E row Stay claim live ends e = absurd (live (not_done row.stage claim e))
-ended_by E row (Took number) claim live ends e = absurd (live (block_done row.stage number claim (sym (ap news_in (settled_stage row (with_block row.stage number))) ∙ e)))
-ended_by E row (Move stage) claim live ends e = ended_stage E stage claim ends e
-ended_by E row (Return g) claim live ends e = absurd (return_done row g claim (nat_lt (row.returns + 1) max_returns) e)
+ended_by E row step claim live ends e = go row.asks_first e
+  where
+    go : (b : Bool) → news_in (let new : Row = if b then asked_first row step else went row step in new.stage) ≡ news.Done claim → E claim
+    go true e = ended_asking E row step claim live ends e
+    go false e = ended_went E row step claim live ends e
+
+done_by : (row : Row) (claim : Claim) → news_in (stepped row (Move (Done claim))).stage ≡ news.Done claim
+done_by row claim = go row.asks_first
+  where
+    go : (b : Bool) → news_in (let new : Row = if b then asked_first row (Move (Done claim)) else went row (Move (Done claim)) in new.stage) ≡ news.Done claim
+    go true = refl
+    go false = refl
 
 -- then it waited for the claim that it heard
 confirms : OnlyClaimed → (old new : Row) (datagram : List ℕ) (told : RowNews) (claim : Claim) → ¬ (phase_of old.stage ≡ phase.Done) → RowTakes old datagram told new → told ≡ news.Done claim → IsConfirmedBy old datagram claim
@@ -121,7 +144,7 @@ done only old new datagram told claim takes confirms =
     let heard_is = (only old.client takes.client datagram takes.heard claim (inl takes.takes)).1 confirms.claimed in
     let P : Heard → Type 0 = λ h. Leads old.name old.size old.stage h takes.step in
     let step = confirmed_step old.name old.size old.stage claim takes.step confirms.waits confirms.named (subst P heard_is takes.leads) in
-    takes.told_is ∙ ap (λ (r : Row). news_in r.stage) takes.new_is ∙ ap (λ (s : Step). news_in (stepped (record old { client = takes.client }) s).stage) step
+    takes.told_is ∙ ap (λ (r : Row). news_in r.stage) takes.new_is ∙ ap (λ (s : Step). news_in (stepped (record old { client = takes.client }) s).stage) step ∙ done_by (record old { client = takes.client }) claim
 
 stranger_active : (claim : Claim) → (let h : Heard = heard.Stranger in h ≡ heard.Active claim) → ⊥
 stranger_active claim e = cc

@@ -16,7 +16,7 @@ use Rattle.fw_head.specs.declared.answers.Step.TheVariants.{Stay, Took, Move, Re
 use Rattle.fw_head.specs.declared.news.RowNews.{RowNews}
 use Rattle.fw_head.specs.declared.news.RowNews.TheVariants as news
 use Rattle.fw_head.specs.Phase.{IsLive}
-use Rattle.fw_head.specs.Row.{Row, news_in, max_returns, new_row, ticked, tick_asks, moved, returned, settled, with_block, stepped, RowHears}
+use Rattle.fw_head.specs.Row.{Row, news_in, max_returns, new_row, ticked, tick_asks, moved, returned, settled, with_block, went, confirm_first, asked_first, stepped, RowHears}
 use Rattle.fw_head.specs.Head.{Rows, RowsHear, row_of, at_meter, renewed, IsRowOf, IsHead}
 use Rattle.fw_head.specs.Laws.{IsOfSameGoal, RowKeepsGoal}
 use Rattle.fw_head.proofs.Heard.{kept_meter}
@@ -52,11 +52,19 @@ goal_returned row g =
     goal_either (nat_lt (row.returns + 1) max_returns) row (record (moved row (Start g)) { returns = row.returns + 1 }) (moved row Failed)
     (record { name = refl; size = refl; meter = refl }) (goal_moved row Failed)
 
+goal_went : (row : Row) (step : Step) → IsOfSameGoal row (went row step)
+goal_went row Stay = itself row
+goal_went row (Took n) = goal_settled row (with_block row.stage n)
+goal_went row (Move stage) = goal_moved row stage
+goal_went row (Return g) = goal_returned row g
+
+goal_asking : (row : Row) (step : Step) → IsOfSameGoal row (asked_first row step)
+goal_asking row (Move stage) = goal_moved row (confirm_first stage)
+goal_asking row (Return g) = record { name = refl; size = refl; meter = refl }
+goal_asking row step = goal_went row step
+
 goal_stepped : (row : Row) (step : Step) → IsOfSameGoal row (stepped row step)
-goal_stepped row Stay = itself row
-goal_stepped row (Took n) = goal_settled row (with_block row.stage n)
-goal_stepped row (Move stage) = goal_moved row stage
-goal_stepped row (Return g) = goal_returned row g
+goal_stepped row step = goal_either row.asks_first row (asked_first row step) (went row step) (goal_asking row step) (goal_went row step)
 
 pub goes_ticked : (row : Row) (image : List ℕ) (width : ℕ) → GoesOn row (ticked row image width)
 goes_ticked row image width =

@@ -1,5 +1,5 @@
 -- Public vocabulary: a head end, its book and the live rows, and what each call makes of it.
-use Rattle.std.specs.Prelude.{◌≡◌, ℕ, Bool, ◌==◌, nat_eq, not, ◌⊎◌, List, [], ◌∷◌, ◌++◌, map, filter, length, Option, Some, None, unwrap_or, if◌then◌else◌}
+use Rattle.std.specs.Prelude.{◌≡◌, ℕ, Bool, true, ◌==◌, nat_eq, not, ◌⊎◌, List, [], ◌∷◌, ◌++◌, map, filter, length, Option, Some, None, unwrap_or, if◌then◌else◌}
 use Rattle.std.specs.List.{IsDistinct, list_any}
 use Rattle.std.specs.Map.{lookup, keys_of}
 use Rattle.std.specs.Option.{option_map, option_map_or}
@@ -17,7 +17,7 @@ use Rattle.fw_head.specs.declared.news.RowNews.{RowNews}
 use Rattle.fw_head.specs.declared.news.RowNews.TheVariants.{Nothing, Moved, Done, Failed}
 use Rattle.fw_head.specs.declared.phase.Phase.TheVariants as phase
 use Rattle.fw_head.specs.Phase.{phase_of, IsLive}
-use Rattle.fw_head.specs.Row.{Row, new_row, sends, ticked, RowHears, RowMayWant, IsPermitted}
+use Rattle.fw_head.specs.Row.{Row, new_row, reopened_row, sends, ticked, RowHears, RowMayWant, IsPermitted}
 
 -- the live rows, each under the number of its meter
 abbrev pub Rows : Type 0
@@ -51,9 +51,17 @@ without_serial serial rows = filter (λ (entry : ℕ × Row). not (entry.1.name.
 abbrev pub new_rows : Name → ℕ → List ℕ → Rows
 new_rows name size meters = map (λ meter. (meter, new_row meter name size)) meters
 
+-- a new row that asks first, for each meter
+abbrev pub reopened_rows : Name → ℕ → List ℕ → Rows
+reopened_rows name size meters = map (λ meter. (meter, reopened_row meter name size)) meters
+
 -- each row made new
 abbrev pub renewed : Rows → Rows
 renewed rows = map (λ (entry : ℕ × Row). (entry.0, new_row entry.1.client.meter entry.1.name entry.1.size)) rows
+
+-- each row made one that asks first what its meter has
+abbrev pub asking : Rows → Rows
+asking rows = map (λ (entry : ℕ × Row). (entry.0, record entry.1 { asks_first = true })) rows
 
 -- a meter's row hears a datagram and goes on, or the meter has none
 abbrev pub RowsHear : Rows → ℕ → List ℕ → RowNews → Rows → Type 0
@@ -92,6 +100,10 @@ cancelled_head head serial = record head { book = cancelled head.book serial; ro
 -- a restart keeps the book
 abbrev pub restarted : Head → Head
 restarted head = record head { rows = renewed head.rows }
+
+-- the head end, each row of which asks first what its meter has
+abbrev pub asking_first : Head → Head
+asking_first head = record head { rows = asking head.rows }
 
 -- the bytes of the image of a row's campaign
 abbrev pub image_of : Head → Row → List ℕ
@@ -168,12 +180,13 @@ pub record AreRowsOf (book : Contents) (rows : Rows) : Type 0 where
 abbrev pub IsHead : Head → Type 0
 IsHead head = AreRowsOf head.book head.rows
 
--- A head end begins with this book: each meter that is live in the book has a new row, and no other meter has one.
+-- A head end begins with this book: each meter that is live in the book has a new row that asks first what the meter has, and no other
+-- meter has one.
 pub record BeginsWith (book : Contents) (width : ℕ) (head : Head) : Type 0 where
   pub book_is : head.book ≡ book
   pub width_is : head.width ≡ width
   pub live : AreRowsOf book head.rows
-  pub new : renewed head.rows ≡ head.rows
+  pub new : asking (renewed head.rows) ≡ head.rows
 
 -- whether a campaign of the book has a row that is live
 abbrev pub has_live_row : Contents → Bool

@@ -1,5 +1,5 @@
 -- For private clauses, and for the models of the head end's types.
-use Rattle.std.specs.Prelude.{◌≡◌, ℕ, ◌+◌, ◌%◌, ◌<◌, ◌≤◌, ◌==◌, Bool, false, not, ◌||◌, List, [], ◌∷◌, ◌++◌, length, Option, IsSome, if◌then◌else◌}
+use Rattle.std.specs.Prelude.{◌≡◌, ℕ, ◌+◌, ◌%◌, ◌<◌, ◌≤◌, ◌==◌, Bool, true, false, not, ◌||◌, List, [], ◌∷◌, ◌++◌, length, Option, IsSome, if◌then◌else◌}
 use Rattle.std.specs.List.{list_any, list_all}
 use Rattle.std.specs.Option.{option_map_or}
 use Rattle.std.specs.FinMap.{get}
@@ -11,12 +11,12 @@ use Rattle.fw_client.specs.State.{State, asking, invoke_byte}
 use Rattle.fw_head.specs.declared.stage.Stage.{Stage}
 use Rattle.fw_head.specs.declared.stage.Stage.TheVariants.{Size, Enable, Start, Blocks, Check, Gaps, Verify, Poll, Info, Activate, Confirm, Done, Failed}
 use Rattle.fw_head.specs.declared.answers.Step.{Step}
-use Rattle.fw_head.specs.declared.answers.Step.TheVariants.{Move, Return}
+use Rattle.fw_head.specs.declared.answers.Step.TheVariants.{Took, Move, Return}
 use Rattle.fw_head.specs.declared.news.RowNews.{RowNews}
 use Rattle.fw_head.specs.declared.news.RowNews.TheVariants as news
 use Rattle.fw_head.specs.Phase.{count}
-use Rattle.fw_head.specs.Row.{Row, max_returns, new_row, IsClaimOf}
-use Rattle.fw_head.specs.Head.{Rows, row_of, new_rows, IsRowOf}
+use Rattle.fw_head.specs.Row.{Row, max_returns, new_row, confirm_first, IsClaimOf}
+use Rattle.fw_head.specs.Head.{Rows, row_of, reopened_rows, IsRowOf}
 use Rattle.fw_book.specs.declared.row.Row as book_row
 use Rattle.fw_book.specs.Rows.{is_live}
 use Rattle.fw_book.specs.Contents.{Contents, Offered}
@@ -61,11 +61,27 @@ abbrev pub IsOwnNews : ℕ → Name → RowNews → Type 0
 IsOwnNews meter name (news.Done claim) = (claim.meter ≡ meter) × (claim.name ≡ name)
 IsOwnNews meter name told = Unit {0}
 
+-- the stages of a row that asks first: it hasn't started, and asks for no block
+abbrev pub IsAsking : Stage → Type 0
+IsAsking Size = Unit {0}
+IsAsking (Enable g) = Unit {0}
+IsAsking (Confirm g) = Unit {0}
+IsAsking (Done claim) = Unit {0}
+IsAsking Failed = Unit {0}
+IsAsking stage = ⊥
+
+-- and the steps from them
+abbrev pub IsAskingStep : Step → Type 0
+IsAskingStep (Move stage) = IsAsking (confirm_first stage)
+IsAskingStep (Took number) = ⊥
+IsAskingStep step = Unit {0}
+
 -- What every row keeps. The last return ends it, and its image is cut within the limits. Once it is done, the meter of its client claimed
--- its own name.
-pub record IsRow (name : Name) (size : ℕ) (stage : Stage) (client : State) (returns : ℕ) : Type 0 where
+-- its own name. A row that asks first is in one of those stages.
+pub record IsRow (name : Name) (size : ℕ) (stage : Stage) (client : State) (returns : ℕ) (asks_first : Bool) : Type 0 where
   pub few : returns < max_returns
   pub own : IsOwn client.meter name size stage
+  pub asking : asks_first ≡ true → IsAsking stage
 
 -- each outstanding ask is one of the last `n`
 abbrev pub AskedLately : State → ℕ → Type 0
@@ -108,11 +124,11 @@ abbrev pub live_meters : List book_row.Row → List ℕ
 live_meters [] = []
 live_meters (row ∷ rows) = if is_live row.state then row.meter ∷ live_meters rows else live_meters rows
 
--- a new row for each meter that is live in this campaign
+-- a reopened row for each meter that is live in this campaign
 abbrev pub rows_in : ℕ → ℕ × Offered → Rows
 rows_in head entry =
     let campaign : Campaign = record { head = head; serial = entry.0 } in
-    new_rows (name_of campaign entry.1.release entry.1.image) (length entry.1.image) (live_meters entry.1.rows)
+    reopened_rows (name_of campaign entry.1.release entry.1.image) (length entry.1.image) (live_meters entry.1.rows)
 
 -- and so for each of these campaigns
 abbrev pub live_rows : ℕ → List (ℕ × Offered) → Rows

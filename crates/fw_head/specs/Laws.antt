@@ -14,7 +14,7 @@ use Rattle.fw_head.specs.declared.news.RowNews.{RowNews}
 use Rattle.fw_head.specs.declared.news.RowNews.TheVariants as news
 use Rattle.fw_head.specs.Phase.{phase_of}
 use Rattle.fw_head.specs.Row.{Row, RowHears}
-use Rattle.fw_head.specs.Head.{Head, IsHead, row_of, restarted, BeginsWith}
+use Rattle.fw_head.specs.Head.{Head, IsHead, row_of, restarted, asking_first, BeginsWith}
 use Rattle.fw_head.specs.Parts.{AreLiveRows, by_meter, with_ends, joined}
 
 -- a row and a datagram determine what is reported, and the row afterwards
@@ -85,6 +85,7 @@ EndsAreMarked = (book : Contents) (rows : List Row) → AreLiveRows book rows �
 
 -- ---- a head end that begins with a book that was kept
 
--- It is the head end of this book and width once it has started again, except for the order of its live rows.
+-- It is the head end of this book and width once it has started again, except for the order of its live rows, and that each of them asks
+-- first what its meter has.
 abbrev pub BeginsRestarted : Type 0
-BeginsRestarted = (head begun : Head) → IsHead head → BeginsWith head.book head.width begun → IsAsBefore (restarted head) begun
+BeginsRestarted = (head begun : Head) → IsHead head → BeginsWith head.book head.width begun → IsAsBefore (asking_first (restarted head)) begun

@@ -1,5 +1,5 @@
 -- Public vocabulary: the row machine. What a tick and a datagram make of a row, a head end's work on one meter.
-use Rattle.std.specs.Prelude.{◌≡◌, ℕ, ◌+◌, ◌<◌, nat_lt, ◌⊎◌, true, List, [], ◌∷◌, map, length, slice_set, Option, Some, None, if◌then◌else◌}
+use Rattle.std.specs.Prelude.{◌≡◌, ℕ, ◌+◌, ◌<◌, nat_lt, ◌⊎◌, Bool, true, false, List, [], ◌∷◌, map, length, slice_set, Option, Some, None, if◌then◌else◌}
 use Rattle.std.specs.Global.{Vec}
 use Rattle.fw_names.specs.Name.{Name}
 use Rattle.fw_blocks.specs.Cuts.{Partition, IsWithinLimits, block_count, cut}
@@ -11,7 +11,7 @@ use Rattle.fw_client.specs.State.{State, fresh, asking, forgetting, invoke_byte}
 use Rattle.fw_client.specs.Hearing.{Takes, AnswersNone, MayCarryData}
 use Rattle.fw_client.specs.declared.heard.Heard.{Heard}
 use Rattle.fw_head.specs.declared.stage.Stage.{Stage}
-use Rattle.fw_head.specs.declared.stage.Stage.TheVariants.{Size, Start, Blocks, Done, Failed}
+use Rattle.fw_head.specs.declared.stage.Stage.TheVariants.{Size, Start, Blocks, Gaps, Confirm, Done, Failed}
 use Rattle.fw_head.specs.declared.answers.Step.{Step}
 use Rattle.fw_head.specs.declared.answers.Step.TheVariants.{Stay, Took, Move, Return}
 use Rattle.fw_head.specs.declared.news.RowNews.{RowNews}
@@ -28,6 +28,8 @@ pub record Row : Type 0 where
   pub client : State
   -- how often it returned to Start
   pub returns : ℕ
+  -- whether it began with a book that was opened again, and hasn't asked yet what its meter has
+  pub asks_first : Bool
 
 -- a claim of this meter, under this name
 pub record IsClaimOf (meter : ℕ) (name : Name) (claim : Claim) : Type 0 where
@@ -44,7 +46,11 @@ abbrev pub max_returns : ℕ
 max_returns = 8
 
 abbrev pub new_row : ℕ → Name → ℕ → Row
-new_row meter name size = record { name = name; size = size; stage = Size; client = fresh meter; returns = 0 }
+new_row meter name size = record { name = name; size = size; stage = Size; client = fresh meter; returns = 0; asks_first = false }
+
+-- a new row that asks first what its meter has
+abbrev pub reopened_row : ℕ → Name → ℕ → Row
+reopened_row meter name size = record (new_row meter name size) { asks_first = true }
 
 -- ---- a tick
 
@@ -120,12 +126,28 @@ abbrev pub settled : Row → Stage → Row
 settled row (Blocks g known) = record row { stage = Blocks g known }
 settled row stage = moved row stage
 
+-- the row after a step of the table
+abbrev pub went : Row → Step → Row
+went row Stay = row
+went row (Took number) = settled row (with_block row.stage number)
+went row (Move stage) = moved row stage
+went row (Return g) = returned row g
+
+-- in place of starting, it is asked which image runs
+abbrev pub confirm_first : Stage → Stage
+confirm_first (Start g) = Confirm g
+confirm_first stage = stage
+
+-- So it is with a row that asks first, except that it doesn't start before it has asked which image runs. Where that isn't its own, it
+-- asks which blocks the meter has, which is no return, and then it has asked.
+abbrev pub asked_first : Row → Step → Row
+asked_first row (Move stage) = moved row (confirm_first stage)
+asked_first row (Return g) = moved (record row { asks_first = false }) (Gaps g)
+asked_first row step = went row step
+
 -- the row after a step
 abbrev pub stepped : Row → Step → Row
-stepped row Stay = row
-stepped row (Took number) = settled row (with_block row.stage number)
-stepped row (Move stage) = moved row stage
-stepped row (Return g) = returned row g
+stepped row step = if row.asks_first then asked_first row step else went row step
 
 -- what is reported of an answer that led to this stage
 abbrev pub news_in : Stage → RowNews

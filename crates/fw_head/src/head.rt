@@ -65,7 +65,7 @@ impl HeadCore {
     }
 
     /// A head end that begins with a book that was kept: each meter that is live in it has a new row, as after a restart of the head
-    /// end that had the book. It sends up to `width` blocks at a time.
+    /// end that had the book, which asks first what the meter has. It sends up to `width` blocks at a time.
     ///
     /// # Errors
     ///

@@ -42,7 +42,7 @@ pub fn ends_are_marked()
 }
 
 /// A head end that begins with the book of another one, under the same width, is that one once it has started again, except for the
-/// order of its live rows.
+/// order of its live rows, and that each of them asks first what its meter has.
 pub fn begins_restarted()
     ensures { BeginsRestarted }
 {}

@@ -1,6 +1,6 @@
 //! One row of a campaign: a head end's work on one meter.
 
-ghost use Rattle.std.specs.Prelude.{◌≡◌, ◌<◌, ◌≤◌, All, length, IfSome, IfOk, OnOk, OnErr, MatchBool};
+ghost use Rattle.std.specs.Prelude.{◌≡◌, ◌<◌, ◌≤◌, true, false, All, length, IfSome, IfOk, OnOk, OnErr, MatchBool};
 ghost use Rattle.std.specs.FinMap.{empty};
 ghost use Rattle.fw_client.specs.State.{IsWaiting};
 
@@ -29,10 +29,12 @@ pub struct RowCore {
     stage: Stage,
     client: Client,
     returns: u8,
+    asks_first: bool,
 }
 
 // Contracts see the row machine. A live row returned fewer than eight times. Its image is cut within the limits, and the set of its
-// known blocks counts as many as the image has. A row that is done was claimed by its own meter, its client's, under its own name.
+// known blocks counts as many as the image has. A row that is done was claimed by its own meter, its client's, under its own name. A row
+// that asks first hasn't started yet.
 impl Model for RowCore {
     ghost use Rattle.std.specs.Coded.{codes};
     ghost use Rattle.std.specs.FinMap.{code};
@@ -44,13 +46,14 @@ impl Model for RowCore {
 
     ghost use Rattle.fw_head.specs.Inside.{IsRow};
 
-    ghost view = { λ r. record { name = r.name; size = r.size; stage = r.stage; client = r.client; returns = r.returns } };
+    ghost view = { λ r. record { name = r.name; size = r.size; stage = r.stage; client = r.client; returns = r.returns; asks_first = r.asks_first } };
 
-    ghost invariant = { λ r. IsRow r.name r.size r.stage r.client r.returns };
+    ghost invariant = { λ r. IsRow r.name r.size r.stage r.client r.returns r.asks_first };
 }
 
 impl RowCore {
-    ghost use Rattle.fw_head.specs.Row.{Row, bytes_of, new_row, ticked, sends, stepped, moved, returned, settled, with_block};
+    ghost use Rattle.fw_head.specs.Row.{Row, bytes_of, new_row, reopened_row, ticked, sends, moved, returned, settled, with_block};
+    ghost use Rattle.fw_head.specs.Row.{went, asked_first, stepped};
     ghost use Rattle.fw_head.specs.Row.{
       RowHears,
       IsPermitted,
@@ -64,7 +67,7 @@ impl RowCore {
     };
     ghost use Rattle.fw_head.specs.Phase.{phase_of, has_ended, IsLive};
     ghost use Rattle.fw_head.specs.Parts.{with_end};
-    ghost use Rattle.fw_head.specs.Inside.{IsOfBook, Carry, IsCutOf, IsOwn, IsOwnStep, IsOwnNews};
+    ghost use Rattle.fw_head.specs.Inside.{IsOfBook, Carry, IsCutOf, IsOwn, IsOwnStep, IsOwnNews, IsAsking, IsAskingStep};
 
     /// A new row of this meter, for the image of this name and size in bytes.
     pub fn new(meter: MeterId, name: ImageName, size: u32) -> RowCore
@@ -76,7 +79,18 @@ impl RowCore {
             stage: Stage::Size,
             client: Client::new(meter),
             returns: 0,
+            asks_first: false,
         }
+    }
+
+    /// A new row, of a book that was opened again: it asks its meter first which image runs, and which blocks of its own the meter
+    /// has, before it sends any.
+    pub fn reopened(meter: MeterId, name: ImageName, size: u32) -> RowCore
+        ensures { result ≡ reopened_row meter name size }
+    {
+        let mut row = RowCore::new(meter, name, size);
+        row.asks_first = true;
+        row
     }
 
     /// Makes the row new.
@@ -247,8 +261,40 @@ impl RowCore {
 
     /// Goes where an answer leads.
     fn take(&mut self, step: Step)
-        requires { IsOwnStep self.old.client.meter self.old.name self.old.size step }
+        requires own { IsOwnStep self.old.client.meter self.old.name self.old.size step }
+        requires asking { self.old.asks_first ≡ true → IsAskingStep step }
         ensures { self.new ≡ stepped self.old step }
+    {
+        if self.asks_first {
+            self.ask_first(step);
+        } else {
+            self.follow(step);
+        }
+    }
+
+    /// Goes where an answer leads, and asks which image runs before it starts. Where that isn't the row's own, asks which blocks the
+    /// meter has.
+    fn ask_first(&mut self, step: Step)
+        requires own { IsOwnStep self.old.client.meter self.old.name self.old.size step }
+        requires asking { IsAskingStep step }
+        ensures { self.new ≡ asked_first self.old step }
+    {
+        match step {
+            Step::Stay => {}
+            Step::Took(_) => unreachable!(),
+            Step::Move(stage) => self.go(stage.confirm_first()),
+            Step::Return(geometry) => {
+                self.asks_first = false;
+                self.go(Stage::Gaps(geometry));
+            }
+        }
+    }
+
+    /// Goes where the table leads.
+    fn follow(&mut self, step: Step)
+        requires own { IsOwnStep self.old.client.meter self.old.name self.old.size step }
+        requires asked { self.old.asks_first ≡ false }
+        ensures { self.new ≡ went self.old step }
     {
         match step {
             Step::Stay => {}
@@ -260,6 +306,7 @@ impl RowCore {
 
     /// The meter took a block: the phase ends once it has them all.
     fn took(&mut self, number: u32)
+        requires { self.old.asks_first ≡ false }
         ensures { self.new ≡ settled self.old (with_block self.old.stage number) }
     {
         let stage = mem::replace(&mut self.stage, Stage::Failed);
@@ -271,7 +318,8 @@ impl RowCore {
 
     /// Goes to another phase. The outstanding asks are forgotten.
     fn go(&mut self, stage: Stage)
-        requires { IsOwn self.old.client.meter self.old.name self.old.size stage }
+        requires own { IsOwn self.old.client.meter self.old.name self.old.size stage }
+        requires asking { self.old.asks_first ≡ true → IsAsking stage }
         ensures { self.new ≡ moved self.old stage }
     {
         self.client.forget();
@@ -280,7 +328,8 @@ impl RowCore {
 
     /// Returns to `Start`, or gives up at the last return.
     fn go_back(&mut self, geometry: Geometry)
-        requires { IsCutOf self.old.size geometry }
+        requires cut { IsCutOf self.old.size geometry }
+        requires asked { self.old.asks_first ≡ false }
         ensures { self.new ≡ returned self.old geometry }
     {
         if self.returns + 1 < MAX_RETURNS {

@@ -10,7 +10,7 @@ ghost use Rattle.fw_head.specs.Phase.{IsLive, has_ended};
 ghost use Rattle.fw_head.specs.Row.{Row, bytes_of, new_row, sends, ticked, IsPermitted};
 ghost use Rattle.fw_head.specs.Inside.{IsOwnNews, IsOfBook, is_row_in, has_rows, has_each, live_meters, live_rows};
 ghost use Rattle.fw_head.specs.Parts.{by_meter, still_live, with_ends, AreLiveRows, PutRefused};
-ghost use Rattle.fw_head.specs.Head.{row_of, at_meter, without_meter, without_serial, new_rows, renewed, RowsHear, RowsMayWant};
+ghost use Rattle.fw_head.specs.Head.{row_of, at_meter, without_meter, without_serial, new_rows, reopened_rows, renewed, RowsHear, RowsMayWant};
 ghost use Rattle.fw_head.specs.Head.{has_live_row};
 ghost use Rattle.fw_book.specs.Rows.{has_live};
 ghost use Rattle.fw_book.specs.Contents.{IsBook};
@@ -71,7 +71,7 @@ impl Rows {
         self.rows.into_values()
     }
 
-    /// A new row for each meter that is live in the book.
+    /// A reopened row for each meter that is live in the book.
     ///
     /// # Errors
     ///
@@ -94,7 +94,7 @@ impl Rows {
         Ok(live)
     }
 
-    /// A new row for each meter that is live in these rows, and has none.
+    /// A reopened row for each meter that is live in these rows, and has none.
     ///
     /// # Errors
     ///
@@ -106,14 +106,14 @@ impl Rows {
         rows: &[fw_book::Row],
     ) -> Result<(), OutOfMemory>
         requires once { IsDistinct nat_eq (keys_of self.old.rows.entries ++ live_meters rows.now) }
-        ensures added { OnOk result (self.new.rows.entries ≡ self.old.rows.entries ++ new_rows name size (live_meters rows.now)) }
+        ensures added { OnOk result (self.new.rows.entries ≡ self.old.rows.entries ++ reopened_rows name size (live_meters rows.now)) }
         ensures memory { OnErr result (has_live rows.now ≡ true) }
     {
         for row in rows {
             if !row.state.is_live() {
                 continue;
             }
-            self.add_row(RowCore::new(row.meter, name, size))?;
+            self.add_row(RowCore::reopened(row.meter, name, size))?;
         }
         Ok(())
     }

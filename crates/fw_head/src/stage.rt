@@ -2,7 +2,7 @@
 
 ghost use Rattle.std.specs.Prelude.{◌≡◌};
 ghost use Rattle.fw_head.specs.Phase.{phase_of, has_ended, with_known};
-ghost use Rattle.fw_head.specs.Row.{claim_in, news_in, with_block};
+ghost use Rattle.fw_head.specs.Row.{claim_in, confirm_first, news_in, with_block};
 
 use crate::news::RowNews;
 use crate::phase::Phase;
@@ -77,6 +77,16 @@ impl Stage {
             Stage::Done(claim) => RowNews::Done(*claim),
             Stage::Failed => RowNews::Failed,
             _ => RowNews::Moved,
+        }
+    }
+
+    /// In place of starting, it is asked which image runs.
+    pub(crate) fn confirm_first(self) -> Stage
+        ensures { result ≡ confirm_first self }
+    {
+        match self {
+            Stage::Start(geometry) => Stage::Confirm(geometry),
+            stage => stage,
         }
     }
 

@@ -1,7 +1,7 @@
 //! A head end that begins with a book that was kept. It is head end 7, and sends four blocks at a time.
 
 use crate::book::{Call, after};
-use crate::head::{Step, apdus_text, head_session};
+use crate::head::{Step, head_session};
 use crate::parts::{fresh, shown};
 use crate::transfers::TO_CONFIRM;
 use fw_blocks::Width;
@@ -47,7 +47,21 @@ fn a_head_end_begins_with_a_book(rt: HostRuntime) -> Result<(), Fail> {
     each(rt.alloc(), BEGUN)
 }
 
-/// A meter that was about to be done asks for the block size again.
+/// The row of a meter that was about to be done begins anew, and asks what the meter runs before it would start.
+const ASKS_FIRST: &[(Step, &str)] = &[
+    (Step::Tick, "c001c0001200002c0000ff0200"),
+    (Step::Hear("c401c0000600000002"), "Moved, Some(Enable)"),
+    (Step::Tick, "c101c1001200002c0000ff05000301"),
+    (Step::Hear("c501c100"), "Moved, Some(Confirm)"),
+    (Step::Tick, "c001c200010100000200ff0200"),
+    (
+        Step::Hear(
+            "c401c2000929010000000700000001ba7816bf8f01cfea414140de5dae2223b00361a396177a9cb410ff61f20015ad",
+        ),
+        "Done 7 1 1, None",
+    ),
+];
+
 #[test]
 fn a_row_begins_anew(rt: HostRuntime) -> Result<(), Fail> {
     let alloc = rt.alloc();
@@ -56,10 +70,7 @@ fn a_row_begins_anew(rt: HostRuntime) -> Result<(), Fail> {
     let HeadParts { book, width, rows } = head.into_inner().take_rows();
     drop(rows);
     let mut begun = Kept(HeadCore::of_book(alloc, book, width)?);
-    let meter = crate::book::meter(1)?;
-    let sent = apdus_text(alloc, &begun.0.tick(alloc, meter)?)?;
-    assert_eq!(rt; sent.as_str(), "c001c0001200002c0000ff0200");
-    Ok(())
+    session(alloc, &mut begun.0, ASKS_FIRST)
 }
 
 /// An ask is outstanding from the tick that makes it until its answer comes, or the head end starts again. An answer to no ask changes

@@ -34,6 +34,8 @@ mod readings;
 #[cfg(test)]
 mod records;
 #[cfg(test)]
+mod reopened;
+#[cfg(test)]
 mod returns;
 #[cfg(test)]
 mod rows;

@@ -10,7 +10,7 @@ use std::test::Fail;
 use test_support::{Kept, Takes, session};
 
 /// A step of a row.
-enum Step {
+pub(crate) enum Step {
     /// The APDUs that a tick sends.
     Tick,
     /// It hears an APDU: the news, the phase, and how often the row returned to `Start`.
@@ -65,7 +65,8 @@ fn release_session(alloc: Global, release: u32, parts: &[&[(Step, &str)]]) -> Re
     Ok(())
 }
 
-const TO_ENABLE: &[(Step, &str)] = &[
+/// Up to the ask that enables the meter.
+pub(crate) const TO_ENABLE: &[(Step, &str)] = &[
     (Step::Tick, "c001c0001200002c0000ff0200"),
     (Step::Hear("c401c0000600000002"), "Moved, Enable, 0"),
     (Step::Tick, "c101c1001200002c0000ff05000301"),

@@ -5,6 +5,7 @@ use Rattle.fw_head.specs.Inside.{IsOwn}
 use Rattle.fw_head.specs.Row.{Row, RowTakes, TakesList, RowMayWant, news_in, stepped}
 use Rattle.fw_head.proofs.Heard.{strange_to, taken, taken_by, of_asked, kept_meter}
 use Rattle.fw_head.proofs.OwnClaims.{own_step, own_news}
+use Rattle.fw_head.proofs.Asking.{asking_step}
 use Rattle.fw_head.proofs.LiveRows.{told_err}
 use Rattle.fw_head.proofs.SameRows.{goal_heard}
 use Rattle.fw_head.proofs.row.RowCore.hear.Goals as goal
@@ -20,7 +21,10 @@ take-requires c =
     let of = of_asked c.duplicate-client.result c.hear.new.self c.args.datagram.now c.in_ok-heard.heard (λ claim e. (c.in_ok-heard.ensures.claims claim).0 e) takes in
     let meter : c.self.inside.client.meter ≡ c.hear.new.self.meter = sym (ap (λ (s : State). s.meter) c.duplicate-client.ensures) ∙ sym (kept_meter c.duplicate-client.result c.hear.new.self c.args.datagram.now c.in_ok-heard.heard takes) in
     let P : ℕ → Type 0 = λ m. IsOwn m c.self.inside.name c.self.inside.size c.self.inside.stage in
-    own_step c.hear.new.self.meter c.self.inside.name c.self.inside.size c.self.inside.stage c.in_ok-heard.heard c.in_ok-step.step (subst P meter c.self.invariant.own) of c.in_ok-step.ensures.leads
+    record {
+      own = own_step c.hear.new.self.meter c.self.inside.name c.self.inside.size c.self.inside.stage c.in_ok-heard.heard c.in_ok-step.step (subst P meter c.self.invariant.own) of c.in_ok-step.ensures.leads;
+      asking = λ asks. asking_step c.self.inside.name c.self.inside.size c.self.inside.stage c.in_ok-heard.heard c.in_ok-step.step (c.self.invariant.asking asks) c.in_ok-step.ensures.leads;
+    }
 
 pub returns : goal.returns
 returns c =

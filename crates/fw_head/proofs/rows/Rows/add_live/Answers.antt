@@ -20,5 +20,5 @@ add_row-requires c =
     let meters : live_meters (drop i rows) ≡ row.meter ∷ rest = ap (λ rs. live_meters rs) next ∙ meters_live row (drop (i + 1) rows) live in
     let none : row_of es row.meter ≡ None = absent es row.meter (live_meters (drop i rows)) rest meters c.loop-row.invariant.1 in
     record {
-      none = ap (λ k. row_of es k) (search (c.new.ensures)) ∙ none;
+      none = ap (λ k. row_of es k) (search (c.reopened.ensures)) ∙ none;
     }
