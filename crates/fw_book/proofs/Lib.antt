@@ -6,3 +6,4 @@ pub mod Parts
 pub mod Images
 pub mod Walks
 pub mod States
+pub mod Busy

@@ -1,8 +1,10 @@
 -- For private clauses alone: when a book takes one campaign more, and what the parts of the reader give.
-use Rattle.std.specs.Prelude.{◌≡◌, ℕ, Bool, false, ◌==◌, ◌&&◌, nat_lt, List, [], ◌∷◌, length, Option, zero, suc, ◌*◌, ◌<◌, ◌≤◌, ◌^◌, ◌++◌, Some, None}
+use Rattle.std.specs.Prelude.{◌≡◌, ℕ, Bool, false, nat_eq, ◌==◌, ◌&&◌, nat_lt, List, [], ◌∷◌, length, Option, zero, suc, ◌*◌, ◌<◌, ◌≤◌, ◌^◌, ◌++◌, Some, None}
+use Rattle.std.specs.HashSet.{contains}
 use Rattle.std.specs.List.{list_any, AllByRecursion}
 use Rattle.fw_book.specs.declared.error.BookError.{BookError}
 use Rattle.fw_book.specs.declared.error.BookError.TheVariants.{NoMeters, TooManyMeters, MeterTwice, MeterBusy}
+use Rattle.fw_book.specs.declared.live.LiveMeters.{LiveMeters}
 use Rattle.fw_book.specs.declared.row.Row.{Row}
 use Rattle.fw_book.specs.Rows.{is_live, repeats, meters_of}
 use Rattle.fw_book.specs.Contents.{Offered, Contents, max_meters, has_serial, is_busy, IsEntry, max_image, IsBook}
@@ -32,6 +34,15 @@ meters_refusal book meters = first_applying (
     ∷ (repeats meters, MeterTwice)
     ∷ (list_any (λ meter. is_busy book.campaigns meter) meters, MeterBusy)
     ∷ [])
+
+-- whether a meter is one of the live meters that a book keeps
+abbrev pub has_live_meter : LiveMeters → ℕ → Bool
+has_live_meter live meter = contains nat_eq live.numbers meter
+
+-- what a book keeps beside its campaigns: the meters that are live in one of them
+pub record IsKept (book : Contents) (live : LiveMeters) : Type 0 where
+  pub is_book : IsBook book
+  pub are_live : (meter : ℕ) → has_live_meter live meter ≡ is_busy book.campaigns meter
 
 -- ---- reading
 

@@ -7,6 +7,7 @@ ghost use Rattle.fw_names.specs.Name.{name_of, IsOpened};
 ghost use Rattle.fw_book.specs.Rows.{is_live};
 
 use crate::error::BookError;
+use crate::live::LiveMeters;
 use crate::meters::{live_rows, repeats, rows_of};
 use crate::offer::{MAX_IMAGE_SIZE, MAX_METERS, Offer};
 use crate::reading::entry_at;
@@ -23,21 +24,24 @@ use std::marker::Model;
 /// The campaigns of a book in opening order, each with its serial number.
 pub type Campaigns<'a> = Iter<'a, u32, Offer>;
 
-/// The campaigns of a head end in opening order, each with its image and its rows. An image is never changed or removed.
+/// The campaigns of a head end in opening order, each with its image and its rows. An image is never changed or removed. The meters
+/// that are live in a campaign are kept beside them, so that no row is looked at to tell that a meter is busy.
 #[derive(Drop)]
 pub struct Book {
     head: HeadId,
     campaigns: IndexMap<u32, Offer>,
+    live: LiveMeters,
 }
 
 impl Model for Book {
-    ghost use Rattle.fw_book.specs.Contents.{Contents, IsBook};
+    ghost use Rattle.fw_book.specs.Contents.{Contents};
+    ghost use Rattle.fw_book.specs.Inside.{IsKept};
 
     ghost Value = { Contents };
 
     ghost view = { λ b. record { head = b.head; campaigns = b.campaigns.entries } };
 
-    ghost invariant = { λ b. IsBook (record { head = b.head; campaigns = b.campaigns.entries }) };
+    ghost invariant = { λ b. IsKept (record { head = b.head; campaigns = b.campaigns.entries }) b.live };
 }
 
 impl Book {
@@ -67,6 +71,7 @@ impl Book {
         Book {
             head,
             campaigns: IndexMap::new(alloc),
+            live: LiveMeters::none(alloc),
         }
     }
 
@@ -113,11 +118,11 @@ impl Book {
         self.campaigns.contains_key(&serial)
     }
 
-    /// Whether the meter is live in a campaign of this book. The rows of all campaigns are looked through.
+    /// Whether the meter is live in a campaign of this book. No row is looked at.
     pub fn is_busy(&self, meter: MeterId) -> bool
         ensures { result ≡ is_busy self.now.campaigns meter }
     {
-        self.campaigns.values().any(|offer| offer.is_live(meter))
+        self.live.has(meter)
     }
 
     /// Whether one of the meters is live in a campaign of this book.
@@ -128,7 +133,7 @@ impl Book {
     }
 
     /// Opens a campaign: it offers the image to the meters under the name that is returned, which has this release, and each of its
-    /// rows is live. The rows of all campaigns are looked through once for each meter.
+    /// rows is live. The rows of other campaigns are not looked at.
     ///
     /// # Errors
     ///
@@ -205,7 +210,7 @@ impl Book {
         Ok(())
     }
 
-    /// Adds a campaign after the others.
+    /// Adds a campaign after the others. Room is made for it first, so that the meters are added only where the campaign is.
     fn add(&mut self, serial: u32, offer: Offer) -> Result<(), BookError>
         requires { Admits self.old serial offer }
         ensures ok { OnOk result (self.new ≡ added self.old serial offer) }
@@ -213,6 +218,8 @@ impl Book {
         ensures memory { IfErr result (λ e. e ≡ BookError.OutOfMemory) }
         ensures book { IsBook self.new }
     {
+        self.campaigns.reserve(1)?;
+        self.live.add(offer.rows())?;
         self.campaigns.insert(serial, offer)?;
         Ok(())
     }
@@ -230,6 +237,7 @@ impl Book {
     {
         self.check_cancel(campaign)?;
         if let Some(offer) = self.campaigns.get_mut(&campaign.serial()) {
+            self.live.remove_rows(offer.rows());
             offer.cancel();
         }
         Ok(())
@@ -339,11 +347,13 @@ impl Book {
         Ok(())
     }
 
-    /// Gives the row of a meter, where there is one, the state in which it ends.
+    /// Gives the row of a meter, which is live, the state in which it ends.
     fn mark(&mut self, campaign: CampaignId, meter: MeterId, state: RowState)
-        requires { is_live state ≡ false }
+        requires ends { is_live state ≡ false }
+        requires live { state_in self.old campaign meter ≡ Some RowState.Live }
         ensures { self.new ≡ marked self.old campaign.serial meter state }
     {
+        self.live.remove(meter);
         if let Some(offer) = self.campaigns.get_mut(&campaign.serial()) {
             offer.mark(meter, state);
         }

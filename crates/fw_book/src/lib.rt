@@ -4,6 +4,7 @@
 mod book;
 mod error;
 pub mod laws;
+mod live;
 mod meters;
 mod offer;
 mod reading;

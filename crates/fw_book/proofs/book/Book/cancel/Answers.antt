@@ -1,43 +1,41 @@
-use Rattle.std.proofs.Common.{◌≡◌, ℕ, nat_eq, Some, None, sym, ap, subst, ◌∙◌}
+use Rattle.std.proofs.Common.{◌≡◌, ℕ, nat_eq, not, ◌&&◌, List, Some, sym, ap, subst, ◌∙◌}
 use Rattle.std.specs.Map.{lookup}
 use Rattle.std.specs.Option.{option_copied_mut}
-use Rattle.fw_book.specs.declared.book.Book.TheInside.{Inside}
-use Rattle.fw_book.specs.Rows.{cancelled_rows}
-use Rattle.fw_book.specs.Contents.{Contents, IsBook}
+use Rattle.fw_book.specs.declared.row.Row.{Row}
+use Rattle.fw_book.specs.Rows.{is_live_in, cancelled_rows}
+use Rattle.fw_book.specs.Contents.{Offered, Contents, is_busy, IsBook}
 use Rattle.fw_book.specs.Changes.{at_serial, cancelled}
-use Rattle.fw_book.proofs.Books.{IsBook-changed, Keeps-cancelled, at_serial-none, changed_entries, same_contents}
-use Rattle.fw_book.proofs.book.Book.cancel.Goals.{in-Some, in_default}
+use Rattle.fw_book.proofs.Books.{IsBook-changed, Keeps-cancelled, changed_entries}
+use Rattle.fw_book.proofs.Busy.{busy_cancelled}
 use Rattle.fw_book.proofs.book.Book.cancel.Goals as goal
 
+found : (c : goal.After-self-in-Some-1) → lookup (nat_eq c.args.campaign.serial) c.self.inside.campaigns.entries ≡ Some c.in-Some.offer.now
+found c =
+    subst (λ (s : ℕ). lookup (nat_eq s) c.self.inside.campaigns.entries ≡ Some c.in-Some.offer.now) c.serial.ensures
+    (sym c.get_mut.ensures.value ∙ ap option_copied_mut c.in-Some.is)
+
 -- the campaign's rows are changed, and nothing else is
-changes : (c : goal.Joined-get_mut) → (c.match-get_mut.self-inside.head ≡ c.self.inside.head) × (c.match-get_mut.self-inside.campaigns.entries ≡ at_serial c.serial.result cancelled_rows c.self.inside.campaigns.entries)
-changes c = elim c.match-get_mut.branch [
-  | in-Some w ↦
-      let found : lookup (nat_eq c.serial.result) c.self.inside.campaigns.entries ≡ Some w.in-Some.offer.now =
-      sym c.get_mut.ensures.value ∙ ap option_copied_mut w.in-Some.is in (
-        ap (λ (i : Inside). i.head) w.self-inside-is,
-        ap (λ (i : Inside). i.campaigns.entries) w.self-inside-is
-            ∙ changed_entries c.serial.result cancelled_rows c.self.inside.campaigns.entries (c.get_mut.follows.lender w.cancel.new.self).entries
-            w.in-Some.offer.now w.cancel.new.self found w.cancel.ensures (c.get_mut.follows.holds w.cancel.new.self).0,
-      )
-  | in_default w ↦
-      let absent : lookup (nat_eq c.serial.result) c.self.inside.campaigns.entries ≡ None =
-      sym c.get_mut.ensures.value ∙ ap option_copied_mut w.in_default.is in (
-        ap (λ (i : Inside). i.head) w.self-inside-is,
-        ap (λ (i : Inside). i.campaigns.entries) w.self-inside-is
-            ∙ ap (λ m. m.entries) c.get_mut.follows.holds-at-none
-            ∙ sym (at_serial-none c.serial.result cancelled_rows c.self.inside.campaigns.entries absent),
-      )
-]
+changes : (c : goal.After-self-in-Some-1) → (c.get_mut.follows.lender c.cancel.new.self).entries ≡ at_serial c.args.campaign.serial cancelled_rows c.self.inside.campaigns.entries
+changes c =
+    changed_entries c.serial.result cancelled_rows c.self.inside.campaigns.entries (c.get_mut.follows.lender c.cancel.new.self).entries
+    c.in-Some.offer.now c.cancel.new.self (sym c.get_mut.ensures.value ∙ ap option_copied_mut c.in-Some.is) c.cancel.ensures (c.get_mut.follows.holds c.cancel.new.self).0
+    ∙ ap (λ (s : ℕ). at_serial s cancelled_rows c.self.inside.campaigns.entries) c.serial.ensures
 
 pub invariant_of-self : goal.invariant_of-self
 invariant_of-self c =
     let book : Contents = record { head = c.self.inside.head; campaigns = c.self.inside.campaigns.entries } in
-    let e = changes c in
-    subst (λ (b : Contents). IsBook b) (sym (same_contents _ _ _ _ e.0 e.1)) (IsBook-changed book c.serial.result cancelled_rows Keeps-cancelled c.self.invariant)
+    let with_campaigns : List (ℕ × Offered) → Contents = λ es. record { head = c.self.inside.head; campaigns = es } in
+    record {
+      is_book = subst (λ (es : List (ℕ × Offered)). IsBook (with_campaigns es)) (sym (changes c)) (IsBook-changed book c.args.campaign.serial cancelled_rows Keeps-cancelled c.self.invariant.is_book);
+      are_live = λ m.
+          c.remove_rows.ensures m
+          ∙ ap (λ b. b && not (is_live_in c.rows.result.now m)) (c.self.invariant.are_live m)
+          ∙ ap (λ (rows : List Row). is_busy book.campaigns m && not (is_live_in rows m)) c.rows.ensures
+          ∙ sym (busy_cancelled c.args.campaign.serial c.in-Some.offer.now book.campaigns c.self.invariant.is_book.apart (found c) m)
+          ∙ ap (λ (es : List (ℕ × Offered)). is_busy es m) (sym (changes c));
+    }
 
-pub returns-clause-cancelled : goal.returns-clause-cancelled
-returns-clause-cancelled c =
-    let e = changes c in
-    same_contents _ _ _ _ e.0 (e.1 ∙ ap (λ (s : ℕ). at_serial s cancelled_rows c.self.inside.campaigns.entries) c.serial.ensures)
-    ∙ ap (λ (b : Contents). cancelled b c.args.campaign.serial) c.self.view_is
+pub returns-in-Some-clause-cancelled : goal.returns-in-Some-clause-cancelled
+returns-in-Some-clause-cancelled c =
+    let with_campaigns : List (ℕ × Offered) → Contents = λ es. record { head = c.self.inside.head; campaigns = es } in
+    ap with_campaigns (changes c) ∙ ap (λ (b : Contents). cancelled b c.args.campaign.serial) c.self.view_is
