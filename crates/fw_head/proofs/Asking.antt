@@ -1,15 +1,13 @@
 -- A row that asks first goes to no phase in which it would send a block, or initiate.
-use Rattle.std.proofs.Common.{◌≡◌, ℕ, inl, inr, Bool, List, [], ◌∷◌, sym, subst}
+use Rattle.std.proofs.Common.{◌≡◌, ℕ, inl, inr, List, [], ◌∷◌, sym, subst}
 use Rattle.fw_names.specs.Name.{Name}
-use Rattle.fw_client.specs.declared.ask.Asked.TheVariants as asked
 use Rattle.fw_client.specs.declared.heard.Heard.{Heard}
 use Rattle.fw_client.specs.declared.heard.Heard.TheVariants as heard
 use Rattle.fw_head.specs.declared.stage.Stage.{Stage}
 use Rattle.fw_head.specs.declared.stage.Stage.TheVariants.{Size, Enable, Start, Blocks, Check, Gaps, Verify, Poll, Info, Activate, Confirm, Done, Failed}
 use Rattle.fw_head.specs.declared.answers.Step.{Step}
 use Rattle.fw_head.specs.Phase.{rows, otherwise, First, Leads}
-use Rattle.fw_head.specs.Row.{confirm_first}
-use Rattle.fw_head.specs.Inside.{IsOwn, IsAsking, IsAskingStep}
+use Rattle.fw_head.specs.Inside.{IsAsking, IsAskingStep}
 
 -- each row of a list leads to such a step
 abbrev RowsAsk : List ((Type 0) × Step) → Type 0
@@ -45,11 +43,6 @@ otherwise_asks (Confirm g) asks = tt
 otherwise_asks (Done claim) asks = tt
 otherwise_asks Failed asks = tt
 otherwise_asks _ asks = absurd asks
-
--- what holds of a stage of the row holds of the one in place of it
-pub own_first : (m : ℕ) (n : Name) (size : ℕ) (stage : Stage) → IsOwn m n size stage → IsOwn m n size (confirm_first stage)
-own_first m n size (Start g) own = own
-own_first m n size stage own = own
 
 pub asking_step : (n : Name) (size : ℕ) (stage : Stage) (h : Heard) (step : Step) → IsAsking stage → Leads n size stage h step → IsAskingStep step
 asking_step n size stage h step asks leads = by_first (rows n size stage h) (otherwise stage) step (rows_ask n size stage h asks) (otherwise_asks stage asks) leads

@@ -1,10 +1,10 @@
 -- The new rows of the meters that are live in a book, each of which asks first: they make a head end of it, the one that starts again.
-use Rattle.std.proofs.Common.{◌≡◌, ◌≢◌, ℕ, ◌==◌, nat_eq, Bool, true, false, cond, ◌||◌, ◌&&◌, ◌⊎◌, List, [], ◌∷◌, ◌++◌, length, Option, Some, None, option_map, refl, sym, ap, subst, ◌∙◌, ⊎_elim, append_assoc}
-use Rattle.std.specs.List.{IsDistinct, AllByRecursion, list_any}
+use Rattle.std.proofs.Common.{◌≡◌, ℕ, ◌==◌, nat_eq, Bool, true, false, cond, ◌||◌, ◌&&◌, List, [], ◌∷◌, ◌++◌, length, Option, Some, None, option_map, refl, sym, ap, subst, ◌∙◌, ⊎_elim, append_assoc}
+use Rattle.std.specs.List.{IsDistinct, AllByRecursion}
 use Rattle.std.specs.Map.{lookup, keys_of}
 use Rattle.std.proofs.lemmas.List.{map-append}
 use Rattle.std.proofs.lemmas.Map.Keys.{IsDistinct-head, IsDistinct-tail, IsDistinct-cons}
-use Rattle.std.proofs.lemmas.Bool.{cases_Bool, cond-true, cond-false, false_from_ne_true, false≢true, or_parts, or_cases, or_left, or_right}
+use Rattle.std.proofs.lemmas.Bool.{cases_Bool, cond-true, cond-false, false_from_ne_true, false≢true, or_parts, or_left, or_right}
 use Rattle.std.proofs.lemmas.Bool.Decides.{Decides-eqb}
 use Rattle.fw_names.specs.Name.{Name, Campaign, name_of}
 use Rattle.fw_book.specs.declared.row.Row as book_row
@@ -13,7 +13,7 @@ use Rattle.fw_book.specs.declared.row.RowState.TheVariants.{Live, Done, Failed, 
 use Rattle.fw_book.specs.Rows.{is_live, meters_of, repeats, state_of, is_live_in}
 use Rattle.fw_book.specs.Contents.{Contents, Offered, IsEntry, Apart, AllApart, IsBook, image_in, name_in}
 use Rattle.fw_head.specs.Row.{Row, reopened_row}
-use Rattle.fw_head.specs.Head.{Head, Rows, row_of, reopened_rows, renewed, asking, IsRowOf, AreRowsOf}
+use Rattle.fw_head.specs.Head.{Rows, row_of, reopened_rows, renewed, asking, IsRowOf, AreRowsOf}
 use Rattle.fw_head.specs.Inside.{live_meters, rows_in, live_rows}
 use Rattle.fw_head.specs.Laws.{BeginsRestarted}
 use Rattle.fw_head.proofs.LiveRows.{some_row}

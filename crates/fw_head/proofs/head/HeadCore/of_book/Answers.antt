@@ -1,4 +1,4 @@
-use Rattle.std.proofs.Common.{◌≡◌, refl, sym, ap, subst, ◌∙◌}
+use Rattle.std.proofs.Common.{refl, sym, ap, subst, ◌∙◌}
 use Rattle.fw_head.specs.Head.{Rows, AreRowsOf, renewed, asking}
 use Rattle.fw_head.proofs.Reopened.{are_rows, all_new}
 use Rattle.fw_head.proofs.head.HeadCore.of_book.Goals as goal
