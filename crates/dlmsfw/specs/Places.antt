@@ -1,24 +1,33 @@
 -- What a fault of a meter or of a head end is about: its address, one of its files, or the serial number of a campaign.
-use Rattle.std.specs.Prelude.{Option, None, Some}
+use Rattle.std.specs.Prelude.{ℕ, Option, None, Some}
 use Rattle.std.specs.Option.{option_map}
 use Rattle.fw_faults.specs.declared.fault.Fault.{Fault}
 use Rattle.fw_faults.specs.declared.fault.Fault.TheVariants.{StoreFault, Device, BadFile, BadHeader, BadImage, FactoryFault, Socket, NoBook, BookExists, Locked, BookFault, BadBook, BadRecord, ForeignHead, Full, ListFault, BadList, NoAddress, ImageFault, BadSetup, OpenRefused, CancelRefused}
+use Rattle.fw_cli.specs.declared.meter.MeterFault.{MeterFault}
 use Rattle.dlmsfw.specs.declared.cause.BookPlaces.{BookPlaces}
 use Rattle.dlmsfw.specs.declared.cause.BookPlace.{BookPlace}
 use Rattle.dlmsfw.specs.declared.cause.BookPlace.TheVariants.{Book, HeadListen, Meters, Image, Open, Cancel}
 use Rattle.dlmsfw.specs.declared.cause.MeterPlaces.{MeterPlaces}
 use Rattle.dlmsfw.specs.declared.cause.Place.{Place}
-use Rattle.dlmsfw.specs.declared.cause.Place.TheVariants.{Listen, Store, FactoryFile}
+use Rattle.dlmsfw.specs.declared.cause.Place.TheVariants.{Listen, Store, StoreOf, FactoryFile}
 
-abbrev pub place_of : Fault → MeterPlaces → Option Place
-place_of Socket places = Some (Listen places.listen)
-place_of StoreFault places = Some (Store places.store)
-place_of Device places = Some (Store places.store)
-place_of BadFile places = Some (Store places.store)
-place_of BadHeader places = Some (Store places.store)
-place_of BadImage places = Some (Store places.store)
-place_of FactoryFault places = option_map FactoryFile places.factory_file
-place_of fault places = None
+-- the file of a meter, or of the one of this number
+abbrev pub store_of : Option ℕ → MeterPlaces → Place
+store_of None places = Store places.store
+store_of (Some number) places = StoreOf places.store number
+
+abbrev pub place_in : Fault → Option ℕ → MeterPlaces → Option Place
+place_in Socket number places = Some (Listen places.listen)
+place_in StoreFault number places = Some (store_of number places)
+place_in Device number places = Some (store_of number places)
+place_in BadFile number places = Some (store_of number places)
+place_in BadHeader number places = Some (store_of number places)
+place_in BadImage number places = Some (store_of number places)
+place_in FactoryFault number places = option_map FactoryFile places.factory_file
+place_in fault number places = None
+
+abbrev pub place_of : MeterFault → MeterPlaces → Option Place
+place_of ended places = place_in ended.fault ended.number places
 
 abbrev pub book_place_of : Fault → BookPlaces → Option BookPlace
 book_place_of NoBook places = Some (Book places.book)

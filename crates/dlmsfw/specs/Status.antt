@@ -19,7 +19,7 @@ pub record EndsParse (kind : ErrorKind) (status : ℕ) : Type 0 where
 -- the program may end so with this status
 abbrev pub EndsWith : Ending → ℕ → Type 0
 EndsWith (Fault fault) status = status ≡ 1
-EndsWith (Meter fault places) status = status ≡ 1
+EndsWith (Meter ended places) status = status ≡ 1
 EndsWith (Book fault places) status = status ≡ 1
 EndsWith Refused status = status ≡ 1
 EndsWith (CommandLine error) status = EndsParse (kind_of error) status

@@ -3,7 +3,7 @@
 ghost use Rattle.std.specs.Prelude.{◌≡◌, ◌≢◌, MatchBool};
 ghost use Rattle.dlmsfw.specs.Places.{book_place_of, place_of};
 
-use fw_cli::{HeadOptions, MeterOptions, StatusOptions};
+use fw_cli::{HeadOptions, MeterFault, MeterOptions, StatusOptions};
 use fw_faults::Fault;
 use std::net::{Ipv4Addr, Net, SocketAddr, UdpSocket};
 use thiserror::Error;
@@ -76,19 +76,25 @@ pub(crate) enum Place<'a> {
     /// The file that has it.
     #[error("--store {0}")]
     Store(&'a str),
+    /// The file that has the meter of this number.
+    #[error("--store {0}.{1}")]
+    StoreOf(&'a str, u32),
     /// The file of its factory image.
     #[error("--factory-file {0}")]
     FactoryFile(&'a str),
 }
 
-/// What a fault of a meter is about, if it is one of these.
-pub(crate) fn place_of<'a>(fault: Fault, places: MeterPlaces<'a>) -> Option<Place<'a>>
-    ensures { result ≡ place_of fault places.entry }
+/// What the fault of a meter is about, if it is one of these.
+pub(crate) fn place_of<'a>(ended: MeterFault, places: MeterPlaces<'a>) -> Option<Place<'a>>
+    ensures { result ≡ place_of ended places.entry }
 {
-    match fault {
+    match ended.fault {
         Fault::Socket => Some(Place::Listen(places.listen)),
         Fault::StoreFault | Fault::Device | Fault::BadFile | Fault::BadHeader | Fault::BadImage =>
-            Some(Place::Store(places.store)),
+            Some(match ended.number {
+                Some(number) => Place::StoreOf(places.store, number),
+                None => Place::Store(places.store),
+            }),
         Fault::FactoryFault => match places.factory_file {
             Some(file) => Some(Place::FactoryFile(file)),
             None => None,

@@ -13,8 +13,8 @@ mod streams;
 use cause::{BookPlaces, MeterPlaces};
 use clap::error::ErrorKind;
 use fw_cli::{
-    Ended, run_answer, run_answer_stored, run_head, run_live, run_meter, run_name, run_rehearse,
-    run_replay, run_status, run_trace,
+    Ended, MeterFault, run_answer, run_answer_stored, run_head, run_live, run_meter, run_name,
+    run_rehearse, run_replay, run_status, run_trace,
 };
 use fw_faults::Fault;
 use options::{Invocation, TraceOptions};
@@ -43,8 +43,8 @@ const WRONG_COMMAND_LINE: u8 = 2;
 enum Ending<'a> {
     /// A fault of the command.
     Fault(Fault),
-    /// A fault of a meter with this address and these files.
-    Meter(Fault, MeterPlaces<'a>),
+    /// A fault of a meter with this address and these files, or of one of several.
+    Meter(MeterFault, MeterPlaces<'a>),
     /// A fault of a head end with this address and these files, or of the book that is read.
     Book(Fault, BookPlaces<'a>),
     /// An event of a script was refused, and the command has reported it.
@@ -106,7 +106,7 @@ fn run<
             let places = MeterPlaces::of(&options);
             return match run_meter(rt, alloc, writer, options) {
                 Ok(()) => Ok(()),
-                Err(fault) => Err(Ending::Meter(fault, places)),
+                Err(ended) => Err(Ending::Meter(ended, places)),
             };
         }
         Invocation::Head(options) => {
@@ -162,7 +162,7 @@ fn report(rt: &(impl Print + Eprint + Net), ending: Ending<'_>) -> ExitCode
 {
     match ending {
         Ending::Fault(fault) => fail(rt, fault),
-        Ending::Meter(fault, places) => fail_at(rt, fault, cause::place_of(fault, places)),
+        Ending::Meter(ended, places) => { fail_at(rt, ended.fault, cause::place_of(ended, places)) }
         Ending::Book(fault, places) => fail_at(rt, fault, cause::book_place_of(fault, places)),
         Ending::Refused => ExitCode::from(FAULT),
         Ending::CommandLine(error) => report_parse(rt, error),

@@ -1,7 +1,9 @@
 -- Public vocabulary: which faults a command has, and which come before it reads or writes anything.
+use Rattle.std.specs.Prelude.{◌≡◌, ◌≢◌, ◌≤◌, ℕ, Option, None, Some, IfSome}
 use Rattle.fw_faults.specs.declared.fault.Fault.{Fault}
 use Rattle.fw_faults.specs.declared.fault.Fault.TheVariants.{BadFates, BadSetup, StoreFault, Device, BadFile, BadHeader, BadImage, Input, TooMuchInput, BadLine, EmptyImage, ImageTooLong, BadCapture, Event, Mismatch, ThreadRefused, Socket, Output, OutOfMemory}
 use Rattle.fw_host.specs.Meters.{IsOfSetup}
+use Rattle.fw_cli.specs.declared.meter.MeterFault.{MeterFault}
 
 -- the faults that come before anything is read
 abbrev pub ComesBeforeInput : Fault → Type 0
@@ -101,3 +103,24 @@ abbrev pub IsOfMeter : Fault → Type 0
 IsOfMeter Socket = Unit {0}
 IsOfMeter Output = Unit {0}
 IsOfMeter fault = IsOfSetup fault
+
+-- those once the meters are set up
+abbrev pub IsOfServing : Fault → Type 0
+IsOfServing Socket = Unit {0}
+IsOfServing Output = Unit {0}
+IsOfServing OutOfMemory = Unit {0}
+IsOfServing fault = ⊥
+
+-- those of the file that has a meter
+abbrev pub IsOfStore : Fault → Type 0
+IsOfStore StoreFault = Unit {0}
+IsOfStore Device = Unit {0}
+IsOfStore BadFile = Unit {0}
+IsOfStore BadHeader = Unit {0}
+IsOfStore BadImage = Unit {0}
+IsOfStore fault = ⊥
+
+-- Of so many meters, the number of one stands with the fault, where it is that of a file. Without a count none does.
+abbrev pub NamesMeter : Option ℕ → MeterFault → Type 0
+NamesMeter None ended = ended.number ≡ None
+NamesMeter (Some count) ended = (IsOfStore ended.fault → ended.number ≢ None) × IfSome ended.number (λ number. (1 ≤ number) × (number ≤ count))

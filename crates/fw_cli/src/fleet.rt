@@ -14,17 +14,18 @@ ghost use Rattle.std.specs.Prelude.{
   IsErr,
   MatchOption,
   None,
+  Some,
 };
 ghost use Rattle.std.specs.Io.KnownBytes.{Keeps};
 ghost use Rattle.std.specs.Net.Socket.{socket_port};
 ghost use Rattle.fw_store.specs.Setup.{IsSetup};
 ghost use Rattle.fw_store.specs.declared.version.HeaderVersion.TheVariants.{Two};
 ghost use Rattle.fw_cli.specs.Fleets.{IsAddressOf, port_of};
-ghost use Rattle.fw_cli.specs.Faults.{IsOfMeter};
+ghost use Rattle.fw_cli.specs.Faults.{IsOfMeter, IsOfServing, NamesMeter};
 ghost use Rattle.fw_host.specs.Meters.{IsOfSetup, default_factory, listening_line};
 ghost use Rattle.fw_cli.specs.declared.fleet.Member.{Member};
 
-use crate::meter::{MeterOptions, Teller};
+use crate::meter::{MeterFault, MeterOptions, Teller};
 use fw_daemon::{Closed, Dropped, MeterDaemon, Port, UdpPort, Watch, step};
 use fw_faults::{Fault, write_text};
 use fw_host::{listening_line, stored_meter};
@@ -65,16 +66,35 @@ pub(crate) fn serve_fleet<R: Files<File = File> + Clock + Net + Wait, W: Write>(
     writer: &mut W,
     options: &MeterOptions<'_>,
     count: u32,
+) -> Result<(), MeterFault>
+    ensures ends { IsErr result }
+    ensures number { IfErr result (NamesMeter (Some count)) }
+    ensures bad_setup { options.now.fresh.factory_file ≡ None → IfErr result (λ e. e.fault ≡ Fault.BadSetup
+        → ¬ IsSetup Two options.now.fresh.block_size options.now.fresh.capacity default_factory) }
+    ensures silent { IfErr result (λ e. e.fault ≢ Fault.Socket → e.fault ≢ Fault.Output
+        → Keeps (W.contents writer.old) (W.contents writer.new)) }
+    ensures only { IfErr result (λ e. IsOfMeter e.fault) }
+{
+    let members = members_of(rt, alloc, options, count)?;
+    match serve_members(rt, alloc, writer, members) {
+        Ok(()) => Ok(()),
+        Err(fault) => Err(MeterFault::from(fault)),
+    }
+}
+
+/// Serves these meters, until the port of one is closed.
+fn serve_members<R: Clock + Wait, W: Write>(
+    rt: &R,
+    alloc: Global,
+    writer: &mut W,
+    members: Vec<Member>,
 ) -> Result<(), Fault>
     ensures ends { IsErr result }
-    ensures bad_setup { options.now.fresh.factory_file ≡ None → result ≡ Err Fault.BadSetup
-        → ¬ IsSetup Two options.now.fresh.block_size options.now.fresh.capacity default_factory }
-    ensures silent { IfErr result (λ f. f ≢ Fault.Socket → f ≢ Fault.Output
-        → Keeps (W.contents writer.old) (W.contents writer.new)) }
-    ensures only { IfErr result IsOfMeter }
+    ensures silent { IfErr result (λ f. f ≢ Fault.Socket → f ≢ Fault.Output → Keeps (W.contents writer.old) (W.contents writer.new)) }
+    ensures only { IfErr result IsOfServing }
 {
     let mut fleet = Fleet {
-        members: members_of(rt, alloc, options, count)?,
+        members,
         dropped: Dropped {
             strangers: 0,
             unserved: 0,
@@ -94,15 +114,28 @@ fn members_of<R: Files<File = File> + Net>(
     alloc: Global,
     options: &MeterOptions<'_>,
     count: u32,
-) -> Result<Vec<Member>, Fault>
+) -> Result<Vec<Member>, MeterFault>
     ensures count { IfOk result (λ members. length members.items ≡ count) }
-    ensures bad_setup { options.now.fresh.factory_file ≡ None → result ≡ Err Fault.BadSetup
-        → ¬ IsSetup Two options.now.fresh.block_size options.now.fresh.capacity default_factory }
-    ensures only { IfErr result (λ f. (f ≡ Fault.Socket) ⊎ IsOfSetup f) }
+    ensures number { IfErr result (NamesMeter (Some count)) }
+    ensures bad_setup { options.now.fresh.factory_file ≡ None → IfErr result (λ e. e.fault ≡ Fault.BadSetup
+        → ¬ IsSetup Two options.now.fresh.block_size options.now.fresh.capacity default_factory) }
+    ensures only { IfErr result (λ e. (e.fault ≡ Fault.Socket) ⊎ IsOfSetup e.fault) }
 {
     let mut members = Vec::new(alloc);
     for before in 0..count {
-        members.push(new_member(rt, alloc, options, before + 1)?)?;
+        let number = before + 1;
+        let member = match new_member(rt, alloc, options, number) {
+            Ok(member) => member,
+            Err(fault) => {
+                return Err(MeterFault {
+                    fault,
+                    number: Some(number),
+                });
+            }
+        };
+        if members.push(member).is_err() {
+            return Err(MeterFault::from(Fault::OutOfMemory));
+        }
     }
     Ok(members)
 }

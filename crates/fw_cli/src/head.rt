@@ -1,7 +1,12 @@
 //! The command `head`: a head end whose book is in a file leads meters over UDP to the images that they are offered.
 
-ghost use Rattle.std.specs.Prelude.{◌≡◌, ◌⊎◌, ℕ, IfErr, IfOk, IsTrue, is_some};
+ghost use Rattle.std.specs.Prelude.{◌≡◌, ◌⊎◌, All, IfErr, IfOk, IsTrue, OnOk, false, is_some};
 ghost use Rattle.std.specs.Io.KnownBytes.{Keeps};
+ghost use Rattle.std.specs.Map.{values_of};
+ghost use Rattle.fw_kept.specs.Head.{book_of, head_of};
+ghost use Rattle.fw_rollout.specs.Daemon.{IsLed, IsOver};
+ghost use Rattle.fw_rollout.specs.Leading.{Leader};
+ghost use Rattle.fw_host.specs.Addresses.{HasAddress};
 ghost use Rattle.fw_host.specs.Heads.{ComesBeforeLines, IsOfHead, IsOfHeadSetup};
 ghost use Rattle.fw_cli.specs.Heads.{IsAskedFor, IsOfCancelling, IsOfList, IsOfOpening, IsOfOpeningSetup, IsOfStop};
 
@@ -11,15 +16,14 @@ use fw_book::BookError;
 use fw_daemon::UdpPort;
 use fw_faults::{Fault, Reads, read_input, write_text};
 use fw_host::{
-    BookOptions, HeadProgress, Opening, Part, UdpHeadPort, cancel, cancelled_line, check_part,
-    is_open, kept_head, open_part, opened_line, over_line, parts_of, read_list,
+    BookOptions, HeadProgress, Opening, Part, UdpHeadPort, cancel, cancelled_line, check_addresses,
+    check_part, is_open, kept_head, open_part, opened_line, over_line, parts_of, read_list,
 };
-use fw_journal::FileDevice;
+use fw_journal::{FileDevice, JournalDevice};
 use fw_kept::KeptHead;
 use fw_names::{CampaignId, HeadId};
 use fw_rollout::{HeadDaemon, Listed, MeterList, Timing, serve_head};
 use std::alloc::Global;
-use std::collections::HashSet;
 use std::fs::File;
 use std::io::Write;
 use std::net::{Net, SocketAddr};
@@ -80,6 +84,8 @@ pub fn run_head<R: Files<File = File> + Clock + Net + Wait, W: Write, E: Eprint>
     terminal: Option<&E>,
     options: &HeadOptions<'_>,
 ) -> Result<(), Fault>
+    // Where it stays, it ends by a fault alone.
+    ensures stays { OnOk result (options.now.stays ≡ false) }
     ensures silent { IfErr result (λ f. ComesBeforeLines f → Keeps (W.contents writer.old) (W.contents writer.new)) }
     ensures asked { IfErr result (IsAskedFor options.now) }
     ensures only { IfErr result IsOfHead }
@@ -135,6 +141,8 @@ fn set_up<R: Files<File = File> + Net>(
     options: &HeadOptions<'_>,
 ) -> Result<Ready, Fault>
     ensures opened { IfOk result (λ ready. IsTrue (is_some ready.opened) → IsTrue (is_some options.now.opening)) }
+    ensures number { IfOk result (λ ready. (book_of ready.kept).head ≡ options.now.head) }
+    ensures addresses { IfOk result (λ ready. All (HasAddress options.now.cancel ready.list) (values_of (head_of ready.kept).rows)) }
     ensures asked { IfErr result (IsAskedFor options.now) }
     ensures only { IfErr result IsOfHeadSetup }
 {
@@ -162,6 +170,8 @@ fn led_head<F: Files<File = File>>(
     options: &HeadOptions<'_>,
     list: &[Listed],
 ) -> Result<KeptHead<FileDevice>, Fault>
+    ensures number { IfOk result (λ kept. (book_of kept).head ≡ options.now.head) }
+    ensures addresses { IfOk result (λ kept. All (HasAddress options.now.cancel list.now) (values_of (head_of kept).rows)) }
     ensures asked { IfErr result (IsAskedFor options.now) }
     ensures only { IfErr result IsOfHeadSetup }
 {
@@ -228,28 +238,6 @@ fn bytes_of_file<F: Files<File = File>>(
     }
 }
 
-/// Checks that each meter with a live row is in the list, except for the rows of the campaign that is cancelled first.
-fn check_addresses(
-    alloc: Global,
-    kept: &KeptHead<FileDevice>,
-    list: &[Listed],
-    cancelled: Option<u32>,
-) -> Result<(), Fault>
-    ensures only { IfErr result (λ f. (f ≡ Fault.OutOfMemory) ⊎ ((number : ℕ) × (f ≡ Fault.NoAddress number))) }
-{
-    let mut numbers = HashSet::new(alloc);
-    for at in list {
-        numbers.insert(at.meter.number())?;
-    }
-    for row in kept.head().view().rows {
-        let number = row.meter().number();
-        if Some(row.name().campaign.serial()) != cancelled && !numbers.contains(&number) {
-            return Err(Fault::NoAddress(number));
-        }
-    }
-    Ok(())
-}
-
 /// Cancels the campaign of this serial number, and writes a line.
 fn cancel_one<W: Write>(
     alloc: Global,
@@ -300,16 +288,19 @@ fn open_all<W: Write>(
     Ok(())
 }
 
-/// Leads the rows to their ends, and writes how many ended how.
-fn lead<R: Clock + Wait, W: Write, E: Eprint>(
+/// Leads the rows to their ends, and writes how many ended how. It returns `Ok` once none is live and all that ended is on the device, and
+/// never where it stays.
+fn lead<R: Clock + Wait, W: Write, E: Eprint, D: JournalDevice + Drop>(
     rt: &R,
     alloc: Global,
     writer: &mut W,
     terminal: Option<&E>,
     port: UdpPort,
-    daemon: &mut HeadDaemon<FileDevice>,
+    daemon: &mut HeadDaemon<D>,
     stays: bool,
 ) -> Result<(), Fault>
+    ensures over { (now : Leader) → IsLed D.honest D.contents D.may_leave daemon.new now → OnOk result (IsOver now) }
+    ensures stays { OnOk result (stays ≡ false) }
     ensures only { IfErr result IsOfStop }
 {
     let mut port = UdpHeadPort::new(rt, alloc, port, writer);

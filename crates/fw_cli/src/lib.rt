@@ -20,7 +20,7 @@ mod workers;
 pub use answer::{AnswerOptions, run_answer};
 pub use head::{HeadOptions, run_head};
 pub use live::{LiveOptions, run_live};
-pub use meter::{MeterOptions, run_meter};
+pub use meter::{MeterFault, MeterOptions, run_meter};
 pub use name::{NameOptions, run_name};
 pub use rehearse::{RehearseOptions, run_rehearse};
 pub use replay::{Ended, ReplayOptions, Rounds, run_replay};

@@ -4,7 +4,7 @@ ghost use Rattle.std.specs.Prelude.{◌≡◌, ◌≢◌, ◌⊎◌, None, IfErr
 ghost use Rattle.std.specs.Io.KnownBytes.{Appends, Keeps};
 ghost use Rattle.fw_store.specs.Setup.{IsSetup};
 ghost use Rattle.fw_store.specs.declared.version.HeaderVersion.TheVariants.{Two};
-ghost use Rattle.fw_cli.specs.Faults.{IsOfMeter};
+ghost use Rattle.fw_cli.specs.Faults.{IsOfMeter, NamesMeter};
 ghost use Rattle.fw_host.specs.Meters.{activated_line, default_factory, dropped_line, listening_line};
 
 use crate::fleet::serve_fleet;
@@ -38,6 +38,26 @@ pub struct MeterOptions<'a> {
     pub count: Option<u32>,
 }
 
+/// Why the command ended.
+#[derive(Clone, Copy, Debug, PartialEq, Eq)]
+pub struct MeterFault {
+    /// The fault.
+    pub fault: Fault,
+    /// The number of the meter that couldn't be set up, from 1 on, where there is a count of them.
+    pub number: Option<u32>,
+}
+
+impl From<Fault> for MeterFault {
+    ghost from_gives = { λ fault ended. ended ≡ record { fault = fault; number = None } };
+
+    fn from(fault: Fault) -> MeterFault {
+        MeterFault {
+            fault,
+            number: None,
+        }
+    }
+}
+
 /// The meter in a file answers datagrams over UDP until the process is ended, at any moment. Where no file is there, it is made.
 ///
 /// With a count K there are meters 1 to K: meter N receives at the port of the options and N - 1 more, and its file is that of the options
@@ -48,7 +68,7 @@ pub struct MeterOptions<'a> {
 ///
 /// # Errors
 ///
-/// It ends by one of these alone.
+/// It ends by one of these alone, with the number of the meter that couldn't be set up, if there is a count.
 ///
 /// - `Socket`: the address can't be received at, or is past port 65,535. No file was made, except for meters before it. Or the socket failed
 ///   1,000 times in a row while the meter served.
@@ -64,17 +84,21 @@ pub fn run_meter<R: Files<File = File> + Clock + Net + Wait, W: Write>(
     alloc: Global,
     writer: &mut W,
     options: MeterOptions<'_>,
-) -> Result<(), Fault>
+) -> Result<(), MeterFault>
     ensures ends { IsErr result }
-    ensures bad_setup { options.entry.fresh.factory_file ≡ None → result ≡ Err Fault.BadSetup
-        → ¬ IsSetup Two options.entry.fresh.block_size options.entry.fresh.capacity default_factory }
-    ensures silent { IfErr result (λ f. f ≢ Fault.Socket → f ≢ Fault.Output
+    ensures number { IfErr result (NamesMeter options.entry.count) }
+    ensures bad_setup { options.entry.fresh.factory_file ≡ None → IfErr result (λ e. e.fault ≡ Fault.BadSetup
+        → ¬ IsSetup Two options.entry.fresh.block_size options.entry.fresh.capacity default_factory) }
+    ensures silent { IfErr result (λ e. e.fault ≢ Fault.Socket → e.fault ≢ Fault.Output
         → Keeps (W.contents writer.old) (W.contents writer.new)) }
-    ensures only { IfErr result IsOfMeter }
+    ensures only { IfErr result (λ e. IsOfMeter e.fault) }
 {
     match options.count {
         Some(count) => serve_fleet(rt, alloc, writer, &options, count),
-        None => serve_one(rt, alloc, writer, options),
+        None => match serve_one(rt, alloc, writer, options) {
+            Ok(()) => Ok(()),
+            Err(fault) => Err(MeterFault::from(fault)),
+        },
     }
 }
 

@@ -1,1 +1,3 @@
+mod Addressed
+mod Owned
 pub mod Listings

@@ -3,3 +3,4 @@ pub mod Meters
 pub mod Lists
 pub mod Heads
 pub mod Openings
+pub mod Addresses

@@ -1,9 +1,10 @@
 //! The book of the command `head`, in a file.
 
-ghost use Rattle.std.specs.Prelude.{◌≡◌, IfErr, IfOk, IsTrue};
+ghost use Rattle.std.specs.Prelude.{◌≡◌, ◌≢◌, IfErr, IfOk, IsTrue, OnOk};
 ghost use Rattle.fw_head.specs.Head.{BeginsWith, new_head};
 ghost use Rattle.fw_journal.specs.Refusals.{IsFileRefusal};
 ghost use Rattle.fw_kept.specs.Head.{book_of, head_of};
+ghost use Rattle.fw_kept.specs.Kept.{HasForeign};
 ghost use Rattle.fw_host.specs.Heads.{IsOfBook, IsOfNewBook, IsOfOldBook};
 
 use crate::files::is_absent;
@@ -43,6 +44,9 @@ pub fn kept_head<F: Files<File = File>>(
     width: Width,
 ) -> Result<KeptHead<FileDevice>, Fault>
     ensures begun { IfOk result (λ kept. BeginsWith (book_of kept) width (head_of kept)) }
+
+    // It is the head end that was asked for, whoever's book the file has.
+    ensures number { IfOk result (λ kept. (book_of kept).head ≡ head) }
     ensures new { IsTrue book.entry.is_new → IfOk result (λ kept. head_of kept ≡ new_head head width) }
     ensures only { IfErr result (IsOfBook book.entry.is_new) }
 {
@@ -62,19 +66,49 @@ fn open<F: Files<File = File>>(
     width: Width,
 ) -> Result<KeptHead<FileDevice>, Fault>
     ensures begun { IfOk result (λ kept. BeginsWith (book_of kept) width (head_of kept)) }
+    ensures number { IfOk result (λ kept. (book_of kept).head ≡ head) }
     ensures only { IfErr result IsOfOldBook }
 {
     let device = match FileDevice::open(rt, path) {
         Ok(device) => device,
         Err(error) => return Err(file_fault(rt, path, error)),
     };
-    let kept = match KeptHead::open(alloc, head, width, device) {
-        Ok(kept) => kept,
-        Err((error, _device)) => return Err(Fault::from(error)),
-    };
+    let kept = book_on(alloc, head, width, device)?;
     // A head end that made the file may have been ended before a power cut left its name there.
     sync_folder(rt, path)?;
     Ok(kept)
+}
+
+/// The head end of this number whose book is on a device. `ForeignHead` says that it is another head end's.
+fn book_on<D: JournalDevice + Drop>(
+    alloc: Global,
+    head: HeadId,
+    width: Width,
+    device: D,
+) -> Result<KeptHead<D>, Fault>
+    ensures begun { IfOk result (λ kept. BeginsWith (book_of kept) width (head_of kept)) }
+    ensures number { IfOk result (λ kept. (book_of kept).head ≡ head) }
+    ensures own { IsTrue (D.honest device) → OnOk result (¬ HasForeign head (D.contents device)) }
+    ensures foreign { IsTrue (D.honest device) → IfErr result (λ f. f ≡ Fault.ForeignHead → HasForeign head (D.contents device)) }
+    ensures only { IfErr result IsOfOldBook }
+{
+    fw_kept::laws::foreign_have_none();
+    match KeptHead::open(alloc, head, width, device) {
+        Ok(kept) => own(kept, head),
+        Err((error, _device)) => Err(Fault::from(error)),
+    }
+}
+
+/// The head end, if it has this number. A book that was read for a head end has its number; this looks at it once more.
+fn own<D: JournalDevice + Drop>(kept: KeptHead<D>, head: HeadId) -> Result<KeptHead<D>, Fault>
+    ensures number { IfOk result (λ same. (same ≡ kept) × ((book_of kept).head ≡ head)) }
+    ensures foreign { IfErr result (λ f. (f ≡ Fault.ForeignHead) × ((book_of kept).head ≢ head)) }
+{
+    if kept.head().view().book.head() == head {
+        Ok(kept)
+    } else {
+        Err(Fault::ForeignHead)
+    }
 }
 
 /// Why the file of a book isn't opened.

@@ -1,5 +1,7 @@
 //! The port of the command `head`: a UDP socket, and a writer that gets the line of each row that ended.
 
+ghost use Rattle.std.specs.Prelude.{◌≡◌};
+
 use crate::head_lines::ended_line;
 use fw_daemon::UdpPort;
 use fw_faults::write_text;
@@ -21,13 +23,12 @@ pub struct UdpHeadPort<'a, C: Clock, W: Write> {
 }
 
 impl<'a, C: Clock, W: Write> UdpHeadPort<'a, C, W> {
-    /// The time begins now.
-    pub fn new(
-        rt: &'a C,
-        alloc: Global,
-        port: UdpPort,
-        writer: &'a mut W,
-    ) -> UdpHeadPort<'a, C, W> {
+    /// The time begins now. Nothing is sent, received or written yet.
+    pub fn new(rt: &'a C, alloc: Global, port: UdpPort, writer: &'a mut W) -> UdpHeadPort<'a, C, W>
+        ensures port { result.port ≡ port }
+        ensures writer { result.writer.ghost_name ≡ writer.entry.ghost_name }
+        ensures unwritten { W.contents result.writer.now ≡ W.contents writer.old }
+    {
         UdpHeadPort {
             rt,
             alloc,

@@ -1,5 +1,7 @@
 //! How far the command `head` is, on the terminal of who waits for it.
 
+ghost use Rattle.std.specs.Prelude.{◌≡◌, None};
+
 use fw_rollout::{Counts, HeadWatch};
 
 /// What clears the line.
@@ -21,7 +23,11 @@ pub struct HeadProgress<'a, E: Eprint> {
 
 impl<'a, E: Eprint> HeadProgress<'a, E> {
     /// Nothing is shown yet.
-    pub fn new(terminal: Option<&'a E>) -> HeadProgress<'a, E> {
+    pub fn new(terminal: Option<&'a E>) -> HeadProgress<'a, E>
+        ensures terminal { result.terminal ≡ terminal.entry }
+        ensures shown { result.shown_at ≡ None }
+        ensures counted { result.datagrams ≡ 0 }
+    {
         HeadProgress {
             terminal,
             shown_at: None,

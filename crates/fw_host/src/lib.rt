@@ -3,6 +3,7 @@
 #![tactic(auto)]
 
 mod files;
+mod head_addresses;
 mod head_book;
 mod head_lines;
 mod head_opening;
@@ -13,6 +14,7 @@ mod meter_list;
 mod meter_store;
 
 pub use files::is_absent;
+pub use head_addresses::check_addresses;
 pub use head_book::{BookOptions, kept_head};
 pub use head_lines::{cancelled_line, opened_line, over_line};
 pub use head_opening::{Opening, Part, cancel, check_part, is_open, open_part, parts_of};

@@ -57,7 +57,7 @@ const ENDINGS: &str = "\
 Exit status:
   0  none: a meter has no end of its own
   1  a fault: standard error has `dlmsfw: NAME`, with one of these names, and a second line with the
-     address or the file that it is about
+     address or the file that it is about; with --count, FILE is FILE.K of the meter that has the fault
        Socket        datagrams can't be received at --listen: another program does, it is no address
                      of this machine, or this user has no right to it; no file was made. Or the socket
                      failed 1000 times in a row later
