@@ -9,10 +9,13 @@ use Rattle.fw_rollout.specs.declared.daemon.HeadDaemon.{HeadDaemon}
 use Rattle.fw_rollout.specs.declared.ended.Ended.{Ended}
 use Rattle.fw_rollout.specs.declared.link.Listed.{Listed}
 use Rattle.fw_rollout.specs.declared.link.Link.{Link}
+use Rattle.std.specs.declared.net.socket_addr.SocketAddr.{SocketAddr}
 use Rattle.fw_rollout.specs.Acts.{Act}
+use Rattle.fw_rollout.specs.declared.link.Answer.{Answer}
+use Rattle.fw_rollout.specs.Early.{IsAnswerOf}
 use Rattle.fw_rollout.specs.Leading.{IsNotedIn, Leader, Leads, MayLead}
 use Rattle.fw_rollout.specs.Link.{IsReadyBy, out_by}
-use Rattle.fw_rollout.specs.Schedule.{IsDueAt, IsSchedule, links_of, listed_of, lives_of}
+use Rattle.fw_rollout.specs.Schedule.{Answers, IsDueAt, IsSchedule, links_of, listed_of, lives_of}
 
 -- no number and no address stands twice
 abbrev pub IsList : List Listed → Type 0
@@ -53,6 +56,16 @@ pub record IsAskedBy {D : Type 0} (now : ℕ) (daemon : HeadDaemon D) (at : List
   pub place : ℕ
   pub there : slice_get (meters_of daemon) place ≡ Some at
   pub due : IsDueBy now daemon place
+
+-- The row of the meter with this address took a datagram as an answer. When the meter is asked again follows from what the datagram leaves
+-- of what was asked, and of the other meters nothing changed.
+pub record TakesAnswer {D : Type 0} (now : ℕ) (from : SocketAddr) (datagram : List ℕ) (old new : HeadDaemon D) : Type 0 where
+  pub place : ℕ
+  pub meter : ℕ
+  pub there : slice_get (meters_of old) place ≡ Some (record { meter = meter; address = from })
+  pub answer : Answer
+  pub leaves : IsAnswerOf (head_of (kept_of new)) meter datagram answer
+  pub goes_on : Answers place now answer old.schedule new.schedule
 
 -- how many datagrams are out at this time
 abbrev pub out_at : {D : Type 0} → ℕ → HeadDaemon D → ℕ

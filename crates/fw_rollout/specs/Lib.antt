@@ -3,10 +3,10 @@ pub mod Acts
 pub mod Timing
 pub mod Leading
 pub mod Daemon
+pub mod Early
 pub mod Lists
 pub mod Stopping
 -- For private clauses alone: no public clause cites it.
 pub mod Link
 pub mod Schedule
 pub mod Listing
-pub mod Early

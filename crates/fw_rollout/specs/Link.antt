@@ -1,6 +1,6 @@
 -- For private clauses alone: the link of one meter, and what its times are after a tick, an answer and a silence. Times are in microseconds.
 use Rattle.std.specs.Prelude.{◌≡◌, ◌≢◌, ◌⊎◌, ℕ, ◌+◌, ◌-◌, ◌<◌, ◌≤◌, ◌^◌, nat_le, Bool, true, false, Option, Some, None, min, if◌then◌else◌}
-use Rattle.fw_rollout.specs.Timing.{doubled, first_pause, longer, wait_after}
+use Rattle.fw_rollout.specs.Timing.{first_pause, lengthened, longer, wait_after}
 use Rattle.fw_rollout.specs.declared.link.Answer.{Answer}
 use Rattle.fw_rollout.specs.declared.link.Answer.TheVariants as answers
 use Rattle.fw_rollout.specs.declared.link.Link.{Link}
@@ -107,7 +107,7 @@ IsAnswered now resend answer old answered new =
     })
 
 -- What became of a link once the time was over until which was waited: nothing that was sent is out. After an answer the row is ticked again.
--- After a silence it is ticked again at the end of its patience, which is twice as long then.
+-- After a silence it is ticked again at the end of its patience, which is a quarter longer then.
 abbrev pub IsGivenUp : ℕ → Link → ℕ → Link → Type 0
 IsGivenUp now old given_up new =
     (given_up ≡ old.out)
@@ -115,4 +115,4 @@ IsGivenUp now old given_up new =
     ⊎ (((old.is_heard ≡ false) × (now < after old.sent_at old.patience)
     × (new ≡ record old { turn = turns.Silent (after old.sent_at old.patience); out = 0 }))
     ⊎ ((old.is_heard ≡ false) × (after old.sent_at old.patience ≤ now)
-    × (new ≡ record old { turn = turns.Ready; out = 0; patience = doubled old.patience }))))
+    × (new ≡ record old { turn = turns.Ready; out = 0; patience = lengthened old.patience }))))

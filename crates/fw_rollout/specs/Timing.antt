@@ -1,5 +1,5 @@
 -- Public vocabulary: how long an answer is waited for, in microseconds, and how many datagrams are out at once.
-use Rattle.std.specs.Prelude.{◌≡◌, ◌⊎◌, ℕ, ◌+◌, ◌*◌, ◌≤◌, min, max}
+use Rattle.std.specs.Prelude.{◌≡◌, ◌⊎◌, ℕ, ◌+◌, ◌*◌, ◌/◌, ◌≤◌, min, max}
 
 -- a minute
 abbrev pub longest_wait : ℕ
@@ -21,9 +21,9 @@ max_tick = 15
 abbrev pub wait_after : ℕ → ℕ → ℕ
 wait_after resend trip = min (max (4 * trip) resend) longest_wait
 
--- twice the last wait, after a silence in which nothing at all came
-abbrev pub doubled : ℕ → ℕ
-doubled wait = min (2 * wait) longest_wait
+-- a quarter longer than the last wait, after a silence in which nothing at all came
+abbrev pub lengthened : ℕ → ℕ
+lengthened wait = min (wait + wait / 4) longest_wait
 
 -- twice the last pause, where the meter isn't ready still
 abbrev pub longer : ℕ → ℕ

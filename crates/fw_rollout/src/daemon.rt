@@ -28,6 +28,7 @@ ghost use Rattle.fw_head.specs.Head.{IsOfferedIn};
 ghost use Rattle.fw_book.specs.Contents.{Contents};
 ghost use Rattle.fw_kept.specs.Head.{Holds, device_of, head_of, is_broken, journal_of};
 ghost use Rattle.fw_kept.specs.Kept.{IsFull};
+ghost use Rattle.fw_rollout.specs.Early.{IsAnswerOf};
 ghost use Rattle.fw_rollout.specs.Timing.{HasRoom, most_out};
 ghost use Rattle.fw_rollout.specs.Stopping.{IsSaveStop};
 ghost use Rattle.fw_rollout.specs.Leading.{HearsAs, IsAboutToSend, IsAboutToTell, IsListed, Leader, SavesAll, TicksMeter};
@@ -39,6 +40,7 @@ ghost use Rattle.fw_rollout.specs.Daemon.{
   IsList,
   IsOver,
   IsSaveDue,
+  TakesAnswer,
   counts_of,
   ended_of,
   flight_of,
@@ -61,7 +63,7 @@ use crate::link::{Answer, Listed};
 use crate::meters::MeterList;
 use crate::schedule::Schedule;
 use crate::timing::Timing;
-use fw_head::{HeadCore, News};
+use fw_head::{HeadCore, News, OutOfMemory};
 use fw_journal::JournalDevice;
 use fw_kept::KeptHead;
 use fw_ledger::Ending;
@@ -228,6 +230,10 @@ impl<D: JournalDevice + Drop> HeadDaemon<D> {
             → IfOk result (λ heard. (next : Leader) × HearsAs leader from datagram.now heard next
             × IsLed D.honest D.contents D.may_leave self.new next) }
 
+        // When a meter that answered is asked again follows from what the answer leaves of what was asked: a meter that isn't ready pauses.
+        ensures takes { (leader : Leader) → IsLed D.honest D.contents D.may_leave self.old leader
+            → IfOk result (λ heard. heard ≡ Heard.Moved → TakesAnswer now from datagram.now self.old self.new) }
+
         // Memory is refused for a datagram of a listed meter alone.
         ensures listed { (leader : Leader) → IsLed D.honest D.contents D.may_leave self.old leader
             → OnErr result ((meter : ℕ) × IsListed leader meter from) }
@@ -246,7 +252,7 @@ impl<D: JournalDevice + Drop> HeadDaemon<D> {
         match self.kept.hear(self.alloc, meter, datagram)? {
             News::Nothing => Ok(Heard::Nothing),
             News::Moved => {
-                let answer = self.answer_of(meter, datagram);
+                let answer = self.answer_of(meter, datagram)?;
                 self.schedule.answered(place, now, answer)?;
                 Ok(Heard::Moved)
             }
@@ -262,14 +268,20 @@ impl<D: JournalDevice + Drop> HeadDaemon<D> {
     }
 
     /// What an answer of a meter leaves of what its row asked.
-    fn answer_of(&self, meter: MeterId, datagram: &[u8]) -> Answer {
+    ///
+    /// # Errors
+    ///
+    /// `OutOfMemory` alone.
+    fn answer_of(&self, meter: MeterId, datagram: &[u8]) -> Result<Answer, OutOfMemory>
+        ensures { IfOk result (IsAnswerOf (head_of (kept_of self.now)) meter datagram.now) }
+    {
         if self.kept.head().is_waiting(meter) {
-            return Answer::Partial;
+            return Ok(Answer::Partial);
         }
-        if is_early(self.alloc, datagram) {
-            return Answer::Early;
+        if is_early(self.alloc, datagram)? {
+            return Ok(Answer::Early);
         }
-        Answer::Last
+        Ok(Answer::Last)
     }
 
     /// The row of the meter at this place ended.

@@ -15,7 +15,7 @@ ghost use Rattle.fw_rollout.specs.Link.{
   until_of,
 };
 
-use crate::timing::{FIRST_PAUSE, doubled, longer, wait_after};
+use crate::timing::{FIRST_PAUSE, lengthened, longer, wait_after};
 use fw_names::MeterId;
 use std::net::SocketAddr;
 
@@ -195,7 +195,7 @@ impl Link {
         answered
     }
 
-    /// The time until which was waited is over. Where nothing at all came, it is waited for longer, and twice as long at the next tick.
+    /// The time until which was waited is over. Where nothing at all came, it is waited for longer, and a quarter longer at the next tick.
     /// It returns how many datagrams are out no more.
     pub(crate) fn given_up(&mut self, now: u64) -> u64
         ensures { IsGivenUp now self.old result self.new }
@@ -211,7 +211,7 @@ impl Link {
             self.turn = Turn::Silent { until };
             return given_up;
         }
-        self.patience = doubled(self.patience);
+        self.patience = lengthened(self.patience);
         self.turn = Turn::Ready;
         given_up
     }

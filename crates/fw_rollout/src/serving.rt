@@ -44,14 +44,17 @@ pub fn step_head<P: HeadPort, D: JournalDevice + Drop>(
     ensures honesty { P.honest port.new ≡ P.honest port.old }
     ensures law { (done : List Act) → P.legal port.old done → P.legal port.new done }
 {
+    let mut now = port.now();
     let mut buffer = [0u8; MAX_RECEIVED];
-    step_with(port, daemon, &mut buffer)
+    step_with(port, daemon, &mut now, &mut buffer)
 }
 
-/// One round, as `step_head`, with a buffer that datagrams are received into.
+/// One round, as `step_head`, with the time of the last receive, and a buffer that datagrams are received into. The clock is read
+/// once, and once more where marks were put on the device.
 fn step_with<P: HeadPort, D: JournalDevice + Drop>(
     port: &mut P,
     daemon: &mut HeadDaemon<D>,
+    now: &mut u64,
     buffer: &mut [u8],
 ) -> Result<(), Stop>
     // An honest port is had only over a device of which it is known what it keeps, and what a head end does that is as this one may be done.
@@ -63,15 +66,16 @@ fn step_with<P: HeadPort, D: JournalDevice + Drop>(
     ensures honesty { P.honest port.new ≡ P.honest port.old }
     ensures law { (done : List Act) → P.legal port.old done → P.legal port.new done }
 {
-    let patience = send_due(port, daemon)?;
-    receive(port, daemon, patience, buffer)?;
-    tell_saved(port, daemon)
+    let patience = send_due(port, daemon, *now)?;
+    receive(port, daemon, patience, now, buffer)?;
+    tell_saved(port, daemon, now)
 }
 
-/// Sends what is due, of so many rows at most. It returns whether a datagram may be waited for then.
+/// Sends what is due at this time, of so many rows at most. It returns whether a datagram may be waited for then.
 fn send_due<P: HeadPort, D: JournalDevice + Drop>(
     port: &mut P,
     daemon: &mut HeadDaemon<D>,
+    now: u64,
 ) -> Result<Patience, Stop>
     // An honest port is had only over a device of which it is known what it keeps, and what a head end does that is as this one may be done.
     requires begins { IsTrue (P.honest port.old) → Begins D.honest D.contents D.may_leave daemon.old (P.legal port.old) (P.acts port.old) }
@@ -83,7 +87,6 @@ fn send_due<P: HeadPort, D: JournalDevice + Drop>(
     ensures law { (done : List Act) → P.legal port.old done → P.legal port.new done }
 {
     for _ in 0..MAX_TICKS {
-        let now = port.now();
         match daemon.due(now)? {
             Some(due) => send_all(port, due.to, &due.datagrams),
             None => return Ok(Patience::Waits),
@@ -106,11 +109,12 @@ fn send_all<P: HeadPort>(port: &mut P, to: SocketAddr, datagrams: &[Vec<u8>])
     }
 }
 
-/// Receives a datagram, if one comes in time, and hears it.
+/// Receives a datagram, if one comes in time, and hears it. The time is that of the receive then.
 fn receive<P: HeadPort, D: JournalDevice + Drop>(
     port: &mut P,
     daemon: &mut HeadDaemon<D>,
     patience: Patience,
+    now: &mut u64,
     buffer: &mut [u8],
 ) -> Result<(), Stop>
     // An honest port is had only over a device of which it is known what it keeps, and what a head end does that is as this one may be done.
@@ -123,17 +127,20 @@ fn receive<P: HeadPort, D: JournalDevice + Drop>(
     ensures law { (done : List Act) → P.legal port.old done → P.legal port.new done }
 {
     let Some(arrival) = port.receive(patience, buffer)? else {
+        *now = port.now();
         return Ok(());
     };
-    let now = port.now();
-    daemon.heard(now, arrival.from, &buffer[..arrival.count])?;
+    *now = port.now();
+    daemon.heard(*now, arrival.from, &buffer[..arrival.count])?;
     Ok(())
 }
 
-/// Puts the rows that ended on the device, where it is time, and reports them then.
+/// Puts the rows that ended on the device, where this is the time for it, and reports them then. That takes its time, so the clock is read
+/// again.
 fn tell_saved<P: HeadPort, D: JournalDevice + Drop>(
     port: &mut P,
     daemon: &mut HeadDaemon<D>,
+    now: &mut u64,
 ) -> Result<(), Stop>
     // An honest port is had only over a device of which it is known what it keeps, and what a head end does that is as this one may be done.
     requires begins { IsTrue (P.honest port.old) → Begins D.honest D.contents D.may_leave daemon.old (P.legal port.old) (P.acts port.old) }
@@ -144,11 +151,12 @@ fn tell_saved<P: HeadPort, D: JournalDevice + Drop>(
     ensures honesty { P.honest port.new ≡ P.honest port.old }
     ensures law { (done : List Act) → P.legal port.old done → P.legal port.new done }
 {
-    if !daemon.is_save_due(port.now()) {
+    if !daemon.is_save_due(*now) {
         return Ok(());
     }
     let saved = daemon.saved()?;
     tell_all(port, &saved);
+    *now = port.now();
     Ok(())
 }
 
@@ -190,13 +198,14 @@ pub fn serve_head<R: Wait, P: HeadPort, D: JournalDevice + Drop, W: HeadWatch>(
     ensures stays { OnOk result (stays ≡ false) }
     ensures honesty { P.honest port.new ≡ P.honest port.old }
 {
+    let mut now = port.now();
     let mut buffer = [0u8; MAX_RECEIVED];
     for _ in rt.forever() {
         if daemon.is_over() && !stays {
             return Ok(());
         }
-        step_with(port, daemon, &mut buffer)?;
-        watch.round(port.now(), daemon.counts(), port.faults());
+        step_with(port, daemon, &mut now, &mut buffer)?;
+        watch.round(now, daemon.counts(), port.faults());
     }
     unreachable!()
 }

@@ -1,7 +1,7 @@
 //! How long an answer is waited for. All times are in microseconds.
 
 ghost use Rattle.std.specs.Prelude.{◌≡◌, ◌↔◌, IsTrue};
-ghost use Rattle.fw_rollout.specs.Timing.{HasRoom, doubled, longer, wait_after};
+ghost use Rattle.fw_rollout.specs.Timing.{HasRoom, lengthened, longer, wait_after};
 
 /// The longest wait, a minute.
 pub const LONGEST_WAIT: u64 = 60_000_000;
@@ -31,11 +31,12 @@ pub(crate) fn wait_after(resend: u64, trip: u64) -> u64
     trip.saturating_mul(4).max(resend).min(LONGEST_WAIT)
 }
 
-/// How long an answer is waited for after a silence of this time.
-pub(crate) fn doubled(wait: u64) -> u64
-    ensures { result ≡ doubled wait }
+/// How long an answer is waited for after a silence of this time: a quarter longer. Where a third of the answers is lost, some meter among
+/// many is silent eight times in a row, and twice as long each time would be two minutes then.
+pub(crate) fn lengthened(wait: u64) -> u64
+    ensures { result ≡ lengthened wait }
 {
-    wait.saturating_mul(2).min(LONGEST_WAIT)
+    wait.saturating_add(wait / 4).min(LONGEST_WAIT)
 }
 
 /// The pause after one of this time, where the meter isn't ready still.

@@ -30,8 +30,8 @@ meters at most, with serial numbers from SERIAL on. A campaign that the book has
 and those meters, is gone on with. With --cancel the live rows of that campaign are cancelled first.
 
 A row is asked when nothing of it is outstanding, or after four times its last round trip, which is
---resend at first and at least; twice as long after each time in which nothing at all came from its
-meter, up to a minute. No more than --flight datagrams are out at once, or those of one row.
+--resend at first and at least; a quarter longer after each time in which nothing at all came from
+its meter, up to a minute. No more than --flight datagrams are out at once, or those of one row.
 
 Standard output gets these lines, each at once, of which one that can't be written is lost, except for
 the first:

@@ -3,6 +3,7 @@ use Rattle.fw_head.specs.Head.{Head, HeadHears, IsHead}
 use Rattle.fw_kept.specs.Head.{Holds, head_of}
 use Rattle.fw_ledger.specs.declared.record.Ending.TheVariants as ends
 use Rattle.fw_rollout.specs.declared.ended.Ended.{Ended}
+use Rattle.fw_rollout.specs.Early.{IsAnswerOf}
 use Rattle.fw_rollout.specs.Leading.{ended_by, heard_of}
 use Rattle.fw_rollout.proofs.Daemons.{ended_on, is_listed, moved_live, moved_on, nothing_on, stranger_on}
 use Rattle.fw_rollout.proofs.Rounds.{at_err}
@@ -21,6 +22,14 @@ returns-in_err-reserve-clause-listed g c = λ leader led.
 pub returns-in_err-hear-clause-listed : goal.returns-in_err-hear-clause-listed
 returns-in_err-hear-clause-listed g c = λ leader led.
     at_err c.from_residual-in_err-hear.result (
+      c.in-Some.meter,
+      is_listed g.D.JournalDevice.honest g.D.JournalDevice.contents g.D.JournalDevice.may_leave c.args.self.now leader c.in-Some.place (record { meter = c.in-Some.meter; address = c.args.from }) led
+          (c.in-Some.ensures.found led.schedule),
+    )
+
+pub returns-in_err-answer-in-Moved-clause-listed : goal.returns-in_err-answer-in-Moved-clause-listed
+returns-in_err-answer-in-Moved-clause-listed g c = λ leader led.
+    at_err c.from_residual-in_err-answer-in-Moved.result (
       c.in-Some.meter,
       is_listed g.D.JournalDevice.honest g.D.JournalDevice.contents g.D.JournalDevice.may_leave c.args.self.now leader c.in-Some.place (record { meter = c.in-Some.meter; address = c.args.from }) led
           (c.in-Some.ensures.found led.schedule),
@@ -97,3 +106,15 @@ returns-in_ok-end-in-Failed-clause-hears g c = λ leader led.
     (subst (λ (h : Head). IsHead h) c.head.ensures c.view-view.ensures.live) one (ap ended_by c.in-Failed.is)
     (c.in_ok-end-in-Failed.ensures.ended ∙ ap (λ (xs : List Ended). xs ++ one ∷ []) c.reserve.ensures.items) (c.end-in-Failed.ensures.schedule led.schedule) c.end-in-Failed.ensures.meters
     (ap heard_of c.in-Failed.is)
+
+-- ---- when the meter is asked again
+
+pub returns-in_ok-answered-in-Moved-clause-takes : goal.returns-in_ok-answered-in-Moved-clause-takes
+returns-in_ok-answered-in-Moved-clause-takes g c = λ leader led moved. record {
+  place = c.in-Some.place;
+  meter = c.in-Some.meter;
+  there = c.in-Some.ensures.found led.schedule;
+  answer = c.in_ok-answer-in-Moved.answer;
+  leaves = subst (λ (m : ℕ). IsAnswerOf (head_of c.hear.new.self) m c.args.datagram.now c.in_ok-answer-in-Moved.answer) (search rules) c.in_ok-answer-in-Moved.ensures;
+  goes_on = c.in_ok-answered-in-Moved.ensures.answered;
+}
