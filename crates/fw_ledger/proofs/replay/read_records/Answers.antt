@@ -1,4 +1,4 @@
-use Rattle.std.proofs.Common.{rules, Err, ◌≡◌, ⊎_elim, ℕ, List, [], ◌∷◌, ◌++◌, length, refl, sym, ap, subst, ◌∙◌, arith, append_assoc, length-append}
+use Rattle.std.proofs.Common.{rules, Err, ◌≡◌, ⊎_elim, ℕ, List, [], ◌∷◌, ◌++◌, ◌-◌, length, refl, sym, ap, subst, ◌∙◌, arith, append_assoc, length-append}
 use Rattle.std.proofs.lemmas.List.{append-nil}
 use Rattle.fw_book.specs.Changes.{empty_book}
 use Rattle.fw_book.specs.declared.error.BookError.{BookError}
@@ -38,6 +38,26 @@ returns-in-Err-clause-only c = λ book is.
       nothing = c.in-Err.ensures.refused bad.0;
     } in
     absurd (failed_none c.args.head (records_of c.args.records.now) (length i.front) bytes book fails is)) c.replay_error.ensures
+
+pub returns-in-Err-clause-bad : goal.returns-in-Err-clause-bad
+returns-in-Err-clause-bad c = λ index is.
+    let i = c.loop-bytes.invariant in
+    let bytes = c.as_slice.result.now in
+    let same : bytes ≡ c.in-Some.bytes.now.items = search rules in
+    let next = first_of c.loop-bytes.rest.now c.in-Some.others.now c.in-Some.bytes.now bytes c.in-Some.ensures.cases.0 same in
+    ⊎_elim (λ out. let memory = out.1 in cc)
+    (λ bad.
+    let told = bad.1 in
+    let at : index ≡ length c.args.records.now - length c.loop-bytes.rest.now = cc in
+    (bytes, record {
+      front = i.front;
+      rest = records_of c.in-Some.others.now;
+      split = i.split ∙ ap (λ (l : List (List ℕ)). i.front ++ l) next;
+      index_is = omega (arith, at, i.count);
+      book = c.loop-bytes.book;
+      is_book = i.is_book;
+      nothing = c.in-Err.ensures.refused bad.0;
+    })) c.replay_error.ensures
 
 pub returns-clause-only : goal.returns-clause-only
 returns-clause-only c = λ book is.
