@@ -44,6 +44,11 @@ fn socket_cause(one_is_bound: bool) -> Cause
     }
 }
 
+/// The file of a capture, as what a fault is about.
+#[derive(Clone, Copy, Debug, Error)]
+#[error("--capture {0}")]
+pub(crate) struct CapturePlace<'a>(pub(crate) &'a str);
+
 /// The address and the files that a meter is started with.
 #[derive(Clone, Copy, Debug)]
 pub(crate) struct MeterPlaces<'a> {

@@ -10,14 +10,14 @@ mod cause;
 mod options;
 mod streams;
 
-use cause::{BookPlaces, MeterPlaces};
+use cause::{BookPlaces, CapturePlace, MeterPlaces};
 use clap::error::ErrorKind;
 use fw_cli::{
     Ended, MeterFault, run_answer, run_answer_stored, run_head, run_live, run_meter, run_name,
     run_rehearse, run_replay, run_status, run_trace,
 };
 use fw_faults::Fault;
-use options::{Invocation, TraceOptions};
+use options::{CaptureOption, Invocation, TraceOptions};
 use std::alloc::Global;
 use std::fmt::Display;
 use std::fs::File;
@@ -43,6 +43,8 @@ const WRONG_COMMAND_LINE: u8 = 2;
 enum Ending<'a> {
     /// A fault of the command.
     Fault(Fault),
+    /// A fault of the capture in this file.
+    Capture(&'a str),
     /// A fault of a meter with this address and these files, or of one of several.
     Meter(MeterFault, MeterPlaces<'a>),
     /// A fault of a head end with this address and these files, or of the book that is read.
@@ -92,15 +94,32 @@ fn run<
             run_answer_stored(rt, alloc, reader, writer, &options)
         }
         Invocation::Name(options) => run_name(alloc, reader, writer, &options),
-        Invocation::Replay(options) => match run_replay(alloc, reader, writer, terminal, &options) {
-            Ok(Ended::Refused) => return Err(Ending::Refused),
-            Ok(Ended::Whole) => Ok(()),
-            Err(fault) => Err(fault),
-        },
-        Invocation::Rehearse(options) => run_rehearse(
-            rt, alloc, reader, writer, terminal, &options,
-        ),
-        Invocation::Live(options) => run_live(rt, alloc, reader, writer, terminal, &options),
+        Invocation::Replay(options, to) => {
+            let mut capture = created(rt, to)?;
+            return match run_replay(alloc, reader, writer, &mut capture, terminal, &options) {
+                Ok(Ended::Refused) => Err(Ending::Refused),
+                Ok(Ended::Whole) => Ok(()),
+                Err(fault) => Err(ending_of(fault, to)),
+            };
+        }
+        Invocation::Rehearse(options, to) => {
+            let mut capture = created(rt, to)?;
+            return run_rehearse(
+                rt,
+                alloc,
+                reader,
+                writer,
+                &mut capture,
+                terminal,
+                &options,
+            ).map_err(|fault| ending_of(fault, to));
+        }
+        Invocation::Live(options, to) => {
+            let mut capture = created(rt, to)?;
+            return run_live(rt, alloc, reader, writer, &mut capture, terminal, &options).map_err(
+                |fault| ending_of(fault, to),
+            );
+        }
         Invocation::Trace(options) => trace(rt, alloc, reader, writer, &options),
         Invocation::Meter(options) => {
             let places = MeterPlaces::of(&options);
@@ -125,6 +144,28 @@ fn run<
     match done {
         Ok(()) => Ok(()),
         Err(fault) => Err(Ending::Fault(fault)),
+    }
+}
+
+/// The file of the capture of a run, where one is asked for. It is made, or emptied.
+fn created<'a, F: Files<File = File>>(
+    rt: &F,
+    to: CaptureOption<'a>,
+) -> Result<Option<File>, Ending<'a>> {
+    let Some(path) = to.path else {
+        return Ok(None);
+    };
+    match File::create(rt, path) {
+        Ok(file) => Ok(Some(file)),
+        Err(_) => Err(Ending::Capture(path)),
+    }
+}
+
+/// What a run with such a capture ends with.
+fn ending_of<'a>(fault: Fault, to: CaptureOption<'a>) -> Ending<'a> {
+    match to.path {
+        Some(path) if fault == Fault::CaptureFault => Ending::Capture(path),
+        _ => Ending::Fault(fault),
     }
 }
 
@@ -162,6 +203,7 @@ fn report(rt: &(impl Print + Eprint + Net), ending: Ending<'_>) -> ExitCode
 {
     match ending {
         Ending::Fault(fault) => fail(rt, fault),
+        Ending::Capture(path) => fail_at(rt, Fault::CaptureFault, Some(CapturePlace(path))),
         Ending::Meter(ended, places) => { fail_at(rt, ended.fault, cause::place_of(ended, places)) }
         Ending::Book(fault, places) => fail_at(rt, fault, cause::book_place_of(fault, places)),
         Ending::Refused => ExitCode::from(FAULT),

@@ -25,13 +25,20 @@ pub(crate) enum Invocation<'a> {
     Answer(AnswerOptions<'a>),
     StoredAnswer(StoredOptions<'a>),
     Name(NameOptions),
-    Replay(ReplayOptions<'a>),
-    Rehearse(RehearseOptions<'a>),
-    Live(LiveOptions),
+    Replay(ReplayOptions<'a>, CaptureOption<'a>),
+    Rehearse(RehearseOptions<'a>, CaptureOption<'a>),
+    Live(LiveOptions, CaptureOption<'a>),
     Meter(MeterOptions<'a>),
     Head(HeadOptions<'a>),
     Status(StatusOptions<'a>),
     Trace(TraceOptions<'a>),
+}
+
+/// Where the capture of a run goes.
+#[derive(Clone, Copy, Debug)]
+pub(crate) struct CaptureOption<'a> {
+    /// The path of its file, where one is asked for.
+    pub(crate) path: Option<&'a str>,
 }
 
 /// Why the values of options that the parser let pass give no command.
@@ -114,9 +121,9 @@ fn invoked<'a>(name: &str, given: &ArgMatches<'a>) -> Option<Invocation<'a>> {
         "name" => name::invoked(given),
         "status" => status::invoked(given),
         "trace" => Some(Invocation::Trace(trace::options(given))),
-        "replay" => Some(Invocation::Replay(replay::options(given)?)),
-        "rehearse" => Some(Invocation::Rehearse(rehearse::options(given)?)),
-        "live" => Some(Invocation::Live(live::options(given)?)),
+        "replay" => Some(Invocation::Replay(replay::options(given)?, capture_of(given))),
+        "rehearse" => Some(Invocation::Rehearse(rehearse::options(given)?, capture_of(given))),
+        "live" => Some(Invocation::Live(live::options(given)?, capture_of(given))),
         _ => None,
     }
 }
@@ -154,6 +161,20 @@ fn trace_flag<'a>(alloc: Global) -> Arg<'a> {
         .long("trace")
         .action(ArgAction::SetTrue)
         .help("Tells each datagram that was sent before the report, in a line")
+}
+
+/// The option that asks for a capture.
+fn capture_file<'a>(alloc: Global) -> Arg<'a> {
+    option(alloc, "capture", "FILE").help(
+        "The file that gets the capture of what was sent, made or replaced",
+    )
+}
+
+/// Where the capture of a run goes.
+fn capture_of<'a>(given: &ArgMatches<'a>) -> CaptureOption<'a> {
+    CaptureOption {
+        path: given.get_str("capture"),
+    }
 }
 
 /// The address that the value of an option is.

@@ -4,5 +4,6 @@ pub mod Honest
 pub mod NewStores
 pub mod OneAnswer
 pub mod Rehearsed
+pub mod Replayed
 pub mod Turns
 pub mod HeadLeading

@@ -13,21 +13,31 @@ use Rattle.fw_air.specs.Events.{Receipt}
 use Rattle.fw_workers.specs.Refusals.{IsBarred}
 use Rattle.fw_workers.specs.Deals.{AreWorkers}
 use Rattle.fw_cli.specs.Rehearsing.{IsBarredIn, ReadsScript, TellsOfWorkers, TellsRehearsal, TracesWorkers, WritesRehearsal}
-use Rattle.fw_cli.specs.Replaying.{MakesNone, MayWantFor, ReadsOne}
+use Rattle.fw_cli.specs.Capturing.{CapturesIf}
+use Rattle.fw_cli.specs.Replaying.{MakesNone, MakesOne, MayWantFor, ReadsOne}
 use Rattle.fw_report.specs.Report.{report_of, board_line}
 
--- a script was read, and the text of its rehearsal was written
-pub writes : (trace : Bool) (rounds workers : ℕ) (before after first last : Option (List ℕ)) (setup : Setup) (events : List Given) (text : List ℕ)
-    → ReadsScript before after setup events → TellsRehearsal trace rounds workers setup events text → Appends first last text
-    → WritesRehearsal trace rounds workers before after first last
-writes trace rounds workers before after first last setup events text read tells written =
+-- a script was read, and the capture and the text of its rehearsal were written
+pub writes : (trace : Bool) (rounds workers : ℕ) (before after : Option (List ℕ)) (uncaptured captured : Option (Option (List ℕ)))
+    (first last : Option (List ℕ)) (setup : Setup) (events : List Given) (world : State) (text : List ℕ)
+    → ReadsScript before after setup events → TellsRehearsal trace rounds workers setup events world text
+    → CapturesIf uncaptured captured world.sent → Appends first last text
+    → WritesRehearsal trace rounds workers before after uncaptured captured first last
+writes trace rounds workers before after uncaptured captured first last setup events world text read tells captures written =
     record {
       input = read.input;
+      world = world;
       text = text;
       read = read.read;
       rehearses = record { setup = setup; events = events; spelled = read.spelled; tells = tells };
+      captures = captures;
       written = written;
     }
+
+-- the script that was read makes a world
+pub made_one : (before after : Option (List ℕ)) (setup : Setup) (events : List Given) → ReadsScript before after setup events → IsSetup setup
+    → ReadsOne before after MakesOne
+made_one before after setup events read made = (read.input, read.read, (setup, events, read.spelled, made))
 
 -- a trace, and after it the report and the line of the board
 pub with_trace : (setup : Setup) (given : List Event) (world : State) (board : ℕ) (receipts : List (List Receipt)) (first traced reported text : List ℕ)
@@ -52,11 +62,10 @@ without_trace setup given world board receipts first reported text none report l
 -- the text of workers who are accounted for is that of a rehearsal
 pub tells : (trace : Bool) (rounds workers : ℕ) (setup : Setup) (events : List Given) (world : State) (board : ℕ) (receipts : List (List Receipt)) (text : List ℕ)
     → IsAccounted setup (events_of events) rounds workers world board receipts → TellsOfWorkers trace setup (events_of events) world board receipts text
-    → TellsRehearsal trace rounds workers setup events text
+    → TellsRehearsal trace rounds workers setup events world text
 tells trace rounds workers setup events world board receipts text accounted told =
     let found = told accounted.events accounted.numbered_are in
     record {
-      world = world;
       board = board;
       receipts = receipts;
       accounted = accounted;

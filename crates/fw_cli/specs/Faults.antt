@@ -1,7 +1,7 @@
 -- Public vocabulary: which faults a command has, and which come before it reads or writes anything.
 use Rattle.std.specs.Prelude.{◌≡◌, ◌≢◌, ◌≤◌, ℕ, Option, None, Some, IfSome}
 use Rattle.fw_faults.specs.declared.fault.Fault.{Fault}
-use Rattle.fw_faults.specs.declared.fault.Fault.TheVariants.{BadFates, BadSetup, StoreFault, Device, BadFile, BadHeader, BadImage, Input, TooMuchInput, BadLine, EmptyImage, ImageTooLong, BadCapture, Event, Mismatch, ThreadRefused, Socket, Output, OutOfMemory}
+use Rattle.fw_faults.specs.declared.fault.Fault.TheVariants.{BadFates, BadSetup, StoreFault, Device, BadFile, BadHeader, BadImage, Input, TooMuchInput, BadLine, EmptyImage, ImageTooLong, CaptureFault, BadCapture, Event, Mismatch, ThreadRefused, Socket, Output, OutOfMemory}
 use Rattle.fw_host.specs.Meters.{IsOfSetup}
 use Rattle.fw_cli.specs.declared.meter.MeterFault.{MeterFault}
 
@@ -67,6 +67,7 @@ IsOfReplay Input = Unit {0}
 IsOfReplay TooMuchInput = Unit {0}
 IsOfReplay (BadLine number) = Unit {0}
 IsOfReplay BadSetup = Unit {0}
+IsOfReplay CaptureFault = Unit {0}
 IsOfReplay Output = Unit {0}
 IsOfReplay OutOfMemory = Unit {0}
 IsOfReplay fault = ⊥

@@ -5,6 +5,7 @@ pub mod Session
 pub mod Answering
 pub mod Naming
 pub mod Tracing
+pub mod Capturing
 pub mod Replaying
 pub mod Rehearsing
 pub mod Heads

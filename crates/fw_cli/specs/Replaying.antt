@@ -21,6 +21,7 @@ use Rattle.fw_cli.specs.declared.replay.Ended.{Ended}
 use Rattle.fw_cli.specs.declared.replay.Ended.TheVariants.{Whole, Refused}
 use Rattle.fw_cli.specs.declared.replay.ReplayOptions.{ReplayOptions}
 use Rattle.fw_cli.specs.declared.replay.Rounds.{Rounds}
+use Rattle.fw_cli.specs.Capturing.{CapturesIf}
 use Rattle.fw_script.specs.Fates.{SpellsFates, SpellsSome}
 use Rattle.fw_faults.specs.Reading.{Gives, ReadsAll, max_input}
 use Rattle.fw_report.specs.Forms.{report_in}
@@ -39,11 +40,12 @@ abbrev pub TellsWorld : Style → Setup → List Event → State → Option Refu
 TellsWorld style setup events world refusal text =
     (trace : List ℕ) × TellsTraceIf style.trace setup events world.sent trace × (text ≡ trace ++ report_in style.report setup world refusal)
 
--- what is written of the world there, where the run isn't out of memory
-abbrev pub TellsRefusal : Style → Setup → List Given → RunError → List ℕ → Type 0
-TellsRefusal style setup events (stopped.Setup error) text = ⊥
-TellsRefusal style setup events (stopped.Event at world cause) text =
-    (cause ≢ OutOfMemory) × TellsWorld style setup (events_of (take at events)) world (Some (record { at = at; cause = cause })) text
+-- this is the world there, and what is written of it, where the run isn't out of memory
+abbrev pub TellsRefusal : Style → Setup → List Given → RunError → State → List ℕ → Type 0
+TellsRefusal style setup events (stopped.Setup error) world text = ⊥
+TellsRefusal style setup events (stopped.Event at there cause) world text =
+    (cause ≢ OutOfMemory) × (world ≡ there)
+    × TellsWorld style setup (events_of (take at events)) world (Some (record { at = at; cause = cause })) text
 
 -- memory was wanted
 abbrev pub WantsMemory : RunError → Type 0
@@ -71,34 +73,33 @@ abbrev pub GoesOn : Option FatedRounds → Setup → List Event → List Event �
 GoesOn None setup given events = events ≡ given
 GoesOn (Some asked) setup given events = HasRounds asked setup given events ⊎ ((events ≡ given) × HasNoRound setup given)
 
--- From a new world no event is refused, and the text tells of the world after the last one.
-pub record RunsWhole (style : Style) (setup : Setup) (events : List Given) (text : List ℕ) : Type 0 where
-  pub world : State
+-- From a new world no event is refused, and the text tells of the world after the last one, which this is.
+pub record RunsWhole (style : Style) (setup : Setup) (events : List Given) (world : State) (text : List ℕ) : Type 0 where
   pub run : StateRun (opening_state setup) (events_of events) world
   pub told : TellsWorld style setup (events_of events) world None text
 
--- An event is refused, and the text tells so.
-pub record IsRefusedIn (style : Style) (setup : Setup) (events : List Given) (text : List ℕ) : Type 0 where
+-- An event is refused in this world, and the text tells so.
+pub record IsRefusedIn (style : Style) (setup : Setup) (events : List Given) (world : State) (text : List ℕ) : Type 0 where
   pub error : RunError
   pub stopped : IsStopped setup events error
-  pub told : TellsRefusal style setup events error text
+  pub told : TellsRefusal style setup events error world text
 
-abbrev pub EndsSo : Ended → Style → Setup → List Given → List ℕ → Type 0
-EndsSo Whole style setup events text = RunsWhole style setup events text
-EndsSo Refused style setup events text = IsRefusedIn style setup events text
+abbrev pub EndsSo : Ended → Style → Setup → List Given → State → List ℕ → Type 0
+EndsSo Whole style setup events world text = RunsWhole style setup events world text
+EndsSo Refused style setup events world text = IsRefusedIn style setup events world text
 
--- a world is made, and the run ends so
-abbrev pub TellsRun : Style → Setup → List Given → Ended → List ℕ → Type 0
-TellsRun style setup events ended text = IsSetup setup × EndsSo ended style setup events text
+-- a world is made, and the run ends so, in this world
+abbrev pub TellsRun : Style → Setup → List Given → Ended → State → List ℕ → Type 0
+TellsRun style setup events ended world text = IsSetup setup × EndsSo ended style setup events world text
 
--- The input is a script, and its run ends so.
-pub record Tells (rounds : Option FatedRounds) (style : Style) (input : List ℕ) (ended : Ended) (text : List ℕ) : Type 0 where
+-- The input is a script, and its run ends so, in this world.
+pub record Tells (rounds : Option FatedRounds) (style : Style) (input : List ℕ) (ended : Ended) (world : State) (text : List ℕ) : Type 0 where
   pub setup : Setup
   pub given : List Given
   pub events : List Given
   pub spelled : SpellsScript input (script_of setup given)
   pub goes_on : GoesOn rounds setup (events_of given) (events_of events)
-  pub run : TellsRun style setup events ended text
+  pub run : TellsRun style setup events ended world text
 
 -- the input is a script of which no world can be made
 abbrev pub MakesNone : List ℕ → Type 0
@@ -124,12 +125,15 @@ abbrev pub HasGoodFates : Option Rounds → Type 0
 HasGoodFates None = ⊥
 HasGoodFates (Some rounds) = SpellsSome rounds.fates.now
 
--- All input was read, and the report of it was written.
-pub record WritesRun (rounds : Option FatedRounds) (style : Style) (ended : Ended) (before after first last : Option (List ℕ)) : Type 0 where
+-- All input was read, and the report of it was written, and the capture of what was sent, where it is asked for.
+pub record WritesRun (rounds : Option FatedRounds) (style : Style) (ended : Ended) (before after : Option (List ℕ))
+    (uncaptured captured : Option (Option (List ℕ))) (first last : Option (List ℕ)) : Type 0 where
   pub input : List ℕ
+  pub world : State
   pub text : List ℕ
   pub read : ReadsAll before after input
-  pub tells : Tells rounds style input ended text
+  pub tells : Tells rounds style input ended world text
+  pub captures : CapturesIf uncaptured captured world.sent
   pub written : Appends first last text
 
 -- the rounds that are asked for, with the fates that their letters spell
@@ -138,9 +142,11 @@ AreAsked None rounds = rounds ≡ None
 AreAsked (Some asked) rounds =
     (fates : List Fate) × SpellsFates asked.fates.now fates × (rounds ≡ Some (record { rounds = asked.rounds; fates = fates }))
 
-abbrev pub Replays : ReplayOptions → Ended → Option (List ℕ) → Option (List ℕ) → Option (List ℕ) → Option (List ℕ) → Type 0
-Replays options ended before after first last =
-    (rounds : Option FatedRounds) × AreAsked options.rounds rounds × WritesRun rounds options.style ended before after first last
+abbrev pub Replays : ReplayOptions → Ended → Option (List ℕ) → Option (List ℕ) → Option (Option (List ℕ)) → Option (Option (List ℕ))
+    → Option (List ℕ) → Option (List ℕ) → Type 0
+Replays options ended before after uncaptured captured first last =
+    (rounds : Option FatedRounds) × AreAsked options.rounds rounds
+    × WritesRun rounds options.style ended before after uncaptured captured first last
 
 -- all input was read, and P holds of it
 abbrev pub ReadsOne : Option (List ℕ) → Option (List ℕ) → (List ℕ → Type 0) → Type 0

@@ -2,6 +2,7 @@
 #![tactic(auto)]
 
 mod answer;
+mod capture;
 mod fleet;
 mod head;
 pub mod laws;

@@ -1,18 +1,20 @@
 //! The command `live`: several workers make rounds over UDP sockets after the events of a script, and the report of the world is written.
 
-ghost use Rattle.std.specs.Prelude.{◌≡◌, ◌≢◌, ℕ, IfOk, IfErr, OnOk, string_bytes};
+ghost use Rattle.std.specs.Prelude.{◌≡◌, ◌≢◌, ℕ, IfOk, IfErr, IsTrue, OnOk, is_some, string_bytes};
 ghost use Rattle.std.specs.Io.KnownBytes.{Keeps};
+ghost use Rattle.std.specs.Option.{option_map};
 ghost use Rattle.fw_world.specs.Setup.{IsSetup};
 ghost use Rattle.fw_workers.specs.Refusals.{IsBarred};
 ghost use Rattle.fw_cli.specs.Faults.{IsOfLive, IsOfLiveWorkers};
 ghost use Rattle.fw_faults.specs.Reading.{ReadsUntil};
 ghost use Rattle.fw_script.specs.Script.{IsBadLine};
-ghost use Rattle.fw_cli.specs.Replaying.{MakesNone, MayWantFor, ReadsOne};
+ghost use Rattle.fw_cli.specs.Replaying.{MakesNone, MakesOne, MayWantFor, ReadsOne};
 ghost use Rattle.fw_workers.specs.Deals.{AreWorkers};
 ghost use Rattle.fw_cli.specs.Rehearsing.{IsBarredIn, RunsLive, TellsRehearsal};
 
+use crate::capture::write_capture;
 use crate::progress::RowsGate;
-use crate::workers::{script_from, tell_report};
+use crate::workers::{Told, script_from, tell_report};
 use fw_faults::{Fault, write_text};
 use fw_script::Script;
 use fw_workers::live;
@@ -38,6 +40,8 @@ pub struct LiveOptions {
 /// the report of the world at the end, and the line `board N` with the number of rows that the workers counted as done, and before them
 /// the trace, where it is asked for, as of `run_rehearse`. The terminal, if there is one, shows how many rows are done meanwhile, as there.
 ///
+/// Where there is a writer of captures, it gets first the capture of all datagrams that were sent, in the order of the trace.
+///
 /// All input is read before anything is written, and what is written is flushed.
 ///
 /// # Errors
@@ -45,17 +49,18 @@ pub struct LiveOptions {
 /// As of `run_rehearse`, except `BadFates`, and besides
 ///
 /// - `Socket`: no socket could be bound.
-pub fn run_live<T: Threads + Wait + Net + Sync, R: Read, W: Write, E: Eprint + Sync>(
+pub fn run_live<T: Threads + Wait + Net + Sync, R: Read, W: Write, C: Write, E: Eprint + Sync>(
     rt: &T,
     alloc: Global,
     reader: &mut R,
     writer: &mut W,
+    capture: &mut Option<C>,
     terminal: Option<&E>,
     options: &LiveOptions,
 ) -> Result<(), Fault>
-    // The report of the world at the end of an accounted run, and its board.
+    // The report of the world at the end of an accounted run, and its board, and the capture of the run.
     ensures ok { OnOk result (RunsLive options.now (R.remaining reader.old) (R.remaining reader.new)
-        (W.contents writer.old) (W.contents writer.new)) }
+        (option_map C.contents capture.old) (option_map C.contents capture.new) (W.contents writer.old) (W.contents writer.new)) }
 
     ensures workers { OnOk result (AreWorkers options.now.workers) }
 
@@ -69,15 +74,21 @@ pub fn run_live<T: Threads + Wait + Net + Sync, R: Read, W: Write, E: Eprint + S
     // What memory may be wanted for, and never for a bad line or a setup of which no world can be made.
     ensures memory { result ≡ Err Fault.OutOfMemory → MayWantFor (R.remaining reader.old) (R.remaining reader.new) }
 
+    // A capture fails only where one is asked for, and once a script was run.
+    ensures capture_fault { result ≡ Err Fault.CaptureFault
+        → IsTrue (is_some capture.old) × ReadsOne (R.remaining reader.old) (R.remaining reader.new) MakesOne }
+
     // How far the reading was.
     ensures reading { IfErr result (λ f. ReadsUntil f (R.remaining reader.old) (R.remaining reader.new)) }
 
     ensures only { IfErr result IsOfLive }
     ensures silent { IfErr result (λ f. f ≢ Fault.Output → Keeps (W.contents writer.old) (W.contents writer.new)) }
+    ensures uncaptured { IfErr result (λ f. f ≢ Fault.Output → f ≢ Fault.CaptureFault → capture.new ≡ capture.old) }
 {
     let Script { setup, events } = script_from(alloc, reader)?;
-    let text = tell_live(rt, alloc, &setup, &events, terminal, options)?;
-    write_text(writer, text.as_str())
+    let told = tell_live(rt, alloc, &setup, &events, terminal, options)?;
+    write_capture(alloc, capture, told.world.sent())?;
+    write_text(writer, told.text.as_str())
 }
 
 /// What is written of a live rollout: its trace, where it is asked for, the report of its world, and the line of its board.
@@ -88,8 +99,10 @@ fn tell_live<T: Threads + Wait + Net + Sync, E: Eprint + Sync>(
     events: &[Event],
     terminal: Option<&E>,
     options: &LiveOptions,
-) -> Result<String, Fault>
-    ensures ok { IfOk result (λ text. TellsRehearsal options.now.trace options.now.rounds options.now.workers setup.now events.now (string_bytes text)) }
+) -> Result<Told, Fault>
+    ensures ok { IfOk result (λ told. TellsRehearsal options.now.trace options.now.rounds options.now.workers setup.now events.now
+        told.world (string_bytes told.text)) }
+    ensures made { OnOk result (IsSetup setup.now) }
     ensures workers { OnOk result (AreWorkers options.now.workers) }
     ensures bad_setup { result ≡ Err Fault.BadSetup → AreWorkers options.now.workers → ¬ IsSetup setup.now }
     ensures event { result ≡ Err Fault.Event → (number : ℕ) × IsBarred setup.now events.now number }
@@ -103,5 +116,9 @@ fn tell_live<T: Threads + Wait + Net + Sync, E: Eprint + Sync>(
     } = *options;
     let gate = RowsGate::new(terminal, events);
     let report = live(rt, alloc, setup, events, rounds, workers, &gate)?;
-    Ok(tell_report(alloc, setup, events, &report, trace)?)
+    let text = tell_report(alloc, setup, events, &report, trace)?;
+    Ok(Told {
+        text,
+        world: report.world,
+    })
 }

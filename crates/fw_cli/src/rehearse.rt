@@ -1,7 +1,8 @@
 //! The command `rehearse`: several workers make rounds after the events of a script, and the report of the world is written.
 
-ghost use Rattle.std.specs.Prelude.{◌≡◌, ◌≢◌, ◌<◌, ◌≤◌, ◌⊎◌, ◌++◌, ℕ, List, length, IfOk, IfErr, OnOk, string_bytes};
+ghost use Rattle.std.specs.Prelude.{◌≡◌, ◌≢◌, ◌<◌, ◌≤◌, ◌⊎◌, ◌++◌, ℕ, List, length, IfOk, IfErr, IsTrue, OnOk, is_some, string_bytes};
 ghost use Rattle.std.specs.Io.KnownBytes.{Keeps};
+ghost use Rattle.std.specs.Option.{option_map};
 ghost use Rattle.fw_world.specs.Setup.{IsSetup};
 ghost use Rattle.fw_air.specs.Fates.{IsFates};
 ghost use Rattle.fw_workers.specs.Refusals.{IsBarred};
@@ -10,13 +11,14 @@ ghost use Rattle.fw_cli.specs.Faults.{IsOfRehearse, IsOfWorkers};
 ghost use Rattle.fw_faults.specs.Reading.{ReadsUntil, max_input};
 ghost use Rattle.fw_report.specs.Report.{report_of, board_line};
 ghost use Rattle.fw_script.specs.Script.{IsBadLine};
-ghost use Rattle.fw_cli.specs.Replaying.{MakesNone, MayTakeMemory, MayWantFor, ReadsOne};
+ghost use Rattle.fw_cli.specs.Replaying.{MakesNone, MakesOne, MayTakeMemory, MayWantFor, ReadsOne};
 ghost use Rattle.fw_workers.specs.Deals.{AreWorkers};
 ghost use Rattle.fw_cli.specs.Rehearsing.{IsBarredIn, MayWantToRehearse, Rehearses, RehearsesScript, TellsRehearsal, WritesRehearsal};
 
+use crate::capture::write_capture;
 use crate::progress::RowsGate;
 use crate::replay::{Air, Rounds, air_of};
-use crate::workers::{script_from, tell_report};
+use crate::workers::{Told, script_from, tell_report};
 use fw_air::Fates;
 use fw_faults::{Fault, write_text};
 use fw_script::Script;
@@ -45,6 +47,8 @@ pub struct RehearseOptions<'a> {
 /// The terminal, if there is one, shows meanwhile how many rows are done, in a line that is cleared before anything is written to the
 /// writer. Where it fails, nothing else changes.
 ///
+/// Where there is a writer of captures, it gets first the capture of all datagrams that were sent, in the order of the trace.
+///
 /// All input is read before anything is written, and what is written is flushed.
 ///
 /// # Errors
@@ -56,20 +60,22 @@ pub struct RehearseOptions<'a> {
 /// - `Event`: an event of the script was refused, for another cause than memory.
 /// - `Mismatch`: what the workers left isn't what their record says.
 /// - `ThreadRefused`: a thread could not be started.
-/// - `Output`: the writer failed. What it holds then is open.
+/// - `CaptureFault`: the writer of captures failed. What it holds then is unspecified, and nothing else was written.
+/// - `Output`: the writer failed. What it holds then is open, and the capture was written.
 /// - `OutOfMemory`: nothing was written, and no more than 64 MiB were read. It comes for good fates, for input while it is read, for a line
 ///   with which the script goes on, and for a script of which a world can be made.
-pub fn run_rehearse<T: Threads + Wait + Sync, R: Read, W: Write, E: Eprint + Sync>(
+pub fn run_rehearse<T: Threads + Wait + Sync, R: Read, W: Write, C: Write, E: Eprint + Sync>(
     rt: &T,
     alloc: Global,
     reader: &mut R,
     writer: &mut W,
+    capture: &mut Option<C>,
     terminal: Option<&E>,
     options: &RehearseOptions<'_>,
 ) -> Result<(), Fault>
-    // The report of the world at the end of an accounted run, and its board.
+    // The report of the world at the end of an accounted run, and its board, and the capture of the run.
     ensures ok { OnOk result (Rehearses options.now (R.remaining reader.old) (R.remaining reader.new)
-        (W.contents writer.old) (W.contents writer.new)) }
+        (option_map C.contents capture.old) (option_map C.contents capture.new) (W.contents writer.old) (W.contents writer.new)) }
 
     ensures workers { OnOk result (AreWorkers options.now.workers) }
 
@@ -88,11 +94,16 @@ pub fn run_rehearse<T: Threads + Wait + Sync, R: Read, W: Write, E: Eprint + Syn
     // What memory may be wanted for, and never for bad fates, a bad line or a setup of which no world can be made.
     ensures memory { result ≡ Err Fault.OutOfMemory → MayWantToRehearse options.now (R.remaining reader.old) (R.remaining reader.new) }
 
+    // A capture fails only where one is asked for, and once a script was run.
+    ensures capture_fault { result ≡ Err Fault.CaptureFault
+        → IsTrue (is_some capture.old) × ReadsOne (R.remaining reader.old) (R.remaining reader.new) MakesOne }
+
     // How far the reading was.
     ensures reading { IfErr result (λ f. ReadsUntil f (R.remaining reader.old) (R.remaining reader.new)) }
 
     ensures only { IfErr result IsOfRehearse }
     ensures silent { IfErr result (λ f. f ≢ Fault.Output → Keeps (W.contents writer.old) (W.contents writer.new)) }
+    ensures uncaptured { IfErr result (λ f. f ≢ Fault.Output → f ≢ Fault.CaptureFault → capture.new ≡ capture.old) }
 {
     let air = air_of(alloc, &options.rounds)?;
     rehearse_from(
@@ -100,6 +111,7 @@ pub fn run_rehearse<T: Threads + Wait + Sync, R: Read, W: Write, E: Eprint + Syn
         alloc,
         reader,
         writer,
+        capture,
         terminal,
         &air,
         options.workers,
@@ -107,12 +119,13 @@ pub fn run_rehearse<T: Threads + Wait + Sync, R: Read, W: Write, E: Eprint + Syn
     )
 }
 
-/// Rehearses the script that the reader has, and writes the report of it.
-fn rehearse_from<T: Threads + Wait + Sync, R: Read, W: Write, E: Eprint + Sync>(
+/// Rehearses the script that the reader has, and writes the capture and the report of it.
+fn rehearse_from<T: Threads + Wait + Sync, R: Read, W: Write, C: Write, E: Eprint + Sync>(
     rt: &T,
     alloc: Global,
     reader: &mut R,
     writer: &mut W,
+    capture: &mut Option<C>,
     terminal: Option<&E>,
     air: &Air,
     workers: u32,
@@ -120,7 +133,7 @@ fn rehearse_from<T: Threads + Wait + Sync, R: Read, W: Write, E: Eprint + Sync>(
 ) -> Result<(), Fault>
     requires fates { IsFates air.now.fates.items }
     ensures ok { OnOk result (WritesRehearsal trace air.now.rounds workers (R.remaining reader.old) (R.remaining reader.new)
-        (W.contents writer.old) (W.contents writer.new)) }
+        (option_map C.contents capture.old) (option_map C.contents capture.new) (W.contents writer.old) (W.contents writer.new)) }
     ensures workers { OnOk result (AreWorkers workers) }
     ensures not_fates { result ≢ Err Fault.BadFates }
     ensures bad_line { (number : ℕ) → result ≡ Err (Fault.BadLine number)
@@ -129,13 +142,17 @@ fn rehearse_from<T: Threads + Wait + Sync, R: Read, W: Write, E: Eprint + Sync>(
         → ReadsOne (R.remaining reader.old) (R.remaining reader.new) (λ input. AreWorkers workers → MakesNone input) }
     ensures event { result ≡ Err Fault.Event → ReadsOne (R.remaining reader.old) (R.remaining reader.new) IsBarredIn }
     ensures memory { result ≡ Err Fault.OutOfMemory → MayWantFor (R.remaining reader.old) (R.remaining reader.new) }
+    ensures capture_fault { result ≡ Err Fault.CaptureFault
+        → IsTrue (is_some capture.old) × ReadsOne (R.remaining reader.old) (R.remaining reader.new) MakesOne }
     ensures reading { IfErr result (λ f. ReadsUntil f (R.remaining reader.old) (R.remaining reader.new)) }
     ensures only { IfErr result IsOfRehearse }
     ensures silent { IfErr result (λ f. f ≢ Fault.Output → Keeps (W.contents writer.old) (W.contents writer.new)) }
+    ensures uncaptured { IfErr result (λ f. f ≢ Fault.Output → f ≢ Fault.CaptureFault → capture.new ≡ capture.old) }
 {
     let Script { setup, events } = script_from(alloc, reader)?;
-    let text = tell_rehearsal(rt, alloc, &setup, &events, terminal, air, workers, trace)?;
-    write_text(writer, text.as_str())
+    let told = tell_rehearsal(rt, alloc, &setup, &events, terminal, air, workers, trace)?;
+    write_capture(alloc, capture, told.world.sent())?;
+    write_text(writer, told.text.as_str())
 }
 
 /// What is written of a rehearsal: its trace, where it is asked for, the report of its world, and the line of its board.
@@ -148,9 +165,10 @@ fn tell_rehearsal<T: Threads + Wait + Sync, E: Eprint + Sync>(
     air: &Air,
     workers: u32,
     trace: bool,
-) -> Result<String, Fault>
+) -> Result<Told, Fault>
     requires fates { IsFates air.now.fates.items }
-    ensures ok { IfOk result (λ text. TellsRehearsal trace air.now.rounds workers setup.now events.now (string_bytes text)) }
+    ensures ok { IfOk result (λ told. TellsRehearsal trace air.now.rounds workers setup.now events.now told.world (string_bytes told.text)) }
+    ensures made { OnOk result (IsSetup setup.now) }
     ensures workers { OnOk result (AreWorkers workers) }
     ensures bad_setup { result ≡ Err Fault.BadSetup → AreWorkers workers → ¬ IsSetup setup.now }
     ensures event { result ≡ Err Fault.Event → (number : ℕ) × IsBarred setup.now events.now number }
@@ -162,5 +180,9 @@ fn tell_rehearsal<T: Threads + Wait + Sync, E: Eprint + Sync>(
     };
     let gate = RowsGate::new(terminal, events);
     let report = rehearse(rt, alloc, setup, events, air.rounds, workers, &fates, &gate)?;
-    Ok(tell_report(alloc, setup, events, &report, trace)?)
+    let text = tell_report(alloc, setup, events, &report, trace)?;
+    Ok(Told {
+        text,
+        world: report.world,
+    })
 }

@@ -16,9 +16,11 @@ ghost use Rattle.std.specs.Prelude.{
   IfErr,
   OnErr,
   IfSome,
+  is_some,
   string_bytes,
 };
 ghost use Rattle.std.specs.Io.KnownBytes.{Keeps};
+ghost use Rattle.std.specs.Option.{option_map};
 ghost use Rattle.fw_world.specs.Runs.{IsStopped, events_of};
 ghost use Rattle.fw_world.specs.Setup.{IsSetup};
 ghost use Rattle.fw_air.specs.Fates.{IsFates};
@@ -34,6 +36,7 @@ ghost use Rattle.fw_cli.specs.Replaying.{
   ReadsOne,
   HasBadFates,
   MakesNone,
+  MakesOne,
   MayTakeMemory,
   MayWantFor,
   MayWantMemory,
@@ -45,6 +48,7 @@ ghost use Rattle.fw_cli.specs.Replaying.{
   WantsMemory,
 };
 
+use crate::capture::write_capture;
 use crate::progress::RoundsWatch;
 use fw_air::{Fate, Fates, schedule_watched};
 use fw_faults::{Fault, Reads, read_input, write_text};
@@ -89,11 +93,12 @@ pub(crate) struct Air {
     pub(crate) fates: Vec<Fate>,
 }
 
-/// What is written of a run.
+/// What is written of a run, and the world that it ended in.
 #[derive(Drop)]
 struct Told {
     ended: Ended,
     text: String,
+    world: World,
 }
 
 /// Runs the script that the reader has, and after its events the rounds that are asked for. The writer gets the report of the world after
@@ -104,6 +109,8 @@ struct Told {
 /// The terminal, if there is one, shows how many rounds are made and how many rows are done, in a line that is cleared before anything is
 /// written to the writer. Where it fails, nothing else changes.
 ///
+/// Where there is a writer of captures, it gets first the capture of all datagrams that were sent, also where an event is refused.
+///
 /// All input is read before anything is written, and what is written is flushed.
 ///
 /// # Errors
@@ -112,19 +119,21 @@ struct Told {
 /// - `Input` or `TooMuchInput`, whichever the reading meets first.
 /// - `BadLine`: this line can't go on with the script that the lines before it begin.
 /// - `BadSetup`: no world can be made of the setup.
-/// - `Output`: the writer failed. What it holds then is unspecified.
+/// - `CaptureFault`: the writer of captures failed. What it holds then is unspecified, and nothing else was written.
+/// - `Output`: the writer failed. What it holds then is unspecified, and the capture was written.
 /// - `OutOfMemory`: nothing was written, and no more than 64 MiB were read. It comes only for good fates, for input while it is read, for
 ///   a line with which the script goes on, and for a script of which a world can be made.
-pub fn run_replay<R: Read, W: Write, E: Eprint>(
+pub fn run_replay<R: Read, W: Write, C: Write, E: Eprint>(
     alloc: Global,
     reader: &mut R,
     writer: &mut W,
+    capture: &mut Option<C>,
     terminal: Option<&E>,
     options: &ReplayOptions<'_>,
 ) -> Result<Ended, Fault>
-    // The report of the whole run, or of the run up to the event that is refused.
+    // The report of the whole run, or of the run up to the event that is refused, and its capture.
     ensures ok { IfOk result (λ ended. Replays options.now ended (R.remaining reader.old) (R.remaining reader.new)
-        (W.contents writer.old) (W.contents writer.new)) }
+        (option_map C.contents capture.old) (option_map C.contents capture.new) (W.contents writer.old) (W.contents writer.new)) }
 
     // Bad fates are refused before anything is read, and no others are.
     ensures bad_fates { result ≡ Err Fault.BadFates → HasBadFates options.now.rounds }
@@ -139,17 +148,30 @@ pub fn run_replay<R: Read, W: Write, E: Eprint>(
     // What memory may be taken for: never for bad fates, a bad line or a setup of which no world can be made.
     ensures memory { result ≡ Err Fault.OutOfMemory → MayWantMemory options.now (R.remaining reader.old) (R.remaining reader.new) }
 
+    // A capture fails only where one is asked for, and once a script was run.
+    ensures capture_fault { result ≡ Err Fault.CaptureFault
+        → IsTrue (is_some capture.old) × ReadsOne (R.remaining reader.old) (R.remaining reader.new) MakesOne }
+
     // How far the reading was.
     ensures reading { IfErr result (λ f. ReadsUntil f (R.remaining reader.old) (R.remaining reader.new)) }
 
     ensures only { IfErr result IsOfReplay }
     ensures silent { IfErr result (λ f. f ≢ Fault.Output → Keeps (W.contents writer.old) (W.contents writer.new)) }
+    ensures uncaptured { IfErr result (λ f. f ≢ Fault.Output → f ≢ Fault.CaptureFault → capture.new ≡ capture.old) }
 {
     let air = match &options.rounds {
         Some(rounds) => Some(air_of(alloc, rounds)?),
         None => None,
     };
-    replay_from(alloc, reader, writer, terminal, &air, options.style)
+    replay_from(
+        alloc,
+        reader,
+        writer,
+        capture,
+        terminal,
+        &air,
+        options.style,
+    )
 }
 
 /// The rounds with their fates.
@@ -166,30 +188,35 @@ pub(crate) fn air_of(alloc: Global, rounds: &Rounds<'_>) -> Result<Air, Fault>
     })
 }
 
-/// Runs the script that the reader has, and writes the report of it.
-fn replay_from<R: Read, W: Write, E: Eprint>(
+/// Runs the script that the reader has, and writes the capture and the report of it.
+fn replay_from<R: Read, W: Write, C: Write, E: Eprint>(
     alloc: Global,
     reader: &mut R,
     writer: &mut W,
+    capture: &mut Option<C>,
     terminal: Option<&E>,
     air: &Option<Air>,
     style: Style,
 ) -> Result<Ended, Fault>
     requires fates { IfSome air.now (λ air. IsFates air.fates.items) }
     ensures ok { IfOk result (λ ended. WritesRun (rounds_in air.now) style ended (R.remaining reader.old) (R.remaining reader.new)
-        (W.contents writer.old) (W.contents writer.new)) }
+        (option_map C.contents capture.old) (option_map C.contents capture.new) (W.contents writer.old) (W.contents writer.new)) }
     ensures not_fates { result ≢ Err Fault.BadFates }
     ensures bad_line { (number : ℕ) → result ≡ Err (Fault.BadLine number)
         → ReadsOne (R.remaining reader.old) (R.remaining reader.new) (λ input. IsBadLine input number) }
     ensures bad_setup { result ≡ Err Fault.BadSetup → ReadsOne (R.remaining reader.old) (R.remaining reader.new) MakesNone }
     ensures memory { result ≡ Err Fault.OutOfMemory → MayWantFor (R.remaining reader.old) (R.remaining reader.new) }
+    ensures capture_fault { result ≡ Err Fault.CaptureFault
+        → IsTrue (is_some capture.old) × ReadsOne (R.remaining reader.old) (R.remaining reader.new) MakesOne }
     ensures reading { IfErr result (λ f. ReadsUntil f (R.remaining reader.old) (R.remaining reader.new)) }
     ensures only { IfErr result IsOfReplay }
     ensures silent { IfErr result (λ f. f ≢ Fault.Output → Keeps (W.contents writer.old) (W.contents writer.new)) }
+    ensures uncaptured { IfErr result (λ f. f ≢ Fault.Output → f ≢ Fault.CaptureFault → capture.new ≡ capture.old) }
 {
     let mut reads = Reads::none();
     let input = read_input(alloc, reader, &mut reads)?;
     let told = replay(alloc, &input, terminal, air, style)?;
+    write_capture(alloc, capture, told.world.sent())?;
     write_text(writer, told.text.as_str())?;
     Ok(told.ended)
 }
@@ -204,7 +231,7 @@ fn replay<E: Eprint>(
 ) -> Result<Told, Fault>
     requires size { length input.now ≤ max_input }
     requires fates { IfSome air.now (λ air. IsFates air.fates.items) }
-    ensures ok { IfOk result (λ told. Tells (rounds_in air.now) style input.now told.ended (string_bytes told.text)) }
+    ensures ok { IfOk result (λ told. Tells (rounds_in air.now) style input.now told.ended told.world (string_bytes told.text)) }
     ensures bad_line { (number : ℕ) → result ≡ Err (Fault.BadLine number) → IsBadLine input.now number }
     ensures bad_setup { result ≡ Err Fault.BadSetup → MakesNone input.now }
     ensures memory { result ≡ Err Fault.OutOfMemory → MayTakeMemory input.now }
@@ -258,7 +285,7 @@ fn wants_memory(error: &RunError) -> bool
 
 /// What is written of a run over these events.
 fn tell_run(alloc: Global, setup: &Setup, events: &[Event], style: Style) -> Result<Told, Fault>
-    ensures ok { IfOk result (λ told. TellsRun style setup.now events.now told.ended (string_bytes told.text)) }
+    ensures ok { IfOk result (λ told. TellsRun style setup.now events.now told.ended told.world (string_bytes told.text)) }
     ensures bad_setup { result ≡ Err Fault.BadSetup → ¬ IsSetup setup.now }
     ensures memory { result ≡ Err Fault.OutOfMemory → IsSetup setup.now }
     ensures only { IfErr result (λ f. (f ≡ Fault.OutOfMemory) ⊎ (f ≡ Fault.BadSetup)) }
@@ -267,6 +294,7 @@ fn tell_run(alloc: Global, setup: &Setup, events: &[Event], style: Style) -> Res
         Ok(world) => Ok(Told {
             ended: Ended::Whole,
             text: tell_world(alloc, setup, events, &world, style, None)?,
+            world,
         }),
         Err(error) => tell_refusal(alloc, setup, events, error, style),
     }
@@ -302,7 +330,8 @@ fn tell_refusal(
 ) -> Result<Told, Fault>
     requires stopped { IsStopped setup.now events.now error }
     requires made { IsOfWorld setup.now error }
-    ensures ok { IfOk result (λ told. (told.ended ≡ Ended.Refused) × TellsRefusal style setup.now events.now error (string_bytes told.text)) }
+    ensures ok { IfOk result (λ told. (told.ended ≡ Ended.Refused)
+        × TellsRefusal style setup.now events.now error told.world (string_bytes told.text)) }
     ensures bad_setup { result ≡ Err Fault.BadSetup → error ≡ RunError.Setup SetupError.BadSetup }
     ensures memory { result ≡ Err Fault.OutOfMemory → error ≢ RunError.Setup SetupError.BadSetup }
     ensures only { IfErr result (λ f. (f ≡ Fault.OutOfMemory) ⊎ (f ≡ Fault.BadSetup)) }
@@ -319,6 +348,7 @@ fn tell_refusal(
             Ok(Told {
                 ended: Ended::Refused,
                 text: tell_world(alloc, setup, &events[..at], &world, style, refusal)?,
+                world,
             })
         }
     }

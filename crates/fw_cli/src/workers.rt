@@ -12,9 +12,16 @@ use fw_accounts::{Report, recorded_events};
 use fw_faults::{Fault, Reads, read_input};
 use fw_report::{append_board, append_report, append_trace_of};
 use fw_script::{Script, read_script};
-use fw_world::{Event, Setup};
+use fw_world::{Event, Setup, World};
 use std::alloc::{AllocError, Global};
 use std::io::Read;
+
+/// What is written of workers, and the world that they led to.
+#[derive(Drop)]
+pub(crate) struct Told {
+    pub(crate) text: String,
+    pub(crate) world: World,
+}
 
 /// The script that all of the reader's input spells.
 pub(crate) fn script_from<R: Read>(alloc: Global, reader: &mut R) -> Result<Script, Fault>

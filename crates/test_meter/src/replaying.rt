@@ -12,11 +12,19 @@ use test_support::{Case, each, expect_at};
 /// Rounds: how many, and the fates of their datagrams.
 pub(crate) type Given = Option<(u32, &'static str)>;
 
+/// A head end asks a meter.
+const TICK: &str = "tick 7 1\n";
+
 /// No rounds.
 pub(crate) const ALONE: Given = None;
 
 /// No terminal.
 const NO_TERMINAL: Option<&'static Stderr> = None;
+
+/// No capture.
+fn no_capture() -> Option<Vec<u8>> {
+    None
+}
 
 /// The report in lines, without a trace.
 const LINES: Style = Style {
@@ -42,7 +50,14 @@ pub(crate) fn replayed<R: Read>(
     options: &ReplayOptions<'_>,
 ) -> Result<String, Fail> {
     let mut written = Vec::new(alloc);
-    let result = run_replay(alloc, reader, &mut written, NO_TERMINAL, options);
+    let result = run_replay(
+        alloc,
+        reader,
+        &mut written,
+        &mut no_capture(),
+        NO_TERMINAL,
+        options,
+    );
     let mut text = String::from_utf8(written)?;
     match result {
         Ok(Ended::Whole) => {}
@@ -743,6 +758,7 @@ impl Case for Room {
             alloc,
             &mut script.as_bytes(),
             &mut writer,
+            &mut no_capture(),
             NO_TERMINAL,
             &options(ALONE),
         );
@@ -759,4 +775,80 @@ const ROOMS: &[(Room, &str)] = &[
 #[test]
 fn writers_that_fail(rt: HostRuntime) -> Result<(), Fail> {
     each(rt.alloc(), ROOMS)
+}
+
+/// A writer of captures with room for N bytes, where an event is refused.
+struct CaptureRoom(usize);
+
+impl Case for CaptureRoom {
+    fn told(&self, alloc: Global) -> Result<String, Fail> {
+        let script = joined(alloc, &[SETUP, OPEN, TICK, OPEN])?;
+        let mut written = Vec::new(alloc);
+        let result = run_replay(
+            alloc,
+            &mut script.as_bytes(),
+            &mut written,
+            &mut Some(FullWriter { room: self.0 }),
+            NO_TERMINAL,
+            &options(ALONE),
+        );
+        let is_silent = written.is_empty();
+        Ok(format!(in alloc; "{result:?} {is_silent}")?)
+    }
+}
+
+const CAPTURE_ROOMS: &[(CaptureRoom, &str)] = &[
+    (CaptureRoom(0), "Err(CaptureFault) true"),
+    (CaptureRoom(108), "Err(CaptureFault) true"),
+    (CaptureRoom(109), "Ok(Refused) false"),
+];
+
+#[test]
+fn captures_that_fail(rt: HostRuntime) -> Result<(), Fail> {
+    each(rt.alloc(), CAPTURE_ROOMS)
+}
+
+/// Events after the opening of a campaign.
+struct CapturedRun(&'static str);
+
+impl Case for CapturedRun {
+    fn told(&self, alloc: Global) -> Result<String, Fail> {
+        let script = joined(alloc, &[SETUP, OPEN, self.0])?;
+        let mut written = Vec::new(alloc);
+        let mut capture = Some(Vec::new(alloc));
+        let result = run_replay(
+            alloc,
+            &mut script.as_bytes(),
+            &mut written,
+            &mut capture,
+            NO_TERMINAL,
+            &options(ALONE),
+        );
+        let Some(bytes) = capture else {
+            return Err(Fail::from("no capture"));
+        };
+        let digits = hex::encode(alloc, bytes.as_slice())?;
+        Ok(format!(in alloc; "{result:?} {digits}")?)
+    }
+}
+
+/// Nothing is sent; and the block size is asked for, also where an event is refused then. The captures are those that scapy makes.
+const CAPTURED_RUNS: &[(CapturedRun, &str)] = &[
+    (
+        CapturedRun(""),
+        "Ok(Whole) 4d3cb2a1020004000000000000000000ffff000065000000",
+    ),
+    (
+        CapturedRun(TICK),
+        "Ok(Whole) 4d3cb2a1020004000000000000000000ffff0000650000000000000000000000450000004500000060000000001d114020010db800000001000000000000000720010db80000000200000000000000010fdb0fdb001df23f000100010001000dc001c1001200002c0000ff0200",
+    ),
+    (
+        CapturedRun("tick 7 1\ndeliver 9\n"),
+        "Ok(Refused) 4d3cb2a1020004000000000000000000ffff0000650000000000000000000000450000004500000060000000001d114020010db800000001000000000000000720010db80000000200000000000000010fdb0fdb001df23f000100010001000dc001c1001200002c0000ff0200",
+    ),
+];
+
+#[test]
+fn captures(rt: HostRuntime) -> Result<(), Fail> {
+    each(rt.alloc(), CAPTURED_RUNS)
 }

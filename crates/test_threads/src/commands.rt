@@ -1,7 +1,7 @@
 //! The command `rehearse`, over readers and writers in memory. Scripts and reports are worked out by hand from the head end's and the
 //! meter's documents.
 
-use crate::terminals::NO_TERMINAL;
+use crate::terminals::{NO_TERMINAL, no_capture};
 use fw_cli::{RehearseOptions, Rounds, run_rehearse};
 use fw_faults::Fault;
 use std::alloc::Global;
@@ -37,6 +37,7 @@ impl Rehearsal {
             alloc,
             reader,
             writer,
+            &mut no_capture(),
             NO_TERMINAL,
             &RehearseOptions {
                 rounds,

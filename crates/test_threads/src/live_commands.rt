@@ -1,7 +1,7 @@
 //! The command `live`, over a reader and a writer in memory and sockets on this machine.
 
 use crate::commands::{FOUR, NO_HEADS, TWICE};
-use crate::terminals::NO_TERMINAL;
+use crate::terminals::{NO_TERMINAL, no_capture};
 use fw_cli::{LiveOptions, run_live};
 use std::alloc::Global;
 use std::net::Net;
@@ -29,7 +29,15 @@ impl Live {
         };
         let mut written = Vec::new(alloc);
         let reader = &mut script.as_bytes();
-        let result = run_live(rt, alloc, reader, &mut written, NO_TERMINAL, &options);
+        let result = run_live(
+            rt,
+            alloc,
+            reader,
+            &mut written,
+            &mut no_capture(),
+            NO_TERMINAL,
+            &options,
+        );
         let mut text = String::from_utf8(written)?;
         if let Err(fault) = result {
             text.push_str(format!(in alloc; "{fault}")?.as_str())?;

@@ -26,6 +26,11 @@ pub(crate) struct Terminal {
 /// No terminal.
 pub(crate) const NO_TERMINAL: Option<&'static Terminal> = None;
 
+/// No capture.
+pub(crate) fn no_capture() -> Option<Vec<u8>> {
+    None
+}
+
 impl Terminal {
     /// A terminal that is to get these texts.
     fn of(alloc: Global, wanted: &'static [&'static str]) -> Terminal {
@@ -95,7 +100,15 @@ fn terminal_of_a_rehearsal(rt: HostRuntime) -> Result<(), Fail> {
     };
     let mut written = Vec::new(alloc);
     let reader = &mut FOUR.as_bytes();
-    let result = run_rehearse(&rt, alloc, reader, &mut written, Some(&terminal), &options);
+    let result = run_rehearse(
+        &rt,
+        alloc,
+        reader,
+        &mut written,
+        &mut no_capture(),
+        Some(&terminal),
+        &options,
+    );
     assert!(rt; result.is_ok());
     assert_eq!(rt; String::from_utf8(written)?.as_str(), FOUR_DONE);
     assert_eq!(rt; terminal.told(), (6, 0));
@@ -114,7 +127,15 @@ fn terminal_of_a_live_rollout(rt: HostRuntime) -> Result<(), Fail> {
     };
     let mut written = Vec::new(alloc);
     let reader = &mut FOUR.as_bytes();
-    let result = run_live(&rt, alloc, reader, &mut written, Some(&terminal), &options);
+    let result = run_live(
+        &rt,
+        alloc,
+        reader,
+        &mut written,
+        &mut no_capture(),
+        Some(&terminal),
+        &options,
+    );
     assert!(rt; result.is_ok());
     assert!(rt; String::from_utf8(written)?.ends_with("\nboard 0\n"));
     assert_eq!(rt; terminal.told(), (2, 0));
@@ -153,7 +174,14 @@ fn terminal_of_a_replay(rt: HostRuntime) -> Result<(), Fail> {
     };
     let mut written = Vec::new(alloc);
     let reader = &mut FOUR.as_bytes();
-    let result = run_replay(alloc, reader, &mut written, Some(&terminal), &options);
+    let result = run_replay(
+        alloc,
+        reader,
+        &mut written,
+        &mut no_capture(),
+        Some(&terminal),
+        &options,
+    );
     assert!(rt; result.is_ok());
     assert_eq!(rt;
         FOUR_DONE.strip_prefix(String::from_utf8(written)?.as_str()),

@@ -1,6 +1,6 @@
 //! The command `live`, and its help.
 
-use super::{STATUSES, option, trace_flag};
+use super::{STATUSES, capture_file, option, trace_flag};
 use clap::{ArgMatches, Command};
 use fw_cli::LiveOptions;
 use std::alloc::{AllocError, Global};
@@ -19,6 +19,8 @@ come. What the network loses is lost, and what nobody sent is dropped. Links go 
 Standard output gets the report of that end, as of `replay`, and the line `board N`, the number of rows
 that are done. All input is read before anything is written. With --trace a line for each datagram that
 was sent stands before the report, as in `rehearse`.
+
+With --capture FILE the capture of these datagrams is in FILE at the end, as `replay --help` says it.
 
 Where standard error is a terminal, it shows how many rows are done until then, as in `rehearse`.
 
@@ -51,9 +53,11 @@ Exit status:
                       may have fewer open files (`ulimit -n`); a second line says which
        Mismatch       what the workers left isn't what their record says: an error of the program
        ThreadRefused  a thread can't be started, as where this user has too many of them
+       CaptureFault   FILE of --capture can't be made or written, which a second line names;
+                      `replay --help` has the causes
        Output         standard output can't be written, as on a full disk
        OutOfMemory    the system gives no more memory
-     Except at Output, nothing was written.
+     Except at Output, nothing was written to standard output.
   2  a wrong command line: standard error says what is wrong";
 
 /// The command.
@@ -77,7 +81,8 @@ pub(super) fn command<'a>(alloc: Global) -> Result<Command<'a>, AllocError> {
                 .help("How many workers make them, 1 to 8")
                 .value_parser(clap::value_parser!(u32).range(1..=8)),
         )?
-        .arg(trace_flag(alloc))
+        .arg(trace_flag(alloc))?
+        .arg(capture_file(alloc))
 }
 
 /// The options that were given. The parser lets none of them lack.

@@ -1,6 +1,6 @@
 //! The command `rehearse`, and its help.
 
-use super::{STATUSES, option, trace_flag};
+use super::{STATUSES, capture_file, option, trace_flag};
 use clap::{ArgMatches, Command};
 use fw_cli::{RehearseOptions, Rounds};
 use std::alloc::{AllocError, Global};
@@ -20,6 +20,8 @@ Standard output gets the report of that end, as of `replay`, and the line `board
 that are done. All input is read before anything is written. With --trace a line for each datagram that
 was sent stands before the report, as `replay --help` says it, in the order in which the workers'
 datagrams were recorded.
+
+With --capture FILE the capture of these datagrams is in FILE at the end, as `replay --help` says it.
 
 Where standard error is a terminal, it shows how many rows are done, as `12 of 256 rows done`, until the
 report is written.
@@ -53,9 +55,11 @@ Exit status:
        Event          an event of the script was refused; `replay` prints which, and why
        Mismatch       what the workers left isn't what their record says: an error of the program
        ThreadRefused  a thread can't be started, as where this user has too many of them
+       CaptureFault   FILE of --capture can't be made or written, which a second line names;
+                      `replay --help` has the causes
        Output         standard output can't be written, as on a full disk
        OutOfMemory    the system gives no more memory
-     Except at Output, nothing was written.
+     Except at Output, nothing was written to standard output.
   2  a wrong command line: standard error says what is wrong";
 
 /// The command.
@@ -82,7 +86,8 @@ pub(super) fn command<'a>(alloc: Global) -> Result<Command<'a>, AllocError> {
                 "The fates of datagrams: d it comes, x it is lost, t it comes twice, l it comes a round late",
             ),
         )?
-        .arg(trace_flag(alloc))
+        .arg(trace_flag(alloc))?
+        .arg(capture_file(alloc))
 }
 
 /// The options that were given. The parser lets none of them lack: the fates have a default.

@@ -1,6 +1,6 @@
 //! The command `replay`, and its help.
 
-use super::{STATUSES, option, trace_flag};
+use super::{STATUSES, capture_file, option, trace_flag};
 use clap::{ArgMatches, Command};
 use fw_cli::{ReplayOptions, Rounds};
 use fw_report::{ReportForm, Style};
@@ -96,6 +96,11 @@ line stands what the network did, unless the datagram came once and in order: `l
   2 meter 1 -> head 7  get 2  lost
   25 meter 1 -> head 7  action 250: release 5 is below the running 6
 
+With --capture FILE the capture of all datagrams that were sent is in FILE at the end, as pcap: the form
+that Wireshark and `trace` read. A head end H has the address 2001:db8:0:1::H there, and a meter M
+2001:db8:0:2::M, with the number in hexadecimal, and a datagram has its number in milliseconds as its
+time. FILE is made, or emptied if it is there, before anything is read.
+
 Example, a campaign for one meter:
 
   printf '%s\\n' 'head 7 width 4' 'meter 1 block 2 capacity 64 factory 78' 'open 7 1 616263 1' |
@@ -124,6 +129,9 @@ Exit status:
        BadSetup      there is no head end or no meter, there are more than 16 head ends or 256 meters,
                      two have the same number, or a width, block, capacity or factory image is out of
                      range; nothing was written
+       CaptureFault  FILE of --capture can't be made or written, which a second line names: there is
+                     no such folder, FILE is a folder, this user may not write it, or the disk is
+                     full; nothing was written to standard output
        Output        standard output can't be written, as on a full disk
        OutOfMemory   the system gives no more memory; nothing was written
   2  a wrong command line: standard error says what is wrong";
@@ -147,6 +155,7 @@ pub(super) fn command<'a>(alloc: Global) -> Result<Command<'a>, AllocError> {
             ),
         )?
         .arg(trace_flag(alloc))?
+        .arg(capture_file(alloc))?
         .arg(
             option(alloc, "report", "FORM")
                 .default_value(LINES)

@@ -19,7 +19,7 @@ returns-clause-ok g c =
       events = c.in_ok-events.events.items;
       spelled = c.in_ok-setup.ensures.ok;
       goes_on = c.in_ok-events.ensures.ok;
-      run = subst (λ (all : List Given). TellsRun c.args.style script.setup all told.ended (string_bytes told.text)) c.deref.ensures.value tells;
+      run = subst (λ (all : List Given). TellsRun c.args.style script.setup all told.ended told.world (string_bytes told.text)) c.deref.ensures.value tells;
     })
     c.tell_run.ensures.ok
 
