@@ -2,14 +2,14 @@
 use Rattle.std.specs.Prelude.{ℕ, Option, None, Some}
 use Rattle.std.specs.Option.{option_map}
 use Rattle.fw_faults.specs.declared.fault.Fault.{Fault}
-use Rattle.fw_faults.specs.declared.fault.Fault.TheVariants.{StoreFault, Device, BadFile, BadHeader, BadImage, FactoryFault, Socket, NoBook, BookExists, Locked, BookFault, BadBook, BadRecord, ForeignHead, Full, ListFault, BadList, NoAddress, ImageFault, BadSetup, OpenRefused, CancelRefused}
+use Rattle.fw_faults.specs.declared.fault.Fault.TheVariants.{StoreFault, Device, BadFile, BadHeader, BadImage, FactoryFault, Socket, NoBook, BookExists, Locked, BookFault, BadBook, BadRecord, ForeignHead, Full, ListFault, BadList, NoAddress, ImageFault, BadSetup, OpenRefused, CancelRefused, CaptureFault, ForeignCapture}
 use Rattle.fw_cli.specs.declared.meter.MeterFault.{MeterFault}
 use Rattle.dlmsfw.specs.declared.cause.BookPlaces.{BookPlaces}
 use Rattle.dlmsfw.specs.declared.cause.BookPlace.{BookPlace}
-use Rattle.dlmsfw.specs.declared.cause.BookPlace.TheVariants.{Book, HeadListen, Meters, Image, Open, Cancel}
+use Rattle.dlmsfw.specs.declared.cause.BookPlace.TheVariants.{Book, HeadListen, Meters, Image, Open, Cancel, HeadCapture}
 use Rattle.dlmsfw.specs.declared.cause.MeterPlaces.{MeterPlaces}
 use Rattle.dlmsfw.specs.declared.cause.Place.{Place}
-use Rattle.dlmsfw.specs.declared.cause.Place.TheVariants.{Listen, Store, StoreOf, FactoryFile}
+use Rattle.dlmsfw.specs.declared.cause.Place.TheVariants.{Listen, Store, StoreOf, FactoryFile, Capture}
 
 -- the file of a meter, or of the one of this number
 abbrev pub store_of : Option ℕ → MeterPlaces → Place
@@ -24,6 +24,8 @@ place_in BadFile number places = Some (store_of number places)
 place_in BadHeader number places = Some (store_of number places)
 place_in BadImage number places = Some (store_of number places)
 place_in FactoryFault number places = option_map FactoryFile places.factory_file
+place_in CaptureFault number places = option_map Capture places.capture
+place_in ForeignCapture number places = option_map Capture places.capture
 place_in fault number places = None
 
 abbrev pub place_of : MeterFault → MeterPlaces → Option Place
@@ -46,4 +48,6 @@ book_place_of ImageFault places = option_map Image places.image
 book_place_of BadSetup places = option_map Open places.opened
 book_place_of (OpenRefused refusal) places = option_map Open places.opened
 book_place_of (CancelRefused refusal) places = option_map Cancel places.cancel
+book_place_of CaptureFault places = option_map HeadCapture places.capture
+book_place_of ForeignCapture places = option_map HeadCapture places.capture
 book_place_of fault places = None

@@ -55,6 +55,7 @@ pub(crate) struct MeterPlaces<'a> {
     listen: SocketAddr,
     store: &'a str,
     factory_file: Option<&'a str>,
+    capture: Option<&'a str>,
 }
 
 impl<'a> MeterPlaces<'a> {
@@ -63,11 +64,13 @@ impl<'a> MeterPlaces<'a> {
         ensures listen { result.listen ≡ options.now.listen }
         ensures store { result.store ≡ options.now.store }
         ensures factory_file { result.factory_file ≡ options.now.fresh.factory_file }
+        ensures capture { result.capture ≡ options.now.capture }
     {
         MeterPlaces {
             listen: options.listen,
             store: options.store,
             factory_file: options.fresh.factory_file,
+            capture: options.capture,
         }
     }
 }
@@ -87,6 +90,9 @@ pub(crate) enum Place<'a> {
     /// The file of its factory image.
     #[error("--factory-file {0}")]
     FactoryFile(&'a str),
+    /// The file of its capture.
+    #[error("--capture {0}")]
+    Capture(&'a str),
 }
 
 /// What the fault of a meter is about, if it is one of these.
@@ -104,6 +110,7 @@ pub(crate) fn place_of<'a>(ended: MeterFault, places: MeterPlaces<'a>) -> Option
             Some(file) => Some(Place::FactoryFile(file)),
             None => None,
         },
+        Fault::CaptureFault | Fault::ForeignCapture => Some(Place::Capture(places.capture?)),
         _ => None,
     }
 }
@@ -117,6 +124,7 @@ pub(crate) struct BookPlaces<'a> {
     image: Option<&'a str>,
     opened: Option<u32>,
     cancel: Option<u32>,
+    capture: Option<&'a str>,
 }
 
 impl<'a> BookPlaces<'a> {
@@ -133,6 +141,7 @@ impl<'a> BookPlaces<'a> {
             image,
             opened,
             cancel: options.cancel,
+            capture: options.capture,
         }
     }
 
@@ -145,6 +154,7 @@ impl<'a> BookPlaces<'a> {
             image: None,
             opened: None,
             cancel: None,
+            capture: None,
         }
     }
 }
@@ -170,6 +180,9 @@ pub(crate) enum BookPlace<'a> {
     /// The campaign that is cancelled.
     #[error("--cancel {0}")]
     Cancel(u32),
+    /// The file of the capture.
+    #[error("--capture {0}")]
+    HeadCapture(&'a str),
 }
 
 /// What a fault of a book is about, if it is one of these.
@@ -192,6 +205,9 @@ pub(crate) fn book_place_of<'a>(fault: Fault, places: BookPlaces<'a>) -> Option<
         Fault::ImageFault => Some(BookPlace::Image(places.image?)),
         Fault::BadSetup | Fault::OpenRefused(_) => Some(BookPlace::Open(places.opened?)),
         Fault::CancelRefused(_) => Some(BookPlace::Cancel(places.cancel?)),
+        Fault::CaptureFault | Fault::ForeignCapture => Some(BookPlace::HeadCapture(
+            places.capture?,
+        )),
         _ => None,
     }
 }

@@ -170,6 +170,13 @@ fn capture_file<'a>(alloc: Global) -> Arg<'a> {
     )
 }
 
+/// The option that asks for a capture of a daemon.
+fn daemon_capture<'a>(alloc: Global) -> Arg<'a> {
+    option(alloc, "capture", "CAPTURE").help(
+        "The file that what is received and sent is appended to as a capture",
+    )
+}
+
 /// Where the capture of a run goes.
 fn capture_of<'a>(given: &ArgMatches<'a>) -> CaptureOption<'a> {
     CaptureOption {

@@ -8,6 +8,7 @@ use Rattle.fw_faults.specs.declared.fault.Fault.{Fault}
 use Rattle.fw_faults.specs.declared.fault.Fault.TheVariants as fault
 use Rattle.fw_cli.specs.declared.head.HeadOptions.{HeadOptions}
 use Rattle.fw_faults.specs.Faults.{fault_of_stop}
+use Rattle.fw_host.specs.Captures.{IsOfCapture}
 use Rattle.fw_host.specs.Heads.{ComesBeforeLines, IsCancelFault, IsOfBook, IsOfHead, IsOfHeadSetup, IsOfNewBook, IsOfOldBook, IsOpenFault}
 use Rattle.fw_cli.specs.Heads.{IsAskedFor, IsOfCancelling, IsOfList, IsOfOpening, IsOfOpeningSetup, IsOfStop}
 use Rattle.fw_host.specs.Openings.{PartsRefused}
@@ -64,6 +65,8 @@ book_is_asked options f is = asked_by options options.book.is_new f refl is
 
 pub setup_in_head : (f : Fault) → IsOfHeadSetup f → IsOfHead f
 setup_in_head (fault.CancelRefused refusal) is = tt
+setup_in_head fault.CaptureFault is = tt
+setup_in_head fault.ForeignCapture is = tt
 setup_in_head fault.Full is = tt
 setup_in_head fault.Output is = tt
 setup_in_head f is = is
@@ -87,12 +90,13 @@ opening options fault.Full e is = record { of_head = tt; asked = tt; later = λ 
 opening options fault.OutOfMemory e is = record { of_head = tt; asked = tt; later = λ h. h }
 opening options f e is = absurd is
 
-pub stopped : (options : HeadOptions) (f : Fault) → IsOfStop f → IsLater options f
-stopped options fault.Socket is = record { of_head = tt; asked = tt; later = λ h. h }
-stopped options fault.BookFault is = record { of_head = tt; asked = tt; later = λ h. h }
-stopped options fault.Full is = record { of_head = tt; asked = tt; later = λ h. h }
-stopped options fault.OutOfMemory is = record { of_head = tt; asked = tt; later = λ h. h }
-stopped options f is = absurd is
+pub stopped : (options : HeadOptions) (f : Fault) → (IsOfCapture f → IsTrue (is_some options.capture)) → IsOfStop f → IsLater options f
+stopped options fault.CaptureFault asked is = record { of_head = tt; asked = asked tt; later = λ h. h }
+stopped options fault.Socket asked is = record { of_head = tt; asked = tt; later = λ h. h }
+stopped options fault.BookFault asked is = record { of_head = tt; asked = tt; later = λ h. h }
+stopped options fault.Full asked is = record { of_head = tt; asked = tt; later = λ h. h }
+stopped options fault.OutOfMemory asked is = record { of_head = tt; asked = tt; later = λ h. h }
+stopped options f asked is = absurd is
 
 of_stop : (error : Stop) → IsOfStop (fault_of_stop error)
 of_stop stop.Closed = tt
@@ -167,3 +171,8 @@ passed_on {A} r P e f was same is = subst (λ (x : Result A Fault). IfErr x P) (
 pub on_err : {A : Type 0} (r : Result A Fault) (P Q : Fault → Type 0) → ((f : Fault) → P f → Q f) → IfErr r P → IfErr r Q
 on_err (Ok x) P Q follows is = tt
 on_err (Err f) P Q follows is = follows f is
+
+-- what follows of two things of each fault follows where there is one
+pub on_err_both : {A : Type 0} (r : Result A Fault) (P Q R : Fault → Type 0) → ((f : Fault) → P f → Q f → R f) → IfErr r P → IfErr r Q → IfErr r R
+on_err_both (Ok x) P Q R follows one two = tt
+on_err_both (Err f) P Q R follows one two = follows f one two

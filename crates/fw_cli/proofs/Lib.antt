@@ -7,3 +7,4 @@ pub mod Rehearsed
 pub mod Replayed
 pub mod Turns
 pub mod HeadLeading
+pub mod Captured

@@ -1,7 +1,7 @@
 -- Public vocabulary: which faults a command has, and which come before it reads or writes anything.
 use Rattle.std.specs.Prelude.{◌≡◌, ◌≢◌, ◌≤◌, ℕ, Option, None, Some, IfSome}
 use Rattle.fw_faults.specs.declared.fault.Fault.{Fault}
-use Rattle.fw_faults.specs.declared.fault.Fault.TheVariants.{BadFates, BadSetup, StoreFault, Device, BadFile, BadHeader, BadImage, Input, TooMuchInput, BadLine, EmptyImage, ImageTooLong, CaptureFault, BadCapture, Event, Mismatch, ThreadRefused, Socket, Output, OutOfMemory}
+use Rattle.fw_faults.specs.declared.fault.Fault.TheVariants.{BadFates, BadSetup, StoreFault, Device, BadFile, BadHeader, BadImage, Input, TooMuchInput, BadLine, EmptyImage, ImageTooLong, CaptureFault, ForeignCapture, BadCapture, Event, Mismatch, ThreadRefused, Socket, Output, OutOfMemory}
 use Rattle.fw_host.specs.Meters.{IsOfSetup}
 use Rattle.fw_cli.specs.declared.meter.MeterFault.{MeterFault}
 
@@ -102,12 +102,16 @@ IsOfLive fault = IsOfRehearse fault
 -- the faults of `meter`
 abbrev pub IsOfMeter : Fault → Type 0
 IsOfMeter Socket = Unit {0}
+IsOfMeter CaptureFault = Unit {0}
+IsOfMeter ForeignCapture = Unit {0}
 IsOfMeter Output = Unit {0}
 IsOfMeter fault = IsOfSetup fault
 
 -- those once the meters are set up
 abbrev pub IsOfServing : Fault → Type 0
 IsOfServing Socket = Unit {0}
+IsOfServing CaptureFault = Unit {0}
+IsOfServing ForeignCapture = Unit {0}
 IsOfServing Output = Unit {0}
 IsOfServing OutOfMemory = Unit {0}
 IsOfServing fault = ⊥

@@ -9,7 +9,7 @@ use Rattle.fw_book.specs.Contents.{Contents}
 use Rattle.fw_journal.specs.Book.{Stands}
 use Rattle.fw_kept.specs.Kept.{HasBook}
 use Rattle.fw_faults.specs.declared.fault.Fault.{Fault}
-use Rattle.fw_faults.specs.declared.fault.Fault.TheVariants.{BadList, BadSetup, BookExists, BookFault, BadBook, BadRecord, CancelRefused, ForeignHead, Full, ImageFault, ListFault, NoBook, OpenRefused, Output, OutOfMemory, Socket}
+use Rattle.fw_faults.specs.declared.fault.Fault.TheVariants.{BadList, BadSetup, BookExists, BookFault, BadBook, BadRecord, CancelRefused, CaptureFault, ForeignCapture, ForeignHead, Full, ImageFault, ListFault, NoBook, OpenRefused, Output, OutOfMemory, Socket}
 use Rattle.fw_report.specs.declared.summary.RowEntry.{RowEntry}
 use Rattle.fw_report.specs.Json.{number_data, row_data}
 use Rattle.fw_report.specs.Report.{state_word}
@@ -93,6 +93,8 @@ IsAskedFor options NoBook = options.book.is_new ≡ false
 IsAskedFor options (BadBook offset) = options.book.is_new ≡ false
 IsAskedFor options (BadRecord index) = options.book.is_new ≡ false
 IsAskedFor options ForeignHead = options.book.is_new ≡ false
+IsAskedFor options CaptureFault = IsTrue (is_some options.capture)
+IsAskedFor options ForeignCapture = IsTrue (is_some options.capture)
 IsAskedFor options fault = Unit {0}
 
 -- of the cancelling of a campaign
@@ -114,6 +116,7 @@ IsOfOpening fault = ⊥
 -- of a head end that leads
 abbrev pub IsOfStop : Fault → Type 0
 IsOfStop Socket = Unit {0}
+IsOfStop CaptureFault = Unit {0}
 IsOfStop BookFault = Unit {0}
 IsOfStop Full = Unit {0}
 IsOfStop OutOfMemory = Unit {0}

@@ -12,9 +12,11 @@ ghost use Rattle.std.specs.Prelude.{
   IfErr,
   IfOk,
   IsErr,
+  IsTrue,
   MatchOption,
   None,
   Some,
+  is_some,
 };
 ghost use Rattle.std.specs.Io.KnownBytes.{Keeps};
 ghost use Rattle.std.specs.Net.Socket.{socket_port};
@@ -22,13 +24,15 @@ ghost use Rattle.fw_store.specs.Setup.{IsSetup};
 ghost use Rattle.fw_store.specs.declared.version.HeaderVersion.TheVariants.{Two};
 ghost use Rattle.fw_cli.specs.Fleets.{IsAddressOf, port_of};
 ghost use Rattle.fw_cli.specs.Faults.{IsOfMeter, IsOfServing, NamesMeter};
+ghost use Rattle.fw_host.specs.Captures.{IsOfCapture};
 ghost use Rattle.fw_host.specs.Meters.{IsOfSetup, default_factory, listening_line};
 ghost use Rattle.fw_cli.specs.declared.fleet.Member.{Member};
 
-use crate::meter::{MeterFault, MeterOptions, Teller};
-use fw_daemon::{Closed, Dropped, MeterDaemon, Port, UdpPort, Watch, step};
+use crate::meter::{MeterFault, MeterOptions, Teller, closing_fault, opened_capture};
+use fw_daemon::{Dropped, MeterDaemon, Port, UdpPort, Watch, step};
 use fw_faults::{Fault, write_text};
-use fw_host::{listening_line, stored_meter};
+use fw_host::{CapturePort, listening_line, stored_meter};
+use fw_names::ImageName;
 use fw_store::FileStore;
 use std::alloc::{AllocError, Global};
 use std::fs::File;
@@ -48,6 +52,26 @@ struct Member {
     port: UdpPort,
     at: SocketAddr,
     daemon: MeterDaemon<FileStore>,
+}
+
+/// A port is closed. It is so since its capture couldn't be written, or since the socket failed.
+#[derive(Clone, Copy, Drop)]
+struct HasFailed(bool);
+
+impl Member {
+    /// A round of the meter.
+    fn step<C: Clock>(
+        &mut self,
+        rt: &C,
+        alloc: Global,
+        capture: Option<&File>,
+    ) -> Result<Option<ImageName>, HasFailed> {
+        let mut port = CapturePort::of_meter(rt, alloc, &mut self.port, self.at, capture);
+        match step(alloc, &mut port, &mut self.daemon) {
+            Ok(activated) if !port.has_failed() => Ok(activated),
+            _ => Err(HasFailed(port.has_failed())),
+        }
+    }
 }
 
 /// Meters, and what of their datagrams was dropped up to the last round.
@@ -71,26 +95,30 @@ pub(crate) fn serve_fleet<R: Files<File = File> + Clock + Net + Wait, W: Write>(
     ensures number { IfErr result (NamesMeter (Some count)) }
     ensures bad_setup { options.now.fresh.factory_file ≡ None → IfErr result (λ e. e.fault ≡ Fault.BadSetup
         → ¬ IsSetup Two options.now.fresh.block_size options.now.fresh.capacity default_factory) }
-    ensures silent { IfErr result (λ e. e.fault ≢ Fault.Socket → e.fault ≢ Fault.Output
+    ensures silent { IfErr result (λ e. e.fault ≢ Fault.Socket → e.fault ≢ Fault.Output → e.fault ≢ Fault.CaptureFault
         → Keeps (W.contents writer.old) (W.contents writer.new)) }
+    ensures asked { IfErr result (λ e. IsOfCapture e.fault → IsTrue (is_some options.now.capture)) }
     ensures only { IfErr result (λ e. IsOfMeter e.fault) }
 {
     let members = members_of(rt, alloc, options, count)?;
-    match serve_members(rt, alloc, writer, members) {
+    match serve_members(rt, alloc, writer, members, options.capture) {
         Ok(()) => Ok(()),
         Err(fault) => Err(MeterFault::from(fault)),
     }
 }
 
-/// Serves these meters, until the port of one is closed.
-fn serve_members<R: Clock + Wait, W: Write>(
+/// Serves these meters, until the port of one is closed. Where a capture is asked for, it is the file of this path.
+fn serve_members<R: Files<File = File> + Clock + Wait, W: Write>(
     rt: &R,
     alloc: Global,
     writer: &mut W,
     members: Vec<Member>,
+    capture: Option<&str>,
 ) -> Result<(), Fault>
     ensures ends { IsErr result }
-    ensures silent { IfErr result (λ f. f ≢ Fault.Socket → f ≢ Fault.Output → Keeps (W.contents writer.old) (W.contents writer.new)) }
+    ensures silent { IfErr result (λ f. f ≢ Fault.Socket → f ≢ Fault.Output → f ≢ Fault.CaptureFault
+        → Keeps (W.contents writer.old) (W.contents writer.new)) }
+    ensures asked { IfErr result (λ f. IsOfCapture f → IsTrue (is_some capture)) }
     ensures only { IfErr result IsOfServing }
 {
     let mut fleet = Fleet {
@@ -101,11 +129,12 @@ fn serve_members<R: Clock + Wait, W: Write>(
         },
         faults: 0,
     };
+    let file = opened_capture(rt, alloc, capture)?;
     let lines = listening_lines(alloc, &fleet.members)?;
     write_text(writer, lines.as_str())?;
     let mut teller = Teller::new(rt, alloc, writer);
-    fleet.serve(rt, alloc, &mut teller);
-    Err(Fault::Socket)
+    let has_failed = fleet.serve(rt, alloc, file.as_ref(), &mut teller);
+    Err(closing_fault(capture, has_failed))
 }
 
 /// Meters of the numbers from 1 to this one, with their ports.
@@ -197,11 +226,17 @@ fn listening_lines(alloc: Global, members: &[Member]) -> Result<String, AllocErr
 }
 
 impl Fleet {
-    /// Rounds of all meters, until the port of one is closed.
-    fn serve<R: Clock + Wait, W: Watch>(&mut self, rt: &R, alloc: Global, watch: &mut W) {
+    /// Rounds of all meters, until the port of one is closed. It returns whether that was since its capture couldn't be written.
+    fn serve<R: Clock + Wait, W: Watch>(
+        &mut self,
+        rt: &R,
+        alloc: Global,
+        capture: Option<&File>,
+        watch: &mut W,
+    ) -> bool {
         for _ in rt.forever() {
-            if self.round(alloc, watch).is_err() {
-                return;
+            if let Err(HasFailed(has_failed)) = self.round(rt, alloc, capture, watch) {
+                return has_failed;
             }
             thread::sleep(rt, Duration::from_micros(PAUSE));
         }
@@ -209,14 +244,20 @@ impl Fleet {
     }
 
     /// A round of each meter, as if it were alone.
-    fn round<W: Watch>(&mut self, alloc: Global, watch: &mut W) -> Result<(), Closed> {
+    fn round<C: Clock, W: Watch>(
+        &mut self,
+        rt: &C,
+        alloc: Global,
+        capture: Option<&File>,
+        watch: &mut W,
+    ) -> Result<(), HasFailed> {
         let mut dropped = Dropped {
             strangers: 0,
             unserved: 0,
         };
         let mut faults: u64 = 0;
         for member in &mut self.members {
-            let activated = step(alloc, &mut member.port, &mut member.daemon)?;
+            let activated = member.step(rt, alloc, capture)?;
             watch.round(activated, self.dropped, self.faults);
             let Dropped {
                 strangers,

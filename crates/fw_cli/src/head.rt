@@ -7,22 +7,24 @@ ghost use Rattle.fw_kept.specs.Head.{book_of, head_of};
 ghost use Rattle.fw_rollout.specs.Daemon.{IsLed, IsOver};
 ghost use Rattle.fw_rollout.specs.Leading.{Leader};
 ghost use Rattle.fw_host.specs.Addresses.{HasAddress};
+ghost use Rattle.fw_host.specs.Captures.{IsOfCapture};
 ghost use Rattle.fw_host.specs.Heads.{ComesBeforeLines, IsOfHead, IsOfHeadSetup};
 ghost use Rattle.fw_cli.specs.Heads.{IsAskedFor, IsOfCancelling, IsOfList, IsOfOpening, IsOfOpeningSetup, IsOfStop};
 
-use crate::meter::tell_listening;
+use crate::meter::{closing_fault, opened_capture, tell_listening};
 use fw_blocks::Width;
 use fw_book::BookError;
 use fw_daemon::UdpPort;
 use fw_faults::{Fault, Reads, read_input, write_text};
 use fw_host::{
-    BookOptions, HeadProgress, Opening, Part, UdpHeadPort, cancel, cancelled_line, check_addresses,
+    BookOptions, CapturePort, HeadProgress, Opening, Part, UdpHeadPort, cancel, cancelled_line,
+    check_addresses,
     check_part, is_open, kept_head, open_part, opened_line, over_line, parts_of, read_list,
 };
 use fw_journal::{FileDevice, JournalDevice};
 use fw_kept::KeptHead;
 use fw_names::{CampaignId, HeadId};
-use fw_rollout::{HeadDaemon, Listed, MeterList, Timing, serve_head};
+use fw_rollout::{HeadDaemon, Listed, MeterList, Stop, Timing, serve_head};
 use std::alloc::Global;
 use std::fs::File;
 use std::io::Write;
@@ -54,9 +56,14 @@ pub struct HeadOptions<'a> {
     pub timing: Timing,
     /// Whether it goes on where no row is live.
     pub stays: bool,
+    /// The path of the file of the capture, where one is asked for.
+    pub capture: Option<&'a str>,
 }
 
 /// The head end leads each live row of its book to its end. It may be ended at any moment, and goes on there when it is run again.
+///
+/// Where a capture is asked for, its file is gone on with, or made where no file is there. It gets the start of the process, and what is received
+/// and sent, each before it is handled or sent.
 ///
 /// The writer gets the line `listening ..`, once datagrams are received, `cancelled ..` and `opened ..` for each campaign, `row ..` for each
 /// row that ended, each once the disk has it, and `over ..` at the end. Each is flushed. After the first, a line that can't be written is
@@ -71,6 +78,9 @@ pub struct HeadOptions<'a> {
 /// - `NoBook`, `BookExists`, `Locked`, `BadBook`, `BadRecord`, `ForeignHead`: the file has no book that this head end may begin with. It is
 ///   left as it is, or as a journal of the same records.
 /// - `NoAddress`: the meter of this number has a live row in the book, and isn't in the list. Rows that are cancelled first need no address.
+/// - `CaptureFault`: the file of the capture can't be made or opened, or another process has it. Or a record can't be written while the head end
+///   leads: what it is of wasn't handled or sent.
+/// - `ForeignCapture`: the file holds something else than a capture of a daemon. It is left as it is.
 /// - `CancelRefused`, `OpenRefused`: the book's refusal.
 /// - `BookFault`, `Full`: the file can't be made, opened or written. Nothing of what it lacks was reported.
 /// - `Output`: the first line can't be written.
@@ -97,6 +107,7 @@ pub fn run_head<R: Files<File = File> + Clock + Net + Wait, W: Write, E: Eprint>
         opened,
         mut kept,
     } = set_up(rt, alloc, options)?;
+    let capture = opened_capture(rt, alloc, options.capture)?;
     tell_listening(alloc, writer, at)?;
     if let Some(serial) = options.cancel {
         cancel_one(alloc, writer, &mut kept, options.head, serial)?;
@@ -110,10 +121,24 @@ pub fn run_head<R: Files<File = File> + Clock + Net + Wait, W: Write, E: Eprint>
         alloc,
         writer,
         terminal,
-        port,
+        RecordedPort {
+            port,
+            at,
+            file: capture,
+            capture: options.capture,
+        },
         &mut daemon,
         options.stays,
     )
+}
+
+/// A socket with its address and with the file of its capture, where one is asked for.
+#[derive(Drop)]
+struct RecordedPort<'a> {
+    port: UdpPort,
+    at: SocketAddr,
+    file: Option<File>,
+    capture: Option<&'a str>,
 }
 
 /// All that the command needs before its first line.
@@ -295,17 +320,29 @@ fn lead<R: Clock + Wait, W: Write, E: Eprint, D: JournalDevice + Drop>(
     alloc: Global,
     writer: &mut W,
     terminal: Option<&E>,
-    port: UdpPort,
+    port: RecordedPort<'_>,
     daemon: &mut HeadDaemon<D>,
     stays: bool,
 ) -> Result<(), Fault>
     ensures over { (now : Leader) → IsLed D.honest D.contents D.may_leave daemon.new now → OnOk result (IsOver now) }
     ensures stays { OnOk result (stays ≡ false) }
+    ensures asked { IfErr result (λ f. IsOfCapture f → IsTrue (is_some port.capture)) }
     ensures only { IfErr result IsOfStop }
 {
-    let mut port = UdpHeadPort::new(rt, alloc, port, writer);
+    let RecordedPort {
+        port: mut socket,
+        at,
+        file,
+        capture,
+    } = port;
+    let recorded = CapturePort::of_head(rt, alloc, &mut socket, at, file);
+    let mut port = UdpHeadPort::new(rt, alloc, recorded, writer);
     let mut progress = HeadProgress::new(terminal);
-    serve_head(rt, &mut port, daemon, stays, &mut progress)?;
+    match serve_head(rt, &mut port, daemon, stays, &mut progress) {
+        Ok(()) => {}
+        Err(Stop::Closed) => return Err(closing_fault(capture, port.has_failed())),
+        Err(stop) => return Err(Fault::from(stop)),
+    }
     drop(progress);
     drop(port);
     if let Ok(line) = over_line(alloc, daemon.counts()) {

@@ -1,16 +1,19 @@
 //! The command `meter`: a meter in a file answers datagrams over UDP until it is ended.
 
-ghost use Rattle.std.specs.Prelude.{◌≡◌, ◌≢◌, ◌⊎◌, None, IfErr, IsErr, OnOk};
+ghost use Rattle.std.specs.Prelude.{◌≡◌, ◌≢◌, ◌⊎◌, None, IfErr, IfOk, IsErr, IsTrue, OnErr, OnOk, is_some};
 ghost use Rattle.std.specs.Io.KnownBytes.{Appends, Keeps};
 ghost use Rattle.fw_store.specs.Setup.{IsSetup};
 ghost use Rattle.fw_store.specs.declared.version.HeaderVersion.TheVariants.{Two};
 ghost use Rattle.fw_cli.specs.Faults.{IsOfMeter, NamesMeter};
+ghost use Rattle.fw_host.specs.Captures.{IsOfCapture};
 ghost use Rattle.fw_host.specs.Meters.{activated_line, default_factory, dropped_line, listening_line};
 
 use crate::fleet::serve_fleet;
 use fw_daemon::{Closed, Dropped, MeterDaemon, UdpPort, Watch, serve};
 use fw_faults::{Fault, write_text};
-use fw_host::{NewMeter, activated_line, dropped_line, listening_line, stored_meter};
+use fw_host::{
+    CapturePort, NewMeter, activated_line, dropped_line, listening_line, open_capture, stored_meter,
+};
 use fw_names::ImageName;
 use std::alloc::Global;
 use std::fs::File;
@@ -36,6 +39,8 @@ pub struct MeterOptions<'a> {
     pub fresh: NewMeter<'a>,
     /// How many meters there are, at least 1. Without a number there is one, at just this address and in just this file.
     pub count: Option<u32>,
+    /// The path of the file of the capture, where one is asked for.
+    pub capture: Option<&'a str>,
 }
 
 /// Why the command ended.
@@ -63,6 +68,9 @@ impl From<Fault> for MeterFault {
 /// With a count K there are meters 1 to K: meter N receives at the port of the options and N - 1 more, and its file is that of the options
 /// with `.N` after it.
 ///
+/// Where a capture is asked for, its file is gone on with, or made where no file is there. It gets the start of the process, what is received
+/// and sent, each before it is handled or sent, and each turn of a verification in which nothing came.
+///
 /// The writer gets the line `listening ..`, once datagrams are received, `activated ..` for each image that the meter switches to, and
 /// `dropped ..` where more was dropped, once a minute at most. Each is flushed. After the first, a line that can't be written is lost.
 ///
@@ -77,6 +85,9 @@ impl From<Fault> for MeterFault {
 /// - `BadFile`, `BadHeader` or `BadImage`: the file holds no meter. It is left as it is.
 /// - `FactoryFault`: no file is there, and the one of the factory image can't be read. No file was made.
 /// - `BadSetup`: no file is there, and the options describe no meter. No file was made.
+/// - `CaptureFault`: the file of the capture can't be made or opened, or another process has it. Or a record can't be written while the meter
+///   serves: what it is of wasn't handled or sent.
+/// - `ForeignCapture`: the file holds something else than a capture of a daemon. It is left as it is.
 /// - `Output`: the first line can't be written.
 /// - `OutOfMemory`: it didn't serve.
 pub fn run_meter<R: Files<File = File> + Clock + Net + Wait, W: Write>(
@@ -89,8 +100,9 @@ pub fn run_meter<R: Files<File = File> + Clock + Net + Wait, W: Write>(
     ensures number { IfErr result (NamesMeter options.entry.count) }
     ensures bad_setup { options.entry.fresh.factory_file ≡ None → IfErr result (λ e. e.fault ≡ Fault.BadSetup
         → ¬ IsSetup Two options.entry.fresh.block_size options.entry.fresh.capacity default_factory) }
-    ensures silent { IfErr result (λ e. e.fault ≢ Fault.Socket → e.fault ≢ Fault.Output
+    ensures silent { IfErr result (λ e. e.fault ≢ Fault.Socket → e.fault ≢ Fault.Output → e.fault ≢ Fault.CaptureFault
         → Keeps (W.contents writer.old) (W.contents writer.new)) }
+    ensures asked { IfErr result (λ e. IsOfCapture e.fault → IsTrue (is_some options.entry.capture)) }
     ensures only { IfErr result (λ e. IsOfMeter e.fault) }
 {
     match options.count {
@@ -112,17 +124,48 @@ fn serve_one<R: Files<File = File> + Clock + Net + Wait, W: Write>(
     ensures ends { IsErr result }
     ensures bad_setup { options.entry.fresh.factory_file ≡ None → result ≡ Err Fault.BadSetup
         → ¬ IsSetup Two options.entry.fresh.block_size options.entry.fresh.capacity default_factory }
-    ensures silent { IfErr result (λ f. f ≢ Fault.Socket → f ≢ Fault.Output
+    ensures silent { IfErr result (λ f. f ≢ Fault.Socket → f ≢ Fault.Output → f ≢ Fault.CaptureFault
         → Keeps (W.contents writer.old) (W.contents writer.new)) }
+    ensures asked { IfErr result (λ f. IsOfCapture f → IsTrue (is_some options.entry.capture)) }
     ensures only { IfErr result IsOfMeter }
 {
     let Listening { mut port, at } = bound(rt, options.listen)?;
     let meter = stored_meter(rt, alloc, options.store, &options.fresh)?;
+    let capture = opened_capture(rt, alloc, options.capture)?;
     tell_listening(alloc, writer, at)?;
     let mut daemon = MeterDaemon::new(meter, options.heads);
     let mut teller = Teller::new(rt, alloc, writer);
+    let mut port = CapturePort::of_meter(rt, alloc, &mut port, at, capture);
     let Closed = serve(rt, alloc, &mut port, &mut daemon, &mut teller);
-    Err(Fault::Socket)
+    Err(closing_fault(options.capture, port.has_failed()))
+}
+
+/// The file of a capture, where one is asked for.
+pub(crate) fn opened_capture<R: Files<File = File> + Clock>(
+    rt: &R,
+    alloc: Global,
+    path: Option<&str>,
+) -> Result<Option<File>, Fault>
+    ensures some { IfOk result (λ file. is_some file ≡ is_some path) }
+    ensures asked { OnErr result (IsTrue (is_some path)) }
+    ensures only { IfErr result IsOfCapture }
+{
+    match path {
+        None => Ok(None),
+        Some(path) => Ok(Some(open_capture(rt, alloc, path)?)),
+    }
+}
+
+/// Why a port with a capture, where one is asked for, is closed: a record couldn't be written, or the socket failed.
+pub(crate) fn closing_fault(capture: Option<&str>, has_failed: bool) -> Fault
+    ensures asked { IsOfCapture result → IsTrue (is_some capture) }
+    ensures only { (result ≡ Fault.Socket) ⊎ (result ≡ Fault.CaptureFault) }
+{
+    if has_failed && capture.is_some() {
+        Fault::CaptureFault
+    } else {
+        Fault::Socket
+    }
 }
 
 /// A port, with the address that it has.

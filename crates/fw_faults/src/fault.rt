@@ -56,9 +56,12 @@ pub enum Fault {
     /// The reader had more bytes than an image can have, 16,777,216.
     #[error("ImageTooLong")]
     ImageTooLong,
-    /// The file of a capture can't be opened.
+    /// The file of a capture can't be made, opened or written.
     #[error("CaptureFault")]
     CaptureFault,
+    /// A file that a daemon's capture is to go on in is none.
+    #[error("ForeignCapture")]
+    ForeignCapture,
     /// The first fault of a capture, with the offset of its record.
     #[error("BadCapture {0}")]
     BadCapture(CaptureError),

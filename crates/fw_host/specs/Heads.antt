@@ -7,7 +7,7 @@ use Rattle.fw_rollout.specs.declared.daemon.Counts.{Counts}
 use Rattle.fw_rollout.specs.declared.ended.Ended.{Ended}
 use Rattle.fw_rollout.specs.Leading.{state_after}
 use Rattle.fw_faults.specs.declared.fault.Fault.{Fault}
-use Rattle.fw_faults.specs.declared.fault.Fault.TheVariants.{BadList, BadSetup, BookExists, BookFault, BadBook, BadRecord, CancelRefused, ForeignHead, Full, ImageFault, ListFault, Locked, NoAddress, NoBook, OpenRefused, Output, OutOfMemory, Socket}
+use Rattle.fw_faults.specs.declared.fault.Fault.TheVariants.{BadList, BadSetup, BookExists, BookFault, BadBook, BadRecord, CancelRefused, CaptureFault, ForeignCapture, ForeignHead, Full, ImageFault, ListFault, Locked, NoAddress, NoBook, OpenRefused, Output, OutOfMemory, Socket}
 use Rattle.fw_report.specs.Report.{state_word}
 
 -- ---- the lines of `head`
@@ -72,6 +72,8 @@ IsOfHeadSetup fault = IsOfOldBook fault
 -- of `head`
 abbrev pub IsOfHead : Fault → Type 0
 IsOfHead (CancelRefused refusal) = Unit {0}
+IsOfHead CaptureFault = Unit {0}
+IsOfHead ForeignCapture = Unit {0}
 IsOfHead Full = Unit {0}
 IsOfHead Output = Unit {0}
 IsOfHead fault = IsOfHeadSetup fault
@@ -88,6 +90,7 @@ ComesBeforeLines Locked = Unit {0}
 ComesBeforeLines (BadBook offset) = Unit {0}
 ComesBeforeLines (BadRecord index) = Unit {0}
 ComesBeforeLines ForeignHead = Unit {0}
+ComesBeforeLines ForeignCapture = Unit {0}
 ComesBeforeLines (NoAddress meter) = Unit {0}
 ComesBeforeLines fault = ⊥
 

@@ -4,3 +4,4 @@ pub mod Lists
 pub mod Heads
 pub mod Openings
 pub mod Addresses
+pub mod Captures

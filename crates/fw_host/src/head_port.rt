@@ -2,8 +2,8 @@
 
 ghost use Rattle.std.specs.Prelude.{◌≡◌};
 
+use crate::capture_port::CapturePort;
 use crate::head_lines::ended_line;
-use fw_daemon::UdpPort;
 use fw_faults::write_text;
 use fw_rollout::{Arrival, Closed, Ended, HeadPort, Patience};
 use std::alloc::Global;
@@ -12,19 +12,24 @@ use std::net::SocketAddr;
 use std::rt::Clock;
 use std::time::Instant;
 
-/// A UDP socket with a clock and a writer. Nothing is known of what a network does, so it is not honest.
+/// A UDP socket with its capture, a clock and a writer. Nothing is known of what a network does, so it is not honest.
 #[derive(Drop)]
-pub struct UdpHeadPort<'a, C: Clock, W: Write> {
+pub struct UdpHeadPort<'a, C: Clock, W: Write, V: Write + Drop> {
     rt: &'a C,
     alloc: Global,
-    port: UdpPort,
+    port: CapturePort<'a, C, V>,
     writer: &'a mut W,
     began: Option<Instant>,
 }
 
-impl<'a, C: Clock, W: Write> UdpHeadPort<'a, C, W> {
+impl<'a, C: Clock, W: Write, V: Write + Drop> UdpHeadPort<'a, C, W, V> {
     /// The time begins now. Nothing is sent, received or written yet.
-    pub fn new(rt: &'a C, alloc: Global, port: UdpPort, writer: &'a mut W) -> UdpHeadPort<'a, C, W>
+    pub fn new(
+        rt: &'a C,
+        alloc: Global,
+        port: CapturePort<'a, C, V>,
+        writer: &'a mut W,
+    ) -> UdpHeadPort<'a, C, W, V>
         ensures port { result.port ≡ port }
         ensures writer { result.writer.ghost_name ≡ writer.entry.ghost_name }
         ensures unwritten { W.contents result.writer.now ≡ W.contents writer.old }
@@ -37,9 +42,16 @@ impl<'a, C: Clock, W: Write> UdpHeadPort<'a, C, W> {
             began: Instant::now(rt).ok(),
         }
     }
+
+    /// Whether the port is closed since its capture could not be written.
+    pub fn has_failed(&self) -> bool
+        ensures { result ≡ self.now.port.failed }
+    {
+        self.port.has_failed()
+    }
 }
 
-impl<'a, C: Clock, W: Write> HeadPort for UdpHeadPort<'a, C, W> {
+impl<'a, C: Clock, W: Write, V: Write + Drop> HeadPort for UdpHeadPort<'a, C, W, V> {
     ghost use Rattle.std.specs.Prelude.{false, [], ⊤};
 
     ghost honest = { λ _. false };

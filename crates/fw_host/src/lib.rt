@@ -1,7 +1,9 @@
-//! What the commands `meter`, `head` and `status` stand on: the files of stores, books and lists, the lines that they print, and the port
-//! and the terminal of a head end.
+//! What the commands `meter`, `head` and `status` stand on: the files of stores, books, lists and captures, the lines that they print, their
+//! ports, and the terminal of a head end.
 #![tactic(auto)]
 
+mod capture_file;
+mod capture_port;
 mod files;
 mod head_addresses;
 mod head_book;
@@ -13,6 +15,8 @@ mod meter_lines;
 mod meter_list;
 mod meter_store;
 
+pub use capture_file::open_capture;
+pub use capture_port::CapturePort;
 pub use files::is_absent;
 pub use head_addresses::check_addresses;
 pub use head_book::{BookOptions, kept_head};

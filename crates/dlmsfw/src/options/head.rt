@@ -1,6 +1,6 @@
 //! The command `head`, and its help.
 
-use super::{Invocation, STATUSES, WrongValue, address, option};
+use super::{Invocation, STATUSES, WrongValue, address, daemon_capture, option};
 use clap::{ArgAction, ArgMatches, Command};
 use fw_blocks::Width;
 use fw_cli::HeadOptions;
@@ -32,6 +32,8 @@ and those meters, is gone on with. With --cancel the live rows of that campaign 
 A row is asked when nothing of it is outstanding, or after four times its last round trip, which is
 --resend at first and at least; a quarter longer after each time in which nothing at all came from
 its meter, up to a minute. No more than --flight datagrams are out at once, or those of one row.
+
+With --capture CAPTURE all that is received and sent is appended to CAPTURE, as `meter --help` says it.
 
 Standard output gets these lines, each at once, of which one that can't be written is lost, except for
 the first:
@@ -86,6 +88,8 @@ Exit status:
        MeterBusy       --open: a meter of LIST is live in another campaign
        NoSuchCampaign  --cancel: the book has no such campaign
        NotLive         --cancel: none of its rows is live
+       CaptureFault    CAPTURE can't be made, opened or written; `meter --help` has the causes
+       ForeignCapture  CAPTURE is there, and isn't a capture that a meter or a head end began
        Output          the first line can't be written to standard output
        OutOfMemory     the system gives no more memory
      Of a row whose end the disk doesn't have nothing was printed.
@@ -185,7 +189,8 @@ fn with_times<'a>(alloc: Global, command: Command<'a>) -> Result<Command<'a>, Al
                 .long("stay")
                 .action(ArgAction::SetTrue)
                 .help("Goes on where no row is live"),
-        )
+        )?
+        .arg(daemon_capture(alloc))
 }
 
 /// The command with the options that were given. The parser lets only those numbers pass that a head end, a campaign or a width can have, and
@@ -220,6 +225,7 @@ pub(super) fn invoked<'a>(
         width,
         timing,
         stays: given.get_flag("stay"),
+        capture: given.get_str("capture"),
     })))
 }
 

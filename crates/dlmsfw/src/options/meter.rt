@@ -1,6 +1,6 @@
 //! The command `meter`, and its help.
 
-use super::{Invocation, STATUSES, WrongValue, address, option};
+use super::{Invocation, STATUSES, WrongValue, address, daemon_capture, option};
 use clap::{ArgAction, ArgMatches, Command};
 use fw_cli::MeterOptions;
 use fw_host::NewMeter;
@@ -27,6 +27,13 @@ from elsewhere is dropped. An address is IPv4 or IPv6, as 127.0.0.1:4059 or [::1
 With --count N there are N meters in one process, a fleet to try a head end on: meter K receives at PORT
 and K - 1 more, and is in FILE.K. What was dropped is that of all. Each needs three open files, which the
 system may limit (`ulimit -n`).
+
+With --capture CAPTURE all that is received and sent is appended to CAPTURE as pcap, which Wireshark and
+`trace` read: each datagram before it is handled or sent, and so its reply isn't sent where CAPTURE can't
+be written. Where no such file is there, it is made, and else it must be such a capture. The start of
+the process is a packet of its own, and so is each turn of a verification in which nothing came; a
+datagram that is dropped while an image is verified has a turn after it. A process that is killed leaves
+whole packets. One process at a time has a CAPTURE.
 
 Standard output gets these lines, each at once, of which one that can't be written is lost, except for
 the first:
@@ -73,9 +80,14 @@ Exit status:
                      bytes were changed
        FactoryFault  FILE isn't there, and the file of --factory-file can't be read
        BadSetup      FILE isn't there, and the factory image is empty or longer than the capacity
+       CaptureFault  CAPTURE can't be made, opened or written: another process has it, there is no
+                     such folder, it is a folder, this user may not read and write it, or the disk is
+                     full, as it may be at a later datagram too, which is dropped
+       ForeignCapture
+                     CAPTURE is there, and isn't a capture that a meter or a head end began
        Output        the first line can't be written to standard output
        OutOfMemory   the system gives no more memory
-     Except at a Socket that failed later nothing was answered.
+     Except at a Socket or a CaptureFault that came later nothing was answered.
   2  a wrong command line: standard error says what is wrong";
 
 /// The command.
@@ -119,7 +131,8 @@ pub(super) fn command<'a>(alloc: Global) -> Result<Command<'a>, AllocError> {
             option(alloc, "count", "N")
                 .help("Runs meters 1 to N, 4096 at most, at ports from PORT on")
                 .value_parser(clap::value_parser!(u32).range(1..=4096)),
-        )
+        )?
+        .arg(daemon_capture(alloc))
 }
 
 /// The command with the options that were given. The parser lets none of the others lack.
@@ -146,6 +159,7 @@ pub(super) fn invoked<'a>(
             factory_file: given.get_str("factory-file"),
         },
         count: given.get_one("count"),
+        capture: given.get_str("capture"),
     })))
 }
 

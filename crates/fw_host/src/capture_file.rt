@@ -1,0 +1,113 @@
+//! The capture of a daemon, in a file.
+
+ghost use Rattle.std.specs.Prelude.{◌≡◌, ◌↔◌, IfErr, IfOk, IsTrue, OnOk};
+ghost use Rattle.std.specs.Io.KnownBytes.{Appends};
+ghost use Rattle.fw_capture.specs.Spelling.{file_header, packet_bytes};
+ghost use Rattle.fw_capture.specs.View.{told_of};
+ghost use Rattle.fw_host.specs.Captures.{IsOfCapture};
+
+use fw_capture::{Captured, Content, Note, file_header};
+use fw_faults::Fault;
+use fw_recording::{write_header, write_record};
+use std::alloc::{AllocError, Global};
+use std::fs::{File, OpenOptions};
+use std::io::Write;
+use std::os::unix::fs::FileExt;
+use std::rt::{Clock, Files};
+use std::time::{SystemTime, UNIX_EPOCH};
+
+/// The bytes of the file header of a capture.
+const HEADER_SIZE: usize = 24;
+
+/// The file of a daemon's capture, under the lock, with a note of the start of the process at its end. It is made where no file is there, and
+/// gone on with where one is.
+///
+/// Each record is appended by a call of its own, so a process that is killed leaves whole ones.
+///
+/// # Errors
+///
+/// - `CaptureFault`: the file can't be made, opened, read or written, or another process has it. Or the system gives no more memory.
+/// - `ForeignCapture`: the file is there, and isn't a capture that a daemon began. It is left as it is.
+pub fn open_capture<R: Files<File = File> + Clock>(
+    rt: &R,
+    alloc: Global,
+    path: &str,
+) -> Result<File, Fault>
+    ensures only { IfErr result IsOfCapture }
+{
+    let mut options = OpenOptions::new();
+    options.read(true).append(true).create(true);
+    let Ok(mut file) = options.open(rt, path) else {
+        return Err(Fault::CaptureFault);
+    };
+    if file.try_lock().is_err() {
+        return Err(Fault::CaptureFault);
+    }
+    begin(alloc, &mut file)?;
+    put_record(alloc, &mut file, now(rt), Content::Note(Note::Start))?;
+    Ok(file)
+}
+
+/// Writes the file header where the file is empty, and checks that it is there otherwise.
+fn begin(alloc: Global, file: &mut File) -> Result<(), Fault>
+    ensures only { IfErr result IsOfCapture }
+{
+    let Ok(metadata) = file.metadata() else {
+        return Err(Fault::CaptureFault);
+    };
+    if metadata.len() == 0 {
+        return write_header(alloc, file).map_err(|_| Fault::CaptureFault);
+    }
+    if metadata.len() < HEADER_SIZE as u64 {
+        return Err(Fault::ForeignCapture);
+    }
+    let mut header = [0; HEADER_SIZE];
+    if file.read_exact_at(&mut header, 0).is_err() {
+        return Err(Fault::CaptureFault);
+    }
+    match is_own(alloc, &header) {
+        Ok(true) => Ok(()),
+        Ok(false) => Err(Fault::ForeignCapture),
+        Err(AllocError) => Err(Fault::CaptureFault),
+    }
+}
+
+/// Whether these bytes are the file header of a capture that is written.
+fn is_own(alloc: Global, bytes: &[u8]) -> Result<bool, AllocError>
+    ensures { IfOk result (λ own. IsTrue own ↔ (bytes.now ≡ file_header)) }
+{
+    let header = file_header(alloc)?;
+    Ok(bytes == header.as_slice())
+}
+
+/// Appends the record of what a packet tells.
+///
+/// # Errors
+///
+/// `CaptureFault`: the writer failed, or memory was refused, or the packet makes no record, as in the year 2106.
+pub(crate) fn put_record<W: Write>(
+    alloc: Global,
+    writer: &mut W,
+    nanoseconds: u64,
+    content: Content<'_>,
+) -> Result<(), Fault>
+    ensures written { OnOk result (Appends (W.contents writer.old) (W.contents writer.new) (packet_bytes nanoseconds (told_of content.entry))) }
+    ensures only { IfErr result (λ f. f ≡ Fault.CaptureFault) }
+{
+    let captured = Captured {
+        nanoseconds,
+        content,
+    };
+    write_record(alloc, writer, &captured).map_err(|_| Fault::CaptureFault)
+}
+
+/// The nanoseconds since the start of 1970, and 0 where the system has no time.
+pub(crate) fn now<C: Clock>(rt: &C) -> u64 {
+    let Ok(now) = SystemTime::now(rt) else {
+        return 0;
+    };
+    match now.duration_since(UNIX_EPOCH) {
+        Ok(since) => u64::try_from(since.as_nanos()).unwrap_or(u64::MAX),
+        Err(_) => 0,
+    }
+}
