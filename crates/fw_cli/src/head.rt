@@ -18,8 +18,8 @@ use fw_daemon::UdpPort;
 use fw_faults::{Fault, Reads, read_input, write_text};
 use fw_host::{
     BookOptions, CapturePort, HeadProgress, Opening, Part, UdpHeadPort, cancel, cancelled_line,
-    check_addresses,
-    check_part, is_open, kept_head, open_part, opened_line, over_line, parts_of, read_list,
+    check_addresses, check_part, is_open, kept_head, open_part, opened_line, over_line, parts_of,
+    read_list,
 };
 use fw_journal::{FileDevice, JournalDevice};
 use fw_kept::KeptHead;

@@ -55,10 +55,7 @@ const RUNS_UNKNOWN: &[(Step, &str)] = &[
 /// Of two blocks it has the first. The other one alone is sent.
 const HAS_ONE: &[(Step, &str)] = &[
     (Step::Hear("c401c300040280"), "Moved, Blocks, 0"),
-    (
-        Step::Tick,
-        "c301c4001200002c0000ff020102020600000001090163",
-    ),
+    (Step::Tick, "c301c4001200002c0000ff020102020600000001090163"),
     (Step::Hear("c701c40000"), "Moved, Check, 0"),
     (Step::Tick, "c001c5001200002c0000ff0400"),
 ];

@@ -48,16 +48,18 @@ returns-in-Err-clause-bad c = λ index is.
     ⊎_elim (λ out. let memory = out.1 in cc)
     (λ bad.
     let told = bad.1 in
-    let at : index ≡ length c.args.records.now - length c.loop-bytes.rest.now = cc in
-    (bytes, record {
-      front = i.front;
-      rest = records_of c.in-Some.others.now;
-      split = i.split ∙ ap (λ (l : List (List ℕ)). i.front ++ l) next;
-      index_is = omega (arith, at, i.count);
-      book = c.loop-bytes.book;
-      is_book = i.is_book;
-      nothing = c.in-Err.ensures.refused bad.0;
-    })) c.replay_error.ensures
+    let at : index ≡ length c.args.records.now - length c.loop-bytes.rest.now = cc in (
+      bytes,
+      record {
+        front = i.front;
+        rest = records_of c.in-Some.others.now;
+        split = i.split ∙ ap (λ (l : List (List ℕ)). i.front ++ l) next;
+        index_is = omega (arith, at, i.count);
+        book = c.loop-bytes.book;
+        is_book = i.is_book;
+        nothing = c.in-Err.ensures.refused bad.0;
+      },
+    )) c.replay_error.ensures
 
 pub returns-clause-only : goal.returns-clause-only
 returns-clause-only c = λ book is.
