@@ -1,9 +1,12 @@
 //! The program `dlmsfw`: its command line, its exit statuses, and the printing of its faults.
 #![tactic(auto)]
 
-ghost use Rattle.std.specs.Prelude.{◌≡◌};
+ghost use Rattle.std.specs.Prelude.{◌≡◌, ◌⊎◌, IfErr, IsTrue, None, OnOk, is_some};
+ghost use Rattle.std.specs.Io.KnownBytes.{Keeps};
 ghost use Rattle.std.specs.Process.{exit_status};
 ghost use Rattle.clap.specs.Values.{kind_of};
+ghost use Rattle.fw_cli.specs.Faults.{ComesBeforeOutput, IsOfTrace};
+ghost use Rattle.fw_cli.specs.Tracing.{WritesTrace};
 ghost use Rattle.dlmsfw.specs.Status.{EndsParse, EndsWith};
 
 mod cause;
@@ -176,7 +179,16 @@ fn trace<F: Files<File = File>, R: Read, W: Write>(
     reader: &mut R,
     writer: &mut W,
     options: &TraceOptions<'_>,
-) -> Result<(), Fault> {
+) -> Result<(), Fault>
+    ensures input { options.now.capture ≡ None → OnOk result (WritesTrace None (R.remaining reader.old) (R.remaining reader.new)
+        (W.contents writer.old) (W.contents writer.new)) }
+
+    // Where a file is named, standard input isn't read.
+    ensures file { IsTrue (is_some options.now.capture) → R.remaining reader.new ≡ R.remaining reader.old }
+    ensures asked { result ≡ Err Fault.CaptureFault → IsTrue (is_some options.now.capture) }
+    ensures silent { IfErr result (λ f. ComesBeforeOutput f → Keeps (W.contents writer.old) (W.contents writer.new)) }
+    ensures only { IfErr result (λ f. (f ≡ Fault.CaptureFault) ⊎ IsOfTrace f) }
+{
     let Some(path) = options.capture else {
         return run_trace(alloc, reader, writer);
     };

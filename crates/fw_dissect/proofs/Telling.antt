@@ -2,13 +2,13 @@
 use Rattle.std.proofs.Common.{◌≡◌, ℕ, ◌+◌, ◌≤◌, Bool, true, false, if◌then◌else◌, List, [], ◌∷◌, ◌++◌, length, drop, Option, Result, Ok, Err, refl, sym, ap, subst, ◌∙◌, append_assoc, append-nil, arith, length-drop}
 use Rattle.std.specs.Prelude.{nat_lt, nat_le, OnErr}
 use Rattle.std.proofs.lemmas.Bool.Decides.{nat_tests}
-use Rattle.fw_capture.specs.declared.fault.CaptureFault.TheVariants.{ShortHeader, ShortRecord, BadFraction, CutPacket}
+use Rattle.fw_capture.specs.declared.fault.CaptureFault.TheVariants.{ShortRecord, BadFraction, CutPacket}
 use Rattle.fw_capture.specs.declared.fault.CaptureError.{CaptureError}
 use Rattle.fw_capture.specs.declared.fault.CaptureFault.{CaptureFault}
 use Rattle.fw_capture.specs.declared.format.Format.{Format}
 use Rattle.fw_capture.specs.Place.{Place}
 use Rattle.fw_capture.specs.View.{Told, datagram, note, other}
-use Rattle.fw_capture.specs.Reading.{record_at, header_at, size_at, fraction_at, time_at, fractions, ◌>>=◌}
+use Rattle.fw_capture.specs.Reading.{record_at, size_at, fraction_at, time_at, fractions, ◌>>=◌}
 use Rattle.fw_capture.specs.declared.packet.Packet.{Packet}
 use Rattle.fw_capture.specs.Steps.{OpensAs, NextGives, after}
 use Rattle.fw_recording.specs.Records.{EndsAt, HasRecords}
@@ -72,11 +72,10 @@ sized f bytes x is =
     (omega arith, omega arith)
 
 -- a file header has 24 bytes
-pub opened : (capture : List ℕ) (place : Place) → OpensAs capture (Ok place) → 24 ≤ length capture
-unfolding header_at
-opened capture place opens =
-    let long = passes (nat_lt (length capture) 24) ShortHeader _ place.format opens.0 in
-    grind (arith, nat_tests, long.0)
+pub opened : (capture : List ℕ) (place : Place) → OpensAs capture (Ok place) → 16 ≤ length place.rest → 40 ≤ length capture
+opened capture place opens left =
+    let rest : length place.rest ≡ length (drop 24 capture) = ap length opens.1 in
+    omega (arith, length-drop {A = ℕ}, rest, left)
 
 -- where a record was read, at least the bytes of its header were passed
 pub passed : (old new : Place) (x : ℕ × Told × ℕ) → record_at old.format old.rest ≡ Ok x → new ≡ after x.2 old → length new.rest + 16 ≤ length old.rest

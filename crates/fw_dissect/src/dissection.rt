@@ -23,10 +23,10 @@ pub struct Dissection {
 ///
 /// # Errors
 ///
-/// Out of memory, and only for a capture that has a file header.
+/// Out of memory, and only for a capture that has a file header and at least the 16 bytes of a record's header after it.
 pub fn dissect(alloc: Global, capture: &[u8]) -> Result<Dissection, AllocError>
     ensures tells { IfOk result (λ told. TellsCapture capture.now told.fault (string_bytes told.text)) }
-    ensures memory { OnErr result (24 ≤ length capture.now) }
+    ensures memory { OnErr result (40 ≤ length capture.now) }
 {
     let mut text = String::new(alloc);
     match Reader::new(capture) {
@@ -48,8 +48,10 @@ fn append_records(
     reader: &mut Reader<'_>,
 ) -> Result<Option<CaptureError>, AllocError>
     requires { length reader.old.rest < 2 ^ 64 }
-    ensures { IfOk result (λ fault. (records : List (ℕ × Told)) × (lines : List ℕ) × HasRecords reader.old records fault
+    ensures tells { IfOk result (λ fault. (records : List (ℕ × Told)) × (lines : List ℕ) × HasRecords reader.old records fault
         × AreLines 0 records lines × (string_bytes text.new ≡ string_bytes text.old ++ lines)) }
+    // Memory is wanted only where a record is left.
+    ensures memory { OnErr result (16 ≤ length reader.old.rest) }
 {
     let mut number = 0;
     'records: loop {

@@ -3,11 +3,11 @@ use Rattle.std.specs.Prelude.{string_bytes}
 use Rattle.fw_capture.specs.View.{told_in}
 use Rattle.fw_capture.specs.Place.{Place}
 use Rattle.fw_dissect.specs.Lines.{number_after}
-use Rattle.fw_dissect.proofs.Telling.{SoFar, begins, goes_on, ends, passed, counts, given}
+use Rattle.fw_dissect.proofs.Telling.{SoFar, begins, goes_on, ends, on_err, passed, counts, given}
 use Rattle.fw_dissect.proofs.dissection.append_records.Goals as goal
 
 pub records-init : goal.records-init
-records-init c = record { counted = omega (arith, c.requires); so_far = begins c.args.reader.now (string_bytes c.args.text.now) }
+records-init c = record { within = omega arith; counted = omega (arith, c.requires); so_far = begins c.args.reader.now (string_bytes c.args.text.now) }
 
 pub append_line-requires : goal.append_line-requires
 append_line-requires c =
@@ -33,16 +33,23 @@ records-preserved c =
     let P : Place → Type 0 = λ p. SoFar c.args.reader.now p (number_after c.records.number told) (string_bytes c.args.text.now) (string_bytes c.append_line.new.text) in
     let Q : ℕ → Type 0 = λ n. SoFar c.args.reader.now c.next.new.self n (string_bytes c.args.text.now) (string_bytes c.append_line.new.text) in
     record {
+      within = omega (arith, less, c.records.invariant.within);
       counted = omega (arith, less, counts c.records.number told, number, c.records.invariant.counted);
       so_far = subst Q (sym number) (subst P (sym read.3) next);
     }
 
-pub returns-in-Ok-None : goal.returns-in-Ok-None
-returns-in-Ok-None c =
+pub returns-in-Ok-None-clause-tells : goal.returns-in-Ok-None-clause-tells
+returns-in-Ok-None-clause-tells c =
     ends c.args.reader.now c.records.reader c.records.number (string_bytes c.args.text.now) (string_bytes c.records.text) None c.records.invariant.so_far
     (given c.records.reader c.next.new.self c.in-Ok-None.field-0 None c.in-Ok-None.field-0-is c.in-Ok-None.ensures).0
 
-pub returns-in-Err : goal.returns-in-Err
-returns-in-Err c =
+pub returns-in-Err-clause-tells : goal.returns-in-Err-clause-tells
+returns-in-Err-clause-tells c =
     ends c.args.reader.now c.records.reader c.records.number (string_bytes c.args.text.now) (string_bytes c.records.text) (Some c.in-Err.error) c.records.invariant.so_far
     (c.in-Err.ensures.0, c.in-Err.ensures.1, c.in-Err.ensures.3)
+
+pub returns-in_err-number-in-Ok-Some-clause-memory : goal.returns-in_err-number-in-Ok-Some-clause-memory
+returns-in_err-number-in-Ok-Some-clause-memory c =
+    let read = given c.records.reader c.next.new.self c.in-Ok-Some.field-0 (Some c.in-Ok-Some.packet) c.in-Ok-Some.field-0-is c.in-Ok-Some.ensures in
+    let less = passed c.records.reader c.next.new.self (c.in-Ok-Some.packet.nanoseconds, told_in c.in-Ok-Some.packet.content, read.0) read.1 read.3 in
+    on_err c.from_residual.result (omega (arith, less, c.records.invariant.within))
