@@ -108,7 +108,8 @@ impl<D: JournalDevice> KeptHead<D> {
     }
 
     /// Opens the head end whose book a power cut, or a process that was killed, may have left on the device. It begins with exactly the book
-    /// that the device holds, and each meter that is live in it has a new row. The device is synced first.
+    /// that the device holds, and each meter that is live in it has a new row, which asks first what the meter has. The device is synced
+    /// first.
     ///
     /// # Errors
     ///
