@@ -30,7 +30,7 @@ impl<'a, C: Clock, W: Write, V: Write + Drop> UdpHeadPort<'a, C, W, V> {
         port: CapturePort<'a, C, V>,
         writer: &'a mut W,
     ) -> UdpHeadPort<'a, C, W, V>
-        ensures port { result.port ≡ port }
+        ensures port { result.port ≡ port.entry }
         ensures writer { result.writer.ghost_name ≡ writer.entry.ghost_name }
         ensures unwritten { W.contents result.writer.now ≡ W.contents writer.old }
     {
