@@ -118,7 +118,7 @@ fn serve_members<R: Files<File = File> + Clock + Wait, W: Write>(
     ensures ends { IsErr result }
     ensures silent { IfErr result (λ f. f ≢ Fault.Socket → f ≢ Fault.Output → f ≢ Fault.CaptureFault
         → Keeps (W.contents writer.old) (W.contents writer.new)) }
-    ensures asked { IfErr result (λ f. IsOfCapture f → IsTrue (is_some capture)) }
+    ensures asked { IfErr result (λ f. IsOfCapture f → IsTrue (is_some capture.entry)) }
     ensures only { IfErr result IsOfServing }
 {
     let mut fleet = Fleet {

@@ -326,7 +326,7 @@ fn lead<R: Clock + Wait, W: Write, E: Eprint, D: JournalDevice + Drop>(
 ) -> Result<(), Fault>
     ensures over { (now : Leader) → IsLed D.honest D.contents D.may_leave daemon.new now → OnOk result (IsOver now) }
     ensures stays { OnOk result (stays ≡ false) }
-    ensures asked { IfErr result (λ f. IsOfCapture f → IsTrue (is_some port.capture)) }
+    ensures asked { IfErr result (λ f. IsOfCapture f → IsTrue (is_some port.entry.capture)) }
     ensures only { IfErr result IsOfStop }
 {
     let RecordedPort {

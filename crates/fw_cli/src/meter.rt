@@ -146,8 +146,8 @@ pub(crate) fn opened_capture<R: Files<File = File> + Clock>(
     alloc: Global,
     path: Option<&str>,
 ) -> Result<Option<File>, Fault>
-    ensures some { IfOk result (λ file. is_some file ≡ is_some path) }
-    ensures asked { OnErr result (IsTrue (is_some path)) }
+    ensures some { IfOk result (λ file. is_some file ≡ is_some path.entry) }
+    ensures asked { OnErr result (IsTrue (is_some path.entry)) }
     ensures only { IfErr result IsOfCapture }
 {
     match path {
@@ -158,7 +158,7 @@ pub(crate) fn opened_capture<R: Files<File = File> + Clock>(
 
 /// Why a port with a capture, where one is asked for, is closed: a record couldn't be written, or the socket failed.
 pub(crate) fn closing_fault(capture: Option<&str>, has_failed: bool) -> Fault
-    ensures asked { IsOfCapture result → IsTrue (is_some capture) }
+    ensures asked { IsOfCapture result → IsTrue (is_some capture.entry) }
     ensures only { (result ≡ Fault.Socket) ⊎ (result ≡ Fault.CaptureFault) }
 {
     if has_failed && capture.is_some() {
