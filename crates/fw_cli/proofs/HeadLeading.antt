@@ -90,6 +90,10 @@ opening options fault.Full e is = record { of_head = tt; asked = tt; later = λ 
 opening options fault.OutOfMemory e is = record { of_head = tt; asked = tt; later = λ h. h }
 opening options f e is = absurd is
 
+pub line_lost : (options : HeadOptions) (f : Fault) → ((f ≡ fault.Output) ⊎ (f ≡ fault.OutOfMemory)) → IsLater options f
+line_lost options f (inl output) = subst (IsLater options) (sym output) (record { of_head = tt; asked = tt; later = λ h. h })
+line_lost options f (inr memory) = subst (IsLater options) (sym memory) (record { of_head = tt; asked = tt; later = λ h. h })
+
 pub stopped : (options : HeadOptions) (f : Fault) → (IsOfCapture f → IsTrue (is_some options.capture)) → IsOfStop f → IsLater options f
 stopped options fault.CaptureFault asked is = record { of_head = tt; asked = asked tt; later = λ h. h }
 stopped options fault.Socket asked is = record { of_head = tt; asked = tt; later = λ h. h }

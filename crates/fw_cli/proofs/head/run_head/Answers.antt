@@ -1,8 +1,11 @@
+use Rattle.std.proofs.Common.{◌≡◌, ap}
 use Rattle.std.specs.Prelude.{IsTrue, is_some}
+use Rattle.std.proofs.lemmas.Result.{err_from_is_err_and}
 use Rattle.fw_cli.specs.Heads.{IsAskedFor, IsOfStop}
 use Rattle.fw_host.specs.Captures.{IsOfCapture}
 use Rattle.fw_host.specs.Heads.{IsOfHead}
-use Rattle.fw_cli.proofs.HeadLeading.{on_err_both, stopped}
+use Rattle.fw_cli.proofs.Captured.{capture_is_asked, capture_of_head}
+use Rattle.fw_cli.proofs.HeadLeading.{cancelling, line_lost, on_err_both, opening, passed_on, stopped}
 use Rattle.fw_cli.proofs.head.run_head.Goals as goal
 
 pub returns-clause-silent : goal.returns-clause-silent
@@ -19,3 +22,69 @@ pub returns-clause-only : goal.returns-clause-only
 returns-clause-only g c =
     on_err_both c.lead.result IsOfStop (λ f. IsOfCapture f → IsTrue (is_some c.args.options.now.capture)) IsOfHead
     (λ f is asked. (stopped c.args.options.now f asked is).of_head) c.lead.ensures.only c.lead.ensures.asked
+
+pub returns-in_err-capture-clause-asked : goal.returns-in_err-capture-clause-asked
+returns-in_err-capture-clause-asked g c =
+    let passed = err_from_is_err_and c.from_residual-in_err-capture.result c.from_residual-in_err-capture.ensures.1 in
+    let same : passed.0 ≡ c.in_err-capture.field-0.0 = passed.2 in
+    passed_on c.from_residual-in_err-capture.result (IsAskedFor c.args.options.now) passed.0 _ passed.1 same (capture_is_asked c.args.options.now _ c.in_err-capture.ensures.asked c.in_err-capture.ensures.only)
+
+pub returns-in_err-capture-clause-only : goal.returns-in_err-capture-clause-only
+returns-in_err-capture-clause-only g c =
+    let passed = err_from_is_err_and c.from_residual-in_err-capture.result c.from_residual-in_err-capture.ensures.1 in
+    let same : passed.0 ≡ c.in_err-capture.field-0.0 = passed.2 in
+    passed_on c.from_residual-in_err-capture.result IsOfHead passed.0 _ passed.1 same (capture_of_head _ c.in_err-capture.ensures.only)
+
+pub returns-in_err-tell_listening-clause-silent : goal.returns-in_err-tell_listening-clause-silent
+returns-in_err-tell_listening-clause-silent g c =
+    let passed = err_from_is_err_and c.from_residual-in_err-tell_listening.result c.from_residual-in_err-tell_listening.ensures.1 in
+    let same : passed.0 ≡ c.in_err-tell_listening.field-0.0 = passed.2 in
+    passed_on c.from_residual-in_err-tell_listening.result _ passed.0 _ passed.1 same (λ before. absurd ((line_lost c.args.options.now _ c.in_err-tell_listening.ensures.only).later before))
+
+pub returns-in_err-tell_listening-clause-asked : goal.returns-in_err-tell_listening-clause-asked
+returns-in_err-tell_listening-clause-asked g c =
+    let passed = err_from_is_err_and c.from_residual-in_err-tell_listening.result c.from_residual-in_err-tell_listening.ensures.1 in
+    let same : passed.0 ≡ c.in_err-tell_listening.field-0.0 = passed.2 in
+    passed_on c.from_residual-in_err-tell_listening.result (IsAskedFor c.args.options.now) passed.0 _ passed.1 same (line_lost c.args.options.now _ c.in_err-tell_listening.ensures.only).asked
+
+pub returns-in_err-tell_listening-clause-only : goal.returns-in_err-tell_listening-clause-only
+returns-in_err-tell_listening-clause-only g c =
+    let passed = err_from_is_err_and c.from_residual-in_err-tell_listening.result c.from_residual-in_err-tell_listening.ensures.1 in
+    let same : passed.0 ≡ c.in_err-tell_listening.field-0.0 = passed.2 in
+    passed_on c.from_residual-in_err-tell_listening.result IsOfHead passed.0 _ passed.1 same (line_lost c.args.options.now _ c.in_err-tell_listening.ensures.only).of_head
+
+pub returns-in_err-cancel_one-clause-silent : goal.returns-in_err-cancel_one-clause-silent
+returns-in_err-cancel_one-clause-silent g c =
+    let passed = err_from_is_err_and c.from_residual-in_err-cancel_one.result c.from_residual-in_err-cancel_one.ensures.1 in
+    let same : passed.0 ≡ c.in_err-cancel_one.field-0.0 = passed.2 in
+    passed_on c.from_residual-in_err-cancel_one.result _ passed.0 _ passed.1 same (λ before. absurd ((cancelling c.args.options.now c.in-Some.serial _ c.in-Some.is c.in_err-cancel_one.ensures.only).later before))
+
+pub returns-in_err-cancel_one-clause-asked : goal.returns-in_err-cancel_one-clause-asked
+returns-in_err-cancel_one-clause-asked g c =
+    let passed = err_from_is_err_and c.from_residual-in_err-cancel_one.result c.from_residual-in_err-cancel_one.ensures.1 in
+    let same : passed.0 ≡ c.in_err-cancel_one.field-0.0 = passed.2 in
+    passed_on c.from_residual-in_err-cancel_one.result (IsAskedFor c.args.options.now) passed.0 _ passed.1 same (cancelling c.args.options.now c.in-Some.serial _ c.in-Some.is c.in_err-cancel_one.ensures.only).asked
+
+pub returns-in_err-cancel_one-clause-only : goal.returns-in_err-cancel_one-clause-only
+returns-in_err-cancel_one-clause-only g c =
+    let passed = err_from_is_err_and c.from_residual-in_err-cancel_one.result c.from_residual-in_err-cancel_one.ensures.1 in
+    let same : passed.0 ≡ c.in_err-cancel_one.field-0.0 = passed.2 in
+    passed_on c.from_residual-in_err-cancel_one.result IsOfHead passed.0 _ passed.1 same (cancelling c.args.options.now c.in-Some.serial _ c.in-Some.is c.in_err-cancel_one.ensures.only).of_head
+
+pub returns-in_err-open_all-clause-silent : goal.returns-in_err-open_all-clause-silent
+returns-in_err-open_all-clause-silent g c =
+    let passed = err_from_is_err_and c.from_residual-in_err-open_all.result c.from_residual-in_err-open_all.ensures.1 in
+    let same : passed.0 ≡ c.in_err-open_all.field-0.0 = passed.2 in
+    passed_on c.from_residual-in_err-open_all.result _ passed.0 _ passed.1 same (λ before. absurd ((opening c.args.options.now _ (c.in_ok-port.ensures.opened (ap is_some c.in-Some-opened.is)) c.in_err-open_all.ensures.only).later before))
+
+pub returns-in_err-open_all-clause-asked : goal.returns-in_err-open_all-clause-asked
+returns-in_err-open_all-clause-asked g c =
+    let passed = err_from_is_err_and c.from_residual-in_err-open_all.result c.from_residual-in_err-open_all.ensures.1 in
+    let same : passed.0 ≡ c.in_err-open_all.field-0.0 = passed.2 in
+    passed_on c.from_residual-in_err-open_all.result (IsAskedFor c.args.options.now) passed.0 _ passed.1 same (opening c.args.options.now _ (c.in_ok-port.ensures.opened (ap is_some c.in-Some-opened.is)) c.in_err-open_all.ensures.only).asked
+
+pub returns-in_err-open_all-clause-only : goal.returns-in_err-open_all-clause-only
+returns-in_err-open_all-clause-only g c =
+    let passed = err_from_is_err_and c.from_residual-in_err-open_all.result c.from_residual-in_err-open_all.ensures.1 in
+    let same : passed.0 ≡ c.in_err-open_all.field-0.0 = passed.2 in
+    passed_on c.from_residual-in_err-open_all.result IsOfHead passed.0 _ passed.1 same (opening c.args.options.now _ (c.in_ok-port.ensures.opened (ap is_some c.in-Some-opened.is)) c.in_err-open_all.ensures.only).of_head
