@@ -9,7 +9,12 @@ use Rattle.dlmsfw.specs.declared.cause.BookPlace.{BookPlace}
 use Rattle.dlmsfw.specs.declared.cause.BookPlace.TheVariants.{Book, HeadListen, Meters, Image, Open, Cancel, HeadCapture}
 use Rattle.dlmsfw.specs.declared.cause.MeterPlaces.{MeterPlaces}
 use Rattle.dlmsfw.specs.declared.cause.Place.{Place}
-use Rattle.dlmsfw.specs.declared.cause.Place.TheVariants.{Listen, Store, StoreOf, FactoryFile, Capture}
+use Rattle.dlmsfw.specs.declared.cause.Place.TheVariants.{Listen, ListenOf, Store, StoreOf, FactoryFile, Capture}
+
+-- where a meter listens, or the one of this number
+abbrev pub listen_of : Option ℕ → MeterPlaces → Place
+listen_of None places = Listen places.listen
+listen_of (Some number) places = ListenOf places.listen number
 
 -- the file of a meter, or of the one of this number
 abbrev pub store_of : Option ℕ → MeterPlaces → Place
@@ -17,7 +22,7 @@ store_of None places = Store places.store
 store_of (Some number) places = StoreOf places.store number
 
 abbrev pub place_in : Fault → Option ℕ → MeterPlaces → Option Place
-place_in Socket number places = Some (Listen places.listen)
+place_in Socket number places = Some (listen_of number places)
 place_in StoreFault number places = Some (store_of number places)
 place_in Device number places = Some (store_of number places)
 place_in BadFile number places = Some (store_of number places)

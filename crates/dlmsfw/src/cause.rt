@@ -81,6 +81,9 @@ pub(crate) enum Place<'a> {
     /// The address that it listens at.
     #[error("--listen {0}")]
     Listen(SocketAddr),
+    /// The address that the first meter listens at, and the number of the one that is meant.
+    #[error("--listen {0}, meter {1}")]
+    ListenOf(SocketAddr, u32),
     /// The file that has it.
     #[error("--store {0}")]
     Store(&'a str),
@@ -100,7 +103,10 @@ pub(crate) fn place_of<'a>(ended: MeterFault, places: MeterPlaces<'a>) -> Option
     ensures { result ≡ place_of ended places.entry }
 {
     match ended.fault {
-        Fault::Socket => Some(Place::Listen(places.listen)),
+        Fault::Socket => Some(match ended.number {
+            Some(number) => Place::ListenOf(places.listen, number),
+            None => Place::Listen(places.listen),
+        }),
         Fault::StoreFault | Fault::Device | Fault::BadFile | Fault::BadHeader | Fault::BadImage =>
             Some(match ended.number {
                 Some(number) => Place::StoreOf(places.store, number),

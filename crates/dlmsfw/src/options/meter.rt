@@ -64,7 +64,8 @@ const ENDINGS: &str = "\
 Exit status:
   0  none: a meter has no end of its own
   1  a fault: standard error has `dlmsfw: NAME`, with one of these names, and a second line with the
-     address or the file that it is about; with --count, FILE is FILE.K of the meter that has the fault
+     address or the file that it is about; with --count, FILE is FILE.K of meter K, which has the fault,
+     and after the address of the first meter stands `, meter K`
        Socket        datagrams can't be received at --listen: another program does, it is no address
                      of this machine, or this user has no right to it; no file was made. Or the socket
                      failed 1000 times in a row later
