@@ -199,6 +199,36 @@ impl Joined {
     }
 }
 
+/// What two threads return, of which each makes `times` rounds of its own links.
+fn by_two<R: Threads + Wait + Sync>(
+    rt: &R,
+    alloc: Global,
+    shared: &Shared,
+    board: &Board,
+    first: Seat,
+    second: Seat,
+    times: u32,
+    links: [&[(usize, usize)]; 2],
+) -> (Result<Seat, Stopped>, Result<Seat, Stopped>)
+    requires first { first.board ≡ board.now.id }
+    requires second { second.board ≡ board.now.id }
+    ensures first { IfOk result.0 (λ seat. seat.board ≡ board.now.id) }
+    ensures second { IfOk result.1 (λ seat. seat.board ≡ board.now.id) }
+{
+    let [ones, others] = links;
+    thread::join(
+        rt,
+        move || -> Result<Seat, Stopped>
+            requires { first.board ≡ board.now.id }
+            ensures { IfOk result (λ seat. seat.board ≡ board.entry.now.id) }
+        { rounds(rt, alloc, shared, board, first, times, ones) },
+        move || -> Result<Seat, Stopped>
+            requires { second.board ≡ board.now.id }
+            ensures { IfOk result (λ seat. seat.board ≡ board.entry.now.id) }
+        { rounds(rt, alloc, shared, board, second, times, others) },
+    )
+}
+
 /// The board's count after `times` rounds by two threads.
 fn together<R: Threads + Wait + Sync>(
     rt: &R,
@@ -207,21 +237,9 @@ fn together<R: Threads + Wait + Sync>(
     times: u32,
     links: [&[(usize, usize)]; 2],
 ) -> Result<u64, Fail> {
-    let [ones, others] = links;
     let (board, mut first) = Board::new(alloc, 0)?;
     let second = board.split(alloc, &mut first, 1000)?;
-    let marks = &board;
-    let (first, second) = thread::join(
-        rt,
-        move || -> Result<Seat, Stopped>
-            requires { first.board ≡ marks.now.id }
-            ensures { IfOk result (λ seat. seat.board ≡ marks.entry.now.id) }
-        { rounds(rt, alloc, shared, marks, first, times, ones) },
-        move || -> Result<Seat, Stopped>
-            requires { second.board ≡ marks.now.id }
-            ensures { IfOk result (λ seat. seat.board ≡ marks.entry.now.id) }
-        { rounds(rt, alloc, shared, marks, second, times, others) },
-    );
+    let (first, second) = by_two(rt, alloc, shared, &board, first, second, times, links);
     let (mut first, second) = match (first, second) {
         (Ok(first), Ok(second)) => (first, second),
         (Err(stopped), _) | (_, Err(stopped)) => {
