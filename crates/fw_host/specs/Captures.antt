@@ -1,9 +1,9 @@
 -- Public vocabulary: the captures of daemons: what they get of a datagram, and the faults that end one.
-use Rattle.std.specs.Prelude.{◌≡◌, ℕ, Bool, true, false, List, take, Option, Some, None}
+use Rattle.std.specs.Prelude.{◌≡◌, ℕ, Bool, true, false, List, [], ◌∷◌, ◌++◌, take, Option, Some, None}
 use Rattle.std.specs.Io.KnownBytes.{Appends}
-use Rattle.fw_capture.specs.Spelling.{packet_bytes}
+use Rattle.fw_capture.specs.Spelling.{file_header, packet_bytes}
 use Rattle.std.specs.declared.net.socket_addr.SocketAddr.{SocketAddr}
-use Rattle.fw_capture.specs.declared.packet.Note.TheVariants.{Turn}
+use Rattle.fw_capture.specs.declared.packet.Note.TheVariants.{Start, Turn}
 use Rattle.fw_capture.specs.View.{Told, datagram, endpoint_of, note}
 use Rattle.fw_daemon.specs.declared.port.Arrival.{Arrival}
 use Rattle.fw_daemon.specs.declared.port.Patience.{Patience}
@@ -28,6 +28,12 @@ arrival_told false at patience None buffer = None
 abbrev pub CapturesSome : Option (Option (List ℕ)) → Option (Option (List ℕ)) → Option Told → Type 0
 CapturesSome first last None = last ≡ first
 CapturesSome first last (Some told) = Captures first last told
+
+-- What a process that starts appends to a capture with this front, as long as a file header, or all of it where it is shorter: the file header,
+-- where the capture is empty, and the note of the start. Any other front is a file header.
+abbrev pub StartsCapture : List ℕ → ℕ → Option (List ℕ) → Option (List ℕ) → Type 0
+StartsCapture [] nanoseconds first last = Appends first last (file_header ++ packet_bytes nanoseconds (note Start))
+StartsCapture (x ∷ xs) nanoseconds first last = ((x ∷ xs) ≡ file_header) × Appends first last (packet_bytes nanoseconds (note Start))
 
 -- of a capture of a daemon
 abbrev pub IsOfCapture : Fault → Type 0

@@ -1,10 +1,10 @@
 //! The capture of a daemon, in a file.
 
-ghost use Rattle.std.specs.Prelude.{◌≡◌, ◌↔◌, IfErr, IfOk, IsTrue, OnOk};
-ghost use Rattle.std.specs.Io.KnownBytes.{Appends};
+ghost use Rattle.std.specs.Prelude.{◌≡◌, ◌≢◌, ◌≤◌, ◌↔◌, [], IfErr, IfOk, IsTrue, OnOk, length};
+ghost use Rattle.std.specs.Io.KnownBytes.{Appends, Keeps};
 ghost use Rattle.fw_capture.specs.Spelling.{file_header, packet_bytes};
 ghost use Rattle.fw_capture.specs.View.{told_of};
-ghost use Rattle.fw_host.specs.Captures.{IsOfCapture};
+ghost use Rattle.fw_host.specs.Captures.{IsOfCapture, StartsCapture};
 
 use fw_capture::{Captured, Content, Note, file_header};
 use fw_faults::Fault;
@@ -43,33 +43,53 @@ pub fn open_capture<R: Files<File = File> + Clock>(
     if file.try_lock().is_err() {
         return Err(Fault::CaptureFault);
     }
-    begin(alloc, &mut file)?;
-    put_record(alloc, &mut file, now(rt), Content::Note(Note::Start))?;
+    let mut buffer = [0; HEADER_SIZE];
+    let count = read_front(&file, &mut buffer)?;
+    start(alloc, &mut file, now(rt), &buffer[..count])?;
     Ok(file)
 }
 
-/// Writes the file header where the file is empty, and checks that it is there otherwise.
-fn begin(alloc: Global, file: &mut File) -> Result<(), Fault>
-    ensures only { IfErr result IsOfCapture }
+/// Reads the front of a file into a buffer, as much as there is room for or the file has. It returns how many bytes these are.
+fn read_front(file: &File, buffer: &mut [u8]) -> Result<usize, Fault>
+    ensures count { IfOk result (λ count. count ≤ length buffer.new) }
+    ensures only { IfErr result (λ f. f ≡ Fault.CaptureFault) }
 {
     let Ok(metadata) = file.metadata() else {
         return Err(Fault::CaptureFault);
     };
-    if metadata.len() == 0 {
-        return write_header(alloc, file).map_err(|_| Fault::CaptureFault);
-    }
-    if metadata.len() < HEADER_SIZE as u64 {
-        return Err(Fault::ForeignCapture);
-    }
-    let mut header = [0; HEADER_SIZE];
-    if file.read_exact_at(&mut header, 0).is_err() {
+    let count = match usize::try_from(metadata.len()) {
+        Ok(size) => size.min(buffer.len()),
+        Err(_) => buffer.len(),
+    };
+    if file.read_exact_at(&mut buffer[..count], 0).is_err() {
         return Err(Fault::CaptureFault);
     }
-    match is_own(alloc, &header) {
-        Ok(true) => Ok(()),
-        Ok(false) => Err(Fault::ForeignCapture),
-        Err(AllocError) => Err(Fault::CaptureFault),
+    Ok(count)
+}
+
+/// Writes the file header where the front of a capture has no byte, and the note of the start.
+///
+/// # Errors
+///
+/// - `CaptureFault`: the writer failed, or memory was refused, or it is the year 2106.
+/// - `ForeignCapture`: the front is another one than the file header. Nothing was written.
+fn start<W: Write>(
+    alloc: Global,
+    writer: &mut W,
+    nanoseconds: u64,
+    front: &[u8],
+) -> Result<(), Fault>
+    ensures written { OnOk result (StartsCapture front.now nanoseconds (W.contents writer.old) (W.contents writer.new)) }
+    ensures foreign { result ≡ Err Fault.ForeignCapture → (front.now ≢ []) × (front.now ≢ file_header) }
+    ensures silent { result ≡ Err Fault.ForeignCapture → Keeps (W.contents writer.old) (W.contents writer.new) }
+    ensures only { IfErr result IsOfCapture }
+{
+    if front.is_empty() {
+        write_header(alloc, writer).map_err(|_| Fault::CaptureFault)?;
+    } else if !is_own(alloc, front).map_err(|_| Fault::CaptureFault)? {
+        return Err(Fault::ForeignCapture);
     }
+    put_record(alloc, writer, nanoseconds, Content::Note(Note::Start))
 }
 
 /// Whether these bytes are the file header of a capture that is written.
