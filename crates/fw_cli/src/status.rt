@@ -16,6 +16,7 @@ use fw_report::table::{ROW_HEADINGS, append_rows};
 use fw_report::{RowEntry, push_book, state_word};
 use serde_json::{Value, json};
 use std::alloc::{AllocError, Global};
+use std::fs;
 use std::fs::File;
 use std::io::{ErrorKind, Read, Write};
 use std::rt::Files;
@@ -76,7 +77,7 @@ fn bytes_of_book<F: Files<File = File>>(rt: &F, alloc: Global, path: &str) -> Re
 {
     let mut file = match File::open(rt, path) {
         Ok(file) => file,
-        Err(_) if is_absent(rt, path) => return Err(Fault::NoBook),
+        Err(_) if is_absent(fs::exists(rt, path)) => return Err(Fault::NoBook),
         Err(_) => return Err(Fault::BookFault),
     };
     let mut bytes = Vec::new(alloc);

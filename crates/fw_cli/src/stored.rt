@@ -15,6 +15,7 @@ use fw_host::{is_absent, opened};
 use fw_meter::MeterCore;
 use fw_store::{FileStore, FileStoreError, ImageStore};
 use std::alloc::Global;
+use std::fs;
 use std::fs::File;
 use std::io::{Read, Write};
 use std::rt::Files;
@@ -105,7 +106,9 @@ fn open_or_make<F: Files<File = File>>(
 {
     match FileStore::reopen(rt, options.file) {
         Ok(store) => Ok(store),
-        Err(FileStoreError::StoreFault) if is_absent(rt, options.file) => make(rt, alloc, options),
+        Err(FileStoreError::StoreFault) if is_absent(fs::exists(rt, options.file)) => make(
+            rt, alloc, options,
+        ),
         Err(error) => Err(Fault::from(error)),
     }
 }

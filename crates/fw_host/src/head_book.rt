@@ -116,7 +116,7 @@ fn file_fault<F: Files<File = File>>(rt: &F, path: &str, error: JournalError) ->
     requires { IsFileRefusal error }
     ensures { IsOfOldBook result }
 {
-    if error == JournalError::BookFault && is_absent(rt, path) {
+    if error == JournalError::BookFault && is_absent(fs::exists(rt, path)) {
         Fault::NoBook
     } else {
         Fault::from(error)

@@ -14,6 +14,7 @@ use fw_faults::{Fault, Reads, read_input};
 use fw_meter::MeterCore;
 use fw_store::{FileStore, FileStoreError, ImageStore};
 use std::alloc::Global;
+use std::fs;
 use std::fs::File;
 use std::rt::Files;
 
@@ -90,13 +91,14 @@ fn open_or_make<F: Files<File = File>>(
 {
     match FileStore::reopen(rt, path) {
         Ok(store) => Ok(store),
-        Err(FileStoreError::StoreFault) if is_absent(rt, path) => match fresh.factory_file {
-            None => make(rt, path, fresh, DEFAULT_FACTORY),
-            Some(file) => {
-                let factory = bytes_of_file(rt, alloc, file)?;
-                make(rt, path, fresh, &factory)
-            }
-        },
+        Err(FileStoreError::StoreFault) if is_absent(fs::exists(rt, path)) =>
+            match fresh.factory_file {
+                None => make(rt, path, fresh, DEFAULT_FACTORY),
+                Some(file) => {
+                    let factory = bytes_of_file(rt, alloc, file)?;
+                    make(rt, path, fresh, &factory)
+                }
+            },
         Err(error) => Err(Fault::from(error)),
     }
 }
