@@ -1,6 +1,6 @@
 //! The book of a head end's campaigns.
 
-ghost use Rattle.std.specs.Prelude.{◌≡◌, None, false, IfOk, IfErr, IsOk, MatchResult, OnOk, OnErr, OnSome, Some};
+ghost use Rattle.std.specs.Prelude.{◌≡◌, None, false, IfOk, IfErr, IsOk, MatchResult, OnOk, OnErr, OnSome, Some, IfSome};
 ghost use Rattle.std.specs.List.{list_any};
 ghost use Rattle.std.specs.Option.{option_copied};
 ghost use Rattle.fw_names.specs.Name.{name_of, IsOpened};
@@ -132,6 +132,14 @@ impl Book {
         meters.iter().any(|meter| self.is_busy(*meter))
     }
 
+    /// A campaign's offer with these bytes as its image, if there is one. The campaigns are looked through, from the last one on.
+    fn offer_of(&self, image: &[u8]) -> Option<&Offer>
+        ensures { IfSome result (λ offer. offer.now.image ≡ image.now) }
+    {
+        let mut offers = self.campaigns.values().rev();
+        offers.find(|offer| offer.image() == image)
+    }
+
     /// Opens a campaign: it offers the image to the meters under the name that is returned, which has this release, and each of its
     /// rows is live. The rows of other campaigns are not looked at.
     ///
@@ -154,7 +162,8 @@ impl Book {
         ensures kept { OnErr result (self.new ≡ self.old) }
     {
         self.check_opening(campaign, image, meters)?;
-        let offer = Offer::new(alloc, release, image, live_rows(alloc, meters)?)?;
+        let rows = live_rows(alloc, meters)?;
+        let offer = Offer::new(alloc, release, image, rows, self.offer_of(image))?;
         let name = offer.name(campaign);
         self.add(campaign.serial(), offer)?;
         Ok(name)
@@ -400,6 +409,7 @@ impl Book {
                 entry.release,
                 entry.image,
                 rows_of(alloc, entry.rows)?,
+                book.offer_of(entry.image),
             )?;
             book.add(entry.serial, offer)?;
             rest = after;

@@ -3,6 +3,7 @@
 
 mod book;
 mod error;
+mod image;
 pub mod laws;
 mod live;
 mod meters;

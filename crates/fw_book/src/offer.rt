@@ -1,14 +1,16 @@
 //! What a campaign offers, and its rows.
 
-ghost use Rattle.std.specs.Prelude.{◌≡◌, ◌<◌, ◌^◌, IfOk, IfErr};
+ghost use Rattle.std.specs.Prelude.{◌≡◌, ◌<◌, ◌^◌, IfOk, IfErr, IfSome};
 ghost use Rattle.fw_names.specs.Name.{name_of, IsOpened};
 ghost use Rattle.fw_book.specs.Rows.{state_of, is_live_in, has_live, with_state, cancelled_rows};
 
 use crate::error::BookError;
+use crate::image::Image;
 use crate::row::{Row, RowState, cancel_rows, mark_row};
-use fw_names::{CampaignId, ImageName, MeterId, digest_of};
+use fw_names::{CampaignId, ImageName, MeterId};
 use std::alloc::Global;
 use std::marker::Model;
+use std::sync::Arc;
 
 /// The most bytes that an image can have (own limit of this profile).
 pub const MAX_IMAGE_SIZE: usize = 16_777_216;
@@ -16,47 +18,46 @@ pub const MAX_IMAGE_SIZE: usize = 16_777_216;
 /// The most meters that a campaign can have (own limit of this profile).
 pub const MAX_METERS: usize = 256;
 
-/// The image of a campaign with its release, and a row for each of its meters in the order given. The image's digest is kept, so
-/// that it is computed once.
+/// The image of a campaign with its release, and a row for each of its meters in the order given. Campaigns of one book that offer
+/// the same image share one copy of it.
 #[derive(Debug, Drop)]
 pub struct Offer {
     release: u32,
-    image: Vec<u8>,
-    digest: [u8; 32],
+    image: Arc<Image>,
     rows: Vec<Row>,
 }
 
 impl Model for Offer {
-    ghost use Rattle.std.specs.Prelude.{◌≡◌};
-    ghost use Rattle.sha2.specs.Sha256.{sha256};
+    ghost use Rattle.std.specs.Arc.{arc_value};
     ghost use Rattle.fw_book.specs.Contents.{Offered};
 
     ghost Value = { Offered };
 
-    ghost view = { λ o. record { release = o.release; image = o.image.items; rows = o.rows.items } };
-
-    ghost invariant = { λ o. o.digest ≡ sha256 o.image.items };
+    ghost view = { λ o. record { release = o.release; image = arc_value o.image; rows = o.rows.items } };
 }
 
 impl Offer {
     ghost use Rattle.fw_book.specs.Contents.{Offered};
 
-    /// What a campaign offers, with a copy of the image.
+    /// What a campaign offers, with a copy of the image, or with that of an earlier offer, which is neither copied nor digested.
     pub(crate) fn new(
         alloc: Global,
         release: u32,
         image: &[u8],
         rows: Vec<Row>,
+        earlier: Option<&Offer>,
     ) -> Result<Offer, BookError>
+        requires same { IfSome earlier (λ offer. offer.now.image ≡ image.now) }
         ensures offer { IfOk result (λ offer. offer ≡ record { release = release; image = image.now; rows = rows.items }) }
         ensures memory { IfErr result (λ e. e ≡ BookError.OutOfMemory) }
     {
-        let digest = digest_of(image);
-        let image = Vec::from_slice(alloc, image)?;
+        let image = match earlier {
+            Some(offer) => Arc::try_clone(&offer.image)?,
+            None => Image::shared(alloc, image)?,
+        };
         Ok(Offer {
             release,
             image,
-            digest,
             rows,
         })
     }
@@ -73,7 +74,7 @@ impl Offer {
     pub fn image(&self) -> &[u8]
         ensures { result.now ≡ self.now.image }
     {
-        self.image.as_slice()
+        self.image.bytes()
     }
 
     /// The name of the image, where this campaign offers it, which a head end opened. No byte of the image is read.
@@ -84,7 +85,7 @@ impl Offer {
         ImageName {
             campaign,
             release: self.release,
-            digest: self.digest,
+            digest: self.image.digest(),
         }
     }
 

@@ -5,9 +5,9 @@ use Rattle.fw_book.proofs.book.Book.open_campaign.Goals as goal
 
 pub add-requires : goal.add-requires
 add-requires c =
-    let rows = c.in_ok-live_rows.ensures.rows in
+    let rows = c.in_ok-rows.ensures.rows in
     let offer : c.in_ok-offer.offer ≡ record { release = c.args.release; image = c.args.image.now; rows = map live_row c.args.meters.now } =
     rw (← rows) c.in_ok-offer.ensures.offer in
     rw (offer, c.serial.ensures)
     (opening_admits c.args.self.now c.args.campaign c.args.release c.args.image.now c.args.meters.now c.in_ok-check_opening.ensures.opened (omega arith)
-    (rw (← rows) c.in_ok-live_rows.ensures.fit) c.in_ok-check_opening.ensures.admitted)
+    (rw (← rows) c.in_ok-rows.ensures.fit) c.in_ok-check_opening.ensures.admitted)
