@@ -13,7 +13,7 @@ use Rattle.fw_head.specs.declared.news.RowNews.TheVariants as by
 use Rattle.fw_head.specs.Phase.{phase_of, IsLive}
 use Rattle.fw_head.specs.Row.{Row}
 use Rattle.fw_head.specs.Head.{Head, HeadHears, IsHead, IsDoneBy, row_of, news_of}
-use Rattle.fw_head.specs.Laws.{DoneByClaim, IsConfirmedBy}
+use Rattle.fw_head.specs.Laws.{DoneByClaim, ReportedByClaim, IsConfirmedBy}
 use Rattle.fw_head.proofs.LiveRows.{some_row}
 
 -- a live row is not done
@@ -61,7 +61,7 @@ some_name : (a b : Name) → (let o : Option Name = Some a in o ≡ Some b) → 
 some_name a b e = cc
 
 module _ (law : DoneByClaim) (head : Head) (is : IsHead head) where
-  pub only_done : (from : ℕ) (datagram : List ℕ) (told : News) (new : Head) → HeadHears head from datagram told new
+  only_done : (from : ℕ) (datagram : List ℕ) (told : News) (new : Head) → HeadHears head from datagram told new
       → (campaign : Campaign) (meter : ℕ) → told ≡ news.Done campaign meter → (meter ≡ from) × IsDoneBy head meter datagram campaign
   only_done from datagram told new (inl takes) campaign meter done =
       let parts = told_done takes.heard takes.row.name.campaign campaign from meter (sym takes.told_is ∙ done) in
@@ -84,7 +84,7 @@ module _ (law : DoneByClaim) (head : Head) (is : IsHead head) where
       nothing : news.Nothing ≡ news.Done campaign meter → ⊥
       nothing e = cc
 
-  pub is_done : (from : ℕ) (datagram : List ℕ) (told : News) (new : Head) → HeadHears head from datagram told new
+  is_done : (from : ℕ) (datagram : List ℕ) (told : News) (new : Head) → HeadHears head from datagram told new
       → (campaign : Campaign) (meter : ℕ) → meter ≡ from → IsDoneBy head meter datagram campaign → told ≡ news.Done campaign meter
   is_done from datagram told new (inl takes) campaign meter same d =
       let found : row_of head.rows from ≡ Some d.row = ap (λ m. row_of head.rows m) (sym same) ∙ d.found in
@@ -100,3 +100,9 @@ module _ (law : DoneByClaim) (head : Head) (is : IsHead head) where
       ∙ ap (λ m. (let n : News = news.Done campaign m in n)) (sym same)
   is_done from datagram told new (inr ignores) campaign meter same d =
       absurd (none_row d.row (sym ignores.0 ∙ ap (λ m. row_of head.rows m) (sym same) ∙ d.found))
+
+pub reported_by_claim : DoneByClaim → ReportedByClaim
+reported_by_claim law old new from datagram told campaign meter is hears = (
+  only_done law old is from datagram told new hears campaign meter,
+  λ both. is_done law old is from datagram told new hears campaign meter both.0 both.1,
+)

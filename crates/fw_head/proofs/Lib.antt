@@ -23,3 +23,4 @@ mod Openings
 mod Reopened
 mod DoneIn
 mod HasRow
+mod HeadsStay

@@ -1,5 +1,5 @@
 -- Public vocabulary: the laws of a row, and of a head end in parts.
-use Rattle.std.specs.Prelude.{◌≡◌, ◌↔◌, List, ℕ, Some}
+use Rattle.std.specs.Prelude.{◌≡◌, ◌↔◌, List, ℕ, None, Some}
 use Rattle.std.specs.Map.{values_of}
 use Rattle.fw_names.specs.Name.{Campaign}
 use Rattle.fw_client.specs.Claim.{Claim}
@@ -7,14 +7,17 @@ use Rattle.fw_client.specs.Hearing.{IsClaimed}
 use Rattle.fw_book.specs.declared.row.RowState.{RowState}
 use Rattle.fw_book.specs.declared.row.RowState.TheVariants as state
 use Rattle.fw_book.specs.Contents.{Contents, image_in, name_in, state_in}
+use Rattle.fw_book.specs.Changes.{opening_refusal}
 use Rattle.fw_head.specs.declared.stage.Stage.{Stage}
 use Rattle.fw_head.specs.declared.stage.Stage.TheVariants.{Done, Failed}
+use Rattle.fw_head.specs.declared.news.News.{News}
+use Rattle.fw_head.specs.declared.news.News.TheVariants as of_head
 use Rattle.fw_head.specs.declared.phase.Phase.TheVariants as phase
 use Rattle.fw_head.specs.declared.news.RowNews.{RowNews}
 use Rattle.fw_head.specs.declared.news.RowNews.TheVariants as news
 use Rattle.fw_head.specs.Phase.{phase_of}
 use Rattle.fw_head.specs.Row.{Row, RowHears}
-use Rattle.fw_head.specs.Head.{Head, IsHead, row_of, restarted, asking_first, BeginsWith}
+use Rattle.fw_head.specs.Head.{Head, HeadHears, IsDoneBy, IsHead, row_of, restarted, asking_first, BeginsWith, cancelled_head, new_head, opened_head, ticked_head}
 use Rattle.fw_head.specs.Parts.{AreLiveRows, by_meter, with_ends, joined}
 
 -- a row and a datagram determine what is reported, and the row afterwards
@@ -45,6 +48,13 @@ DoneByClaim =
     (old new : Row) (datagram : List ℕ) (told : RowNews) (claim : Claim)
     → ¬ (phase_of old.stage ≡ phase.Done) → RowHears old datagram told new
     → (told ≡ news.Done claim) ↔ IsConfirmedBy old datagram claim
+
+-- a meter is reported done exactly where its own answer claims what the campaign offers
+abbrev pub ReportedByClaim : Type 0
+ReportedByClaim =
+    (old new : Head) (from : ℕ) (datagram : List ℕ) (told : News) (campaign : Campaign) (meter : ℕ)
+    → IsHead old → HeadHears old from datagram told new
+    → (told ≡ of_head.Done campaign meter) ↔ ((meter ≡ from) × IsDoneBy old meter datagram campaign)
 
 -- ---- a head end that is parted and put together
 
@@ -89,3 +99,14 @@ EndsAreMarked = (book : Contents) (rows : List Row) → AreLiveRows book rows �
 -- first what its meter has.
 abbrev pub BeginsRestarted : Type 0
 BeginsRestarted = (head begun : Head) → IsHead head → BeginsWith head.book head.width begun → IsAsBefore (asking_first (restarted head)) begun
+
+-- ---- the live rows stay those of the book, each meter's once
+
+pub record HeadsStay : Type 0 where
+  pub new : (number width : ℕ) → IsHead (new_head number width)
+  pub heard : (old new : Head) (meter : ℕ) (datagram : List ℕ) (told : News) → IsHead old → HeadHears old meter datagram told new → IsHead new
+  pub ticked : (head : Head) (meter : ℕ) → IsHead head → IsHead (ticked_head head meter)
+  pub opened : (head : Head) (campaign : Campaign) (release : ℕ) (image meters : List ℕ) → IsHead head → opening_refusal head.book campaign image meters ≡ None
+      → IsHead (opened_head head campaign.serial release image meters)
+  pub cancelled : (head : Head) (serial : ℕ) → IsHead head → IsHead (cancelled_head head serial)
+  pub restarted : (head : Head) → IsHead head → IsHead (restarted head)

@@ -165,7 +165,7 @@ impl HeadCore {
         ensures same { OnErr result (self.new ≡ self.old) }
         ensures memory { OnErr result (RowsMayWant self.old.rows from datagram.now) }
     {
-        laws::done_by_claim();
+        laws::reported_by_claim();
         self.take(alloc, from, datagram)
     }
 

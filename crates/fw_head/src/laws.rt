@@ -1,6 +1,6 @@
 //! Laws of a row and of a head end, over the definitions alone. A caller cites a law by calling it: nothing is done.
 
-ghost use Rattle.fw_head.specs.Laws.{OneRow, RowKeepsGoal, DoneByClaim, PutBack, PutBackInOrder, EndsAreMarked, BeginsRestarted};
+ghost use Rattle.fw_head.specs.Laws.{OneRow, RowKeepsGoal, DoneByClaim, ReportedByClaim, PutBack, PutBackInOrder, EndsAreMarked, BeginsRestarted, HeadsStay};
 
 /// A row and a datagram determine what is reported, and the row afterwards.
 pub fn one_row()
@@ -19,6 +19,13 @@ pub fn done_by_claim()
     ensures { DoneByClaim }
 {
     fw_client::laws::only_claimed();
+}
+
+/// Whatever a head end hears, it reports a meter as done exactly where that meter's own answer claims what the campaign offers.
+pub fn reported_by_claim()
+    ensures { ReportedByClaim }
+{
+    done_by_claim();
 }
 
 /// A head end that is put together of its own book, width and live rows is as before, in whatever order the rows come: the book with
@@ -46,3 +53,13 @@ pub fn ends_are_marked()
 pub fn begins_restarted()
     ensures { BeginsRestarted }
 {}
+
+/// The live rows of a head end are those of its book, each meter's once: of a new one, and after each call.
+pub fn heads_stay()
+    ensures { HeadsStay }
+{
+    fw_book::laws::states_follow();
+    fw_book::laws::images_stay();
+    fw_book::laws::opening_offers();
+    fw_book::laws::admitted_opens();
+}
