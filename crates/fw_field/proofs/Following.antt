@@ -5,6 +5,7 @@ use Rattle.fw_names.specs.Name.{Campaign}
 use Rattle.fw_image.specs.Meter.{Meter}
 use Rattle.fw_book.specs.Contents.{Contents, image_in, state_in}
 use Rattle.fw_ledger.specs.declared.record.Ending.TheVariants.{Done as IsDone}
+use Rattle.fw_head.specs.Head.{IsHead}
 use Rattle.fw_daemon.specs.Daemon.{Daemon}
 use Rattle.fw_rollout.specs.Leading.{Leader}
 use Rattle.fw_rollout.specs.declared.ended.Ended.{Ended}
@@ -30,6 +31,7 @@ pub record IsKept (number : ℕ) (book synced : Contents) : Type 0 where
   pub done : (c : Campaign) (m : ℕ) → nat_eq c.head number ≡ true → is_done (state_in synced c m) ≡ true → is_done (state_in book c m) ≡ true
 
 pub record IsSound (f : Field) : Type 0 where
+  pub rows : (number : ℕ) (leader : Leader) → f.heads number ≡ Some leader → IsHead leader.head
   pub meters : (number : ℕ) (daemon : Daemon) → f.meters number ≡ Some daemon → Has daemon daemon.state.meter
   pub heads : (number : ℕ) (leader : Leader) → f.heads number ≡ Some leader → IsKept number leader.head.book leader.synced
   pub told : (ended : Ended) → Contains f.told ended → ended.ending ≡ IsDone → is_saved f ended.campaign ended.meter ≡ true
@@ -76,6 +78,7 @@ meter_sound old number after sent activations s has = record {
       (λ here. subst (λ (d : Daemon). Has d d.state.meter) here.1 has)
       (λ was. s.meters q daemon was)
       (put_cases old.meters number q after daemon e);
+  rows = s.rows;
   heads = s.heads;
   told = s.told;
 }
@@ -120,10 +123,14 @@ abbrev pub Saves : ℕ → Contents → Contents → Type 0
 Saves number old new = (c : Campaign) (m : ℕ) → nat_eq c.head number ≡ true → is_done (state_in old c m) ≡ true → is_done (state_in new c m) ≡ true
 
 pub head_sound : (old : Field) (number : ℕ) (before after : Leader) (sent : List Datagram) (told : List Ended) → IsSound old → old.heads number ≡ Some before
-    → IsKept number after.head.book after.synced → Saves number before.synced after.synced
+    → IsHead after.head → IsKept number after.head.book after.synced → Saves number before.synced after.synced
     → ((ended : Ended) → Contains told ended → ended.ending ≡ IsDone → Contains old.told ended ⊎ ((nat_eq ended.campaign.head number ≡ true) × (is_done (state_in after.synced ended.campaign ended.meter) ≡ true)))
     → IsSound (next_head old number after sent told)
-head_sound old number before after sent told s there kept saves more = record {
+head_sound old number before after sent told s there is kept saves more = record {
+  rows = λ q leader e. ⊎_elim
+      (λ here. subst (λ (l : Leader). IsHead l.head) here.1 is)
+      (λ was. s.rows q leader was)
+      (put_cases old.heads number q after leader e);
   meters = s.meters;
   heads = λ q leader e. ⊎_elim
       (λ here. subst (λ (n : ℕ). IsKept n leader.head.book leader.synced) (sym here.0) (subst (λ (l : Leader). IsKept number l.head.book l.synced) here.1 kept))

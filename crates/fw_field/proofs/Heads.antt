@@ -16,8 +16,8 @@ use Rattle.fw_head.specs.declared.news.News.{News}
 use Rattle.fw_head.specs.declared.news.RowNews.{RowNews}
 use Rattle.fw_head.specs.declared.news.RowNews.TheVariants as by
 use Rattle.fw_head.specs.Row.{MaySend, Row}
-use Rattle.fw_head.specs.Head.{Head, HeadHears, IsHead, IsOfferedIn, cancelled_head, opened_head, went_on}
-use Rattle.fw_head.specs.Laws.{DoneByClaim}
+use Rattle.fw_head.specs.Head.{AreRowsOf, Head, HeadHears, IsHead, IsOfferedIn, cancelled_head, opened_head, went_on}
+use Rattle.fw_head.specs.Laws.{HeadsStay, ReportedByClaim}
 use Rattle.fw_rollout.specs.Leading.{Leader, Step, hears, idles, ticks, sends, saves, tells, Steps, HearsMeter, state_after}
 use Rattle.fw_rollout.specs.declared.ended.Ended.{Ended}
 use Rattle.fw_world.specs.Laws.{StateStepsAsWorld}
@@ -88,6 +88,12 @@ grows_by number before after kept book synced = record {
 }
 
 module _ (old : Field) (w : World) (number : ℕ) (s : Simulates old w) (sound : IsSound old) (before after : Leader) (there : old.heads number ≡ Some before) where
+  is_head : IsHead before.head
+  is_head = sound.rows number before there
+
+  same_head : after.head ≡ before.head → IsHead after.head
+  same_head same = subst (λ (h : Head). IsHead h) (sym same) is_head
+
   kept_before : IsKept number before.head.book before.synced
   kept_before = sound.heads number before there
 
@@ -209,10 +215,10 @@ module _ (old : Field) (w : World) (number : ℕ) (s : Simulates old w) (sound :
       → (ended : Ended) → Contains told ended → ended.ending ≡ IsDone → Contains old.told ended ⊎ ((nat_eq ended.campaign.head number ≡ true) × (is_done (state_in after.synced ended.campaign ended.meter) ≡ true))
   no_more told same ended has is = inl (subst (λ (xs : List Ended). Contains xs ended) same has)
 
-  goes : (sent : List Datagram) (told : List Ended) → Follows w (next_head old number after sent told) → Grows number before after
+  goes : (sent : List Datagram) (told : List Ended) → IsHead after.head → Follows w (next_head old number after sent told) → Grows number before after
       → ((ended : Ended) → Contains told ended → ended.ending ≡ IsDone → Contains old.told ended ⊎ ((nat_eq ended.campaign.head number ≡ true) × (is_done (state_in after.synced ended.campaign ended.meter) ≡ true)))
       → Goes w (next_head old number after sent told)
-  goes sent told follows grows more = record { follows = follows; sound = head_sound old number before after sent told sound there grows.kept grows.saves more }
+  goes sent told head follows grows more = record { follows = follows; sound = head_sound old number before after sent told sound there head grows.kept grows.saves more }
 
   -- nothing is sent or reported
   quiet : (out : List Datagram) → out ≡ [] → w.sent ≡ old.sent ++ out
@@ -221,16 +227,19 @@ module _ (old : Field) (w : World) (number : ℕ) (s : Simulates old w) (sound :
   untold : old.told ++ [] ≡ old.told
   untold = append-nil old.told
 
-  goes_quietly : (out : List Datagram) → out ≡ [] → after.head.book ≡ before.head.book → after.synced ≡ before.synced → Goes w (next_head old number after (old.sent ++ out) (old.told ++ []))
-  goes_quietly out none book synced =
-      goes (old.sent ++ out) (old.told ++ []) (stays_by (old.sent ++ out) (old.told ++ []) (quiet out none) (same_book number before.head after.head book))
+  goes_quietly : (out : List Datagram) → out ≡ [] → IsHead after.head → after.head.book ≡ before.head.book → after.synced ≡ before.synced → Goes w (next_head old number after (old.sent ++ out) (old.told ++ []))
+  goes_quietly out none head book synced =
+      goes (old.sent ++ out) (old.told ++ []) head (stays_by (old.sent ++ out) (old.told ++ []) (quiet out none) (same_book number before.head after.head book))
       (grows_by number before after kept_before book synced) (no_more (old.told ++ []) untold)
 
-  module _ (steps : StateStepsAsWorld) (law : DoneByClaim) where
-    hears_goes : (from : SocketAddr) (datagram : List ℕ) (out : List Datagram) → out ≡ [] → IsHead before.head → WasAnswered old number before from datagram → HearsMeter before from datagram after
+  module _ (stay_law : HeadsStay) (steps : StateStepsAsWorld) (law : ReportedByClaim) where
+    hears_goes : (from : SocketAddr) (datagram : List ℕ) (out : List Datagram) → out ≡ [] → WasAnswered old number before from datagram → HearsMeter before from datagram after
         → Goes w (next_head old number after (old.sent ++ out) (old.told ++ []))
-    hears_goes from datagram out none is came h = either (hearing steps law number before.head after.head h.meter datagram h.heard kept_before.own is h.takes)
+    hears_goes from datagram out none came h = either (hearing steps law number before.head after.head h.meter datagram h.heard kept_before.own is_head h.takes)
       where
+        head : IsHead after.head
+        head = stay_law.heard before.head after.head h.meter datagram h.heard is_head h.takes
+
         synced : after.synced ≡ before.synced
         synced = ap (λ (l : Leader). l.synced) h.others
 
@@ -239,32 +248,36 @@ module _ (old : Field) (w : World) (number : ℕ) (s : Simulates old w) (sound :
 
         either : Same number before.head after.head ⊎ Marked number before.head after.head h.meter datagram → Goes w (next_head old number after (old.sent ++ out) (old.told ++ []))
         either (inl same) =
-            goes (old.sent ++ out) (old.told ++ []) (stays_by (old.sent ++ out) (old.told ++ []) (quiet out none) same)
+            goes (old.sent ++ out) (old.told ++ []) head (stays_by (old.sent ++ out) (old.told ++ []) (quiet out none) same)
             (heard_grows synced own same.images (λ c m at e. same.done c m at ∙ e)) (no_more (old.told ++ []) untold)
         either (inr m) =
-            goes (old.sent ++ out) (old.told ++ []) (marks_by h.meter datagram (old.sent ++ out) (old.told ++ []) (quiet out none) (came h.meter h.listed) m)
+            goes (old.sent ++ out) (old.told ++ []) head (marks_by h.meter datagram (old.sent ++ out) (old.told ++ []) (quiet out none) (came h.meter h.listed) m)
             (heard_grows synced own m.images
             (λ c n at e. m.done c n at ∙ mark_keeps (marks_in number before.head) m.campaign h.meter c n (mark_of number before.head c n at ∙ e)))
             (no_more (old.told ++ []) untold)
 
-    step_goes : (made : Step) (out : List Datagram) → IsHead before.head → Steps before made after → Comes old number before made → GoesOut number before made out
+    step_goes : (made : Step) (out : List Datagram) → Steps before made after → Comes old number before made → GoesOut number before made out
         → Goes w (next_head old number after (old.sent ++ out) (old.told ++ told_by made))
-    step_goes (hears from datagram) out is (inl h) came none = hears_goes from datagram out none is came h
-    step_goes (hears from datagram) out is (inr (inl h)) came none = goes_quietly out none (ap (λ (l : Leader). l.head.book) h.same) (ap (λ (l : Leader). l.synced) h.same)
-    step_goes (hears from datagram) out is (inr (inr h)) came none = goes_quietly out none (ap (λ (l : Leader). l.head.book) h.same) (ap (λ (l : Leader). l.synced) h.same)
-    step_goes idles out is same came none = goes_quietly out none (ap (λ (l : Leader). l.head.book) same) (ap (λ (l : Leader). l.synced) same)
-    step_goes (ticks meter) out is t came none = goes_quietly out none (ap (λ (l : Leader). l.head.book) t.others) (ap (λ (l : Leader). l.synced) t.others)
-    step_goes (sends to bytes) out is t came (meter, listed, only) =
+    step_goes (hears from datagram) out (inl h) came none = hears_goes from datagram out none came h
+    step_goes (hears from datagram) out (inr (inl h)) came none =
+        goes_quietly out none (same_head (ap (λ (l : Leader). l.head) h.same)) (ap (λ (l : Leader). l.head.book) h.same) (ap (λ (l : Leader). l.synced) h.same)
+    step_goes (hears from datagram) out (inr (inr h)) came none =
+        goes_quietly out none (same_head (ap (λ (l : Leader). l.head) h.same)) (ap (λ (l : Leader). l.head.book) h.same) (ap (λ (l : Leader). l.synced) h.same)
+    step_goes idles out same came none =
+        goes_quietly out none (same_head (ap (λ (l : Leader). l.head) same)) (ap (λ (l : Leader). l.head.book) same) (ap (λ (l : Leader). l.synced) same)
+    step_goes (ticks meter) out t came none =
+        goes_quietly out none (subst (λ (h : Head). IsHead h) (sym (ap (λ (l : Leader). l.head) t.others)) (stay_law.ticked before.head meter is_head)) (ap (λ (l : Leader). l.head.book) t.others) (ap (λ (l : Leader). l.synced) t.others)
+    step_goes (sends to bytes) out t came (meter, listed, only) =
         let head : after.head ≡ before.head = ap (λ (l : Leader). l.head) t.others in
         let G : List Datagram → Type 0 = λ xs. Goes w (next_head old number after (old.sent ++ xs) (old.told ++ [])) in
         subst G (sym only)
-        (goes (old.sent ++ to_meter number meter bytes ∷ []) (old.told ++ []) (sends_by meter bytes (old.told ++ []) t.offered head)
+        (goes (old.sent ++ to_meter number meter bytes ∷ []) (old.told ++ []) (same_head head) (sends_by meter bytes (old.told ++ []) t.offered head)
         (grows_by number before after kept_before (ap (λ (h : Head). h.book) head) (ap (λ (l : Leader). l.synced) t.others)) (no_more (old.told ++ []) untold))
-    step_goes saves out is same came none =
+    step_goes saves out same came none =
         let head : after.head ≡ before.head = ap (λ (l : Leader). l.head) same in
         let book : after.head.book ≡ before.head.book = ap (λ (h : Head). h.book) head in
         let synced : after.synced ≡ before.head.book = ap (λ (l : Leader). l.synced) same in
-        goes (old.sent ++ out) (old.told ++ []) (stays_by (old.sent ++ out) (old.told ++ []) (quiet out none) (same_book number before.head after.head book))
+        goes (old.sent ++ out) (old.told ++ []) (same_head head) (stays_by (old.sent ++ out) (old.told ++ []) (quiet out none) (same_book number before.head after.head book))
         (record {
           kept = record {
             own = ap (λ (x : Contents). x.head) book ∙ kept_before.own;
@@ -274,10 +287,10 @@ module _ (old : Field) (w : World) (number : ℕ) (s : Simulates old w) (sound :
           };
           saves = λ c m at e. ap (λ (x : Contents). is_done (state_in x c m)) synced ∙ kept_before.done c m at e;
         }) (no_more (old.told ++ []) untold)
-    step_goes (tells ended) out is t came none =
+    step_goes (tells ended) out t came none =
         let book : after.head.book ≡ before.head.book = ap (λ (l : Leader). l.head.book) t.others in
         let synced : after.synced ≡ before.synced = ap (λ (l : Leader). l.synced) t.others in
-        goes (old.sent ++ out) (old.told ++ ended ∷ []) (stays_by (old.sent ++ out) (old.told ++ ended ∷ []) (quiet out none) (same_book number before.head after.head book))
+        goes (old.sent ++ out) (old.told ++ ended ∷ []) (same_head (ap (λ (l : Leader). l.head) t.others)) (stays_by (old.sent ++ out) (old.told ++ ended ∷ []) (quiet out none) (same_book number before.head after.head book))
         (grows_by number before after kept_before book synced)
         (λ other has done. ⊎_elim
         (λ was. inl was)
@@ -303,14 +316,14 @@ anew number before after own synced stay = record {
   saves = λ c m at e. ap (λ (x : Contents). is_done (state_in x c m)) synced ∙ stay c m at e;
 }
 
-module _ (steps : StateStepsAsWorld) (old new : Field) (w : World) (s : Simulates old w) (sound : IsSound old) where
-  pub made_goes : DoneByClaim → (number : ℕ) (made : Step) → StepsAt old number made new → Goes w new
+module _ (stay_law : HeadsStay) (steps : StateStepsAsWorld) (old new : Field) (w : World) (s : Simulates old w) (sound : IsSound old) where
+  pub made_goes : ReportedByClaim → (number : ℕ) (made : Step) → StepsAt old number made new → Goes w new
   made_goes law number made t =
       let G : Field → Type 0 = λ f. Goes w f in
-      subst G (sym t.new_is) (step_goes old w number s sound t.before t.after t.there steps law made t.out t.is_head t.steps t.came t.goes_out)
+      subst G (sym t.new_is) (step_goes old w number s sound t.before t.after t.there stay_law steps law made t.out t.steps t.came t.goes_out)
 
   pub cancel_goes : (campaign : Campaign) → CancelsAt old campaign new → Goes w new
-  cancel_goes campaign t = subst G (sym t.new_is) (goes old w number s sound t.before t.after t.there old.sent old.told follows grows (no_more old w number s sound t.before t.after t.there old.told refl))
+  cancel_goes campaign t = subst G (sym t.new_is) (goes old w number s sound t.before t.after t.there old.sent old.told is follows grows (no_more old w number s sound t.before t.after t.there old.told refl))
     where
       number : ℕ
       number = campaign.head
@@ -326,6 +339,9 @@ module _ (steps : StateStepsAsWorld) (old new : Field) (w : World) (s : Simulate
 
       head : t.after.head ≡ b
       head = ap (λ (l : Leader). l.head) t.led
+
+      is : IsHead t.after.head
+      is = subst (λ (h : Head). IsHead h) (sym head) (stay_law.cancelled t.before.head campaign.serial (sound.rows number t.before t.there))
 
       same : Same number t.before.head t.after.head
       same = subst (λ (h : Head). Same number t.before.head h) (sym head) (cancelling steps t.before.head campaign kept.own t.admitted)
@@ -343,7 +359,7 @@ module _ (steps : StateStepsAsWorld) (old new : Field) (w : World) (s : Simulate
           (λ c m at e. same.done c m at ∙ kept.done c m at e)
 
   pub open_goes : (campaign : Campaign) (release : ℕ) (image meters : List ℕ) → OpensAt old campaign release image meters new → Goes w new
-  open_goes campaign release image meters t = subst G (sym t.new_is) (goes old w number s sound t.before t.after t.there old.sent old.told follows grows (no_more old w number s sound t.before t.after t.there old.told refl))
+  open_goes campaign release image meters t = subst G (sym t.new_is) (goes old w number s sound t.before t.after t.there old.sent old.told is follows grows (no_more old w number s sound t.before t.after t.there old.told refl))
     where
       number : ℕ
       number = campaign.head
@@ -359,6 +375,9 @@ module _ (steps : StateStepsAsWorld) (old new : Field) (w : World) (s : Simulate
 
       head : t.after.head ≡ b
       head = ap (λ (l : Leader). l.head) t.led
+
+      is : IsHead t.after.head
+      is = subst (λ (h : Head). IsHead h) (sym head) (stay_law.opened t.before.head campaign release image meters (sound.rows number t.before t.there) t.admitted)
 
       o : Opened number t.before.head t.after.head campaign image
       o = subst (λ (h : Head). Opened number t.before.head h campaign image) (sym head) (opening steps t.before.head campaign release image meters kept.own t.is_opened t.admitted)
@@ -389,7 +408,7 @@ module _ (steps : StateStepsAsWorld) (old new : Field) (w : World) (s : Simulate
           (λ c m at e. o.done c m at ∙ kept.done c m at e)
 
   pub kill_goes : (number : ℕ) → HeadIsKilledAt old number new → Goes w new
-  kill_goes number t = subst G (sym t.new_is) (goes old w number s sound t.before t.after t.there old.sent old.told follows grows (no_more old w number s sound t.before t.after t.there old.told refl))
+  kill_goes number t = subst G (sym t.new_is) (goes old w number s sound t.before t.after t.there old.sent old.told is follows grows (no_more old w number s sound t.before t.after t.there old.told refl))
     where
       G : Field → Type 0
       G f = Goes w f
@@ -419,6 +438,9 @@ module _ (steps : StateStepsAsWorld) (old new : Field) (w : World) (s : Simulate
 
       book : t.after.head.book ≡ t.book
       book = t.begins.book_is
+
+      is : IsHead t.after.head
+      is = subst (λ (b : Contents). AreRowsOf b t.after.head.rows) (sym book) t.begins.live
 
       follows : Follows w (next_head old number t.after old.sent old.told)
       follows = record {

@@ -3,7 +3,7 @@ use Rattle.std.proofs.Common.{◌≡◌, ℕ, nat_eq, inl, inr, List, [], ◌∷
 use Rattle.std.proofs.lemmas.Bool.{cond-true}
 use Rattle.std.proofs.lemmas.List.Elements.{All-nil, All-cons, All-head, All-tail, Contains-append_left}
 use Rattle.std.specs.declared.net.socket_addr.SocketAddr.{SocketAddr}
-use Rattle.fw_head.specs.Head.{IsHead, sends_to}
+use Rattle.fw_head.specs.Head.{sends_to}
 use Rattle.fw_rollout.specs.Leading.{Leader, Leading, Step, hears, idles, ticks, sends, saves, tells, IsListed, Steps}
 use Rattle.fw_rollout.specs.declared.link.Listed.{Listed}
 use Rattle.fw_world.specs.World.{Datagram}
@@ -67,7 +67,7 @@ record Led (address : ℕ → SocketAddr) (f : Field) (number : ℕ) (start now 
   pub meters : now.meters ≡ start.meters
   pub going : All (Goes_to start) now.going
 
-module _ (address : ℕ → SocketAddr) (f : Field) (number : ℕ) (start : Leader) (heads : (done : List Step) (mid : Leader) → Leading start done mid → IsHead mid.head) where
+module _ (address : ℕ → SocketAddr) (f : Field) (number : ℕ) (start : Leader) where
   from_net : (g : Field) (before : Leader) (made : Step) → before.meters ≡ start.meters → ((d : Datagram) → Contains f.sent d → Contains g.sent d)
       → ((from : SocketAddr) (datagram : List ℕ) → made ≡ hears from datagram → WasAnswered f number start from datagram) → Comes g number before made
   from_net g before (hears from datagram) same more was =
@@ -78,9 +78,9 @@ module _ (address : ℕ → SocketAddr) (f : Field) (number : ℕ) (start : Lead
   from_net g before saves same more was = tt
   from_net g before (tells ended) same more was = tt
 
-  goes_on : (before now : Leader) (made : Step) → Led address f number start before → IsHead before.head → Steps before made now
+  goes_on : (before now : Leader) (made : Step) → Led address f number start before → Steps before made now
       → ((from : SocketAddr) (datagram : List ℕ) → made ≡ hears from datagram → WasAnswered f number start from datagram) → Led address f number start now
-  goes_on before now made l is steps was =
+  goes_on before now made l steps was =
       let o = out_of number start before now l.meters l.going made steps in
       let new : Field = record (with_leader l.new number now) { sent = l.new.sent ++ o.out; told = l.new.told ++ told_by made } in
       record {
@@ -91,7 +91,6 @@ module _ (address : ℕ → SocketAddr) (f : Field) (number : ℕ) (start : Lead
           after = now;
           out = o.out;
           there = l.there;
-          is_head = is;
           steps = steps;
           came = from_net l.new before made l.meters l.stays was;
           goes_out = o.goes_out;
@@ -118,10 +117,10 @@ module _ (address : ℕ → SocketAddr) (f : Field) (number : ℕ) (start : Lead
   leads there rests now (made ∷ done) (before, led, steps) from_it =
       goes_on before now made
       (leads there rests before done led (λ from datagram has. from_it from datagram (later made (hears from datagram) done has)))
-      (heads done before led) steps
+      steps
       (λ from datagram same. from_it from datagram (subst (λ (x : Step). Contains (x ∷ done) (hears from datagram)) (sym same) (first_is (hears from datagram) done)))
 
 pub leading_is_moves : LeadingIsMoves
-leading_is_moves address f number start now steps there rests led heads from_it =
-    let r = leads address f number start heads there rests now steps led from_it in
+leading_is_moves address f number start now steps there rests led from_it =
+    let r = leads address f number start there rests now steps led from_it in
     (r.moves, r.new, r.reaches, r.there)

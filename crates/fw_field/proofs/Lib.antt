@@ -1,6 +1,5 @@
 mod Maps
 mod Mini
-mod Hearing
 mod Following
 mod Meters
 mod Heads

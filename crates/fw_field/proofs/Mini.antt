@@ -10,7 +10,7 @@ use Rattle.fw_book.specs.Contents.{Contents, image_in, state_in}
 use Rattle.fw_book.specs.Changes.{opening_refusal, cancel_refusal}
 use Rattle.fw_head.specs.declared.news.News.{News}
 use Rattle.fw_head.specs.Head.{Head, HeadHears, IsHead, opened_head, cancelled_head}
-use Rattle.fw_head.specs.Laws.{DoneByClaim}
+use Rattle.fw_head.specs.Laws.{ReportedByClaim}
 use Rattle.fw_world.specs.World.{Datagram, World, put, same_campaign}
 use Rattle.fw_world.specs.Step.{open_campaign, cancel_campaign, deliver, Delivers, Marks}
 use Rattle.fw_world.specs.State as kept
@@ -18,7 +18,6 @@ use Rattle.fw_world.specs.State.{State, IsState, head_at, is_done, set_head}
 use Rattle.fw_world.specs.Laws.{StateStepsAsWorld}
 use Rattle.fw_field.specs.Moves.{to_head}
 use Rattle.fw_field.proofs.Maps.{Done, itself, marked, some_is, none_some}
-use Rattle.fw_field.proofs.Hearing.{only_done, is_done_by}
 
 abbrev pub mini : ℕ → Head → List Datagram → State
 mini number head sent = record { heads = (number, head) ∷ []; meters = []; sent = sent; activations = [] }
@@ -109,7 +108,7 @@ module _ (steps : StateStepsAsWorld) where
       (steps (mini number a []) (mini number b []) (cancel_campaign campaign) (is_state number a [] own)
       (record { head = a; there = there number a []; admitted = admitted; new_is = set_is number a b [] }))
 
-  pub hearing : DoneByClaim → (number : ℕ) (a b : Head) (meter : ℕ) (datagram : List ℕ) (told : News) → a.book.head ≡ number → IsHead a → HeadHears a meter datagram told b
+  pub hearing : ReportedByClaim → (number : ℕ) (a b : Head) (meter : ℕ) (datagram : List ℕ) (told : News) → a.book.head ≡ number → IsHead a → HeadHears a meter datagram told b
       → Same number a b ⊎ Marked number a b meter datagram
   hearing law number a b meter datagram told own is hears = went s.0 (some_is d s.0 s.1) s.2
     where
@@ -133,7 +132,7 @@ module _ (steps : StateStepsAsWorld) where
           there = there number a sent;
           is_head = is;
           hears = hears;
-          done = λ campaign at. (only_done law a is meter datagram told b hears campaign at, λ by. is_done_by law a is meter datagram told b hears campaign at by.0 by.1);
+          done = λ campaign at. law a b meter datagram told campaign at is hears;
           new_is = set_is number a b sent;
         },
       )

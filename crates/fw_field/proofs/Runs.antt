@@ -10,7 +10,8 @@ use Rattle.fw_meter.specs.Laws.{Faultless, StopAfterIsStop, TurnFaultIsStop}
 use Rattle.fw_book.specs.Rows.{state_of}
 use Rattle.fw_book.specs.Contents.{Contents, Offered, image_in, state_in}
 use Rattle.fw_book.specs.Changes.{empty_book}
-use Rattle.fw_head.specs.Laws.{DoneByClaim}
+use Rattle.fw_head.specs.Head.{Head, IsHead}
+use Rattle.fw_head.specs.Laws.{HeadsStay, ReportedByClaim}
 use Rattle.fw_daemon.specs.Daemon.{Daemon}
 use Rattle.fw_rollout.specs.Leading.{Leader}
 use Rattle.fw_rollout.specs.declared.ended.Ended.{Ended}
@@ -85,9 +86,12 @@ module _ (f : Field) (is : IsBeginning f) where
           let m = is.meters number daemon there in
           (m.0, m.1, m.2, m.3, m.4, sym (some_is daemon.state.meter meter e) ∙ m.5.meter_is)
 
-  is_sound : IsSound f
-  is_sound = record {
+  is_sound : HeadsStay → IsSound f
+  is_sound stay_law = record {
     meters = λ number daemon there. let m = is.meters number daemon there in record { meter_is = refl; honest = m.5.honest; sound = m.5.sound };
+    rows = λ number leader there.
+        let new = is.heads number leader there in
+        subst (λ (h : Head). IsHead h) (sym (ap (λ (l : Leader). l.head) new.1)) (stay_law.new number new.0);
     heads = λ number leader there.
         let books = begins_with number leader there in
         subst (λ (b : Contents). IsKept number b leader.synced) (sym books.0) (subst (λ (b : Contents). IsKept number (empty_book number) b) (sym books.1)
@@ -100,14 +104,14 @@ itself_simulates f = record { offered = λ c. refl; sent = refl; meters = λ n. 
 
 -- ---- moves
 
-module _ (faultless : Faultless) (turn_law : TurnFaultIsStop) (stop_law : StopAfterIsStop) (done_law : DoneByClaim) (steps : StateStepsAsWorld) where
+module _ (faultless : Faultless) (turn_law : TurnFaultIsStop) (stop_law : StopAfterIsStop) (done_law : ReportedByClaim) (stay_law : HeadsStay) (steps : StateStepsAsWorld) where
   move_goes : (address : ℕ → SocketAddr) (old new : Field) (move : Move) (w : World) → Simulates old w → IsSound old → Move_goes address old move new → Goes w new
   move_goes address old new (round number) w s sound m = meters.round_goes faultless turn_law stop_law address old new w number s sound m
   move_goes address old new (kill_meter number) w s sound m = meters.kill_goes faultless turn_law stop_law address old new w number s sound m
-  move_goes address old new (step number made) w s sound m = heads.made_goes steps old new w s sound done_law number made m
-  move_goes address old new (open_campaign campaign release image meters) w s sound m = heads.open_goes steps old new w s sound campaign release image meters m
-  move_goes address old new (cancel_campaign campaign) w s sound m = heads.cancel_goes steps old new w s sound campaign m
-  move_goes address old new (kill_head number) w s sound m = heads.kill_goes steps old new w s sound number m
+  move_goes address old new (step number made) w s sound m = heads.made_goes stay_law steps old new w s sound done_law number made m
+  move_goes address old new (open_campaign campaign release image meters) w s sound m = heads.open_goes stay_law steps old new w s sound campaign release image meters m
+  move_goes address old new (cancel_campaign campaign) w s sound m = heads.cancel_goes stay_law steps old new w s sound campaign m
+  move_goes address old new (kill_head number) w s sound m = heads.kill_goes stay_law steps old new w s sound number m
 
   moves_go : (address : ℕ → SocketAddr) (old new : Field) (moves : List Move) (w : World) → Simulates old w → IsSound old → MovesLead address old moves new → Goes w new
   moves_go address old new [] w s sound same =
@@ -127,7 +131,7 @@ module _ (faultless : Faultless) (turn_law : TurnFaultIsStop) (stop_law : StopAf
       }
 
   after_moves : (address : ℕ → SocketAddr) (beginning now : Field) (moves : List Move) → IsBeginning beginning → MovesLead address beginning moves now → Goes (world_of beginning) now
-  after_moves address beginning now moves is made = moves_go address beginning now moves (world_of beginning) (itself_simulates beginning) (is_sound beginning is) made
+  after_moves address beginning now moves is made = moves_go address beginning now moves (world_of beginning) (itself_simulates beginning) (is_sound beginning is stay_law) made
 
   -- without the marks that the books in memory lack
   pub moves_are_runs : MarksMayBeMissing → AfterMoves IsRun

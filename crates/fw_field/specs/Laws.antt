@@ -3,7 +3,6 @@ use Rattle.std.specs.Prelude.{◌≡◌, ◌⊎◌, ℕ, List, [], ◌∷◌, tr
 use Rattle.std.specs.declared.net.socket_addr.SocketAddr.{SocketAddr}
 use Rattle.fw_names.specs.Name.{Name}
 use Rattle.fw_ledger.specs.declared.record.Ending.TheVariants.{Done}
-use Rattle.fw_head.specs.Head.{IsHead}
 use Rattle.fw_daemon.specs.Acts.{Act, came, quiet}
 use Rattle.fw_daemon.specs.Daemon.{Daemon, MayAsk, TakesTurn}
 use Rattle.fw_daemon.specs.Rounds.{IsRound, with_reply}
@@ -64,9 +63,9 @@ abbrev pub CameToHead : Field → ℕ → Leader → List Step → Type 0
 CameToHead f number leader steps =
     (from : SocketAddr) (datagram : List ℕ) → Contains steps (hears from datagram) → WasAnswered f number leader from datagram
 
--- then whatever the head end did is moves; at each step its live rows are those of its book, as every head end has them
+-- then whatever the head end did is moves
 abbrev pub LeadingIsMoves : Type 0
 LeadingIsMoves =
     (address : ℕ → SocketAddr) (f : Field) (number : ℕ) (start now : Leader) (steps : List Step) → f.heads number ≡ Some start → start.going ≡ []
-    → Leading start steps now → ((done : List Step) (mid : Leader) → Leading start done mid → IsHead mid.head) → CameToHead f number start steps
+    → Leading start steps now → CameToHead f number start steps
     → (moves : List Move) × (new : Field) × MovesLead address f moves new × (new.heads number ≡ Some now)

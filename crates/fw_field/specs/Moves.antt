@@ -8,7 +8,7 @@ use Rattle.fw_image.specs.Step.{Turn}
 use Rattle.fw_meter.specs.Stopping.{StopsAfter}
 use Rattle.fw_book.specs.Changes.{opening_refusal, cancel_refusal}
 use Rattle.fw_book.specs.Contents.{Contents}
-use Rattle.fw_head.specs.Head.{BeginsWith, Head, IsHead, opened_head, cancelled_head}
+use Rattle.fw_head.specs.Head.{BeginsWith, Head, opened_head, cancelled_head}
 use Rattle.fw_daemon.specs.Daemon.{Daemon, IsServed, MayAsk, TakesTurn}
 use Rattle.fw_daemon.specs.Serving.{IsStrange, IsUnserved}
 use Rattle.fw_rollout.specs.Daemon.{new_leader}
@@ -130,13 +130,12 @@ abbrev pub told_by : Step → List Ended
 told_by (tells ended) = ended ∷ []
 told_by made = []
 
--- a head end makes a step; its live rows are those of its book, as every head end has them
+-- a head end makes a step
 pub record StepsAt (old : Field) (number : ℕ) (made : Step) (new : Field) : Type 0 where
   pub before : Leader
   pub after : Leader
   pub out : List Datagram
   pub there : old.heads number ≡ Some before
-  pub is_head : IsHead before.head
   pub steps : Steps before made after
   pub came : Comes old number before made
   pub goes_out : GoesOut number before made out

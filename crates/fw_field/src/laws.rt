@@ -29,7 +29,8 @@ pub fn moves_are_runs()
     fw_meter::laws::faultless();
     fw_meter::laws::turn_fault_is_stop();
     fw_meter::laws::stop_after_is_stop();
-    fw_head::laws::done_by_claim();
+    fw_head::laws::reported_by_claim();
+    fw_head::laws::heads_stay();
     fw_world::laws::state_steps_as_world();
     fw_world::laws::marks_may_be_missing();
 }
@@ -42,7 +43,8 @@ pub fn reports_are_kept()
     fw_meter::laws::faultless();
     fw_meter::laws::turn_fault_is_stop();
     fw_meter::laws::stop_after_is_stop();
-    fw_head::laws::done_by_claim();
+    fw_head::laws::reported_by_claim();
+    fw_head::laws::heads_stay();
     fw_world::laws::state_steps_as_world();
 }
 
