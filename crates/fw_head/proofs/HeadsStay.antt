@@ -1,22 +1,20 @@
 -- The live rows stay those of the book.
-use Rattle.std.proofs.Common.{◌≡◌, ℕ, ◌==◌, nat_eq, List, [], ◌++◌, length, Option, Some, None, inl, inr, refl, sym, ap, subst, ◌∙◌}
+use Rattle.std.proofs.Common.{◌≡◌, ℕ, ◌==◌, nat_eq, List, [], ◌++◌, length, Option, Some, None, inl, inr, refl, sym, ap, subst}
 use Rattle.std.specs.List.{IsDistinct}
 use Rattle.fw_names.specs.Name.{Campaign, Name, name_of}
-use Rattle.fw_book.specs.declared.row.RowState.{RowState}
 use Rattle.fw_book.specs.declared.row.RowState.TheVariants as states
-use Rattle.fw_book.specs.Rows.{state_of}
-use Rattle.fw_book.specs.Contents.{Contents, Offered, state_in}
-use Rattle.fw_book.specs.Changes.{Opens, empty_book, marked, opened, cancelled, opening_refusal}
+use Rattle.fw_book.specs.Contents.{Offered, state_in}
+use Rattle.fw_book.specs.Changes.{empty_book, marked, opened, cancelled, opening_refusal}
 use Rattle.fw_book.specs.Laws.{AdmittedOpens, ImagesStay, OpeningOffers, StatesFollowCalls}
 use Rattle.fw_head.specs.declared.news.News.{News}
 use Rattle.fw_head.specs.declared.news.RowNews.{RowNews}
 use Rattle.fw_head.specs.declared.news.RowNews.TheVariants as by
 use Rattle.fw_head.specs.Row.{Row, RowHears, ticked}
-use Rattle.fw_head.specs.Head.{Head, HeadHears, HeadTakes, IsHead, Rows, at_meter, cancelled_head, campaign_at, image_of, new_head, new_rows, opened_head, renewed, restarted, row_of, ticked_head, went_on, without_meter, without_serial}
+use Rattle.fw_head.specs.Head.{Head, HeadHears, IsHead, at_meter, cancelled_head, campaign_at, image_of, new_head, new_rows, opened_head, renewed, restarted, row_of, ticked_head, went_on, without_meter, without_serial}
 use Rattle.fw_head.specs.Laws.{HeadsStay}
 use Rattle.fw_head.proofs.Cancelling.{head_cancelled_by}
 use Rattle.fw_head.proofs.Endings.{head_ended_by}
-use Rattle.fw_head.proofs.Openings.{head_opened_by, none_live, none_row, offer_at}
+use Rattle.fw_head.proofs.Openings.{head_opened_by, none_row, offer_at}
 use Rattle.fw_head.proofs.SameRows.{agree_at, agree_renewed, goal_heard, goes_ticked, head_heard, head_kept, keys_at, keys_renewed}
 
 module _ (follow : StatesFollowCalls) (stay : ImagesStay) (offers : OpeningOffers) (opens : AdmittedOpens) where

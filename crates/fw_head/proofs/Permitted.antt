@@ -1,5 +1,5 @@
 -- A tick of a row sends what a head end may send.
-use Rattle.std.proofs.Common.{◌≡◌, ℕ, ◌+◌, ◌<◌, ◌≤◌, suc, zero, not, Bool, List, [], ◌∷◌, All, length, map, slice_index_or, refl, sym, subst, ◌∙◌, arith}
+use Rattle.std.proofs.Common.{◌≡◌, ℕ, ◌+◌, ◌<◌, ◌≤◌, suc, zero, not, Bool, true, false, List, [], ◌∷◌, All, length, map, slice_index_or, refl, sym, subst, ◌∙◌, arith}
 use Rattle.std.specs.List.{range_with_len}
 use Rattle.std.proofs.lemmas.List.Elements.{All-nil, All-cons, All-head, All-tail, All-take, All-filter, All-map}
 use Rattle.fw_names.specs.Name.{Name}
@@ -10,7 +10,7 @@ use Rattle.fw_client.specs.Ask.{Ask, request_of, kind_of}
 use Rattle.fw_client.specs.State.{State, asking, forgetting}
 use Rattle.fw_head.specs.declared.stage.Stage.{Stage}
 use Rattle.fw_head.specs.declared.stage.Stage.TheVariants.{Size, Enable, Start, Blocks, Check, Gaps, Verify, Poll, Info, Activate, Confirm, Done, Failed}
-use Rattle.fw_head.specs.Phase.{block_ask, asks_in, count}
+use Rattle.fw_head.specs.Phase.{block_ask, asks_in, asks_first_in, count}
 use Rattle.fw_head.specs.Row.{Row, MaySend, IsPermitted, tick_asks}
 use Rattle.fw_head.specs.Inside.{IsCutOf, IsOwn, Carry}
 
@@ -61,6 +61,22 @@ may_in meter name size image width (Confirm g) own long = one name image ask.act
 may_in meter name size image width (Done claim) own long = All-nil (MaySend name image)
 may_in meter name size image width Failed own long = All-nil (MaySend name image)
 
+may_first : (meter : ℕ) (name : Name) (size : ℕ) (image : List ℕ) (width : ℕ) (stage : Stage) (asks_first : Bool) → IsOwn meter name size stage → length image ≡ size → All (MaySend name image) (asks_first_in name size image width stage asks_first)
+may_first meter name size image width (Confirm g) true own long = All-cons (MaySend name image) ask.active_name (ask.blocks ∷ []) tt (one name image ask.blocks tt)
+may_first meter name size image width (Confirm g) false own long = may_in meter name size image width (Confirm g) own long
+may_first meter name size image width Size asks_first own long = may_in meter name size image width Size own long
+may_first meter name size image width (Enable g) asks_first own long = may_in meter name size image width (Enable g) own long
+may_first meter name size image width (Start g) asks_first own long = may_in meter name size image width (Start g) own long
+may_first meter name size image width (Blocks g known) asks_first own long = may_in meter name size image width (Blocks g known) own long
+may_first meter name size image width (Check g) asks_first own long = may_in meter name size image width (Check g) own long
+may_first meter name size image width (Gaps g) asks_first own long = may_in meter name size image width (Gaps g) own long
+may_first meter name size image width (Verify g) asks_first own long = may_in meter name size image width (Verify g) own long
+may_first meter name size image width (Poll g) asks_first own long = may_in meter name size image width (Poll g) own long
+may_first meter name size image width (Info g) asks_first own long = may_in meter name size image width (Info g) own long
+may_first meter name size image width (Activate g) asks_first own long = may_in meter name size image width (Activate g) own long
+may_first meter name size image width (Done claim) asks_first own long = may_in meter name size image width (Done claim) own long
+may_first meter name size image width Failed asks_first own long = may_in meter name size image width Failed own long
+
 -- ---- each datagram
 
 all_permitted : (name : Name) (image : List ℕ) (c : State) (asks : List Ask) (sent : List (List ℕ)) → All (MaySend name image) asks → Carry c asks sent → All (IsPermitted name image) sent
@@ -76,4 +92,4 @@ all_permitted name image c (asked ∷ asks) (datagram ∷ datagrams) may carry =
 pub tick_permitted : (meter : ℕ) (inside row : Row) (image : List ℕ) (width : ℕ) (sent : List (List ℕ)) → inside ≡ row → IsOwn meter inside.name inside.size inside.stage → Carry (forgetting row.client) (tick_asks row image width) sent → length image ≡ row.size → All (IsPermitted row.name image) sent
 tick_permitted meter inside row image width sent same own carry long =
     all_permitted row.name image (forgetting row.client) (tick_asks row image width) sent
-    (may_in meter row.name row.size image width row.stage (subst (λ (r : Row). IsOwn meter r.name r.size r.stage) same own) long) carry
+    (may_first meter row.name row.size image width row.stage row.asks_first (subst (λ (r : Row). IsOwn meter r.name r.size r.stage) same own) long) carry

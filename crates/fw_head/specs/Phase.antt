@@ -66,6 +66,11 @@ asks_in name size image width (Confirm g) = ask.active_name ∷ []
 asks_in name size image width (Done claim) = []
 asks_in name size image width Failed = []
 
+-- A row that asks first which image runs asks at once which blocks the meter has, since what runs may have no name by which it is heard.
+abbrev pub asks_first_in : Name → ℕ → List ℕ → ℕ → Stage → Bool → List ask.Ask
+asks_first_in name size image width (Confirm g) true = ask.active_name ∷ ask.blocks ∷ []
+asks_first_in name size image width stage asks_first = asks_in name size image width stage
+
 -- ---- where an answer leads
 
 -- how many blocks the image has

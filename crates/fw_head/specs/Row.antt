@@ -16,7 +16,7 @@ use Rattle.fw_head.specs.declared.answers.Step.{Step}
 use Rattle.fw_head.specs.declared.answers.Step.TheVariants.{Stay, Took, Move, Return}
 use Rattle.fw_head.specs.declared.news.RowNews.{RowNews}
 use Rattle.fw_head.specs.declared.news.RowNews.TheVariants as news
-use Rattle.fw_head.specs.Phase.{asks_in, Leads, TakesMemory, with_known}
+use Rattle.fw_head.specs.Phase.{asks_first_in, Leads, TakesMemory, with_known}
 
 pub record Row : Type 0 where
   -- the name and the size of the image that the meter is to run
@@ -66,7 +66,7 @@ asking_all c (ask ∷ asks) = asking_all (asking c (kind_of ask)) asks
 
 -- what a tick asks of the row's image, of which these are the bytes, with windows of this width
 abbrev pub tick_asks : Row → List ℕ → ℕ → List Ask
-tick_asks row image width = asks_in row.name row.size image width row.stage
+tick_asks row image width = asks_first_in row.name row.size image width row.stage row.asks_first
 
 -- the bytes of each datagram
 abbrev pub bytes_of : List (Vec ℕ) → List (List ℕ)

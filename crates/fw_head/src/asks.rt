@@ -33,6 +33,26 @@ pub(crate) fn ask_one(
     Ok(vec![in alloc; datagram]?)
 }
 
+/// Asks two things, in this order.
+pub(crate) fn ask_two(
+    alloc: Global,
+    client: &mut Client,
+    first: &Ask<'_>,
+    second: &Ask<'_>,
+) -> Result<Vec<Vec<u8>>, OutOfMemory>
+    requires idle { client.old.asks ≡ empty }
+    requires first_fits { Fits (ask_of first.now) }
+    requires second_fits { Fits (ask_of second.now) }
+    ensures sent { IfOk result (λ sent. bytes_of sent.items ≡ datagrams client.old (ask_of first.now ∷ ask_of second.now ∷ [])) }
+    ensures carry { IfOk result (λ sent. Carry client.old (ask_of first.now ∷ ask_of second.now ∷ []) (bytes_of sent.items)) }
+    ensures few { IfOk result (λ sent. length sent.items ≤ 15) }
+    ensures asked { OnOk result (client.new ≡ asking_all client.old (ask_of first.now ∷ ask_of second.now ∷ [])) }
+{
+    let former = datagram(alloc, client, first)?;
+    let latter = datagram(alloc, client, second)?;
+    Ok(vec![in alloc; former, latter]?)
+}
+
 /// Transfers the blocks of these numbers, in this order.
 pub(crate) fn ask_blocks(
     alloc: Global,

@@ -5,7 +5,7 @@ ghost use Rattle.std.specs.FinMap.{empty};
 ghost use Rattle.fw_client.specs.State.{IsWaiting};
 
 use crate::answers::{Step, next_step};
-use crate::asks::{ask_blocks, ask_one};
+use crate::asks::{ask_blocks, ask_one, ask_two};
 use crate::ending::expect_marked;
 use crate::news::RowNews;
 use crate::phase::Phase;
@@ -229,6 +229,9 @@ impl RowCore {
             Stage::Poll(_) => Ask::Status,
             Stage::Info(_) => Ask::Info,
             Stage::Activate(_) => Ask::Activate,
+            Stage::Confirm(_) if self.asks_first => {
+                return ask_two(alloc, client, &Ask::ActiveName, &Ask::Blocks);
+            }
             Stage::Confirm(_) => Ask::ActiveName,
             Stage::Done(_) | Stage::Failed => return Ok(Vec::new(alloc)),
         };

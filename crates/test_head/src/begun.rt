@@ -47,13 +47,16 @@ fn a_head_end_begins_with_a_book(rt: HostRuntime) -> Result<(), Fail> {
     each(rt.alloc(), BEGUN)
 }
 
-/// The row of a meter that was about to be done begins anew, and asks what the meter runs before it would start.
+/// The row of a meter that was about to be done begins anew, and asks what the meter runs and has before it would start.
 const ASKS_FIRST: &[(Step, &str)] = &[
     (Step::Tick, "c001c0001200002c0000ff0200"),
     (Step::Hear("c401c0000600000002"), "Moved, Some(Enable)"),
     (Step::Tick, "c101c1001200002c0000ff05000301"),
     (Step::Hear("c501c100"), "Moved, Some(Confirm)"),
-    (Step::Tick, "c001c200010100000200ff0200"),
+    (
+        Step::Tick,
+        "c001c200010100000200ff0200 c001c3001200002c0000ff0300",
+    ),
     (
         Step::Hear(
             "c401c2000929010000000700000001ba7816bf8f01cfea414140de5dae2223b00361a396177a9cb410ff61f20015ad",

@@ -19,10 +19,14 @@ fn reopened_session(alloc: Global, parts: &[&[(Step, &str)]]) -> Result<(), Fail
     Ok(())
 }
 
-/// Once the meter is enabled, up to the ask of what it runs: a GET of the active firmware identifier, and no initiate.
+/// Once the meter is enabled, up to the asks of what it runs and which blocks it has: a GET of the active firmware identifier and one of
+/// image_transferred_blocks_status, and no initiate.
 const TO_RUNS: &[(Step, &str)] = &[
     (Step::Hear("c501c100"), "Moved, Confirm, 0"),
-    (Step::Tick, "c001c200010100000200ff0200"),
+    (
+        Step::Tick,
+        "c001c200010100000200ff0200 c001c3001200002c0000ff0300",
+    ),
 ];
 
 const RUNS_IT: &[(Step, &str)] = &[
@@ -43,68 +47,75 @@ const RUNS_ANOTHER: &[(Step, &str)] = &[
         ),
         "Moved, Gaps, 0",
     ),
-    (Step::Tick, "c001c3001200002c0000ff0300"),
+    (Step::Tick, "c001c4001200002c0000ff0300"),
 ];
 
 /// So it is where the answer has no name, but an access result.
 const RUNS_UNKNOWN: &[(Step, &str)] = &[
     (Step::Hear("c401c20103"), "Moved, Gaps, 0"),
-    (Step::Tick, "c001c3001200002c0000ff0300"),
+    (Step::Tick, "c001c4001200002c0000ff0300"),
+];
+
+/// What it runs has no name, so nothing is heard by that answer. The one to the other ask leads on.
+const RUNS_UNNAMED: &[(Step, &str)] = &[
+    (Step::Hear("c401c2000900"), "Nothing, Confirm, 0"),
+    (Step::Hear("c401c3000400"), "Moved, Gaps, 0"),
+    (Step::Tick, "c001c4001200002c0000ff0300"),
 ];
 
 /// Of two blocks it has the first. The other one alone is sent.
 const HAS_ONE: &[(Step, &str)] = &[
-    (Step::Hear("c401c300040280"), "Moved, Blocks, 0"),
-    (Step::Tick, "c301c4001200002c0000ff020102020600000001090163"),
-    (Step::Hear("c701c40000"), "Moved, Check, 0"),
-    (Step::Tick, "c001c5001200002c0000ff0400"),
+    (Step::Hear("c401c400040280"), "Moved, Blocks, 0"),
+    (Step::Tick, "c301c5001200002c0000ff020102020600000001090163"),
+    (Step::Hear("c701c50000"), "Moved, Check, 0"),
+    (Step::Tick, "c001c6001200002c0000ff0400"),
 ];
 
 /// From there as any row goes on. What the meter runs at last counts as ever.
 const TO_CLAIM: &[(Step, &str)] = &[
-    (Step::Hear("c401c5000600000002"), "Moved, Verify, 0"),
-    (Step::Tick, "c301c6001200002c0000ff03010f00"),
-    (Step::Hear("c701c60000"), "Moved, Info, 0"),
-    (Step::Tick, "c001c7001200002c0000ff0700"),
+    (Step::Hear("c401c6000600000002"), "Moved, Verify, 0"),
+    (Step::Tick, "c301c7001200002c0000ff03010f00"),
+    (Step::Hear("c701c70000"), "Moved, Info, 0"),
+    (Step::Tick, "c001c8001200002c0000ff0700"),
     (
         Step::Hear(
-            "c401c7000101020306000000030929010000000700000001ba7816bf8f01cfea414140de5dae2223b00361a396177a9cb410ff61f20015ad0920ba7816bf8f01cfea414140de5dae2223b00361a396177a9cb410ff61f20015ad",
+            "c401c8000101020306000000030929010000000700000001ba7816bf8f01cfea414140de5dae2223b00361a396177a9cb410ff61f20015ad0920ba7816bf8f01cfea414140de5dae2223b00361a396177a9cb410ff61f20015ad",
         ),
         "Moved, Activate, 0",
     ),
-    (Step::Tick, "c301c8001200002c0000ff04010f00"),
-    (Step::Hear("c701c80000"), "Moved, Confirm, 0"),
-    (Step::Tick, "c001c900010100000200ff0200"),
+    (Step::Tick, "c301c9001200002c0000ff04010f00"),
+    (Step::Hear("c701c90000"), "Moved, Confirm, 0"),
+    (Step::Tick, "c001ca00010100000200ff0200"),
 ];
 
 const CLAIMS_IT: &[(Step, &str)] = &[(
     Step::Hear(
-        "c401c9000929010000000700000001ba7816bf8f01cfea414140de5dae2223b00361a396177a9cb410ff61f20015ad",
+        "c401ca000929010000000700000001ba7816bf8f01cfea414140de5dae2223b00361a396177a9cb410ff61f20015ad",
     ),
     "1 runs 010000000700000001ba7816bf8f01cfea414140de5dae2223b00361a396177a9cb410ff61f20015ad, Done, 0",
 )];
 
 const CLAIMS_ANOTHER: &[(Step, &str)] = &[(
     Step::Hear(
-        "c401c9000929010000000700000002ba7816bf8f01cfea414140de5dae2223b00361a396177a9cb410ff61f20015ad",
+        "c401ca000929010000000700000002ba7816bf8f01cfea414140de5dae2223b00361a396177a9cb410ff61f20015ad",
     ),
     "Moved, Start, 1",
 )];
 
 /// It has both: none is sent.
 const HAS_ALL: &[(Step, &str)] = &[
-    (Step::Hear("c401c3000402c0"), "Moved, Check, 0"),
-    (Step::Tick, "c001c4001200002c0000ff0400"),
+    (Step::Hear("c401c4000402c0"), "Moved, Check, 0"),
+    (Step::Tick, "c001c5001200002c0000ff0400"),
 ];
 
 /// Three bits, of two blocks: it is in the middle of another image, if of any, so the row starts.
 const HAS_OTHERS: &[(Step, &str)] = &[
-    (Step::Hear("c401c300040380"), "Moved, Start, 1"),
+    (Step::Hear("c401c400040380"), "Moved, Start, 1"),
     (
         Step::Tick,
-        "c301c4001200002c0000ff010102020929010000000700000001ba7816bf8f01cfea414140de5dae2223b00361a396177a9cb410ff61f20015ad0600000003",
+        "c301c5001200002c0000ff010102020929010000000700000001ba7816bf8f01cfea414140de5dae2223b00361a396177a9cb410ff61f20015ad0600000003",
     ),
-    (Step::Hear("c701c40000"), "Moved, Blocks, 1"),
+    (Step::Hear("c701c50000"), "Moved, Blocks, 1"),
 ];
 
 /// Once it is made new it doesn't ask first any more.
@@ -118,6 +129,7 @@ fn a_reopened_row_asks_first(rt: HostRuntime) -> Result<(), Fail> {
     reopened_session(alloc, &[TO_ENABLE, TO_RUNS, RUNS_IT])?;
     reopened_session(alloc, &[TO_ENABLE, TO_RUNS, RUNS_ANOTHER, HAS_ALL])?;
     reopened_session(alloc, &[TO_ENABLE, TO_RUNS, RUNS_UNKNOWN, HAS_OTHERS])?;
+    reopened_session(alloc, &[TO_ENABLE, TO_RUNS, RUNS_UNNAMED, HAS_ALL])?;
     reopened_session(alloc, &[TO_ENABLE, TO_RUNS, MADE_NEW, TO_ENABLE, STARTS])
 }
 
