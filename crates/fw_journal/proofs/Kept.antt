@@ -1,7 +1,7 @@
 -- What the calls of a device in memory leave of it, and of its past.
-use Rattle.std.proofs.Common.{◌≡◌, ◌⊎◌, inl, inr, ⊎_elim, ℕ, zero, suc, ◌≤◌, List, [], ◌∷◌, ◌++◌, length, take, drop, refl, sym, ◌∙◌, ap, subst, arith, length-append}
-use Rattle.fw_journal.specs.Device.{splice, IsTorn, IsShortened, Elapses}
-use Rattle.fw_journal.specs.Past.{Held, LeavesOf, LeavesOfAll, MayLeave, MightHaveLeft}
+use Rattle.std.proofs.Common.{◌≡◌, ◌⊎◌, inl, inr, ⊎_elim, ℕ, zero, suc, ◌≤◌, List, [], ◌∷◌, ◌++◌, length, take, drop, refl, sym, ◌∙◌, ap, subst, arith, append_assoc, length-append}
+use Rattle.fw_journal.specs.Device.{splice, IsTorn, IsShortened, Elapses, LeavesOnly}
+use Rattle.fw_journal.specs.Past.{Held, LeavesOf, LeavesOfAll, MayLeave, MightHaveLeft, only_now}
 use Rattle.fw_journal.specs.Fuse.{half_torn}
 use Rattle.fw_journal.specs.Memory.{held_of, past_of, leaves, left_since}
 use Rattle.fw_journal.specs.declared.disk.Change.{Change}
@@ -91,3 +91,53 @@ not_shortened len old new same = λ left now. (left, subst (λ (h : Held). MayLe
 -- after a sync there is what is read
 pub synced_leaves : (old new : Held) → new ≡ record { bytes = old.bytes; synced = old.bytes; changes = [] } → (left : List ℕ) → MayLeave new left → left ≡ old.bytes
 synced_leaves old new is left now = ⊎_elim (λ e. e) (λ e. e) (subst (λ (h : Held). MayLeave h left) is now)
+
+-- ---- bytes that are replaced
+
+might_either : (past more : List Held) (c : List ℕ) → MightHaveLeft (past ++ more) c → MightHaveLeft past c ⊎ MightHaveLeft more c
+might_either [] more c had = inr had
+might_either (p ∷ past) more c (inl here) = inl (inl here)
+might_either (p ∷ past) more c (inr there) = ⊎_elim (λ had. inl (inr had)) (λ new. inr new) (might_either past more c there)
+
+drop_grown : (t : ℕ) (past more : List Held) → t ≤ length past → drop t (past ++ more) ≡ drop t past ++ more
+drop_grown zero past more le = refl
+drop_grown (suc t) [] more le = absurd (omega arith)
+drop_grown (suc t) (p ∷ past) more le = drop_grown t past more (omega arith)
+
+-- the past with what was held and then these
+module _ (old new : MemoryDevice) (mids : List Held) (P : List ℕ → Type 0) (grown : past_of new ≡ past_of old ++ (held_of old ∷ mids))
+    (before : (left : List ℕ) → leaves old left → P left) (between : (left : List ℕ) → MightHaveLeft mids left → P left) (after : (left : List ℕ) → leaves new left → P left) where
+  since_old : (t : ℕ) (left : List ℕ) → t ≤ length (past_of old) → left_since new t left → left_since old t left ⊎ P left
+  since_old t left le some =
+      let rest : drop t (past_of new) ≡ drop t (past_of old) ++ (held_of old ∷ mids) = ap (λ (l : List Held). drop t l) grown ∙ drop_grown t (past_of old) (held_of old ∷ mids) le in
+      ⊎_elim (λ now. inr (after left now))
+      (λ had. ⊎_elim (λ earlier. inl (inr earlier)) (λ later. ⊎_elim (λ is. inl (inl is)) (λ mid. inr (between left mid)) later)
+      (might_either (drop t (past_of old)) (held_of old ∷ mids) left (subst (λ (l : List Held). MightHaveLeft l left) rest had))) some
+
+  pub grown_leaves : LeavesOnly (λ m. length (past_of m)) left_since old new P
+  grown_leaves = record {
+    later = omega (arith, ap length grown, length-append (past_of old) (held_of old ∷ mids));
+    each = λ left now. ⊎_elim (λ is. before left (only_now (past_of old) (held_of old) left is)) (λ is. is) (since_old (length (past_of old)) left (omega arith) now);
+    before = λ t left le now. since_old t left le now;
+  }
+
+-- what it may leave, or these bytes
+abbrev pub LeftOr : Held → List ℕ → List ℕ → Type 0
+LeftOr old bytes left = MayLeave old left ⊎ (left ≡ bytes)
+
+named_leaves : (old named : Held) (bytes left : List ℕ) → named ≡ record { bytes = bytes; synced = old.synced; changes = old.changes } → MayLeave named left → LeftOr old bytes left
+named_leaves old named bytes left is now = ⊎_elim (λ new. inr new) (λ was. inl (inr was)) (subst (λ (h : Held). MayLeave h left) is now)
+
+-- the new bytes have the name of the old ones
+pub renamed_leaves : (old new : MemoryDevice) (bytes : List ℕ) → held_of new ≡ record { bytes = bytes; synced = (held_of old).synced; changes = (held_of old).changes } → past_of new ≡ past_of old ++ held_of old ∷ []
+    → LeavesOnly (λ m. length (past_of m)) left_since old new (LeftOr (held_of old) bytes)
+renamed_leaves old new bytes is pushed =
+    grown_leaves old new [] (LeftOr (held_of old) bytes) pushed (λ left was. inl was) (λ left none. absurd none) (λ left now. named_leaves (held_of old) (held_of new) bytes left is now)
+
+-- and that is synced
+pub replaced_leaves : (old new : MemoryDevice) (named : Held) (bytes : List ℕ) → named ≡ record { bytes = bytes; synced = (held_of old).synced; changes = (held_of old).changes } → held_of new ≡ record { bytes = named.bytes; synced = named.bytes; changes = [] }
+    → past_of new ≡ (past_of old ++ held_of old ∷ []) ++ named ∷ [] → LeavesOnly (λ m. length (past_of m)) left_since old new (LeftOr (held_of old) bytes)
+replaced_leaves old new named bytes is synced pushed =
+    grown_leaves old new (named ∷ []) (LeftOr (held_of old) bytes) (pushed ∙ append_assoc (past_of old) (held_of old ∷ []) (named ∷ []))
+    (λ left was. inl was) (λ left mid. ⊎_elim (λ here. named_leaves (held_of old) named bytes left is here) (λ none. absurd none) mid)
+    (λ left now. inr (⊎_elim (λ e. e) (λ e. e) (subst (λ (h : Held). MayLeave h left) synced now) ∙ ap (λ (h : Held). h.bytes) is))

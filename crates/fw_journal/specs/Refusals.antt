@@ -3,10 +3,19 @@ use Rattle.fw_journal.specs.declared.error.DeviceError.{DeviceError}
 use Rattle.fw_journal.specs.declared.error.DeviceError.TheVariants as device
 use Rattle.fw_journal.specs.declared.error.JournalError.{JournalError}
 use Rattle.fw_journal.specs.declared.error.JournalError.TheVariants as journal
+use Rattle.fw_journal.specs.declared.error.ReplaceError.{ReplaceError}
+use Rattle.fw_journal.specs.declared.error.ReplaceError.TheVariants as replacing
+use Rattle.fw_journal.specs.declared.error.RewriteError.{RewriteError}
+use Rattle.fw_journal.specs.declared.error.RewriteError.TheVariants as rewriting
 
 abbrev pub book_error : DeviceError → JournalError
 book_error device.Fault = journal.BookFault
 book_error device.OutOfMemory = journal.OutOfMemory
+
+abbrev pub rewrite_error : ReplaceError → RewriteError
+rewrite_error replacing.NotReplaced = rewriting.NotReplaced
+rewrite_error replacing.Fault = rewriting.BookFault
+rewrite_error replacing.OutOfMemory = rewriting.OutOfMemory
 
 -- the file of a journal can't be made or opened: another journal has it open, or it failed
 abbrev pub IsFileRefusal : JournalError → Type 0

@@ -110,6 +110,18 @@ impl Disk {
         Disk::new(alloc, self.bytes.to_vec(alloc)?)
     }
 
+    /// The disk where these bytes are under the name of the old ones, which isn't synced yet: a power cut leaves what it might have left
+    /// of the old ones, or the new ones whole.
+    pub(crate) fn renamed(&self, alloc: Global, bytes: &[u8]) -> Result<Disk, AllocError>
+        ensures { IfOk result (λ d. d ≡ record { bytes = bytes.now; synced = self.now.synced; changes = self.now.changes }) }
+    {
+        Ok(Disk {
+            bytes: bytes.to_vec(alloc)?,
+            synced: self.synced.to_vec(alloc)?,
+            changes: self.changes.to_vec(alloc)?,
+        })
+    }
+
     /// The same once more.
     pub(crate) fn copied(&self, alloc: Global) -> Result<Disk, AllocError>
         ensures { IfOk result (λ d. d ≡ self.now) }

@@ -3,7 +3,8 @@
 ghost use Rattle.std.specs.Prelude.{◌≡◌};
 ghost use Rattle.fw_journal.specs.declared.error.DeviceError.TheVariants as device;
 ghost use Rattle.fw_journal.specs.declared.error.JournalError.TheVariants.{OutOfMemory};
-ghost use Rattle.fw_journal.specs.Refusals.{book_error};
+ghost use Rattle.fw_journal.specs.declared.error.ReplaceError.TheVariants as replacing;
+ghost use Rattle.fw_journal.specs.Refusals.{book_error, rewrite_error};
 
 use std::alloc::{AllocError, AllocFailed};
 use thiserror::Error;
@@ -32,6 +33,54 @@ impl<T: Drop> From<AllocFailed<T>> for DeviceError {
 
     fn from(_error: AllocFailed<T>) -> DeviceError {
         DeviceError::OutOfMemory
+    }
+}
+
+/// Why the bytes of a device weren't replaced by others.
+#[derive(Clone, Copy, Debug, PartialEq, Eq, Error)]
+pub enum ReplaceError {
+    /// The new bytes couldn't be made beside the old ones, which stay.
+    #[error("NotReplaced")]
+    NotReplaced,
+    /// The device failed. It has its old bytes, or the new ones.
+    #[error("DeviceFault")]
+    Fault,
+    /// Memory was refused. The device has its old bytes, or the new ones.
+    #[error("OutOfMemory")]
+    OutOfMemory,
+}
+
+impl From<AllocError> for ReplaceError {
+    ghost from_gives = { λ _ e. e ≡ replacing.OutOfMemory };
+
+    fn from(_error: AllocError) -> ReplaceError {
+        ReplaceError::OutOfMemory
+    }
+}
+
+/// Why a journal wasn't written anew.
+#[derive(Clone, Copy, Debug, PartialEq, Eq, Error)]
+pub enum RewriteError {
+    /// The new bytes couldn't be made beside the old ones. The journal is as it was.
+    #[error("NotReplaced")]
+    NotReplaced,
+    /// The device failed, in this call or in an earlier one.
+    #[error("BookFault")]
+    BookFault,
+    /// Memory was refused.
+    #[error("OutOfMemory")]
+    OutOfMemory,
+}
+
+impl From<ReplaceError> for RewriteError {
+    ghost from_gives = { λ error e. e ≡ rewrite_error error };
+
+    fn from(error: ReplaceError) -> RewriteError {
+        match error {
+            ReplaceError::NotReplaced => RewriteError::NotReplaced,
+            ReplaceError::Fault => RewriteError::BookFault,
+            ReplaceError::OutOfMemory => RewriteError::OutOfMemory,
+        }
     }
 }
 

@@ -4,13 +4,15 @@ ghost use Rattle.std.specs.Prelude.{◌≡◌, IfErr};
 ghost use Rattle.fw_journal.specs.Refusals.{IsFileRefusal};
 
 use crate::device::JournalDevice;
-use crate::error::{DeviceError, JournalError};
+use crate::error::{DeviceError, JournalError, ReplaceError};
 use crate::journal::Journal;
+use crate::replacing::Replacer;
+use std::alloc::{AllocError, Global};
 use std::fs::{File, OpenOptions};
-use std::io;
-use std::os::unix::fs::FileExt;
+use std::os::unix::fs::{FileExt, MetadataExt};
 use std::path::AsPath;
 use std::rt::Files;
+use std::{fs, io};
 
 /// The bytes of an open file, which no other journal has open: it is under an exclusive lock. Nothing is known of what a file holds or
 /// gives, so it is neither honest nor sound.
@@ -51,16 +53,53 @@ impl FileDevice {
     ///
     /// # Errors
     ///
-    /// `BookFault` where it can't be opened, and `Locked` where another journal has it open.
+    /// `BookFault` where it can't be opened, and `Locked` where another journal has it open, or replaced it meanwhile.
     pub fn open<R: Files<File = File>, P: AsPath>(
         rt: &R,
         path: P,
     ) -> Result<FileDevice, JournalError>
         ensures refusals { IfErr result IsFileRefusal }
     {
+        let path = path.path_text();
         let mut options = OpenOptions::new();
         options.read(true).write(true);
-        FileDevice::locked(options.open(rt, path).map_err(refused)?)
+        let device = FileDevice::locked(options.open(rt, path).map_err(refused)?)?;
+        // Who had the lock before may have put another file in its place meanwhile.
+        if !device.has_name(rt, path)? {
+            return Err(JournalError::Locked);
+        }
+        Ok(device)
+    }
+
+    /// Whether this is the name of the file.
+    fn has_name<R: Files<File = File>>(&self, rt: &R, path: &str) -> Result<bool, DeviceError>
+        ensures refusals { IfErr result (λ e. e ≡ DeviceError.Fault) }
+    {
+        let own = self.file.metadata().map_err(refused)?;
+        let named = fs::metadata(rt, path).map_err(refused)?;
+        Ok(own.dev() == named.dev() && own.ino() == named.ino())
+    }
+
+    /// Whether this is the only name of the file, and no link to it.
+    fn has_only_name<R: Files<File = File>>(
+        &self,
+        rt: &R,
+        path: &str,
+    ) -> Result<bool, DeviceError> {
+        let own = self.file.metadata().map_err(refused)?;
+        let named = fs::symlink_metadata(rt, path).map_err(refused)?;
+        Ok(own.nlink() == 1 && own.dev() == named.dev() && own.ino() == named.ino())
+    }
+
+    /// Makes these all bytes of the file, gives it the permissions of the old one, and syncs it.
+    fn fill(&mut self, old: &FileDevice, bytes: &[u8]) -> Result<(), DeviceError> {
+        let old = old.file.metadata().map_err(refused)?;
+        self.file
+            .set_permissions(old.permissions())
+            .map_err(refused)?;
+        self.shorten(0)?;
+        self.write_at(0, bytes)?;
+        self.file.sync_all().map_err(refused)
     }
 
     /// The file under the lock, which ends when it is closed.
@@ -71,6 +110,88 @@ impl FileDevice {
             return Err(JournalError::Locked);
         }
         Ok(FileDevice { file })
+    }
+}
+
+/// Puts other bytes in the place of those of a file, by a new file beside it: FILE.new, which is under a lock of its own before it gets
+/// the name of the old one. So whoever opens the file under its name finds it locked, before and after. A power cut leaves the old file or
+/// the new one. What a power cut or a killed process left under the other name is written over. A file that has another name as well, under
+/// which it would be left, isn't replaced.
+#[derive(Drop)]
+pub struct FileReplacer<'a, R> {
+    rt: &'a R,
+    path: &'a str,
+    new: String,
+}
+
+impl<'a, R: Files<File = File>> FileReplacer<'a, R> {
+    /// What replaces the bytes of the file at this path. It has to be the path under which the device was opened.
+    ///
+    /// # Errors
+    ///
+    /// `AllocError` where memory was refused.
+    pub fn new(rt: &'a R, alloc: Global, path: &'a str) -> Result<Self, AllocError> {
+        let mut new = String::from_str(alloc, path)?;
+        new.push_str(".new")?;
+        Ok(FileReplacer { rt, path, new })
+    }
+
+    /// The new file under the lock, with these bytes, synced. It has the other name.
+    fn make(&self, old: &FileDevice, bytes: &[u8]) -> Result<FileDevice, JournalError> {
+        let mut options = OpenOptions::new();
+        options.read(true).write(true).create(true);
+        let file = options.open(self.rt, self.new.as_str()).map_err(refused)?;
+        let mut device = FileDevice::locked(file)?;
+        match device.fill(old, bytes) {
+            Ok(()) => Ok(device),
+            Err(fault) => {
+                self.remove();
+                Err(JournalError::from(fault))
+            }
+        }
+    }
+
+    /// Takes away the new file, which hasn't got the name of the old one.
+    fn remove(&self) {
+        let _ = fs::remove_file(self.rt, self.new.as_str());
+    }
+
+    /// Gives the new file the name of the old one.
+    fn rename(&self) -> Result<(), DeviceError> {
+        fs::rename(self.rt, self.new.as_str(), self.path).map_err(refused)
+    }
+
+    /// Puts the names in the folder of the file where a power cut leaves them.
+    fn sync_folder(&self) -> Result<(), DeviceError> {
+        let folder = match self.path.rsplit_once('/') {
+            Some((folder, _)) if folder.is_empty() => "/",
+            Some((folder, _)) => folder,
+            None => ".",
+        };
+        let mut options = OpenOptions::new();
+        options.read(true);
+        let folder = options.open(self.rt, folder).map_err(refused)?;
+        folder.sync_all().map_err(refused)
+    }
+}
+
+impl<'a, R: Files<File = File>> Replacer<FileDevice> for FileReplacer<'a, R> {
+    fn replace(&mut self, device: &mut FileDevice, bytes: &[u8]) -> Result<(), ReplaceError> {
+        if !device.has_only_name(self.rt, self.path).unwrap_or(false) {
+            return Err(ReplaceError::NotReplaced);
+        }
+        let Ok(new) = self.make(device, bytes) else {
+            return Err(ReplaceError::NotReplaced);
+        };
+        if self.rename().is_err() {
+            self.remove();
+            return Err(ReplaceError::NotReplaced);
+        }
+        *device = new;
+        if self.sync_folder().is_err() {
+            return Err(ReplaceError::Fault);
+        }
+        Ok(())
     }
 }
 

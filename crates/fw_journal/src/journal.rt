@@ -26,13 +26,14 @@ ghost use Rattle.std.specs.Prelude.{
   IsErrOf,
 };
 ghost use Rattle.fw_journal.specs.Device.{IsSynced, LeavesOnly, Keeps};
-ghost use Rattle.fw_journal.specs.Book.{blocks, book_front, book_bytes, contents_of, Stands, IsBadBook};
+ghost use Rattle.fw_journal.specs.Book.{blocks, book_front, book_bytes, contents_of, AreRecords, Stands, IsBadBook};
 ghost use Rattle.fw_journal.specs.Group.{Takes, EndsAt};
 ghost use Rattle.fw_journal.specs.Refusals.{IsMakingRefusal, IsOpeningRefusal, IsCommitRefusal};
 
 use crate::device::JournalDevice;
-use crate::error::{DeviceError, JournalError};
+use crate::error::{DeviceError, JournalError, ReplaceError, RewriteError};
 use crate::reading::read_book;
+use crate::replacing::Replacer;
 use crate::steps::{read_synced, shorten_synced, write_synced};
 use sha2::{Digest, Sha256};
 use std::alloc::Global;
@@ -277,6 +278,56 @@ impl<D: JournalDevice> Journal<D> {
         Ok(())
     }
 
+    /// Puts other records in the place of all that the device has and of all that wait: the bytes of the journal are made anew beside the
+    /// old ones. From `Ok` on every power cut leaves these records alone; a cut in the call leaves those from before it or these.
+    ///
+    /// # Errors
+    ///
+    /// `BookFault` where the journal is broken; else `NotReplaced`, where the new bytes couldn't be made beside the old ones, or
+    /// `OutOfMemory`: the journal is as before, and what waited waits. Or it is broken, as after a commit: with `BookFault`, where the
+    /// device failed, and with `OutOfMemory`, where the device is one in memory and refused in the middle.
+    pub fn rewrite<R: Replacer<D>>(
+        &mut self,
+        alloc: Global,
+        replacer: &mut R,
+        records: &[Vec<u8>],
+    ) -> Result<(), RewriteError>
+        requires fit { AreRecords (contents_of records.now) }
+        ensures acknowledged { IsTrue (D.honest (device_of self.old))
+            → OnOk result (Has D.honest D.contents D.may_leave self.new (contents_of records.now) []) }
+        ensures each_cut { IsTrue (D.honest (device_of self.old))
+            → OnOk result ((left : List ℕ) → D.may_leave (device_of self.new) left → Stands left (contents_of records.now)) }
+        ensures unchanged { (done waiting : List (List ℕ)) → Has D.honest D.contents D.may_leave self.old done waiting
+            → OnErr result (Has D.honest D.contents D.may_leave self.new done waiting ⊎ IsTrue (is_broken self.new)) }
+
+        // A cut at any moment of the call leaves the records from before it, without what waited, or these.
+        ensures any_moment { (done waiting : List (List ℕ)) → Has D.honest D.contents D.may_leave self.old done waiting
+            → LeavesOnly D.moment D.left_since (device_of self.old) (device_of self.new)
+            (λ left. Stands left done ⊎ Stands left (contents_of records.now)) }
+        ensures breaks { IsErrOf result RewriteError.BookFault → IsTrue (is_broken self.new) }
+        ensures broken { IsTrue (is_broken self.old) → IsErrOf result RewriteError.BookFault × (self.new ≡ self.old) }
+        ensures goes_on { IsErrOf result RewriteError.NotReplaced → is_broken self.new ≡ false }
+
+        // A sound device gives no `BookFault`, unless the journal was broken before, and no `NotReplaced`.
+        ensures never { IsTrue (D.sound (device_of self.old)) → IsErrOf result RewriteError.BookFault → IsTrue (is_broken self.old) }
+        ensures replaced { IsTrue (D.sound (device_of self.old)) → ¬ IsErrOf result RewriteError.NotReplaced }
+        ensures kept { Keeps D.honest D.sound (device_of self.old) (device_of self.new) }
+    {
+        if self.broken {
+            return Err(RewriteError::BookFault);
+        }
+        let Ok(bytes) = bytes_of(alloc, records) else {
+            return Err(RewriteError::OutOfMemory);
+        };
+        if let Err(refusal) = replacer.replace(&mut self.device, &bytes) {
+            self.broken = refusal != ReplaceError::NotReplaced;
+            return Err(RewriteError::from(refusal));
+        }
+        self.end = bytes.len() as u64 - 1;
+        self.waiting.clear();
+        Ok(())
+    }
+
     /// Takes back what was added after the first `size` bytes that wait.
     fn take_back(&mut self, size: usize)
         ensures back { (done waiting added : List (List ℕ)) → Has D.honest D.contents D.may_leave self.old done (waiting ++ added)
@@ -287,6 +338,9 @@ impl<D: JournalDevice> Journal<D> {
         self.waiting.truncate(size);
     }
 }
+
+/// What each journal begins with.
+const MARK: [u8; 4] = [0x46, 0x57, 0x4A, 0x31];
 
 /// The bytes of a new journal.
 const NEW_BOOK: [u8; 5] = [0x46, 0x57, 0x4A, 0x31, 0];
@@ -323,6 +377,22 @@ fn block_of(alloc: Global, entry: &[u8]) -> Result<Vec<u8>, JournalError>
     block.extend_from_slice(entry)?;
     block.extend_from_slice(&Sha256::digest(entry))?;
     Ok(block)
+}
+
+/// The bytes of a journal of these records, between two calls.
+fn bytes_of(alloc: Global, records: &[Vec<u8>]) -> Result<Vec<u8>, JournalError>
+    requires { AreRecords (contents_of records.now) }
+    ensures { IfOk result (λ bytes. bytes.items ≡ book_bytes (contents_of records.now)) }
+{
+    let mut bytes = MARK.to_vec(alloc)?;
+    let mut rest = records;
+    while let Some((record, others)) = rest.split_first() {
+        let block = block_of(alloc, record.as_slice())?;
+        bytes.extend_from_slice(&block)?;
+        rest = others;
+    }
+    bytes.push(0)?;
+    Ok(bytes)
 }
 
 /// Puts a group after the shut gate at `end`: all of it except its first byte, and a shut gate after it. Once that is synced the gate

@@ -14,13 +14,15 @@ mod journal;
 pub mod laws;
 mod memory;
 mod reading;
+mod replacing;
 mod steps;
 
 pub use device::JournalDevice;
 pub use disk::{Change, Disk};
-pub use error::{DeviceError, JournalError};
-pub use file::{FileDevice, FileJournal};
+pub use error::{DeviceError, JournalError, ReplaceError, RewriteError};
+pub use file::{FileDevice, FileJournal, FileReplacer};
 pub use fuse::Fuse;
 pub use journal::Journal;
-pub use memory::MemoryDevice;
+pub use memory::{MemoryDevice, MemoryReplacer};
 pub use reading::read_book;
+pub use replacing::Replacer;

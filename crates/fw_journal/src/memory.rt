@@ -5,8 +5,9 @@ ghost use Rattle.fw_journal.specs.Device.{splice};
 
 use crate::device::JournalDevice;
 use crate::disk::{Change, Disk, shortened, spliced};
-use crate::error::DeviceError;
+use crate::error::{DeviceError, ReplaceError};
 use crate::fuse::{Fuse, burn, torn_byte, torn_bytes};
+use crate::replacing::Replacer;
 use std::alloc::{AllocError, Global};
 
 /// A device in memory, for tests: it keeps what it held at each moment. A power cut leaves what is read, or any bytes in the range of each
@@ -118,6 +119,28 @@ fn overwrite(
     let size = bytes.len() as u64;
     let next = disk.changed(alloc, next, Change::Write { at, size })?;
     replace(alloc, disk, past, next)
+}
+
+/// Replaces the bytes of a device in memory, in two calls of it: the new bytes are made beside, and then they get the name of the old
+/// ones. Where the fuse makes the first one fail, nothing is replaced; where it makes the second one fail, the new bytes are read, and a
+/// power cut may still leave the old ones.
+#[derive(Drop)]
+pub struct MemoryReplacer;
+
+impl Replacer<MemoryDevice> for MemoryReplacer {
+    fn replace(&mut self, device: &mut MemoryDevice, bytes: &[u8]) -> Result<(), ReplaceError> {
+        if burn(&mut device.fuse).is_err() {
+            return Err(ReplaceError::NotReplaced);
+        }
+        let alloc = device.alloc;
+        let named = device.disk.renamed(alloc, bytes)?;
+        replace(alloc, &mut device.disk, &mut device.past, named)?;
+        if burn(&mut device.fuse).is_err() {
+            return Err(ReplaceError::Fault);
+        }
+        let synced = device.disk.after_sync(alloc)?;
+        Ok(replace(alloc, &mut device.disk, &mut device.past, synced)?)
+    }
 }
 
 impl JournalDevice for MemoryDevice {

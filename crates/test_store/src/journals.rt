@@ -2,10 +2,12 @@
 //! has 40 bytes, and a journal begins with 4.
 
 use fw_journal::{
-    Disk, FileDevice, FileJournal, Journal, JournalDevice, JournalError, MemoryDevice,
+    Disk, FileDevice, FileJournal, FileReplacer, Journal, JournalDevice, JournalError,
+    MemoryDevice, MemoryReplacer, RewriteError,
 };
 use std::alloc::Global;
-use std::path::{Path, PathBuf};
+use std::os::unix::fs::symlink;
+use std::path::{AsPath, Path, PathBuf};
 use std::test::Fail;
 use std::{env, fs};
 use test_support::{Case, Kept, Takes, each, expect, session};
@@ -274,6 +276,89 @@ const CUTS: &[(Cut, &str)] = &[
     ),
 ];
 
+/// A journal of `one` in which `lost` waits, on a device that fails after `calls` calls: what writing it anew with `two` and `three`
+/// returns, and a commit after that. Then what is left, as it is read, and as it was at the last sync.
+struct Rewritten {
+    calls: u64,
+}
+
+impl Case for Rewritten {
+    fn told(&self, alloc: Global) -> Result<String, Fail> {
+        let mut device = device_of_one(alloc)?;
+        device.fuse(self.calls.saturating_add(3), 1);
+        match Journal::open(alloc, device) {
+            Ok((journal, _)) => written_anew(alloc, &mut Kept(journal).0),
+            Err((refusal, device)) => refused(alloc, refusal, &Kept(device).0),
+        }
+    }
+}
+
+fn written_anew(alloc: Global, journal: &mut Journal<MemoryDevice>) -> Result<String, Fail> {
+    journal.append(alloc, b"lost")?;
+    let mut records = Vec::new(alloc);
+    records.push(b"two".to_vec(alloc)?)?;
+    records.push(b"three".to_vec(alloc)?)?;
+    let answer = journal.rewrite(alloc, &mut MemoryReplacer, &records);
+    let told = rewrite_text(alloc, answer)?;
+    let left = left_anew(alloc, journal.device())?;
+    let again = answer_text(alloc, journal.commit())?;
+    let later = read_text(alloc, journal.device().bytes())?;
+    Ok(format!(in alloc; "{told}: {left} {again} {later}")?)
+}
+
+fn left_anew(alloc: Global, device: &MemoryDevice) -> Result<String, Fail> {
+    for disk in device.past() {
+        judge_rewritten(alloc, disk)?;
+    }
+    judge_rewritten(alloc, device.disk())?;
+    let read = read_text(alloc, device.bytes())?;
+    let synced = read_text(alloc, device.disk().synced())?;
+    Ok(format!(in alloc; "{read} {synced}")?)
+}
+
+fn rewrite_text(alloc: Global, answer: Result<(), RewriteError>) -> Result<String, Fail> {
+    Ok(match answer {
+        Ok(()) => String::from_str(alloc, "done")?,
+        Err(refusal) => refusal.to_string(alloc)?,
+    })
+}
+
+/// Fails where a power cut may leave anything except the journal of `one` or that of `two` and `three`.
+fn judge_rewritten(alloc: Global, disk: &Disk) -> Result<(), Fail> {
+    let old = disk.cut(alloc, &[])?;
+    judge_left(alloc, &old)?;
+    judge_left(alloc, disk.bytes())
+}
+
+fn judge_left(alloc: Global, left: &[u8]) -> Result<(), Fail> {
+    let told = read_text(alloc, left)?;
+    if told.as_str() == "one|" || told.as_str() == "two|three|" {
+        Ok(())
+    } else {
+        Err(Fail::from(told))
+    }
+}
+
+#[test]
+fn a_cut_leaves_the_old_records_or_the_new_ones(rt: HostRuntime) -> Result<(), Fail> {
+    each(rt.alloc(), REWRITTEN)
+}
+
+const REWRITTEN: &[(Rewritten, &str)] = &[
+    (
+        Rewritten { calls: 0 },
+        "NotReplaced: one| one| BookFault one|",
+    ),
+    (
+        Rewritten { calls: 1 },
+        "BookFault: two|three| one| BookFault two|three|",
+    ),
+    (
+        Rewritten { calls: 2 },
+        "done: two|three| two|three| done two|three|",
+    ),
+];
+
 /// Bytes of a journal of `one` and `two` in which a byte is turned: what is read.
 struct Turned(usize);
 
@@ -435,4 +520,77 @@ fn commit_one(
     expect(alloc, 1, file_text(FileDevice::open(rt, path)), "Locked")?;
     journal.append(alloc, b"one")?;
     Ok(journal.commit()?)
+}
+
+/// A file that is written anew is locked before and after, and what had its other name is written over.
+#[test]
+fn writes_a_file_anew(rt: HostRuntime) -> Result<(), Fail> {
+    let path = new_path(&rt, "rewritten.fwj")?;
+    let new = new_path(&rt, "rewritten.fwj.new")?;
+    fs::write(
+        &rt,
+        new.as_path(),
+        b"what a killed process left there, longer than all records",
+    )?;
+    rewrites_in(&rt, rt.alloc(), path.as_path())?;
+    let is_left = fs::exists(&rt, new.as_path())?;
+    expect(rt.alloc(), 2, if is_left { "left" } else { "gone" }, "gone")
+}
+
+fn rewrites_in(rt: &HostRuntime, alloc: Global, path: Path) -> Result<(), Fail> {
+    match Journal::create(alloc, FileDevice::create(rt, path)?) {
+        Ok(journal) => rewrite_one(rt, alloc, path, &mut Kept(journal).0)?,
+        Err(_) => return Err("not made".into()),
+    }
+    let opened = Journal::open(alloc, FileDevice::open(rt, path)?);
+    let told = told_of(alloc, &opened)?;
+    fs::remove_file(rt, path)?;
+    expect(alloc, 1, told.as_str(), "two|three|")
+}
+
+fn rewrite_one(
+    rt: &HostRuntime,
+    alloc: Global,
+    path: Path,
+    journal: &mut FileJournal,
+) -> Result<(), Fail> {
+    journal.append(alloc, b"one")?;
+    journal.commit()?;
+    let mut records = Vec::new(alloc);
+    records.push(b"two".to_vec(alloc)?)?;
+    let mut replacer = FileReplacer::new(rt, alloc, path.path_text())?;
+    journal.rewrite(alloc, &mut replacer, &records)?;
+    expect(alloc, 0, file_text(FileDevice::open(rt, path)), "Locked")?;
+    journal.append(alloc, b"three")?;
+    Ok(journal.commit()?)
+}
+
+/// A file isn't replaced by a link to it, under whose name it would be left unlocked.
+#[test]
+fn leaves_a_file_that_has_another_name(rt: HostRuntime) -> Result<(), Fail> {
+    let path = new_path(&rt, "named.fwj")?;
+    let link = new_path(&rt, "linked.fwj")?;
+    symlink(&rt, path.as_path(), link.as_path())?;
+    let told = rewritten_by(&rt, rt.alloc(), path.as_path(), link.as_path())?;
+    fs::remove_file(&rt, link.as_path())?;
+    fs::remove_file(&rt, path.as_path())?;
+    expect(rt.alloc(), 0, told.as_str(), "NotReplaced")
+}
+
+/// What writing the journal of a new file anew returns, by another name of it.
+fn rewritten_by(rt: &HostRuntime, alloc: Global, path: Path, name: Path) -> Result<String, Fail> {
+    match Journal::create(alloc, FileDevice::create(rt, path)?) {
+        Ok(journal) => rewritten_at(rt, alloc, name, &mut Kept(journal).0),
+        Err(_) => Err("not made".into()),
+    }
+}
+
+fn rewritten_at(
+    rt: &HostRuntime,
+    alloc: Global,
+    name: Path,
+    journal: &mut FileJournal,
+) -> Result<String, Fail> {
+    let mut replacer = FileReplacer::new(rt, alloc, name.path_text())?;
+    rewrite_text(alloc, journal.rewrite(alloc, &mut replacer, &[]))
 }
