@@ -1,5 +1,5 @@
 -- Books of records that are put together, and what a power cut leaves of them.
-use Rattle.std.proofs.Common.{◌≡◌, ◌⊎◌, inl, ℕ, ◌+◌, ◌<◌, ◌≤◌, ◌^◌, ◌*◌, List, [], ◌∷◌, ◌++◌, Option, Some, None, is_none, Err, IsErrOf, Bool, true, false, not, ◌||◌, IsTrue, Vec, length, arith, refl, sym, ap, subst, ◌∙◌, length-append}
+use Rattle.std.proofs.Common.{◌≡◌, ◌⊎◌, inl, ⊎_elim, ℕ, ◌+◌, ◌<◌, ◌≤◌, ◌^◌, ◌*◌, List, [], ◌∷◌, ◌++◌, Option, Some, None, is_none, Err, IsErrOf, Bool, true, false, not, ◌||◌, IsTrue, Vec, length, arith, refl, sym, ap, subst, ◌∙◌, length-append}
 use Rattle.std.specs.Int.{w32, to_be_bytes}
 use Rattle.std.specs.Option.{option_and_then, option_map_or}
 use Rattle.std.specs.declared.alloc.Global.{Global}
@@ -7,7 +7,7 @@ use Rattle.fw_names.specs.Name.{Campaign, campaign_bytes}
 use Rattle.fw_wrapper.specs.Refusals.{first_applying}
 use Rattle.fw_book.specs.Contents.{Offered, Contents, offered_in, state_in}
 use Rattle.fw_book.specs.Changes.{empty_book, mark_refusal, cancel_refusal}
-use Rattle.fw_book.specs.Rows.{state_of, is_live, has_live}
+use Rattle.fw_book.specs.Rows.{state_of, meters_of, is_live, has_live}
 use Rattle.fw_book.specs.declared.row.RowState.{RowState}
 use Rattle.fw_book.specs.declared.row.RowState.TheVariants.{Live}
 use Rattle.fw_book.specs.declared.error.BookError.{BookError}
@@ -17,8 +17,8 @@ use Rattle.fw_journal.specs.Device.{LeavesOnly}
 use Rattle.fw_journal.specs.Journal as journal
 use Rattle.fw_journal.specs.declared.journal.Journal.{Journal}
 use Rattle.fw_journal.specs.Laws as journal_laws
-use Rattle.fw_ledger.specs.Entry.{Source, whole, earlier, Entry, opening, mark, cancelling, entry_bytes, source_bytes, meters_bytes, opening_front}
-use Rattle.fw_ledger.specs.Replay.{Makes, Adds, AddsAll, IsBookOf, records_of}
+use Rattle.fw_ledger.specs.Entry.{Source, whole, earlier, Entry, opening, mark, cancelling, endings, entry_bytes, source_bytes, meters_bytes, opening_front}
+use Rattle.fw_ledger.specs.Replay.{MakesEach, Makes, Adds, AddsAll, IsBookOf, records_of}
 use Rattle.fw_ledger.specs.Laws as ledger_laws
 use Rattle.fw_kept.specs.Kept.{HasBook, Keeps}
 use Rattle.fw_kept.specs.Laws.{OneBook, RefusedHaveNone}
@@ -43,10 +43,18 @@ all_join (bytes ∷ front) rest book between next first second = (first.0, first
 pub all_push : (records : List (List ℕ)) (bytes : List ℕ) (book between next : Contents) → AddsAll records book between → Adds bytes between next → AddsAll (records ++ bytes ∷ []) book next
 all_push records bytes book between next all one = all_join records (bytes ∷ []) book between next all (next, one, refl)
 
+each_head : (meters numbers : List ℕ) (book : Contents) (campaign : Campaign) (next : Contents) → MakesEach book campaign meters numbers next → next.head ≡ book.head
+each_head [] [] book campaign next each = ap (λ (c : Contents). c.head) each
+each_head [] (number ∷ numbers) book campaign next each = absurd each
+each_head (meter ∷ meters) [] book campaign next each = absurd each
+each_head (meter ∷ meters) (number ∷ numbers) book campaign next each =
+    each_head meters numbers each.0 campaign next each.2 ∙ ⊎_elim (λ none. ap (λ (c : Contents). c.head) none.1) (λ some. ap (λ (c : Contents). c.head) some.2.1) each.1
+
 makes_head : (entry : Entry) (book next : Contents) → Makes entry book next → next.head ≡ book.head
 makes_head (opening campaign release source meters) book next makes = ap (λ (c : Contents). c.head) makes.next_is
 makes_head (mark campaign meter ending) book next makes = ap (λ (c : Contents). c.head) makes.1
 makes_head (cancelling campaign) book next makes = ap (λ (c : Contents). c.head) makes.1
+makes_head (endings campaign numbers) book next makes = each_head (meters_of makes.offer.rows) numbers book campaign next makes.each
 
 all_head : (records : List (List ℕ)) (book next : Contents) → AddsAll records book next → next.head ≡ book.head
 all_head [] book next all = ap (λ (c : Contents). c.head) all

@@ -12,7 +12,7 @@ use Rattle.fw_journal.specs.Laws.{OneReading}
 use Rattle.fw_journal.specs.Refusals.{IsOpeningRefusal}
 use Rattle.fw_journal.specs.declared.error.JournalError.{JournalError}
 use Rattle.fw_journal.specs.declared.error.JournalError.TheVariants as refusal
-use Rattle.fw_ledger.specs.Entry.{Entry, opening, mark, cancelling, HasSpelling, Spells, NoRecord}
+use Rattle.fw_ledger.specs.Entry.{Entry, opening, mark, cancelling, endings, HasSpelling, Spells, NoRecord}
 use Rattle.fw_ledger.specs.Replay.{Makes, AddsNothing, IsBookOf, FailsAt, records_of}
 use Rattle.fw_ledger.specs.Laws.{OneRecord, FailedHaveNone}
 use Rattle.fw_kept.specs.Kept.{HasBook, HasNoBook, HasBadRecord, IsForeign, IsReadAs, campaign_of}
@@ -29,6 +29,7 @@ pub spelled_opened : (bytes : List ℕ) (entry : Entry) → Spells bytes entry �
 spelled_opened bytes (opening campaign release source meters) spells = spells.can.0
 spelled_opened bytes (mark campaign meter ending) spells = spells.can
 spelled_opened bytes (cancelling campaign) spells = spells.can
+spelled_opened bytes (endings campaign numbers) spells = spells.can.0
 
 same_either : (b : Bool) (o : Option Offered) → cond b o o ≡ o
 same_either true o = refl
@@ -37,12 +38,16 @@ same_either false o = refl
 empty_offers : (head : ℕ) (campaign : Campaign) → offered_in (empty_book head) campaign ≡ None
 empty_offers head campaign = same_either (eqb campaign.head head) None
 
+no_offer : (offer : Offered) → None ≡ Some offer → ⊥
+no_offer offer is = cc is
+
 makes_own : AdmittedOpens → (head : ℕ) (entry : Entry) (next : Contents) → Makes entry (empty_book head) next → (campaign_of entry).head ≡ head
 makes_own admitted head (opening campaign release source meters) next makes = ((admitted (empty_book head) campaign makes.image meters).0 makes.admitted).own
 makes_own admitted head (mark campaign meter ending) next makes =
     absurd (some_none (mark_refusal (empty_book head) campaign meter) NoSuchCampaign makes.0 (mark_none (empty_book head) campaign meter (empty_offers head campaign)))
 makes_own admitted head (cancelling campaign) next makes =
     absurd (some_none (cancel_refusal (empty_book head) campaign) NoSuchCampaign makes.0 (cancel_none (empty_book head) campaign (empty_offers head campaign)))
+makes_own admitted head (endings campaign numbers) next makes = absurd (no_offer makes.offer (sym (empty_offers head campaign) ∙ makes.offered))
 
 -- the first record of a book is of its head end
 record Begins (head : ℕ) (first : List ℕ) : Type 0 where

@@ -5,7 +5,7 @@ use Rattle.fw_book.specs.Contents.{Contents}
 use Rattle.fw_journal.specs.Book.{Stands}
 use Rattle.fw_journal.specs.Journal as journal
 use Rattle.fw_journal.specs.declared.journal.Journal.{Journal}
-use Rattle.fw_ledger.specs.Entry.{Entry, opening, mark, cancelling, Spells}
+use Rattle.fw_ledger.specs.Entry.{Entry, opening, mark, cancelling, endings, Spells}
 use Rattle.fw_ledger.specs.Replay.{AddsAll, IsBookOf, FailsAt}
 use Rattle.fw_kept.specs.declared.kept.KeptBook.{KeptBook}
 
@@ -31,6 +31,7 @@ abbrev pub campaign_of : Entry → Campaign
 campaign_of (opening campaign release image meters) = campaign
 campaign_of (mark campaign meter ending) = campaign
 campaign_of (cancelling campaign) = campaign
+campaign_of (endings campaign numbers) = campaign
 
 -- the first record is of a campaign of another head end
 pub record IsForeign (head : ℕ) (records : List (List ℕ)) : Type 0 where

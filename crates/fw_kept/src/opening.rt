@@ -66,6 +66,7 @@ pub(crate) fn campaign_of(told: &Record<'_>) -> CampaignId
     match told {
         Record::Opening { campaign, .. }
         | Record::Mark { campaign, .. }
-        | Record::Cancelling { campaign } => *campaign,
+        | Record::Cancelling { campaign }
+        | Record::Endings { campaign, .. } => *campaign,
     }
 }

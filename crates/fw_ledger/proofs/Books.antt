@@ -2,16 +2,19 @@
 use Rattle.std.proofs.Common.{◌≡◌, ◌≢◌, ◌⊎◌, inl, inr, ℕ, ◌≤◌, List, [], ◌∷◌, ◌++◌, Option, Some, None, Result, Ok, Err, IfErr, IsErrOf, Vec, length, arith, refl, sym, ap, subst, ◌∙◌}
 use Rattle.std.specs.declared.alloc.Global.{Global}
 use Rattle.fw_names.specs.Name.{Campaign}
-use Rattle.fw_book.specs.Contents.{Contents, image_in}
+use Rattle.fw_book.specs.Rows.{meters_of}
+use Rattle.fw_book.specs.Contents.{Offered, Contents, image_in}
 use Rattle.fw_book.specs.declared.error.BookError.{BookError}
 use Rattle.fw_book.specs.declared.error.BookError.TheVariants.{OutOfMemory}
-use Rattle.fw_book.specs.Changes.{empty_book, opened, opening_refusal, IsRefusal}
-use Rattle.fw_ledger.specs.Entry.{Source, whole, earlier, Entry, opening, mark, cancelling}
-use Rattle.fw_ledger.specs.Replay.{IsImage, MakesOpened, Makes, Adds, AddsNothing, AddsAll, IsBookOf, FailsAt, records_of}
+use Rattle.fw_book.specs.Changes.{empty_book, opened, marked, opening_refusal, IsRefusal}
+use Rattle.fw_ledger.specs.Entry.{Source, whole, earlier, Entry, opening, mark, cancelling, endings, ending_number}
+use Rattle.fw_ledger.specs.declared.record.Ending.{Ending}
+use Rattle.fw_ledger.specs.declared.record.Ending.TheVariants as ending
+use Rattle.fw_ledger.specs.Replay.{state_of, IsImage, MakesOpened, MakesNumbered, MakesEach, MakesEnded, Makes, Adds, AddsNothing, AddsAll, IsBookOf, FailsAt, records_of}
 use Rattle.fw_ledger.specs.Entry.{Spells, NoRecord, IsOpening, BeginsOpening, MayTakeMemory, meters_bytes}
 use Rattle.fw_ledger.specs.declared.error.ReplayError.{ReplayError}
 use Rattle.fw_ledger.specs.declared.error.ReplayError.TheVariants as replay
-use Rattle.fw_ledger.proofs.Spellings.{record_unique}
+use Rattle.fw_ledger.proofs.Spellings.{record_unique, number_unique}
 
 some_unique : (a b : List ℕ) → Some a ≡ Some b → a ≡ b
 some_unique a b is = cc is
@@ -20,11 +23,39 @@ image_unique : (book : Contents) (source : Source) (a b : List ℕ) → IsImage 
 image_unique book (whole bytes) a b ha hb = ha ∙ sym hb
 image_unique book (earlier serial) a b ha hb = some_unique a b (sym ha.1 ∙ hb.1)
 
+pub some_number : (e : Ending) → ending_number e ≢ 0
+some_number ending.Done = λ is. absurd (omega (arith, is))
+some_number ending.Failed = λ is. absurd (omega (arith, is))
+
+pub numbered_unique : (book : Contents) (campaign : Campaign) (meter number : ℕ) (a b : Contents) → MakesNumbered book campaign meter number a → MakesNumbered book campaign meter number b → a ≡ b
+numbered_unique book campaign meter number a b (inl ha) (inl hb) = ha.1 ∙ sym hb.1
+numbered_unique book campaign meter number a b (inl ha) (inr hb) = absurd (some_number hb.0 (sym hb.1 ∙ ha.0))
+numbered_unique book campaign meter number a b (inr ha) (inl hb) = absurd (some_number ha.0 (sym ha.1 ∙ hb.0))
+numbered_unique book campaign meter number a b (inr ha) (inr hb) =
+    ha.2.1 ∙ ap (λ (e : Ending). marked book campaign.serial meter (state_of e)) (number_unique ha.0 hb.0 (sym ha.1 ∙ hb.1)) ∙ sym hb.2.1
+
+each_unique : (meters numbers : List ℕ) (book : Contents) (campaign : Campaign) (a b : Contents) → MakesEach book campaign meters numbers a → MakesEach book campaign meters numbers b → a ≡ b
+each_unique [] [] book campaign a b ha hb = ha ∙ sym hb
+each_unique [] (number ∷ numbers) book campaign a b ha hb = absurd ha
+each_unique (meter ∷ meters) [] book campaign a b ha hb = absurd ha
+each_unique (meter ∷ meters) (number ∷ numbers) book campaign a b ha hb =
+    let same = numbered_unique book campaign meter number ha.0 hb.0 ha.1 hb.1 in
+    each_unique meters numbers hb.0 campaign a b (subst (λ (c : Contents). MakesEach c campaign meters numbers a) same ha.2) hb.2
+
+pub same_offer : (a b : Offered) → Some a ≡ Some b → a ≡ b
+same_offer a b is = cc is
+
+ended_unique : (book : Contents) (campaign : Campaign) (numbers : List ℕ) (a b : Contents) → MakesEnded book campaign numbers a → MakesEnded book campaign numbers b → a ≡ b
+ended_unique book campaign numbers a b ha hb =
+    let same = same_offer ha.offer hb.offer (sym ha.offered ∙ hb.offered) in
+    each_unique (meters_of hb.offer.rows) numbers book campaign a b (subst (λ (o : Offered). MakesEach book campaign (meters_of o.rows) numbers a) same ha.each) hb.each
+
 makes_unique : (entry : Entry) (book a b : Contents) → Makes entry book a → Makes entry book b → a ≡ b
 makes_unique (opening campaign release source meters) book a b ha hb =
     ha.next_is ∙ ap (λ (l : List ℕ). opened book campaign.serial release l meters) (image_unique book source ha.image hb.image ha.is_image hb.is_image) ∙ sym hb.next_is
 makes_unique (mark campaign meter e) book a b ha hb = ha.1 ∙ sym hb.1
 makes_unique (cancelling campaign) book a b ha hb = ha.1 ∙ sym hb.1
+makes_unique (endings campaign numbers) book a b ha hb = ended_unique book campaign numbers a b ha hb
 
 pub adds_unique : (bytes : List ℕ) (book a b : Contents) → Adds bytes book a → Adds bytes book b → a ≡ b
 adds_unique bytes book a b ha hb =
@@ -104,6 +135,7 @@ spelled_begins bytes (opening campaign release source meters) spells is = record
 }
 spelled_begins bytes (mark campaign meter e) spells is = absurd is
 spelled_begins bytes (cancelling campaign) spells is = absurd is
+spelled_begins bytes (endings campaign numbers) spells is = absurd is
 
 told_is : {T : Type 0} (a b : ReplayError) → IsErrOf {T = T} (Err a) b → a ≡ b
 told_is a b is = cc is

@@ -1,3 +1,5 @@
 mod Spellings
 mod Parts
 mod Books
+mod Endings
+mod Remade

@@ -3,3 +3,5 @@ pub mod Entry
 pub mod View
 pub mod Replay
 pub mod Laws
+-- For private members alone: no public clause cites it.
+pub mod Remade

@@ -1,15 +1,16 @@
 -- Public vocabulary: the book of a list of records. It is what fw_book's own operations make of a book without campaigns, one record after
 -- the other.
-use Rattle.std.specs.Prelude.{◌≡◌, ℕ, ◌≤◌, List, [], ◌∷◌, ◌++◌, length, Some, None, Vec}
+use Rattle.std.specs.Prelude.{◌≡◌, ◌⊎◌, ℕ, ◌≤◌, List, [], ◌∷◌, ◌++◌, length, Some, None, Vec}
 use Rattle.std.specs.declared.alloc.Global.{Global}
 use Rattle.fw_names.specs.Name.{Campaign}
 use Rattle.fw_book.specs.declared.row.RowState.{RowState}
 use Rattle.fw_book.specs.declared.row.RowState.TheVariants as row
-use Rattle.fw_book.specs.Contents.{Contents, image_in}
+use Rattle.fw_book.specs.Rows.{meters_of}
+use Rattle.fw_book.specs.Contents.{Offered, Contents, offered_in, image_in}
 use Rattle.fw_book.specs.Changes.{empty_book, opened, marked, cancelled, opening_refusal, mark_refusal, cancel_refusal}
 use Rattle.fw_ledger.specs.declared.record.Ending.{Ending}
 use Rattle.fw_ledger.specs.declared.record.Ending.TheVariants as ending
-use Rattle.fw_ledger.specs.Entry.{Source, whole, earlier, Entry, opening, mark, cancelling, Spells, BeginsOpening}
+use Rattle.fw_ledger.specs.Entry.{Source, whole, earlier, Entry, opening, mark, cancelling, endings, ending_number, Spells, BeginsOpening}
 
 -- the state in which a row ends
 abbrev pub state_of : Ending → RowState
@@ -28,11 +29,34 @@ pub record MakesOpened (book : Contents) (campaign : Campaign) (release : ℕ) (
   pub admitted : opening_refusal book campaign image meters ≡ None
   pub next_is : next ≡ opened book campaign.serial release image meters
 
+-- what the mark of a meter's row makes of a book
+abbrev pub MakesMarked : Contents → Campaign → ℕ → Ending → Contents → Type 0
+MakesMarked book campaign meter e next = (mark_refusal book campaign meter ≡ None) × (next ≡ marked book campaign.serial meter (state_of e))
+
+-- what a number makes of a book: 0 nothing, and that of an ending what the mark of the meter's row makes
+abbrev pub MakesNumbered : Contents → Campaign → ℕ → ℕ → Contents → Type 0
+MakesNumbered book campaign meter number next =
+    ((number ≡ 0) × (next ≡ book)) ⊎ ((e : Ending) × (number ≡ ending_number e) × MakesMarked book campaign meter e next)
+
+-- what the numbers of these meters make of a book, one after the other, where there is one for each meter
+abbrev pub MakesEach : Contents → Campaign → List ℕ → List ℕ → Contents → Type 0
+MakesEach book campaign [] [] next = next ≡ book
+MakesEach book campaign (meter ∷ meters) (number ∷ numbers) next =
+    (between : Contents) × MakesNumbered book campaign meter number between × MakesEach between campaign meters numbers next
+MakesEach book campaign _ _ next = ⊥
+
+-- A book has the campaign, and marks its rows by these numbers, one for each in their order.
+pub record MakesEnded (book : Contents) (campaign : Campaign) (numbers : List ℕ) (next : Contents) : Type 0 where
+  pub offer : Offered
+  pub offered : offered_in book campaign ≡ Some offer
+  pub each : MakesEach book campaign (meters_of offer.rows) numbers next
+
 -- what a record makes of a book
 abbrev pub Makes : Entry → Contents → Contents → Type 0
 Makes (opening campaign release source meters) book next = MakesOpened book campaign release source meters next
-Makes (mark campaign meter e) book next = (mark_refusal book campaign meter ≡ None) × (next ≡ marked book campaign.serial meter (state_of e))
+Makes (mark campaign meter e) book next = MakesMarked book campaign meter e next
 Makes (cancelling campaign) book next = (cancel_refusal book campaign ≡ None) × (next ≡ cancelled book campaign.serial)
+Makes (endings campaign numbers) book next = MakesEnded book campaign numbers next
 
 -- the record that these bytes spell makes this of a book
 pub record Adds (bytes : List ℕ) (book next : Contents) : Type 0 where
@@ -48,6 +72,10 @@ AddsAll (bytes ∷ records) book next = (between : Contents) × Adds bytes book 
 -- the book of a head end that has these records
 abbrev pub IsBookOf : ℕ → List (List ℕ) → Contents → Type 0
 IsBookOf head records book = AddsAll records (empty_book head) book
+
+-- some records make this book
+abbrev pub IsMade : Contents → Type 0
+IsMade book = (records : List (List ℕ)) × IsBookOf book.head records book
 
 -- the bytes make nothing of this book: they spell no record, or it refuses what the record says
 abbrev pub AddsNothing : List ℕ → Contents → Type 0

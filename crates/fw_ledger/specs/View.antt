@@ -1,5 +1,5 @@
 -- What the code's records say.
-use Rattle.fw_ledger.specs.Entry.{Source, whole, earlier, Entry, opening, mark, cancelling}
+use Rattle.fw_ledger.specs.Entry.{Source, whole, earlier, Entry, opening, mark, cancelling, endings}
 use Rattle.fw_ledger.specs.declared.record.Image.{Image}
 use Rattle.fw_ledger.specs.declared.record.Image.TheVariants as place
 use Rattle.fw_ledger.specs.declared.record.Record.{Record}
@@ -13,3 +13,4 @@ abbrev pub entry_of : Record → Entry
 entry_of (told.Opening campaign release image meters) = opening campaign release (source_of image) meters.items
 entry_of (told.Mark campaign meter ending) = mark campaign meter ending
 entry_of (told.Cancelling campaign) = cancelling campaign
+entry_of (told.Endings campaign numbers) = endings campaign numbers.now

@@ -5,10 +5,12 @@ mod error;
 pub mod laws;
 mod reading;
 mod record;
+mod remaking;
 mod replay;
 mod writing;
 
 pub use error::{RecordError, ReplayError};
 pub use reading::read_record;
 pub use record::{Ending, Image, Record};
+pub use remaking::write_records;
 pub use replay::read_records;

@@ -38,7 +38,9 @@ ghost use Rattle.fw_ledger.specs.Entry.{
 ghost use Rattle.fw_ledger.specs.View.{source_of, entry_of};
 
 use crate::error::RecordError;
-use crate::record::{CANCELLING, EARLIER, Ending, Image, MARK, OPENING, Record, WHOLE};
+use crate::record::{
+    CANCELLING, EARLIER, ENDINGS, Ending, Image, MARK, OPENING, Record, WHOLE, are_endings,
+};
 use fw_names::{CampaignId, HeadId, MeterId};
 use std::alloc::{AllocError, Global};
 
@@ -200,7 +202,7 @@ fn opening_of(alloc: Global, bytes: &[u8]) -> Result<Record<'_>, RecordError>
 }
 
 /// How a row ended, by its number.
-fn ending_of(number: u8) -> Option<Ending>
+pub(crate) fn ending_of(number: u8) -> Option<Ending>
     ensures { MatchOption result ((ending : Ending) → ¬ (number ≡ ending_number ending)) (λ ending. number ≡ ending_number ending) }
 {
     match number {
@@ -246,6 +248,20 @@ fn cancelling_of(bytes: &[u8]) -> Option<Record<'_>>
     Some(Record::Cancelling { campaign })
 }
 
+/// The endings of rows, without their first byte.
+fn endings_of(bytes: &[u8]) -> Option<Record<'_>>
+    ensures found { IfSome result (λ r. Spells (4 ∷ bytes.now) (entry_of r)) }
+    ensures none { IfNone result (NoRecord (4 ∷ bytes.now)) }
+{
+    let Some((campaign, numbers)) = campaign_at(bytes) else {
+        return None;
+    };
+    if !are_endings(numbers) {
+        return None;
+    }
+    Some(Record::Endings { campaign, numbers })
+}
+
 /// The record that these bytes spell. All of it except the numbers of its meters is judged before memory is taken.
 ///
 /// # Errors
@@ -260,6 +276,7 @@ pub fn read_record(alloc: Global, bytes: &[u8]) -> Result<Record<'_>, RecordErro
         [OPENING, rest @ ..] => opening_of(alloc, rest),
         [MARK, rest @ ..] => mark_of(rest).ok_or(RecordError::BadRecord),
         [CANCELLING, rest @ ..] => cancelling_of(rest).ok_or(RecordError::BadRecord),
+        [ENDINGS, rest @ ..] => endings_of(rest).ok_or(RecordError::BadRecord),
         _ => Err(RecordError::BadRecord),
     }
 }

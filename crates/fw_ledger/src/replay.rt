@@ -1,10 +1,34 @@
 //! The book of a list of records.
 
-ghost use Rattle.std.specs.Prelude.{◌≡◌, ◌≢◌, ◌⊎◌, ◌≤◌, ℕ, List, Some, None, IfOk, IfErr, OnOk, OnErr, IsErrOf, MatchResult};
-ghost use Rattle.fw_book.specs.Contents.{Contents, image_in};
+ghost use Rattle.std.specs.Prelude.{
+  ◌≡◌,
+  ◌≢◌,
+  ◌⊎◌,
+  ◌≤◌,
+  ℕ,
+  List,
+  length,
+  slice_get,
+  Some,
+  None,
+  IfOk,
+  IfErr,
+  OnOk,
+  OnErr,
+  IsErrOf,
+  MatchBool,
+  MatchResult,
+};
+ghost use Rattle.std.specs.Option.{option_map, option_and_then};
+ghost use Rattle.fw_book.specs.declared.row.Row.{Row};
+ghost use Rattle.fw_book.specs.Contents.{Offered, Contents, offered_in, image_in};
+ghost use Rattle.fw_book.specs.Changes.{mark_refusal};
 ghost use Rattle.fw_ledger.specs.Entry.{IsOpening, BeginsOpening};
 ghost use Rattle.fw_ledger.specs.Replay.{
   MakesOpened,
+  MakesMarked,
+  MakesNumbered,
+  MakesEnded,
   Makes,
   Adds,
   AddsNothing,
@@ -16,7 +40,7 @@ ghost use Rattle.fw_ledger.specs.Replay.{
 ghost use Rattle.fw_ledger.specs.View.{source_of, entry_of};
 
 use crate::error::{RecordError, ReplayError};
-use crate::reading::read_record;
+use crate::reading::{ending_of, read_record};
 use crate::record::{Ending, Image, Record};
 use fw_book::{Book, BookError, RestoredBook};
 use fw_names::{CampaignId, HeadId, MeterId};
@@ -58,13 +82,89 @@ fn reopen(
     }
 }
 
+/// Marks a meter's row again.
+fn remark(
+    book: &mut RestoredBook,
+    campaign: CampaignId,
+    meter: MeterId,
+    ending: Ending,
+) -> Result<(), BookError>
+    ensures made { OnOk result (MakesMarked book.old campaign meter ending book.new) }
+    ensures refused { IfErr result (λ e. mark_refusal book.old campaign meter ≡ Some e) }
+    ensures memory { IfErr result (λ e. e ≢ BookError.OutOfMemory) }
+{
+    match ending {
+        Ending::Done => book.mark_done(campaign, meter),
+        Ending::Failed => book.mark_failed(campaign, meter),
+    }
+}
+
+/// Marks a meter's row again by the number of its ending, where that isn't 0.
+fn renumber(
+    book: &mut RestoredBook,
+    campaign: CampaignId,
+    meter: MeterId,
+    number: u8,
+) -> Result<(), BookError>
+    ensures made { OnOk result (MakesNumbered book.old campaign meter number book.new) }
+    ensures refused { OnErr result ((next : Contents) → ¬ MakesNumbered book.old campaign meter number next) }
+    ensures memory { IfErr result (λ e. e ≢ BookError.OutOfMemory) }
+{
+    if number == 0 {
+        return Ok(());
+    }
+    match ending_of(number) {
+        Some(ending) => remark(book, campaign, meter, ending),
+        None => Err(BookError::BadBook),
+    }
+}
+
+/// The meter of the row of a campaign with this index.
+fn meter_at(book: &Book, campaign: CampaignId, index: usize) -> Option<MeterId>
+    ensures { result ≡ option_and_then (λ (offer : Offered). option_map (λ (row : Row). row.meter) (slice_get offer.rows index))
+        (offered_in book.now campaign) }
+{
+    let row = book.offer(campaign)?.rows().get(index)?;
+    Some(row.meter)
+}
+
+/// Whether the book has the campaign, with as many rows.
+fn has_rows(book: &Book, campaign: CampaignId, count: usize) -> bool
+    ensures { MatchBool result ((offer : Offered) × (offered_in book.now campaign ≡ Some offer) × (length offer.rows ≡ count))
+        ((offer : Offered) → offered_in book.now campaign ≡ Some offer → length offer.rows ≢ count) }
+{
+    match book.offer(campaign) {
+        Some(offer) => offer.rows().len() == count,
+        None => false,
+    }
+}
+
+/// Ends the rows of a campaign again, by a number for each of them.
+fn end_rows(book: &mut RestoredBook, campaign: CampaignId, numbers: &[u8]) -> Result<(), BookError>
+    ensures made { OnOk result (MakesEnded book.old campaign numbers.now book.new) }
+    ensures refused { OnErr result ((next : Contents) → ¬ MakesEnded book.old campaign numbers.now next) }
+    ensures memory { IfErr result (λ e. e ≢ BookError.OutOfMemory) }
+{
+    if !has_rows(book.book(), campaign, numbers.len()) {
+        return Err(BookError::BadBook);
+    }
+    let mut rest = numbers;
+    while let Some((number, others)) = rest.split_first() {
+        let Some(meter) = meter_at(book.book(), campaign, numbers.len() - rest.len()) else {
+            return Err(BookError::BadBook);
+        };
+        renumber(book, campaign, meter, *number)?;
+        rest = others;
+    }
+    Ok(())
+}
+
 /// Makes again what a record says.
 fn apply(alloc: Global, book: &mut RestoredBook, told: &Record<'_>) -> Result<(), BookError>
     ensures made { OnOk result (Makes (entry_of told.now) book.old book.new) }
     ensures refused { IfErr result (λ e. e ≢ BookError.OutOfMemory
         → (next : Contents) → ¬ Makes (entry_of told.now) book.old next) }
     ensures memory { IsErrOf result BookError.OutOfMemory → IsOpening (entry_of told.now) }
-    ensures kept { OnErr result (book.new ≡ book.old) }
 {
     match told {
         Record::Opening {
@@ -77,20 +177,17 @@ fn apply(alloc: Global, book: &mut RestoredBook, told: &Record<'_>) -> Result<()
             campaign,
             meter,
             ending,
-        } => match ending {
-            Ending::Done => book.mark_done(*campaign, *meter),
-            Ending::Failed => book.mark_failed(*campaign, *meter),
-        },
+        } => remark(book, *campaign, *meter, *ending),
         Record::Cancelling { campaign } => book.cancel(*campaign),
+        Record::Endings { campaign, numbers } => end_rows(book, *campaign, numbers),
     }
 }
 
-/// Makes again what the record says that these bytes spell.
+/// Makes again what the record says that these bytes spell. A book that refused may have some of it.
 fn add(alloc: Global, book: &mut RestoredBook, bytes: &[u8]) -> Result<(), BookError>
     ensures made { OnOk result (Adds bytes.now book.old book.new) }
     ensures refused { IfErr result (λ e. e ≢ BookError.OutOfMemory → AddsNothing bytes.now book.old) }
     ensures memory { IsErrOf result BookError.OutOfMemory → BeginsOpening bytes.now }
-    ensures kept { OnErr result (book.new ≡ book.old) }
 {
     match read_record(alloc, bytes) {
         Ok(record) => apply(alloc, book, &record),

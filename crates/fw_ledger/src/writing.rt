@@ -16,11 +16,14 @@ ghost use Rattle.fw_ledger.specs.Entry.{
   opening,
   mark,
   cancelling,
+  endings,
 };
 ghost use Rattle.fw_ledger.specs.View.{source_of, entry_of};
 
 use crate::error::RecordError;
-use crate::record::{CANCELLING, EARLIER, Ending, Image, MARK, OPENING, Record, WHOLE};
+use crate::record::{
+    CANCELLING, EARLIER, ENDINGS, Ending, Image, MARK, OPENING, Record, WHOLE, are_endings,
+};
 use fw_names::{CampaignId, MeterId};
 use std::alloc::{AllocError, Global};
 
@@ -85,7 +88,8 @@ fn number_of(ending: Ending) -> u8
 }
 
 impl Record<'_> {
-    /// Whether the record has a spelling: its campaign is one that a head end opens, and its image has fewer than 4,294,967,296 bytes.
+    /// Whether the record has a spelling: its campaign is one that a head end opens, its image has fewer than 4,294,967,296 bytes, and its
+    /// numbers are those of endings.
     pub fn has_spelling(&self) -> bool
         ensures { MatchBool result (HasSpelling (entry_of self.now)) (¬ HasSpelling (entry_of self.now)) }
     {
@@ -97,6 +101,9 @@ impl Record<'_> {
             } => !campaign.is_factory() && fits(*image),
             Record::Mark { campaign, .. } | Record::Cancelling { campaign } => {
                 !campaign.is_factory()
+            }
+            Record::Endings { campaign, numbers } => {
+                !campaign.is_factory() && are_endings(numbers)
             }
         }
     }
@@ -118,7 +125,7 @@ impl Record<'_> {
     }
 
     /// The bytes of a record that has a spelling.
-    fn spelling(&self, alloc: Global) -> Result<Vec<u8>, AllocError>
+    pub(crate) fn spelling(&self, alloc: Global) -> Result<Vec<u8>, AllocError>
         requires { HasSpelling (entry_of self.now) }
         ensures bytes { IfOk result (λ bytes. bytes.items ≡ entry_bytes (entry_of self.now)) }
         ensures fit { IfOk result (λ _. NumbersFit (entry_of self.now)) }
@@ -136,6 +143,7 @@ impl Record<'_> {
                 ending,
             } => mark_bytes(alloc, *campaign, *meter, *ending),
             Record::Cancelling { campaign } => cancelling_bytes(alloc, *campaign),
+            Record::Endings { campaign, numbers } => endings_bytes(alloc, *campaign, numbers),
         }
     }
 }
@@ -185,6 +193,16 @@ fn cancelling_bytes(alloc: Global, campaign: CampaignId) -> Result<Vec<u8>, Allo
     let mut bytes = Vec::new(alloc);
     bytes.push(CANCELLING)?;
     put_campaign(&mut bytes, campaign)?;
+    Ok(bytes)
+}
+
+fn endings_bytes(alloc: Global, campaign: CampaignId, numbers: &[u8]) -> Result<Vec<u8>, AllocError>
+    ensures { IfOk result (λ bytes. bytes.items ≡ entry_bytes (endings campaign numbers.now)) }
+{
+    let mut bytes = Vec::new(alloc);
+    bytes.push(ENDINGS)?;
+    put_campaign(&mut bytes, campaign)?;
+    bytes.extend_from_slice(numbers)?;
     Ok(bytes)
 }
 

@@ -20,7 +20,7 @@ impl Case for Read {
     }
 }
 
-/// An opening with an image and two meters, one with the image of an earlier campaign, both marks and a cancelling.
+/// An opening with an image and two meters, one with the image of an earlier campaign, both marks, a cancelling and endings.
 const GOOD: &[(Read, &str)] = &[
     (
         Read("0100000007000000030000000501000000036162630000000100000102"),
@@ -39,13 +39,14 @@ const GOOD: &[(Read, &str)] = &[
         "0200000007000000030000010202",
     ),
     (Read("030000000700000003"), "030000000700000003"),
+    (Read("040000000700000003010002"), "040000000700000003010002"),
 ];
 
 /// Another kind, head end 0, serial number 0, another source, an image that is cut short, half a meter, another ending, a byte too few, and
-/// one too many.
+/// one too many. Endings of no row, of rows of which none ended, and of one that ended otherwise.
 const BAD: &[(Read, &str)] = &[
     (Read(""), "BadRecord"),
-    (Read("040000000700000003"), "BadRecord"),
+    (Read("050000000700000003"), "BadRecord"),
     (Read("030000000000000003"), "BadRecord"),
     (Read("030000000700000000"), "BadRecord"),
     (Read("010000000700000004000000000300000003"), "BadRecord"),
@@ -61,6 +62,9 @@ const BAD: &[(Read, &str)] = &[
     (Read("02000000070000000300000102"), "BadRecord"),
     (Read("0300000007000000"), "BadRecord"),
     (Read("03000000070000000300"), "BadRecord"),
+    (Read("040000000700000003"), "BadRecord"),
+    (Read("0400000007000000030000"), "BadRecord"),
+    (Read("0400000007000000030103"), "BadRecord"),
 ];
 
 #[test]
@@ -118,6 +122,33 @@ const MADE: &[(Made, &str)] = &[
         ]),
         "46574232000000070000000100000005000000036162630003000000010100000002030000000303",
     ),
+    (
+        Made(&[OPENING, "040000000700000001010200"]),
+        "46574232000000070000000100000005000000036162630003000000010100000002020000000300",
+    ),
+    (
+        Made(&[
+            OPENING,
+            "0200000007000000010000000202",
+            "040000000700000001010000",
+        ]),
+        "46574232000000070000000100000005000000036162630003000000010100000002020000000300",
+    ),
+    (Made(&[OPENING, "0400000007000000010102"]), "BadRecord 1"),
+    (
+        Made(&[OPENING, "04000000070000000101020000"]),
+        "BadRecord 1",
+    ),
+    (
+        Made(&[
+            OPENING,
+            "0200000007000000010000000202",
+            "040000000700000001010100",
+        ]),
+        "BadRecord 2",
+    ),
+    (Made(&[OPENING, "040000000700000002010200"]), "BadRecord 1"),
+    (Made(&["040000000700000001010200"]), "BadRecord 0"),
     (Made(&[SECOND]), "BadRecord 0"),
     (Made(&[OPENING, OPENING]), "BadRecord 1"),
     (
