@@ -3,3 +3,4 @@ mod Moments
 mod Heads
 mod Readings
 mod Backs
+mod Compacts

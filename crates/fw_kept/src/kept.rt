@@ -36,12 +36,13 @@ ghost use Rattle.fw_ledger.specs.Replay.{Makes};
 ghost use Rattle.fw_ledger.specs.View.{entry_of};
 ghost use Rattle.fw_kept.specs.Inside.{CanBeKept};
 
+use crate::compacting::write_anew;
 use crate::error::{KeptError, OpenError, open_error};
 use crate::opening::book_of;
 use crate::putting::{add, check_has, opening_of, put};
 use fw_book::Book;
 use fw_client::ActiveClaim;
-use fw_journal::{Journal, JournalDevice, JournalError};
+use fw_journal::{Journal, JournalDevice, JournalError, Replacer, RewriteError};
 use fw_ledger::{Ending, Record};
 use fw_names::{CampaignId, HeadId, ImageName, MeterId};
 use std::alloc::Global;
@@ -417,5 +418,45 @@ impl<D: JournalDevice> KeptBook<D> {
         self.check_works()?;
         self.journal.commit()?;
         Ok(())
+    }
+
+    /// Writes the journal anew, so that it holds just this book: of each campaign an opening, the endings of its rows, where one is done or
+    /// failed, and a cancelling, where one is cancelled. From `Ok` on every power cut leaves that, with all marks that waited; a cut in the
+    /// call leaves the book of the last commit, or that with all marks.
+    ///
+    /// # Errors
+    ///
+    /// `BookFault` where the book is broken; else `NotReplaced`, where the new bytes couldn't be made beside the old ones, and it goes on; or
+    /// `BookFault`, where the device failed, or `OutOfMemory`. The book in memory is as it was. What a cut leaves is as it was, and the marks
+    /// wait, or the book is broken.
+    pub fn compact<R: Replacer<D>>(
+        &mut self,
+        alloc: Global,
+        replacer: &mut R,
+    ) -> Result<(), RewriteError>
+        ensures book { book_of self.new ≡ book_of self.old }
+        ensures acknowledged { (synced : Contents) → Holds D.honest D.contents D.may_leave self.old synced
+            → OnOk result (Holds D.honest D.contents D.may_leave self.new (book_of self.old)) }
+        ensures each_cut { (synced : Contents) → Holds D.honest D.contents D.may_leave self.old synced
+            → OnOk result ((left : List ℕ) → D.may_leave (device_of self.new) left
+            → HasBook (book_of self.old).head left (book_of self.old)) }
+        ensures unchanged { (synced : Contents) → Holds D.honest D.contents D.may_leave self.old synced
+            → OnErr result (Holds D.honest D.contents D.may_leave self.new synced ⊎ IsTrue (is_broken self.new)) }
+
+        // A cut at any moment of the call leaves the book of the last commit, or that with all marks.
+        ensures any_moment { (synced : Contents) → Holds D.honest D.contents D.may_leave self.old synced
+            → LeavesOnly D.moment D.left_since (device_of self.old) (device_of self.new)
+            (λ left. HasBook (book_of self.old).head left synced ⊎ HasBook (book_of self.old).head left (book_of self.old)) }
+        ensures breaks { IsErrOf result RewriteError.BookFault → IsTrue (is_broken self.new) }
+        ensures broken { IsTrue (is_broken self.old) → IsErrOf result RewriteError.BookFault × (self.new ≡ self.old) }
+        ensures goes_on { IsErrOf result RewriteError.NotReplaced → is_broken self.new ≡ false }
+        ensures never { IsTrue (D.sound (device_of self.old)) → IsErrOf result RewriteError.BookFault → IsTrue (is_broken self.old) }
+        ensures replaced { IsTrue (D.sound (device_of self.old)) → ¬ IsErrOf result RewriteError.NotReplaced }
+        ensures kept { DeviceKeeps D.honest D.sound (device_of self.old) (device_of self.new) }
+    {
+        match self.check_works() {
+            Ok(()) => write_anew(alloc, &mut self.journal, replacer, &self.book),
+            Err(_) => Err(RewriteError::BookFault),
+        }
     }
 }

@@ -1,6 +1,7 @@
 //! A head end's book that outlives a power cut, alone or in its head end: a book over a journal of its records.
 #![tactic(auto)]
 
+mod compacting;
 mod error;
 mod head;
 mod kept;

@@ -1,7 +1,7 @@
 //! Kept books: what is kept, what a power cut leaves, and what is refused.
 
 use crate::book::{RELEASE_ANSWER, bytes_of, campaign, claim, meter, meters};
-use fw_journal::{Disk, Journal, MemoryDevice};
+use fw_journal::{Disk, Journal, MemoryDevice, MemoryReplacer, RewriteError};
 use fw_kept::{KeptBook, KeptError, OpenError};
 use fw_names::HeadId;
 use std::alloc::Global;
@@ -19,6 +19,7 @@ enum Step {
     Fail(u32, u32),
     Cancel(u32),
     Commit,
+    Compact,
     /// The bytes of the book in memory.
     Memory,
     /// The bytes of the book that a power cut leaves.
@@ -43,6 +44,7 @@ impl Takes<Step> for KeptBook<MemoryDevice> {
             ),
             Step::Cancel(serial) => answer_text(alloc, self.cancel(alloc, campaign(7, serial)?)),
             Step::Commit => answer_text(alloc, self.commit()),
+            Step::Compact => compact_text(alloc, self.compact(alloc, &mut MemoryReplacer)),
             Step::Memory => bytes_of(alloc, self.book()),
             Step::Left => read_text(alloc, 7, self.device().disk().synced()),
             Step::Records => records_text(alloc, self.device().disk().synced()),
@@ -51,6 +53,16 @@ impl Takes<Step> for KeptBook<MemoryDevice> {
 }
 
 fn answer_text(alloc: Global, answer: Result<(), KeptError>) -> Result<String, Fail> {
+    Ok(match answer {
+        Ok(()) => String::from_str(alloc, "done")?,
+        Err(refusal) => refusal.to_string(alloc)?,
+    })
+}
+
+pub(crate) fn compact_text(
+    alloc: Global,
+    answer: Result<(), RewriteError>,
+) -> Result<String, Fail> {
     Ok(match answer {
         Ok(()) => String::from_str(alloc, "done")?,
         Err(refusal) => refusal.to_string(alloc)?,
@@ -171,7 +183,23 @@ const KEPT: &[(Step, &str)] = &[
     (Step::Memory, CANCELLED),
     (Step::Cancel(1), "NotLive"),
     (Step::Cancel(3), "NoSuchCampaign"),
+    (Step::Open(3, 0, b"x", &[3]), "done"),
+    (Step::Fail(2, 4), "done"),
+    (Step::Compact, "done"),
+    (Step::Left, ENDED),
+    (Step::Memory, ENDED),
+    (
+        Step::Records,
+        "010000000700000001000000050100000003616263000000010000000200000003|040000000700000001010200|030000000700000001|01000000070000000200000000020000000100000004|04000000070000000202|0100000007000000030000000001000000017800000003|",
+    ),
+    (Step::Fail(3, 3), "done"),
+    (Step::Commit, "done"),
+    (Step::Compact, "done"),
 ];
+
+/// With campaign 3 too, of image `x`, for meter 3, and meter 4 failed.
+const ENDED: &str =
+    "46574232000000070000000100000005000000036162630003000000010100000002020000000303000000020000000000000003616263000100000004020000000300000000000000017800010000000300";
 
 /// What comes of an opening of campaign 2, for meter 4 with image `abc`, where meters 2 and 1 were marked and wait, and the device fails
 /// after `calls` calls. Then the book in memory, and what is read of the device.
@@ -268,6 +296,71 @@ const CUTS: &[(Cut, &str)] = &[
 #[test]
 fn a_cut_leaves_an_opening_or_nothing_of_it(rt: HostRuntime) -> Result<(), Fail> {
     each(rt.alloc(), CUTS)
+}
+
+/// What comes of compacting the book of campaign 1, where meters 2 and 1 were marked and wait, and the device fails after `calls` calls.
+/// Then the book in memory, and what is read of the device.
+struct Compacted {
+    calls: u64,
+}
+
+impl Case for Compacted {
+    fn told(&self, alloc: Global) -> Result<String, Fail> {
+        let head = HeadId::new(7).ok_or("no head end")?;
+        let mut device = device_with_one(alloc)?;
+        device.fuse(self.calls.saturating_add(3), 1);
+        match KeptBook::open(alloc, head, device) {
+            Ok(book) => compacted_text(alloc, &mut Kept(book).0),
+            Err((refusal, _)) => refused_text(alloc, refusal),
+        }
+    }
+}
+
+/// What comes of compacting a book with marks that wait, and of a commit after that.
+fn compacted_text(alloc: Global, book: &mut KeptBook<MemoryDevice>) -> Result<String, Fail> {
+    book.take(alloc, &Step::Fail(1, 2))?;
+    book.take(alloc, &Step::Done(1, 1))?;
+    let answer = book.take(alloc, &Step::Compact)?;
+    judge_compacted(alloc, book.device())?;
+    let again = book.take(alloc, &Step::Commit)?;
+    let books = books_text(alloc, book)?;
+    Ok(format!(in alloc; "{answer} {again}: {books}")?)
+}
+
+/// Fails where a power cut at any moment leaves another book than that of campaign 1, without its marks or with both.
+fn judge_compacted(alloc: Global, device: &MemoryDevice) -> Result<(), Fail> {
+    judge_either(alloc, device.disk())?;
+    for past in device.past() {
+        judge_either(alloc, past)?;
+    }
+    Ok(())
+}
+
+fn judge_either(alloc: Global, disk: &Disk) -> Result<(), Fail> {
+    let old = disk.cut(alloc, &[])?;
+    judge_one(alloc, &old)?;
+    judge_one(alloc, disk.bytes())
+}
+
+fn judge_one(alloc: Global, left: &[u8]) -> Result<(), Fail> {
+    let told = read_text(alloc, 7, left)?;
+    if told.as_str() == ONE || told.as_str() == DONE {
+        Ok(())
+    } else {
+        Err(Fail::from(told))
+    }
+}
+
+const COMPACTED: &[(Compacted, &str)] = &[
+    (Compacted { calls: 0 }, "NotReplaced BookFault: marked one"),
+    (Compacted { calls: 1 }, "BookFault BookFault: marked marked"),
+    (Compacted { calls: 2 }, "done done: marked marked"),
+];
+
+/// A book that is compacted is there as it was, or with the marks that waited.
+#[test]
+fn a_cut_leaves_a_compacted_book_as_before_or_after(rt: HostRuntime) -> Result<(), Fail> {
+    each(rt.alloc(), COMPACTED)
 }
 
 /// Records in a journal: what comes of it where head end 7 opens it.

@@ -1,10 +1,10 @@
 //! A head end whose book outlives a power cut. It is head end 7, and works on meter 1.
 
 use crate::head::{Step, apdus_text, carried, heard_text, meter};
-use crate::kept::{device_of, read_text};
+use crate::kept::{compact_text, device_of, read_text};
 use crate::transfers::{CLAIM, TO_CONFIRM};
 use fw_blocks::Width;
-use fw_journal::MemoryDevice;
+use fw_journal::{MemoryDevice, MemoryReplacer};
 use fw_kept::{KeptError, KeptHead};
 use fw_names::HeadId;
 use std::alloc::Global;
@@ -14,6 +14,7 @@ use test_support::{Kept, Takes, session};
 /// A call of its journal, or a look at its device.
 enum Look {
     Commit,
+    Compact,
     /// The bytes of the book that a power cut leaves.
     Left,
     /// The APDUs that the head end of this book sends to meter 1 at first.
@@ -24,6 +25,7 @@ impl Takes<Look> for KeptHead<MemoryDevice> {
     fn take(&mut self, alloc: Global, look: &Look) -> Result<String, Fail> {
         match look {
             Look::Commit => answer_text(alloc, self.commit()),
+            Look::Compact => compact_text(alloc, self.compact(alloc, &mut MemoryReplacer)),
             Look::Left => read_text(alloc, 7, self.device().disk().synced()),
             Look::Begun => begun_text(alloc, self.device().disk().synced()),
         }
@@ -153,6 +155,8 @@ const LEFT: &[(Look, &str)] = &[
     (Look::Begun, ""),
 ];
 
+const COMPACTED: &[(Look, &str)] = &[(Look::Compact, "done")];
+
 #[test]
 fn a_kept_head_end_outlives_a_cut(rt: HostRuntime) -> Result<(), Fail> {
     let alloc = rt.alloc();
@@ -163,5 +167,7 @@ fn a_kept_head_end_outlives_a_cut(rt: HostRuntime) -> Result<(), Fail> {
     session(alloc, &mut head.0, WAITING)?;
     session(alloc, &mut head.0, COMMITTED)?;
     session(alloc, &mut head.0, CANCELLED)?;
+    session(alloc, &mut head.0, LEFT)?;
+    session(alloc, &mut head.0, COMPACTED)?;
     session(alloc, &mut head.0, LEFT)
 }
