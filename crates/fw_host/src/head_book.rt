@@ -9,11 +9,12 @@ ghost use Rattle.fw_host.specs.Heads.{IsOfBook, IsOfNewBook, IsOfOldBook};
 
 use crate::files::is_absent;
 use fw_blocks::Width;
+use fw_book::Book;
 use fw_faults::Fault;
-use fw_journal::{FileDevice, JournalDevice, JournalError};
+use fw_journal::{FileDevice, FileReplacer, JournalDevice, JournalError, RewriteError};
 use fw_kept::KeptHead;
-use fw_names::HeadId;
-use std::alloc::Global;
+use fw_names::{CampaignId, HeadId};
+use std::alloc::{AllocError, Global};
 use std::fs;
 use std::fs::{File, OpenOptions};
 use std::rt::Files;
@@ -27,7 +28,14 @@ pub struct BookOptions<'a> {
     pub is_new: bool,
 }
 
-/// The head end of this number whose book is in the file. A new one is made as FILE.new, and named FILE once the disk has all of it.
+/// About how many bytes the records of a campaign have in a book that was written anew, without its image and its rows.
+const CAMPAIGN_SIZE: u64 = 150;
+
+/// And each of its rows.
+const ROW_SIZE: u64 = 5;
+
+/// The head end of this number whose book is in the file. A new one is made as FILE.new, and named FILE once the disk has all of it. So is one
+/// that is there, where it is written anew.
 ///
 /// # Errors
 ///
@@ -69,14 +77,61 @@ fn open<F: Files<File = File>>(
     ensures number { IfOk result (λ kept. (book_of kept).head ≡ head) }
     ensures only { IfErr result IsOfOldBook }
 {
-    let device = match FileDevice::open(rt, path) {
+    let mut device = match FileDevice::open(rt, path) {
         Ok(device) => device,
         Err(error) => return Err(file_fault(rt, path, error)),
     };
-    let kept = book_on(alloc, head, width, device)?;
+    let size = device.len().unwrap_or(0);
+    let mut kept = book_on(alloc, head, width, device)?;
     // A head end that made the file may have been ended before a power cut left its name there.
     sync_folder(rt, path)?;
+    compact(rt, alloc, path, size, &mut kept)?;
     Ok(kept)
+}
+
+/// Writes the book of a file of this size anew, where that takes more than half of its bytes away.
+fn compact<F: Files<File = File>>(
+    rt: &F,
+    alloc: Global,
+    path: &str,
+    size: u64,
+    kept: &mut KeptHead<FileDevice>,
+) -> Result<(), Fault>
+    ensures same { head_of kept.new ≡ head_of kept.old }
+    ensures only { IfErr result IsOfOldBook }
+{
+    if size / 2 <= size_anew(alloc, kept.head().view().book)? {
+        return Ok(());
+    }
+    let mut replacer = FileReplacer::new(rt, alloc, path)?;
+    match kept.compact(alloc, &mut replacer) {
+        // Where no file can be made beside it, the book goes on in the old one.
+        Ok(()) | Err(RewriteError::NotReplaced) => Ok(()),
+        Err(RewriteError::BookFault) => Err(Fault::BookFault),
+        Err(RewriteError::OutOfMemory) => Err(Fault::OutOfMemory),
+    }
+}
+
+/// About how many bytes a book has that was written anew. Images count once each.
+fn size_anew(alloc: Global, book: &Book) -> Result<u64, AllocError> {
+    let mut images = Vec::new(alloc);
+    let mut size = 0u64;
+    for (serial, offer) in book.rows() {
+        let rows = ROW_SIZE.saturating_mul(offer.rows().len() as u64);
+        size = size.saturating_add(CAMPAIGN_SIZE).saturating_add(rows);
+        let digest = digest_in(book, *serial);
+        if !images.iter().any(|image| *image == digest) {
+            images.push(digest)?;
+            size = size.saturating_add(offer.image().len() as u64);
+        }
+    }
+    Ok(size)
+}
+
+/// The digest of the image that the campaign with this serial number offers.
+fn digest_in(book: &Book, serial: u32) -> Option<[u8; 32]> {
+    let name = book.name(CampaignId::new(book.head(), serial)?)?;
+    Some(name.digest)
 }
 
 /// The head end of this number whose book is on a device. `ForeignHead` says that it is another head end's.
