@@ -65,7 +65,7 @@ lowest_told may_end shares ends told each refused otherwise = lowest may_end sha
 -- a shut gate is reported of shares that end so only where one may shut
 lowest_shut : {H : Type 0} (may_shut : Type 0) (shares : List H) → IsLowestRefusal (λ _ end. EndsUnder may_shut end) shares unaccounted.GateShut → may_shut
 lowest_shut may_shut [] is = absurd is
-lowest_shut may_shut (share ∷ shares) is = elim is [ inl may ↦ may refl | inr lower ↦ lowest_shut may_shut shares lower.1 ]
+lowest_shut may_shut (share ∷ shares) is = elim is [ inl may ↦ may.1 refl | inr lower ↦ lowest_shut may_shut shares lower.1 ]
 
 pub shut_told : {H R : Type 0} (may_shut : Type 0) (shares : List H) (told : Result R RoundsError)
     → IfErr told (λ e. IsOfAll e ⊎ IsLowestRefusal (λ _ end. EndsUnder may_shut end) shares e)

@@ -1,5 +1,5 @@
 -- Public vocabulary: how workers end.
-use Rattle.std.specs.Prelude.{◌≡◌, ◌⊎◌, List, [], ◌∷◌, Option, None, Some, Result, Ok, Err, IsErrOf}
+use Rattle.std.specs.Prelude.{◌≡◌, ◌⊎◌, List, [], ◌∷◌, Option, None, Some, Result, Ok, Err, IfErr, IsErrOf}
 use Rattle.fw_workers.specs.declared.error.RoundsError.{RoundsError}
 use Rattle.fw_workers.specs.declared.error.RoundsError.TheVariants as unaccounted
 
@@ -29,9 +29,9 @@ abbrev pub IsOfEvent : RoundsError → Type 0
 IsOfEvent unaccounted.ThreadRefused = ⊥
 IsOfEvent other = Unit {0}
 
--- it ends for a shut gate only where one may shut
-abbrev pub EndsUnder : Type 0 → End → Type 0
-EndsUnder may_shut end = IsErrOf end unaccounted.GateShut → may_shut
+-- it ends for a reason of an event of the worker at most, and for a shut gate only where one may shut
+abbrev pub EndsUnder : {R : Type 0} → Type 0 → Result R RoundsError → Type 0
+EndsUnder may_shut end = IfErr end IsOfEvent × (IsErrOf end unaccounted.GateShut → may_shut)
 
 -- a worker with this share ends as its share may end, or was not to begin
 abbrev pub EndsAs : {H : Type 0} → (H → End → Type 0) → H → End → Type 0

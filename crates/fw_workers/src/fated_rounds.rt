@@ -1,6 +1,7 @@
 //! The rounds of a worker of a rehearsal, in which datagrams come by their fates.
 
-ghost use Rattle.std.specs.Prelude.{◌≡◌, IfErr, IsErrOf};
+ghost use Rattle.std.specs.Prelude.{◌≡◌, IfErr};
+ghost use Rattle.fw_workers.specs.Ends.{EndsUnder};
 
 use crate::error::RoundsError;
 use crate::gate::Gate;
@@ -56,7 +57,7 @@ impl<'a> FatedRounds<'a> {
     ) -> Result<(), RoundsError>
         requires { worker.old.board ≡ self.now.shared.now.board.id }
         ensures board { worker.new.board ≡ worker.old.board }
-        ensures shut { IsErrOf result RoundsError.GateShut → G.may_shut }
+        ensures end { EndsUnder G.may_shut result }
     {
         'rounds: for _ in 0..self.rounds {
             'links: for link in links.iter_mut() {
@@ -77,7 +78,7 @@ impl<'a> FatedRounds<'a> {
     ) -> Result<(), RoundsError>
         requires { worker.old.board ≡ self.now.shared.now.board.id }
         ensures board { worker.new.board ≡ worker.old.board }
-        ensures shut { IsErrOf result RoundsError.GateShut → G.may_shut }
+        ensures end { EndsUnder G.may_shut result }
     {
         let sent = self.open_round(rt, alloc, worker, link)?;
         let replies = self.deliver_passed(rt, alloc, worker, link, &sent)?;
@@ -95,7 +96,7 @@ impl<'a> FatedRounds<'a> {
     ) -> Result<Vec<Sent>, RoundsError>
         requires { worker.old.board ≡ self.now.shared.now.board.id }
         ensures board { worker.new.board ≡ worker.old.board }
-        ensures shut { IsErrOf result RoundsError.GateShut → G.may_shut }
+        ensures end { EndsUnder G.may_shut result }
     {
         let late = link.queue.take_late(alloc);
         let mut sent = self.deliver_all(rt, alloc, worker, link, &late)?;
@@ -117,7 +118,7 @@ impl<'a> FatedRounds<'a> {
     ) -> Result<Vec<Sent>, RoundsError>
         requires { worker.old.board ≡ self.now.shared.now.board.id }
         ensures board { worker.new.board ≡ worker.old.board }
-        ensures shut { IsErrOf result RoundsError.GateShut → G.may_shut }
+        ensures end { EndsUnder G.may_shut result }
     {
         let coming = self.pass(alloc, link, sent)?;
         self.deliver_all(rt, alloc, worker, link, &coming)
@@ -152,7 +153,7 @@ impl<'a> FatedRounds<'a> {
     ) -> Result<Vec<Sent>, RoundsError>
         requires { worker.old.board ≡ self.now.shared.now.board.id }
         ensures board { worker.new.board ≡ worker.old.board }
-        ensures shut { IsErrOf result RoundsError.GateShut → G.may_shut }
+        ensures end { EndsUnder G.may_shut result }
     {
         let mut sent = Vec::new(alloc);
         for number in numbers {

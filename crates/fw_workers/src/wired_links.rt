@@ -1,6 +1,7 @@
 //! The rounds of a worker over wires.
 
-ghost use Rattle.std.specs.Prelude.{◌≡◌, IfErr, IsErrOf};
+ghost use Rattle.std.specs.Prelude.{◌≡◌, IfErr};
+ghost use Rattle.fw_workers.specs.Ends.{EndsUnder};
 
 use crate::error::RoundsError;
 use crate::gate::Gate;
@@ -34,7 +35,7 @@ impl<'a> WiredLinks<'a> {
     ) -> Result<(), RoundsError>
         requires { worker.old.board ≡ self.now.shared.now.board.id }
         ensures board { worker.new.board ≡ worker.old.board }
-        ensures shut { IsErrOf result RoundsError.GateShut → G.may_shut }
+        ensures end { EndsUnder G.may_shut result }
     {
         'rounds: for _ in 0..rounds {
             'links: for (place, link) in self.links.iter().enumerate() {
@@ -56,7 +57,7 @@ impl<'a> WiredLinks<'a> {
     ) -> Result<(), RoundsError>
         requires { worker.old.board ≡ self.now.shared.now.board.id }
         ensures board { worker.new.board ≡ worker.old.board }
-        ensures shut { IsErrOf result RoundsError.GateShut → G.may_shut }
+        ensures end { EndsUnder G.may_shut result }
     {
         let asked = self
             .shared
@@ -79,7 +80,7 @@ impl<'a> WiredLinks<'a> {
     ) -> Result<bool, RoundsError>
         requires { worker.old.board ≡ self.now.shared.now.board.id }
         ensures board { worker.new.board ≡ worker.old.board }
-        ensures shut { IsErrOf result RoundsError.GateShut → G.may_shut }
+        ensures end { EndsUnder G.may_shut result }
     {
         self.wire_thread.pass(rt)?;
         let mut has_come = false;
@@ -103,7 +104,7 @@ impl<'a> WiredLinks<'a> {
     ) -> Result<(), RoundsError>
         requires { worker.old.board ≡ self.now.shared.now.board.id }
         ensures board { worker.new.board ≡ worker.old.board }
-        ensures shut { IsErrOf result RoundsError.GateShut → G.may_shut }
+        ensures end { EndsUnder G.may_shut result }
     {
         let Some(link) = self.links.get(datagram.link) else {
             return Ok(());
