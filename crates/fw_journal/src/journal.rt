@@ -45,7 +45,6 @@ const MAX_RECORD: usize = 1 << 32;
 
 /// An open journal: records of 0 to 4,294,967,295 bytes on a device. A record that is appended waits in memory; a commit puts all that
 /// waits on the device, in one group.
-#[derive(Drop)]
 pub struct Journal<D: JournalDevice> {
     device: D,
     /// Where the shut gate stands.
@@ -54,6 +53,18 @@ pub struct Journal<D: JournalDevice> {
     waiting: Vec<u8>,
     /// A commit has failed.
     broken: bool,
+}
+
+// Written out: where a journal is let go, that is one call, and none of its parts is looked into.
+impl<D: JournalDevice + Drop> Drop for Journal<D> {
+    fn drop(self) {
+        let Journal {
+            device: _,
+            end: _,
+            waiting: _,
+            broken: _,
+        } = self;
+    }
 }
 
 impl<D: JournalDevice> Journal<D> {
@@ -138,7 +149,13 @@ impl<D: JournalDevice> Journal<D> {
     pub fn into_device(self) -> D
         ensures { result ≡ device_of self }
     {
-        self.device
+        let Journal {
+            device,
+            end: _,
+            waiting: _,
+            broken: _,
+        } = self;
+        device
     }
 
     /// Whether a commit has failed, so that nothing more is committed.

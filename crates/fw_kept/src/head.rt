@@ -51,12 +51,22 @@ use std::alloc::Global;
 /// that wait; the mark of a row that ended waits for the next commit. What a tick sends is always of a campaign that is on the device.
 /// After a power cut at any moment, the book that is read back is that of some moment since the last call that was reported as committed,
 /// and that call is in it.
-#[derive(Drop)]
 pub struct KeptHead<D: JournalDevice> {
     head: HeadCore,
     journal: Journal<D>,
     /// The journal may have an opening that the book in memory lacks, or lacks the mark of a row that ended.
     broken: bool,
+}
+
+// Written out: where a head end is let go, that is one call, and none of its parts is looked into.
+impl<D: JournalDevice + Drop> Drop for KeptHead<D> {
+    fn drop(self) {
+        let KeptHead {
+            head: _,
+            journal: _,
+            broken: _,
+        } = self;
+    }
 }
 
 impl<D: JournalDevice> KeptHead<D> {
@@ -175,7 +185,12 @@ impl<D: JournalDevice> KeptHead<D> {
     pub fn into_device(self) -> D
         ensures { result ≡ device_of self }
     {
-        self.journal.into_device()
+        let KeptHead {
+            head: _,
+            journal,
+            broken: _,
+        } = self;
+        journal.into_device()
     }
 
     /// What a broken head end refuses.

@@ -50,12 +50,22 @@ use std::alloc::Global;
 /// The book of a head end, with a journal of it on a device. An opening and a cancelling are committed before they are reported, with all
 /// marks that wait; a mark waits for the next commit. After a power cut at any moment, the book that is read back is that of some moment
 /// since the last call that was reported as committed, and that call is in it.
-#[derive(Drop)]
 pub struct KeptBook<D: JournalDevice> {
     book: Book,
     journal: Journal<D>,
     /// The journal may have an opening that the book in memory lacks.
     broken: bool,
+}
+
+// Written out: where a book is let go, that is one call, and none of its parts is looked into.
+impl<D: JournalDevice + Drop> Drop for KeptBook<D> {
+    fn drop(self) {
+        let KeptBook {
+            book: _,
+            journal: _,
+            broken: _,
+        } = self;
+    }
 }
 
 impl<D: JournalDevice> KeptBook<D> {
@@ -165,7 +175,8 @@ impl<D: JournalDevice> KeptBook<D> {
     pub fn into_device(self) -> D
         ensures { result ≡ device_of self }
     {
-        self.journal.into_device()
+        let (_book, journal) = self.into_parts();
+        journal.into_device()
     }
 
     /// The book, and its journal with what waits.
@@ -173,7 +184,11 @@ impl<D: JournalDevice> KeptBook<D> {
         ensures book { result.0 ≡ book_of self }
         ensures journal { result.1 ≡ journal_of self }
     {
-        let KeptBook { book, journal, .. } = self;
+        let KeptBook {
+            book,
+            journal,
+            broken: _,
+        } = self;
         (book, journal)
     }
 

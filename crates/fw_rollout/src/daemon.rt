@@ -120,7 +120,6 @@ pub enum Heard {
 
 /// A head end whose book outlives a power cut, with the meters that it asks. It has no port and no clock: what comes is passed to it with
 /// the time, and what is to be sent is returned.
-#[derive(Drop)]
 pub struct HeadDaemon<D: JournalDevice + Drop> {
     alloc: Global,
     kept: KeptHead<D>,
@@ -130,6 +129,20 @@ pub struct HeadDaemon<D: JournalDevice + Drop> {
     /// When the oldest of them ended.
     held_since: u64,
     counts: Counts,
+}
+
+// Written out: where a daemon is let go, that is one call, and none of its parts is looked into.
+impl<D: JournalDevice + Drop> Drop for HeadDaemon<D> {
+    fn drop(self) {
+        let HeadDaemon {
+            alloc: _,
+            kept: _,
+            schedule: _,
+            ended: _,
+            held_since: _,
+            counts: _,
+        } = self;
+    }
 }
 
 impl<D: JournalDevice + Drop> HeadDaemon<D> {
