@@ -6,6 +6,7 @@ ghost use Rattle.fw_journal.specs.Refusals.{IsFileRefusal};
 use crate::device::JournalDevice;
 use crate::error::{DeviceError, JournalError, ReplaceError};
 use crate::journal::Journal;
+use crate::reading::is_begun;
 use crate::replacing::Replacer;
 use std::alloc::{AllocError, Global};
 use std::fs::{File, OpenOptions};
@@ -71,6 +72,54 @@ impl FileDevice {
         Ok(device)
     }
 
+    /// Makes a file without bytes for a journal that gets another name once it is whole, or takes one that is there: what a power cut or a
+    /// killed process left of such a making, which is a file of five bytes at most, or one that begins as a journal does.
+    ///
+    /// # Errors
+    ///
+    /// `BookFault` where it can't be made, opened or emptied, or where a file of any other bytes is there, or one that has another name as
+    /// well: these are left as they are. `Locked` where another journal has it open, or took it or replaced it meanwhile.
+    pub fn begin<R: Files<File = File>, P: AsPath>(
+        rt: &R,
+        path: P,
+    ) -> Result<FileDevice, JournalError>
+        ensures refusals { IfErr result IsFileRefusal }
+    {
+        let path = path.path_text();
+        let device = match FileDevice::create(rt, path) {
+            Err(JournalError::BookFault) => FileDevice::open(rt, path)?,
+            made => made?,
+        };
+        if !device.has_only_name(rt, path)? || !device.is_begun()? {
+            return Err(JournalError::BookFault);
+        }
+        device.clear()?;
+        Ok(device)
+    }
+
+    /// Whether its bytes may be left of a journal that was cut while it was made.
+    fn is_begun(&self) -> Result<bool, DeviceError>
+        ensures refusals { IfErr result (λ e. e ≡ DeviceError.Fault) }
+    {
+        let metadata = self.file.metadata().map_err(refused)?;
+        let mut front = [0; 6];
+        let front = &mut front[..metadata.len().min(6) as usize];
+        self.file.read_exact_at(front, 0).map_err(refused)?;
+        Ok(is_begun(front))
+    }
+
+    /// Takes its bytes away, and syncs that: else what is written next and some of them might be left together.
+    fn clear(&self) -> Result<(), DeviceError>
+        ensures refusals { IfErr result (λ e. e ≡ DeviceError.Fault) }
+    {
+        let metadata = self.file.metadata().map_err(refused)?;
+        if metadata.len() > 0 {
+            self.file.set_len(0).map_err(refused)?;
+            self.file.sync_all().map_err(refused)?;
+        }
+        Ok(())
+    }
+
     /// Whether this is the name of the file.
     fn has_name<R: Files<File = File>>(&self, rt: &R, path: &str) -> Result<bool, DeviceError>
         ensures refusals { IfErr result (λ e. e ≡ DeviceError.Fault) }
@@ -80,25 +129,31 @@ impl FileDevice {
         Ok(own.dev() == named.dev() && own.ino() == named.ino())
     }
 
-    /// Whether this is the only name of the file, and no link to it.
-    fn has_only_name<R: Files<File = File>>(
-        &self,
-        rt: &R,
-        path: &str,
-    ) -> Result<bool, DeviceError> {
+    /// Whether it is a file of which this is the only name, and no link to it.
+    fn has_only_name<R: Files<File = File>>(&self, rt: &R, path: &str) -> Result<bool, DeviceError>
+        ensures refusals { IfErr result (λ e. e ≡ DeviceError.Fault) }
+    {
         let own = self.file.metadata().map_err(refused)?;
         let named = fs::symlink_metadata(rt, path).map_err(refused)?;
-        Ok(own.nlink() == 1 && own.dev() == named.dev() && own.ino() == named.ino())
+        Ok(
+            own.is_file()
+                && own.nlink() == 1
+                && own.dev() == named.dev()
+                && own.ino() == named.ino(),
+        )
     }
 
-    /// Makes these all bytes of the file, gives it the permissions of the old one, and syncs it.
+    /// Gives a file that was begun these bytes and the permissions of the old one, and syncs it. The first bytes are synced before any
+    /// other is written, so that a power cut leaves a file that is begun.
     fn fill(&mut self, old: &FileDevice, bytes: &[u8]) -> Result<(), DeviceError> {
         let old = old.file.metadata().map_err(refused)?;
         self.file
             .set_permissions(old.permissions())
             .map_err(refused)?;
-        self.shorten(0)?;
-        self.write_at(0, bytes)?;
+        let (first, others) = bytes.split_at(bytes.len().min(5));
+        self.write_at(0, first)?;
+        self.sync()?;
+        self.write_at(first.len() as u64, others)?;
         self.file.sync_all().map_err(refused)
     }
 
@@ -115,8 +170,8 @@ impl FileDevice {
 
 /// Puts other bytes in the place of those of a file, by a new file beside it: FILE.new, which is under a lock of its own before it gets
 /// the name of the old one. So whoever opens the file under its name finds it locked, before and after. A power cut leaves the old file or
-/// the new one. What a power cut or a killed process left under the other name is written over. A file that has another name as well, under
-/// which it would be left, isn't replaced.
+/// the new one. What a power cut or a killed process left under the other name is written over ([`FileDevice::begin`]); where any other file
+/// is there, it stays, and nothing is replaced. Nor is a file that has another name as well, under which it would be left.
 #[derive(Drop)]
 pub struct FileReplacer<'a, R> {
     rt: &'a R,
@@ -138,10 +193,7 @@ impl<'a, R: Files<File = File>> FileReplacer<'a, R> {
 
     /// The new file under the lock, with these bytes, synced. It has the other name.
     fn make(&self, old: &FileDevice, bytes: &[u8]) -> Result<FileDevice, JournalError> {
-        let mut options = OpenOptions::new();
-        options.read(true).write(true).create(true);
-        let file = options.open(self.rt, self.new.as_str()).map_err(refused)?;
-        let mut device = FileDevice::locked(file)?;
+        let mut device = FileDevice::begin(self.rt, self.new.as_str())?;
         match device.fill(old, bytes) {
             Ok(()) => Ok(device),
             Err(fault) => {

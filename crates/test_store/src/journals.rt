@@ -522,47 +522,73 @@ fn commit_one(
     Ok(journal.commit()?)
 }
 
-/// A file that is written anew is locked before and after, and what had its other name is written over.
+/// What stands under the other name when a file is written anew; and what comes of that, with the records of the file then and what has
+/// the other name. What a making that was cut may leave there is written over: five bytes at most, or a file that begins as a journal does.
+const BESIDE: &[(&str, &str)] = &[
+    ("", "done: two|three|"),
+    ("FW", "done: two|three|"),
+    ("12345", "done: two|three|"),
+    (
+        "FWJ1 and what a killed process left there, longer than all records",
+        "done: two|three|",
+    ),
+    ("123456", "NotReplaced: one|three|123456"),
+    (
+        "FWJ0 is another program's",
+        "NotReplaced: one|three|FWJ0 is another program's",
+    ),
+];
+
+/// A file that is written anew is locked before and after. Where a file that is no journal has its other name, both stay.
 #[test]
 fn writes_a_file_anew(rt: HostRuntime) -> Result<(), Fail> {
     let path = new_path(&rt, "rewritten.fwj")?;
     let new = new_path(&rt, "rewritten.fwj.new")?;
-    fs::write(
-        &rt,
-        new.as_path(),
-        b"what a killed process left there, longer than all records",
-    )?;
-    rewrites_in(&rt, rt.alloc(), path.as_path())?;
-    let is_left = fs::exists(&rt, new.as_path())?;
-    expect(rt.alloc(), 2, if is_left { "left" } else { "gone" }, "gone")
+    for (number, (beside, told)) in BESIDE.iter().enumerate() {
+        fs::write(&rt, new.as_path(), beside.as_bytes())?;
+        let found = rewritten_beside(&rt, rt.alloc(), path.as_path(), new.as_path())?;
+        expect(rt.alloc(), number, found.as_str(), told)?;
+    }
+    Ok(())
 }
 
-fn rewrites_in(rt: &HostRuntime, alloc: Global, path: Path) -> Result<(), Fail> {
-    match Journal::create(alloc, FileDevice::create(rt, path)?) {
+fn rewritten_beside(
+    rt: &HostRuntime,
+    alloc: Global,
+    path: Path,
+    new: Path,
+) -> Result<String, Fail> {
+    let mut told = match Journal::create(alloc, FileDevice::create(rt, path)?) {
         Ok(journal) => rewrite_one(rt, alloc, path, &mut Kept(journal).0)?,
         Err(_) => return Err("not made".into()),
-    }
+    };
     let opened = Journal::open(alloc, FileDevice::open(rt, path)?);
-    let told = told_of(alloc, &opened)?;
+    told.push_str(told_of(alloc, &opened)?.as_str())?;
     fs::remove_file(rt, path)?;
-    expect(alloc, 1, told.as_str(), "two|three|")
+    if fs::exists(rt, new)? {
+        told.push_str(fs::read_to_string(rt, new)?.as_str())?;
+        fs::remove_file(rt, new)?;
+    }
+    Ok(told)
 }
 
+/// What writing it anew returns, with a record that is committed before and one after it.
 fn rewrite_one(
     rt: &HostRuntime,
     alloc: Global,
     path: Path,
     journal: &mut FileJournal,
-) -> Result<(), Fail> {
+) -> Result<String, Fail> {
     journal.append(alloc, b"one")?;
     journal.commit()?;
     let mut records = Vec::new(alloc);
     records.push(b"two".to_vec(alloc)?)?;
     let mut replacer = FileReplacer::new(rt, alloc, path.path_text())?;
-    journal.rewrite(alloc, &mut replacer, &records)?;
+    let told = rewrite_text(alloc, journal.rewrite(alloc, &mut replacer, &records))?;
     expect(alloc, 0, file_text(FileDevice::open(rt, path)), "Locked")?;
     journal.append(alloc, b"three")?;
-    Ok(journal.commit()?)
+    journal.commit()?;
+    Ok(format!(in alloc; "{told}: ")?)
 }
 
 /// A file isn't replaced by a link to it, under whose name it would be left unlocked.

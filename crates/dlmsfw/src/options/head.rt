@@ -22,8 +22,10 @@ and its address, as `1,127.0.0.1:4059` or `2,[::1]:4060`, each number and each a
 from elsewhere is dropped, and one from an address of the list is taken for that meter's.
 
 The book of the head end is in FILE of --book, and stays there for the next run. It is made with --new,
-and only where no such file is there: as FILE.new, which is named FILE once it is whole. One process at
-a time has a FILE. A head end whose book is lost goes on under another number, never under the same.
+and only where no such file is there: as FILE.new, which is named FILE once it is whole. So is a shorter
+FILE of the same book, which a run may begin with. Any other file that is named FILE.new stays as it is.
+One process at a time has a FILE. A head end whose book is lost goes on under another number, never
+under the same.
 
 With --open the image in the file of --image is offered to all meters of LIST, in campaigns of 256
 meters at most, with serial numbers from SERIAL on. A campaign that the book has already, for that image
@@ -75,7 +77,8 @@ Exit status:
        BookExists      FILE is there, and --new is given
        Locked          another head end has FILE
        BookFault       FILE can't be made, opened, read or written: there is no such folder, FILE is a
-                       folder, this user may not write it, or the disk is full or failed
+                       folder, this user may not write it, the disk is full or failed, or --new is given
+                       and another file is named FILE.new
        BadBook N       the bytes of FILE from offset N on are no book's: they were changed
        BadRecord N     record N of FILE, counted from 0, has no place in a book
        ForeignHead     FILE is the book of another head end than that of --head
