@@ -3,3 +3,7 @@
 
 #[cfg(test)]
 mod loopback;
+#[cfg(test)]
+mod rollouts;
+#[cfg(test)]
+mod setting;

@@ -1,11 +1,11 @@
 //! A campaign of four meters over UDP on this machine. In its middle both ends are ended, and begin again with their files.
 
-use fw_blocks::Width;
+use crate::setting::width;
 use fw_daemon::{Closed as MeterClosed, MeterDaemon, Port, UdpPort, step};
 use fw_journal::FileDevice;
 use fw_kept::KeptHead;
 use fw_meter::MeterCore;
-use fw_names::{HeadId, ImageName, MeterId};
+use fw_names::ImageName;
 use fw_rollout::{
     Arrival, Closed, Ended, HeadDaemon, HeadPort, Listed, MeterList, Patience, Stop, Timing,
     step_head,
@@ -16,7 +16,7 @@ use std::net::{Ipv4Addr, SocketAddr};
 use std::path::PathBuf;
 use std::test::Fail;
 use std::{env, fs};
-use test_support::{Kept, expect_at};
+use test_support::{Kept, expect_at, head, meter};
 
 /// The image, of twenty blocks, and its SHA-256 by `sha256sum`.
 const IMAGE: &[u8; 40] = b"forty bytes of an image in blocks of two";
@@ -177,7 +177,7 @@ fn make_book(rt: &HostRuntime, alloc: Global, meters: &[Listed]) -> Result<(), F
 }
 
 fn new_book(rt: &HostRuntime, alloc: Global) -> Result<Kept<KeptHead<FileDevice>>, Fail> {
-    match KeptHead::create(alloc, head()?, width()?, new_device(rt)?) {
+    match KeptHead::create(alloc, head(7)?, width()?, new_device(rt)?) {
         Ok(kept) => Ok(Kept(kept)),
         Err(_refusal) => Err("no book was made".into()),
     }
@@ -194,14 +194,6 @@ fn open_device(rt: &HostRuntime) -> Result<FileDevice, Fail> {
     Ok(FileDevice::open(rt, path.as_path())?)
 }
 
-fn head() -> Result<HeadId, Fail> {
-    Ok(HeadId::new(7).ok_or("a head end's number begins at 1")?)
-}
-
-fn width() -> Result<Width, Fail> {
-    Ok(Width::new(4).ok_or("a width")?)
-}
-
 const TIMING: Timing = Timing {
     resend: 200_000,
     flight: 64,
@@ -213,7 +205,7 @@ fn begin_head(
     alloc: Global,
     list: &MeterList,
 ) -> Result<Kept<HeadDaemon<FileDevice>>, Fail> {
-    match KeptHead::open(alloc, head()?, width()?, open_device(rt)?) {
+    match KeptHead::open(alloc, head(7)?, width()?, open_device(rt)?) {
         Ok(kept) => Ok(Kept(HeadDaemon::new(alloc, kept, list, TIMING)?)),
         Err(_refusal) => Err("the book was not opened".into()),
     }
@@ -270,7 +262,7 @@ fn list_of(alloc: Global, meters: &[Served]) -> Result<MeterList, Fail> {
 /// The meter of this number at its address.
 fn listed(number: u32, port: &UdpPort) -> Result<Listed, Fail> {
     Ok(Listed {
-        meter: MeterId::new(number).ok_or("a meter's number begins at 1")?,
+        meter: meter(number)?,
         address: port.address()?,
     })
 }
