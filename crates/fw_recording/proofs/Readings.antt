@@ -1,21 +1,16 @@
 -- What whole captures are read as.
-use Rattle.std.proofs.Common.{◌≡◌, ◌≢◌, ℕ, ◌+◌, ◌≤◌, Bool, true, false, if◌then◌else◌, List, [], ◌∷◌, ◌++◌, length, drop, Option, Some, None, Result, Ok, Err, inl, inr, refl, sym, ap, subst, ◌∙◌, arith}
+use Rattle.std.proofs.Common.{◌≡◌, ℕ, List, [], ◌∷◌, length, drop, None, Ok, inl, refl, sym, ap, ◌∙◌}
 use Rattle.std.proofs.Math.Seq.{drop-append_seam}
-use Rattle.std.proofs.lemmas.Bool.Decides.{nat_tests}
-use Rattle.std.specs.Prelude.{nat_lt, nat_le}
-use Rattle.fw_capture.specs.declared.fault.CaptureError.{CaptureError}
-use Rattle.fw_capture.specs.declared.fault.CaptureFault.{CaptureFault}
-use Rattle.fw_capture.specs.declared.fault.CaptureFault.TheVariants.{ShortRecord}
 use Rattle.fw_capture.specs.declared.format.Format.{Format}
 use Rattle.fw_capture.specs.Laws.{HeaderIsRead, PacketIsRead, written}
 use Rattle.fw_capture.specs.Place.{Place}
-use Rattle.fw_capture.specs.Reading.{record_at, header_at}
+use Rattle.fw_capture.specs.Reading.{record_at}
 use Rattle.fw_capture.specs.Spelling.{file_header, packet_bytes}
-use Rattle.fw_capture.specs.Steps.{OpensAs, after}
-use Rattle.fw_capture.specs.View.{Told, datagram, note, other}
+use Rattle.fw_capture.specs.Steps.{after}
+use Rattle.fw_capture.specs.View.{Told}
 use Rattle.fw_recording.specs.Laws.{AllSpelled, WrittenIsHeld}
 use Rattle.fw_recording.specs.Recording.{capture_bytes, records_bytes}
-use Rattle.fw_recording.specs.Records.{EndsAt, HasRecords, HoldsRecords}
+use Rattle.fw_recording.specs.Records.{HasRecords}
 
 -- ---- what was written
 
