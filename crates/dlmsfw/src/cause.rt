@@ -21,7 +21,7 @@ pub(crate) enum Cause {
 
 /// The cause of a fault, as the system shows it once the command has ended and its sockets are closed. Only `Socket` has one.
 pub(crate) fn of(net: &impl Net, fault: Fault) -> Option<Cause>
-    ensures only { fault ≢ Fault.Socket → result ≡ None }
+    ensures faults { fault ≢ Fault.Socket → result ≡ None }
     ensures socket { fault ≡ Fault.Socket → result ≢ None }
 {
     match fault {

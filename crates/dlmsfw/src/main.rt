@@ -187,7 +187,7 @@ fn trace<F: Files<File = File>, R: Read, W: Write>(
     ensures file { IsTrue (is_some options.now.capture) → R.remaining reader.new ≡ R.remaining reader.old }
     ensures asked { result ≡ Err Fault.CaptureFault → IsTrue (is_some options.now.capture) }
     ensures silent { IfErr result (λ f. ComesBeforeOutput f → Keeps (W.contents writer.old) (W.contents writer.new)) }
-    ensures only { IfErr result (λ f. (f ≡ Fault.CaptureFault) ⊎ IsOfTrace f) }
+    ensures faults { IfErr result (λ f. (f ≡ Fault.CaptureFault) ⊎ IsOfTrace f) }
 {
     let Some(path) = options.capture else {
         return run_trace(alloc, reader, writer);

@@ -74,7 +74,7 @@ pub fn run_answer<R: Read, W: Write>(
     ensures reading { IfErr result (λ f. ReadsUntil f (R.remaining reader.old) (R.remaining reader.new)) }
 
     ensures silent { IfErr result (λ f. ComesBeforeOutput f → Keeps (W.contents writer.old) (W.contents writer.new)) }
-    ensures only { IfErr result IsOfAnswer }
+    ensures faults { IfErr result IsOfAnswer }
 {
     fw_meter::laws::faultless();
     let meter = set_up(alloc, options)?;
@@ -88,7 +88,7 @@ fn set_up(alloc: Global, options: &AnswerOptions<'_>) -> Result<MeterCore<Memory
     ensures sound { IfOk result (λ meter. IsTrue meter.sound) }
     ensures bad_setup { result ≡ Err Fault.BadSetup → DescribesNone options.now }
     ensures memory { result ≡ Err Fault.OutOfMemory → DescribesOne options.now }
-    ensures only { IfErr result (λ f. (f ≡ Fault.BadSetup) ⊎ (f ≡ Fault.OutOfMemory)) }
+    ensures faults { IfErr result (λ f. (f ≡ Fault.BadSetup) ⊎ (f ≡ Fault.OutOfMemory)) }
 {
     match new_meter(alloc, options) {
         Err(Fault::OutOfMemory) if !describes_one(options) => Err(Fault::BadSetup),
@@ -102,7 +102,7 @@ fn new_meter(alloc: Global, options: &AnswerOptions<'_>) -> Result<MeterCore<Mem
     ensures honest { IfOk result (λ meter. IsTrue meter.honest) }
     ensures sound { IfOk result (λ meter. IsTrue meter.sound) }
     ensures bad_setup { result ≡ Err Fault.BadSetup → DescribesNone options.now }
-    ensures only { IfErr result (λ f. (f ≡ Fault.BadSetup) ⊎ (f ≡ Fault.OutOfMemory)) }
+    ensures faults { IfErr result (λ f. (f ≡ Fault.BadSetup) ⊎ (f ≡ Fault.OutOfMemory)) }
 {
     let setup = setup_of(alloc, options)?;
     let store = match MemoryStore::new(alloc, setup.capacity, setup.block_size, &setup.factory) {
@@ -124,7 +124,7 @@ pub(crate) fn setup_of(alloc: Global, options: &AnswerOptions<'_>) -> Result<Met
     ensures numbers { IfOk result (λ setup.
         (setup.block_size ≡ options.now.block_size) × (setup.capacity ≡ options.now.capacity)) }
     ensures bad_setup { result ≡ Err Fault.BadSetup → DescribesNone options.now }
-    ensures only { IfErr result (λ f. (f ≡ Fault.BadSetup) ⊎ (f ≡ Fault.OutOfMemory)) }
+    ensures faults { IfErr result (λ f. (f ≡ Fault.BadSetup) ⊎ (f ≡ Fault.OutOfMemory)) }
 {
     let factory = bytes_of(alloc, options.factory.as_bytes())?.ok_or(Fault::BadSetup)?;
     let block_size = u32::try_from(options.block_size).map_err(|_| Fault::BadSetup)?;

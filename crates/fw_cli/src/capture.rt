@@ -26,7 +26,7 @@ pub(crate) fn write_capture<C: Write>(
 ) -> Result<(), Fault>
     ensures written { OnOk result (CapturesIf (option_map C.contents writer.old) (option_map C.contents writer.new) sent.now) }
     ensures asked { OnErr result (IsTrue (is_some writer.old)) }
-    ensures only { IfErr result (λ f. (f ≡ Fault.OutOfMemory) ⊎ (f ≡ Fault.CaptureFault)) }
+    ensures faults { IfErr result (λ f. (f ≡ Fault.OutOfMemory) ⊎ (f ≡ Fault.CaptureFault)) }
     ensures silent { result ≡ Err Fault.OutOfMemory → writer.new ≡ writer.old }
 {
     let Some(writer) = writer else {
@@ -39,7 +39,7 @@ pub(crate) fn write_capture<C: Write>(
 /// The bytes of the capture of what was sent.
 fn bytes_of(alloc: Global, sent: &[Datagram]) -> Result<Vec<u8>, Fault>
     ensures bytes { IfOk result (λ capture. capture.items ≡ capture_bytes (run_records sent.now)) }
-    ensures only { IfErr result (λ f. (f ≡ Fault.OutOfMemory) ⊎ (f ≡ Fault.CaptureFault)) }
+    ensures faults { IfErr result (λ f. (f ≡ Fault.OutOfMemory) ⊎ (f ≡ Fault.CaptureFault)) }
 {
     match capture_of(alloc, sent) {
         Ok(capture) => Ok(capture),
@@ -51,7 +51,7 @@ fn bytes_of(alloc: Global, sent: &[Datagram]) -> Result<Vec<u8>, Fault>
 /// Writes bytes, and flushes them.
 fn write_whole<C: Write>(writer: &mut C, bytes: &[u8]) -> Result<(), Fault>
     ensures written { OnOk result (Appends (C.contents writer.old) (C.contents writer.new) bytes.now) }
-    ensures only { IfErr result (λ f. f ≡ Fault.CaptureFault) }
+    ensures faults { IfErr result (λ f. f ≡ Fault.CaptureFault) }
 {
     writer.write_all(bytes).map_err(|_| Fault::CaptureFault)?;
     writer.flush().map_err(|_| Fault::CaptureFault)

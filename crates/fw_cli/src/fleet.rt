@@ -98,7 +98,7 @@ pub(crate) fn serve_fleet<R: Files<File = File> + Clock + Net + Wait, W: Write>(
     ensures silent { IfErr result (λ e. e.fault ≢ Fault.Socket → e.fault ≢ Fault.Output → e.fault ≢ Fault.CaptureFault
         → Keeps (W.contents writer.old) (W.contents writer.new)) }
     ensures asked { IfErr result (λ e. IsOfCapture e.fault → IsTrue (is_some options.now.capture)) }
-    ensures only { IfErr result (λ e. IsOfMeter e.fault) }
+    ensures faults { IfErr result (λ e. IsOfMeter e.fault) }
 {
     let members = members_of(rt, alloc, options, count)?;
     match serve_members(rt, alloc, writer, members, options.capture) {
@@ -119,7 +119,7 @@ fn serve_members<R: Files<File = File> + Clock + Wait, W: Write>(
     ensures silent { IfErr result (λ f. f ≢ Fault.Socket → f ≢ Fault.Output → f ≢ Fault.CaptureFault
         → Keeps (W.contents writer.old) (W.contents writer.new)) }
     ensures asked { IfErr result (λ f. IsOfCapture f → IsTrue (is_some capture.entry)) }
-    ensures only { IfErr result IsOfServing }
+    ensures faults { IfErr result IsOfServing }
 {
     let mut fleet = Fleet {
         members,
@@ -148,7 +148,7 @@ fn members_of<R: Files<File = File> + Net>(
     ensures number { IfErr result (NamesMeter (Some count)) }
     ensures bad_setup { options.now.fresh.factory_file ≡ None → IfErr result (λ e. e.fault ≡ Fault.BadSetup
         → ¬ IsSetup Two options.now.fresh.block_size options.now.fresh.capacity default_factory) }
-    ensures only { IfErr result (λ e. (e.fault ≡ Fault.Socket) ⊎ IsOfSetup e.fault) }
+    ensures faults { IfErr result (λ e. (e.fault ≡ Fault.Socket) ⊎ IsOfSetup e.fault) }
 {
     let mut members = Vec::new(alloc);
     for before in 0..count {
@@ -178,7 +178,7 @@ fn new_member<R: Files<File = File> + Net>(
 ) -> Result<Member, Fault>
     ensures bad_setup { options.now.fresh.factory_file ≡ None → result ≡ Err Fault.BadSetup
         → ¬ IsSetup Two options.now.fresh.block_size options.now.fresh.capacity default_factory }
-    ensures only { IfErr result (λ f. (f ≡ Fault.Socket) ⊎ IsOfSetup f) }
+    ensures faults { IfErr result (λ f. (f ≡ Fault.Socket) ⊎ IsOfSetup f) }
 {
     let listen = address_of(options.listen, number).ok_or(Fault::Socket)?;
     let port = UdpPort::bind_polling(rt, listen).map_err(|_| Fault::Socket)?;

@@ -98,7 +98,7 @@ pub fn run_head<R: Files<File = File> + Clock + Net + Wait, W: Write, E: Eprint>
     ensures stays { OnOk result (options.now.stays ≡ false) }
     ensures silent { IfErr result (λ f. ComesBeforeLines f → Keeps (W.contents writer.old) (W.contents writer.new)) }
     ensures asked { IfErr result (IsAskedFor options.now) }
-    ensures only { IfErr result IsOfHead }
+    ensures faults { IfErr result IsOfHead }
 {
     let Ready {
         port,
@@ -169,7 +169,7 @@ fn set_up<R: Files<File = File> + Net>(
     ensures number { IfOk result (λ ready. (book_of ready.kept).head ≡ options.now.head) }
     ensures addresses { IfOk result (λ ready. All (HasAddress options.now.cancel ready.list) (values_of (head_of ready.kept).rows)) }
     ensures asked { IfErr result (IsAskedFor options.now) }
-    ensures only { IfErr result IsOfHeadSetup }
+    ensures faults { IfErr result IsOfHeadSetup }
 {
     let list = list_of_file(rt, alloc, options.meters)?;
     let opened = match options.opening {
@@ -198,7 +198,7 @@ fn led_head<F: Files<File = File>>(
     ensures number { IfOk result (λ kept. (book_of kept).head ≡ options.now.head) }
     ensures addresses { IfOk result (λ kept. All (HasAddress options.now.cancel list.now) (values_of (head_of kept).rows)) }
     ensures asked { IfErr result (IsAskedFor options.now) }
-    ensures only { IfErr result IsOfHeadSetup }
+    ensures faults { IfErr result IsOfHeadSetup }
 {
     let kept = kept_head(rt, alloc, options.book, options.head, options.width)?;
     check_addresses(alloc, &kept, list, options.cancel)?;
@@ -211,7 +211,7 @@ fn list_of_file<F: Files<File = File>>(
     alloc: Global,
     path: &str,
 ) -> Result<MeterList, Fault>
-    ensures only { IfErr result IsOfList }
+    ensures faults { IfErr result IsOfList }
 {
     let text = bytes_of_file(rt, alloc, path, Fault::ListFault, Fault::ListFault)?;
     read_list(alloc, &text)
@@ -224,7 +224,7 @@ fn opened_of<F: Files<File = File>>(
     opening: Opening<'_>,
     list: &[Listed],
 ) -> Result<Opened, Fault>
-    ensures only { IfErr result IsOfOpeningSetup }
+    ensures faults { IfErr result IsOfOpeningSetup }
 {
     let parts = parts_of(alloc, opening.serial, list)?;
     let image = bytes_of_file(
@@ -249,7 +249,7 @@ fn bytes_of_file<F: Files<File = File>>(
     fault: Fault,
     too_long: Fault,
 ) -> Result<Vec<u8>, Fault>
-    ensures only { IfErr result (λ f. (f ≡ fault) ⊎ ((f ≡ too_long) ⊎ (f ≡ Fault.OutOfMemory))) }
+    ensures faults { IfErr result (λ f. (f ≡ fault) ⊎ ((f ≡ too_long) ⊎ (f ≡ Fault.OutOfMemory))) }
 {
     let Ok(mut file) = File::open(rt, path) else {
         return Err(fault);
@@ -271,7 +271,7 @@ fn cancel_one<W: Write>(
     head: HeadId,
     serial: u32,
 ) -> Result<(), Fault>
-    ensures only { IfErr result IsOfCancelling }
+    ensures faults { IfErr result IsOfCancelling }
 {
     cancel(kept, alloc, serial)?;
     let Some(campaign) = CampaignId::new(head, serial) else {
@@ -290,7 +290,7 @@ fn open_all<W: Write>(
     kept: &mut KeptHead<FileDevice>,
     opened: &Opened,
 ) -> Result<(), Fault>
-    ensures only { IfErr result IsOfOpening }
+    ensures faults { IfErr result IsOfOpening }
 {
     let Opened {
         parts,
@@ -327,7 +327,7 @@ fn lead<R: Clock + Wait, W: Write, E: Eprint, D: JournalDevice + Drop>(
     ensures over { (now : Leader) → IsLed D.honest D.contents D.may_leave daemon.new now → OnOk result (IsOver now) }
     ensures stays { OnOk result (stays ≡ false) }
     ensures asked { IfErr result (λ f. IsOfCapture f → IsTrue (is_some port.entry.capture)) }
-    ensures only { IfErr result IsOfStop }
+    ensures faults { IfErr result IsOfStop }
 {
     let RecordedPort {
         port: mut socket,

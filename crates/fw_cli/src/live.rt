@@ -81,7 +81,7 @@ pub fn run_live<T: Threads + Wait + Net + Sync, R: Read, W: Write, C: Write, E: 
     // How far the reading was.
     ensures reading { IfErr result (λ f. ReadsUntil f (R.remaining reader.old) (R.remaining reader.new)) }
 
-    ensures only { IfErr result IsOfLive }
+    ensures faults { IfErr result IsOfLive }
     ensures silent { IfErr result (λ f. f ≢ Fault.Output → Keeps (W.contents writer.old) (W.contents writer.new)) }
     ensures uncaptured { IfErr result (λ f. f ≢ Fault.Output → f ≢ Fault.CaptureFault → capture.new ≡ capture.old) }
 {
@@ -107,7 +107,7 @@ fn tell_live<T: Threads + Wait + Net + Sync, E: Eprint + Sync>(
     ensures bad_setup { result ≡ Err Fault.BadSetup → AreWorkers options.now.workers → ¬ IsSetup setup.now }
     ensures event { result ≡ Err Fault.Event → (number : ℕ) × IsBarred setup.now events.now number }
     ensures memory { result ≡ Err Fault.OutOfMemory → IsSetup setup.now }
-    ensures only { IfErr result IsOfLiveWorkers }
+    ensures faults { IfErr result IsOfLiveWorkers }
 {
     let LiveOptions {
         rounds,

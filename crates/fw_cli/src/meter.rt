@@ -103,7 +103,7 @@ pub fn run_meter<R: Files<File = File> + Clock + Net + Wait, W: Write>(
     ensures silent { IfErr result (λ e. e.fault ≢ Fault.Socket → e.fault ≢ Fault.Output → e.fault ≢ Fault.CaptureFault
         → Keeps (W.contents writer.old) (W.contents writer.new)) }
     ensures asked { IfErr result (λ e. IsOfCapture e.fault → IsTrue (is_some options.entry.capture)) }
-    ensures only { IfErr result (λ e. IsOfMeter e.fault) }
+    ensures faults { IfErr result (λ e. IsOfMeter e.fault) }
 {
     match options.count {
         Some(count) => serve_fleet(rt, alloc, writer, &options, count),
@@ -127,7 +127,7 @@ fn serve_one<R: Files<File = File> + Clock + Net + Wait, W: Write>(
     ensures silent { IfErr result (λ f. f ≢ Fault.Socket → f ≢ Fault.Output → f ≢ Fault.CaptureFault
         → Keeps (W.contents writer.old) (W.contents writer.new)) }
     ensures asked { IfErr result (λ f. IsOfCapture f → IsTrue (is_some options.entry.capture)) }
-    ensures only { IfErr result IsOfMeter }
+    ensures faults { IfErr result IsOfMeter }
 {
     let Listening { mut port, at } = bound(rt, options.listen)?;
     let meter = stored_meter(rt, alloc, options.store, &options.fresh)?;
@@ -148,7 +148,7 @@ pub(crate) fn opened_capture<R: Files<File = File> + Clock>(
 ) -> Result<Option<File>, Fault>
     ensures some { IfOk result (λ file. is_some file ≡ is_some path.entry) }
     ensures asked { OnErr result (IsTrue (is_some path.entry)) }
-    ensures only { IfErr result IsOfCapture }
+    ensures faults { IfErr result IsOfCapture }
 {
     match path {
         None => Ok(None),
@@ -159,7 +159,7 @@ pub(crate) fn opened_capture<R: Files<File = File> + Clock>(
 /// Why a port with a capture, where one is asked for, is closed: a record couldn't be written, or the socket failed.
 pub(crate) fn closing_fault(capture: Option<&str>, has_failed: bool) -> Fault
     ensures asked { IsOfCapture result → IsTrue (is_some capture.entry) }
-    ensures only { (result ≡ Fault.Socket) ⊎ (result ≡ Fault.CaptureFault) }
+    ensures faults { (result ≡ Fault.Socket) ⊎ (result ≡ Fault.CaptureFault) }
 {
     if has_failed && capture.is_some() {
         Fault::CaptureFault
@@ -177,7 +177,7 @@ struct Listening {
 
 /// A port at this address.
 fn bound<N: Net>(net: &N, listen: SocketAddr) -> Result<Listening, Fault>
-    ensures only { IfErr result (λ f. f ≡ Fault.Socket) }
+    ensures faults { IfErr result (λ f. f ≡ Fault.Socket) }
 {
     let port = UdpPort::bind(net, listen).map_err(|_| Fault::Socket)?;
     match port.address() {
@@ -259,7 +259,7 @@ pub(crate) fn tell_listening<W: Write>(
 ) -> Result<(), Fault>
     ensures written { OnOk result (Appends (W.contents writer.old) (W.contents writer.new) (listening_line at)) }
     ensures silent { IfErr result (λ f. f ≢ Fault.Output → Keeps (W.contents writer.old) (W.contents writer.new)) }
-    ensures only { IfErr result (λ f. (f ≡ Fault.Output) ⊎ (f ≡ Fault.OutOfMemory)) }
+    ensures faults { IfErr result (λ f. (f ≡ Fault.Output) ⊎ (f ≡ Fault.OutOfMemory)) }
 {
     let line = listening_line(alloc, at)?;
     write_text(writer, line.as_str())

@@ -93,7 +93,7 @@ pub fn run_name<R: Read, W: Write>(
         → Gives (R.remaining reader.old) (R.remaining reader.new) (λ count. (1 ≤ count) × (count ≤ max_input)) }
 
     ensures silent { IfErr result (λ f. ComesBeforeOutput f → Keeps (W.contents writer.old) (W.contents writer.new)) }
-    ensures only { IfErr result IsOfName }
+    ensures faults { IfErr result IsOfName }
 {
     let image = read_image(alloc, reader)?;
     let name = name_of(options.campaign, options.release, &image);
@@ -111,7 +111,7 @@ fn read_image<R: Read>(alloc: Global, reader: &mut R) -> Result<Vec<u8>, Fault>
     ensures memory { result ≡ Err Fault.OutOfMemory
         → Gives (R.remaining reader.old) (R.remaining reader.new) (λ count. (1 ≤ count) × (count ≤ max_input)) }
     ensures before_output { IfErr result ComesBeforeOutput }
-    ensures only { IfErr result IsOfName }
+    ensures faults { IfErr result IsOfName }
 {
     let mut reads = Reads::none();
     let input = read_input(alloc, reader, &mut reads)?;
@@ -124,7 +124,7 @@ fn offered(image: Vec<u8>) -> Result<Vec<u8>, Fault>
     ensures sizes { OnOk result ((1 ≤ length image.items) × (length image.items ≤ max_image)) }
     ensures empty_image { result ≡ Err Fault.EmptyImage → image.items ≡ [] }
     ensures image_too_long { result ≡ Err Fault.ImageTooLong → max_image < length image.items }
-    ensures only { IfErr result (λ f. (f ≡ Fault.EmptyImage) ⊎ (f ≡ Fault.ImageTooLong)) }
+    ensures faults { IfErr result (λ f. (f ≡ Fault.EmptyImage) ⊎ (f ≡ Fault.ImageTooLong)) }
 {
     if image.is_empty() {
         return Err(Fault::EmptyImage);
@@ -139,7 +139,7 @@ fn offered(image: Vec<u8>) -> Result<Vec<u8>, Fault>
 fn write_name<W: Write>(writer: &mut W, name: &ImageName) -> Result<(), Fault>
     ensures ok { OnOk result ((spelling : List ℕ) × SpellsName spelling name.now
         × Appends (W.contents writer.old) (W.contents writer.new) (encode_lower spelling ++ codes "\n")) }
-    ensures only { IfErr result (λ f. f ≡ Fault.Output) }
+    ensures faults { IfErr result (λ f. f ≡ Fault.Output) }
 {
     let bytes = name.to_bytes();
     let spelling = bytes.as_slice();

@@ -101,7 +101,7 @@ pub fn run_rehearse<T: Threads + Wait + Sync, R: Read, W: Write, C: Write, E: Ep
     // How far the reading was.
     ensures reading { IfErr result (λ f. ReadsUntil f (R.remaining reader.old) (R.remaining reader.new)) }
 
-    ensures only { IfErr result IsOfRehearse }
+    ensures faults { IfErr result IsOfRehearse }
     ensures silent { IfErr result (λ f. f ≢ Fault.Output → Keeps (W.contents writer.old) (W.contents writer.new)) }
     ensures uncaptured { IfErr result (λ f. f ≢ Fault.Output → f ≢ Fault.CaptureFault → capture.new ≡ capture.old) }
 {
@@ -145,7 +145,7 @@ fn rehearse_from<T: Threads + Wait + Sync, R: Read, W: Write, C: Write, E: Eprin
     ensures capture_fault { result ≡ Err Fault.CaptureFault
         → IsTrue (is_some capture.old) × ReadsOne (R.remaining reader.old) (R.remaining reader.new) MakesOne }
     ensures reading { IfErr result (λ f. ReadsUntil f (R.remaining reader.old) (R.remaining reader.new)) }
-    ensures only { IfErr result IsOfRehearse }
+    ensures faults { IfErr result IsOfRehearse }
     ensures silent { IfErr result (λ f. f ≢ Fault.Output → Keeps (W.contents writer.old) (W.contents writer.new)) }
     ensures uncaptured { IfErr result (λ f. f ≢ Fault.Output → f ≢ Fault.CaptureFault → capture.new ≡ capture.old) }
 {
@@ -173,7 +173,7 @@ fn tell_rehearsal<T: Threads + Wait + Sync, E: Eprint + Sync>(
     ensures bad_setup { result ≡ Err Fault.BadSetup → AreWorkers workers → ¬ IsSetup setup.now }
     ensures event { result ≡ Err Fault.Event → (number : ℕ) × IsBarred setup.now events.now number }
     ensures memory { result ≡ Err Fault.OutOfMemory → IsSetup setup.now }
-    ensures only { IfErr result IsOfWorkers }
+    ensures faults { IfErr result IsOfWorkers }
 {
     let Some(fates) = Fates::new(&air.fates) else {
         unreachable!()

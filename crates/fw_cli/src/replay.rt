@@ -155,7 +155,7 @@ pub fn run_replay<R: Read, W: Write, C: Write, E: Eprint>(
     // How far the reading was.
     ensures reading { IfErr result (λ f. ReadsUntil f (R.remaining reader.old) (R.remaining reader.new)) }
 
-    ensures only { IfErr result IsOfReplay }
+    ensures faults { IfErr result IsOfReplay }
     ensures silent { IfErr result (λ f. f ≢ Fault.Output → Keeps (W.contents writer.old) (W.contents writer.new)) }
     ensures uncaptured { IfErr result (λ f. f ≢ Fault.Output → f ≢ Fault.CaptureFault → capture.new ≡ capture.old) }
 {
@@ -180,7 +180,7 @@ pub(crate) fn air_of(alloc: Global, rounds: &Rounds<'_>) -> Result<Air, Fault>
     ensures fates { IfOk result (λ air. SpellsFates rounds.now.fates.now air.fates.items) }
     ensures bad_fates { result ≡ Err Fault.BadFates → ¬ SpellsSome rounds.now.fates.now }
     ensures memory { result ≡ Err Fault.OutOfMemory → SpellsSome rounds.now.fates.now }
-    ensures only { IfErr result (λ f. (f ≡ Fault.BadFates) ⊎ (f ≡ Fault.OutOfMemory)) }
+    ensures faults { IfErr result (λ f. (f ≡ Fault.BadFates) ⊎ (f ≡ Fault.OutOfMemory)) }
 {
     Ok(Air {
         rounds: rounds.rounds,
@@ -209,7 +209,7 @@ fn replay_from<R: Read, W: Write, C: Write, E: Eprint>(
     ensures capture_fault { result ≡ Err Fault.CaptureFault
         → IsTrue (is_some capture.old) × ReadsOne (R.remaining reader.old) (R.remaining reader.new) MakesOne }
     ensures reading { IfErr result (λ f. ReadsUntil f (R.remaining reader.old) (R.remaining reader.new)) }
-    ensures only { IfErr result IsOfReplay }
+    ensures faults { IfErr result IsOfReplay }
     ensures silent { IfErr result (λ f. f ≢ Fault.Output → Keeps (W.contents writer.old) (W.contents writer.new)) }
     ensures uncaptured { IfErr result (λ f. f ≢ Fault.Output → f ≢ Fault.CaptureFault → capture.new ≡ capture.old) }
 {
@@ -235,7 +235,7 @@ fn replay<E: Eprint>(
     ensures bad_line { (number : ℕ) → result ≡ Err (Fault.BadLine number) → IsBadLine input.now number }
     ensures bad_setup { result ≡ Err Fault.BadSetup → MakesNone input.now }
     ensures memory { result ≡ Err Fault.OutOfMemory → MayTakeMemory input.now }
-    ensures only { IfErr result (λ f. (f ≡ Fault.OutOfMemory) ⊎ ((f ≡ Fault.BadSetup) ⊎ ((number : ℕ) × (f ≡ Fault.BadLine number)))) }
+    ensures faults { IfErr result (λ f. (f ≡ Fault.OutOfMemory) ⊎ ((f ≡ Fault.BadSetup) ⊎ ((number : ℕ) × (f ≡ Fault.BadLine number)))) }
 {
     let Script { setup, events } = read_script(alloc, input)?;
     let events = with_rounds(alloc, &setup, events, terminal, air)?;
@@ -288,7 +288,7 @@ fn tell_run(alloc: Global, setup: &Setup, events: &[Event], style: Style) -> Res
     ensures ok { IfOk result (λ told. TellsRun style setup.now events.now told.ended told.world (string_bytes told.text)) }
     ensures bad_setup { result ≡ Err Fault.BadSetup → ¬ IsSetup setup.now }
     ensures memory { result ≡ Err Fault.OutOfMemory → IsSetup setup.now }
-    ensures only { IfErr result (λ f. (f ≡ Fault.OutOfMemory) ⊎ (f ≡ Fault.BadSetup)) }
+    ensures faults { IfErr result (λ f. (f ≡ Fault.OutOfMemory) ⊎ (f ≡ Fault.BadSetup)) }
 {
     match run(alloc, setup, events) {
         Ok(world) => Ok(Told {
@@ -334,7 +334,7 @@ fn tell_refusal(
         × TellsRefusal style setup.now events.now error told.world (string_bytes told.text)) }
     ensures bad_setup { result ≡ Err Fault.BadSetup → error ≡ RunError.Setup SetupError.BadSetup }
     ensures memory { result ≡ Err Fault.OutOfMemory → error ≢ RunError.Setup SetupError.BadSetup }
-    ensures only { IfErr result (λ f. (f ≡ Fault.OutOfMemory) ⊎ (f ≡ Fault.BadSetup)) }
+    ensures faults { IfErr result (λ f. (f ≡ Fault.OutOfMemory) ⊎ (f ≡ Fault.BadSetup)) }
 {
     match error {
         RunError::Setup(SetupError::BadSetup) => Err(Fault::BadSetup),

@@ -41,7 +41,7 @@ pub(crate) fn serve<S: ImageStore + Drop, R: Read, W: Write>(
     ensures memory { result ≡ Err Fault.OutOfMemory
         → Gives (R.remaining reader.old) (R.remaining reader.new) (λ count. (1 ≤ count) × (count ≤ max_input)) }
     ensures silent { IfErr result (λ f. ComesBeforeOutput f → Keeps (W.contents writer.old) (W.contents writer.new)) }
-    ensures only { IfErr result IsOfAnswer }
+    ensures faults { IfErr result IsOfAnswer }
 {
     let mut reads = Reads::none();
     let input = read_input(alloc, reader, &mut reads)?;

@@ -63,7 +63,7 @@ pub fn run_status<F: Files<File = File>, W: Write>(
     ensures ok { OnOk result ((rows : List RowEntry) × Appends (W.contents writer.old) (W.contents writer.new)
         (status_text options.now.report rows)) }
     ensures silent { IfErr result (λ f. f ≢ Fault.Output → Keeps (W.contents writer.old) (W.contents writer.new)) }
-    ensures only { IfErr result IsOfStatus }
+    ensures faults { IfErr result IsOfStatus }
 {
     let bytes = bytes_of_book(rt, alloc, options.book)?;
     let rows = rows_of(alloc, &bytes)?;
@@ -73,7 +73,7 @@ pub fn run_status<F: Files<File = File>, W: Write>(
 
 /// All bytes of the file of a book.
 fn bytes_of_book<F: Files<File = File>>(rt: &F, alloc: Global, path: &str) -> Result<Vec<u8>, Fault>
-    ensures only { IfErr result IsOfStatus }
+    ensures faults { IfErr result IsOfStatus }
 {
     let mut file = match File::open(rt, path) {
         Ok(file) => file,
@@ -91,7 +91,7 @@ fn bytes_of_book<F: Files<File = File>>(rt: &F, alloc: Global, path: &str) -> Re
 /// The rows of the book that these bytes hold.
 fn rows_of(alloc: Global, bytes: &[u8]) -> Result<Vec<RowEntry>, Fault>
     ensures rows { IfOk result (λ rows. HasRows bytes.now rows.items) }
-    ensures only { IfErr result IsOfStatus }
+    ensures faults { IfErr result IsOfStatus }
 {
     let mut rows = Vec::new(alloc);
     let Some(book) = read_kept(alloc, bytes)? else {

@@ -71,7 +71,7 @@ pub fn run_answer_stored<F: Files<File = File>, R: Read, W: Write>(
     ensures reading { IfErr result (λ f. ReadsUntil f (R.remaining reader.old) (R.remaining reader.new)) }
 
     ensures silent { IfErr result (λ f. ComesBeforeOutput f → Keeps (W.contents writer.old) (W.contents writer.new)) }
-    ensures only { IfErr result IsOfStoredAnswer }
+    ensures faults { IfErr result IsOfStoredAnswer }
 {
     let meter = set_up(rt, alloc, options)?;
     serve(alloc, meter, reader, writer)
@@ -87,7 +87,7 @@ fn set_up<F: Files<File = File>>(
     ensures faultless { IfOk result (λ meter. meter.faults ≡ 0) }
     ensures bad_setup { result ≡ Err Fault.BadSetup → DescribesNone options.now.fresh }
     ensures memory { result ≡ Err Fault.OutOfMemory → DescribesOne options.now.fresh }
-    ensures only { IfErr result (λ f. ComesBeforeInput f ⊎ (f ≡ Fault.OutOfMemory)) }
+    ensures faults { IfErr result (λ f. ComesBeforeInput f ⊎ (f ≡ Fault.OutOfMemory)) }
 {
     let store = open_or_make(rt, alloc, options)?;
     opened(store)
@@ -102,7 +102,7 @@ fn open_or_make<F: Files<File = File>>(
     ensures faultless { IfOk result (λ store. ⟦<FileStore as ImageStore>⟧.faults store ≡ 0) }
     ensures bad_setup { result ≡ Err Fault.BadSetup → DescribesNone options.now.fresh }
     ensures memory { result ≡ Err Fault.OutOfMemory → DescribesOne options.now.fresh }
-    ensures only { IfErr result (λ f. ComesBeforeInput f ⊎ (f ≡ Fault.OutOfMemory)) }
+    ensures faults { IfErr result (λ f. ComesBeforeInput f ⊎ (f ≡ Fault.OutOfMemory)) }
 {
     match FileStore::reopen(rt, options.file) {
         Ok(store) => Ok(store),
@@ -124,7 +124,7 @@ fn make<F: Files<File = File>>(
     ensures bad_setup { result ≡ Err Fault.BadSetup → DescribesNone options.now.fresh }
     ensures memory { result ≡ Err Fault.OutOfMemory → DescribesOne options.now.fresh }
     ensures fault { result ≡ Err Fault.StoreFault → DescribesOne options.now.fresh }
-    ensures only { IfErr result (λ f. (f ≡ Fault.BadSetup) ⊎ ((f ≡ Fault.StoreFault) ⊎ (f ≡ Fault.OutOfMemory))) }
+    ensures faults { IfErr result (λ f. (f ≡ Fault.BadSetup) ⊎ ((f ≡ Fault.StoreFault) ⊎ (f ≡ Fault.OutOfMemory))) }
 {
     if !describes_one(&options.fresh) {
         return Err(Fault::BadSetup);

@@ -44,7 +44,7 @@ pub fn run_trace<R: Read, W: Write>(
         → Gives (R.remaining reader.old) (R.remaining reader.new) (λ count. (1 ≤ count) × (count ≤ max_input)) }
 
     ensures silent { IfErr result (λ f. ComesBeforeOutput f → Keeps (W.contents writer.old) (W.contents writer.new)) }
-    ensures only { IfErr result IsOfTrace }
+    ensures faults { IfErr result IsOfTrace }
 {
     let mut reads = Reads::none();
     let capture = read_input(alloc, reader, &mut reads)?;

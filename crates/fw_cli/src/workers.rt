@@ -30,7 +30,7 @@ pub(crate) fn script_from<R: Read>(alloc: Global, reader: &mut R) -> Result<Scri
         → ReadsOne (R.remaining reader.old) (R.remaining reader.new) (λ input. IsBadLine input number) }
     ensures memory { result ≡ Err Fault.OutOfMemory → MayWantFor (R.remaining reader.old) (R.remaining reader.new) }
     ensures reading { IfErr result (λ f. ReadsUntil f (R.remaining reader.old) (R.remaining reader.new)) }
-    ensures only { IfErr result (λ f. (f ≡ Fault.Input) ⊎ ((f ≡ Fault.TooMuchInput)
+    ensures faults { IfErr result (λ f. (f ≡ Fault.Input) ⊎ ((f ≡ Fault.TooMuchInput)
         ⊎ ((f ≡ Fault.OutOfMemory) ⊎ ((number : ℕ) × (f ≡ Fault.BadLine number))))) }
 {
     let mut reads = Reads::none();

@@ -38,7 +38,7 @@ pub fn read_input<R: Read>(
     ensures memory { result ≡ Err Fault.OutOfMemory
         → Gives (R.remaining reader.old) (R.remaining reader.new) (λ count. (1 ≤ count) × (count ≤ max_input)) }
     ensures memory_only { result ≡ Err Fault.OutOfMemory → reads.new.failed ≡ false }
-    ensures only { IfErr result (λ f. (f ≡ Fault.Input) ⊎ ((f ≡ Fault.TooMuchInput) ⊎ (f ≡ Fault.OutOfMemory))) }
+    ensures faults { IfErr result (λ f. (f ≡ Fault.Input) ⊎ ((f ≡ Fault.TooMuchInput) ⊎ (f ≡ Fault.OutOfMemory))) }
 {
     let mut input = Vec::new(alloc);
     let mut chunk = [0; CHUNK];

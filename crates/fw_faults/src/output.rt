@@ -13,7 +13,7 @@ use std::io::Write;
 /// `Output`: the writer failed. What it holds then is unspecified.
 pub fn write_text<W: Write>(writer: &mut W, text: &str) -> Result<(), Fault>
     ensures written { OnOk result (Appends (W.contents writer.old) (W.contents writer.new) text.now) }
-    ensures only { IfErr result (λ f. f ≡ Fault.Output) }
+    ensures faults { IfErr result (λ f. f ≡ Fault.Output) }
 {
     writer
         .write_all(text.as_bytes())

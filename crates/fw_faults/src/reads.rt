@@ -55,7 +55,7 @@ impl Reads {
         ensures counted { self.new.made ≡ self.old.made + 1 }
         ensures ok { OnOk result (self.new.failed ≡ self.old.failed) }
         ensures err { OnErr result (IsTrue self.new.failed) }
-        ensures only { IfErr result (λ f. f ≡ Fault.Input) }
+        ensures faults { IfErr result (λ f. f ≡ Fault.Input) }
         ensures bytes { IfOk result (λ read. MatchOption read (Keeps (R.remaining reader.old) (R.remaining reader.new)) (λ count.
             (count ≤ length chunk.new) × Consumes (R.remaining reader.old) (R.remaining reader.new) (take count chunk.new)
             × (count ≡ 0 → 0 < length chunk.new → IsAtEnd (R.remaining reader.new)))) }

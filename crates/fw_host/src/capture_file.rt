@@ -33,7 +33,7 @@ pub fn open_capture<R: Files<File = File> + Clock>(
     alloc: Global,
     path: &str,
 ) -> Result<File, Fault>
-    ensures only { IfErr result IsOfCapture }
+    ensures faults { IfErr result IsOfCapture }
 {
     let mut options = OpenOptions::new();
     options.read(true).append(true).create(true);
@@ -52,7 +52,7 @@ pub fn open_capture<R: Files<File = File> + Clock>(
 /// Reads the front of a file into a buffer, as much as there is room for or the file has. It returns how many bytes these are.
 fn read_front(file: &File, buffer: &mut [u8]) -> Result<usize, Fault>
     ensures count { IfOk result (λ count. count ≤ length buffer.new) }
-    ensures only { IfErr result (λ f. f ≡ Fault.CaptureFault) }
+    ensures faults { IfErr result (λ f. f ≡ Fault.CaptureFault) }
 {
     let Ok(metadata) = file.metadata() else {
         return Err(Fault::CaptureFault);
@@ -82,7 +82,7 @@ fn start<W: Write>(
     ensures written { OnOk result (StartsCapture front.now nanoseconds (W.contents writer.old) (W.contents writer.new)) }
     ensures foreign { result ≡ Err Fault.ForeignCapture → (front.now ≢ []) × (front.now ≢ file_header) }
     ensures silent { result ≡ Err Fault.ForeignCapture → Keeps (W.contents writer.old) (W.contents writer.new) }
-    ensures only { IfErr result IsOfCapture }
+    ensures faults { IfErr result IsOfCapture }
 {
     if front.is_empty() {
         write_header(alloc, writer).map_err(|_| Fault::CaptureFault)?;
@@ -112,7 +112,7 @@ pub(crate) fn put_record<W: Write>(
     content: Content<'_>,
 ) -> Result<(), Fault>
     ensures written { OnOk result (Appends (W.contents writer.old) (W.contents writer.new) (packet_bytes nanoseconds (told_of content.entry))) }
-    ensures only { IfErr result (λ f. f ≡ Fault.CaptureFault) }
+    ensures faults { IfErr result (λ f. f ≡ Fault.CaptureFault) }
 {
     let captured = Captured {
         nanoseconds,

@@ -30,7 +30,7 @@ pub fn check_addresses<D: JournalDevice>(
     ensures all { OnOk result (All (HasAddress cancelled list.now) (values_of (head_of kept.now).rows)) }
     ensures missing { (number : ℕ) → result ≡ Err (Fault.NoAddress number) → (row : Row) × Contains (values_of (head_of kept.now).rows) row
         × (row.client.meter ≡ number) × ¬ HasAddress cancelled list.now row }
-    ensures only { IfErr result (λ f. (f ≡ Fault.OutOfMemory) ⊎ ((number : ℕ) × (f ≡ Fault.NoAddress number))) }
+    ensures faults { IfErr result (λ f. (f ≡ Fault.OutOfMemory) ⊎ ((number : ℕ) × (f ≡ Fault.NoAddress number))) }
 {
     match numbers_of(alloc, list) {
         Ok(numbers) => check_rows(kept.head().view().rows.as_slice(), &numbers, cancelled),
@@ -54,7 +54,7 @@ fn check_rows(rows: &[RowCore], numbers: &HashSet<u32>, cancelled: Option<u32>) 
     ensures all { (list : List Listed) → AreNumbersOf numbers.now list → OnOk result (All (HasAddress cancelled list) rows.now) }
     ensures missing { (list : List Listed) → AreNumbersOf numbers.now list → (number : ℕ) → result ≡ Err (Fault.NoAddress number)
         → (row : Row) × Contains rows.now row × (row.client.meter ≡ number) × ¬ HasAddress cancelled list row }
-    ensures only { IfErr result (λ f. (number : ℕ) × (f ≡ Fault.NoAddress number)) }
+    ensures faults { IfErr result (λ f. (number : ℕ) × (f ≡ Fault.NoAddress number)) }
 {
     for row in rows {
         if !has_address(row, numbers, cancelled) {

@@ -56,7 +56,7 @@ pub fn kept_head<F: Files<File = File>>(
     // It is the head end that was asked for, whoever's book the file has.
     ensures number { IfOk result (λ kept. (book_of kept).head ≡ head) }
     ensures new { IsTrue book.entry.is_new → IfOk result (λ kept. head_of kept ≡ new_head head width) }
-    ensures only { IfErr result (IsOfBook book.entry.is_new) }
+    ensures faults { IfErr result (IsOfBook book.entry.is_new) }
 {
     if book.is_new {
         make(rt, alloc, book.path, head, width)
@@ -75,7 +75,7 @@ fn open<F: Files<File = File>>(
 ) -> Result<KeptHead<FileDevice>, Fault>
     ensures begun { IfOk result (λ kept. BeginsWith (book_of kept) width (head_of kept)) }
     ensures number { IfOk result (λ kept. (book_of kept).head ≡ head) }
-    ensures only { IfErr result IsOfOldBook }
+    ensures faults { IfErr result IsOfOldBook }
 {
     let mut device = match FileDevice::open(rt, path) {
         Ok(device) => device,
@@ -98,7 +98,7 @@ fn compact<F: Files<File = File>>(
     kept: &mut KeptHead<FileDevice>,
 ) -> Result<(), Fault>
     ensures same { head_of kept.new ≡ head_of kept.old }
-    ensures only { IfErr result IsOfOldBook }
+    ensures faults { IfErr result IsOfOldBook }
 {
     if size / 2 <= size_anew(alloc, kept.head().view().book)? {
         return Ok(());
@@ -145,7 +145,7 @@ fn book_on<D: JournalDevice + Drop>(
     ensures number { IfOk result (λ kept. (book_of kept).head ≡ head) }
     ensures own { IsTrue (D.honest device) → OnOk result (¬ HasForeign head (D.contents device)) }
     ensures foreign { IsTrue (D.honest device) → IfErr result (λ f. f ≡ Fault.ForeignHead → HasForeign head (D.contents device)) }
-    ensures only { IfErr result IsOfOldBook }
+    ensures faults { IfErr result IsOfOldBook }
 {
     fw_kept::laws::foreign_have_none();
     match KeptHead::open(alloc, head, width, device) {
@@ -187,7 +187,7 @@ fn make<F: Files<File = File>>(
     width: Width,
 ) -> Result<KeptHead<FileDevice>, Fault>
     ensures new { IfOk result (λ kept. head_of kept ≡ new_head head width) }
-    ensures only { IfErr result IsOfNewBook }
+    ensures faults { IfErr result IsOfNewBook }
 {
     check_absent(rt, path)?;
     let new = format!(in alloc; "{path}.new")?;
@@ -208,7 +208,7 @@ fn make<F: Files<File = File>>(
 
 /// Checks that no file is there.
 fn check_absent<F: Files<File = File>>(rt: &F, path: &str) -> Result<(), Fault>
-    ensures only { IfErr result IsOfNewBook }
+    ensures faults { IfErr result IsOfNewBook }
 {
     match fs::exists(rt, path) {
         Ok(false) => Ok(()),
@@ -219,7 +219,7 @@ fn check_absent<F: Files<File = File>>(rt: &F, path: &str) -> Result<(), Fault>
 
 /// A file for a new book, under the lock: one that is made, or one that was left.
 fn new_device<F: Files<File = File>>(rt: &F, path: &str) -> Result<FileDevice, Fault>
-    ensures only { IfErr result IsOfNewBook }
+    ensures faults { IfErr result IsOfNewBook }
 {
     match FileDevice::create(rt, path) {
         Ok(device) => Ok(device),
@@ -239,7 +239,7 @@ fn new_book(
     device: FileDevice,
 ) -> Result<KeptHead<FileDevice>, Fault>
     ensures new { IfOk result (λ kept. head_of kept ≡ new_head head width) }
-    ensures only { IfErr result IsOfNewBook }
+    ensures faults { IfErr result IsOfNewBook }
 {
     match KeptHead::create(alloc, head, width, device) {
         Ok(kept) => Ok(kept),
@@ -249,7 +249,7 @@ fn new_book(
 
 /// Puts the names in the folder of a file where a power cut leaves them.
 fn sync_folder<F: Files<File = File>>(rt: &F, path: &str) -> Result<(), Fault>
-    ensures only { IfErr result (λ f. f ≡ Fault.BookFault) }
+    ensures faults { IfErr result (λ f. f ≡ Fault.BookFault) }
 {
     let folder = match path.rsplit_once('/') {
         Some((folder, _)) if folder.is_empty() => "/",

@@ -135,7 +135,7 @@ pub fn check_part<D: JournalDevice>(
         part.now.meters.items ≡ None) }
     ensures refused { IfErr result (λ f. (e : BookError) × (f ≡ Fault.OpenRefused e)
         × (opening_refusal (book_of kept.now) (campaign_at (head_of kept.now) part.now.serial) image.now part.now.meters.items ≡ Some e)) }
-    ensures only { IfErr result IsOfLeading }
+    ensures faults { IfErr result IsOfLeading }
 {
     let campaign = campaign_of(kept, part);
     match kept
@@ -168,7 +168,7 @@ pub fn open_part<D: JournalDevice>(
     ensures same { OnErr result (head_of kept.new ≡ head_of kept.old) }
     ensures refused { IfErr result (IsOpenFault (opening_refusal (book_of kept.old) (campaign_at (head_of kept.old) part.now.serial) image.now
         part.now.meters.items)) }
-    ensures only { IfErr result IsOfLeading }
+    ensures faults { IfErr result IsOfLeading }
 {
     match kept.open_campaign(alloc, part.serial, release, image, &part.meters) {
         Ok(name) => Ok(name),
@@ -195,7 +195,7 @@ pub fn cancel<D: JournalDevice>(
     ensures same { OnErr result (head_of kept.new ≡ head_of kept.old) }
     ensures refused { 1 ≤ serial → IfErr result (IsCancelFault (cancel_refusal (book_of kept.old) (campaign_at (head_of kept.old) serial))) }
     ensures none { serial ≡ 0 → IsErrOf result (Fault.CancelRefused BookError.NoSuchCampaign) }
-    ensures only { IfErr result IsOfLeading }
+    ensures faults { IfErr result IsOfLeading }
 {
     if serial == 0 {
         return Err(Fault::CancelRefused(BookError::NoSuchCampaign));

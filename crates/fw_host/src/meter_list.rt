@@ -42,7 +42,7 @@ use std::net::SocketAddr;
 pub fn read_list(alloc: Global, text: &[u8]) -> Result<MeterList, Fault>
     ensures ok { IfOk result (λ list. SpellsList text.now list) }
     ensures bad_list { (line : ℕ) → result ≡ Err (Fault.BadList line) → IsNoList text.now }
-    ensures only { IfErr result (λ f. (f ≡ Fault.OutOfMemory) ⊎ ((line : ℕ) × (f ≡ Fault.BadList line))) }
+    ensures faults { IfErr result (λ f. (f ≡ Fault.OutOfMemory) ⊎ ((line : ℕ) × (f ≡ Fault.BadList line))) }
 {
     let mut reader = ReaderBuilder::new()
         .has_headers(false)
@@ -78,7 +78,7 @@ fn take(meters: &mut MeterList, fields: &ByteRecord) -> Result<(), Fault>
 
     // Memory is wanted for a meter alone.
     ensures memory { result ≡ Err Fault.OutOfMemory → (at : Listed) × SpellsListed (fields_of fields.now) at }
-    ensures only { IfErr result (λ f. (f ≡ Fault.OutOfMemory) ⊎ ((line : ℕ) × (f ≡ Fault.BadList line))) }
+    ensures faults { IfErr result (λ f. (f ≡ Fault.OutOfMemory) ⊎ ((line : ℕ) × (f ≡ Fault.BadList line))) }
 {
     let Some(at) = listed(fields) else {
         return Err(Fault::BadList(line_of(fields)));

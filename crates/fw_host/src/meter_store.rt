@@ -52,7 +52,7 @@ pub fn stored_meter<F: Files<File = File>>(
     ensures faultless { IfOk result (λ meter. meter.faults ≡ 0) }
     ensures bad_setup { fresh.now.factory_file ≡ None → result ≡ Err Fault.BadSetup
         → ¬ IsSetup Two fresh.now.block_size fresh.now.capacity default_factory }
-    ensures only { IfErr result IsOfSetup }
+    ensures faults { IfErr result IsOfSetup }
 {
     let store = open_or_make(rt, alloc, path, fresh)?;
     opened(store)
@@ -87,7 +87,7 @@ fn open_or_make<F: Files<File = File>>(
     ensures faultless { IfOk result (λ store. ⟦<FileStore as ImageStore>⟧.faults store ≡ 0) }
     ensures bad_setup { fresh.now.factory_file ≡ None → result ≡ Err Fault.BadSetup
         → ¬ IsSetup Two fresh.now.block_size fresh.now.capacity default_factory }
-    ensures only { IfErr result IsOfSetup }
+    ensures faults { IfErr result IsOfSetup }
 {
     match FileStore::reopen(rt, path) {
         Ok(store) => Ok(store),
@@ -105,7 +105,7 @@ fn open_or_make<F: Files<File = File>>(
 
 /// All bytes of the file of a factory image.
 fn bytes_of_file<F: Files<File = File>>(rt: &F, alloc: Global, path: &str) -> Result<Vec<u8>, Fault>
-    ensures only { IfErr result (λ f. (f ≡ Fault.BadSetup) ⊎ ((f ≡ Fault.FactoryFault) ⊎ (f ≡ Fault.OutOfMemory))) }
+    ensures faults { IfErr result (λ f. (f ≡ Fault.BadSetup) ⊎ ((f ≡ Fault.FactoryFault) ⊎ (f ≡ Fault.OutOfMemory))) }
 {
     let mut file = File::open(rt, path).map_err(|_| Fault::FactoryFault)?;
     let mut reads = Reads::none();
@@ -128,7 +128,7 @@ fn make<F: Files<File = File>>(
     ensures faultless { IfOk result (λ store. ⟦<FileStore as ImageStore>⟧.faults store ≡ 0) }
     ensures setup { OnOk result (IsSetup Two fresh.now.block_size fresh.now.capacity factory.now) }
     ensures bad_setup { result ≡ Err Fault.BadSetup → ¬ IsSetup Two fresh.now.block_size fresh.now.capacity factory.now }
-    ensures only { IfErr result (λ f. (f ≡ Fault.BadSetup) ⊎ ((f ≡ Fault.StoreFault) ⊎ (f ≡ Fault.OutOfMemory))) }
+    ensures faults { IfErr result (λ f. (f ≡ Fault.BadSetup) ⊎ ((f ≡ Fault.StoreFault) ⊎ (f ≡ Fault.OutOfMemory))) }
 {
     match FileStore::create(rt, path, fresh.capacity, fresh.block_size, factory) {
         Ok(store) => Ok(store),

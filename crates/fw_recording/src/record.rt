@@ -59,7 +59,7 @@ pub fn write_record<W: Write>(
 /// Writes bytes, and flushes them.
 fn write_bytes<W: Write>(writer: &mut W, bytes: &[u8]) -> Result<(), RecordError>
     ensures written { OnOk result (Appends (W.contents writer.old) (W.contents writer.new) bytes.now) }
-    ensures only { IfErr result (λ e. e ≡ RecordError.Output) }
+    ensures faults { IfErr result (λ e. e ≡ RecordError.Output) }
 {
     writer.write_all(bytes).map_err(|_| RecordError::Output)?;
     writer.flush().map_err(|_| RecordError::Output)

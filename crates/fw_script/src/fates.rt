@@ -19,7 +19,7 @@ pub fn read_fates(alloc: Global, letters: &[u8]) -> Result<Vec<Fate>, Fault>
     ensures ok { IfOk result (λ fates. SpellsFates letters.now fates.items) }
     ensures bad_fates { result ≡ Err Fault.BadFates → ¬ SpellsSome letters.now }
     ensures memory { result ≡ Err Fault.OutOfMemory → SpellsSome letters.now }
-    ensures only { IfErr result (λ f. (f ≡ Fault.BadFates) ⊎ (f ≡ Fault.OutOfMemory)) }
+    ensures faults { IfErr result (λ f. (f ≡ Fault.BadFates) ⊎ (f ≡ Fault.OutOfMemory)) }
 {
     if !are_fates(letters) {
         return Err(Fault::BadFates);

@@ -31,7 +31,7 @@ pub fn read_script(alloc: Global, input: &[u8]) -> Result<Script, Fault>
     ensures ok { IfOk result (λ script. SpellsScript input.now (script_of script.setup script.events.items)) }
     ensures bad_line { (number : ℕ) → result ≡ Err (Fault.BadLine number) → IsBadLine input.now number }
     ensures memory { result ≡ Err Fault.OutOfMemory → BeginsScript input.now }
-    ensures only { IfErr result (λ f. (f ≡ Fault.OutOfMemory) ⊎ ((number : ℕ) × (f ≡ Fault.BadLine number))) }
+    ensures faults { IfErr result (λ f. (f ≡ Fault.OutOfMemory) ⊎ ((number : ℕ) × (f ≡ Fault.BadLine number))) }
 {
     let mut script = Script {
         setup: Setup {

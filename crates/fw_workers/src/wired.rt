@@ -181,7 +181,7 @@ fn with_wires<W: Wire + Drop>(
     ensures count { OnOk result (length links.items ≡ length wires.items) }
     ensures socket { IsErrOf result RehearseError.Socket → length links.items ≢ length wires.items }
     ensures memory { IsErrOf result RehearseError.OutOfMemory → length links.items ≡ length wires.items }
-    ensures only { IfErr result IsLater }
+    ensures faults { IfErr result IsLater }
     ensures roundless { IfErr result (λ e. ¬ IsOfRounds e) }
 {
     if links.len() != wires.len() {
@@ -201,7 +201,7 @@ fn bound<N: Net>(
     links: Vec<LinkQueue>,
 ) -> Result<Vec<WiredLink<UdpWire>>, RehearseError>
     ensures socket { IsErrOf result RehearseError.Socket → length links.items ≢ 0 }
-    ensures only { IfErr result IsLater }
+    ensures faults { IfErr result IsLater }
     ensures roundless { IfErr result (λ e. ¬ IsOfRounds e) }
 {
     let mut wired = Vec::new(alloc);

@@ -14,7 +14,7 @@ returns-in_err-meter-clause-bad_setup g c = λ bad.
 pub returns-in_err-meter-clause-setup_refused : goal.returns-in_err-meter-clause-setup_refused
 returns-in_err-meter-clause-setup_refused g c = λ none.
     let passed = err_from_is_err_and c.from_residual.result c.from_residual.ensures.1 in
-    elim c.in_err-meter.ensures.only [
+    elim c.in_err-meter.ensures.faults [
       | inl bad ↦ cc (passed.1, passed.2, bad)
       | inr wanted ↦ let one = c.set_up.ensures.memory (c.in_err-meter.was ∙ ap Err wanted) in absurd (none one.0 one.1)
     ]

@@ -9,23 +9,23 @@ pub returns-in_err-kept-clause-asked : goal.returns-in_err-kept-clause-asked
 returns-in_err-kept-clause-asked g c =
     let passed = err_from_is_err_and c.from_residual.result c.from_residual.ensures.1 in
     let same : passed.0 ≡ c.in_err-kept.field-0.0 = cc passed.2 in
-    passed_on c.from_residual.result (IsAskedFor c.args.options.now) passed.0 _ passed.1 same (book_is_asked c.args.options.now _ c.in_err-kept.ensures.only)
+    passed_on c.from_residual.result (IsAskedFor c.args.options.now) passed.0 _ passed.1 same (book_is_asked c.args.options.now _ c.in_err-kept.ensures.faults)
 
-pub returns-in_err-kept-clause-only : goal.returns-in_err-kept-clause-only
-returns-in_err-kept-clause-only g c =
+pub returns-in_err-kept-clause-faults : goal.returns-in_err-kept-clause-faults
+returns-in_err-kept-clause-faults g c =
     let passed = err_from_is_err_and c.from_residual.result c.from_residual.ensures.1 in
     let same : passed.0 ≡ c.in_err-kept.field-0.0 = cc passed.2 in
-    passed_on c.from_residual.result IsOfHeadSetup passed.0 _ passed.1 same (book_in_setup c.args.options.now.book.is_new _ c.in_err-kept.ensures.only)
+    passed_on c.from_residual.result IsOfHeadSetup passed.0 _ passed.1 same (book_in_setup c.args.options.now.book.is_new _ c.in_err-kept.ensures.faults)
 
 pub returns-in_err-check_addresses-clause-asked : goal.returns-in_err-check_addresses-clause-asked
 returns-in_err-check_addresses-clause-asked g c =
     let passed = err_from_is_err_and c.from_residual-in_err-check_addresses.result c.from_residual-in_err-check_addresses.ensures.1 in
     let same : passed.0 ≡ c.in_err-check_addresses.field-0.0 = cc passed.2 in
     passed_on c.from_residual-in_err-check_addresses.result (IsAskedFor c.args.options.now) passed.0 _ passed.1 same
-    (address_is_asked c.args.options.now _ c.in_err-check_addresses.ensures.only)
+    (address_is_asked c.args.options.now _ c.in_err-check_addresses.ensures.faults)
 
-pub returns-in_err-check_addresses-clause-only : goal.returns-in_err-check_addresses-clause-only
-returns-in_err-check_addresses-clause-only g c =
+pub returns-in_err-check_addresses-clause-faults : goal.returns-in_err-check_addresses-clause-faults
+returns-in_err-check_addresses-clause-faults g c =
     let passed = err_from_is_err_and c.from_residual-in_err-check_addresses.result c.from_residual-in_err-check_addresses.ensures.1 in
     let same : passed.0 ≡ c.in_err-check_addresses.field-0.0 = cc passed.2 in
-    passed_on c.from_residual-in_err-check_addresses.result IsOfHeadSetup passed.0 _ passed.1 same (address_in_setup _ c.in_err-check_addresses.ensures.only)
+    passed_on c.from_residual-in_err-check_addresses.result IsOfHeadSetup passed.0 _ passed.1 same (address_in_setup _ c.in_err-check_addresses.ensures.faults)

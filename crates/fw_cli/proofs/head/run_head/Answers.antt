@@ -11,80 +11,80 @@ use Rattle.fw_cli.proofs.head.run_head.Goals as goal
 pub returns-clause-silent : goal.returns-clause-silent
 returns-clause-silent g c =
     on_err_both c.lead.result IsOfStop (λ f. IsOfCapture f → IsTrue (is_some c.args.options.now.capture)) _
-    (λ f is asked before. absurd ((stopped c.args.options.now f asked is).later before)) c.lead.ensures.only c.lead.ensures.asked
+    (λ f is asked before. absurd ((stopped c.args.options.now f asked is).later before)) c.lead.ensures.faults c.lead.ensures.asked
 
 pub returns-clause-asked : goal.returns-clause-asked
 returns-clause-asked g c =
     on_err_both c.lead.result IsOfStop (λ f. IsOfCapture f → IsTrue (is_some c.args.options.now.capture)) (IsAskedFor c.args.options.now)
-    (λ f is asked. (stopped c.args.options.now f asked is).asked) c.lead.ensures.only c.lead.ensures.asked
+    (λ f is asked. (stopped c.args.options.now f asked is).asked) c.lead.ensures.faults c.lead.ensures.asked
 
-pub returns-clause-only : goal.returns-clause-only
-returns-clause-only g c =
+pub returns-clause-faults : goal.returns-clause-faults
+returns-clause-faults g c =
     on_err_both c.lead.result IsOfStop (λ f. IsOfCapture f → IsTrue (is_some c.args.options.now.capture)) IsOfHead
-    (λ f is asked. (stopped c.args.options.now f asked is).of_head) c.lead.ensures.only c.lead.ensures.asked
+    (λ f is asked. (stopped c.args.options.now f asked is).of_head) c.lead.ensures.faults c.lead.ensures.asked
 
 pub returns-in_err-capture-clause-asked : goal.returns-in_err-capture-clause-asked
 returns-in_err-capture-clause-asked g c =
     let passed = err_from_is_err_and c.from_residual-in_err-capture.result c.from_residual-in_err-capture.ensures.1 in
     let same : passed.0 ≡ c.in_err-capture.field-0.0 = passed.2 in
-    passed_on c.from_residual-in_err-capture.result (IsAskedFor c.args.options.now) passed.0 _ passed.1 same (capture_is_asked c.args.options.now _ c.in_err-capture.ensures.asked c.in_err-capture.ensures.only)
+    passed_on c.from_residual-in_err-capture.result (IsAskedFor c.args.options.now) passed.0 _ passed.1 same (capture_is_asked c.args.options.now _ c.in_err-capture.ensures.asked c.in_err-capture.ensures.faults)
 
-pub returns-in_err-capture-clause-only : goal.returns-in_err-capture-clause-only
-returns-in_err-capture-clause-only g c =
+pub returns-in_err-capture-clause-faults : goal.returns-in_err-capture-clause-faults
+returns-in_err-capture-clause-faults g c =
     let passed = err_from_is_err_and c.from_residual-in_err-capture.result c.from_residual-in_err-capture.ensures.1 in
     let same : passed.0 ≡ c.in_err-capture.field-0.0 = passed.2 in
-    passed_on c.from_residual-in_err-capture.result IsOfHead passed.0 _ passed.1 same (capture_of_head _ c.in_err-capture.ensures.only)
+    passed_on c.from_residual-in_err-capture.result IsOfHead passed.0 _ passed.1 same (capture_of_head _ c.in_err-capture.ensures.faults)
 
 pub returns-in_err-tell_listening-clause-silent : goal.returns-in_err-tell_listening-clause-silent
 returns-in_err-tell_listening-clause-silent g c =
     let passed = err_from_is_err_and c.from_residual-in_err-tell_listening.result c.from_residual-in_err-tell_listening.ensures.1 in
     let same : passed.0 ≡ c.in_err-tell_listening.field-0.0 = passed.2 in
-    passed_on c.from_residual-in_err-tell_listening.result _ passed.0 _ passed.1 same (λ before. absurd ((line_lost c.args.options.now _ c.in_err-tell_listening.ensures.only).later before))
+    passed_on c.from_residual-in_err-tell_listening.result _ passed.0 _ passed.1 same (λ before. absurd ((line_lost c.args.options.now _ c.in_err-tell_listening.ensures.faults).later before))
 
 pub returns-in_err-tell_listening-clause-asked : goal.returns-in_err-tell_listening-clause-asked
 returns-in_err-tell_listening-clause-asked g c =
     let passed = err_from_is_err_and c.from_residual-in_err-tell_listening.result c.from_residual-in_err-tell_listening.ensures.1 in
     let same : passed.0 ≡ c.in_err-tell_listening.field-0.0 = passed.2 in
-    passed_on c.from_residual-in_err-tell_listening.result (IsAskedFor c.args.options.now) passed.0 _ passed.1 same (line_lost c.args.options.now _ c.in_err-tell_listening.ensures.only).asked
+    passed_on c.from_residual-in_err-tell_listening.result (IsAskedFor c.args.options.now) passed.0 _ passed.1 same (line_lost c.args.options.now _ c.in_err-tell_listening.ensures.faults).asked
 
-pub returns-in_err-tell_listening-clause-only : goal.returns-in_err-tell_listening-clause-only
-returns-in_err-tell_listening-clause-only g c =
+pub returns-in_err-tell_listening-clause-faults : goal.returns-in_err-tell_listening-clause-faults
+returns-in_err-tell_listening-clause-faults g c =
     let passed = err_from_is_err_and c.from_residual-in_err-tell_listening.result c.from_residual-in_err-tell_listening.ensures.1 in
     let same : passed.0 ≡ c.in_err-tell_listening.field-0.0 = passed.2 in
-    passed_on c.from_residual-in_err-tell_listening.result IsOfHead passed.0 _ passed.1 same (line_lost c.args.options.now _ c.in_err-tell_listening.ensures.only).of_head
+    passed_on c.from_residual-in_err-tell_listening.result IsOfHead passed.0 _ passed.1 same (line_lost c.args.options.now _ c.in_err-tell_listening.ensures.faults).of_head
 
 pub returns-in_err-cancel_one-clause-silent : goal.returns-in_err-cancel_one-clause-silent
 returns-in_err-cancel_one-clause-silent g c =
     let passed = err_from_is_err_and c.from_residual-in_err-cancel_one.result c.from_residual-in_err-cancel_one.ensures.1 in
     let same : passed.0 ≡ c.in_err-cancel_one.field-0.0 = passed.2 in
-    passed_on c.from_residual-in_err-cancel_one.result _ passed.0 _ passed.1 same (λ before. absurd ((cancelling c.args.options.now c.in-Some.serial _ c.in-Some.is c.in_err-cancel_one.ensures.only).later before))
+    passed_on c.from_residual-in_err-cancel_one.result _ passed.0 _ passed.1 same (λ before. absurd ((cancelling c.args.options.now c.in-Some.serial _ c.in-Some.is c.in_err-cancel_one.ensures.faults).later before))
 
 pub returns-in_err-cancel_one-clause-asked : goal.returns-in_err-cancel_one-clause-asked
 returns-in_err-cancel_one-clause-asked g c =
     let passed = err_from_is_err_and c.from_residual-in_err-cancel_one.result c.from_residual-in_err-cancel_one.ensures.1 in
     let same : passed.0 ≡ c.in_err-cancel_one.field-0.0 = passed.2 in
-    passed_on c.from_residual-in_err-cancel_one.result (IsAskedFor c.args.options.now) passed.0 _ passed.1 same (cancelling c.args.options.now c.in-Some.serial _ c.in-Some.is c.in_err-cancel_one.ensures.only).asked
+    passed_on c.from_residual-in_err-cancel_one.result (IsAskedFor c.args.options.now) passed.0 _ passed.1 same (cancelling c.args.options.now c.in-Some.serial _ c.in-Some.is c.in_err-cancel_one.ensures.faults).asked
 
-pub returns-in_err-cancel_one-clause-only : goal.returns-in_err-cancel_one-clause-only
-returns-in_err-cancel_one-clause-only g c =
+pub returns-in_err-cancel_one-clause-faults : goal.returns-in_err-cancel_one-clause-faults
+returns-in_err-cancel_one-clause-faults g c =
     let passed = err_from_is_err_and c.from_residual-in_err-cancel_one.result c.from_residual-in_err-cancel_one.ensures.1 in
     let same : passed.0 ≡ c.in_err-cancel_one.field-0.0 = passed.2 in
-    passed_on c.from_residual-in_err-cancel_one.result IsOfHead passed.0 _ passed.1 same (cancelling c.args.options.now c.in-Some.serial _ c.in-Some.is c.in_err-cancel_one.ensures.only).of_head
+    passed_on c.from_residual-in_err-cancel_one.result IsOfHead passed.0 _ passed.1 same (cancelling c.args.options.now c.in-Some.serial _ c.in-Some.is c.in_err-cancel_one.ensures.faults).of_head
 
 pub returns-in_err-open_all-clause-silent : goal.returns-in_err-open_all-clause-silent
 returns-in_err-open_all-clause-silent g c =
     let passed = err_from_is_err_and c.from_residual-in_err-open_all.result c.from_residual-in_err-open_all.ensures.1 in
     let same : passed.0 ≡ c.in_err-open_all.field-0.0 = passed.2 in
-    passed_on c.from_residual-in_err-open_all.result _ passed.0 _ passed.1 same (λ before. absurd ((opening c.args.options.now _ (c.in_ok-port.ensures.opened (ap is_some c.in-Some-opened.is)) c.in_err-open_all.ensures.only).later before))
+    passed_on c.from_residual-in_err-open_all.result _ passed.0 _ passed.1 same (λ before. absurd ((opening c.args.options.now _ (c.in_ok-port.ensures.opened (ap is_some c.in-Some-opened.is)) c.in_err-open_all.ensures.faults).later before))
 
 pub returns-in_err-open_all-clause-asked : goal.returns-in_err-open_all-clause-asked
 returns-in_err-open_all-clause-asked g c =
     let passed = err_from_is_err_and c.from_residual-in_err-open_all.result c.from_residual-in_err-open_all.ensures.1 in
     let same : passed.0 ≡ c.in_err-open_all.field-0.0 = passed.2 in
-    passed_on c.from_residual-in_err-open_all.result (IsAskedFor c.args.options.now) passed.0 _ passed.1 same (opening c.args.options.now _ (c.in_ok-port.ensures.opened (ap is_some c.in-Some-opened.is)) c.in_err-open_all.ensures.only).asked
+    passed_on c.from_residual-in_err-open_all.result (IsAskedFor c.args.options.now) passed.0 _ passed.1 same (opening c.args.options.now _ (c.in_ok-port.ensures.opened (ap is_some c.in-Some-opened.is)) c.in_err-open_all.ensures.faults).asked
 
-pub returns-in_err-open_all-clause-only : goal.returns-in_err-open_all-clause-only
-returns-in_err-open_all-clause-only g c =
+pub returns-in_err-open_all-clause-faults : goal.returns-in_err-open_all-clause-faults
+returns-in_err-open_all-clause-faults g c =
     let passed = err_from_is_err_and c.from_residual-in_err-open_all.result c.from_residual-in_err-open_all.ensures.1 in
     let same : passed.0 ≡ c.in_err-open_all.field-0.0 = passed.2 in
-    passed_on c.from_residual-in_err-open_all.result IsOfHead passed.0 _ passed.1 same (opening c.args.options.now _ (c.in_ok-port.ensures.opened (ap is_some c.in-Some-opened.is)) c.in_err-open_all.ensures.only).of_head
+    passed_on c.from_residual-in_err-open_all.result IsOfHead passed.0 _ passed.1 same (opening c.args.options.now _ (c.in_ok-port.ensures.opened (ap is_some c.in-Some-opened.is)) c.in_err-open_all.ensures.faults).of_head
