@@ -488,9 +488,9 @@ impl<D: JournalDevice> KeptHead<D> {
     ///
     /// # Errors
     ///
-    /// `BookFault` where the head end is broken; else `NotReplaced`, where the new bytes couldn't be made beside the old ones, and it goes on; or
-    /// `BookFault`, where the device failed, or `OutOfMemory`. The head end in memory is as it was. What a cut leaves is as it was, and the marks
-    /// wait, or the head end is broken.
+    /// `BookFault` where the head end is broken; else `NotReplaced`, where the new bytes couldn't be made beside the old ones, and it goes
+    /// on; or `BookFault`, where the device failed, or `OutOfMemory`. The head end in memory is as it was. What a cut leaves is as it was,
+    /// and the marks wait, or the head end is broken.
     pub fn compact<R: Replacer<D>>(
         &mut self,
         alloc: Global,
