@@ -34,15 +34,15 @@ const CAMPAIGN_SIZE: u64 = 150;
 /// And each of its rows.
 const ROW_SIZE: u64 = 5;
 
-/// The head end of this number whose book is in the file. A new one is made as FILE.new, and named FILE once the disk has all of it. So is one
-/// that is there, where it is written anew.
+/// The head end of this number whose book is in the file. A new one is made as FILE.new, and named FILE once the disk has all of it. So
+/// is one that is there, where it is written anew. A file that is named FILE.new and is no journal is left as it is.
 ///
 /// # Errors
 ///
 /// - `Locked`: another head end has the book. `BookFault`: its file can't be made, opened, read, written or synced.
-/// - Of a book that is there `NoBook`, `BadBook`, `BadRecord` and `ForeignHead`: the file has no book that this head end may begin with. It is
-///   left as it is, or as a journal of the same records.
-/// - Of a new one `BookExists`.
+/// - Of a book that is there `NoBook`, `BadBook`, `BadRecord` and `ForeignHead`: the file has no book that this head end may begin with.
+///   It is left as it is, or as a journal of the same records.
+/// - Of a new one `BookExists`; and `BookFault` where another file is named FILE.new.
 /// - `OutOfMemory`.
 pub fn kept_head<F: Files<File = File>>(
     rt: &F,
@@ -81,6 +81,7 @@ fn open<F: Files<File = File>>(
         Ok(device) => device,
         Err(error) => return Err(file_fault(rt, path, error)),
     };
+    // A file whose length can't be told isn't written anew.
     let size = device.len().unwrap_or(0);
     let mut kept = book_on(alloc, head, width, device)?;
     // A head end that made the file may have been ended before a power cut left its name there.
@@ -89,7 +90,8 @@ fn open<F: Files<File = File>>(
     Ok(kept)
 }
 
-/// Writes the book of a file of this size anew, where that takes more than half of its bytes away.
+/// Writes the book of a file of this size anew, where that takes more than half of its bytes away. The head end is the same, and so is its
+/// book, whether that is done or not, also where it is refused.
 fn compact<F: Files<File = File>>(
     rt: &F,
     alloc: Global,
@@ -191,14 +193,10 @@ fn make<F: Files<File = File>>(
 {
     check_absent(rt, path)?;
     let new = format!(in alloc; "{path}.new")?;
-    let mut device = new_device(rt, new.as_str())?;
+    let device = new_device(rt, new.as_str());
     // Who had the lock before may have given the file its name meanwhile.
     check_absent(rt, path)?;
-    // A head end that was killed while it made its book may have left some of it.
-    if device.shorten(0).is_err() {
-        return Err(Fault::BookFault);
-    }
-    let kept = new_book(alloc, head, width, device)?;
+    let kept = new_book(alloc, head, width, device?)?;
     if fs::rename(rt, new.as_str(), path).is_err() {
         return Err(Fault::BookFault);
     }
@@ -217,16 +215,13 @@ fn check_absent<F: Files<File = File>>(rt: &F, path: &str) -> Result<(), Fault>
     }
 }
 
-/// A file for a new book, under the lock: one that is made, or one that was left.
+/// A file for a new book, under the lock and without bytes: one that is made, or what a head end left that was killed while it made its
+/// book. A file of any other bytes is `BookFault`, and stays.
 fn new_device<F: Files<File = File>>(rt: &F, path: &str) -> Result<FileDevice, Fault>
     ensures faults { IfErr result IsOfNewBook }
 {
-    match FileDevice::create(rt, path) {
+    match FileDevice::begin(rt, path) {
         Ok(device) => Ok(device),
-        Err(JournalError::BookFault) => match FileDevice::open(rt, path) {
-            Ok(device) => Ok(device),
-            Err(error) => Err(Fault::from(error)),
-        },
         Err(error) => Err(Fault::from(error)),
     }
 }
