@@ -1,7 +1,7 @@
 /* Records the calls by which a program changes files: preloaded, it writes a line for each that was done into the file RECORD, with the
- * bytes in hexadecimal. So it does for what is written to standard output. Where FAIL is a number, the call with that number and all later
- * ones are refused, as on a full disk, except those to standard output. hostile/power and hostile/book compile and use it; nothing of
- * the product does. */
+ * bytes in hexadecimal. So it does for what is to be written to standard output. Where FAIL is a number, the call with that number and
+ * all later ones are refused, as on a full disk, except those to standard output. hostile/power and hostile/book compile and use it;
+ * nothing of the product does. */
 #define _GNU_SOURCE
 #include <errno.h>
 #include <fcntl.h>
@@ -106,8 +106,8 @@ int unlink(const char *path) {
     return done;
 }
 
+/* (told before it is done: who reads the line may end the program at once) */
 ssize_t write(int file, const void *bytes, size_t size) {
-    ssize_t done = syscall(SYS_write, file, bytes, size);
-    if (file == 1 && done > 0) tell("print", file, 0, bytes, done);
-    return done;
+    if (file == 1 && size > 0) tell("print", file, 0, bytes, size);
+    return syscall(SYS_write, file, bytes, size);
 }
