@@ -70,8 +70,9 @@ class Disk:
         return changed(it.synced, it.changes)
 
     def held(self):
-        """The files that the disk has under a name, or would have if the changes of names were on it."""
-        return list({id(it): it for it in (*self.files.values(), *self.names.values())}.values())
+        """The files that the disk has under a name, or would have if the first changes of names were on it."""
+        made = [new for word, _, new in self.renamed if word == "make"]
+        return list({id(it): it for it in (*self.files.values(), *self.names.values(), *made)}.values())
 
     def named(self, count):
         """The files by their names where the first `count` changes of names are on the disk."""
