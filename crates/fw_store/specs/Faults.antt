@@ -2,6 +2,7 @@
 use Rattle.std.specs.Prelude.{◌≡◌, ◌↔◌, ℕ, ◌+◌, ◌-◌, ◌≤◌, ◌^◌, min, Bool, true, false, IsTrue, IsOk, is_ok, Result, Option, Some}
 use Rattle.fw_store.specs.declared.error.StoreFault.{StoreFault}
 use Rattle.fw_store.specs.declared.fuse.Fuse.{Fuse}
+use Rattle.fw_store.specs.Known.{Known}
 
 -- the greatest count of faults: it stays there
 abbrev pub most_faults : ℕ
@@ -13,11 +14,11 @@ count_after true count = count
 count_after false count = min (count + 1) most_faults
 
 -- what each call keeps, whatever it answers and whether the store is honest or not
-pub record Keeps {S : Type 0} (honest sound : S → Bool) (capacity faults : S → ℕ) (old new : S) : Type 0 where
-  pub honesty : honest new ≡ honest old
-  pub soundness : IsTrue (sound old) → IsTrue (sound new)
-  pub size : capacity new ≡ capacity old
-  pub later : faults old ≤ faults new
+pub record Keeps (old new : Known) : Type 0 where
+  pub honesty : new.honest ≡ old.honest
+  pub soundness : IsTrue old.sound → IsTrue new.sound
+  pub size : new.capacity ≡ old.capacity
+  pub later : old.faults ≤ new.faults
 
 -- A call's failure is counted, and a sound store doesn't fail. What makes several calls of a store keeps this too, as long as it makes
 -- none after one that failed. At the greatest number the count tells no more.

@@ -7,6 +7,7 @@ pub mod Laws
 pub mod Device
 pub mod Faults
 pub mod Fuse
+pub mod Known
 pub mod Setup
 pub mod Fresh
 pub mod Memory

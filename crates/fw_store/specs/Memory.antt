@@ -1,6 +1,7 @@
 -- Public vocabulary: a store in memory as a value.
-use Rattle.std.specs.Prelude.{◌≡◌, ℕ, length, Bool, Option, is_none}
+use Rattle.std.specs.Prelude.{◌≡◌, ℕ, length, Bool, true, Option, is_none}
 use Rattle.fw_store.specs.Device.{Device, slot_bytes}
+use Rattle.fw_store.specs.Known.{Known}
 use Rattle.fw_store.specs.Versions.{bytes_of}
 use Rattle.fw_store.specs.Fuse.{lets_through, burnt}
 use Rattle.fw_store.specs.declared.fuse.Fuse.{Fuse}
@@ -26,6 +27,17 @@ fuse_of m = m.fuse
 -- no fuse is set
 abbrev pub is_sound : MemoryStore → Bool
 is_sound m = is_none (fuse_of m)
+
+-- what is known of it: all
+abbrev pub known_of : MemoryStore → Known
+known_of m = record {
+  honest = true;
+  sound = is_sound m;
+  device = device_of m;
+  capacity = capacity_of m;
+  faults = faults_of m;
+  fuse = fuse_of m;
+}
 
 -- each slot has the capacity
 pub slot_size : (m : MemoryStore) (slot : Slot) → length (slot_bytes (device_of m) slot) ≡ capacity_of m

@@ -1,9 +1,10 @@
 -- Public vocabulary: a store as a byte string: the capacity in four bytes, high byte first, the first 614 bytes of the header, the two
 -- slots, and the other bytes of the header (own). These are the releases, 8 bytes, and in version 2 the marks of the blocks from 4,096
 -- on. A store without releases is an old one of version 1: its releases are 0.
-use Rattle.std.specs.Prelude.{◌≡◌, ◌⊎◌, ◌==◌, Bool, if◌then◌else◌, nat_le, ℕ, ◌+◌, ◌*◌, List, ◌++◌, length, take, drop, replicate, slice_range}
+use Rattle.std.specs.Prelude.{◌≡◌, ◌⊎◌, ◌==◌, ◌&&◌, Bool, if◌then◌else◌, nat_le, ℕ, ◌+◌, ◌*◌, List, ◌++◌, length, take, drop, replicate, slice_range, None}
 use Rattle.std.specs.Int.{w32, to_be_bytes}
 use Rattle.fw_store.specs.Device.{Device}
+use Rattle.fw_store.specs.Known.{Known}
 use Rattle.fw_store.specs.Setup.{IsCapacity}
 use Rattle.fw_store.specs.Versions.{header_size}
 use Rattle.fw_store.specs.declared.version.HeaderVersion.{HeaderVersion}
@@ -57,3 +58,14 @@ HoldsStore bytes capacity d = (bytes ≡ store_bytes capacity d) ⊎ ((bytes ≡
 -- whether a device has room for every header of a store, whichever version it is of
 abbrev pub has_room : ℕ → ℕ → Bool
 has_room room capacity = nat_le (store_size Two capacity) room
+
+-- what is known of a store over a device of which this is known: whether it is honest and sound, its room, and its bytes
+abbrev pub known_on : Bool → Bool → ℕ → List ℕ → ℕ → ℕ → Known
+known_on honest sound room bytes capacity faults = record {
+  honest = honest;
+  sound = sound && has_room room capacity;
+  device = device_at capacity bytes;
+  capacity = capacity;
+  faults = faults;
+  fuse = None;
+}

@@ -32,6 +32,7 @@ ghost use Rattle.fw_store.specs.StoreBytes.{
   HoldsStore,
   device_at,
   has_room,
+  known_on,
   old_store_size,
   slot_start,
   store_bytes,
@@ -108,13 +109,13 @@ impl<D: ByteDevice + Drop> DeviceStore<D> {
         block_size: u32,
         factory: &[u8],
     ) -> Result<DeviceStore<D>, FileStoreError>
-        ensures fresh { IsTrue (D.honest device) → IfOk result (λ store. ⟦<DeviceStore<D> as ImageStore>⟧.device store
+        ensures fresh { IsTrue (D.honest device) → IfOk result (λ store. (⟦<DeviceStore<D> as ImageStore>⟧.known store).device
             ≡ fresh_device HeaderVersion.Two block_size capacity factory.now) }
-        ensures size { IfOk result (λ store. ⟦<DeviceStore<D> as ImageStore>⟧.capacity store ≡ capacity) }
-        ensures honesty { IfOk result (λ store. ⟦<DeviceStore<D> as ImageStore>⟧.honest store ≡ D.honest device) }
+        ensures size { IfOk result (λ store. (⟦<DeviceStore<D> as ImageStore>⟧.known store).capacity ≡ capacity) }
+        ensures honesty { IfOk result (λ store. (⟦<DeviceStore<D> as ImageStore>⟧.known store).honest ≡ D.honest device) }
         ensures soundness { IsTrue (D.sound device)
-            → IfOk result (λ store. IsTrue (⟦<DeviceStore<D> as ImageStore>⟧.sound store)) }
-        ensures faultless { IfOk result (λ store. ⟦<DeviceStore<D> as ImageStore>⟧.faults store ≡ 0) }
+            → IfOk result (λ store. IsTrue (⟦<DeviceStore<D> as ImageStore>⟧.known store).sound) }
+        ensures faultless { IfOk result (λ store. (⟦<DeviceStore<D> as ImageStore>⟧.known store).faults ≡ 0) }
         ensures setup { OnOk result (IsSetup HeaderVersion.Two block_size capacity factory.now) }
         ensures bad_setup { IsErrOf result FileStoreError.BadSetup → ¬ IsSetup HeaderVersion.Two block_size capacity factory.now }
         ensures fault { IsErrOf result FileStoreError.StoreFault → IsSetup HeaderVersion.Two block_size capacity factory.now }
@@ -150,15 +151,15 @@ impl<D: ByteDevice + Drop> DeviceStore<D> {
     /// or aren't as many as those of a store of that capacity.
     pub fn reopen_on(mut device: D) -> Result<DeviceStore<D>, FileStoreError>
         ensures store { IsTrue (D.honest device)
-            → IfOk result (λ store. IsStore (D.contents device) (⟦<DeviceStore<D> as ImageStore>⟧.capacity store)) }
+            → IfOk result (λ store. IsStore (D.contents device) (⟦<DeviceStore<D> as ImageStore>⟧.known store).capacity) }
         ensures device { IsTrue (D.honest device)
-            → IfOk result (λ store. ⟦<DeviceStore<D> as ImageStore>⟧.device store
-            ≡ device_at (⟦<DeviceStore<D> as ImageStore>⟧.capacity store) (D.contents device)) }
-        ensures size { IfOk result (λ store. IsCapacity (⟦<DeviceStore<D> as ImageStore>⟧.capacity store)) }
-        ensures honesty { IfOk result (λ store. ⟦<DeviceStore<D> as ImageStore>⟧.honest store ≡ D.honest device) }
-        ensures soundness { IsTrue (D.sound device) → IfOk result (λ store. ⟦<DeviceStore<D> as ImageStore>⟧.sound store
-            ≡ has_room (D.room device) (⟦<DeviceStore<D> as ImageStore>⟧.capacity store)) }
-        ensures faultless { IfOk result (λ store. ⟦<DeviceStore<D> as ImageStore>⟧.faults store ≡ 0) }
+            → IfOk result (λ store. (⟦<DeviceStore<D> as ImageStore>⟧.known store).device
+            ≡ device_at (⟦<DeviceStore<D> as ImageStore>⟧.known store).capacity (D.contents device)) }
+        ensures size { IfOk result (λ store. IsCapacity (⟦<DeviceStore<D> as ImageStore>⟧.known store).capacity) }
+        ensures honesty { IfOk result (λ store. (⟦<DeviceStore<D> as ImageStore>⟧.known store).honest ≡ D.honest device) }
+        ensures soundness { IsTrue (D.sound device) → IfOk result (λ store. (⟦<DeviceStore<D> as ImageStore>⟧.known store).sound
+            ≡ has_room (D.room device) (⟦<DeviceStore<D> as ImageStore>⟧.known store).capacity) }
+        ensures faultless { IfOk result (λ store. (⟦<DeviceStore<D> as ImageStore>⟧.known store).faults ≡ 0) }
 
         // It is refused exactly where these bytes are no store, or where the device failed.
         ensures bad_file { IsErrOf result FileStoreError.BadFile
@@ -179,11 +180,11 @@ impl<D: ByteDevice + Drop> DeviceStore<D> {
 
     /// The device, which holds the store.
     pub fn into_device(self) -> D
-        ensures store { IsTrue (⟦<DeviceStore<D> as ImageStore>⟧.honest self) → HoldsStore (D.contents result)
-            (⟦<DeviceStore<D> as ImageStore>⟧.capacity self) (⟦<DeviceStore<D> as ImageStore>⟧.device self) }
-        ensures honesty { D.honest result ≡ ⟦<DeviceStore<D> as ImageStore>⟧.honest self }
-        ensures soundness { ⟦<DeviceStore<D> as ImageStore>⟧.sound self ≡ (D.sound result
-            && has_room (D.room result) (⟦<DeviceStore<D> as ImageStore>⟧.capacity self)) }
+        ensures store { IsTrue (⟦<DeviceStore<D> as ImageStore>⟧.known self).honest → HoldsStore (D.contents result)
+            (⟦<DeviceStore<D> as ImageStore>⟧.known self).capacity (⟦<DeviceStore<D> as ImageStore>⟧.known self).device }
+        ensures honesty { D.honest result ≡ (⟦<DeviceStore<D> as ImageStore>⟧.known self).honest }
+        ensures soundness { (⟦<DeviceStore<D> as ImageStore>⟧.known self).sound ≡ (D.sound result
+            && has_room (D.room result) (⟦<DeviceStore<D> as ImageStore>⟧.known self).capacity) }
     {
         let DeviceStore {
             device,
@@ -371,17 +372,8 @@ impl<D: ByteDevice> ImageStore for DeviceStore<D> {
     ghost use Rattle.fw_store.specs.Faults.{Keeps, HasCause, Spends};
     ghost use Rattle.fw_store.specs.Sizes.{slot_size};
 
-    ghost honest = { λ s. D.honest s.device };
-
-    ghost sound = { λ s. D.sound s.device && has_room (D.room s.device) s.capacity };
-
-    ghost device = { λ s. device_at s.capacity (D.contents s.device) };
-
-    ghost capacity = { λ s. s.capacity };
-
-    ghost faults = { λ s. s.fault_count };
-
-    ghost fuse = { λ _. None };
+    ghost known = { λ s. known_on (D.honest s.device) (D.sound s.device) (D.room s.device) (D.contents s.device)
+        s.capacity s.fault_count };
 
     ghost sized = { λ s slot h. slot_size s.tail s.capacity (D.contents s.device) (s.laid_out h) slot };
 
@@ -403,8 +395,11 @@ impl<D: ByteDevice> ImageStore for DeviceStore<D> {
             ≡ with_head (device_at self.old.capacity (D.contents self.old.device)) (bytes_of bytes.now)) }
         ensures same { IsTrue (D.honest self.old.device) → OnErr result (device_at self.new.capacity (D.contents self.new.device)
             ≡ device_at self.old.capacity (D.contents self.old.device)) }
-        ensures kept { Keeps (λ s. D.honest s.device) (λ s. D.sound s.device && has_room (D.room s.device) s.capacity)
-            (λ s. s.capacity) (λ s. s.fault_count) self.old self.new }
+        ensures kept { Keeps
+            (known_on (D.honest self.old.device) (D.sound self.old.device) (D.room self.old.device) (D.contents self.old.device)
+            self.old.capacity self.old.fault_count)
+            (known_on (D.honest self.new.device) (D.sound self.new.device) (D.room self.new.device) (D.contents self.new.device)
+            self.new.capacity self.new.fault_count) }
         ensures cause { HasCause (D.sound self.old.device && has_room (D.room self.old.device) self.old.capacity)
             self.old.fault_count self.new.fault_count result }
         ensures spends { Spends 1 None None (is_ok result) }

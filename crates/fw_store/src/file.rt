@@ -218,8 +218,8 @@ impl DeviceStore<FileDevice> {
         block_size: u32,
         factory: &[u8],
     ) -> Result<FileStore, FileStoreError>
-        ensures size { IfOk result (λ store. ⟦<DeviceStore<FileDevice> as ImageStore>⟧.capacity store ≡ capacity) }
-        ensures faultless { IfOk result (λ store. ⟦<DeviceStore<FileDevice> as ImageStore>⟧.faults store ≡ 0) }
+        ensures size { IfOk result (λ store. (⟦<DeviceStore<FileDevice> as ImageStore>⟧.known store).capacity ≡ capacity) }
+        ensures faultless { IfOk result (λ store. (⟦<DeviceStore<FileDevice> as ImageStore>⟧.known store).faults ≡ 0) }
         ensures setup { OnOk result (IsSetup HeaderVersion.Two block_size capacity factory.now) }
         ensures bad_setup { IsErrOf result FileStoreError.BadSetup → ¬ IsSetup HeaderVersion.Two block_size capacity factory.now }
         ensures fault { IsErrOf result FileStoreError.StoreFault → IsSetup HeaderVersion.Two block_size capacity factory.now }
@@ -258,8 +258,8 @@ impl DeviceStore<FileDevice> {
         rt: &R,
         path: P,
     ) -> Result<FileStore, FileStoreError>
-        ensures size { IfOk result (λ store. IsCapacity (⟦<DeviceStore<FileDevice> as ImageStore>⟧.capacity store)) }
-        ensures faultless { IfOk result (λ store. ⟦<DeviceStore<FileDevice> as ImageStore>⟧.faults store ≡ 0) }
+        ensures size { IfOk result (λ store. IsCapacity (⟦<DeviceStore<FileDevice> as ImageStore>⟧.known store).capacity) }
+        ensures faultless { IfOk result (λ store. (⟦<DeviceStore<FileDevice> as ImageStore>⟧.known store).faults ≡ 0) }
         ensures refusals { IfErr result IsReopenRefusal }
     {
         let device = FileDevice::open(rt, path.path_text())?;

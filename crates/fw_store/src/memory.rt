@@ -156,7 +156,7 @@ impl MemoryStore {
 
 // Each call of the device has one more clause than any store's: `fused` says exactly when it fails.
 impl ImageStore for MemoryStore {
-    ghost use Rattle.std.specs.Prelude.{true, Some};
+    ghost use Rattle.std.specs.Prelude.{Some};
     ghost use Rattle.fw_store.specs.declared.fuse.Fuse.{Fuse};
     ghost use Rattle.fw_store.specs.Memory.{
       device_of,
@@ -164,21 +164,12 @@ impl ImageStore for MemoryStore {
       faults_of,
       fuse_of,
       is_sound,
+      known_of,
       slot_size,
       IsFused,
     };
 
-    ghost honest = { λ _. true };
-
-    ghost sound = { is_sound };
-
-    ghost device = { device_of };
-
-    ghost capacity = { capacity_of };
-
-    ghost faults = { faults_of };
-
-    ghost fuse = { fuse_of };
+    ghost known = { known_of };
 
     ghost sized = { λ m slot _. slot_size m slot };
 
@@ -193,7 +184,7 @@ impl ImageStore for MemoryStore {
     fn header(&mut self) -> Result<HeaderBytes, StoreFault>
         ensures done { IfOk result (λ bytes. bytes_of bytes ≡ (device_of self.old).head) }
         ensures same { device_of self.new ≡ device_of self.old }
-        ensures kept { Keeps (λ _. true) is_sound capacity_of faults_of self.old self.new }
+        ensures kept { Keeps (known_of self.old) (known_of self.new) }
         ensures cause { HasCause (is_sound self.old) (faults_of self.old) (faults_of self.new) result }
         ensures spends { Spends 1 (fuse_of self.old) (fuse_of self.new) (is_ok result) }
         ensures fused { IsFused self.old self.new (is_ok result) }
@@ -205,7 +196,7 @@ impl ImageStore for MemoryStore {
     fn write_header(&mut self, bytes: &HeaderBytes) -> Result<(), StoreFault>
         ensures done { OnOk result (device_of self.new ≡ with_head (device_of self.old) (bytes_of bytes.now)) }
         ensures same { OnErr result (device_of self.new ≡ device_of self.old) }
-        ensures kept { Keeps (λ _. true) is_sound capacity_of faults_of self.old self.new }
+        ensures kept { Keeps (known_of self.old) (known_of self.new) }
         ensures cause { HasCause (is_sound self.old) (faults_of self.old) (faults_of self.new) result }
         ensures spends { Spends 1 (fuse_of self.old) (fuse_of self.new) (is_ok result) }
         ensures fused { IsFused self.old self.new (is_ok result) }
@@ -219,7 +210,7 @@ impl ImageStore for MemoryStore {
         requires { at + length out.old ≤ capacity_of self.old }
         ensures done { OnOk result (out.new ≡ slice_range (slot_bytes (device_of self.old) slot) at (at + length out.old)) }
         ensures same { device_of self.new ≡ device_of self.old }
-        ensures kept { Keeps (λ _. true) is_sound capacity_of faults_of self.old self.new }
+        ensures kept { Keeps (known_of self.old) (known_of self.new) }
         ensures cause { HasCause (is_sound self.old) (faults_of self.old) (faults_of self.new) result }
         ensures spends { Spends 1 (fuse_of self.old) (fuse_of self.new) (is_ok result) }
         ensures fused { IsFused self.old self.new (is_ok result) }
@@ -237,7 +228,7 @@ impl ImageStore for MemoryStore {
         requires { at + length bytes.now ≤ capacity_of self.old }
         ensures done { OnOk result (device_of self.new ≡ written (device_of self.old) slot at bytes.now) }
         ensures torn { OnErr result (Torn (device_of self.old) slot at (length bytes.now) (device_of self.new)) }
-        ensures kept { Keeps (λ _. true) is_sound capacity_of faults_of self.old self.new }
+        ensures kept { Keeps (known_of self.old) (known_of self.new) }
         ensures cause { HasCause (is_sound self.old) (faults_of self.old) (faults_of self.new) result }
         ensures spends { Spends 1 (fuse_of self.old) (fuse_of self.new) (is_ok result) }
         ensures fused { IsFused self.old self.new (is_ok result) }

@@ -1,8 +1,9 @@
 //! What an image store is.
 
-ghost use Rattle.std.specs.Prelude.{◌≡◌, ◌+◌, ◌≤◌, ℕ, Bool, Option, Some, IsTrue, IfOk, OnOk, OnErr, is_ok, length, slice_range};
-ghost use Rattle.fw_store.specs.Device.{Device, slot_bytes, with_head, written, Torn};
+ghost use Rattle.std.specs.Prelude.{◌≡◌, ◌+◌, ◌≤◌, Some, IsTrue, IfOk, OnOk, OnErr, is_ok, length, slice_range};
+ghost use Rattle.fw_store.specs.Device.{slot_bytes, with_head, written, Torn};
 ghost use Rattle.fw_store.specs.Faults.{Keeps, HasCause, Spends};
+ghost use Rattle.fw_store.specs.Known.{Known};
 ghost use Rattle.fw_store.specs.Versions.{bytes_of};
 ghost use Rattle.fw_store.specs.Fuse.{half_torn};
 ghost use Rattle.fw_store.specs.declared.fuse.Fuse.{Fuse};
@@ -20,29 +21,16 @@ use crate::version::HeaderBytes;
 /// of a store with a fuse, the call is one of them, or fails. Of an honest store, whose contents are known: reads give what was last
 /// written, the header is written whole or not at all, and a write that fails leaves any bytes in its own range and nowhere else.
 pub trait ImageStore {
-    /// Whether the store keeps what is written, as said below.
-    ghost honest: { Self → Bool };
-
-    /// Whether no call fails.
-    ghost sound: { Self → Bool };
-
-    /// What an honest store holds.
-    ghost device: { Self → Device };
-
-    ghost capacity: { Self → ℕ };
-
-    ghost faults: { Self → ℕ };
-
-    /// How many calls succeed before all fail, and the byte that a failing write leaves, where that is known.
-    ghost fuse: { Self → Option Fuse };
+    /// What is known of the store.
+    ghost known: { Self → Known };
 
     /// The size of each slot in bytes.
     fn capacity(&self) -> u32
-        ensures { result ≡ capacity self.now };
+        ensures { result ≡ (known self.now).capacity };
 
     /// How often the device has failed, up to 2^64 - 1.
     fn faults(&self) -> u64
-        ensures { result ≡ faults self.now };
+        ensures { result ≡ (known self.now).faults };
 
     /// The header, in the version that was written last.
     ///
@@ -50,11 +38,11 @@ pub trait ImageStore {
     ///
     /// `StoreFault` where the device failed.
     fn header(&mut self) -> Result<HeaderBytes, StoreFault>
-        ensures done { IsTrue (honest self.old) → IfOk result (λ bytes. bytes_of bytes ≡ (device self.old).head) }
-        ensures same { IsTrue (honest self.old) → device self.new ≡ device self.old }
-        ensures kept { Keeps honest sound capacity faults self.old self.new }
-        ensures cause { HasCause (sound self.old) (faults self.old) (faults self.new) result }
-        ensures spends { Spends 1 (fuse self.old) (fuse self.new) (is_ok result) };
+        ensures done { IsTrue (known self.old).honest → IfOk result (λ bytes. bytes_of bytes ≡ (known self.old).device.head) }
+        ensures same { IsTrue (known self.old).honest → (known self.new).device ≡ (known self.old).device }
+        ensures kept { Keeps (known self.old) (known self.new) }
+        ensures cause { HasCause (known self.old).sound (known self.old).faults (known self.new).faults result }
+        ensures spends { Spends 1 (known self.old).fuse (known self.new).fuse (is_ok result) };
 
     /// Replaces the header, of either version, by one of either.
     ///
@@ -62,12 +50,12 @@ pub trait ImageStore {
     ///
     /// `StoreFault` where the device failed. The old header then stands.
     fn write_header(&mut self, bytes: &HeaderBytes) -> Result<(), StoreFault>
-        ensures done { IsTrue (honest self.old)
-            → OnOk result (device self.new ≡ with_head (device self.old) (bytes_of bytes.now)) }
-        ensures same { IsTrue (honest self.old) → OnErr result (device self.new ≡ device self.old) }
-        ensures kept { Keeps honest sound capacity faults self.old self.new }
-        ensures cause { HasCause (sound self.old) (faults self.old) (faults self.new) result }
-        ensures spends { Spends 1 (fuse self.old) (fuse self.new) (is_ok result) };
+        ensures done { IsTrue (known self.old).honest
+            → OnOk result ((known self.new).device ≡ with_head (known self.old).device (bytes_of bytes.now)) }
+        ensures same { IsTrue (known self.old).honest → OnErr result ((known self.new).device ≡ (known self.old).device) }
+        ensures kept { Keeps (known self.old) (known self.new) }
+        ensures cause { HasCause (known self.old).sound (known self.old).faults (known self.new).faults result }
+        ensures spends { Spends 1 (known self.old).fuse (known self.new).fuse (is_ok result) };
 
     /// Fills `out` with the bytes of a slot from `at` on.
     ///
@@ -75,13 +63,13 @@ pub trait ImageStore {
     ///
     /// `StoreFault` where the device failed. `out` may then have any bytes.
     fn read(&mut self, slot: Slot, at: u32, out: &mut [u8]) -> Result<(), StoreFault>
-        requires { at + length out.old ≤ capacity self.old }
-        ensures done { IsTrue (honest self.old)
-            → OnOk result (out.new ≡ slice_range (slot_bytes (device self.old) slot) at (at + length out.old)) }
-        ensures same { IsTrue (honest self.old) → device self.new ≡ device self.old }
-        ensures kept { Keeps honest sound capacity faults self.old self.new }
-        ensures cause { HasCause (sound self.old) (faults self.old) (faults self.new) result }
-        ensures spends { Spends 1 (fuse self.old) (fuse self.new) (is_ok result) };
+        requires { at + length out.old ≤ (known self.old).capacity }
+        ensures done { IsTrue (known self.old).honest
+            → OnOk result (out.new ≡ slice_range (slot_bytes (known self.old).device slot) at (at + length out.old)) }
+        ensures same { IsTrue (known self.old).honest → (known self.new).device ≡ (known self.old).device }
+        ensures kept { Keeps (known self.old) (known self.new) }
+        ensures cause { HasCause (known self.old).sound (known self.old).faults (known self.new).faults result }
+        ensures spends { Spends 1 (known self.old).fuse (known self.new).fuse (is_ok result) };
 
     /// Writes bytes into a slot from `at` on.
     ///
@@ -90,17 +78,17 @@ pub trait ImageStore {
     /// `StoreFault` where the device failed. Any bytes may then stand in their place; those of a store with a fuse are the first half
     /// of the bytes, rounded down, and the fuse's byte in the rest.
     fn write(&mut self, slot: Slot, at: u32, bytes: &[u8]) -> Result<(), StoreFault>
-        requires { at + length bytes.now ≤ capacity self.old }
-        ensures done { IsTrue (honest self.old)
-            → OnOk result (device self.new ≡ written (device self.old) slot at bytes.now) }
-        ensures torn { IsTrue (honest self.old)
-            → OnErr result (Torn (device self.old) slot at (length bytes.now) (device self.new)) }
-        ensures halves { IsTrue (honest self.old) → (set : Fuse) → fuse self.old ≡ Some set
-            → OnErr result (device self.new ≡ written (device self.old) slot at (half_torn bytes.now set.torn)) }
-        ensures kept { Keeps honest sound capacity faults self.old self.new }
-        ensures cause { HasCause (sound self.old) (faults self.old) (faults self.new) result }
-        ensures spends { Spends 1 (fuse self.old) (fuse self.new) (is_ok result) };
+        requires { at + length bytes.now ≤ (known self.old).capacity }
+        ensures done { IsTrue (known self.old).honest
+            → OnOk result ((known self.new).device ≡ written (known self.old).device slot at bytes.now) }
+        ensures torn { IsTrue (known self.old).honest
+            → OnErr result (Torn (known self.old).device slot at (length bytes.now) (known self.new).device) }
+        ensures halves { IsTrue (known self.old).honest → (set : Fuse) → (known self.old).fuse ≡ Some set
+            → OnErr result ((known self.new).device ≡ written (known self.old).device slot at (half_torn bytes.now set.torn)) }
+        ensures kept { Keeps (known self.old) (known self.new) }
+        ensures cause { HasCause (known self.old).sound (known self.old).faults (known self.new).faults result }
+        ensures spends { Spends 1 (known self.old).fuse (known self.new).fuse (is_ok result) };
 
     /// Each slot of an honest store has the capacity.
-    ghost sized: { (s : Self) (slot : Slot) → IsTrue (honest s) → length (slot_bytes (device s) slot) ≡ capacity s };
+    ghost sized: { (s : Self) (slot : Slot) → IsTrue (known s).honest → length (slot_bytes (known s).device slot) ≡ (known s).capacity };
 }
