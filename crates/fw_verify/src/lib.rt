@@ -68,7 +68,7 @@ impl Digesting {
     ///
     /// `StoreFault` where the device failed. As many bytes as before are then taken.
     pub fn step<S: ImageStore>(&mut self, store: &mut S) -> Result<bool, StoreFault>
-        requires { self.old.size ≤ S.capacity store.old }
+        requires { self.old.size ≤ (S.known store.old).capacity }
         ensures slot { self.new.slot ≡ self.old.slot }
         ensures size { self.new.size ≡ self.old.size }
         ensures taken { OnOk result (self.new.taken ≡ min (self.old.taken + slice_size) self.old.size) }
@@ -76,12 +76,12 @@ impl Digesting {
         ensures err { OnErr result (self.new ≡ self.old) }
 
         // Of an honest store it is the digest of what the slot holds, if it was that before.
-        ensures fed { IsTrue (S.honest store.old) → IsDigesting self.old (slot_bytes (S.device store.old) self.old.slot)
-            → IsDigesting self.new (slot_bytes (S.device store.old) self.old.slot) }
-        ensures same { IsTrue (S.honest store.old) → S.device store.new ≡ S.device store.old }
-        ensures kept { Keeps S.honest S.sound S.capacity S.faults store.old store.new }
-        ensures cause { HasCause (S.sound store.old) (S.faults store.old) (S.faults store.new) result }
-        ensures spends { Spends (reads_left self.old) (S.fuse store.old) (S.fuse store.new) (is_ok result) }
+        ensures fed { IsTrue (S.known store.old).honest → IsDigesting self.old (slot_bytes (S.known store.old).device self.old.slot)
+            → IsDigesting self.new (slot_bytes (S.known store.old).device self.old.slot) }
+        ensures same { IsTrue (S.known store.old).honest → (S.known store.new).device ≡ (S.known store.old).device }
+        ensures kept { Keeps (S.known store.old) (S.known store.new) }
+        ensures cause { HasCause (S.known store.old).sound (S.known store.old).faults (S.known store.new).faults result }
+        ensures spends { Spends (reads_left self.old) (S.known store.old).fuse (S.known store.new).fuse (is_ok result) }
     {
         if self.taken == self.size {
             return Ok(true);
@@ -108,17 +108,17 @@ impl Digesting {
 ///
 /// `StoreFault` where the device failed. It is not asked again then.
 pub fn digest<S: ImageStore>(store: &mut S, slot: Slot, size: u32) -> Result<[u8; 32], StoreFault>
-    requires { size ≤ S.capacity store.old }
+    requires { size ≤ (S.known store.old).capacity }
 
     // Of an honest store it is the digest of what the slot holds.
-    ensures digest { IsTrue (S.honest store.old)
-        → IfOk result (λ digest. digest ≡ sha256 (take size (slot_bytes (S.device store.old) slot))) }
-    ensures same { IsTrue (S.honest store.old) → S.device store.new ≡ S.device store.old }
-    ensures kept { Keeps S.honest S.sound S.capacity S.faults store.old store.new }
-    ensures cause { HasCause (S.sound store.old) (S.faults store.old) (S.faults store.new) result }
+    ensures digest { IsTrue (S.known store.old).honest
+        → IfOk result (λ digest. digest ≡ sha256 (take size (slot_bytes (S.known store.old).device slot))) }
+    ensures same { IsTrue (S.known store.old).honest → (S.known store.new).device ≡ (S.known store.old).device }
+    ensures kept { Keeps (S.known store.old) (S.known store.new) }
+    ensures cause { HasCause (S.known store.old).sound (S.known store.old).faults (S.known store.new).faults result }
 
     // Each slice is read once.
-    ensures spends { Spends (slice_count size) (S.fuse store.old) (S.fuse store.new) (is_ok result) }
+    ensures spends { Spends (slice_count size) (S.known store.old).fuse (S.known store.new).fuse (is_ok result) }
 {
     laws::calls_add();
     laws::calls_end();
@@ -136,15 +136,15 @@ fn take_slice<S: ImageStore>(
     hasher: &mut Sha256,
 ) -> Result<(), StoreFault>
     requires short { count ≤ SLICE_SIZE }
-    requires within { at + count ≤ S.capacity store.old }
-    ensures fed { IsTrue (S.honest store.old)
-        → OnOk result (Holds256 hasher.old (take at (slot_bytes (S.device store.old) slot))
-        → Holds256 hasher.new (take (at + count) (slot_bytes (S.device store.old) slot))) }
+    requires within { at + count ≤ (S.known store.old).capacity }
+    ensures fed { IsTrue (S.known store.old).honest
+        → OnOk result (Holds256 hasher.old (take at (slot_bytes (S.known store.old).device slot))
+        → Holds256 hasher.new (take (at + count) (slot_bytes (S.known store.old).device slot))) }
     ensures err { OnErr result (hasher.new ≡ hasher.old) }
-    ensures same { IsTrue (S.honest store.old) → S.device store.new ≡ S.device store.old }
-    ensures kept { Keeps S.honest S.sound S.capacity S.faults store.old store.new }
-    ensures cause { HasCause (S.sound store.old) (S.faults store.old) (S.faults store.new) result }
-    ensures spends { Spends 1 (S.fuse store.old) (S.fuse store.new) (is_ok result) }
+    ensures same { IsTrue (S.known store.old).honest → (S.known store.new).device ≡ (S.known store.old).device }
+    ensures kept { Keeps (S.known store.old) (S.known store.new) }
+    ensures cause { HasCause (S.known store.old).sound (S.known store.old).faults (S.known store.new).faults result }
+    ensures spends { Spends 1 (S.known store.old).fuse (S.known store.new).fuse (is_ok result) }
 {
     let mut buffer = [0; SLICE_SIZE as usize];
     let slice = &mut buffer[..count as usize];

@@ -22,7 +22,7 @@ loop-preserved g c =
     let s = g.S.ImageStore in
     let was = c.loop.invariant in
     let told = c.in_ok-step.ensures in
-    let honest : IsTrue (s.honest c.args.store.now) → IsTrue (s.honest c.loop.store) = λ h. rw was.kept.honesty h in
+    let honest : IsTrue (s.known c.args.store.now).honest → IsTrue (s.known c.loop.store).honest = λ h. rw was.kept.honesty h in
     let taken : c.step.new.self.taken ≡ min (c.loop.digesting.taken + 4096) c.args.size = rw (← was.size) told.taken in
     record {
       slot = told.slot ∙ was.slot;
@@ -33,8 +33,8 @@ loop-preserved g c =
       faultless = told.cause.counted ∙ was.faultless;
       spends =
           let more = slice_more c.loop.digesting.taken c.args.size c.step.new.self.taken was.within was.whole taken in
-          subst (λ (n : ℕ). Spends n (s.fuse c.args.store.now) (s.fuse c.step.new.store) true) more
-          (c.calls_add.ensures (slice_count c.loop.digesting.taken) _ (s.fuse c.args.store.now) (s.fuse c.loop.store) (s.fuse c.step.new.store) true was.spends (rw (← was.size) told.spends));
+          subst (λ (n : ℕ). Spends n (s.known c.args.store.now).fuse (s.known c.step.new.store).fuse true) more
+          (c.calls_add.ensures (slice_count c.loop.digesting.taken) _ (s.known c.args.store.now).fuse (s.known c.loop.store).fuse (s.known c.step.new.store).fuse true was.spends (rw (← was.size) told.spends));
       same = λ h. told.same (honest h) ∙ was.same h;
       fed = λ h. (rw (was.same h, was.slot) at (told.fed (honest h))) (was.fed h);
     }
@@ -43,9 +43,9 @@ pub returns-in_err-step-clause-spends : goal.returns-in_err-step-clause-spends
 returns-in_err-step-clause-spends g c =
     let s = g.S.ImageStore in
     let was = c.loop.invariant in
-    let old = s.fuse c.args.store.now in
-    let new = s.fuse c.step.new.store in
-    let ended = c.calls_add.ensures (slice_count c.loop.digesting.taken) _ old (s.fuse c.loop.store) new false was.spends (rw (← was.size) c.in_err-step.ensures.spends) in
+    let old = (s.known c.args.store.now).fuse in
+    let new = (s.known c.step.new.store).fuse in
+    let ended = c.calls_add.ensures (slice_count c.loop.digesting.taken) _ old (s.known c.loop.store).fuse new false was.spends (rw (← was.size) c.in_err-step.ensures.spends) in
     rw (not_ok c.from_residual.result c.from_residual.ensures.0)
     (c.calls_end.ensures _ (slice_count c.args.size) old new (slices_rise c.loop.digesting.taken c.args.size was.within was.whole) ended)
 
@@ -56,5 +56,5 @@ returns-clause-spends g c =
     let told = c.in_ok-step.ensures in
     let taken : c.step.new.self.taken ≡ min (c.loop.digesting.taken + 4096) c.args.size = rw (← was.size) told.taken in
     let all : c.step.new.self.taken ≡ c.args.size = told.all.0 c.if-not-branch.false ∙ told.size ∙ was.size in
-    subst (λ (n : ℕ). Spends n (s.fuse c.args.store.now) (s.fuse c.step.new.store) true) (slice_more c.loop.digesting.taken c.args.size c.args.size was.within was.whole (sym all ∙ taken))
-    (c.calls_add.ensures (slice_count c.loop.digesting.taken) _ (s.fuse c.args.store.now) (s.fuse c.loop.store) (s.fuse c.step.new.store) true was.spends (rw (← was.size) told.spends))
+    subst (λ (n : ℕ). Spends n (s.known c.args.store.now).fuse (s.known c.step.new.store).fuse true) (slice_more c.loop.digesting.taken c.args.size c.args.size was.within was.whole (sym all ∙ taken))
+    (c.calls_add.ensures (slice_count c.loop.digesting.taken) _ (s.known c.args.store.now).fuse (s.known c.loop.store).fuse (s.known c.step.new.store).fuse true was.spends (rw (← was.size) told.spends))

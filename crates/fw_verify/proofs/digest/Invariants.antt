@@ -13,11 +13,11 @@ invariant-loop g l =
       size : l.digesting.size ≡ l.fn.size;
       within : l.digesting.taken ≤ l.fn.size;
       whole : l.digesting.taken < l.fn.size → l.digesting.taken % 4096 ≡ 0;
-      kept : Keeps s.honest s.sound s.capacity s.faults l.fn.store l.store;
-      faultless : s.faults l.store ≡ s.faults l.fn.store;
-      spends : Spends (slice_count l.digesting.taken) (s.fuse l.fn.store) (s.fuse l.store) true;
-      same : IsTrue (s.honest l.fn.store) → s.device l.store ≡ s.device l.fn.store;
-      fed : IsTrue (s.honest l.fn.store) → IsDigesting l.digesting (slot_bytes (s.device l.fn.store) l.fn.slot);
+      kept : Keeps (s.known l.fn.store) (s.known l.store);
+      faultless : (s.known l.store).faults ≡ (s.known l.fn.store).faults;
+      spends : Spends (slice_count l.digesting.taken) (s.known l.fn.store).fuse (s.known l.store).fuse true;
+      same : IsTrue (s.known l.fn.store).honest → (s.known l.store).device ≡ (s.known l.fn.store).device;
+      fed : IsTrue (s.known l.fn.store).honest → IsDigesting l.digesting (slot_bytes (s.known l.fn.store).device l.fn.slot);
     }
 
 abbrev pub decreases-loop : goal.decreases-loop

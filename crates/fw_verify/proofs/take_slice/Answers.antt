@@ -9,7 +9,7 @@ take_range xs a n = let e : a + n - a ≡ n = omega arith in rw (e, take-add a n
 
 pub returns-clause-fed : goal.returns-clause-fed
 returns-clause-fed g c = λ honest held.
-    let stored = slot_bytes (g.S.ImageStore.device c.args.store.now) c.args.slot in
+    let stored = slot_bytes (g.S.ImageStore.known c.args.store.now).device c.args.slot in
     let read : c.read.new.out ≡ slice_range stored c.args.at (c.args.at + c.args.count) = search rules in
     let part = ap (λ (out : List ℕ). take c.args.at stored ++ out) read ∙ take_range stored c.args.at c.args.count in
     subst (λ (m : List ℕ). Holds256 c.update.new.self m) part (c.update.ensures (take c.args.at stored) held)
