@@ -13,7 +13,7 @@ use Rattle.fw_store.specs.Layout.{header_bytes}
 use Rattle.fw_store.specs.Header.{IsHeader, IsGoal, FieldsFit, goal_count, has_goal}
 use Rattle.fw_store.specs.Versions.{block_limit}
 use Rattle.fw_store.specs.declared.slot.Slot.{Slot}
-use Rattle.fw_store.specs.declared.store.ImageStore.{Ghosts}
+use Rattle.fw_store.specs.Known.{Known}
 use Rattle.fw_store.specs.declared.header.Header.{Header}
 use Rattle.fw_store.specs.declared.header.Goal.{Goal}
 use Rattle.fw_store.specs.declared.header.StoredStatus.{StoredStatus}
@@ -28,9 +28,9 @@ use Rattle.fw_image.specs.declared.error.Refusal.TheVariants.{Missing, Fault, Di
 use Rattle.fw_image.specs.State.{Turns}
 use Rattle.fw_image.specs.Calls.{calls_for, turn_calls}
 use Rattle.fw_image.specs.Moves.{judged, verify_outcome}
-use Rattle.fw_image.specs.Stored.{phase_of, phase_at, meter_of, meter_at, seen, IsVerifying}
+use Rattle.fw_image.specs.Stored.{phase_of, phase_at, meter_of, meter_at, seen, IsVerifying, state_of}
 use Rattle.fw_image.proofs.Meters.{SameSlots, seen_same, status_kept, goal_at, phase_received, phase_verified, reopened_at}
-use Rattle.fw_image.proofs.Moves.{leaves, genuine_with, genuine_from, seen_of, meter_in, state_in, Rewrites, rewrites}
+use Rattle.fw_image.proofs.Moves.{leaves, genuine_with, genuine_from, seen_of, meter_in, Rewrites, rewrites}
 
 -- ---- a goal that is received
 
@@ -241,14 +241,14 @@ spends_none left = record {
   used = λ set e. let same : set.calls ≡ set.calls - 0 = omega arith in e ∙ ap (λ (n : ℕ). Some (record set { calls = n })) same;
 }
 
-pub turns_none : {S : Type 0} (t : Ghosts S) (s : S) (h : Header) → Turns (state_in t s h None) (state_in t s h None)
-turns_none t s h = record {
+pub turns_none : (s : Known) (h : Header) → Turns (state_of s h None) (state_of s h None)
+turns_none s h = record {
   faultless = true;
-  turn = still_turn h.status h.goal (t.honest s) (meter_in t s h None);
+  turn = still_turn h.status h.goal s.honest (meter_in s h None);
   untouched = λ _. refl;
   follows = record { honesty = refl; soundness = λ e. e; later = omega arith };
   counts = record { counted = refl; never = λ _. refl };
-  spends = subst (λ (n : ℕ). Spends n (t.fuse s) (t.fuse s) true) (sym (no_calls h.status h.goal)) (spends_none (t.fuse s));
+  spends = subst (λ (n : ℕ). Spends n s.fuse s.fuse true) (sym (no_calls h.status h.goal)) (spends_none s.fuse);
 }
 
 -- the reads of a slice, where `taken` of `size` bytes are taken
@@ -284,67 +284,67 @@ pub turn_some : (goal : Goal) (taken : ℕ) → 1 ≤ turn_calls (verifying goal
 turn_some goal taken = some_calls taken goal.size
 
 -- what a turn of a verification comes to
-turns_in : {S : Type 0} (t : Ghosts S) (s s' : S) (h h' : Header) (progress : Progress) (digesting : Option Progress) (faultless : Bool) → (is : IsVerifying t.honest t.device s h progress)
-    → Keeps t.honest t.sound t.capacity t.faults s s' → t.faults s' ≡ count_after faultless (t.faults s) → (IsTrue (t.sound s) → IsTrue faultless)
-    → Spends (turn_calls (verifying is.goal progress.taken)) (t.fuse s) (t.fuse s') faultless
-    → TurnsIn (verifying is.goal progress.taken) (t.honest s) (meter_in t s h (Some progress)) faultless (meter_at (t.capacity s) h' digesting (seen (t.honest s) (t.capacity s) (t.device s')))
-    → Turns (state_in t s h (Some progress)) (state_in t s' h' digesting)
-turns_in t s s' h h' progress digesting faultless is keeps counted never spends turns =
-    let phase = phase_verified t.honest t.device s h progress is in
+turns_in : (s s' : Known) (h h' : Header) (progress : Progress) (digesting : Option Progress) (faultless : Bool) → (is : IsVerifying s h progress)
+    → Keeps s s' → s'.faults ≡ count_after faultless s.faults → (IsTrue s.sound → IsTrue faultless)
+    → Spends (turn_calls (verifying is.goal progress.taken)) s.fuse s'.fuse faultless
+    → TurnsIn (verifying is.goal progress.taken) s.honest (meter_in s h (Some progress)) faultless (meter_at s.capacity h' digesting (seen s.honest s.capacity s'.device))
+    → Turns (state_of s h (Some progress)) (state_of s' h' digesting)
+turns_in s s' h h' progress digesting faultless is keeps counted never spends turns =
+    let phase = phase_verified s h progress is in
     record {
       faultless = faultless;
       turn =
-          subst (λ (p : Phase). TurnsIn p (t.honest s) (meter_in t s h (Some progress)) faultless (meter_in t s' h' digesting)) (sym phase)
+          subst (λ (p : Phase). TurnsIn p s.honest (meter_in s h (Some progress)) faultless (meter_in s' h' digesting)) (sym phase)
           (rw (keeps.honesty, keeps.size) turns);
       untouched = λ other. absurd (other (ap status_of phase));
       follows = record { honesty = keeps.honesty; soundness = keeps.soundness; later = keeps.later };
       counts = record { counted = counted; never = never };
-      spends = subst (λ (p : Phase). Spends (turn_calls p) (t.fuse s) (t.fuse s') faultless) (sym phase) spends;
+      spends = subst (λ (p : Phase). Spends (turn_calls p) s.fuse s'.fuse faultless) (sym phase) spends;
     }
 
 -- a slice more
-pub turns_on : {S : Type 0} (t : Ghosts S) (s s' : S) (h : Header) (progress next : Progress) → IsVerifying t.honest t.device s h progress
-    → Keeps t.honest t.sound t.capacity t.faults s s' → (IsTrue (t.honest s) → t.device s' ≡ t.device s) → t.faults s' ≡ t.faults s
-    → Spends (reads_left progress) (t.fuse s) (t.fuse s') true → next.taken ≡ min (progress.taken + slice_size) progress.size → next.taken ≢ progress.size
-    → Turns (state_in t s h (Some progress)) (state_in t s' h (Some next))
-turns_on t s s' h progress next is keeps same uncounted spends taken left =
+pub turns_on : (s s' : Known) (h : Header) (progress next : Progress) → IsVerifying s h progress
+    → Keeps s s' → (IsTrue s.honest → s'.device ≡ s.device) → s'.faults ≡ s.faults
+    → Spends (reads_left progress) s.fuse s'.fuse true → next.taken ≡ min (progress.taken + slice_size) progress.size → next.taken ≢ progress.size
+    → Turns (state_of s h (Some progress)) (state_of s' h (Some next))
+turns_on s s' h progress next is keeps same uncounted spends taken left =
     let most : next.taken ≡ min (progress.taken + 4096) progress.size = taken in
     let more : progress.taken + 4096 < is.goal.size = omega (arith, most, left, is.size) in
     let sum : next.taken ≡ progress.taken + 4096 = omega (arith, most, is.size) in
-    let d : seen (t.honest s) (t.capacity s) (t.device s') ≡ seen_of t s = seen_same (t.honest s) (t.capacity s) (t.device s) (t.device s') same in
+    let d : seen s.honest s.capacity s'.device ≡ seen_of s = seen_same s.honest s.capacity s.device s'.device same in
     let phase : phase_at (Some next) (phase_of h.status h.goal) ≡ verifying is.goal (progress.taken + 4096) =
     ap (λ (p : Phase). digested_phase p next.taken) (phase_received h is.goal is.receives is.there) ∙ ap (verifying is.goal) sum in
-    turns_in t s s' h h progress (Some next) true is keeps uncounted (λ _. refl)
-    (subst (λ (n : ℕ). Spends n (t.fuse s) (t.fuse s') true) (reads_some progress is.more ∙ sym (turn_more is.goal progress.taken more)) spends)
-    (inl (more, leaves (t.honest s) _ _ (λ i. record (meter_of (t.capacity s) h (d i)) { phase = phase i })))
+    turns_in s s' h h progress (Some next) true is keeps uncounted (λ _. refl)
+    (subst (λ (n : ℕ). Spends n s.fuse s'.fuse true) (reads_some progress is.more ∙ sym (turn_more is.goal progress.taken more)) spends)
+    (inl (more, leaves s.honest _ _ (λ i. record (meter_of s.capacity h (d i)) { phase = phase i })))
 
 -- a call that failed
-pub turns_failed : {S : Type 0} (t : Ghosts S) (s s' : S) (h : Header) (progress : Progress) → (is : IsVerifying t.honest t.device s h progress)
-    → Keeps t.honest t.sound t.capacity t.faults s s' → (IsTrue (t.honest s) → t.device s' ≡ t.device s) → t.faults s' ≡ count_after false (t.faults s) → (IsTrue (t.sound s) → IsTrue false)
-    → Spends (turn_calls (verifying is.goal progress.taken)) (t.fuse s) (t.fuse s') false
-    → Turns (state_in t s h (Some progress)) (state_in t s' h None)
-turns_failed t s s' h progress is keeps same counted never spends =
-    let d : seen (t.honest s) (t.capacity s) (t.device s') ≡ seen_of t s = seen_same (t.honest s) (t.capacity s) (t.device s) (t.device s') same in
-    turns_in t s s' h h progress None false is keeps counted never spends
-    (leaves (t.honest s) (reopened (meter_in t s h (Some progress))) _
-    (ap (meter_of (t.capacity s) h) d ∙ sym (reopened_at t.honest t.device s (t.capacity s) h (Some progress) (seen_of t s) is)))
+pub turns_failed : (s s' : Known) (h : Header) (progress : Progress) → (is : IsVerifying s h progress)
+    → Keeps s s' → (IsTrue s.honest → s'.device ≡ s.device) → s'.faults ≡ count_after false s.faults → (IsTrue s.sound → IsTrue false)
+    → Spends (turn_calls (verifying is.goal progress.taken)) s.fuse s'.fuse false
+    → Turns (state_of s h (Some progress)) (state_of s' h None)
+turns_failed s s' h progress is keeps same counted never spends =
+    let d : seen s.honest s.capacity s'.device ≡ seen_of s = seen_same s.honest s.capacity s.device s'.device same in
+    turns_in s s' h h progress None false is keeps counted never spends
+    (leaves s.honest (reopened (meter_in s h (Some progress))) _
+    (ap (meter_of s.capacity h) d ∙ sym (reopened_at s s.capacity h (Some progress) (seen_of s) is)))
 
 either : (genuine honest : Bool) (old new : Meter) → Judges honest old genuine new → Judges honest old true new ⊎ Judges honest old false new
 either true honest old new judged = inl judged
 either false honest old new judged = inr judged
 
 -- the last slice, and the judgement
-pub turns_judged : {S : Type 0} (t : Ghosts S) (s s' : S) (h : Header) (progress : Progress) (status : StoredStatus) (genuine : Bool) → (is : IsVerifying t.honest t.device s h progress)
-    → ((slot : Slot) → IsTrue (t.honest s) → length (slot_bytes (t.device s) slot) ≡ t.capacity s)
-    → Keeps t.honest t.sound t.capacity t.faults s s' → t.faults s' ≡ t.faults s → (IsTrue (t.honest s) → t.device s' ≡ with_head (t.device s) (header_bytes (record h { status = status })))
-    → Spends 2 (t.fuse s) (t.fuse s') true → is.goal.size ≤ progress.taken + slice_size
-    → ((d d' : Device) → Rewrites (t.honest s) (t.capacity s) (t.device s) d d' → Judges (t.honest s) (meter_at (t.capacity s) h (Some progress) d) genuine (meter_of (t.capacity s) (record h { status = status }) d'))
-    → Turns (state_in t s h (Some progress)) (state_in t s' (record h { status = status }) None)
-turns_judged t s s' h progress status genuine is sized keeps uncounted written spends last judged =
-    turns_in t s s' h (record h { status = status }) progress None true is keeps uncounted (λ _. refl)
-    (subst (λ (n : ℕ). Spends n (t.fuse s) (t.fuse s') true) (sym (turn_last is.goal progress.taken last)) spends)
+pub turns_judged : (s s' : Known) (h : Header) (progress : Progress) (status : StoredStatus) (genuine : Bool) → (is : IsVerifying s h progress)
+    → ((slot : Slot) → IsTrue s.honest → length (slot_bytes s.device slot) ≡ s.capacity)
+    → Keeps s s' → s'.faults ≡ s.faults → (IsTrue s.honest → s'.device ≡ with_head s.device (header_bytes (record h { status = status })))
+    → Spends 2 s.fuse s'.fuse true → is.goal.size ≤ progress.taken + slice_size
+    → ((d d' : Device) → Rewrites s.honest s.capacity s.device d d' → Judges s.honest (meter_at s.capacity h (Some progress) d) genuine (meter_of s.capacity (record h { status = status }) d'))
+    → Turns (state_of s h (Some progress)) (state_of s' (record h { status = status }) None)
+turns_judged s s' h progress status genuine is sized keeps uncounted written spends last judged =
+    turns_in s s' h (record h { status = status }) progress None true is keeps uncounted (λ _. refl)
+    (subst (λ (n : ℕ). Spends n s.fuse s'.fuse true) (sym (turn_last is.goal progress.taken last)) spends)
     (inr (
       last,
-      either genuine (t.honest s) _ _
-          (judged (seen_of t s) (seen (t.honest s) (t.capacity s) (t.device s')) (rewrites t s s' (header_bytes (record h { status = status })) sized written)),
+      either genuine s.honest _ _
+          (judged (seen_of s) (seen s.honest s.capacity s'.device) (rewrites s s' (header_bytes (record h { status = status })) sized written)),
     ))

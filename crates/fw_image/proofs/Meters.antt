@@ -6,6 +6,7 @@ use Rattle.fw_blocks.specs.Cuts.{block_count}
 use Rattle.fw_blocks.specs.Members.{has}
 use Rattle.fw_blocks.specs.Laws.{CutsJoin}
 use Rattle.fw_store.specs.Device.{Device, slot_bytes, with_head}
+use Rattle.fw_store.specs.Known.{Known}
 use Rattle.fw_store.specs.Slot.{other}
 use Rattle.fw_store.specs.Header.{IsHeader, IsGoal, has_goal, goal_count}
 use Rattle.fw_store.specs.Versions.{block_limit}
@@ -86,15 +87,15 @@ goal_at (Some progress) phase = same_goal phase progress.taken
 pub phase_received : (h : Header) (goal : Goal) → h.status ≡ Initiated → h.goal ≡ Some goal → phase_of h.status h.goal ≡ receiving goal
 phase_received h goal receives there = rw (receives, there) refl
 
-pub phase_verified : {S : Type 0} (honest : S → Bool) (device : S → Device) (store : S) (h : Header) (progress : Progress) → (is : IsVerifying honest device store h progress)
+pub phase_verified : (known : Known) (h : Header) (progress : Progress) → (is : IsVerifying known h progress)
     → phase_at (Some progress) (phase_of h.status h.goal) ≡ verifying is.goal progress.taken
-phase_verified honest device store h progress is = ap (λ (p : Phase). digested_phase p progress.taken) (phase_received h is.goal is.receives is.there)
+phase_verified known h progress is = ap (λ (p : Phase). digested_phase p progress.taken) (phase_received h is.goal is.receives is.there)
 
 -- in no other status anything is digested
-pub none_digested : {S : Type 0} (honest : S → Bool) (device : S → Device) (store : S) (h : Header) (digesting : Option Progress) → IsDigested honest device store h digesting
+pub none_digested : (known : Known) (h : Header) (digesting : Option Progress) → IsDigested known h digesting
     → (shown : TransferStatus) → status_of (phase_at digesting (phase_of h.status h.goal)) ≡ shown → (shows.VerificationInitiated ≡ shown → ⊥) → digesting ≡ None
-none_digested honest device store h None is shown status other = refl
-none_digested honest device store h (Some progress) is shown status other = absurd (other (sym (ap status_of (phase_verified honest device store h progress is)) ∙ status))
+none_digested known h None is shown status other = refl
+none_digested known h (Some progress) is shown status other = absurd (other (sym (ap status_of (phase_verified known h progress is)) ∙ status))
 
 -- no header says that a goal is verified
 reopened_kept : (status : StoredStatus) (goal : Option Goal) → reopened_phase (phase_of status goal) ≡ phase_of status goal
@@ -108,12 +109,12 @@ reopened_kept VerificationFailed (Some goal) = refl
 reopened_kept ActivationSuccessful goal = refl
 
 -- once it is opened again, the meter is that of the header
-pub reopened_at : {S : Type 0} (honest : S → Bool) (device : S → Device) (store : S) (capacity : ℕ) (h : Header) (digesting : Option Progress) (d : Device) → IsDigested honest device store h digesting
+pub reopened_at : (known : Known) (capacity : ℕ) (h : Header) (digesting : Option Progress) (d : Device) → IsDigested known h digesting
     → reopened (meter_at capacity h digesting d) ≡ meter_of capacity h d
-reopened_at honest device store capacity h None d is =
+reopened_at known capacity h None d is =
     ap (λ (p : Phase). let m : Meter = record (meter_of capacity h d) { phase = p } in m) (reopened_kept h.status h.goal)
-reopened_at honest device store capacity h (Some progress) d is =
-    ap (λ (p : Phase). let m : Meter = record (meter_of capacity h d) { phase = reopened_phase p } in m) (phase_verified honest device store h progress is)
+reopened_at known capacity h (Some progress) d is =
+    ap (λ (p : Phase). let m : Meter = record (meter_of capacity h d) { phase = reopened_phase p } in m) (phase_verified known h progress is)
     ∙ ap (λ (p : Phase). let m : Meter = record (meter_of capacity h d) { phase = p } in m) (sym (phase_received h is.goal is.receives is.there))
 
 -- ---- slots

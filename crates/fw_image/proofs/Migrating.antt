@@ -15,7 +15,7 @@ use Rattle.fw_store.specs.Versions.{block_limit}
 use Rattle.fw_store.specs.declared.header.Header.{Header}
 use Rattle.fw_store.specs.declared.header.Goal.{Goal}
 use Rattle.fw_store.specs.declared.slot.Slot.{Slot}
-use Rattle.fw_store.specs.declared.store.ImageStore.{Ghosts}
+use Rattle.fw_store.specs.Known.{Known}
 use Rattle.fw_store.specs.declared.version.HeaderVersion.{HeaderVersion}
 use Rattle.fw_store.specs.declared.version.HeaderVersion.TheVariants.{One, Two}
 use Rattle.fw_verify.specs.Slices.{slice_count}
@@ -23,10 +23,10 @@ use Rattle.fw_image.specs.Calls.{verified_size, restart_calls}
 use Rattle.fw_image.specs.Meter.{Meter, IsTrusted, migrated}
 use Rattle.fw_image.specs.Moves.{migrating_writes}
 use Rattle.fw_image.specs.State.{State}
-use Rattle.fw_image.specs.Stored.{phase_of, blocks_below, cells_of, meter_of, seen, IsHeld, IsMeterOf, Opens}
+use Rattle.fw_image.specs.Stored.{phase_of, blocks_below, cells_of, meter_of, seen, IsHeld, IsMeterOf, Opens, state_of}
 use Rattle.fw_image.proofs.Blocks.{none_has}
 use Rattle.fw_image.proofs.Meters.{SameSlots, headed, seen_headed, seen_size, seen_real}
-use Rattle.fw_image.proofs.Moves.{seen_of, state_in, held_written, written_after}
+use Rattle.fw_image.proofs.Moves.{seen_of, held_written, written_after}
 use Rattle.fw_image.proofs.Openings.{limit_within, one_meter, length-running}
 
 -- ---- more marks
@@ -105,91 +105,91 @@ device_two capacity h d valid stored is = ap (λ (x : Header). with_head d (head
 
 -- ---- what is held, and what is opened
 
-pub held_migrated : {S : Type 0} (t : Ghosts S) (s s' : S) (h : Header) → MigratedIsHeader → ((slot : Slot) → IsTrue (t.honest s) → length (slot_bytes (t.device s) slot) ≡ t.capacity s)
-    → Keeps t.honest t.sound t.capacity t.faults s s' → (IsTrue (t.honest s) → t.device s' ≡ with_head (t.device s) (header_bytes (header_migrated h)))
-    → IsHeld t.honest t.capacity t.device s h → IsHeld t.honest t.capacity t.device s' (header_migrated h)
-held_migrated t s s' h law sized kept written held =
-    held_written t s s' h (header_migrated h) sized kept written held (law (t.capacity s) h held.valid)
-    (λ d d' views honest trusted. subst IsTrusted (sym (meter_of-migrated (t.capacity s) h d d' held.valid views.same)) (trusted_migrated (meter_of (t.capacity s) h d) trusted))
+pub held_migrated : (s s' : Known) (h : Header) → MigratedIsHeader → ((slot : Slot) → IsTrue s.honest → length (slot_bytes s.device slot) ≡ s.capacity)
+    → Keeps s s' → (IsTrue s.honest → s'.device ≡ with_head s.device (header_bytes (header_migrated h)))
+    → IsHeld s h → IsHeld s' (header_migrated h)
+held_migrated s s' h law sized kept written held =
+    held_written s s' h (header_migrated h) sized kept written held (law s.capacity h held.valid)
+    (λ d d' views honest trusted. subst IsTrusted (sym (meter_of-migrated s.capacity h d d' held.valid views.same)) (trusted_migrated (meter_of s.capacity h d) trusted))
 
 -- a header was read from a store, and the store then has this one
-pub record Reads {S : Type 0} (t : Ghosts S) (s s' : S) (h : Header) : Type 0 where
-  pub kept : Keeps t.honest t.sound t.capacity t.faults s s'
-  pub same : IsTrue (t.honest s) → t.device s' ≡ t.device s
-  pub held : IsHeld t.honest t.capacity t.device s' h
-  pub spends : Spends (1 + slice_count h.running_size + slice_count (verified_size (phase_of h.status h.goal))) (t.fuse s) (t.fuse s') true
+pub record Reads (s s' : Known) (h : Header) : Type 0 where
+  pub kept : Keeps s s'
+  pub same : IsTrue s.honest → s'.device ≡ s.device
+  pub held : IsHeld s' h
+  pub spends : Spends (1 + slice_count h.running_size + slice_count (verified_size (phase_of h.status h.goal))) s.fuse s'.fuse true
 
 -- it is the meter of the store as it was
-pub was_meter : {S : Type 0} (t : Ghosts S) (s s' : S) (h : Header) → Reads t s s' h → IsTrue (t.honest s) → IsMeterOf (t.capacity s) (t.device s) (meter_of (t.capacity s) h (seen_of t s))
-was_meter t s s' h read honest =
-    let still : IsTrue (t.honest s') = read.kept.honesty ∙ honest in
+pub was_meter : (s s' : Known) (h : Header) → Reads s s' h → IsTrue s.honest → IsMeterOf s.capacity s.device (meter_of s.capacity h (seen_of s))
+was_meter s s' h read honest =
+    let still : IsTrue s'.honest = read.kept.honesty ∙ honest in
     record {
       header = h;
       valid = subst (λ (n : ℕ). IsHeader n h) read.kept.size read.held.valid;
       spelled = read.held.stored still ∙ ap (λ (d : Device). d.head) (read.same honest);
-      means = ap (meter_of (t.capacity s) h) (seen_real (t.honest s) (t.capacity s) (t.device s) honest);
+      means = ap (meter_of s.capacity h) (seen_real s.honest s.capacity s.device honest);
     }
 
-was_trusted : {S : Type 0} (t : Ghosts S) (s s' : S) (h : Header) → Reads t s s' h → IsTrue (t.honest s) → IsTrusted (meter_of (t.capacity s) h (seen_of t s))
-was_trusted t s s' h read honest =
-    let still : IsTrue (t.honest s') = read.kept.honesty ∙ honest in
-    let d : t.device s' ≡ seen_of t s = read.same honest ∙ sym (seen_real (t.honest s) (t.capacity s) (t.device s) honest) in
-    let same : meter_of (t.capacity s') h (t.device s') ≡ meter_of (t.capacity s) h (seen_of t s) = λ i. meter_of (read.kept.size i) h (d i) in
+was_trusted : (s s' : Known) (h : Header) → Reads s s' h → IsTrue s.honest → IsTrusted (meter_of s.capacity h (seen_of s))
+was_trusted s s' h read honest =
+    let still : IsTrue s'.honest = read.kept.honesty ∙ honest in
+    let d : s'.device ≡ seen_of s = read.same honest ∙ sym (seen_real s.honest s.capacity s.device honest) in
+    let same : meter_of s'.capacity h s'.device ≡ meter_of s.capacity h (seen_of s) = λ i. meter_of (read.kept.size i) h (d i) in
     subst IsTrusted same (read.held.trusted still)
 
-pub opens : {S : Type 0} (t : Ghosts S) (s between s' : S) (h : Header) → MigratedIsHeader → CallsAdd → ((slot : Slot) → IsTrue (t.honest s) → length (slot_bytes (t.device s) slot) ≡ t.capacity s)
-    → Reads t s between h → Keeps t.honest t.sound t.capacity t.faults between s'
-    → (IsTrue (t.honest between) → t.device s' ≡ with_head (t.device between) (header_bytes (header_migrated h)))
-    → Spends (migrating_writes h) (t.fuse between) (t.fuse s') true
-    → Opens t.honest t.capacity t.fuse t.device s (state_in t s' (header_migrated h) None)
-opens t s between s' h law add sized read kept written spends =
+pub opens : (s between s' : Known) (h : Header) → MigratedIsHeader → CallsAdd → ((slot : Slot) → IsTrue s.honest → length (slot_bytes s.device slot) ≡ s.capacity)
+    → Reads s between h → Keeps between s'
+    → (IsTrue between.honest → s'.device ≡ with_head between.device (header_bytes (header_migrated h)))
+    → Spends (migrating_writes h) between.fuse s'.fuse true
+    → Opens s (state_of s' (header_migrated h) None)
+opens s between s' h law add sized read kept written spends =
     let bytes : List ℕ = header_bytes (header_migrated h) in
-    let honesty : t.honest s' ≡ t.honest s = kept.honesty ∙ read.kept.honesty in
-    let size : t.capacity s' ≡ t.capacity s = kept.size ∙ read.kept.size in
-    let valid : IsHeader (t.capacity s) h = subst (λ (n : ℕ). IsHeader n h) read.kept.size read.held.valid in
-    let became : IsTrue (t.honest s) → t.device s' ≡ with_head (t.device s) bytes = written_after t s between s' bytes read.kept.honesty read.same written in
-    let old : Device = seen_of t s in
-    let new : Device = seen (t.honest s) (t.capacity s) (t.device s') in
-    let d : seen (t.honest s') (t.capacity s') (t.device s') ≡ new = λ i. seen (honesty i) (size i) (t.device s') in
-    let slots : SameSlots old new = seen_headed (t.honest s) (t.capacity s) (t.device s) (t.device s') bytes became in
-    let real : IsTrue (t.honest s) → seen (t.honest s') (t.capacity s') (t.device s') ≡ with_head (t.device s) bytes =
-    λ b. d ∙ seen_real (t.honest s) (t.capacity s) (t.device s') b ∙ became b in
-    let goes : meter_of (t.capacity s') (header_migrated h) (seen (t.honest s') (t.capacity s') (t.device s')) ≡ meter_of (t.capacity s) (header_migrated h) new =
+    let honesty : s'.honest ≡ s.honest = kept.honesty ∙ read.kept.honesty in
+    let size : s'.capacity ≡ s.capacity = kept.size ∙ read.kept.size in
+    let valid : IsHeader s.capacity h = subst (λ (n : ℕ). IsHeader n h) read.kept.size read.held.valid in
+    let became : IsTrue s.honest → s'.device ≡ with_head s.device bytes = written_after s between s' bytes read.kept.honesty read.same written in
+    let old : Device = seen_of s in
+    let new : Device = seen s.honest s.capacity s'.device in
+    let d : seen s'.honest s'.capacity s'.device ≡ new = λ i. seen (honesty i) (size i) s'.device in
+    let slots : SameSlots old new = seen_headed s.honest s.capacity s.device s'.device bytes became in
+    let real : IsTrue s.honest → seen s'.honest s'.capacity s'.device ≡ with_head s.device bytes =
+    λ b. d ∙ seen_real s.honest s.capacity s'.device b ∙ became b in
+    let goes : meter_of s'.capacity (header_migrated h) (seen s'.honest s'.capacity s'.device) ≡ meter_of s.capacity (header_migrated h) new =
     λ i. meter_of (size i) (header_migrated h) (d i) in
-    let running = length-running (t.capacity s) h old valid (seen_size (t.honest s) (t.capacity s) (t.device s) sized) in
+    let running = length-running s.capacity h old valid (seen_size s.honest s.capacity s.device sized) in
     record {
       honesty = honesty;
-      was = meter_of (t.capacity s) h old;
-      held = was_meter t s between h read;
-      trusted = was_trusted t s between h read;
-      goes_on = goes ∙ meter_of-migrated (t.capacity s) h old new valid slots;
+      was = meter_of s.capacity h old;
+      held = was_meter s between h read;
+      trusted = was_trusted s between h read;
+      goes_on = goes ∙ meter_of-migrated s.capacity h old new valid slots;
       size = refl;
       holds = λ b. record {
         header = header_migrated h;
-        valid = law (t.capacity s) h valid;
+        valid = law s.capacity h valid;
         spelled = sym (ap (λ (x : Device). x.head) (real b));
-        means = λ i. meter_of (size i) (header_migrated h) (seen (t.honest s') (t.capacity s') (t.device s'));
+        means = λ i. meter_of (size i) (header_migrated h) (seen s'.honest s'.capacity s'.device);
       };
-      slots = λ b slot. headed (t.device s) (seen (t.honest s') (t.capacity s') (t.device s')) bytes (real b) slot;
-      kept = λ b full. real b ∙ device_two (t.capacity s) h (t.device s) valid (read.held.stored (read.kept.honesty ∙ b) ∙ ap (λ (x : Device). x.head) (read.same b)) (full_is_two h.version full);
+      slots = λ b slot. headed s.device (seen s'.honest s'.capacity s'.device) bytes (real b) slot;
+      kept = λ b full. real b ∙ device_two s.capacity h s.device valid (read.held.stored (read.kept.honesty ∙ b) ∙ ap (λ (x : Device). x.head) (read.same b)) (full_is_two h.version full);
       spends = rw running (add (1 + slice_count h.running_size + slice_count (verified_size (phase_of h.status h.goal))) (migrating_writes h) _ _ _ true read.spends spends);
     }
 
 -- what holds a meter is opened as that, with a header of version 2
-pub opened_migrated : {S : Type 0} (t : Ghosts S) (s : S) (state : State) (meter : Meter) → OneHeader → Opens t.honest t.capacity t.fuse t.device s state
-    → IsMeterOf (t.capacity s) (t.device s) meter → IsTrue (t.honest s) → state.meter ≡ migrated meter
-opened_migrated t s state meter law opened is honest = opened.goes_on ∙ ap migrated (one_meter law (t.capacity s) (t.device s) opened.was meter (opened.held honest) is)
+pub opened_migrated : (s : Known) (state : State) (meter : Meter) → OneHeader → Opens s state
+    → IsMeterOf s.capacity s.device meter → IsTrue s.honest → state.meter ≡ migrated meter
+opened_migrated s state meter law opened is honest = opened.goes_on ∙ ap migrated (one_meter law s.capacity s.device opened.was meter (opened.held honest) is)
 
 -- ---- how many calls are made
 
 -- those of the meter are those of its header
-pub restart_of_header : {S : Type 0} (t : Ghosts S) (s between : S) (h : Header) (meter : Meter) → OneHeader → ((slot : Slot) → IsTrue (t.honest s) → length (slot_bytes (t.device s) slot) ≡ t.capacity s)
-    → Reads t s between h → IsMeterOf (t.capacity s) (t.device s) meter → IsTrue (t.honest s)
+pub restart_of_header : (s between : Known) (h : Header) (meter : Meter) → OneHeader → ((slot : Slot) → IsTrue s.honest → length (slot_bytes s.device slot) ≡ s.capacity)
+    → Reads s between h → IsMeterOf s.capacity s.device meter → IsTrue s.honest
     → restart_calls meter ≡ 1 + slice_count h.running_size + slice_count (verified_size (phase_of h.status h.goal)) + migrating_writes h
-restart_of_header t s between h meter law sized read is honest =
-    let m : Meter = meter_of (t.capacity s) h (seen_of t s) in
-    let same : meter ≡ m = one_meter law (t.capacity s) (t.device s) meter m is (was_meter t s between h read honest) in
-    let valid : IsHeader (t.capacity s) h = subst (λ (n : ℕ). IsHeader n h) read.kept.size read.held.valid in
+restart_of_header s between h meter law sized read is honest =
+    let m : Meter = meter_of s.capacity h (seen_of s) in
+    let same : meter ≡ m = one_meter law s.capacity s.device meter m is (was_meter s between h read honest) in
+    let valid : IsHeader s.capacity h = subst (λ (n : ℕ). IsHeader n h) read.kept.size read.held.valid in
     ap restart_calls same
     ∙ ap (λ (n : ℕ). 1 + slice_count n + slice_count (verified_size (phase_of h.status h.goal)) + migrating_writes h)
-    (length-running (t.capacity s) h (seen_of t s) valid (seen_size (t.honest s) (t.capacity s) (t.device s) sized))
+    (length-running s.capacity h (seen_of s) valid (seen_size s.honest s.capacity s.device sized))

@@ -14,7 +14,7 @@ use Rattle.fw_store.specs.Layout.{header_bytes}
 use Rattle.fw_store.specs.Header.{IsHeader, IsGoal, FieldsFit, goal_count, is_verified}
 use Rattle.fw_store.specs.Versions.{block_limit}
 use Rattle.fw_store.specs.declared.slot.Slot.{Slot}
-use Rattle.fw_store.specs.declared.store.ImageStore.{Ghosts}
+use Rattle.fw_store.specs.Known.{Known}
 use Rattle.fw_store.specs.declared.header.Header.{Header}
 use Rattle.fw_store.specs.declared.header.Goal.{Goal}
 use Rattle.fw_store.specs.declared.header.StoredStatus.TheVariants as kept
@@ -24,7 +24,7 @@ use Rattle.fw_image.specs.Shown.{shown_of}
 use Rattle.fw_image.specs.Step.{Operation, OperationOutcome, refused, Refuses, Serves, Does, Leaves, IsOffer, begun, switched_to, Admits, refusal_in, is_operation_faultless, enable, initiate, block, verify, activate}
 use Rattle.fw_image.specs.declared.error.Refusal.{Refusal}
 use Rattle.fw_image.specs.declared.error.Refusal.TheVariants.{Disabled, Fault}
-use Rattle.fw_image.specs.State.{State, Makes, outcome_of}
+use Rattle.fw_image.specs.State.{Makes, outcome_of}
 use Rattle.fw_image.specs.Calls.{calls_for, left_by_fault}
 use Rattle.fw_verify.specs.Progress.{Progress, IsDigesting}
 use Rattle.fw_image.specs.Stored.{phase_of, meter_of, meter_at, seen, state_of, IsHeld, IsDigested, IsHolding}
@@ -40,8 +40,8 @@ pub record Rewrites (honest : Bool) (capacity : ℕ) (device d d' : Device) : Ty
   pub same : SameSlots d d'
   pub real : IsTrue honest → d ≡ device
 
-pub keeps_twice : {S : Type 0} (t : Ghosts S) (a b c : S) → Keeps t.honest t.sound t.capacity t.faults a b → Keeps t.honest t.sound t.capacity t.faults b c → Keeps t.honest t.sound t.capacity t.faults a c
-keeps_twice t a b c k l = record { honesty = l.honesty ∙ k.honesty; soundness = λ s. l.soundness (k.soundness s); size = l.size ∙ k.size; later = omega (arith, k.later, l.later) }
+pub keeps_twice : (a b c : Known) → Keeps a b → Keeps b c → Keeps a c
+keeps_twice a b c k l = record { honesty = l.honesty ∙ k.honesty; soundness = λ s. l.soundness (k.soundness s); size = l.size ∙ k.size; later = omega (arith, k.later, l.later) }
 
 -- what the exit of a `?` says
 pub fault_told : {T : Type 0} (r : Result T Refusal) → IsErrAnd r (λ e. e ≡ Fault) → outcome_of r ≡ refused Fault
@@ -64,44 +64,41 @@ served_only m activate serves r line = method_only m activate r serves.0 serves.
 -- ---- operations
 
 -- what is seen of a store
-abbrev pub seen_of : {S : Type 0} → Ghosts S → S → Device
-seen_of t s = seen (t.honest s) (t.capacity s) (t.device s)
+abbrev pub seen_of : Known → Device
+seen_of s = seen s.honest s.capacity s.device
 
--- the meter of a store and its header, and the state of them
-abbrev pub meter_in : {S : Type 0} → Ghosts S → S → Header → Option Progress → Meter
-meter_in t s h digesting = meter_at (t.capacity s) h digesting (seen_of t s)
-
-abbrev pub state_in : {S : Type 0} → Ghosts S → S → Header → Option Progress → State
-state_in t s h digesting = state_of t.honest t.sound t.capacity t.faults t.fuse t.device s h digesting
+-- the meter of a store and its header
+abbrev pub meter_in : Known → Header → Option Progress → Meter
+meter_in s h digesting = meter_at s.capacity h digesting (seen_of s)
 
 -- what is left where the store is honest, its fuse is known, and one of its calls failed
-abbrev IsLeft : {S : Type 0} → Ghosts S → S → Meter → Operation → OperationOutcome → Meter → Type 0
-IsLeft t s m operation outcome m' =
-    IsTrue (t.honest s) → (set : Fuse) → t.fuse s ≡ Some set → is_operation_faultless outcome ≡ false → m' ≡ left_by_fault set.torn m operation
+abbrev IsLeft : Known → Meter → Operation → OperationOutcome → Meter → Type 0
+IsLeft s m operation outcome m' =
+    IsTrue s.honest → (set : Fuse) → s.fuse ≡ Some set → is_operation_faultless outcome ≡ false → m' ≡ left_by_fault set.torn m operation
 
 -- an operation that a line refuses
-pub makes_refused : {S : Type 0} (t : Ghosts S) (s : S) (h : Header) (digesting : Option Progress) (operation : Operation) (r : Refusal) → IsTrue (is_operation_faultless (refused r))
-    → Refuses (meter_in t s h digesting) operation r → Makes (state_in t s h digesting) operation (refused r) (state_in t s h digesting)
-makes_refused t s h digesting operation r faultless line = record {
+pub makes_refused : (s : Known) (h : Header) (digesting : Option Progress) (operation : Operation) (r : Refusal) → IsTrue (is_operation_faultless (refused r))
+    → Refuses (meter_in s h digesting) operation r → Makes (state_of s h digesting) operation (refused r) (state_of s h digesting)
+makes_refused s h digesting operation r faultless line = record {
   step = inl (record { refusal = r; line = line; told = refl; same = record { shows = refl; is = λ _. refl } });
   untouched = λ _ _. refl;
   follows = record { honesty = refl; soundness = λ e. e; later = omega arith };
-  counts = record { counted = ap (λ (ok : Bool). count_after ok (t.faults s)) (sym faultless); never = λ _. faultless };
-  spends = λ serves. absurd (served_only (meter_in t s h digesting) operation serves r line);
+  counts = record { counted = ap (λ (ok : Bool). count_after ok s.faults) (sym faultless); never = λ _. faultless };
+  spends = λ serves. absurd (served_only (meter_in s h digesting) operation serves r line);
   left = λ honest set is failed. let bad : true ≡ false = sym faultless ∙ failed in absurd cc;
 }
 
 -- an operation that is served
-pub makes_served : {S : Type 0} (t : Ghosts S) (s s' : S) (h h' : Header) (digesting digesting' : Option Progress) (operation : Operation) (outcome : OperationOutcome)
-    → Keeps t.honest t.sound t.capacity t.faults s s' → t.faults s' ≡ count_after (is_operation_faultless outcome) (t.faults s) → (IsTrue (t.sound s) → IsTrue (is_operation_faultless outcome))
-    → Spends (calls_for (meter_in t s h digesting) operation) (t.fuse s) (t.fuse s') (is_operation_faultless outcome)
-    → Serves (meter_in t s h digesting) operation
-    → Does (t.honest s) (meter_in t s h digesting) operation outcome (meter_at (t.capacity s) h' digesting' (seen (t.honest s) (t.capacity s) (t.device s')))
-    → IsLeft t s (meter_in t s h digesting) operation outcome (meter_at (t.capacity s) h' digesting' (seen (t.honest s) (t.capacity s) (t.device s')))
-    → Makes (state_in t s h digesting) operation outcome (state_in t s' h' digesting')
-makes_served t s s' h h' digesting digesting' operation outcome kept counted never spends serves does left = record {
+pub makes_served : (s s' : Known) (h h' : Header) (digesting digesting' : Option Progress) (operation : Operation) (outcome : OperationOutcome)
+    → Keeps s s' → s'.faults ≡ count_after (is_operation_faultless outcome) s.faults → (IsTrue s.sound → IsTrue (is_operation_faultless outcome))
+    → Spends (calls_for (meter_in s h digesting) operation) s.fuse s'.fuse (is_operation_faultless outcome)
+    → Serves (meter_in s h digesting) operation
+    → Does s.honest (meter_in s h digesting) operation outcome (meter_at s.capacity h' digesting' (seen s.honest s.capacity s'.device))
+    → IsLeft s (meter_in s h digesting) operation outcome (meter_at s.capacity h' digesting' (seen s.honest s.capacity s'.device))
+    → Makes (state_of s h digesting) operation outcome (state_of s' h' digesting')
+makes_served s s' h h' digesting digesting' operation outcome kept counted never spends serves does left = record {
   step = inr (record { serves = serves; does = rw (kept.honesty, kept.size) does });
-  untouched = λ r line. absurd (served_only (meter_in t s h digesting) operation serves r line);
+  untouched = λ r line. absurd (served_only (meter_in s h digesting) operation serves r line);
   follows = record { honesty = kept.honesty; soundness = kept.soundness; later = kept.later };
   counts = record { counted = counted; never = never };
   spends = λ _. spends;
@@ -109,70 +106,70 @@ makes_served t s s' h h' digesting digesting' operation outcome kept counted nev
 }
 
 -- one of which no call failed leaves nothing by a fault
-pub no_fault : {S : Type 0} (t : Ghosts S) (s : S) (m : Meter) (operation : Operation) (outcome : OperationOutcome) (m' : Meter) → IsTrue (is_operation_faultless outcome) → IsLeft t s m operation outcome m'
-no_fault t s m operation outcome m' faultless honest set is failed = let bad : true ≡ false = sym faultless ∙ failed in absurd cc
+pub no_fault : (s : Known) (m : Meter) (operation : Operation) (outcome : OperationOutcome) (m' : Meter) → IsTrue (is_operation_faultless outcome) → IsLeft s m operation outcome m'
+no_fault s m operation outcome m' faultless honest set is failed = let bad : true ≡ false = sym faultless ∙ failed in absurd cc
 
 -- one whose store call failed and left the device as it was
-pub makes_failed : {S : Type 0} (t : Ghosts S) (s s' : S) (h : Header) (digesting : Option Progress) (operation : Operation)
-    → Keeps t.honest t.sound t.capacity t.faults s s' → (IsTrue (t.honest s) → t.device s' ≡ t.device s) → t.faults s' ≡ count_after false (t.faults s) → (IsTrue (t.sound s) → IsTrue false)
-    → Spends (calls_for (meter_in t s h digesting) operation) (t.fuse s) (t.fuse s') false
-    → Serves (meter_in t s h digesting) operation
-    → ((m m' : Meter) → Leaves (t.honest s) m m' → Does (t.honest s) m operation (refused Fault) m')
+pub makes_failed : (s s' : Known) (h : Header) (digesting : Option Progress) (operation : Operation)
+    → Keeps s s' → (IsTrue s.honest → s'.device ≡ s.device) → s'.faults ≡ count_after false s.faults → (IsTrue s.sound → IsTrue false)
+    → Spends (calls_for (meter_in s h digesting) operation) s.fuse s'.fuse false
+    → Serves (meter_in s h digesting) operation
+    → ((m m' : Meter) → Leaves s.honest m m' → Does s.honest m operation (refused Fault) m')
     → ((torn : ℕ) (m : Meter) → left_by_fault torn m operation ≡ m)
-    → Makes (state_in t s h digesting) operation (refused Fault) (state_in t s' h digesting)
-makes_failed t s s' h digesting operation kept same counted never spends serves does stays =
-    let e : seen (t.honest s) (t.capacity s) (t.device s') ≡ seen_of t s = seen_same (t.honest s) (t.capacity s) (t.device s) (t.device s') same in
-    makes_served t s s' h h digesting digesting operation (refused Fault) kept counted never spends serves
-    (does (meter_in t s h digesting) _ (leaves (t.honest s) (meter_in t s h digesting) _ (ap (meter_at (t.capacity s) h digesting) e)))
-    (λ honest set is failed. ap (meter_at (t.capacity s) h digesting) e ∙ sym (stays set.torn (meter_in t s h digesting)))
+    → Makes (state_of s h digesting) operation (refused Fault) (state_of s' h digesting)
+makes_failed s s' h digesting operation kept same counted never spends serves does stays =
+    let e : seen s.honest s.capacity s'.device ≡ seen_of s = seen_same s.honest s.capacity s.device s'.device same in
+    makes_served s s' h h digesting digesting operation (refused Fault) kept counted never spends serves
+    (does (meter_in s h digesting) _ (leaves s.honest (meter_in s h digesting) _ (ap (meter_at s.capacity h digesting) e)))
+    (λ honest set is failed. ap (meter_at s.capacity h digesting) e ∙ sym (stays set.torn (meter_in s h digesting)))
 
 -- what is seen before and after a write of the header
-pub rewrites : {S : Type 0} (t : Ghosts S) (s s' : S) (bytes : List ℕ) → ((slot : Slot) → IsTrue (t.honest s) → length (slot_bytes (t.device s) slot) ≡ t.capacity s)
-    → (IsTrue (t.honest s) → t.device s' ≡ with_head (t.device s) bytes) → Rewrites (t.honest s) (t.capacity s) (t.device s) (seen_of t s) (seen (t.honest s) (t.capacity s) (t.device s'))
-rewrites t s s' bytes sized written = record {
-  sized = seen_size (t.honest s) (t.capacity s) (t.device s) sized;
-  same = seen_headed (t.honest s) (t.capacity s) (t.device s) (t.device s') bytes written;
-  real = seen_real (t.honest s) (t.capacity s) (t.device s);
+pub rewrites : (s s' : Known) (bytes : List ℕ) → ((slot : Slot) → IsTrue s.honest → length (slot_bytes s.device slot) ≡ s.capacity)
+    → (IsTrue s.honest → s'.device ≡ with_head s.device bytes) → Rewrites s.honest s.capacity s.device (seen_of s) (seen s.honest s.capacity s'.device)
+rewrites s s' bytes sized written = record {
+  sized = seen_size s.honest s.capacity s.device sized;
+  same = seen_headed s.honest s.capacity s.device s'.device bytes written;
+  real = seen_real s.honest s.capacity s.device;
 }
 
 -- one that writes the header, once
-pub makes_written : {S : Type 0} (t : Ghosts S) (s s' : S) (h h' : Header) (digesting digesting' : Option Progress) (operation : Operation) (outcome : OperationOutcome) → IsTrue (is_operation_faultless outcome)
-    → ((slot : Slot) → IsTrue (t.honest s) → length (slot_bytes (t.device s) slot) ≡ t.capacity s)
-    → Keeps t.honest t.sound t.capacity t.faults s s' → t.faults s' ≡ t.faults s → (IsTrue (t.honest s) → t.device s' ≡ with_head (t.device s) (header_bytes h'))
-    → Spends (calls_for (meter_in t s h digesting) operation) (t.fuse s) (t.fuse s') true
-    → Serves (meter_in t s h digesting) operation
-    → ((d d' : Device) → Rewrites (t.honest s) (t.capacity s) (t.device s) d d' → Does (t.honest s) (meter_at (t.capacity s) h digesting d) operation outcome (meter_at (t.capacity s) h' digesting' d'))
-    → Makes (state_in t s h digesting) operation outcome (state_in t s' h' digesting')
-makes_written t s s' h h' digesting digesting' operation outcome faultless sized kept uncounted written spends serves does =
-    makes_served t s s' h h' digesting digesting' operation outcome kept (uncounted ∙ ap (λ (ok : Bool). count_after ok (t.faults s)) (sym faultless)) (λ _. faultless)
-    (subst (λ (ok : Bool). Spends (calls_for (meter_in t s h digesting) operation) (t.fuse s) (t.fuse s') ok) (sym faultless) spends) serves
-    (does (seen_of t s) (seen (t.honest s) (t.capacity s) (t.device s')) (rewrites t s s' (header_bytes h') sized written))
-    (no_fault t s (meter_in t s h digesting) operation outcome _ faultless)
+pub makes_written : (s s' : Known) (h h' : Header) (digesting digesting' : Option Progress) (operation : Operation) (outcome : OperationOutcome) → IsTrue (is_operation_faultless outcome)
+    → ((slot : Slot) → IsTrue s.honest → length (slot_bytes s.device slot) ≡ s.capacity)
+    → Keeps s s' → s'.faults ≡ s.faults → (IsTrue s.honest → s'.device ≡ with_head s.device (header_bytes h'))
+    → Spends (calls_for (meter_in s h digesting) operation) s.fuse s'.fuse true
+    → Serves (meter_in s h digesting) operation
+    → ((d d' : Device) → Rewrites s.honest s.capacity s.device d d' → Does s.honest (meter_at s.capacity h digesting d) operation outcome (meter_at s.capacity h' digesting' d'))
+    → Makes (state_of s h digesting) operation outcome (state_of s' h' digesting')
+makes_written s s' h h' digesting digesting' operation outcome faultless sized kept uncounted written spends serves does =
+    makes_served s s' h h' digesting digesting' operation outcome kept (uncounted ∙ ap (λ (ok : Bool). count_after ok s.faults) (sym faultless)) (λ _. faultless)
+    (subst (λ (ok : Bool). Spends (calls_for (meter_in s h digesting) operation) s.fuse s'.fuse ok) (sym faultless) spends) serves
+    (does (seen_of s) (seen s.honest s.capacity s'.device) (rewrites s s' (header_bytes h') sized written))
+    (no_fault s (meter_in s h digesting) operation outcome _ faultless)
 
 -- ---- what is held
 
 -- the header that was written stands in the store
-pub held_written : {S : Type 0} (t : Ghosts S) (s s' : S) (h h' : Header)
-    → ((slot : Slot) → IsTrue (t.honest s) → length (slot_bytes (t.device s) slot) ≡ t.capacity s)
-    → Keeps t.honest t.sound t.capacity t.faults s s' → (IsTrue (t.honest s) → t.device s' ≡ with_head (t.device s) (header_bytes h'))
-    → IsHeld t.honest t.capacity t.device s h → IsHeader (t.capacity s) h'
-    → ((d d' : Device) → Rewrites (t.honest s) (t.capacity s) (t.device s) d d' → IsTrue (t.honest s) → IsTrusted (meter_of (t.capacity s) h d) → IsTrusted (meter_of (t.capacity s) h' d'))
-    → IsHeld t.honest t.capacity t.device s' h'
-held_written t s s' h h' sized kept written held valid trusted =
-    let still : IsTrue (t.honest s') → IsTrue (t.honest s) = λ b. sym kept.honesty ∙ b in
-    let views : IsTrue (t.honest s) → Rewrites (t.honest s) (t.capacity s) (t.device s) (t.device s) (t.device s') =
-    λ b. record { sized = λ slot. sized slot b; same = headed (t.device s) (t.device s') (header_bytes h') (written b); real = λ _. refl } in
+pub held_written : (s s' : Known) (h h' : Header)
+    → ((slot : Slot) → IsTrue s.honest → length (slot_bytes s.device slot) ≡ s.capacity)
+    → Keeps s s' → (IsTrue s.honest → s'.device ≡ with_head s.device (header_bytes h'))
+    → IsHeld s h → IsHeader s.capacity h'
+    → ((d d' : Device) → Rewrites s.honest s.capacity s.device d d' → IsTrue s.honest → IsTrusted (meter_of s.capacity h d) → IsTrusted (meter_of s.capacity h' d'))
+    → IsHeld s' h'
+held_written s s' h h' sized kept written held valid trusted =
+    let still : IsTrue s'.honest → IsTrue s.honest = λ b. sym kept.honesty ∙ b in
+    let views : IsTrue s.honest → Rewrites s.honest s.capacity s.device s.device s'.device =
+    λ b. record { sized = λ slot. sized slot b; same = headed s.device s'.device (header_bytes h') (written b); real = λ _. refl } in
     record {
       valid = rw kept.size valid;
       stored = λ b. sym (ap (λ (d : Device). d.head) (written (still b)));
-      trusted = λ b. rw kept.size (trusted (t.device s) (t.device s') (views (still b)) (still b) (held.trusted (still b)));
+      trusted = λ b. rw kept.size (trusted s.device s'.device (views (still b)) (still b) (held.trusted (still b)));
     }
 
 -- and what is digested stays so, as only whether transfer is enabled may be another
-pub digested_still : {S : Type 0} (t : Ghosts S) (s s' : S) (h : Header) (enabled : Bool) (digesting : Option Progress) → t.honest s' ≡ t.honest s → (IsTrue (t.honest s) → SameSlots (t.device s) (t.device s'))
-    → IsDigested t.honest t.device s h digesting → IsDigested t.honest t.device s' (record h { enabled = enabled }) digesting
-digested_still t s s' h enabled None honesty same is = tt
-digested_still t s s' h enabled (Some progress) honesty same is = record {
+pub digested_still : (s s' : Known) (h : Header) (enabled : Bool) (digesting : Option Progress) → s'.honest ≡ s.honest → (IsTrue s.honest → SameSlots s.device s'.device)
+    → IsDigested s h digesting → IsDigested s' (record h { enabled = enabled }) digesting
+digested_still s s' h enabled None honesty same is = tt
+digested_still s s' h enabled (Some progress) honesty same is = record {
   goal = is.goal;
   receives = is.receives;
   there = is.there;
@@ -181,25 +178,25 @@ digested_still t s s' h enabled (Some progress) honesty same is = record {
   size = is.size;
   begun = is.begun;
   more = is.more;
-  digests = λ b. let honest : IsTrue (t.honest s) = sym honesty ∙ b in subst (IsDigesting progress) (sym (same honest progress.slot)) (is.digests honest);
+  digests = λ b. let honest : IsTrue s.honest = sym honesty ∙ b in subst (IsDigesting progress) (sym (same honest progress.slot)) (is.digests honest);
 }
 
 -- a store whose device is as it was
-pub held_still : {S : Type 0} (t : Ghosts S) (s s' : S) (h : Header) → Keeps t.honest t.sound t.capacity t.faults s s' → (IsTrue (t.honest s) → t.device s' ≡ t.device s)
-    → IsHeld t.honest t.capacity t.device s h → IsHeld t.honest t.capacity t.device s' h
-held_still t s s' h kept same is =
-    let still : IsTrue (t.honest s') → IsTrue (t.honest s) = λ b. sym kept.honesty ∙ b in
+pub held_still : (s s' : Known) (h : Header) → Keeps s s' → (IsTrue s.honest → s'.device ≡ s.device)
+    → IsHeld s h → IsHeld s' h
+held_still s s' h kept same is =
+    let still : IsTrue s'.honest → IsTrue s.honest = λ b. sym kept.honesty ∙ b in
     record {
       valid = rw kept.size is.valid;
       stored = λ b. is.stored (still b) ∙ sym (ap (λ (d : Device). d.head) (same (still b)));
       trusted = λ b. rw (kept.size, same (still b)) (is.trusted (still b));
     }
 
-pub holding_still : {S : Type 0} (t : Ghosts S) (s s' : S) (h : Header) (digesting : Option Progress) → Keeps t.honest t.sound t.capacity t.faults s s' → (IsTrue (t.honest s) → t.device s' ≡ t.device s)
-    → IsHolding t.honest t.capacity t.device s h digesting → IsHolding t.honest t.capacity t.device s' h digesting
-holding_still t s s' h digesting kept same is = record {
-  held = held_still t s s' h kept same is.held;
-  digested = digested_still t s s' h h.enabled digesting kept.honesty (λ b slot. ap (λ (d : Device). slot_bytes d slot) (same b)) is.digested;
+pub holding_still : (s s' : Known) (h : Header) (digesting : Option Progress) → Keeps s s' → (IsTrue s.honest → s'.device ≡ s.device)
+    → IsHolding s h digesting → IsHolding s' h digesting
+holding_still s s' h digesting kept same is = record {
+  held = held_still s s' h kept same is.held;
+  digested = digested_still s s' h h.enabled digesting kept.honesty (λ b slot. ap (λ (d : Device). slot_bytes d slot) (same b)) is.digested;
 }
 
 -- ---- enable
@@ -346,9 +343,9 @@ valid_switched capacity h slot goal marks none there is fits =
 -- ---- several calls
 
 -- a header write after a call that left the device as it was
-pub written_after : {S : Type 0} (t : Ghosts S) (s s1 s2 : S) (bytes : List ℕ) → t.honest s1 ≡ t.honest s → (IsTrue (t.honest s) → t.device s1 ≡ t.device s)
-    → (IsTrue (t.honest s1) → t.device s2 ≡ with_head (t.device s1) bytes) → IsTrue (t.honest s) → t.device s2 ≡ with_head (t.device s) bytes
-written_after t s s1 s2 bytes honesty same written b = written (honesty ∙ b) ∙ ap (λ (d : Device). with_head d bytes) (same b)
+pub written_after : (s s1 s2 : Known) (bytes : List ℕ) → s1.honest ≡ s.honest → (IsTrue s.honest → s1.device ≡ s.device)
+    → (IsTrue s1.honest → s2.device ≡ with_head s1.device bytes) → IsTrue s.honest → s2.device ≡ with_head s.device bytes
+written_after s s1 s2 bytes honesty same written b = written (honesty ∙ b) ∙ ap (λ (d : Device). with_head d bytes) (same b)
 
 -- what a call counts after one that counted nothing
 pub counted_after : (ok : Bool) (before between after : ℕ) → between ≡ before → after ≡ count_after ok between → after ≡ count_after ok before

@@ -16,7 +16,7 @@ use Rattle.fw_store.specs.Versions.{block_limit}
 use Rattle.fw_store.specs.declared.slot.Slot.{Slot}
 use Rattle.fw_store.specs.declared.version.HeaderVersion.{HeaderVersion}
 use Rattle.fw_store.specs.declared.version.HeaderVersion.TheVariants.{One, Two}
-use Rattle.fw_store.specs.declared.store.ImageStore.{Ghosts}
+use Rattle.fw_store.specs.Known.{Known}
 use Rattle.fw_store.specs.declared.header.Header.{Header}
 use Rattle.fw_store.specs.declared.header.Goal.{Goal}
 use Rattle.fw_store.specs.declared.header.StoredStatus.TheVariants as kept
@@ -97,15 +97,15 @@ verified_iff cuts capacity h d goal is sized status there =
     let has_goal = goal_again h.status h.goal is.goal_by_status ∙ there in
     (λ same _. genuine_from goal bytes (goal_of m.phase) (goal_bytes m) has_goal whole same, λ genuine. genuine_with goal bytes (goal_of m.phase) (goal_bytes m) has_goal whole (genuine verified))
 
-pub refused_image : {S : Type 0} (t : Ghosts S) (s s' : S) (h : Header) → Keeps t.honest t.sound t.capacity t.faults s s' → (IsTrue (t.honest s) → t.device s' ≡ t.device s) → t.faults s' ≡ t.faults s → IsHeader (t.capacity s) h
-    → (IsTrue (t.honest s) → header_bytes h ≡ (t.device s).head) → (IsTrue (t.honest s) → ¬ IsTrusted (meter_of (t.capacity s) h (t.device s)))
-    → (calls : ℕ) → Spends calls (t.fuse s) (t.fuse s') true
-    → (IsTrue (t.honest s) → let m = meter_of (t.capacity s) h (t.device s) in (calls ≡ 1 + slice_count (length m.running.bytes)) ⊎ (calls ≡ opening_calls m))
-    → Refused t.honest t.sound t.capacity t.faults t.fuse t.device s BadImage s'
-refused_image t s s' h kept same uncounted valid spelled differs calls spends number = record {
+pub refused_image : (s s' : Known) (h : Header) → Keeps s s' → (IsTrue s.honest → s'.device ≡ s.device) → s'.faults ≡ s.faults → IsHeader s.capacity h
+    → (IsTrue s.honest → header_bytes h ≡ s.device.head) → (IsTrue s.honest → ¬ IsTrusted (meter_of s.capacity h s.device))
+    → (calls : ℕ) → Spends calls s.fuse s'.fuse true
+    → (IsTrue s.honest → let m = meter_of s.capacity h s.device in (calls ≡ 1 + slice_count (length m.running.bytes)) ⊎ (calls ≡ opening_calls m))
+    → Refused s BadImage s'
+refused_image s s' h kept same uncounted valid spelled differs calls spends number = record {
   reason = λ b.
-      let is : IsMeterOf (t.capacity s) (t.device s) (meter_of (t.capacity s) h (t.device s)) = record { header = h; valid = valid; spelled = spelled b; means = refl } in
-      (meter_of (t.capacity s) h (t.device s), is, differs b);
+      let is : IsMeterOf s.capacity s.device (meter_of s.capacity h s.device) = record { header = h; valid = valid; spelled = spelled b; means = refl } in
+      (meter_of s.capacity h s.device, is, differs b);
   counted = uncounted;
   never = λ _. refl;
   same = same;
@@ -113,17 +113,17 @@ refused_image t s s' h kept same uncounted valid spelled differs calls spends nu
   calls = calls;
   spends = spends;
   found = λ b.
-      let is : IsMeterOf (t.capacity s) (t.device s) (meter_of (t.capacity s) h (t.device s)) = record { header = h; valid = valid; spelled = spelled b; means = refl } in
-      (meter_of (t.capacity s) h (t.device s), is, number b);
+      let is : IsMeterOf s.capacity s.device (meter_of s.capacity h s.device) = record { header = h; valid = valid; spelled = spelled b; means = refl } in
+      (meter_of s.capacity h s.device, is, number b);
 }
 
 -- what the exit of a `?` says
-pub refused_fault : {S : Type 0} {T : Type 0} (t : Ghosts S) (s s' : S) (r : Result T OpenError) → IsErrAnd r (λ e. e ≡ Fault) → Keeps t.honest t.sound t.capacity t.faults s s' → (IsTrue (t.honest s) → t.device s' ≡ t.device s)
-    → t.faults s' ≡ count_after false (t.faults s) → (IsTrue (t.sound s) → IsTrue false) → (calls : ℕ) → Spends calls (t.fuse s) (t.fuse s') false
-    → IfErr r (λ e. Refused t.honest t.sound t.capacity t.faults t.fuse t.device s e s')
-refused_fault t s s' (Ok x) told kept same counted never calls spends = absurd told
-refused_fault t s s' (Err e) told kept same counted never calls spends =
-    subst (λ (x : OpenError). Refused t.honest t.sound t.capacity t.faults t.fuse t.device s x s') (sym told)
+pub refused_fault : {T : Type 0} (s s' : Known) (r : Result T OpenError) → IsErrAnd r (λ e. e ≡ Fault) → Keeps s s' → (IsTrue s.honest → s'.device ≡ s.device)
+    → s'.faults ≡ count_after false s.faults → (IsTrue s.sound → IsTrue false) → (calls : ℕ) → Spends calls s.fuse s'.fuse false
+    → IfErr r (λ e. Refused s e s')
+refused_fault s s' (Ok x) told kept same counted never calls spends = absurd told
+refused_fault s s' (Err e) told kept same counted never calls spends =
+    subst (λ (x : OpenError). Refused s x s') (sym told)
     (record { reason = λ _. tt; counted = counted; never = never; same = same; kept = kept; calls = calls; spends = spends; found = λ _. tt })
 
 -- how many bytes the image that runs has
@@ -132,29 +132,29 @@ length-running capacity h d valid sized = length-take-le h.running_size (slot_by
 
 -- ---- what holds a meter is opened as it
 
-pub opened_again : {S : Type 0} (t : Ghosts S) (s s' : S) (h : Header) (meter : Meter) → OneHeader → Keeps t.honest t.sound t.capacity t.faults s s' → (IsTrue (t.honest s) → t.device s' ≡ t.device s)
-    → IsHeld t.honest t.capacity t.device s' h → IsMeterOf (t.capacity s) (t.device s) meter → IsTrue (t.honest s)
-    → meter_of (t.capacity s') h (seen (t.honest s') (t.capacity s') (t.device s')) ≡ meter
-opened_again t s s' h meter law kept same held was honest =
-    let still : IsTrue (t.honest s') = kept.honesty ∙ honest in
-    ap (meter_of (t.capacity s') h) (seen_real (t.honest s') (t.capacity s') (t.device s') still)
-    ∙ same_meter law (t.capacity s') (t.capacity s) h was.header (t.device s') (t.device s) held.valid was.valid (held.stored still) was.spelled kept.size (same honest)
+pub opened_again : (s s' : Known) (h : Header) (meter : Meter) → OneHeader → Keeps s s' → (IsTrue s.honest → s'.device ≡ s.device)
+    → IsHeld s' h → IsMeterOf s.capacity s.device meter → IsTrue s.honest
+    → meter_of s'.capacity h (seen s'.honest s'.capacity s'.device) ≡ meter
+opened_again s s' h meter law kept same held was honest =
+    let still : IsTrue s'.honest = kept.honesty ∙ honest in
+    ap (meter_of s'.capacity h) (seen_real s'.honest s'.capacity s'.device still)
+    ∙ same_meter law s'.capacity s.capacity h was.header s'.device s.device held.valid was.valid (held.stored still) was.spelled kept.size (same honest)
     ∙ sym was.means
 
 -- of a store that holds one only a fault is reported
-pub told_fault : {S : Type 0} (t : Ghosts S) (s s' : S) (error : OpenError) (meter : Meter) → OneHeader → Refused t.honest t.sound t.capacity t.faults t.fuse t.device s error s'
-    → IsMeterOf (t.capacity s) (t.device s) meter → IsTrusted meter → IsTrue (t.honest s) → error ≡ Fault
-told_fault t s s' Fault meter law refused is trusted honest = refl
-told_fault t s s' BadHeader meter law refused is trusted honest = absurd (refused.reason honest meter is)
-told_fault t s s' BadImage meter law refused is trusted honest =
+pub told_fault : (s s' : Known) (error : OpenError) (meter : Meter) → OneHeader → Refused s error s'
+    → IsMeterOf s.capacity s.device meter → IsTrusted meter → IsTrue s.honest → error ≡ Fault
+told_fault s s' Fault meter law refused is trusted honest = refl
+told_fault s s' BadHeader meter law refused is trusted honest = absurd (refused.reason honest meter is)
+told_fault s s' BadImage meter law refused is trusted honest =
     let reason = refused.reason honest in
-    let same : meter ≡ reason.0 = one_meter law (t.capacity s) (t.device s) meter reason.0 is reason.1 in
+    let same : meter ≡ reason.0 = one_meter law s.capacity s.device meter reason.0 is reason.1 in
     absurd (reason.2 (subst IsTrusted same trusted))
 
-pub not_refused : {S : Type 0} (t : Ghosts S) (s s' : S) (error : OpenError) (meter : Meter) → OneHeader → Refused t.honest t.sound t.capacity t.faults t.fuse t.device s error s'
-    → IsMeterOf (t.capacity s) (t.device s) meter → IsTrusted meter → IsTrue (t.honest s) → IsTrue (t.sound s) → ⊥
-not_refused t s s' error meter law refused is trusted honest sound =
-    let fault = told_fault t s s' error meter law refused is trusted honest in
+pub not_refused : (s s' : Known) (error : OpenError) (meter : Meter) → OneHeader → Refused s error s'
+    → IsMeterOf s.capacity s.device meter → IsTrusted meter → IsTrue s.honest → IsTrue s.sound → ⊥
+not_refused s s' error meter law refused is trusted honest sound =
+    let fault = told_fault s s' error meter law refused is trusted honest in
     let bad : false ≡ true = sym (ap is_opening_faultless fault) ∙ refused.never sound in
     cc
 
@@ -172,16 +172,16 @@ pub some_calls : (m : Meter) → 1 ≤ opening_calls m
 some_calls m = omega arith
 
 -- one of the calls failed of each meter that the store may hold
-abbrev pub IsCut : {S : Type 0} → Ghosts S → S → S → Type 0
-IsCut t s s' =
-    (meter : Meter) → IsMeterOf (t.capacity s) (t.device s) meter → IsTrusted meter → IsTrue (t.honest s) → Spends (opening_calls meter) (t.fuse s) (t.fuse s') false
+abbrev pub IsCut : Known → Known → Type 0
+IsCut s s' =
+    (meter : Meter) → IsMeterOf s.capacity s.device meter → IsTrusted meter → IsTrue s.honest → Spends (opening_calls meter) s.fuse s'.fuse false
 
-pub cut_told : {S : Type 0} {T : Type 0} (t : Ghosts S) (s s' : S) (r : Result T OpenError) → IsCut t s s' → OnErr r (IsCut t s s')
-cut_told t s s' (Ok x) cut = tt
-cut_told t s s' (Err e) cut = cut
+pub cut_told : {T : Type 0} (s s' : Known) (r : Result T OpenError) → IsCut s s' → OnErr r (IsCut s s')
+cut_told s s' (Ok x) cut = tt
+cut_told s s' (Err e) cut = cut
 
 -- none did where the image isn't genuine
-pub image_not_cut : {S : Type 0} (t : Ghosts S) (s s' : S) → OneHeader → Refused t.honest t.sound t.capacity t.faults t.fuse t.device s BadImage s' → IsCut t s s'
-image_not_cut t s s' law refused meter is trusted honest =
-    let bad : BadImage ≡ Fault = told_fault t s s' BadImage meter law refused is trusted honest in
+pub image_not_cut : (s s' : Known) → OneHeader → Refused s BadImage s' → IsCut s s'
+image_not_cut s s' law refused meter is trusted honest =
+    let bad : BadImage ≡ Fault = told_fault s s' BadImage meter law refused is trusted honest in
     absurd cc

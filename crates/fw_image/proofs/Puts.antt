@@ -21,7 +21,7 @@ use Rattle.std.proofs.lemmas.Bool.Decides.{nat_tests}
 use Rattle.fw_store.specs.declared.slot.Slot.{Slot}
 use Rattle.fw_store.specs.declared.slot.Slot.TheVariants.{First, Second}
 use Rattle.fw_store.specs.declared.header.Header.{Header}
-use Rattle.fw_store.specs.declared.store.ImageStore.{Ghosts}
+use Rattle.fw_store.specs.Known.{Known}
 use Rattle.fw_store.specs.declared.header.Goal.{Goal}
 use Rattle.fw_image.specs.Meter.{Meter, Phase, receiving, status_of}
 use Rattle.fw_image.specs.Calls.{calls_for, left_by_fault}
@@ -375,13 +375,13 @@ not_verified : (p : Phase) → status_of p ≡ Initiated → status_of p ≡ Ver
 not_verified p receives verified = let bad : Initiated ≡ VerificationSuccessful = sym receives ∙ verified in cc
 
 -- while blocks are received, what is held stays so, whatever stands in the spare slot
-pub holding_put : {S : Type 0} (t : Ghosts S) (s s' : S) (h : Header) (marks : List Bool) (digesting : Option Progress) → digesting ≡ None → status_of (phase_of h.status h.goal) ≡ Initiated
-    → Keeps t.honest t.sound t.capacity t.faults s s' → IsHeader (t.capacity s) (record h { marks = marks })
-    → (IsTrue (t.honest s) → header_bytes (record h { marks = marks }) ≡ (t.device s').head)
-    → (IsTrue (t.honest s) → slot_bytes (t.device s') h.running_slot ≡ slot_bytes (t.device s) h.running_slot)
-    → IsHeld t.honest t.capacity t.device s h → IsHolding t.honest t.capacity t.device s' (record h { marks = marks }) digesting
-holding_put t s s' h marks digesting none status kept valid stored same held =
-    let still : IsTrue (t.honest s') → IsTrue (t.honest s) = λ b. sym kept.honesty ∙ b in
+pub holding_put : (s s' : Known) (h : Header) (marks : List Bool) (digesting : Option Progress) → digesting ≡ None → status_of (phase_of h.status h.goal) ≡ Initiated
+    → Keeps s s' → IsHeader s.capacity (record h { marks = marks })
+    → (IsTrue s.honest → header_bytes (record h { marks = marks }) ≡ s'.device.head)
+    → (IsTrue s.honest → slot_bytes s'.device h.running_slot ≡ slot_bytes s.device h.running_slot)
+    → IsHeld s h → IsHolding s' (record h { marks = marks }) digesting
+holding_put s s' h marks digesting none status kept valid stored same held =
+    let still : IsTrue s'.honest → IsTrue s.honest = λ b. sym kept.honesty ∙ b in
     rw none (record {
       held = record {
         valid = rw kept.size valid;

@@ -2,6 +2,7 @@
 use Rattle.std.specs.Prelude.{◌≡◌, ◌≢◌, ◌≤◌, ℕ, Bool, false, IsTrue, Option, Some, Result, Ok, Err}
 use Rattle.fw_store.specs.Device.{Device}
 use Rattle.fw_store.specs.Faults.{count_after, Spends}
+use Rattle.fw_store.specs.Known.{Known}
 use Rattle.fw_store.specs.declared.fuse.Fuse.{Fuse}
 use Rattle.fw_image.specs.Meter.{Meter, status_of, reopened}
 use Rattle.fw_image.specs.Step.{Operation, OperationOutcome, done, refused, Refuses, Serves, Step, Turn, is_operation_faultless}
@@ -58,12 +59,12 @@ pub record Turns (old new : State) : Type 0 where
   pub spends : Spends (turn_calls old.meter.phase) old.fuse new.fuse faultless
 
 -- A state is that of a store of this type: as honest and as sound, with as many faults counted and as many calls left.
-pub record IsOver {S : Type 0} (honest sound : S → Bool) (faults : S → ℕ) (fuse : S → Option Fuse) (state : State) : Type 0 where
+pub record IsOver {S : Type 0} (known : S → Known) (state : State) : Type 0 where
   pub store : S
-  pub honesty : state.honest ≡ honest store
-  pub soundness : state.sound ≡ sound store
-  pub count : state.faults ≡ faults store
-  pub calls : state.fuse ≡ fuse store
+  pub honesty : state.honest ≡ (known store).honest
+  pub soundness : state.sound ≡ (known store).sound
+  pub count : state.faults ≡ (known store).faults
+  pub calls : state.fuse ≡ (known store).fuse
 
 -- the state as its store keeps it
 abbrev pub stored : State → State

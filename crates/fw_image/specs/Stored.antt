@@ -5,7 +5,7 @@ use Rattle.fw_blocks.specs.Cuts.{cut, block_count, max_blocks}
 use Rattle.fw_blocks.specs.Members.{has}
 use Rattle.fw_store.specs.Device.{Device, slot_bytes}
 use Rattle.fw_store.specs.Faults.{Keeps, count_after, Spends}
-use Rattle.fw_store.specs.declared.fuse.Fuse.{Fuse}
+use Rattle.fw_store.specs.Known.{Known}
 use Rattle.fw_store.specs.Slot.{other}
 use Rattle.fw_store.specs.declared.slot.Slot.{Slot}
 use Rattle.fw_store.specs.Layout.{header_bytes}
@@ -72,26 +72,26 @@ abbrev pub meter_at : ℕ → Header → Option Progress → Device → Meter
 meter_at capacity h digesting d = record (meter_of capacity h d) { phase = phase_at digesting (phase_of h.status h.goal) }
 
 -- the state of a store, the header that it was given, and how far the digest of its goal has come where that is verified
-abbrev pub state_of : {S : Type 0} → (S → Bool) → (S → Bool) → (S → ℕ) → (S → ℕ) → (S → Option Fuse) → (S → Device) → S → Header → Option Progress → State
-state_of honest sound capacity faults fuse device store h digesting =
-    let d = seen (honest store) (capacity store) (device store) in record {
-      meter = meter_at (capacity store) h digesting d;
+abbrev pub state_of : Known → Header → Option Progress → State
+state_of known h digesting =
+    let d = seen known.honest known.capacity known.device in record {
+      meter = meter_at known.capacity h digesting d;
       device = d;
-      honest = honest store;
-      sound = sound store;
-      faults = faults store;
-      fuse = fuse store;
+      honest = known.honest;
+      sound = known.sound;
+      faults = known.faults;
+      fuse = known.fuse;
     }
 
 -- The header is one that a store can have. Where the store is honest it stands there, and the images have their names' digests.
-pub record IsHeld {S : Type 0} (honest : S → Bool) (capacity : S → ℕ) (device : S → Device) (store : S) (h : Header) : Type 0 where
-  pub valid : IsHeader (capacity store) h
-  pub stored : IsTrue (honest store) → header_bytes h ≡ (device store).head
-  pub trusted : IsTrue (honest store) → IsTrusted (meter_of (capacity store) h (device store))
+pub record IsHeld (known : Known) (h : Header) : Type 0 where
+  pub valid : IsHeader known.capacity h
+  pub stored : IsTrue known.honest → header_bytes h ≡ known.device.head
+  pub trusted : IsTrue known.honest → IsTrusted (meter_of known.capacity h known.device)
 
 -- A goal is verified: it is received, with all its blocks. Of its bytes in the spare slot the first `taken` are digested, a slice at least
 -- and not all.
-pub record IsVerifying {S : Type 0} (honest : S → Bool) (device : S → Device) (store : S) (h : Header) (progress : Progress) : Type 0 where
+pub record IsVerifying (known : Known) (h : Header) (progress : Progress) : Type 0 where
   pub goal : Goal
   pub receives : h.status ≡ Initiated
   pub there : h.goal ≡ Some goal
@@ -100,16 +100,16 @@ pub record IsVerifying {S : Type 0} (honest : S → Bool) (device : S → Device
   pub size : progress.size ≡ goal.size
   pub begun : slice_size ≤ progress.taken
   pub more : progress.taken < progress.size
-  pub digests : IsTrue (honest store) → IsDigesting progress (slot_bytes (device store) progress.slot)
+  pub digests : IsTrue known.honest → IsDigesting progress (slot_bytes known.device progress.slot)
 
-abbrev pub IsDigested : {S : Type 0} → (S → Bool) → (S → Device) → S → Header → Option Progress → Type 0
-IsDigested honest device store h None = Unit {0}
-IsDigested honest device store h (Some progress) = IsVerifying honest device store h progress
+abbrev pub IsDigested : Known → Header → Option Progress → Type 0
+IsDigested known h None = Unit {0}
+IsDigested known h (Some progress) = IsVerifying known h progress
 
 -- the header is held with a verification that goes on, or with none
-pub record IsHolding {S : Type 0} (honest : S → Bool) (capacity : S → ℕ) (device : S → Device) (store : S) (h : Header) (digesting : Option Progress) : Type 0 where
-  pub held : IsHeld honest capacity device store h
-  pub digested : IsDigested honest device store h digesting
+pub record IsHolding (known : Known) (h : Header) (digesting : Option Progress) : Type 0 where
+  pub held : IsHeld known h
+  pub digested : IsDigested known h digesting
 
 -- A device with slots of `capacity` bytes is this meter: its header is spelled there, and is one that a store can have.
 pub record IsMeterOf (capacity : ℕ) (d : Device) (m : Meter) : Type 0 where
@@ -120,26 +120,26 @@ pub record IsMeterOf (capacity : ℕ) (d : Device) (m : Meter) : Type 0 where
 
 -- A store holds a state: they are as honest and as large as each other. Where the store is honest, its device is the meter, and the
 -- images of that have the digests of their names.
-pub record Holds {S : Type 0} (honest : S → Bool) (capacity : S → ℕ) (device : S → Device) (store : S) (state : State) : Type 0 where
-  pub honesty : state.honest ≡ honest store
-  pub size : state.meter.capacity ≡ capacity store
-  pub contents : IsTrue (honest store) → state.device ≡ device store
-  pub means : IsTrue (honest store) → IsMeterOf (capacity store) (device store) state.meter
-  pub trusted : IsTrue (honest store) → IsTrusted state.meter
+pub record Holds (known : Known) (state : State) : Type 0 where
+  pub honesty : state.honest ≡ known.honest
+  pub size : state.meter.capacity ≡ known.capacity
+  pub contents : IsTrue known.honest → state.device ≡ known.device
+  pub means : IsTrue known.honest → IsMeterOf known.capacity known.device state.meter
+  pub trusted : IsTrue known.honest → IsTrusted state.meter
 
 -- A store is opened, and its header is one of version 2 from then on. All else of the meter that it was is kept, and the device stays the
 -- same where its header was one of version 2 before. No call of the store failed.
-pub record Opens {S : Type 0} (honest : S → Bool) (capacity : S → ℕ) (fuse : S → Option Fuse) (device : S → Device) (store : S) (state : State) : Type 0 where
-  pub honesty : state.honest ≡ honest store
+pub record Opens (known : Known) (state : State) : Type 0 where
+  pub honesty : state.honest ≡ known.honest
   pub was : Meter
-  pub held : IsTrue (honest store) → IsMeterOf (capacity store) (device store) was
-  pub trusted : IsTrue (honest store) → IsTrusted was
+  pub held : IsTrue known.honest → IsMeterOf known.capacity known.device was
+  pub trusted : IsTrue known.honest → IsTrusted was
   pub goes_on : state.meter ≡ migrated was
-  pub size : was.capacity ≡ capacity store
-  pub holds : IsTrue (honest store) → IsMeterOf (capacity store) state.device state.meter
-  pub slots : IsTrue (honest store) → (slot : Slot) → slot_bytes state.device slot ≡ slot_bytes (device store) slot
-  pub kept : IsTrue (honest store) → was.limit ≡ max_blocks → state.device ≡ device store
-  pub spends : Spends (restart_calls was) (fuse store) state.fuse true
+  pub size : was.capacity ≡ known.capacity
+  pub holds : IsTrue known.honest → IsMeterOf known.capacity state.device state.meter
+  pub slots : IsTrue known.honest → (slot : Slot) → slot_bytes state.device slot ≡ slot_bytes known.device slot
+  pub kept : IsTrue known.honest → was.limit ≡ max_blocks → state.device ≡ known.device
+  pub spends : Spends (restart_calls was) known.fuse state.fuse true
 
 -- Why a store was not opened. Where it is honest: its header is none that it can have; or it is a meter, and an image doesn't have the
 -- digest of its name.
@@ -163,12 +163,12 @@ IsFoundIn BadImage capacity d calls =
     (m : Meter) × IsMeterOf capacity d m × ((calls ≡ 1 + slice_count (length m.running.bytes)) ⊎ (calls ≡ opening_calls m))
 
 -- A store was not opened for this reason, and is returned. The reason is a fault just where a call of it failed, and that call is the last.
-pub record Refused {S : Type 0} (honest sound : S → Bool) (capacity faults : S → ℕ) (fuse : S → Option Fuse) (device : S → Device) (store : S) (error : OpenError) (back : S) : Type 0 where
-  pub reason : IsTrue (honest store) → IsCause error (capacity store) (device store)
-  pub counted : faults back ≡ count_after (is_opening_faultless error) (faults store)
-  pub never : IsTrue (sound store) → IsTrue (is_opening_faultless error)
-  pub same : IsTrue (honest store) → device back ≡ device store
-  pub kept : Keeps honest sound capacity faults store back
+pub record Refused (known : Known) (error : OpenError) (back : Known) : Type 0 where
+  pub reason : IsTrue known.honest → IsCause error known.capacity known.device
+  pub counted : back.faults ≡ count_after (is_opening_faultless error) known.faults
+  pub never : IsTrue known.sound → IsTrue (is_opening_faultless error)
+  pub same : IsTrue known.honest → back.device ≡ known.device
+  pub kept : Keeps known back
   pub calls : ℕ
-  pub spends : Spends calls (fuse store) (fuse back) (is_opening_faultless error)
-  pub found : IsTrue (honest store) → IsFoundIn error (capacity store) (device store) calls
+  pub spends : Spends calls known.fuse back.fuse (is_opening_faultless error)
+  pub found : IsTrue known.honest → IsFoundIn error known.capacity known.device calls

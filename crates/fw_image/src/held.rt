@@ -96,9 +96,9 @@ impl<S: ImageStore> Model for Held<S> {
 
     ghost use Rattle.fw_image.specs.Stored.{state_of, IsHolding};
 
-    ghost view = { λ s. state_of S.honest S.sound S.capacity S.faults S.fuse S.device s.store s.header s.digesting };
+    ghost view = { λ s. state_of (S.known s.store) s.header s.digesting };
 
-    ghost invariant = { λ s. IsHolding S.honest S.capacity S.device s.store s.header s.digesting };
+    ghost invariant = { λ s. IsHolding (S.known s.store) s.header s.digesting };
 }
 
 impl<S: ImageStore> Held<S> {
@@ -246,16 +246,16 @@ impl<S: ImageStore> Held<S> {
 
     /// Opens a store, whose header stays as it is. A store that is refused is returned, and its device is as it was.
     pub(crate) fn open(mut store: S) -> Result<Held<S>, (OpenError, S)>
-        ensures opened { IfOk result (λ next. Holds S.honest S.capacity S.device store next) }
+        ensures opened { IfOk result (λ next. Holds (S.known store) next) }
         ensures begins { IfOk result (λ next. reopened next.meter ≡ next.meter) }
-        ensures sound { IfOk result (λ next. IsTrue (S.sound store) → IsTrue next.sound) }
-        ensures faultless { IfOk result (λ next. next.faults ≡ S.faults store) }
-        ensures spends { IfOk result (λ next. Spends (opening_calls next.meter) (S.fuse store) next.fuse true) }
-        ensures refused { IfErr result (λ e. Refused S.honest S.sound S.capacity S.faults S.fuse S.device store e.0 e.1) }
-        ensures again { (meter : Meter) → IsMeterOf (S.capacity store) (S.device store) meter → IsTrusted meter
-            → IsTrue (S.honest store) → IsTrue (S.sound store) → IsOkAnd result (λ next. next.meter ≡ meter) }
-        ensures cut { (meter : Meter) → IsMeterOf (S.capacity store) (S.device store) meter → IsTrusted meter
-            → IsTrue (S.honest store) → IfErr result (λ e. Spends (opening_calls meter) (S.fuse store) (S.fuse e.1) false) }
+        ensures sound { IfOk result (λ next. IsTrue (S.known store).sound → IsTrue next.sound) }
+        ensures faultless { IfOk result (λ next. next.faults ≡ (S.known store).faults) }
+        ensures spends { IfOk result (λ next. Spends (opening_calls next.meter) (S.known store).fuse next.fuse true) }
+        ensures refused { IfErr result (λ e. Refused (S.known store) e.0 (S.known e.1)) }
+        ensures again { (meter : Meter) → IsMeterOf (S.known store).capacity (S.known store).device meter → IsTrusted meter
+            → IsTrue (S.known store).honest → IsTrue (S.known store).sound → IsOkAnd result (λ next. next.meter ≡ meter) }
+        ensures cut { (meter : Meter) → IsMeterOf (S.known store).capacity (S.known store).device meter → IsTrusted meter
+            → IsTrue (S.known store).honest → IfErr result (λ e. Spends (opening_calls meter) (S.known store).fuse (S.known e.1).fuse false) }
     {
         store_laws::one_header();
         match examine(&mut store) {
@@ -267,15 +267,15 @@ impl<S: ImageStore> Held<S> {
     /// Opens a store, and then writes its header in version 2 where it is one of version 1. A store that is refused is returned, and
     /// its device is as it was.
     pub(crate) fn open_migrated(mut store: S) -> Result<Held<S>, (OpenError, S)>
-        ensures opened { IfOk result (λ next. Opens S.honest S.capacity S.fuse S.device store next) }
+        ensures opened { IfOk result (λ next. Opens (S.known store) next) }
         ensures begins { IfOk result (λ next. reopened next.meter ≡ next.meter) }
-        ensures sound { IfOk result (λ next. IsTrue (S.sound store) → IsTrue next.sound) }
-        ensures faultless { IfOk result (λ next. next.faults ≡ S.faults store) }
-        ensures refused { IfErr result (λ e. Refused S.honest S.sound S.capacity S.faults S.fuse S.device store e.0 e.1) }
-        ensures again { (meter : Meter) → IsMeterOf (S.capacity store) (S.device store) meter → IsTrusted meter
-            → IsTrue (S.honest store) → IsTrue (S.sound store) → IsOkAnd result (λ next. next.meter ≡ migrated meter) }
-        ensures cut { (meter : Meter) → IsMeterOf (S.capacity store) (S.device store) meter → IsTrusted meter
-            → IsTrue (S.honest store) → IfErr result (λ e. Spends (restart_calls meter) (S.fuse store) (S.fuse e.1) false) }
+        ensures sound { IfOk result (λ next. IsTrue (S.known store).sound → IsTrue next.sound) }
+        ensures faultless { IfOk result (λ next. next.faults ≡ (S.known store).faults) }
+        ensures refused { IfErr result (λ e. Refused (S.known store) e.0 (S.known e.1)) }
+        ensures again { (meter : Meter) → IsMeterOf (S.known store).capacity (S.known store).device meter → IsTrusted meter
+            → IsTrue (S.known store).honest → IsTrue (S.known store).sound → IsOkAnd result (λ next. next.meter ≡ migrated meter) }
+        ensures cut { (meter : Meter) → IsMeterOf (S.known store).capacity (S.known store).device meter → IsTrusted meter
+            → IsTrue (S.known store).honest → IfErr result (λ e. Spends (restart_calls meter) (S.known store).fuse (S.known e.1).fuse false) }
     {
         store_laws::one_header();
         store_laws::migrated_is_header();
@@ -292,9 +292,9 @@ impl<S: ImageStore> Held<S> {
 
     /// A store and the header that it holds. Nothing is digested.
     fn of(store: S, header: Header) -> Held<S>
-        requires { IsHeld S.honest S.capacity S.device store header }
+        requires { IsHeld (S.known store) header }
         ensures { result
-            ≡ state_of S.honest S.sound S.capacity S.faults S.fuse S.device store header None }
+            ≡ state_of (S.known store) header None }
     {
         Held {
             store,
@@ -388,7 +388,7 @@ impl<S: ImageStore> Held<S> {
         ensures view { IsView result (shown_of self.now.meter) }
         ensures fits { IsFit self.now.meter }
         ensures trusted { IsTrue self.now.honest → IsTrusted self.now.meter }
-        ensures over { IsOver S.honest S.sound S.faults S.fuse self.now }
+        ensures over { IsOver S.known self.now }
     {
         laws::cut_size();
         let header = &self.header;
@@ -418,10 +418,10 @@ impl<S: ImageStore> Held<S> {
 
     /// The store.
     pub(crate) fn into_store(self) -> S
-        ensures held { Holds S.honest S.capacity S.device result (stored self) }
-        ensures sound { S.sound result ≡ self.sound }
-        ensures faults { S.faults result ≡ self.faults }
-        ensures fuse { S.fuse result ≡ self.fuse }
+        ensures held { Holds (S.known result) (stored self) }
+        ensures sound { (S.known result).sound ≡ self.sound }
+        ensures faults { (S.known result).faults ≡ self.faults }
+        ensures fuse { (S.known result).fuse ≡ self.fuse }
     {
         let Held { store, .. } = self;
         store
@@ -520,13 +520,13 @@ fn replace<S: ImageStore>(
     requires { length next.marks ≡ block_limit next.version }
     ensures done { OnOk result (header.new ≡ next) }
     ensures failed { OnErr result (header.new ≡ header.old) }
-    ensures written { IsTrue (S.honest store.old)
-        → OnOk result (S.device store.new ≡ with_head (S.device store.old) (header_bytes next)) }
-    ensures same { IsTrue (S.honest store.old) → OnErr result (S.device store.new ≡ S.device store.old) }
+    ensures written { IsTrue (S.known store.old).honest
+        → OnOk result ((S.known store.new).device ≡ with_head (S.known store.old).device (header_bytes next)) }
+    ensures same { IsTrue (S.known store.old).honest → OnErr result ((S.known store.new).device ≡ (S.known store.old).device) }
     ensures fits { FieldsFit next }
-    ensures kept { Keeps S.honest S.sound S.capacity S.faults store.old store.new }
-    ensures cause { HasCause (S.sound store.old) (S.faults store.old) (S.faults store.new) result }
-    ensures spends { Spends 1 (S.fuse store.old) (S.fuse store.new) (is_ok result) }
+    ensures kept { Keeps (S.known store.old) (S.known store.new) }
+    ensures cause { HasCause (S.known store.old).sound (S.known store.old).faults (S.known store.new).faults result }
+    ensures spends { Spends 1 (S.known store.old).fuse (S.known store.new).fuse (is_ok result) }
 {
     store.write_header(&next.to_bytes())?;
     *header = next;
@@ -543,13 +543,13 @@ fn mark_block<S: ImageStore>(
     requires number { number < length header.old.marks }
     ensures done { OnOk result (header.new ≡ with_mark number header.old) }
     ensures failed { OnErr result (header.new ≡ header.old) }
-    ensures written { IsTrue (S.honest store.old)
-        → OnOk result (S.device store.new ≡ with_head (S.device store.old) (header_bytes (with_mark number header.old))) }
-    ensures same { IsTrue (S.honest store.old) → OnErr result (S.device store.new ≡ S.device store.old) }
+    ensures written { IsTrue (S.known store.old).honest
+        → OnOk result ((S.known store.new).device ≡ with_head (S.known store.old).device (header_bytes (with_mark number header.old))) }
+    ensures same { IsTrue (S.known store.old).honest → OnErr result ((S.known store.new).device ≡ (S.known store.old).device) }
     ensures fits { FieldsFit (with_mark number header.old) }
-    ensures kept { Keeps S.honest S.sound S.capacity S.faults store.old store.new }
-    ensures cause { HasCause (S.sound store.old) (S.faults store.old) (S.faults store.new) result }
-    ensures spends { Spends 1 (S.fuse store.old) (S.fuse store.new) (is_ok result) }
+    ensures kept { Keeps (S.known store.old) (S.known store.new) }
+    ensures cause { HasCause (S.known store.old).sound (S.known store.old).faults (S.known store.new).faults result }
+    ensures spends { Spends 1 (S.known store.old).fuse (S.known store.new).fuse (is_ok result) }
 {
     let mut next = *header;
     next.marks.mark(number);
@@ -607,13 +607,13 @@ fn is_genuine<S: ImageStore>(
     size: u32,
     name: ImageName,
 ) -> Result<bool, StoreFault>
-    requires { size ≤ S.capacity store.old }
-    ensures digest { IsTrue (S.honest store.old)
-        → IfOk result (λ same. IsTrue same ↔ (sha256 (take size (slot_bytes (S.device store.old) slot)) ≡ name.digest)) }
-    ensures same { IsTrue (S.honest store.old) → S.device store.new ≡ S.device store.old }
-    ensures kept { Keeps S.honest S.sound S.capacity S.faults store.old store.new }
-    ensures cause { HasCause (S.sound store.old) (S.faults store.old) (S.faults store.new) result }
-    ensures spends { Spends (slice_count size) (S.fuse store.old) (S.fuse store.new) (is_ok result) }
+    requires { size ≤ (S.known store.old).capacity }
+    ensures digest { IsTrue (S.known store.old).honest
+        → IfOk result (λ same. IsTrue same ↔ (sha256 (take size (slot_bytes (S.known store.old).device slot)) ≡ name.digest)) }
+    ensures same { IsTrue (S.known store.old).honest → (S.known store.new).device ≡ (S.known store.old).device }
+    ensures kept { Keeps (S.known store.old) (S.known store.new) }
+    ensures cause { HasCause (S.known store.old).sound (S.known store.old).faults (S.known store.new).faults result }
+    ensures spends { Spends (slice_count size) (S.known store.old).fuse (S.known store.new).fuse (is_ok result) }
 {
     let found = digest(store, slot, size)?;
     Ok(found == name.digest)
@@ -632,13 +632,13 @@ fn judge<S: ImageStore>(
         → IfOk result (λ same. IsTrue same ↔ (sha256 (take digesting.size contents) ≡ name.digest)) }
     ensures done { IfOk result (λ same. header.new ≡ record header.old { status = judged same }) }
     ensures failed { OnErr result (header.new ≡ header.old) }
-    ensures written { IsTrue (S.honest store.old)
-        → OnOk result (S.device store.new ≡ with_head (S.device store.old) (header_bytes header.new)) }
-    ensures same { IsTrue (S.honest store.old) → OnErr result (S.device store.new ≡ S.device store.old) }
+    ensures written { IsTrue (S.known store.old).honest
+        → OnOk result ((S.known store.new).device ≡ with_head (S.known store.old).device (header_bytes header.new)) }
+    ensures same { IsTrue (S.known store.old).honest → OnErr result ((S.known store.new).device ≡ (S.known store.old).device) }
     ensures fits { OnOk result (FieldsFit header.new) }
-    ensures kept { Keeps S.honest S.sound S.capacity S.faults store.old store.new }
-    ensures cause { HasCause (S.sound store.old) (S.faults store.old) (S.faults store.new) result }
-    ensures spends { Spends 1 (S.fuse store.old) (S.fuse store.new) (is_ok result) }
+    ensures kept { Keeps (S.known store.old) (S.known store.new) }
+    ensures cause { HasCause (S.known store.old).sound (S.known store.old).faults (S.known store.new).faults result }
+    ensures spends { Spends 1 (S.known store.old).fuse (S.known store.new).fuse (is_ok result) }
 {
     let genuine = digesting.finish() == name.digest;
     let next = Header {
@@ -662,14 +662,14 @@ fn judged(genuine: bool) -> StoredStatus
 
 /// Writes a header that is held in version 2, where it is one of version 1, and keeps it where that succeeded.
 fn migrate<S: ImageStore>(store: &mut S, header: &mut Header) -> Result<(), StoreFault>
-    requires { IsHeld S.honest S.capacity S.device store.old header.old }
+    requires { IsHeld (S.known store.old) header.old }
     ensures done { OnOk result (header.new ≡ header_migrated header.old) }
-    ensures written { IsTrue (S.honest store.old)
-        → OnOk result (S.device store.new ≡ with_head (S.device store.old) (header_bytes (header_migrated header.old))) }
-    ensures same { IsTrue (S.honest store.old) → OnErr result (S.device store.new ≡ S.device store.old) }
-    ensures kept { Keeps S.honest S.sound S.capacity S.faults store.old store.new }
-    ensures cause { HasCause (S.sound store.old) (S.faults store.old) (S.faults store.new) result }
-    ensures spends { Spends (migrating_writes header.old) (S.fuse store.old) (S.fuse store.new) (is_ok result) }
+    ensures written { IsTrue (S.known store.old).honest
+        → OnOk result ((S.known store.new).device ≡ with_head (S.known store.old).device (header_bytes (header_migrated header.old))) }
+    ensures same { IsTrue (S.known store.old).honest → OnErr result ((S.known store.new).device ≡ (S.known store.old).device) }
+    ensures kept { Keeps (S.known store.old) (S.known store.new) }
+    ensures cause { HasCause (S.known store.old).sound (S.known store.old).faults (S.known store.new).faults result }
+    ensures spends { Spends (migrating_writes header.old) (S.known store.old).fuse (S.known store.new).fuse (is_ok result) }
 {
     match header.version {
         HeaderVersion::One => {
@@ -682,16 +682,16 @@ fn migrate<S: ImageStore>(store: &mut S, header: &mut Header) -> Result<(), Stor
 
 /// Reads the header of a store, and checks it and the images.
 fn examine<S: ImageStore>(store: &mut S) -> Result<Header, OpenError>
-    ensures held { IfOk result (IsHeld S.honest S.capacity S.device store.new) }
-    ensures same { IsTrue (S.honest store.old) → S.device store.new ≡ S.device store.old }
-    ensures kept { Keeps S.honest S.sound S.capacity S.faults store.old store.new }
-    ensures faultless { OnOk result (S.faults store.new ≡ S.faults store.old) }
+    ensures held { IfOk result (IsHeld (S.known store.new)) }
+    ensures same { IsTrue (S.known store.old).honest → (S.known store.new).device ≡ (S.known store.old).device }
+    ensures kept { Keeps (S.known store.old) (S.known store.new) }
+    ensures faultless { OnOk result ((S.known store.new).faults ≡ (S.known store.old).faults) }
     ensures spends { IfOk result (λ header.
         Spends (1 + slice_count header.running_size + slice_count (verified_size (phase_of header.status header.goal)))
-        (S.fuse store.old) (S.fuse store.new) true) }
-    ensures refused { IfErr result (λ e. Refused S.honest S.sound S.capacity S.faults S.fuse S.device store.old e store.new) }
-    ensures cut { OnErr result ((meter : Meter) → IsMeterOf (S.capacity store.old) (S.device store.old) meter → IsTrusted meter
-        → IsTrue (S.honest store.old) → Spends (opening_calls meter) (S.fuse store.old) (S.fuse store.new) false) }
+        (S.known store.old).fuse (S.known store.new).fuse true) }
+    ensures refused { IfErr result (λ e. Refused (S.known store.old) e (S.known store.new)) }
+    ensures cut { OnErr result ((meter : Meter) → IsMeterOf (S.known store.old).capacity (S.known store.old).device meter → IsTrusted meter
+        → IsTrue (S.known store.old).honest → Spends (opening_calls meter) (S.known store.old).fuse (S.known store.new).fuse false) }
 {
     store_laws::one_header();
     store_laws::calls_add();
@@ -712,14 +712,14 @@ fn examine<S: ImageStore>(store: &mut S) -> Result<Header, OpenError>
 
 /// Whether the goal, where it was verified, has the digest of its name.
 fn is_goal_genuine<S: ImageStore>(store: &mut S, header: &Header) -> Result<bool, StoreFault>
-    requires { IsHeader (S.capacity store.old) header.now }
-    ensures genuine { IsTrue (S.honest store.old) → IfOk result (λ genuine. IsTrue genuine
-        ↔ IsVerifiedGenuine (meter_of (S.capacity store.old) header.now (S.device store.old))) }
-    ensures same { IsTrue (S.honest store.old) → S.device store.new ≡ S.device store.old }
-    ensures kept { Keeps S.honest S.sound S.capacity S.faults store.old store.new }
-    ensures cause { HasCause (S.sound store.old) (S.faults store.old) (S.faults store.new) result }
+    requires { IsHeader (S.known store.old).capacity header.now }
+    ensures genuine { IsTrue (S.known store.old).honest → IfOk result (λ genuine. IsTrue genuine
+        ↔ IsVerifiedGenuine (meter_of (S.known store.old).capacity header.now (S.known store.old).device)) }
+    ensures same { IsTrue (S.known store.old).honest → (S.known store.new).device ≡ (S.known store.old).device }
+    ensures kept { Keeps (S.known store.old) (S.known store.new) }
+    ensures cause { HasCause (S.known store.old).sound (S.known store.old).faults (S.known store.new).faults result }
     ensures spends { Spends (slice_count (verified_size (phase_of header.now.status header.now.goal)))
-        (S.fuse store.old) (S.fuse store.new) (is_ok result) }
+        (S.known store.old).fuse (S.known store.new).fuse (is_ok result) }
 {
     laws::cuts_join();
     let StoredStatus::VerificationSuccessful = header.status else {

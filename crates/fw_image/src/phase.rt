@@ -57,23 +57,23 @@ pub enum Phase<S: ImageStore> {
 ///
 /// `Fault`, `BadHeader` or `BadImage`, with the store, whose device is as it was.
 pub fn open_store<S: ImageStore>(store: S) -> Result<Phase<S>, (OpenError, S)>
-    ensures opened { IfOk result (λ phase. Opens S.honest S.capacity S.fuse S.device store (state_in phase)) }
+    ensures opened { IfOk result (λ phase. Opens (S.known store) (state_in phase)) }
     ensures phase { IfOk result IsInPhase }
 
     // No verification goes on.
     ensures begins { IfOk result (λ phase. reopened (state_in phase).meter ≡ (state_in phase).meter) }
-    ensures sound { IfOk result (λ phase. IsTrue (S.sound store) → IsTrue (state_in phase).sound) }
-    ensures faultless { IfOk result (λ phase. (state_in phase).faults ≡ S.faults store) }
-    ensures refused { IfErr result (λ e. Refused S.honest S.sound S.capacity S.faults S.fuse S.device store e.0 e.1) }
+    ensures sound { IfOk result (λ phase. IsTrue (S.known store).sound → IsTrue (state_in phase).sound) }
+    ensures faultless { IfOk result (λ phase. (state_in phase).faults ≡ (S.known store).faults) }
+    ensures refused { IfErr result (λ e. Refused (S.known store) e.0 (S.known e.1)) }
 
     // An honest, sound store that holds a meter, whose images have their names' digests, is opened as that meter, with a header
     // of version 2.
-    ensures again { (meter : Meter) → IsMeterOf (S.capacity store) (S.device store) meter → IsTrusted meter
-        → IsTrue (S.honest store) → IsTrue (S.sound store) → IsOkAnd result (λ phase. (state_in phase).meter ≡ migrated meter) }
+    ensures again { (meter : Meter) → IsMeterOf (S.known store).capacity (S.known store).device meter → IsTrusted meter
+        → IsTrue (S.known store).honest → IsTrue (S.known store).sound → IsOkAnd result (λ phase. (state_in phase).meter ≡ migrated meter) }
 
     // An honest store that holds such a meter is refused only where one of these calls fails.
-    ensures cut { (meter : Meter) → IsMeterOf (S.capacity store) (S.device store) meter → IsTrusted meter
-        → IsTrue (S.honest store) → IfErr result (λ e. Spends (restart_calls meter) (S.fuse store) (S.fuse e.1) false) }
+    ensures cut { (meter : Meter) → IsMeterOf (S.known store).capacity (S.known store).device meter → IsTrusted meter
+        → IsTrue (S.known store).honest → IfErr result (λ e. Spends (restart_calls meter) (S.known store).fuse (S.known e.1).fuse false) }
 {
     Ok(Phase::of(Held::open_migrated(store)?))
 }
@@ -85,24 +85,24 @@ pub fn open_store<S: ImageStore>(store: S) -> Result<Phase<S>, (OpenError, S)>
 ///
 /// As for `open_store`.
 pub fn open_kept<S: ImageStore>(store: S) -> Result<Phase<S>, (OpenError, S)>
-    ensures opened { IfOk result (λ phase. Holds S.honest S.capacity S.device store (state_in phase)) }
+    ensures opened { IfOk result (λ phase. Holds (S.known store) (state_in phase)) }
     ensures phase { IfOk result IsInPhase }
 
     // No verification goes on.
     ensures begins { IfOk result (λ phase. reopened (state_in phase).meter ≡ (state_in phase).meter) }
-    ensures sound { IfOk result (λ phase. IsTrue (S.sound store) → IsTrue (state_in phase).sound) }
-    ensures faultless { IfOk result (λ phase. (state_in phase).faults ≡ S.faults store) }
+    ensures sound { IfOk result (λ phase. IsTrue (S.known store).sound → IsTrue (state_in phase).sound) }
+    ensures faultless { IfOk result (λ phase. (state_in phase).faults ≡ (S.known store).faults) }
     ensures spends { IfOk result (λ phase.
-        Spends (opening_calls (state_in phase).meter) (S.fuse store) (state_in phase).fuse true) }
-    ensures refused { IfErr result (λ e. Refused S.honest S.sound S.capacity S.faults S.fuse S.device store e.0 e.1) }
+        Spends (opening_calls (state_in phase).meter) (S.known store).fuse (state_in phase).fuse true) }
+    ensures refused { IfErr result (λ e. Refused (S.known store) e.0 (S.known e.1)) }
 
     // An honest, sound store that holds a meter, whose images have their names' digests, is opened as that meter.
-    ensures again { (meter : Meter) → IsMeterOf (S.capacity store) (S.device store) meter → IsTrusted meter
-        → IsTrue (S.honest store) → IsTrue (S.sound store) → IsOkAnd result (λ phase. (state_in phase).meter ≡ meter) }
+    ensures again { (meter : Meter) → IsMeterOf (S.known store).capacity (S.known store).device meter → IsTrusted meter
+        → IsTrue (S.known store).honest → IsTrue (S.known store).sound → IsOkAnd result (λ phase. (state_in phase).meter ≡ meter) }
 
     // An honest store that holds such a meter is refused only where one of these calls fails.
-    ensures cut { (meter : Meter) → IsMeterOf (S.capacity store) (S.device store) meter → IsTrusted meter
-        → IsTrue (S.honest store) → IfErr result (λ e. Spends (opening_calls meter) (S.fuse store) (S.fuse e.1) false) }
+    ensures cut { (meter : Meter) → IsMeterOf (S.known store).capacity (S.known store).device meter → IsTrusted meter
+        → IsTrue (S.known store).honest → IfErr result (λ e. Spends (opening_calls meter) (S.known store).fuse (S.known e.1).fuse false) }
 {
     Ok(Phase::of(Held::open(store)?))
 }
@@ -270,7 +270,7 @@ impl<S: ImageStore> Phase<S> {
         ensures trusted { IsTrue (state_in self.now).honest → IsTrusted (state_in self.now).meter }
 
         // It is over a store of its type: over one in memory it is honest, and sound where no fuse is set.
-        ensures over { IsOver S.honest S.sound S.faults S.fuse (state_in self.now) }
+        ensures over { IsOver S.known (state_in self.now) }
     {
         self.held().view()
     }
@@ -278,10 +278,10 @@ impl<S: ImageStore> Phase<S> {
     /// The store, from which `open_kept` gives the transfer again. A verification that goes on is not kept: the image is
     /// then received, with all its blocks.
     pub fn into_store(self) -> S
-        ensures held { Holds S.honest S.capacity S.device result (stored (state_in self)) }
-        ensures sound { S.sound result ≡ (state_in self).sound }
-        ensures faults { S.faults result ≡ (state_in self).faults }
-        ensures fuse { S.fuse result ≡ (state_in self).fuse }
+        ensures held { Holds (S.known result) (stored (state_in self)) }
+        ensures sound { (S.known result).sound ≡ (state_in self).sound }
+        ensures faults { (S.known result).faults ≡ (state_in self).faults }
+        ensures fuse { (S.known result).fuse ≡ (state_in self).fuse }
     {
         self.into_held().into_store()
     }

@@ -135,7 +135,7 @@ impl<S: ImageStore, P: Status> Transfer<S, P> {
         ensures trusted { IsTrue self.now.honest → IsTrusted self.now.meter }
 
         // It is over a store of its type: over one in memory it is honest, and sound where no fuse is set.
-        ensures over { IsOver S.honest S.sound S.faults S.fuse self.now }
+        ensures over { IsOver S.known self.now }
     {
         self.held.view()
     }
@@ -160,10 +160,10 @@ impl<S: ImageStore, P: Status> Transfer<S, P> {
     /// The store, from which `open_kept` gives the transfer again. A verification that goes on is not kept: the image is
     /// then received, with all its blocks.
     pub fn into_store(self) -> S
-        ensures held { Holds S.honest S.capacity S.device result (stored self) }
-        ensures sound { S.sound result ≡ self.sound }
-        ensures faults { S.faults result ≡ self.faults }
-        ensures fuse { S.fuse result ≡ self.fuse }
+        ensures held { Holds (S.known result) (stored self) }
+        ensures sound { (S.known result).sound ≡ self.sound }
+        ensures faults { (S.known result).faults ≡ self.faults }
+        ensures fuse { (S.known result).fuse ≡ self.fuse }
     {
         self.held.into_store()
     }

@@ -11,4 +11,4 @@ returns-in-Two-clause-done g c = sym (migrated_two c.args.header.now c.in-Two.is
 
 pub returns-in-Two-clause-written : goal.returns-in-Two-clause-written
 returns-in-Two-clause-written g c = λ honest.
-    sym (device_two (g.S.ImageStore.capacity c.args.store.now) c.args.header.now (g.S.ImageStore.device c.args.store.now) c.requires.valid (c.requires.stored honest) c.in-Two.is)
+    sym (device_two (g.S.ImageStore.known c.args.store.now).capacity c.args.header.now (g.S.ImageStore.known c.args.store.now).device c.requires.valid (c.requires.stored honest) c.in-Two.is)

@@ -16,11 +16,11 @@ invariant_of-self-2 g c =
     let told = c.in_ok-replace.ensures in
     let none = none_has _ c.no_marks.result c.no_marks.ensures in
     let at : status_of (phase_at c.self.inside.digesting (phase_of h.status h.goal)) ≡ VerificationSuccessful = rw (← c.self.view_is) at c.requires in
-    let none_digests = none_digested g.S.ImageStore.honest g.S.ImageStore.device c.self.inside.store h c.self.inside.digesting c.self.invariant.digested VerificationSuccessful at (λ e. cc) in
+    let none_digests = none_digested (g.S.ImageStore.known c.self.inside.store) h c.self.inside.digesting c.self.invariant.digested VerificationSuccessful at (λ e. cc) in
     let status : status_of (phase_of h.status h.goal) ≡ VerificationSuccessful = rw none_digests at at in
     let phase = is_sealed _ h wanted valid status c.in-Some.is in
     rw (told.done, none_digests) (record {
-      held = held_written g.S.ImageStore c.self.inside.store c.replace.new.store h _ (g.met.S.ImageStore.sized c.self.inside.store) told.kept told.written c.self.invariant.held
+      held = held_written (g.S.ImageStore.known c.self.inside.store) (g.S.ImageStore.known c.replace.new.store) h _ (g.met.S.ImageStore.sized c.self.inside.store) told.kept told.written c.self.invariant.held
           (valid_switched _ h c.other.result wanted c.no_marks.result none c.in-Some.is valid told.fits)
           (λ d d' views honest trusted.
           let whole = verified_bytes c.cuts_join.ensures _ h d wanted valid views.sized status c.in-Some.is in
@@ -34,14 +34,14 @@ returns-clause-makes g c =
     let valid = c.self.invariant.held.valid in
     let wanted = c.in-Some.goal in
     let told = c.in_ok-replace.ensures in
-    let s = g.S.ImageStore in
-    let store = c.self.inside.store in
-    let m = meter_of (s.capacity store) h (seen (s.honest store) (s.capacity store) (s.device store)) in
+    let known = g.S.ImageStore.known in
+    let store = known c.self.inside.store in
+    let m = meter_of store.capacity h (seen store.honest store.capacity store.device) in
     let at : status_of (phase_at c.self.inside.digesting (phase_of h.status h.goal)) ≡ VerificationSuccessful = rw (← c.self.view_is) at c.requires in
-    let none_digests = none_digested g.S.ImageStore.honest g.S.ImageStore.device c.self.inside.store h c.self.inside.digesting c.self.invariant.digested VerificationSuccessful at (λ e. cc) in
+    let none_digests = none_digested (known c.self.inside.store) h c.self.inside.digesting c.self.invariant.digested VerificationSuccessful at (λ e. cc) in
     let status : status_of (phase_of h.status h.goal) ≡ VerificationSuccessful = rw none_digests at at in
     let phase = is_sealed _ h wanted valid status c.in-Some.is in
     let admits = subst (λ (p : Phase). Admits m p activate) (sym phase) tt in
-    rw (← c.self.view_is, told.done, none_digests) (makes_written s store c.replace.new.store h (header_switched h c.other.result wanted c.no_marks.result) None None activate done refl (g.met.S.ImageStore.sized store) told.kept told.cause.counted told.written told.spends (c.if-not-self.false, admits)
+    rw (← c.self.view_is, told.done, none_digests) (makes_written store (known c.replace.new.store) h (header_switched h c.other.result wanted c.no_marks.result) None None activate done refl (g.met.S.ImageStore.sized c.self.inside.store) told.kept told.cause.counted told.written told.spends (c.if-not-self.false, admits)
     (λ d d' views.
     leaves _ _ _ (meter_of-switched _ h d d' c.other.result wanted c.no_marks.result c.other.ensures views.same phase (verified_bytes c.cuts_join.ensures _ h d wanted valid views.sized status c.in-Some.is))))

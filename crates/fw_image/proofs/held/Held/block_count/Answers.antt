@@ -8,16 +8,16 @@ use Rattle.fw_image.proofs.held.Held.block_count.Goals as goal
 
 pub returns-in-Some-clause-past : goal.returns-in-Some-clause-past
 returns-in-Some-clause-past g c = λ number past.
-    let s = g.S.ImageStore in
-    let store = c.self.inside.store in
+    let known = g.S.ImageStore.known in
+    let store = known c.self.inside.store in
     let h = c.self.inside.header in
     let count : goal_count h.block_size h.goal ≡ c.div_ceil.result = ap (goal_count h.block_size) c.in-Some.is ∙ sym c.div_ceil.ensures in
-    rw (← c.self.view_is) (cells_past h.block_size h.marks (slot_bytes (seen (s.honest store) (s.capacity store) (s.device store)) (other h.running_slot)) h.goal number (omega arith))
+    rw (← c.self.view_is) (cells_past h.block_size h.marks (slot_bytes (seen store.honest store.capacity store.device) (other h.running_slot)) h.goal number (omega arith))
 
 pub returns-in-None-clause-past : goal.returns-in-None-clause-past
 returns-in-None-clause-past g c = λ number past.
-    let s = g.S.ImageStore in
-    let store = c.self.inside.store in
+    let known = g.S.ImageStore.known in
+    let store = known c.self.inside.store in
     let h = c.self.inside.header in
     let count : goal_count h.block_size h.goal ≡ 0 = ap (goal_count h.block_size) c.in-None.is in
-    rw (← c.self.view_is) (cells_past h.block_size h.marks (slot_bytes (seen (s.honest store) (s.capacity store) (s.device store)) (other h.running_slot)) h.goal number (omega arith))
+    rw (← c.self.view_is) (cells_past h.block_size h.marks (slot_bytes (seen store.honest store.capacity store.device) (other h.running_slot)) h.goal number (omega arith))

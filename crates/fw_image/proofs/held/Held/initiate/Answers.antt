@@ -12,7 +12,7 @@ invariant_of-self-2 g c =
     let offer = rw c.capacity.ensures at (c.if-not-is_offer.ensures.0 refl) in
     let valid = valid_begun _ h c.args.name c.args.size c.no_marks.result none c.self.invariant.held.valid told.fits (goal_of_offer _ _ _ _ c.args.name c.args.size offer) in
     rw told.done (record {
-      held = held_written g.S.ImageStore c.self.inside.store c.replace.new.store h _ (g.met.S.ImageStore.sized c.self.inside.store) told.kept told.written c.self.invariant.held valid
+      held = held_written (g.S.ImageStore.known c.self.inside.store) (g.S.ImageStore.known c.replace.new.store) h _ (g.met.S.ImageStore.sized c.self.inside.store) told.kept told.written c.self.invariant.held valid
           (λ d d' views honest trusted. rw (meter_of-begun _ h d d' c.args.name c.args.size c.no_marks.result none views.same) (trusted_begun _ c.args.name c.args.size trusted));
       digested = tt;
     })
@@ -23,5 +23,5 @@ returns-clause-makes g c =
     let told = c.in_ok-replace.ensures in
     let none = none_has _ c.no_marks.result c.no_marks.ensures in
     let offer = rw c.capacity.ensures at (c.if-not-is_offer.ensures.0 refl) in
-    rw (← c.self.view_is, told.done) (makes_written g.S.ImageStore c.self.inside.store c.replace.new.store h (header_begun h c.args.name c.args.size c.no_marks.result) c.self.inside.digesting None (initiate c.args.name c.args.size) done refl (g.met.S.ImageStore.sized c.self.inside.store) told.kept told.cause.counted told.written told.spends (c.if-not-self.false, offer)
+    rw (← c.self.view_is, told.done) (makes_written (g.S.ImageStore.known c.self.inside.store) (g.S.ImageStore.known c.replace.new.store) h (header_begun h c.args.name c.args.size c.no_marks.result) c.self.inside.digesting None (initiate c.args.name c.args.size) done refl (g.met.S.ImageStore.sized c.self.inside.store) told.kept told.cause.counted told.written told.spends (c.if-not-self.false, offer)
     (λ d d' views. leaves _ _ _ (meter_of-begun _ h d d' c.args.name c.args.size c.no_marks.result none views.same)))

@@ -8,12 +8,12 @@ use Rattle.fw_image.proofs.held.Held.marks.Goals as goal
 
 pub returns : goal.returns
 returns g c =
-    let s = g.S.ImageStore in
-    let store = c.self.inside.store in
+    let known = g.S.ImageStore.known in
+    let store = known c.self.inside.store in
     let h = c.self.inside.header in
     let valid = c.self.invariant.held.valid in
-    let sized = seen_size (s.honest store) (s.capacity store) (s.device store) (g.met.S.ImageStore.sized store) in
-    let shown = shown_at (s.capacity store) h c.self.inside.digesting (seen (s.honest store) (s.capacity store) (s.device store)) valid sized in
+    let sized = seen_size store.honest store.capacity store.device (g.met.S.ImageStore.sized c.self.inside.store) in
+    let shown = shown_at store.capacity h c.self.inside.digesting (seen store.honest store.capacity store.device) valid sized in
     rw (← c.self.view_is)
     (ap (λ (goal : Option Goal). take (goal_count h.block_size goal) h.marks) (goal_at c.self.inside.digesting (phase_of h.status h.goal) ∙ goal_again h.status h.goal valid.goal_by_status)
     ∙ sym (ap (λ (x : Shown). x.marked) shown))

@@ -18,18 +18,18 @@ none_verified switched other = refl
 
 pub returns-in-VerificationSuccessful-Some-clause-fits : goal.returns-in-VerificationSuccessful-Some-clause-fits
 returns-in-VerificationSuccessful-Some-clause-fits g c =
-    let s = g.S.ImageStore in
-    let store = c.self.inside.store in
-    let sized = seen_size (s.honest store) (s.capacity store) (s.device store) (g.met.S.ImageStore.sized store) in
-    rw (← c.self.view_is) (fit_at c.cut_size.ensures (s.capacity store) c.self.inside.header c.self.inside.digesting (seen (s.honest store) (s.capacity store) (s.device store)) c.self.invariant.held.valid sized)
+    let known = g.S.ImageStore.known in
+    let store = known c.self.inside.store in
+    let sized = seen_size store.honest store.capacity store.device (g.met.S.ImageStore.sized c.self.inside.store) in
+    rw (← c.self.view_is) (fit_at c.cut_size.ensures store.capacity c.self.inside.header c.self.inside.digesting (seen store.honest store.capacity store.device) c.self.invariant.held.valid sized)
 
 pub returns-in_default-2 : goal.returns-in_default-2
 returns-in_default-2 g c =
-    let s = g.S.ImageStore in
-    let store = c.self.inside.store in
-    let sized = seen_size (s.honest store) (s.capacity store) (s.device store) (g.met.S.ImageStore.sized store) in
+    let known = g.S.ImageStore.known in
+    let store = known c.self.inside.store in
+    let sized = seen_size store.honest store.capacity store.device (g.met.S.ImageStore.sized c.self.inside.store) in
     record {
       size = sym (none_verified c.args.self.now.meter.phase (λ e. c.in_default.not-VerificationSuccessful-0 (c.status.ensures ∙ e)));
-      fits = rw (← c.self.view_is) (fit_at c.cut_size.ensures (s.capacity store) c.self.inside.header c.self.inside.digesting (seen (s.honest store) (s.capacity store) (s.device store)) c.self.invariant.held.valid sized);
+      fits = rw (← c.self.view_is) (fit_at c.cut_size.ensures store.capacity c.self.inside.header c.self.inside.digesting (seen store.honest store.capacity store.device) c.self.invariant.held.valid sized);
       trusted = search rules;
     }
