@@ -1,7 +1,6 @@
 -- What a restart finds in the store of a meter, and how many calls it makes.
-use Rattle.std.proofs.Common.{◌≡◌, ℕ, Bool, IsTrue, Option, refl, sym, ap, ◌∙◌}
-use Rattle.fw_store.specs.Device.{Device}
-use Rattle.fw_store.specs.declared.fuse.Fuse.{Fuse}
+use Rattle.std.proofs.Common.{◌≡◌, IsTrue, refl, sym, ap, ◌∙◌}
+use Rattle.fw_store.specs.Known.{Known}
 use Rattle.fw_image.specs.Calls.{verified_size, restart_calls}
 use Rattle.fw_image.specs.Laws.{OneMeter}
 use Rattle.fw_image.specs.Meter.{Meter, Phase, idle, receiving, verifying, sealed, spoilt, switched, reopened, reopened_phase, migrated, restarted}
@@ -21,12 +20,11 @@ reopened_calls : (m : Meter) → restart_calls (reopened m) ≡ restart_calls m
 reopened_calls m = rw (reopened_size m.phase) refl
 
 -- an honest store in which a meter was left is opened as that meter
-module _ {S : Type 0} (honest : S → Bool) (capacity : S → ℕ) (fuse : S → Option Fuse) (device : S → Device) (store : S) (old new : State) (law : OneMeter)
-    (left : Holds honest capacity device store (stored old)) (opened : Opens honest capacity fuse device store new) (is : IsTrue old.honest) where
+module _ (known : Known) (old new : State) (law : OneMeter) (left : Holds known (stored old)) (opened : Opens known new) (is : IsTrue old.honest) where
   found : opened.was ≡ reopened old.meter
   found =
-      let b : IsTrue (honest store) = sym left.honesty ∙ is in
-      law (capacity store) (device store) opened.was (reopened old.meter) (opened.held b) (left.means b)
+      let b : IsTrue known.honest = sym left.honesty ∙ is in
+      law known.capacity known.device opened.was (reopened old.meter) (opened.held b) (left.means b)
 
   pub goes_on : new.meter ≡ restarted old.meter
   goes_on = opened.goes_on ∙ ap migrated found

@@ -89,19 +89,19 @@ impl<S: ImageStore + Drop> MeterCore<S> {
     /// that runs, or a verified one, hasn't the digest of its name, in this order. The store is returned, and holds what it
     /// held.
     pub fn open_store(store: S) -> Result<MeterCore<S>, (OpenError, S)>
-        ensures opened { IfOk result (λ meter. Opens S.honest S.capacity S.fuse S.device store meter) }
+        ensures opened { IfOk result (λ meter. Opens (S.known store) meter) }
 
         // No verification goes on.
         ensures begins { IfOk result (λ meter. reopened meter.meter ≡ meter.meter) }
-        ensures sound { IfOk result (λ meter. IsTrue (S.sound store) → IsTrue meter.sound) }
-        ensures faultless { IfOk result (λ meter. meter.faults ≡ S.faults store) }
-        ensures again { (meter : Meter) → IsMeterOf (S.capacity store) (S.device store) meter → IsTrusted meter
-            → IsTrue (S.honest store) → IsTrue (S.sound store) → IsOkAnd result (λ opened. opened.meter ≡ migrated meter) }
+        ensures sound { IfOk result (λ meter. IsTrue (S.known store).sound → IsTrue meter.sound) }
+        ensures faultless { IfOk result (λ meter. meter.faults ≡ (S.known store).faults) }
+        ensures again { (meter : Meter) → IsMeterOf (S.known store).capacity (S.known store).device meter → IsTrusted meter
+            → IsTrue (S.known store).honest → IsTrue (S.known store).sound → IsOkAnd result (λ opened. opened.meter ≡ migrated meter) }
 
         // An honest store that holds such a meter is refused only where one of these calls fails.
-        ensures cut { (meter : Meter) → IsMeterOf (S.capacity store) (S.device store) meter → IsTrusted meter
-            → IsTrue (S.honest store) → IfErr result (λ e. Spends (restart_calls meter) (S.fuse store) (S.fuse e.1) false) }
-        ensures refused { IfErr result (λ e. Refused S.honest S.sound S.capacity S.faults S.fuse S.device store e.0 e.1) }
+        ensures cut { (meter : Meter) → IsMeterOf (S.known store).capacity (S.known store).device meter → IsTrusted meter
+            → IsTrue (S.known store).honest → IfErr result (λ e. Spends (restart_calls meter) (S.known store).fuse (S.known e.1).fuse false) }
+        ensures refused { IfErr result (λ e. Refused (S.known store) e.0 (S.known e.1)) }
     {
         let phase = fw_image::open_store(store)?;
         Ok(MeterCore { phase: Some(phase) })
@@ -114,20 +114,20 @@ impl<S: ImageStore + Drop> MeterCore<S> {
     ///
     /// As for `open_store`.
     pub fn open_kept(store: S) -> Result<MeterCore<S>, (OpenError, S)>
-        ensures opened { IfOk result (λ meter. Holds S.honest S.capacity S.device store meter) }
+        ensures opened { IfOk result (λ meter. Holds (S.known store) meter) }
 
         // No verification goes on.
         ensures begins { IfOk result (λ meter. reopened meter.meter ≡ meter.meter) }
-        ensures sound { IfOk result (λ meter. IsTrue (S.sound store) → IsTrue meter.sound) }
-        ensures faultless { IfOk result (λ meter. meter.faults ≡ S.faults store) }
-        ensures spends { IfOk result (λ meter. Spends (opening_calls meter.meter) (S.fuse store) meter.fuse true) }
-        ensures again { (meter : Meter) → IsMeterOf (S.capacity store) (S.device store) meter → IsTrusted meter
-            → IsTrue (S.honest store) → IsTrue (S.sound store) → IsOkAnd result (λ opened. opened.meter ≡ meter) }
+        ensures sound { IfOk result (λ meter. IsTrue (S.known store).sound → IsTrue meter.sound) }
+        ensures faultless { IfOk result (λ meter. meter.faults ≡ (S.known store).faults) }
+        ensures spends { IfOk result (λ meter. Spends (opening_calls meter.meter) (S.known store).fuse meter.fuse true) }
+        ensures again { (meter : Meter) → IsMeterOf (S.known store).capacity (S.known store).device meter → IsTrusted meter
+            → IsTrue (S.known store).honest → IsTrue (S.known store).sound → IsOkAnd result (λ opened. opened.meter ≡ meter) }
 
         // An honest store that holds such a meter is refused only where one of these calls fails.
-        ensures cut { (meter : Meter) → IsMeterOf (S.capacity store) (S.device store) meter → IsTrusted meter
-            → IsTrue (S.honest store) → IfErr result (λ e. Spends (opening_calls meter) (S.fuse store) (S.fuse e.1) false) }
-        ensures refused { IfErr result (λ e. Refused S.honest S.sound S.capacity S.faults S.fuse S.device store e.0 e.1) }
+        ensures cut { (meter : Meter) → IsMeterOf (S.known store).capacity (S.known store).device meter → IsTrusted meter
+            → IsTrue (S.known store).honest → IfErr result (λ e. Spends (opening_calls meter) (S.known store).fuse (S.known e.1).fuse false) }
+        ensures refused { IfErr result (λ e. Refused (S.known store) e.0 (S.known e.1)) }
     {
         let phase = fw_image::open_kept(store)?;
         Ok(MeterCore { phase: Some(phase) })
@@ -154,10 +154,10 @@ impl<S: ImageStore + Drop> MeterCore<S> {
 
         // An honest store is refused only where one of these calls fails.
         ensures cut { IsTrue self.honest
-            → IfErr result (λ e. Spends (restart_calls self.meter) self.fuse (S.fuse e.1) false) }
-        ensures counted { IfErr result (λ e. S.faults e.1 ≡ count_after (is_opening_faultless e.0) self.faults) }
+            → IfErr result (λ e. Spends (restart_calls self.meter) self.fuse (S.known e.1).fuse false) }
+        ensures counted { IfErr result (λ e. (S.known e.1).faults ≡ count_after (is_opening_faultless e.0) self.faults) }
         ensures never { IsTrue self.sound → IfErr result (λ e. IsTrue (is_opening_faultless e.0)) }
-        ensures back { IfErr result (λ e. Holds S.honest S.capacity S.device e.1 (stored self)) }
+        ensures back { IfErr result (λ e. Holds (S.known e.1) (stored self)) }
     {
         fw_image::laws::one_meter();
         match self.phase {
@@ -267,7 +267,7 @@ impl<S: ImageStore + Drop> MeterCore<S> {
         ensures trusted { IsTrue self.now.honest → IsTrusted self.now.meter }
 
         // It is over a store of its type: over one in memory it is honest, and sound where no fuse is set.
-        ensures over { IsOver S.honest S.sound S.faults S.fuse self.now }
+        ensures over { IsOver S.known self.now }
     {
         match &self.phase {
             Some(phase) => phase.view(),

@@ -11,25 +11,23 @@ use Rattle.fw_meter.proofs.meter.MeterCore.restart.Goals as goal
 
 pub returns-clause-same : goal.returns-clause-same
 returns-clause-same g c = λ honest.
-    let s = g.S.ImageStore in
-    let store = c.into_store.result in
+    let store = g.S.ImageStore.known c.into_store.result in
     let self : State = c.args.self in
     let was = ap state_there (sym c.in-Some.is) ∙ c.self.view_is in
-    let left : Holds s.honest s.capacity s.device store (stored self) = subst (λ (x : State). Holds s.honest s.capacity s.device store (stored x)) was (rw c.in-Some.phase-is at c.into_store.ensures.held) in
-    IfOk-weaker c.open_store.result (Opens s.honest s.capacity s.fuse s.device store) _
-    (λ meter opened. goes_on s.honest s.capacity s.fuse s.device store self meter c.one_meter.ensures left opened honest) c.open_store.ensures.opened
+    let left : Holds store (stored self) = subst (λ (x : State). Holds store (stored x)) was (rw c.in-Some.phase-is at c.into_store.ensures.held) in
+    IfOk-weaker c.open_store.result (Opens store) _
+    (λ meter opened. goes_on store self meter c.one_meter.ensures left opened honest) c.open_store.ensures.opened
 
 pub returns-clause-spends : goal.returns-clause-spends
 returns-clause-spends g c =
-    let s = g.S.ImageStore in
-    let store = c.into_store.result in
+    let store = g.S.ImageStore.known c.into_store.result in
     let self : State = c.args.self in
     let was = ap state_there (sym c.in-Some.is) ∙ c.self.view_is in
-    let left : Holds s.honest s.capacity s.device store (stored self) = subst (λ (x : State). Holds s.honest s.capacity s.device store (stored x)) was (rw c.in-Some.phase-is at c.into_store.ensures.held) in
-    let calls : s.fuse store ≡ self.fuse = (rw c.in-Some.phase-is at c.into_store.ensures.fuse) ∙ ap (λ (x : State). x.fuse) was in
-    IfOk-weaker c.open_store.result (Opens s.honest s.capacity s.fuse s.device store) _ (λ meter opened. (
+    let left : Holds store (stored self) = subst (λ (x : State). Holds store (stored x)) was (rw c.in-Some.phase-is at c.into_store.ensures.held) in
+    let calls : store.fuse ≡ self.fuse = (rw c.in-Some.phase-is at c.into_store.ensures.fuse) ∙ ap (λ (x : State). x.fuse) was in
+    IfOk-weaker c.open_store.result (Opens store) _ (λ meter opened. (
       opened.was,
       opened.goes_on,
-      λ honest. found_calls s.honest s.capacity s.fuse s.device store self meter c.one_meter.ensures left opened honest,
+      λ honest. found_calls store self meter c.one_meter.ensures left opened honest,
       subst (λ (n : Option Fuse). Spends (restart_calls opened.was) n meter.fuse true) calls opened.spends,
     )) c.open_store.ensures.opened
