@@ -65,11 +65,11 @@ pub fn stored_meter<F: Files<File = File>>(
 /// - `Device`: the store failed.
 /// - `BadHeader` or `BadImage`: it holds no meter.
 pub fn opened<S: ImageStore + Drop>(store: S) -> Result<MeterCore<S>, Fault>
-    ensures opened { IfOk result (λ meter. Opens S.honest S.capacity S.fuse S.device store meter) }
+    ensures opened { IfOk result (λ meter. Opens (S.known store) meter) }
     ensures begins { IfOk result (λ meter. restarted meter.meter ≡ meter.meter) }
-    ensures faultless { IfOk result (λ meter. meter.faults ≡ S.faults store) }
+    ensures faultless { IfOk result (λ meter. meter.faults ≡ (S.known store).faults) }
     ensures refused { IfErr result (λ f. (error : OpenError) × (f ≡ fault_of_opening error) × (back : S)
-        × Refused S.honest S.sound S.capacity S.faults S.fuse S.device store error back) }
+        × Refused (S.known store) error (S.known back)) }
 {
     match MeterCore::open_store(store) {
         Ok(meter) => Ok(meter),
@@ -84,7 +84,7 @@ fn open_or_make<F: Files<File = File>>(
     path: &str,
     fresh: &NewMeter<'_>,
 ) -> Result<FileStore, Fault>
-    ensures faultless { IfOk result (λ store. ⟦<FileStore as ImageStore>⟧.faults store ≡ 0) }
+    ensures faultless { IfOk result (λ store. (⟦<FileStore as ImageStore>⟧.known store).faults ≡ 0) }
     ensures bad_setup { fresh.now.factory_file ≡ None → result ≡ Err Fault.BadSetup
         → ¬ IsSetup Two fresh.now.block_size fresh.now.capacity default_factory }
     ensures faults { IfErr result IsOfSetup }
@@ -125,7 +125,7 @@ fn make<F: Files<File = File>>(
     fresh: &NewMeter<'_>,
     factory: &[u8],
 ) -> Result<FileStore, Fault>
-    ensures faultless { IfOk result (λ store. ⟦<FileStore as ImageStore>⟧.faults store ≡ 0) }
+    ensures faultless { IfOk result (λ store. (⟦<FileStore as ImageStore>⟧.known store).faults ≡ 0) }
     ensures setup { OnOk result (IsSetup Two fresh.now.block_size fresh.now.capacity factory.now) }
     ensures bad_setup { result ≡ Err Fault.BadSetup → ¬ IsSetup Two fresh.now.block_size fresh.now.capacity factory.now }
     ensures faults { IfErr result (λ f. (f ≡ Fault.BadSetup) ⊎ ((f ≡ Fault.StoreFault) ⊎ (f ≡ Fault.OutOfMemory))) }
