@@ -99,7 +99,7 @@ fn open_or_make<F: Files<File = File>>(
     alloc: Global,
     options: &StoredOptions<'_>,
 ) -> Result<FileStore, Fault>
-    ensures faultless { IfOk result (λ store. ⟦<FileStore as ImageStore>⟧.faults store ≡ 0) }
+    ensures faultless { IfOk result (λ store. (⟦<FileStore as ImageStore>⟧.known store).faults ≡ 0) }
     ensures bad_setup { result ≡ Err Fault.BadSetup → DescribesNone options.now.fresh }
     ensures memory { result ≡ Err Fault.OutOfMemory → DescribesOne options.now.fresh }
     ensures faults { IfErr result (λ f. ComesBeforeInput f ⊎ (f ≡ Fault.OutOfMemory)) }
@@ -119,7 +119,7 @@ fn make<F: Files<File = File>>(
     alloc: Global,
     options: &StoredOptions<'_>,
 ) -> Result<FileStore, Fault>
-    ensures faultless { IfOk result (λ store. ⟦<FileStore as ImageStore>⟧.faults store ≡ 0) }
+    ensures faultless { IfOk result (λ store. (⟦<FileStore as ImageStore>⟧.known store).faults ≡ 0) }
     ensures described { OnOk result (DescribesOne options.now.fresh) }
     ensures bad_setup { result ≡ Err Fault.BadSetup → DescribesNone options.now.fresh }
     ensures memory { result ≡ Err Fault.OutOfMemory → DescribesOne options.now.fresh }
