@@ -1,36 +1,24 @@
 -- A meter is within the limits of its store.
-use Rattle.std.proofs.Common.{◌≡◌, ℕ, zero, suc, ◌+◌, ◌-◌, ◌*◌, ◌≤◌, ◌<◌, min, Bool, List, [], ◌++◌, length, take, Some, None, Option, refl, sym, ap, subst, ◌∙◌, arith, length-append, inl, inr}
+use Rattle.std.proofs.Common.{◌≡◌, ℕ, zero, suc, ◌+◌, ◌-◌, ◌*◌, ◌≤◌, ◌<◌, min, Bool, List, [], ◌++◌, length, take, Some, None, Option, refl, sym, ap, subst, ◌∙◌, arith, length-append}
 use Rattle.std.specs.Prelude.{IfSome}
 use Rattle.std.specs.FinMap.{get}
 use Rattle.std.proofs.lemmas.Grind.{div_ceil_times}
 use Rattle.std.proofs.lemmas.List.{length-take-le}
-use Rattle.fw_names.specs.Name.{Campaign, factory, IsOpened, IsCampaign}
 use Rattle.fw_blocks.specs.Cuts.{block_start, block_end, block_count}
 use Rattle.fw_blocks.specs.Laws.{CutSize}
 use Rattle.fw_store.specs.Device.{Device, slot_bytes}
 use Rattle.fw_store.specs.Slot.{other}
-use Rattle.fw_store.specs.Header.{IsHeader, IsGoal, GoalFieldsFit}
+use Rattle.fw_store.specs.Header.{IsHeader, IsGoal}
 use Rattle.fw_store.specs.Versions.{block_limit}
 use Rattle.fw_store.specs.declared.slot.Slot.{Slot}
 use Rattle.fw_store.specs.declared.header.Header.{Header}
 use Rattle.fw_store.specs.declared.header.Goal.{Goal}
 use Rattle.fw_verify.specs.Progress.{Progress}
 use Rattle.fw_image.specs.Meter.{Cells, both, joined, goal_of}
-use Rattle.fw_image.specs.Step.{IsOffer}
 use Rattle.fw_image.specs.Fits.{CellsFit, IsFit}
 use Rattle.fw_image.specs.Stored.{phase_of, phase_at, blocks_below, cells_of, meter_at}
 use Rattle.fw_image.proofs.Blocks.{block_there}
 use Rattle.fw_image.proofs.Meters.{goal_again, goal_at}
-
--- ---- a goal is one that can be initiated
-
-opened : (campaign : Campaign) → IsCampaign campaign → (campaign ≡ factory → ⊥) → IsOpened campaign
-opened campaign (inl made) other = absurd (other made)
-opened campaign (inr is) other = is
-
-offer_of : (limit capacity block_size release : ℕ) (goal : Goal) → GoalFieldsFit goal → IsGoal limit capacity block_size release goal → IsOffer limit block_size capacity release goal.name goal.size
-offer_of limit capacity block_size release goal fields is =
-    record { opened = opened goal.name.campaign fields.name.is_campaign is.offered; risen = is.risen; fits = is.fits; limits = is.blocks; few = is.few }
 
 -- ---- its blocks have their lengths
 
@@ -51,7 +39,7 @@ fit_at sizes capacity h digesting d is sized = record {
   version = h.version;
   limited = refl;
   named = is.fields.running_name;
-  goal = λ goal e. offer_of (block_limit h.version) capacity h.block_size h.running_name.release goal (subst (λ (g : Option Goal). IfSome g GoalFieldsFit) (there goal e) is.fields.goal) (held goal e);
+  goal = held;
   cells = λ goal e. subst (λ (g : Option Goal). CellsFit h.block_size goal.size (cells_of h.block_size h.marks (slot_bytes d (other h.running_slot)) g)) (sym (there goal e))
       (cells_fit sizes capacity h.block_size h.marks (slot_bytes d (other h.running_slot)) goal (sized (other h.running_slot)) (held goal e).fits);
 }

@@ -48,7 +48,7 @@ goal_there capacity h is status = find h.goal refl
 pub some_bytes : (capacity : ℕ) (h : Header) (goal : Goal) → IsHeader capacity h → h.goal ≡ Some goal → 1 ≤ goal.size
 some_bytes capacity h goal is there =
     let goal_is : IsGoal (block_limit h.version) capacity h.block_size h.running_name.release goal = subst (λ (g : Option Goal). IfSome g (IsGoal (block_limit h.version) capacity h.block_size h.running_name.release)) there is.goal in
-    goal_is.blocks.begins
+    goal_is.limits.begins
 
 -- it is received, or verified
 abbrev pub IsOpen : Phase → Goal → Type 0

@@ -5,7 +5,7 @@ use Rattle.fw_blocks.specs.Members.{has}
 use Rattle.fw_blocks.specs.Laws.{CutsJoin}
 use Rattle.sha2.specs.Sha256.{sha256}
 use Rattle.std.specs.Prelude.{IfSome, Result, Ok, Err, IsErrAnd}
-use Rattle.fw_names.specs.Name.{Name, Campaign}
+use Rattle.fw_names.specs.Name.{Name}
 use Rattle.fw_store.specs.Device.{Device, slot_bytes, with_head}
 use Rattle.fw_store.specs.Faults.{Keeps, count_after, Spends}
 use Rattle.fw_store.specs.declared.fuse.Fuse.{Fuse}
@@ -21,7 +21,7 @@ use Rattle.fw_store.specs.declared.header.StoredStatus.TheVariants as kept
 use Rattle.fw_image.specs.declared.status.TransferStatus.TheVariants.{Initiated, VerificationSuccessful}
 use Rattle.fw_image.specs.Meter.{Meter, Phase, IsTrusted, status_of, goal_of, goal_bytes, IsGenuine, idle, receiving, verifying, sealed, spoilt, switched}
 use Rattle.fw_image.specs.Shown.{shown_of}
-use Rattle.fw_image.specs.Step.{Operation, OperationOutcome, refused, Refuses, Serves, Does, Leaves, IsOffer, begun, switched_to, Admits, refusal_in, is_operation_faultless, enable, initiate, block, verify, activate}
+use Rattle.fw_image.specs.Step.{Operation, OperationOutcome, refused, Refuses, Serves, Does, Leaves, begun, switched_to, Admits, refusal_in, is_operation_faultless, enable, initiate, block, verify, activate}
 use Rattle.fw_image.specs.declared.error.Refusal.{Refusal}
 use Rattle.fw_image.specs.declared.error.Refusal.TheVariants.{Disabled, Fault}
 use Rattle.fw_image.specs.State.{Makes, outcome_of}
@@ -235,16 +235,6 @@ meter_of-begun capacity h d d' name size marks none same =
 pub trusted_begun : (m : Meter) (name : Name) (size : ℕ) → IsTrusted m → IsTrusted (begun m name size)
 trusted_begun m name size is = record { running = is.running; verified = λ e. absurd cc }
 
-pub goal_of_offer : (limit block_size capacity release : ℕ) (name : Name) (size : ℕ) → IsOffer limit block_size capacity release name size
-    → IsGoal limit capacity block_size release (record { name = name; size = size })
-goal_of_offer limit block_size capacity release name size is = record {
-  offered = λ e. let begins = is.opened.head_begins in let none = ap (λ (c : Campaign). c.head) e in absurd (omega arith);
-  risen = is.risen;
-  fits = is.fits;
-  blocks = is.limits;
-  few = is.few;
-}
-
 pub valid_begun : (capacity : ℕ) (h : Header) (name : Name) (size : ℕ) (marks : List Bool) → ((i : ℕ) → has marks i ≡ false)
     → IsHeader capacity h → FieldsFit (header_begun h name size marks) → IsGoal (block_limit h.version) capacity h.block_size h.running_name.release (record { name = name; size = size }) → IsHeader capacity (header_begun h name size marks)
 valid_begun capacity h name size marks none is fits goal_is = record {
@@ -332,7 +322,7 @@ valid_switched capacity h slot goal marks none there is fits =
       fields = fits;
       block_size_begins = is.block_size_begins;
       block_size_ends = is.block_size_ends;
-      running_size_begins = goal_is.blocks.begins;
+      running_size_begins = goal_is.limits.begins;
       running_size_fits = goal_is.fits;
       goal_by_status = refl;
       goal = tt;

@@ -2,8 +2,9 @@
 -- are own; of several that apply the first in the order here is given.
 use Rattle.std.specs.Prelude.{◌≡◌, ℕ, ◌+◌, ◌-◌, ◌<◌, ◌≤◌, Bool, true, false, IsTrue, List, length, Option, Some, ◌⊎◌}
 use Rattle.std.specs.FinMap.{insert, empty, get}
-use Rattle.fw_names.specs.Name.{Name, IsOpened}
-use Rattle.fw_blocks.specs.Cuts.{IsWithinLimits, block_start, block_end, block_count}
+use Rattle.fw_names.specs.Name.{Name}
+use Rattle.fw_blocks.specs.Cuts.{block_start, block_end, block_count}
+use Rattle.fw_store.specs.Header.{IsGoal}
 use Rattle.fw_verify.specs.Slices.{slice_size}
 use Rattle.fw_image.specs.Meter.{Meter, Phase, receiving, verifying, sealed, spoilt, switched, goal_of, goal_size, goal_bytes, IsGenuine, reopened}
 use Rattle.fw_image.specs.Shown.{shown_of}
@@ -30,14 +31,10 @@ is_operation_faultless outcome = true
 
 -- ---- the lines before any call of the store
 
--- What can be initiated, where an image of this release runs: an image that a campaign offers, and none of a release below that. Its size
--- is within the limits, and it has no more blocks than the meter has marks for.
-pub record IsOffer (limit block_size capacity release : ℕ) (name : Name) (size : ℕ) : Type 0 where
-  pub opened : IsOpened name.campaign
-  pub risen : release ≤ name.release
-  pub fits : size ≤ capacity
-  pub limits : IsWithinLimits block_size size
-  pub few : block_count block_size size ≤ limit
+-- What can be initiated, where an image of this release runs: what a store can have as its goal then. A campaign offers the image, and its
+-- release is not below that. Its size is within the limits, and it has no more blocks than the meter has marks for.
+abbrev pub IsOffer : ℕ → ℕ → ℕ → ℕ → Name → ℕ → Type 0
+IsOffer limit block_size capacity release name size = IsGoal limit capacity block_size release (record { name = name; size = size })
 
 -- a block of an image of `size` bytes: its number, and just its length. Nothing in it says which image it is of, so a late block of
 -- another campaign may be one too.

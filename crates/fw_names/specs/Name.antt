@@ -35,6 +35,11 @@ pub record IsRelease (campaign : Campaign) (release : ℕ) : Type 0 where
   pub fits : release < 2 ^ 32
   pub none : campaign ≡ factory → release ≡ 0
 
+-- An image of this release may follow one that runs: none of a release below that. An equal one may, since it stands for no order, as 0
+-- does, which is no release.
+abbrev pub IsRisen : ℕ → ℕ → Type 0
+IsRisen running release = running ≤ release
+
 -- a name that has a spelling: its digest has 32 bytes
 pub record IsName (name : Name) : Type 0 where
   pub is_campaign : IsCampaign name.campaign

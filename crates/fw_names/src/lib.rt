@@ -13,4 +13,4 @@ pub use bytes::{MAX_NAME_SIZE, NameBytes};
 pub use campaign::CampaignId;
 pub use head::HeadId;
 pub use meter::MeterId;
-pub use name::{ImageName, digest_of, factory_name, name_of};
+pub use name::{ImageName, digest_of, factory_name, is_risen, name_of};

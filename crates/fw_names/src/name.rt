@@ -1,6 +1,6 @@
 //! Names of images, and their spelling.
 
-ghost use Rattle.std.specs.Prelude.{◌≡◌, ◌≢◌, ◌++◌, IfSome, SomeIff};
+ghost use Rattle.std.specs.Prelude.{◌≡◌, ◌≢◌, ◌↔◌, ◌++◌, IsTrue, IfSome, SomeIff};
 ghost use Rattle.std.specs.Int.{w32, from_be_bytes, to_be_bytes};
 ghost use Rattle.sha2.specs.Sha256.{sha256};
 ghost use Rattle.fw_names.specs.Name.{
@@ -9,6 +9,7 @@ ghost use Rattle.fw_names.specs.Name.{
   IsCampaign,
   IsName,
   IsRelease,
+  IsRisen,
   SpellsName,
   campaign_bytes,
   factory,
@@ -109,6 +110,13 @@ impl ImageName {
         }
         Some(ImageName { release, ..self })
     }
+}
+
+/// Whether an image of a release may follow one that runs: not where its release is below that one's.
+pub fn is_risen(running: u32, release: u32) -> bool
+    ensures { IsTrue result ↔ IsRisen running release }
+{
+    running <= release
 }
 
 /// The name without a release that these bytes spell after the first, if they spell one.

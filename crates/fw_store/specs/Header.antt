@@ -1,8 +1,8 @@
 -- Public vocabulary: which headers a store can have (own rules), and the header of a new store.
-use Rattle.std.specs.Prelude.{◌≡◌, ◌≢◌, ℕ, ◌<◌, ◌≤◌, ◌^◌, length, Bool, true, false, Option, Some, None, is_some, IsTrue, IfSome, replicate}
+use Rattle.std.specs.Prelude.{◌≡◌, ℕ, ◌<◌, ◌≤◌, ◌^◌, length, Bool, true, false, Option, Some, None, is_some, IsTrue, IfSome, replicate}
 use Rattle.fw_blocks.specs.Cuts.{IsWithinLimits, block_count, max_block_size}
 use Rattle.fw_blocks.specs.Members.{has, resized_marks}
-use Rattle.fw_names.specs.Name.{Name, IsName, factory}
+use Rattle.fw_names.specs.Name.{Name, IsName, IsOpened, IsRisen}
 use Rattle.fw_store.specs.Versions.{block_limit}
 use Rattle.fw_store.specs.declared.slot.Slot.TheVariants.{First}
 use Rattle.fw_store.specs.declared.version.HeaderVersion.{HeaderVersion}
@@ -49,14 +49,13 @@ is_verified VerificationFailed = true
 is_verified ActivationSuccessful = false
 
 -- a goal of a store of `capacity` bytes a slot, with a header for `limit` blocks, whose running image has this release: a head end's
--- campaign offers it, it fits a slot, its blocks are within the limits and no more than those, and it hasn't a release below that of the
--- running image
+-- campaign offers it, its release may follow that one, it fits a slot, and its blocks are within the limits and no more than those
 pub record IsGoal (limit capacity block_size release : ℕ) (goal : Goal) : Type 0 where
-  pub offered : goal.name.campaign ≢ factory
+  pub opened : IsOpened goal.name.campaign
+  pub risen : IsRisen release goal.name.release
   pub fits : goal.size ≤ capacity
-  pub blocks : IsWithinLimits block_size goal.size
+  pub limits : IsWithinLimits block_size goal.size
   pub few : block_count block_size goal.size ≤ limit
-  pub risen : release ≤ goal.name.release
 
 -- how many blocks the goal has, 0 where there is none
 abbrev pub goal_count : ℕ → Option Goal → ℕ

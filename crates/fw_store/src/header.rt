@@ -26,7 +26,7 @@ ghost use Rattle.std.specs.Int.{w32, from_be_bytes, to_be_bytes};
 ghost use Rattle.fw_axdr.specs.Bits.{packed};
 ghost use Rattle.fw_blocks.specs.Cuts.{max_blocks};
 ghost use Rattle.fw_blocks.specs.Members.{has, all_marks};
-ghost use Rattle.fw_names.specs.Name.{Name, IsName, IsOpened};
+ghost use Rattle.fw_names.specs.Name.{Name, IsName};
 ghost use Rattle.fw_store.specs.declared.header.Goal.{Goal};
 ghost use Rattle.fw_store.specs.declared.header.Header.{Header};
 ghost use Rattle.fw_store.specs.declared.header.StoredStatus.{StoredStatus};
@@ -57,7 +57,7 @@ ghost use Rattle.fw_store.specs.Header.{
 use crate::slot::Slot;
 use crate::version::{HeaderBytes, HeaderVersion, VERSION_ONE_SIZE, VERSION_TWO_SIZE};
 use fw_blocks::{Geometry, MARKS_SIZE, MAX_BLOCK_SIZE, Pages};
-use fw_names::{ImageName, NameBytes};
+use fw_names::{ImageName, NameBytes, is_risen};
 
 /// Where the marks of the first 4,096 blocks stand, and the releases after them.
 const MARKS_AT: usize = 102;
@@ -105,15 +105,14 @@ pub struct Goal {
 
 impl Goal {
     /// Whether a store of this capacity, in bytes a slot, whose header has marks for `limit` blocks and whose running image has
-    /// this release can receive it in blocks of this size: a campaign offers it, it fits a slot, its blocks are within their limits
-    /// and no more than those, and it hasn't a release below that one.
+    /// this release can receive it in blocks of this size: a campaign offers it, its release may follow that one, it fits a slot,
+    /// and its blocks are within their limits and no more than those.
     pub fn fits(&self, limit: u32, capacity: u32, block_size: u32, release: u32) -> bool
-        ensures goal { IsTrue result ↔ IsGoal limit capacity block_size release self.now }
-        ensures opened { IsTrue result → IsOpened self.now.name.campaign }
+        ensures { IsTrue result ↔ IsGoal limit capacity block_size release self.now }
     {
         !self.name.campaign.is_factory()
             && self.size <= capacity
-            && release <= self.name.release
+            && is_risen(release, self.name.release)
             && Geometry::new(block_size, self.size).is_some()
             && self.size.div_ceil(block_size) <= limit
     }

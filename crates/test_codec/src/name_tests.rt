@@ -2,7 +2,9 @@
 //! release 02 in place of 01, and the release before the SHA-256.
 
 use crate::support::{Way, each_by};
-use fw_names::{CampaignId, HeadId, ImageName, MeterId, digest_of, factory_name, name_of};
+use fw_names::{
+    CampaignId, HeadId, ImageName, MeterId, digest_of, factory_name, is_risen, name_of,
+};
 use std::alloc::Global;
 use std::test::Fail;
 use test_support::{Case, each};
@@ -221,10 +223,28 @@ const NUMBERS: &[(Number, &str)] = &[
     (Number::Factory, "None 0 true"),
 ];
 
+/// A release that runs, and one after it.
+struct After(u32, u32);
+
+impl Case for After {
+    fn told(&self, alloc: Global) -> Result<String, Fail> {
+        Ok(format!(in alloc; "{}", is_risen(self.0, self.1))?)
+    }
+}
+
+const ORDER: &[(After, &str)] = &[
+    (After(0, 0), "true"),
+    (After(5, 5), "true"),
+    (After(5, 4_294_967_295), "true"),
+    (After(5, 4), "false"),
+    (After(5, 0), "false"),
+];
+
 #[test]
 fn names_and_numbers(rt: HostRuntime) -> Result<(), Fail> {
     each_by(rt.alloc(), &Spelling, FRONTS)?;
     each_by(rt.alloc(), &Spelling, RELEASED)?;
     each(rt.alloc(), NAMES)?;
-    each(rt.alloc(), NUMBERS)
+    each(rt.alloc(), NUMBERS)?;
+    each(rt.alloc(), ORDER)
 }

@@ -35,9 +35,9 @@ raised : (limit most capacity block_size release : ℕ) (goal : Option Goal) →
     → IfSome goal (IsGoal most capacity block_size release)
 raised limit most capacity block_size release None within fits = tt
 raised limit most capacity block_size release (Some goal) within fits = record {
-  offered = fits.offered;
+  opened = fits.opened;
   fits = fits.fits;
-  blocks = fits.blocks;
+  limits = fits.limits;
   few = let few = fits.few in omega arith;
   risen = fits.risen;
 }

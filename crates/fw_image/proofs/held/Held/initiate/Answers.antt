@@ -1,7 +1,7 @@
 use Rattle.std.proofs.Common.{None, refl}
 use Rattle.fw_image.specs.Step.{initiate, done}
 use Rattle.fw_image.proofs.Blocks.{none_has}
-use Rattle.fw_image.proofs.Moves.{leaves, makes_written, held_written, header_begun, meter_of-begun, trusted_begun, goal_of_offer, valid_begun}
+use Rattle.fw_image.proofs.Moves.{leaves, makes_written, held_written, header_begun, meter_of-begun, trusted_begun, valid_begun}
 use Rattle.fw_image.proofs.held.Held.initiate.Goals as goal
 
 pub invariant_of-self-2 : goal.invariant_of-self-2
@@ -10,7 +10,7 @@ invariant_of-self-2 g c =
     let told = c.in_ok-replace.ensures in
     let none = none_has _ c.no_marks.result c.no_marks.ensures in
     let offer = rw c.capacity.ensures at (c.if-not-is_offer.ensures.0 refl) in
-    let valid = valid_begun _ h c.args.name c.args.size c.no_marks.result none c.self.invariant.held.valid told.fits (goal_of_offer _ _ _ _ c.args.name c.args.size offer) in
+    let valid = valid_begun _ h c.args.name c.args.size c.no_marks.result none c.self.invariant.held.valid told.fits offer in
     rw told.done (record {
       held = held_written (g.S.ImageStore.known c.self.inside.store) (g.S.ImageStore.known c.replace.new.store) h _ (g.met.S.ImageStore.sized c.self.inside.store) told.kept told.written c.self.invariant.held valid
           (λ d d' views honest trusted. rw (meter_of-begun _ h d d' c.args.name c.args.size c.no_marks.result none views.same) (trusted_begun _ c.args.name c.args.size trusted));
