@@ -206,7 +206,7 @@ pub record AreWords (count : ℕ) (words counts : List ℕ) : Type 0 where
 
 pub holds : (count : ℕ) (words counts : List ℕ) → count ≤ max_blocks → AreWords count words counts → HoldsPages words counts count
 holds count words counts few are = record {
-  few = few;
+  most = few;
   size = length-marks_of count words;
   words_again = words_are count words are.words_size are.past are.small;
   counts_again = counts_are count words are.words_size are.past counts are.counts_size are.each;

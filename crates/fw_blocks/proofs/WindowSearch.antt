@@ -75,7 +75,7 @@ module _ {all : List ℕ} {width : ℕ} {places : List ℕ} {len : ℕ} (f : Lis
   pub lists_window : HoldsFew places len
   lists_window =
       let front : take len places ≡ take width all = ap (take len) f.holds ∙ take_at (take width all) (replicate (max_width - len) 0) len f.count in
-      record { few = ap length front ∙ f.count; rest = f.holds ∙ ap (λ (xs : List ℕ). xs ++ replicate (max_width - len) 0) (sym front) }
+      record { count = ap length front ∙ f.count; rest = f.holds ∙ ap (λ (xs : List ℕ). xs ++ replicate (max_width - len) 0) (sym front) }
 
   pub lists_front : take len places ≡ take width all
   lists_front = ap (take len) f.holds ∙ take_at (take width all) (replicate (max_width - len) 0) len f.count
@@ -108,13 +108,13 @@ module _ {all : List ℕ} {width : ℕ} {places : List ℕ} {len : ℕ} (f : Lis
 
 pub record Listing (numbers : List ℕ) (listed width from to number : ℕ) (places : List ℕ) (len : ℕ) : Type 0 where
   pub within : number - from ≤ to - from
-  pub few : len ≤ width
+  pub most : len ≤ width
   pub lists : (before : List ℕ) → Lists before width numbers listed → Lists (before ++ range_with_len from (number - from)) width places len
 
 pub listing_none : (numbers : List ℕ) (listed width from to : ℕ) → listed ≤ width → Listing numbers listed width from to from numbers listed
 listing_none numbers listed width from to few = record {
   within = omega arith;
-  few = few;
+  most = few;
   lists = λ before l.
       let none : 0 ≡ from - from = omega arith in
       subst (λ (k : ℕ). Lists (before ++ range_with_len from k) width numbers listed) none
@@ -135,7 +135,7 @@ module _ {numbers : List ℕ} {listed width from to number : ℕ} {places : List
   pub listing_more : from ≤ number → number < to → len < width → width ≤ max_width → Listing numbers listed width from to (number + 1) (set places len number) (len + 1)
   listing_more reached left room fits = record {
     within = omega arith;
-    few = omega arith;
+    most = omega arith;
     lists = λ before l.
         let before' = before ++ range_with_len from (number - from) in
         let one : number + 1 - from ≡ suc (number - from) = omega arith in
@@ -166,7 +166,7 @@ module _ {numbers : List ℕ} {listed width from to number : ℕ} {places : List
 -- ---- run by run: the numbers up to one are listed, and the runs from there on have the rest
 
 pub record AtRun (members : List Bool) (width : ℕ) (rest : List Run) (from : ℕ) (places : List ℕ) (len : ℕ) : Type 0 where
-  pub few : len ≤ width
+  pub most : len ≤ width
   pub lists : Lists (absent_below members from) width places len
   pub within : from ≤ length members
   pub apart : Parted from (length members + 1) rest
@@ -174,7 +174,7 @@ pub record AtRun (members : List Bool) (width : ℕ) (rest : List Run) (from : �
 
 pub at_first : (members : List Bool) (width : ℕ) (runs : List Run) → AreRuns members runs → AtRun members width runs 0 (replicate max_width 0) 0
 at_first members width runs are = record {
-  few = omega arith;
+  most = omega arith;
   lists = record { holds = ap (λ (xs : List ℕ). xs ++ replicate max_width 0) (sym (take_all width [] (omega arith))); count = ap length (take_all width [] (omega arith)) };
   within = omega arith;
   apart = parted_from (length members) runs are.apart;
@@ -199,7 +199,7 @@ at_next members width run rest from places places' len len' at few lists =
     ∙ absent_below-run members run.start (run.end - run.start) (λ i low high.
     at.numbers i (omega (arith, begins)) ∙ ap (λ (b : Bool). b || is_in_any rest i) (is_of_run i run low (omega arith))) in
     record {
-      few = few;
+      most = few;
       lists = subst (λ (xs : List ℕ). Lists xs width places' len') (sym (same ∙ gap)) lists;
       within = omega (arith, parted_low (run.end + 1) (length members + 1) rest behind);
       apart = parted_less (run.end + 1) run.end (length members + 1) rest behind (omega arith);

@@ -38,4 +38,4 @@ pub record IsWithinLimits (block_size size : ℕ) : Type 0 where
   pub block_begins : 1 ≤ block_size
   pub block_ends : block_size ≤ max_block_size
   pub begins : 1 ≤ size
-  pub few : block_count block_size size ≤ max_blocks
+  pub most : block_count block_size size ≤ max_blocks

@@ -14,7 +14,7 @@ set_of count runs = map (is_in_any runs) (range_with_len 0 count)
 
 -- a set: its count is a `u32`, and there is room for as many runs as can lie apart below the count
 pub record IsKept (count : ℕ) (runs : List Run) (capacity : ℕ) : Type 0 where
-  pub few : count < 2 ^ 32
+  pub most : count < 2 ^ 32
   pub apart : AreParted count runs
   pub room : (count + 1) / 2 ≤ capacity
 
@@ -62,14 +62,14 @@ counts_of marks = map (λ page. ones_of (page_of marks page) page_size) (range_w
 
 -- pages: no more marks than an image has blocks, and the words and the numbers beside them are those of the marks
 pub record HoldsPages (words counts : List ℕ) (count : ℕ) : Type 0 where
-  pub few : count ≤ max_blocks
+  pub most : count ≤ max_blocks
   pub size : length (marks_of count words) ≡ count
   pub words_again : words_of (marks_of count words) ≡ words
   pub counts_again : counts_of (marks_of count words) ≡ counts
 
 -- a window: the numbers come first, and the places after them are 0
 pub record HoldsFew (numbers : List ℕ) (len : ℕ) : Type 0 where
-  pub few : length (take len numbers) ≡ len
+  pub count : length (take len numbers) ≡ len
   pub rest : numbers ≡ take len numbers ++ replicate (max_width - len) 0
 
 -- the first places hold the first of some numbers, no more than the width, and the others hold 0

@@ -67,7 +67,7 @@ impl Geometry {
     pub fn count(self) -> u32
         ensures value { result ≡ block_count self.block_size self.size }
         ensures some { 1 ≤ result }
-        ensures few { result ≤ max_blocks }
+        ensures most { result ≤ max_blocks }
     {
         self.size.div_ceil(self.block_size)
     }

@@ -110,7 +110,7 @@ impl Pages {
     /// The number of blocks: each number that can be marked is below it.
     pub fn count(&self) -> u32
         ensures value { result ≡ length self.now }
-        ensures few { result ≤ max_blocks }
+        ensures most { result ≤ max_blocks }
     {
         self.count
     }
@@ -167,7 +167,7 @@ impl Pages {
 
     /// The marks of the numbers below a count that is no greater, as a set of these numbers.
     fn below(&self, count: u32) -> Pages
-        requires few { count ≤ max_blocks }
+        requires most { count ≤ max_blocks }
         requires within { count ≤ length self.now }
         ensures { result ≡ take count self.now }
     {
@@ -235,7 +235,7 @@ impl Pages {
         ensures size { length result ≡ max_blocks }
 
         // Bytes that hold marks are read as those marks.
-        ensures only { (marks : List Bool) → length marks ≡ max_blocks → packed marks ≡ bytes.now → result ≡ marks }
+        ensures unique { (marks : List Bool) → length marks ≡ max_blocks → packed marks ≡ bytes.now → result ≡ marks }
     {
         laws::bytes_packed();
         laws::bits_packed();
@@ -271,7 +271,7 @@ fn with_bit(words: &[u64; PAGES], number: u32) -> u64
 
 /// How many pages stand before the first one that lacks a mark.
 fn full_pages(counts: &[u8; PAGES]) -> u32
-    ensures few { result ≤ PAGES }
+    ensures most { result ≤ PAGES }
     ensures full { (page : ℕ) → page < result → page_size ≤ slice_index counts.now page }
 {
     for (page, count) in counts.iter().enumerate() {

@@ -77,7 +77,7 @@ impl Model for Window {
 
     ghost inverse = { λ numbers. record { numbers = numbers ++ replicate (max_width - length numbers) 0; len = length numbers } };
 
-    ghost inverse_ok = { λ w h. rw (h.few, ← h.rest) refl };
+    ghost inverse_ok = { λ w h. rw (h.count, ← h.rest) refl };
 }
 
 impl Window {
@@ -86,7 +86,7 @@ impl Window {
         ensures value { result ≡ window set.now width }
         ensures ascending { IsStrictlyIncreasing result }
         ensures absent { All (IsAbsent set.now) result }
-        ensures few { length result ≤ width }
+        ensures most { length result ≤ width }
 
         // Where an absent number isn't in the window, the window is full, and all its numbers are below that one.
         ensures lowest { (number : ℕ) → IsAbsent set.now number → ¬ Contains result number →
@@ -98,7 +98,7 @@ impl Window {
     /// The numbers, ascending: 15 at most.
     pub fn as_slice(&self) -> &[u32]
         ensures value { result.now ≡ self.now }
-        ensures few { length result.now ≤ max_width }
+        ensures most { length result.now ≤ max_width }
     {
         &self.numbers[..self.len]
     }
@@ -125,9 +125,9 @@ fn lowest_absent(set: &BlockSet, width: usize) -> Window
 
 /// Appends the numbers from `from` on and below `to` to those that are listed, until there are as many as the width.
 fn list(numbers: &mut [u32; PLACES], listed: usize, width: usize, from: u32, to: u32) -> usize
-    requires few { listed ≤ width }
+    requires most { listed ≤ width }
     requires fits { width ≤ PLACES }
-    ensures few { result ≤ width }
+    ensures most { result ≤ width }
     ensures lists { (before : List ℕ) → Lists before width numbers.old listed → Lists (before ++ range_with_len from (to - from)) width numbers.new result }
 {
     let mut len = listed;

@@ -405,7 +405,7 @@ impl Book {
         ensures found { IfOk result (IsReadAs bytes.now) }
 
         // Bytes that spell a book are read as that book.
-        ensures only { (book : Contents) → IsReadAs bytes.now book
+        ensures unique { (book : Contents) → IsReadAs bytes.now book
             → MatchResult result (λ found. found ≡ book) (λ e. e ≡ BookError.OutOfMemory) }
         ensures refused { IfErr result (ReadRefused bytes.now) }
     {

@@ -79,7 +79,7 @@ IsAskingStep step = Unit {0}
 -- What every row keeps. The last return ends it, and its image is cut within the limits. Once it is done, the meter of its client claimed
 -- its own name. A row that asks first is in one of those stages.
 pub record IsRow (name : Name) (size : ℕ) (stage : Stage) (client : State) (returns : ℕ) (asks_first : Bool) : Type 0 where
-  pub few : returns < max_returns
+  pub most : returns < max_returns
   pub own : IsOwn client.meter name size stage
   pub asking : asks_first ≡ true → IsAsking stage
 

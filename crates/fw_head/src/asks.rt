@@ -26,7 +26,7 @@ pub(crate) fn ask_one(
     requires fits { Fits (ask_of ask.now) }
     ensures sent { IfOk result (λ sent. bytes_of sent.items ≡ datagrams client.old (ask_of ask.now ∷ [])) }
     ensures carry { IfOk result (λ sent. Carry client.old (ask_of ask.now ∷ []) (bytes_of sent.items)) }
-    ensures few { IfOk result (λ sent. length sent.items ≤ 15) }
+    ensures most { IfOk result (λ sent. length sent.items ≤ 15) }
     ensures asked { OnOk result (client.new ≡ asking_all client.old (ask_of ask.now ∷ [])) }
 {
     let datagram = datagram(alloc, client, ask)?;
@@ -45,7 +45,7 @@ pub(crate) fn ask_two(
     requires second_fits { Fits (ask_of second.now) }
     ensures sent { IfOk result (λ sent. bytes_of sent.items ≡ datagrams client.old (ask_of first.now ∷ ask_of second.now ∷ [])) }
     ensures carry { IfOk result (λ sent. Carry client.old (ask_of first.now ∷ ask_of second.now ∷ []) (bytes_of sent.items)) }
-    ensures few { IfOk result (λ sent. length sent.items ≤ 15) }
+    ensures most { IfOk result (λ sent. length sent.items ≤ 15) }
     ensures asked { OnOk result (client.new ≡ asking_all client.old (ask_of first.now ∷ ask_of second.now ∷ [])) }
 {
     let former = datagram(alloc, client, first)?;
@@ -62,10 +62,10 @@ pub(crate) fn ask_blocks(
     numbers: &[u32],
 ) -> Result<Vec<Vec<u8>>, OutOfMemory>
     requires idle { client.old.asks ≡ empty }
-    requires few { length numbers.now ≤ 15 }
+    requires most { length numbers.now ≤ 15 }
     ensures sent { IfOk result (λ sent. bytes_of sent.items ≡ datagrams client.old (map (block_ask image.now geometry) numbers.now)) }
     ensures carry { IfOk result (λ sent. Carry client.old (map (block_ask image.now geometry) numbers.now) (bytes_of sent.items)) }
-    ensures few { IfOk result (λ sent. length sent.items ≤ 15) }
+    ensures most { IfOk result (λ sent. length sent.items ≤ 15) }
     ensures asked { OnOk result (client.new ≡ asking_all client.old (map (block_ask image.now geometry) numbers.now)) }
 {
     let mut sent = Vec::with_capacity(alloc, numbers.len())?;

@@ -236,7 +236,7 @@ impl HeadCore {
         ensures sent { IfOk result (λ sent. bytes_of sent.items ≡ sends_to self.old meter) }
         // Each is one that a head end of this book may send.
         ensures permitted { IfOk result (λ sent. All (IsOfferedIn self.old.book) (bytes_of sent.items)) }
-        ensures few { IfOk result (λ sent. length sent.items ≤ 15) }
+        ensures most { IfOk result (λ sent. length sent.items ≤ 15) }
         ensures ticked { OnOk result (self.new ≡ ticked_head self.old meter) }
         ensures same { OnErr result (self.new ≡ self.old) }
         ensures memory { OnErr result (IsSomeAnd (row_of self.old.rows meter) (λ row. IsLive row.stage)) }

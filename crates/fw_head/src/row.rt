@@ -185,7 +185,7 @@ impl RowCore {
         // Where the image has the row's size, each datagram is one that a head end may send.
         ensures permitted { IfOk result (λ sent. length image.now ≡ self.old.size
             → All (IsPermitted self.old.name image.now) (bytes_of sent.items)) }
-        ensures few { IfOk result (λ sent. length sent.items ≤ 15) }
+        ensures most { IfOk result (λ sent. length sent.items ≤ 15) }
         ensures ticked { OnOk result (self.new ≡ ticked self.old image.now width) }
         ensures same { OnErr result (self.new ≡ self.old) }
         ensures memory { OnErr result (IsLive self.old.stage) }
@@ -208,7 +208,7 @@ impl RowCore {
         requires { client.old.asks ≡ empty }
         ensures sent { IfOk result (λ sent. bytes_of sent.items ≡ datagrams client.old (tick_asks self.now image.now width)) }
         ensures carry { IfOk result (λ sent. Carry client.old (tick_asks self.now image.now width) (bytes_of sent.items)) }
-        ensures few { IfOk result (λ sent. length sent.items ≤ 15) }
+        ensures most { IfOk result (λ sent. length sent.items ≤ 15) }
         ensures asked { OnOk result (client.new ≡ asking_all client.old (tick_asks self.now image.now width)) }
         ensures memory { OnErr result (IsLive self.now.stage) }
     {

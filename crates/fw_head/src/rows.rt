@@ -242,7 +242,7 @@ impl Rows {
             ≡ option_map_or (λ row. sends row image.now width) (row_of self.old.rows.entries meter) []) }
         ensures permitted { IfOk result (λ sent. (row : Row) → row_of self.old.rows.entries meter ≡ Some row
             → length image.now ≡ row.size → All (IsPermitted row.name image.now) (bytes_of sent.items)) }
-        ensures few { IfOk result (λ sent. length sent.items ≤ 15) }
+        ensures most { IfOk result (λ sent. length sent.items ≤ 15) }
         ensures ticked { OnOk result (self.new.rows.entries ≡ at_meter meter (λ row. ticked row image.now width) self.old.rows.entries) }
         ensures same { OnErr result (self.new.rows.entries ≡ self.old.rows.entries) }
         ensures memory { OnErr result (IsSomeAnd (row_of self.old.rows.entries meter) (λ row. IsLive row.stage)) }

@@ -155,7 +155,7 @@ marks_are : (limit capacity b release : ℕ) (marks : List Bool) (spare : List �
     → marks_of (cells_of b marks spare goal) (goal_count b goal) ≡ take (goal_count b goal) marks
 marks_are limit capacity b release marks spare None count is = refl
 marks_are limit capacity b release marks spare (Some goal) count is =
-    let few : block_count b goal.size ≤ limit = is.few in
+    let few : block_count b goal.size ≤ limit = is.most in
     marks_again b marks (take goal.size spare) (block_count b goal.size) (omega arith)
 
 abbrev pub shown_by : ℕ → Header → Shown

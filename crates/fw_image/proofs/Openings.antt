@@ -57,7 +57,7 @@ marks_filled all most n marks count within fits none =
 
 count_within : (limit capacity b release : ℕ) (goal : Option Goal) → IfSome goal (IsGoal limit capacity b release) → goal_count b goal ≤ limit
 count_within limit capacity b release None is = omega arith
-count_within limit capacity b release (Some goal) is = is.few
+count_within limit capacity b release (Some goal) is = is.most
 
 -- no version has more marks than there can be blocks
 pub limit_within : (version : HeaderVersion) → block_limit version ≤ max_blocks

@@ -335,7 +335,7 @@ one_or_two false = omega arith
 pub marks_in : (capacity : ℕ) (h : Header) (number start : ℕ) (value : List ℕ) → IsHeader capacity h → IsPlace h number value start → number < length h.marks
 marks_in capacity h number start value valid place =
     let is_goal : IsGoal (block_limit h.version) capacity h.block_size h.running_name.release place.goal = subst (λ (g : Option Goal). IfSome g (IsGoal (block_limit h.version) capacity h.block_size h.running_name.release)) place.there valid.goal in
-    let few : block_count h.block_size place.goal.size ≤ block_limit h.version = is_goal.few in
+    let few : block_count h.block_size place.goal.size ≤ block_limit h.version = is_goal.most in
     let below : number < block_count h.block_size place.goal.size = place.is_block.below in
     let count : length h.marks ≡ block_limit h.version = valid.fields.marks in
     omega arith

@@ -354,7 +354,7 @@ impl<S: ImageStore> Held<S> {
     /// How many blocks the goal has, 0 where there is none.
     pub(crate) fn block_count(&self) -> u32
         ensures value { result ≡ count_of self.now.meter }
-        ensures few { result ≤ max_blocks }
+        ensures most { result ≤ max_blocks }
         ensures past { (number : ℕ) → result ≤ number → get self.now.meter.cells number ≡ None }
     {
         match self.header.goal {
@@ -589,7 +589,7 @@ fn place_of(header: &Header, number: u32, value: &[u8]) -> Option<u32>
 /// The goal, if all its blocks are there.
 fn whole_goal(header: &Header) -> Option<Goal>
     requires some { 1 ≤ header.now.block_size }
-    requires few { IfSome header.now.goal (λ goal. block_count header.now.block_size goal.size ≤ max_blocks) }
+    requires most { IfSome header.now.goal (λ goal. block_count header.now.block_size goal.size ≤ max_blocks) }
     ensures found { IfSome result (IsWholeGoal header.now) }
     ensures none { IfNone result ((goal : Goal) → header.now.goal ≡ Some goal → LacksBlock header.now goal) }
 {

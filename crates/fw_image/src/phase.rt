@@ -233,7 +233,7 @@ impl<S: ImageStore> Phase<S> {
     /// How many blocks the image has that is to be received, and 0 where there is none.
     pub fn block_count(&self) -> u32
         ensures value { result ≡ count_of (state_in self.now).meter }
-        ensures few { result ≤ max_blocks }
+        ensures most { result ≤ max_blocks }
     {
         self.held().block_count()
     }

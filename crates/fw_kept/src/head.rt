@@ -392,7 +392,7 @@ impl<D: JournalDevice> KeptHead<D> {
             → IfOk result (λ sent. All (IsOfferedIn book) (bytes_of sent.items)) }
         ensures book { book_of self.new ≡ book_of self.old }
         ensures backed { IsBacked D.may_leave self.old → IsBacked D.may_leave self.new }
-        ensures few { IfOk result (λ sent. length sent.items ≤ 15) }
+        ensures most { IfOk result (λ sent. length sent.items ≤ 15) }
         ensures ticked { OnOk result (head_of self.new ≡ ticked_head (head_of self.old) meter) }
         ensures same { OnErr result (self.new ≡ self.old) }
         ensures memory { OnErr result (IsSomeAnd (row_of (head_of self.old).rows meter) (λ row. IsLive row.stage)) }

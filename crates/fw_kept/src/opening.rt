@@ -21,7 +21,7 @@ use std::alloc::Global;
 /// those before it. Otherwise `OutOfMemory` alone.
 pub(crate) fn book_of(alloc: Global, head: HeadId, records: &[Vec<u8>]) -> Result<Book, OpenError>
     ensures found { IfOk result (λ book. IsBookOf head (records_of records.now) book) }
-    ensures only { (book : Contents) → IsBookOf head (records_of records.now) book
+    ensures unique { (book : Contents) → IsBookOf head (records_of records.now) book
         → MatchResult result (λ found. found ≡ book) (λ e. e ≡ OpenError.OutOfMemory) }
     ensures refused { IfErr result (IsRecordsRefusal head (records_of records.now)) }
 {

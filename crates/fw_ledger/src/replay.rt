@@ -206,7 +206,7 @@ pub fn read_records(alloc: Global, head: HeadId, records: &[Vec<u8>]) -> Result<
     ensures found { IfOk result (λ book. IsBookOf head (records_of records.now) book) }
 
     // Records that have a book are read as that book.
-    ensures only { (book : Contents) → IsBookOf head (records_of records.now) book
+    ensures unique { (book : Contents) → IsBookOf head (records_of records.now) book
         → MatchResult result (λ found. found ≡ book) (λ e. e ≡ ReplayError.OutOfMemory) }
     ensures bad { (index : ℕ) → IsErrOf result (ReplayError.BadRecord index)
         → (bytes : List ℕ) × FailsAt head (records_of records.now) index bytes }

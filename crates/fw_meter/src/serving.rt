@@ -59,7 +59,7 @@ pub(crate) fn hear(alloc: Global, datagram: &[u8]) -> Result<Option<Heard>, OutO
 /// `OutOfMemory`, only where an APDU to wPort 1 may hold a Data.
 pub fn asks_for_response(alloc: Global, datagram: &[u8]) -> Result<bool, OutOfMemory>
     ensures asks { IfOk result (λ asks. IsTrue asks → AsksForResponse datagram.now) }
-    ensures only { AsksForResponse datagram.now → IfOk result IsTrue }
+    ensures told { AsksForResponse datagram.now → IfOk result IsTrue }
     ensures memory { OnErr result (MayBringData datagram.now) }
 {
     fw_wrapper::laws::one_frame();

@@ -81,7 +81,7 @@ impl ImageName {
         ensures found { IfSome result (SpellsName bytes.now) }
 
         // Bytes that spell a name are read as that name.
-        ensures only { (name : Name) → SpellsName bytes.now name → result ≡ Some name }
+        ensures unique { (name : Name) → SpellsName bytes.now name → result ≡ Some name }
     {
         match bytes {
             [UNRELEASED, parts @ ..] => unreleased(parts),
@@ -123,7 +123,7 @@ pub fn is_risen(running: u32, release: u32) -> bool
 fn unreleased(parts: &[u8]) -> Option<ImageName>
     ensures found { IfSome result (λ name. IsName name × (name.release ≡ 0)
         × (parts.now ≡ campaign_bytes name.campaign ++ name.digest)) }
-    ensures only { (name : Name) → IsName name → name.release ≡ 0 → parts.now ≡ campaign_bytes name.campaign ++ name.digest
+    ensures unique { (name : Name) → IsName name → name.release ≡ 0 → parts.now ≡ campaign_bytes name.campaign ++ name.digest
         → result ≡ Some name }
 {
     let [h3, h2, h1, h0, s3, s2, s1, s0, digest @ ..] = parts else {
@@ -142,7 +142,7 @@ fn unreleased(parts: &[u8]) -> Option<ImageName>
 fn released(parts: &[u8]) -> Option<ImageName>
     ensures found { IfSome result (λ name. IsName name × (name.release ≢ 0)
         × (parts.now ≡ campaign_bytes name.campaign ++ to_be_bytes w32 name.release ++ name.digest)) }
-    ensures only { (name : Name) → IsName name → name.release ≢ 0
+    ensures unique { (name : Name) → IsName name → name.release ≢ 0
         → parts.now ≡ campaign_bytes name.campaign ++ to_be_bytes w32 name.release ++ name.digest → result ≡ Some name }
 {
     let [h3, h2, h1, h0, s3, s2, s1, s0, r3, r2, r1, r0, digest @ ..] = parts else {

@@ -55,7 +55,7 @@ pub record IsGoal (limit capacity block_size release : ℕ) (goal : Goal) : Type
   pub risen : IsRisen release goal.name.release
   pub fits : goal.size ≤ capacity
   pub limits : IsWithinLimits block_size goal.size
-  pub few : block_count block_size goal.size ≤ limit
+  pub most : block_count block_size goal.size ≤ limit
 
 -- how many blocks the goal has, 0 where there is none
 abbrev pub goal_count : ℕ → Option Goal → ℕ

@@ -443,7 +443,7 @@ fn put(bytes: &mut [u8], at: usize, part: &[u8]) -> usize
 /// What the bytes are read as. A header's bytes are read as that header; others may be read as some header too, which
 /// has other bytes.
 fn read(bytes: &HeaderBytes) -> Option<Header>
-    ensures only { (header : Header) → FieldsFit header →
+    ensures unique { (header : Header) → FieldsFit header →
         header_bytes header ≡ bytes_of bytes.now → result ≡ Some header }
     ensures marks { IfSome result (λ header. length header.marks ≡ block_limit header.version) }
     ensures version { IfSome result (λ header. header.version ≡ version_of bytes.now) }
@@ -470,7 +470,7 @@ fn read(bytes: &HeaderBytes) -> Option<Header>
 
 /// The marks that a header's bytes are read as: those of the first 4,096 blocks, and in version 2 of the others.
 fn read_marks(bytes: &HeaderBytes) -> Pages
-    ensures only { (marks : List Bool) → length marks ≡ block_limit (version_of bytes.now) →
+    ensures unique { (marks : List Bool) → length marks ≡ block_limit (version_of bytes.now) →
         packed (take first_limit marks) ≡ slice_range (take VERSION_ONE_SIZE (bytes_of bytes.now)) MARKS_AT RELEASES_AT →
         packed (drop first_limit marks) ≡ drop VERSION_ONE_SIZE (bytes_of bytes.now) → result ≡ marks }
     ensures size { length result ≡ block_limit (version_of bytes.now) }

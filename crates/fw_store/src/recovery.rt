@@ -77,7 +77,7 @@ fn take_back<D: ByteDevice>(device: &mut D, write: &HeaderWrite<'_>) -> Result<(
 /// How many bytes a device has from a place on, where they are no more than a part of a write can have.
 fn size_from<D: ByteDevice>(device: &mut D, at: u64) -> Result<Option<usize>, DeviceFault>
     ensures some { IsTrue (D.honest device.old) → IfOk result (λ found. IfSome found (λ size. at + size ≡ length (D.contents device.old))) }
-    ensures few { IfOk result (λ found. IfSome found (λ size. size ≤ 2048)) }
+    ensures most { IfOk result (λ found. IfSome found (λ size. size ≤ 2048)) }
     ensures none { IsTrue (D.honest device.old) → IfOk result (λ found. IfNone found
         (at ≤ length (D.contents device.old) → at + 2049 ≤ length (D.contents device.old))) }
     ensures same { IsTrue (D.honest device.old) → D.contents device.new ≡ D.contents device.old }

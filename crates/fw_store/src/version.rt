@@ -32,7 +32,7 @@ impl HeaderVersion {
     /// How many blocks it has marks for: the most that an image may have in a store with such a header.
     pub fn block_limit(self) -> u32
         ensures value { result ≡ block_limit self }
-        ensures few { result ≤ MAX_BLOCKS }
+        ensures most { result ≤ MAX_BLOCKS }
     {
         match self {
             HeaderVersion::One => FIRST_LIMIT,
@@ -132,7 +132,7 @@ impl HeaderBytes {
     /// The others, of which version 1 has none.
     pub(crate) fn rest(&self) -> &[u8]
         ensures value { result.now ≡ drop VERSION_ONE_SIZE (bytes_of self.now) }
-        ensures few { VERSION_ONE_SIZE + length result.now ≤ VERSION_TWO_SIZE }
+        ensures most { VERSION_ONE_SIZE + length result.now ≤ VERSION_TWO_SIZE }
     {
         &self.as_slice()[VERSION_ONE_SIZE..]
     }

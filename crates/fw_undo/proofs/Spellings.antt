@@ -164,8 +164,8 @@ pub is_sizes : (w : Write) → IsWrite w → HasSizes w
 is_sizes w is = record {
   at_fits = omega (arith, is.fits, is.order);
   last_at_fits = omega (arith, is.fits);
-  before_fits = omega (arith, is.few);
-  after_fits = omega (arith, is.few, is.same);
+  before_fits = omega (arith, is.most);
+  after_fits = omega (arith, is.most, is.same);
   last_before_fits = omega (arith, is.last_before_few);
   last_after_fits = omega (arith, is.last_after_few);
 }

@@ -16,7 +16,7 @@ pub record Write : Type 0 where
 pub record IsWrite (w : Write) : Type 0 where
   pub fits : w.last_at < 2 ^ 63
   pub same : length w.after ≡ length w.before
-  pub few : length w.before ≤ 2048
+  pub most : length w.before ≤ 2048
   pub last_before_few : length w.last_before ≤ 2048
   pub last_after_few : length w.last_after ≤ 2048
   pub order : w.at + length w.before ≤ w.last_at

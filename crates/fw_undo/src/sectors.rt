@@ -25,7 +25,7 @@ pub(crate) enum Difference {
 
 /// The bytes of a part that stand in a sector of the disk, where the part begins at this offset of the file.
 fn in_sector(at: u64, sector: u64, part: &[u8]) -> &[u8]
-    requires few { length part.now ≤ 2048 }
+    requires most { length part.now ≤ 2048 }
     requires sector { sector < 2 ^ 54 + 5 }
     ensures { result.now ≡ in_sector at sector part.now }
 {
@@ -49,7 +49,7 @@ fn is_either(at: u64, sector: u64, now: &[u8], before: &[u8], after: &[u8]) -> b
 /// Whether each sector of what stands there now is the one before the write or the one after it. All three have the same number of bytes.
 pub(crate) fn is_cut(at: u64, now: &[u8], before: &[u8], after: &[u8]) -> bool
     requires place { at < 2 ^ 63 }
-    requires few { length now.now ≤ 2048 }
+    requires most { length now.now ≤ 2048 }
     requires before { length before.now ≡ length now.now }
     requires after { length after.now ≡ length now.now }
     ensures cut { IsTrue result → IsCut at now.now before.now after.now }
@@ -68,7 +68,7 @@ pub(crate) fn is_cut(at: u64, now: &[u8], before: &[u8], after: &[u8]) -> bool
 /// fewer bytes, zeros stand for those that it lacks.
 pub(crate) fn is_cut_at_end(at: u64, now: &[u8], before: &[u8], after: &[u8]) -> bool
     requires place { at < 2 ^ 63 }
-    requires few { length now.now ≤ 2048 }
+    requires most { length now.now ≤ 2048 }
     requires before { length before.now ≤ 2048 }
     requires after { length after.now ≤ 2048 }
     ensures cut { IsTrue result → IsCutAtEnd at now.now before.now after.now }
@@ -97,7 +97,7 @@ fn fill(out: &mut [u8], part: &[u8])
 
 /// Whether the bytes of a part before a write and after it are the same outside a sector. There are as many of both.
 pub(crate) fn differ_only_in(at: u64, sector: u64, before: &[u8], after: &[u8]) -> bool
-    requires few { length before.now ≤ 2048 }
+    requires most { length before.now ≤ 2048 }
     requires after { length after.now ≡ length before.now }
     requires sector { sector < 2 ^ 54 + 5 }
     ensures { IsTrue result → DifferInOneSector at before.now after.now }
@@ -109,7 +109,7 @@ pub(crate) fn differ_only_in(at: u64, sector: u64, before: &[u8], after: &[u8]) 
 /// In what the bytes of a part before a write and after it differ. There are as many of both.
 pub(crate) fn compare(at: u64, before: &[u8], after: &[u8]) -> Difference
     requires place { at < 2 ^ 63 }
-    requires few { length before.now ≤ 2048 }
+    requires most { length before.now ≤ 2048 }
     requires after { length after.now ≡ length before.now }
     ensures { IsDifference result at before.now after.now }
 {
@@ -126,7 +126,7 @@ pub(crate) fn compare(at: u64, before: &[u8], after: &[u8]) -> Difference
 
 /// Where in a part of this length the bytes of a sector begin and end, where the part begins at this offset of the file.
 fn bounds(at: u64, sector: u64, len: usize) -> (usize, usize)
-    requires few { len ≤ 2048 }
+    requires most { len ≤ 2048 }
     requires sector { sector < 2 ^ 54 + 5 }
     ensures order { result.0 ≤ result.1 }
     ensures within { result.1 ≤ len }
@@ -143,7 +143,7 @@ fn bounds(at: u64, sector: u64, len: usize) -> (usize, usize)
 /// The first sector in which they differ.
 fn differing_sector(at: u64, before: &[u8], after: &[u8]) -> Option<u64>
     requires place { at < 2 ^ 63 }
-    requires few { length before.now ≤ 2048 }
+    requires most { length before.now ≤ 2048 }
     requires size { length after.now ≡ length before.now }
     ensures differ { IfSome result (λ sector. in_sector at sector before.now ≢ in_sector at sector after.now) }
     ensures first { IfSome result (λ sector. (k : ℕ) → at / SECTOR_SIZE ≤ k → k < sector → in_sector at k before.now ≡ in_sector at k after.now) }

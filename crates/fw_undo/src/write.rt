@@ -98,7 +98,7 @@ impl<'a> HeaderWrite<'a> {
     fn payload(&self) -> JournalBytes
         requires { IsWrite self.now }
         ensures value { result ≡ payload self.now }
-        ensures few { length result ≤ 8228 }
+        ensures most { length result ≤ 8228 }
     {
         let mut bytes = JournalBytes::new();
         bytes.put(b"FWU1");
@@ -234,7 +234,7 @@ impl<'a> HeaderWrite<'a> {
 
 /// Puts a part of a write after what is there: its length, and itself.
 fn put_part(bytes: &mut JournalBytes, given: &[u8])
-    requires few { length given.now ≤ 2048 }
+    requires most { length given.now ≤ 2048 }
     requires room { length bytes.old ≤ 6208 }
     ensures { bytes.new ≡ bytes.old ++ part given.now }
 {

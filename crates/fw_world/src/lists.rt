@@ -82,7 +82,7 @@ pub(crate) fn room_to_reply(
 /// Whether the datagram of this number asks a meter for a response.
 fn asks(alloc: Global, sent: &[Datagram], number: usize) -> Result<bool, OutOfMemory>
     ensures asks { IfOk result (λ asks. IsTrue asks → IsSomeAnd (slice_get sent.now number) (λ d. AsksForResponse d.bytes)) }
-    ensures only { IfSome (slice_get sent.now number) (λ d. AsksForResponse d.bytes → IfOk result IsTrue) }
+    ensures told { IfSome (slice_get sent.now number) (λ d. AsksForResponse d.bytes → IfOk result IsTrue) }
     ensures memory { OnErr result (IsSomeAnd (slice_get sent.now number) (λ d. MayBringData d.bytes)) }
 {
     match sent_at(sent, number) {

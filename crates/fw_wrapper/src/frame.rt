@@ -52,7 +52,7 @@ pub fn split(datagram: &[u8]) -> Result<Frame<'_>, WrapError>
     ensures found { IfOk result (λ f. Wraps datagram.now f.source f.dest f.apdu.now) }
 
     // A datagram that wraps an APDU is split, and in one way only.
-    ensures only { (source dest : ℕ) (apdu : List ℕ) → Wraps datagram.now source dest apdu
+    ensures unique { (source dest : ℕ) (apdu : List ℕ) → Wraps datagram.now source dest apdu
         → IsOkAnd result (λ f. (f.source ≡ source) × (f.dest ≡ dest) × (f.apdu.now ≡ apdu)) }
 
     ensures refused { result_err result ≡ fault_of datagram.now }

@@ -19,7 +19,7 @@ loop-run-preserved c =
     let split : drop c.loop-run.run-index items ≡ get_or items c.loop-run.run-index none ∷ drop (c.loop-run.run-index + 1) items = drop_more items c.loop-run.run-index none c.loop-run-test.true in
     at_next c.args.set.now c.args.width _ _ _ _ _ _ _
     (subst (λ rest. AtRun c.args.set.now c.args.width rest c.loop-run.from c.loop-run.numbers c.loop-run.len) split c.loop-run.invariant)
-    c.list-len.ensures.few (c.list-len.ensures.lists _ c.loop-run.invariant.lists)
+    c.list-len.ensures.most (c.list-len.ensures.lists _ c.loop-run.invariant.lists)
 
 pub returns : goal.returns
 returns c =

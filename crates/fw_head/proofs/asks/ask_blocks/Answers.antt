@@ -19,9 +19,9 @@ none_yet sent numbers none few =
 pub loop-number-init : goal.loop-number-init
 loop-number-init c =
     let h = c.in_ok-sent.ensures.items in
-    let ap_few = none_yet c.in_ok-sent.sent.items c.args.numbers.now h c.requires.few in
+    let ap_few = none_yet c.in_ok-sent.sent.items c.args.numbers.now h c.requires.most in
     let whole : (later : List (List ℕ)) → Carry c.args.client.now (map (block_ask c.args.image.now c.args.geometry) c.args.numbers.now) later → Carry c.args.client.now (map (block_ask c.args.image.now c.args.geometry) c.args.numbers.now) (bytes_of c.in_ok-sent.sent.items ++ later) = λ later carry. subst (λ (l : List (Vec ℕ)). Carry c.args.client.now (map (block_ask c.args.image.now c.args.geometry) c.args.numbers.now) (bytes_of l ++ later)) (sym h) carry in
-    (ap (λ (l : List (Vec ℕ)). bytes_of l ++ datagrams c.args.client.now (map (block_ask c.args.image.now c.args.geometry) c.args.numbers.now)) h, refl, none_lately c.args.client.now (15 - length c.args.numbers.now) c.requires.idle, c.requires.few, ap_few, whole)
+    (ap (λ (l : List (Vec ℕ)). bytes_of l ++ datagrams c.args.client.now (map (block_ask c.args.image.now c.args.geometry) c.args.numbers.now)) h, refl, none_lately c.args.client.now (15 - length c.args.numbers.now) c.requires.idle, c.requires.most, ap_few, whole)
 
 pub loop-number-preserved : goal.loop-number-preserved
 loop-number-preserved c =

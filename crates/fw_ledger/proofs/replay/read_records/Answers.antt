@@ -20,8 +20,8 @@ loop-bytes-preserved c =
       is_book = all_push i.front bytes (empty_book c.args.head) c.loop-bytes.book c.add.new.book i.is_book c.in-Ok.ensures.made;
     }
 
-pub returns-in-Err-clause-only : goal.returns-in-Err-clause-only
-returns-in-Err-clause-only c = λ book is.
+pub returns-in-Err-clause-unique : goal.returns-in-Err-clause-unique
+returns-in-Err-clause-unique c = λ book is.
     let i = c.loop-bytes.invariant in
     let bytes = c.as_slice.result.now in
     let same : bytes ≡ c.in-Some.bytes.now.items = search rules in
@@ -61,8 +61,8 @@ returns-in-Err-clause-bad c = λ index is.
       },
     )) c.replay_error.ensures
 
-pub returns-clause-only : goal.returns-clause-only
-returns-clause-only c = λ book is.
+pub returns-clause-unique : goal.returns-clause-unique
+returns-clause-unique c = λ book is.
     let i = c.loop-bytes.invariant in
     let none = none_of c.loop-bytes.rest.now c.in_default.ensures.cases in
     let all : records_of c.args.records.now ≡ i.front = i.split ∙ ap (λ (l : List (List ℕ)). i.front ++ l) none ∙ append-nil i.front in

@@ -16,4 +16,4 @@ pub returns-in-None-clause-steps : goal.returns-in-None-clause-steps
 returns-in-None-clause-steps g c =
     let s = state_in c.args.phase in
     rw c.nameless.ensures (nameless s c.args.identifier.now c.args.size s.meter.enabled refl
-    (λ name spells. let bad : None ≡ Some name = c.in-None.ensures.only name spells in cc))
+    (λ name spells. let bad : None ≡ Some name = c.in-None.ensures.unique name spells in cc))

@@ -8,28 +8,28 @@ use Rattle.fw_store.proofs.Parts.{Parts, parts_in, size_of_header, drop-header, 
 use Rattle.fw_store.proofs.header.read.Goals as goal
 use Rattle.fw_store.proofs.header.read.Goals.{then-front-eq1+in_ok-read_goal, else-front-eq1}
 
-pub returns-in_err-read_goal-clause-only : goal.returns-in_err-read_goal-clause-only
-returns-in_err-read_goal-clause-only c = λ h fits e.
+pub returns-in_err-read_goal-clause-unique : goal.returns-in_err-read_goal-clause-unique
+returns-in_err-read_goal-clause-unique c = λ h fits e.
     let p : Parts c.front-front.result.now h = parts_in c.bits_packed.ensures h (bytes_of c.args.bytes.now) c.front-front.result.now fits e c.front-front.ensures.value in
     let release = c.number_at.ensures ∙ ap (from_be_bytes w32) p.goal_release ∙ number_again (goal_release h.goal) (goal_release_fits h.goal fits.goal) in
     let none = goal_read h.goal _ _ _ _ fits.goal p.has_goal c.if-front-eq1.true p.goal release c.in_err-read_goal.ensures in
     absurd (suc-ne-zero 0 (sym c.if-front-eq1.true ∙ p.has_goal ∙ ap (λ goal. flag (is_some goal)) (sym none)))
 
-pub returns-in_err-from_number-clause-only : goal.returns-in_err-from_number-clause-only
-returns-in_err-from_number-clause-only c = λ h fits e.
+pub returns-in_err-from_number-clause-unique : goal.returns-in_err-from_number-clause-unique
+returns-in_err-from_number-clause-unique c = λ h fits e.
     let p : Parts c.front-front.result.now h = parts_in c.bits_packed.ensures h (bytes_of c.args.bytes.now) c.front-front.result.now fits e c.front-front.ensures.value in
     let status = c.in_err-from_number.ensures h.status (sym p.status) in
     cc
 
-pub returns-in_err-read_name-clause-only : goal.returns-in_err-read_name-clause-only
-returns-in_err-read_name-clause-only c = λ h fits e.
+pub returns-in_err-read_name-clause-unique : goal.returns-in_err-read_name-clause-unique
+returns-in_err-read_name-clause-unique c = λ h fits e.
     let p : Parts c.front-front.result.now h = parts_in c.bits_packed.ensures h (bytes_of c.args.bytes.now) c.front-front.result.now fits e c.front-front.ensures.value in
     let release = c.number_at-4.ensures ∙ ap (from_be_bytes w32) p.running_release ∙ number_again h.running_name.release fits.running_name.is_release.fits in
     let name = c.in_err-read_name.ensures h.running_name fits.running_name (sym p.running_name) (sym release) in
     cc
 
-pub returns-clause-only : goal.returns-clause-only
-returns-clause-only c = λ h fits e.
+pub returns-clause-unique : goal.returns-clause-unique
+returns-clause-unique c = λ h fits e.
     let p : Parts c.front-front.result.now h = parts_in c.bits_packed.ensures h (bytes_of c.args.bytes.now) c.front-front.result.now fits e c.front-front.ensures.value in
     let enabled = ap (λ (n : ℕ). eqb n 1) p.enabled ∙ flag_again h.enabled in
     let slot = c.slot_at.ensures h.running_slot (sym p.running_slot) in
@@ -51,7 +51,7 @@ returns-clause-only c = λ h fits e.
     let count = fits.marks ∙ ap block_limit (sym same) in
     let first = sym p.marks ∙ ap (λ (l : List ℕ). slice_range l 102 614) c.front-front.ensures.value in
     let others = sym (drop-header c.bits_packed.ensures h fits) ∙ ap (drop 622) e in
-    let marks = c.read_marks.ensures.only h.marks count first others in
+    let marks = c.read_marks.ensures.unique h.marks count first others in
     λ i. Some (record {
       version = version i;
       enabled = enabled i;

@@ -4,8 +4,8 @@ use Rattle.fw_store.specs.Versions.{block_limit, bytes_of, version_of}
 use Rattle.fw_store.proofs.MarkLemmas.{length-resized_marks, marks_read}
 use Rattle.fw_store.proofs.header.read_marks.Goals as goal
 
-pub returns-clause-only : goal.returns-clause-only
-returns-clause-only c = λ marks size first others.
+pub returns-clause-unique : goal.returns-clause-unique
+returns-clause-unique c = λ marks size first others.
     let bytes = bytes_of c.args.bytes.now in
     let version = version_of c.args.bytes.now in
     let count = c.block_limit.ensures.value ∙ ap block_limit c.version.ensures in

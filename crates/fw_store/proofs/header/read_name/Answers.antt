@@ -6,5 +6,5 @@ use Rattle.fw_store.proofs.header.read_name.Goals as goal
 pub returns-in_err-from_bytes : goal.returns-in_err-from_bytes
 returns-in_err-from_bytes c = λ name is spelled same.
     let there = subst (λ (bytes : List ℕ). SpellsName bytes (record name { release = 0 })) spelled (spells name is) in
-    let read = c.in_err-from_bytes.ensures.only (record name { release = 0 }) there in
+    let read = c.in_err-from_bytes.ensures.unique (record name { release = 0 }) there in
     cc

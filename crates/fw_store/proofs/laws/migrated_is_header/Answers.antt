@@ -38,7 +38,7 @@ raised limit most capacity block_size release (Some goal) within fits = record {
   opened = fits.opened;
   fits = fits.fits;
   limits = fits.limits;
-  few = let few = fits.few in omega arith;
+  most = let most = fits.most in omega arith;
   risen = fits.risen;
 }
 

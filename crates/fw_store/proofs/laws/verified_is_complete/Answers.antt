@@ -7,7 +7,7 @@ use Rattle.fw_store.proofs.laws.verified_is_complete.Goals as goal
 
 few : (limit capacity block_size release : ℕ) (goal : Option Goal) → IfSome goal (IsGoal limit capacity block_size release) → goal_count block_size goal ≤ limit
 few limit capacity block_size release None fits = omega arith
-few limit capacity block_size release (Some goal) fits = fits.few
+few limit capacity block_size release (Some goal) fits = fits.most
 
 pub returns : goal.returns
 returns c = λ capacity h is verified.

@@ -16,12 +16,12 @@ returns-in-Some-clause-asks c =
     (λ told h asks. subst (λ (o : Option Datagram). IsSomeAnd o (λ d. AsksForResponse d.bytes)) (sym at) (subst AsksForResponse carried (h asks)))
     c.asks_for_response.ensures.asks
 
-pub returns-in-Some-clause-only : goal.returns-in-Some-clause-only
-returns-in-Some-clause-only c =
+pub returns-in-Some-clause-told : goal.returns-in-Some-clause-told
+returns-in-Some-clause-told c =
     let at : slice_get c.args.sent.now c.args.number ≡ Some c.in-Some.datagram.now = sym c.sent_at.ensures ∙ ap option_copied c.in-Some.is in
     let carried : c.deref.result.now ≡ c.in-Some.datagram.now.bytes = c.deref.ensures.value ∙ ap (λ (x : Datagram). x.bytes) c.datagram.view_is in
     let told = c.asks_for_response.result in
-    subst (λ (o : Option Datagram). IfSome o (λ d. AsksForResponse d.bytes → IfOk told IsTrue)) (sym at) (λ h. c.asks_for_response.ensures.only (subst AsksForResponse (sym carried) h))
+    subst (λ (o : Option Datagram). IfSome o (λ d. AsksForResponse d.bytes → IfOk told IsTrue)) (sym at) (λ h. c.asks_for_response.ensures.told (subst AsksForResponse (sym carried) h))
 
 pub returns-in-Some-clause-memory : goal.returns-in-Some-clause-memory
 returns-in-Some-clause-memory c =

@@ -14,7 +14,7 @@ invariant_of-self c =
     let kept = c.self.invariant in
     let below : c.args.number < c.self.inside.count = omega (arith, size, ap length c.self.view_is, c.requires) in
     record {
-      few = kept.few;
+      most = kept.most;
       apart = c.put.ensures.puts.apart c.self.inside.count below kept.apart;
       room = omega (arith, kept.room, c.put.ensures.room);
     }

@@ -7,7 +7,7 @@ use Rattle.fw_blocks.proofs.pages.Pages.first_missing.Goals as goal
 pub first_unmarked-requires : goal.first_unmarked-requires
 first_unmarked-requires c =
     let are = are_words c.self.inside.count c.self.inside.words c.self.inside.counts c.self.invariant in
-    pages_full c.self.inside.count c.self.inside.words c.self.inside.counts are c.full_pages.result c.full_pages.ensures.few c.full_pages.ensures.full
+    pages_full c.self.inside.count c.self.inside.words c.self.inside.counts are c.full_pages.result c.full_pages.ensures.most c.full_pages.ensures.full
 
 pub returns-clause-least : goal.returns-clause-least
 returns-clause-least c =

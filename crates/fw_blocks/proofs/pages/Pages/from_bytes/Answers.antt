@@ -38,8 +38,8 @@ returns-clause-packs c =
 pub returns-clause-size : goal.returns-clause-size
 returns-clause-size c = ap length (returns-clause-value c) ∙ omega (arith, c.told-bytes, length-bits c.args.bytes.now)
 
-pub returns-clause-only : goal.returns-clause-only
-returns-clause-only c = λ marks size packs.
+pub returns-clause-unique : goal.returns-clause-unique
+returns-clause-unique c = λ marks size packs.
     let bytes = c.args.bytes.now in
     let all : take max_blocks (bits bytes) ≡ bits bytes = take_all max_blocks (bits bytes) (omega (arith, c.told-bytes, length-bits bytes)) in
     returns-clause-value c ∙ sym all ∙ ap (λ xs. take max_blocks (bits xs)) (sym packs) ∙ ap (λ n. take n (bits (packed marks))) (sym size) ∙ (c.bits_packed.ensures marks).1

@@ -7,7 +7,7 @@ pub overflow_add-self : goal.overflow_add-self
 overflow_add-self c =
     let are = are_words c.self.inside.count c.self.inside.words c.self.inside.counts c.self.invariant in
     let size = length-marks_of c.self.inside.count c.self.inside.words in
-    let page : c.args.number / 64 < page_count = omega (arith, size, ap length c.self.view_is, c.requires, c.self.invariant.few) in
+    let page : c.args.number / 64 < page_count = omega (arith, size, ap length c.self.view_is, c.requires, c.self.invariant.most) in
     omega (arith, are.each (c.args.number / 64) page, ones_of-le (bit_from_top (get_or c.self.inside.words (c.args.number / 64) 0) 64) 64)
 
 pub invariant_of-self : goal.invariant_of-self
@@ -15,8 +15,8 @@ invariant_of-self c =
     let are = are_words c.self.inside.count c.self.inside.words c.self.inside.counts c.self.invariant in
     let size = length-marks_of c.self.inside.count c.self.inside.words in
     let below : c.args.number < c.self.inside.count = omega (arith, size, ap length c.self.view_is, c.requires) in
-    holds c.self.inside.count _ _ c.self.invariant.few
-    (words_more c.self.inside.count c.args.number c.with_bit.result c.self.inside.words c.self.inside.counts below c.self.invariant.few are
+    holds c.self.inside.count _ _ c.self.invariant.most
+    (words_more c.self.inside.count c.args.number c.with_bit.result c.self.inside.words c.self.inside.counts below c.self.invariant.most are
     (sym c.has_bit.ensures ∙ c.if-not-has_bit.true) (omega (arith, c.with_bit.type_inv)) c.with_bit.ensures)
 
 pub returns-then-not-has_bit : goal.returns-then-not-has_bit

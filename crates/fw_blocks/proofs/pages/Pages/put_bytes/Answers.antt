@@ -15,10 +15,10 @@ returns-clause-value c =
     c.put_words.ensures
     ∙ words_range words first _ size (omega arith) (omega (arith, are.words_size)) (omega arith) c.requires.whole
     ∙ ap (λ (bytes : List ℕ). slice_range bytes (8 * first) (8 * first + size))
-    (words_packed c.self.inside.count words c.self.inside.counts c.self.invariant.few are c.bytes_packed.ensures)
+    (words_packed c.self.inside.count words c.self.inside.counts c.self.invariant.most are c.bytes_packed.ensures)
     ∙ ap (λ marks. slice_range (packed (all_marks marks)) (8 * first) (8 * first + size)) c.self.view_is
 
 pub returns-clause-size : goal.returns-clause-size
 returns-clause-size c =
     subst (λ marks. length (all_marks marks) ≡ max_blocks) c.self.view_is
-    (length-all_marks (marks_of c.self.inside.count c.self.inside.words) (omega (arith, c.self.invariant.few, c.self.invariant.size)))
+    (length-all_marks (marks_of c.self.inside.count c.self.inside.words) (omega (arith, c.self.invariant.most, c.self.invariant.size)))

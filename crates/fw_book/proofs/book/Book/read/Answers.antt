@@ -49,8 +49,8 @@ returns-clause-found c =
     let all : c.loop-entry.book.campaigns ++ i.left ≡ c.loop-entry.book.campaigns = ap (λ (xs : List (ℕ × Offered)). c.loop-entry.book.campaigns ++ xs) none ∙ append-nil c.loop-entry.book.campaigns in
     subst (λ (xs : List (ℕ × Offered)). IsReadAs c.args.bytes.now (record { head = c.loop-entry.book.head; campaigns = xs })) all i.is_read
 
-pub returns-clause-only : goal.returns-clause-only
-returns-clause-only c = λ book read. same_read c.args.bytes.now c.loop-entry.book book (returns-clause-found c) read
+pub returns-clause-unique : goal.returns-clause-unique
+returns-clause-unique c = λ book read. same_read c.args.bytes.now c.loop-entry.book book (returns-clause-found c) read
 
 pub returns-in_err-rows_of-clause-refused : goal.returns-in_err-rows_of-clause-refused
 returns-in_err-rows_of-clause-refused c =

@@ -14,7 +14,7 @@ invariant_of-self c =
     ∙ ap (λ (s : State). s.meter) c.forget.ensures
     ∙ ap (λ (s : State). s.meter) c.duplicate-client.ensures in
     let P : ℕ → Type 0 = λ m. IsOwn m c.self.inside.name c.self.inside.size c.self.inside.stage in
-    record { few = c.self.invariant.few; own = subst P (sym asks) c.self.invariant.own; asking = c.self.invariant.asking }
+    record { most = c.self.invariant.most; own = subst P (sym asks) c.self.invariant.own; asking = c.self.invariant.asking }
 
 pub returns-clause-permitted : goal.returns-clause-permitted
 returns-clause-permitted c =

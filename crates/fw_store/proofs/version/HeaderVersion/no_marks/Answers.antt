@@ -8,5 +8,5 @@ pub returns : goal.returns
 returns c =
     c.resized.ensures
     ∙ ap (resized_marks c.block_limit.result) c.none.ensures
-    ∙ resized_marks_none max_blocks c.block_limit.result c.block_limit.ensures.few
+    ∙ resized_marks_none max_blocks c.block_limit.result c.block_limit.ensures.most
     ∙ ap (λ (n : ℕ). replicate n false) c.block_limit.ensures.value

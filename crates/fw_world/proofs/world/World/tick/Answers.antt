@@ -31,7 +31,7 @@ room_for sends more len cap is room few =
     subst (λ (n : ℕ). len + n ≤ cap) long (room (subst (λ (n : ℕ). n ≤ 15) (sym long) few))
 
 pub send-requires : goal.send-requires
-send-requires c = room_for _ _ _ _ c.in_ok-sends.ensures.sent c.in_ok-room_to_send.ensures.room c.in_ok-sends.ensures.few
+send-requires c = room_for _ _ _ _ c.in_ok-sends.ensures.sent c.in_ok-room_to_send.ensures.room c.in_ok-sends.ensures.most
 
 pub returns-in_err-room_to_send-clause-refused : goal.returns-in_err-room_to_send-clause-refused
 returns-in_err-room_to_send-clause-refused c =
