@@ -1,3 +1,2 @@
 mod Addressed
-mod Owned
 pub mod Listings

@@ -151,20 +151,8 @@ fn book_on<D: JournalDevice + Drop>(
 {
     fw_kept::laws::foreign_have_none();
     match KeptHead::open(alloc, head, width, device) {
-        Ok(kept) => own(kept, head),
+        Ok(kept) => Ok(kept),
         Err((error, _device)) => Err(Fault::from(error)),
-    }
-}
-
-/// The head end, if it has this number. A book that was read for a head end has its number; this looks at it once more.
-fn own<D: JournalDevice + Drop>(kept: KeptHead<D>, head: HeadId) -> Result<KeptHead<D>, Fault>
-    ensures number { IfOk result (λ same. (same ≡ kept) × ((book_of kept).head ≡ head)) }
-    ensures foreign { IfErr result (λ f. (f ≡ Fault.ForeignHead) × ((book_of kept).head ≢ head)) }
-{
-    if kept.head().view().book.head() == head {
-        Ok(kept)
-    } else {
-        Err(Fault::ForeignHead)
     }
 }
 

@@ -134,6 +134,8 @@ impl<D: JournalDevice> KeptHead<D> {
         ensures opened { IsTrue (D.honest device)
             → IfOk result (λ kept. Holds D.honest D.contents D.may_leave kept (book_of kept)) }
         ensures book { IsTrue (D.honest device) → IfOk result (λ kept. HasBook head (D.contents device) (book_of kept)) }
+        // Whatever the device is.
+        ensures number { IfOk result (λ kept. (book_of kept).head ≡ head) }
         ensures begun { IfOk result (λ kept. BeginsWith (book_of kept) width (head_of kept)) }
         ensures bad { IsTrue (D.honest device) → IfErr result (λ e. (offset : ℕ) → e.0 ≡ OpenError.BadBook offset
             → IsBadBook (D.contents device) offset × (D.contents e.1 ≡ D.contents device)) }

@@ -27,3 +27,6 @@ returns-in-Ok-book_of-clause-opened g c = λ honest.
 pub returns-clause-bad : goal.returns-clause-bad
 returns-clause-bad g c = λ honest offset is.
     c.in-Err.ensures.bad honest offset (bad_of c.in-Err.refusal offset (sym c.open_error.ensures ∙ is))
+
+pub returns-in-Ok-book_of-clause-number : goal.returns-in-Ok-book_of-clause-number
+returns-in-Ok-book_of-clause-number g c = book_head c.args.head _ c.in-Ok-book_of.book c.in-Ok-book_of.ensures.found
