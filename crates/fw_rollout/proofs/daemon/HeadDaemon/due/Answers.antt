@@ -58,7 +58,7 @@ returns-clause-asked g c = λ leader led.
 
 pub returns-clause-queued : goal.returns-clause-queued
 returns-clause-queued g c = λ leader led place due.
-    let few : c.len-count.result ≤ max_tick = omega (arith, c.in_ok-datagrams.ensures.few, c.len-count.ensures) in
+    let few : c.len-count.result ≤ max_tick = omega (arith, c.in_ok-datagrams.ensures.most, c.len-count.ensures) in
     queued_once c.sent.new.self place
     (c.in_ok-sent.ensures.schedule (c.in_ok-place.ensures.schedule led.schedule) (rw c.in-Some.is at c.in_ok-place.ensures.due) (rw c.in-Some.is at c.in_ok-place.ensures.first)
     (rw c.in-Some.is at c.in_ok-place.ensures.room) few) due
@@ -72,7 +72,7 @@ returns-clause-ticks g c = λ leader led sent_all.
     let due = rw c.in-Some.is at c.in_ok-place.ensures.due in
     let first = rw c.in-Some.is at c.in_ok-place.ensures.first in
     let room = rw c.in-Some.is at c.in_ok-place.ensures.room in
-    let few : c.len-count.result ≤ max_tick = omega (arith, c.in_ok-datagrams.ensures.few, c.len-count.ensures) in
+    let few : c.len-count.result ≤ max_tick = omega (arith, c.in_ok-datagrams.ensures.most, c.len-count.ensures) in
     let there : slice_get (listed_of c.args.self.now.schedule) place ≡ Some at =
     ap (λ (ls : List Listed). slice_get ls place) (sym same.listed)
     ∙ listed_at (links_of schedule) place at (sym c.at.ensures ∙ c.in-Some-at.is) in
