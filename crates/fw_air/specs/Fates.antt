@@ -12,7 +12,7 @@ max_fates = 4096
 -- a list that can be repeated
 pub record IsFates (list : List Fate) : Type 0 where
   pub some : 1 ≤ length list
-  pub few : length list ≤ max_fates
+  pub most : length list ≤ max_fates
 
 -- the fate of the datagram of this number on its link: the list is repeated
 abbrev pub fate_of : List Fate → ℕ → Option Fate

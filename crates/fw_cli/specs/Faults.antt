@@ -125,7 +125,7 @@ IsOfStore BadHeader = Unit {0}
 IsOfStore BadImage = Unit {0}
 IsOfStore fault = ⊥
 
--- Of so many meters, the number of one stands with the fault, where it is that of a file. Without a count none does.
+-- Of `count` meters, the number of one stands with the fault, where it is that of a file. Without a count none does.
 abbrev pub NamesMeter : Option ℕ → MeterFault → Type 0
 NamesMeter None ended = ended.number ≡ None
 NamesMeter (Some count) ended = (IsOfStore ended.fault → ended.number ≢ None) × IfSome ended.number (λ number. (1 ≤ number) × (number ≤ count))

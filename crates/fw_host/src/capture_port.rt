@@ -8,7 +8,6 @@ ghost use Rattle.fw_host.specs.Captures.{Captures, CapturesSome, arrival_told};
 use crate::capture_file::{now, put_record};
 use fw_capture::{Content, Note};
 use fw_daemon::{Arrival, Closed, Patience, Port, UdpPort};
-use fw_faults::Fault;
 use std::alloc::Global;
 use std::io::Write;
 use std::net::SocketAddr;

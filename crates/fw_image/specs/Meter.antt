@@ -96,7 +96,8 @@ abbrev pub IsGenuine : Option Goal → Option (List ℕ) → Type 0
 IsGenuine (Some goal) (Some bytes) = sha256 bytes ≡ goal.name.digest
 IsGenuine goal bytes = ⊥
 
--- the image that runs has the digest of its name, and so has a goal that was verified
+-- The image that runs has the digest of its name, and so has a goal that was verified, though a late block of another campaign may stand in
+-- a cell.
 pub record IsTrusted (m : Meter) : Type 0 where
   pub running : sha256 m.running.bytes ≡ m.running.name.digest
   pub verified : status_of m.phase ≡ VerificationSuccessful → IsGenuine (goal_of m.phase) (goal_bytes m)

@@ -29,7 +29,7 @@ pub fn read_kept(alloc: Global, bytes: &[u8]) -> Result<Option<Book>, OpenError>
     ensures bad_record { (index : ℕ) → IsErrOf result (OpenError.BadRecord index) → (head : ℕ) × HasBadRecord head bytes.now index }
     ensures no_book { (index : ℕ) → IsErrOf result (OpenError.BadRecord index) → HasNoBook bytes.now }
     ensures memory { IsErrOf result OpenError.OutOfMemory → HasRecord bytes.now }
-    ensures only { IfErr result (λ e. (e ≢ OpenError.ForeignHead) × (e ≢ OpenError.BookFault)) }
+    ensures refusals { IfErr result (λ e. (e ≢ OpenError.ForeignHead) × (e ≢ OpenError.BookFault)) }
 {
     fw_journal::laws::one_reading();
     crate::laws::bad_records_have_none();

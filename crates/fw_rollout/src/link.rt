@@ -168,7 +168,7 @@ impl Link {
         }
     }
 
-    /// The row was ticked, and so many datagrams were sent.
+    /// The row was ticked, and `count` datagrams were sent.
     pub(crate) fn sent(&mut self, now: u64, count: u64)
         ensures { IsSent now count self.old self.new }
     {

@@ -250,7 +250,7 @@ impl Schedule {
         }
     }
 
-    /// The row of the link at this place was ticked, and so many datagrams were sent. It was the next.
+    /// The row of the link at this place was ticked, and `count` datagrams were sent. It was the next.
     ///
     /// # Errors
     ///

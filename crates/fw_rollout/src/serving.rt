@@ -24,7 +24,7 @@ pub trait HeadWatch {
     fn round(&mut self, now: u64, counts: Counts, faults: u64);
 }
 
-/// One round: what is due is sent, of so many rows at most, a datagram is received and heard, and the rows that ended are put on the device
+/// One round: what is due is sent, of [`MAX_TICKS`] rows at most, a datagram is received and heard, and the rows that ended are put on the device
 /// and reported, where it is time. Where nothing else is due, it is waited for the datagram.
 ///
 /// # Errors
@@ -71,7 +71,7 @@ fn step_with<P: HeadPort, D: JournalDevice + Drop>(
     tell_saved(port, daemon, now)
 }
 
-/// Sends what is due at this time, of so many rows at most. It returns whether a datagram may be waited for then.
+/// Sends what is due at this time, of [`MAX_TICKS`] rows at most. It returns whether a datagram may be waited for then.
 fn send_due<P: HeadPort, D: JournalDevice + Drop>(
     port: &mut P,
     daemon: &mut HeadDaemon<D>,

@@ -46,7 +46,7 @@ pub(crate) fn longer(pause: u64) -> u64
     pause.saturating_mul(2).min(LONGEST_PAUSE)
 }
 
-/// Whether another tick may be sent where so many datagrams are out.
+/// Whether another tick may be sent where `out` datagrams are out.
 pub(crate) fn has_room(out: u64, flight: u64) -> bool
     ensures { IsTrue result ↔ HasRoom out flight }
 {

@@ -48,7 +48,7 @@ spells letters some few all =
 pub size_of : (letters : List ℕ) → SpellsSome letters → (1 ≤ length letters) × (length letters ≤ max_fates)
 size_of letters spelled =
     let size : length spelled.0 ≡ length letters = sym (length-map spelled.0 letter_of) ∙ ap (λ (l : List ℕ). length l) spelled.1.spelled in
-    (omega (arith, size, spelled.1.is_fates.some), omega (arith, size, spelled.1.is_fates.few))
+    (omega (arith, size, spelled.1.is_fates.some), omega (arith, size, spelled.1.is_fates.most))
 
 pub all_letters : (letters : List ℕ) → SpellsSome letters → list_all is_letter letters ≡ true
 all_letters letters spelled = ap (λ (l : List ℕ). list_all is_letter l) (sym spelled.1.spelled) ∙ are_all spelled.0

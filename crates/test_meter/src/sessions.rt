@@ -46,7 +46,7 @@ pub(crate) const SIZES_THAT_DO_NOT_FIT: &[Exchange] = &[
     (GET_STATUS, NOT_INITIATED),
 ];
 
-/// A late block of `aaaa` lands in the transfer of `bbbb`, so verify is refused. Nothing except another initiate is served
+/// A late block of another campaign, of `aaaa`, lands in the transfer of `bbbb`, so verify is refused. Nothing except another initiate is served
 /// then.
 pub(crate) const MIXED_BLOCKS: &[Exchange] = &[
     (ENABLE, SET_DONE),

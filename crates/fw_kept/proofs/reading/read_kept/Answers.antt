@@ -37,8 +37,8 @@ returns-in-Ok-clause-memory c = λ is.
     let here : c.deref.result.now ≡ vs = search rules in
     records_memory c.args.bytes.now vs c.book_in.result c.in-Ok.ensures.records (subst (λ (l : List (Vec ℕ Global)). IfErr c.book_in.result (IsReadingRefusal (records_of l))) here c.book_in.ensures.refused) is
 
-pub returns-in-Ok-clause-only : goal.returns-in-Ok-clause-only
-returns-in-Ok-clause-only c = records_plain (records_of c.deref.result.now) c.book_in.result c.book_in.ensures.refused
+pub returns-in-Ok-clause-refusals : goal.returns-in-Ok-clause-refusals
+returns-in-Ok-clause-refusals c = records_plain (records_of c.deref.result.now) c.book_in.result c.book_in.ensures.refused
 
 pub returns-in-Err-clause-bad : goal.returns-in-Err-clause-bad
 returns-in-Err-clause-bad c = λ offset is. c.in-Err.ensures.bad offset (ap (λ (e : JournalError). Err e) (bad_of c.in-Err.refusal offset (sym c.open_error.ensures ∙ open_is _ _ is)))
@@ -52,7 +52,7 @@ returns-in-Err-clause-no_book c = λ index is. absurd (no_record_of c.in-Err.ref
 pub returns-in-Err-clause-memory : goal.returns-in-Err-clause-memory
 returns-in-Err-clause-memory c = λ is. c.in-Err.ensures.memory (ap (λ (e : JournalError). Err e) (memory_of c.in-Err.refusal (sym c.open_error.ensures ∙ open_is _ _ is)))
 
-pub returns-in-Err-clause-only : goal.returns-in-Err-clause-only
-returns-in-Err-clause-only c =
+pub returns-in-Err-clause-refusals : goal.returns-in-Err-clause-refusals
+returns-in-Err-clause-refusals c =
     subst (λ (e : OpenError). IsPlain e) (sym c.open_error.ensures)
     (plain_open c.in-Err.refusal c.in-Err.ensures.refusals (λ is. c.in-Err.ensures.no_fault (ap (λ (e : JournalError). Err e) is)))
