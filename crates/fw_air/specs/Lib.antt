@@ -8,6 +8,7 @@ pub mod Laws
 pub mod Logs
 pub mod Events
 pub mod Links
+pub mod Order
 pub mod Audits
 pub mod Inside
 pub mod Parts

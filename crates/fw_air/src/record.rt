@@ -38,6 +38,8 @@ ghost use Rattle.fw_air.specs.Rounds.{IsLinkRound, IsRound, OneByOne, last_turn}
 
 use crate::fates::Fates;
 use crate::links::LinkQueue;
+use crate::rounds;
+use crate::rounds::LinkSteps;
 use crate::watch::Watch;
 use fw_image::TransferStatus;
 use fw_names::MeterId;
@@ -210,69 +212,7 @@ impl Record {
         ensures memory { IfErr result (λ e. e ≡ OutOfMemory) }
         ensures goes_on { GoesOn self.old self.new }
     {
-        laws::actors_stay();
-        let first = self.world.sent().len();
-        self.begin_round(alloc, link)?;
-        let second = self.world.sent().len();
-        self.pass(alloc, link, fates, first, second)?;
-        let end = self.world.sent().len();
-        self.pass(alloc, link, fates, second, end)?;
-        self.end_round(alloc, link.meter)
-    }
-
-    /// What is late comes, and the head end ticks the meter.
-    fn begin_round(&mut self, alloc: Global, link: &mut LinkQueue) -> Result<(), StepError>
-        requires { IsThere self.old.world link.old }
-        ensures all { OnOk result (Follows self.old
-            (map deliver link.old.late.items ++ tick link.old.head link.old.meter ∷ []) self.new) }
-        ensures late { link.new.late.items ≡ [] }
-        ensures link { link_of link.new ≡ link_of link.old }
-        ensures passed { passed_of link.new ≡ passed_of link.old }
-        ensures memory { IfErr result (λ e. e ≡ OutOfMemory) }
-        ensures goes_on { GoesOn self.old self.new }
-    {
-        laws::actors_stay();
-        let late = link.take_late(alloc);
-        self.deliver_all(alloc, &late)?;
-        self.admit(alloc, Event::Tick(link.head, link.meter))
-    }
-
-    /// The datagrams from one number up to another come or wait, by their fates.
-    fn pass(
-        &mut self,
-        alloc: Global,
-        link: &mut LinkQueue,
-        fates: &Fates<'_>,
-        from: usize,
-        end: usize,
-    ) -> Result<(), StepError>
-        requires { end ≤ length self.old.world.sent }
-        ensures all { OnOk result (Follows self.old
-            (map deliver (by_fates comes fates.now (passed_of link.old) from end)) self.new) }
-        ensures waits { OnOk result (late_of link.new
-            ≡ late_of link.old ++ by_fates waits fates.now (passed_of link.old) from end) }
-        ensures passed { OnOk result (passed_of link.new ≡ capped (passed_of link.old + (end - from))) }
-        ensures late { All (λ number. number < end) link.old.late.items
-            → OnOk result (All (λ number. number < end) link.new.late.items) }
-        ensures link { OnOk result (link_of link.new ≡ link_of link.old) }
-        ensures memory { IfErr result (λ e. e ≡ OutOfMemory) }
-        ensures goes_on { GoesOn self.old self.new }
-    {
-        let coming = link.pass(alloc, fates, from, end)?;
-        self.deliver_all(alloc, &coming)
-    }
-
-    /// A turn of the meter, if it verifies.
-    fn end_round(&mut self, alloc: Global, meter: MeterId) -> Result<(), StepError>
-        requires { IsTrue (is_some (meter_at self.old.world meter)) }
-        ensures all { OnOk result (Follows self.old (last_turn self.old.world meter) self.new) }
-        ensures memory { IfErr result (λ e. e ≡ OutOfMemory) }
-        ensures same { OnErr result (self.new ≡ self.old) }
-    {
-        if self.verifies(meter) {
-            self.admit(alloc, Event::Turn(meter))?;
-        }
-        Ok(())
+        rounds::link_round(self, alloc, link, fates)
     }
 
     /// Whether a meter goes on with a verification.
@@ -284,5 +224,62 @@ impl Record {
             Some(core) => core.status() == TransferStatus::VerificationInitiated,
             None => false,
         }
+    }
+}
+
+impl LinkSteps for Record {
+    ghost use Rattle.std.specs.Prelude.{◌≡◌};
+    ghost use Rattle.fw_world.specs.declared.error.StepError.TheVariants.{OutOfMemory};
+    ghost use Rattle.fw_air.specs.Inside.{GoesOn, HasBegun, HasPassed, HasTurned, Recorded};
+    ghost use Rattle.fw_air.specs.Links.{IsThere};
+
+    type Link = LinkQueue;
+
+    /// The number from which on it stands.
+    type Sent = usize;
+
+    type Refusal = StepError;
+
+    ghost ready = { λ made link. IsThere made.world link };
+
+    ghost begun = { HasBegun };
+
+    ghost passed = { HasPassed };
+
+    ghost turned = { HasTurned };
+
+    ghost goes_on = { GoesOn };
+
+    ghost refuses = { λ e. e ≡ OutOfMemory };
+
+    fn begin(&mut self, alloc: Global, link: &mut LinkQueue) -> Result<usize, StepError> {
+        laws::actors_stay();
+        let from = self.world.sent().len();
+        let late = link.take_late(alloc);
+        self.deliver_all(alloc, &late)?;
+        self.admit(alloc, Event::Tick(link.head, link.meter))?;
+        Ok(from)
+    }
+
+    fn pass(
+        &mut self,
+        alloc: Global,
+        link: &mut LinkQueue,
+        fates: &Fates<'_>,
+        sent: usize,
+    ) -> Result<usize, StepError> {
+        laws::actors_stay();
+        let end = self.world.sent().len();
+        let coming = link.pass(alloc, fates, sent, end)?;
+        self.deliver_all(alloc, &coming)?;
+        Ok(end)
+    }
+
+    fn turn(&mut self, alloc: Global, link: &LinkQueue) -> Result<(), StepError> {
+        laws::actors_stay();
+        if self.verifies(link.meter) {
+            self.admit(alloc, Event::Turn(link.meter))?;
+        }
+        Ok(())
     }
 }
