@@ -3,6 +3,7 @@
 ghost use Rattle.std.specs.Prelude.{◌≡◌, ◌<◌};
 
 use fw_shared::{Board, Seat};
+use std::alloc::Global;
 use std::test::Fail;
 use std::thread;
 
@@ -69,26 +70,29 @@ fn own_mark(rt: HostRuntime) -> Result<(), Fail> {
     Ok(())
 }
 
-#[test]
-fn marks_move_between_seats(rt: HostRuntime) -> Result<(), Fail> {
-    let (board, mut first) = Board::new(rt.alloc(), 7)?;
+/// Three seats at a board that counted 7, each split from the one before, of which the second and the third add a mark. The marks that are left:
+/// to the first at first, after the split, and after the third joins it; to the second after its mark, and after its split. Then what the first
+/// sees after the second's mark, the count at the end, and how many receipts there are.
+fn moved(alloc: Global) -> Result<[u64; 8], Fail> {
+    let (board, mut first) = Board::new(alloc, 7)?;
     let all = first.allowance();
-    let mut second = board.split(rt.alloc(), &mut first, 3)?;
+    let mut second = board.split(alloc, &mut first, 3)?;
     let kept = first.allowance();
     board.add(&mut second);
     let (marked, seen) = (second.allowance(), board.seen(&mut first));
-    let mut third = board.split(rt.alloc(), &mut second, 2)?;
+    let mut third = board.split(alloc, &mut second, 2)?;
     board.add(&mut third);
     let split = second.allowance();
     let receipts = board.join(&mut first, third);
     let joined = first.allowance();
     let (count, last) = board.close(first);
-    assert_eq!(rt;
-        (all, kept, joined),
-        (1 << 63, (1 << 63) - 3, (1 << 63) - 2)
-    );
-    assert_eq!(rt; (seen, marked, split), (8, 2, 0));
-    assert_eq!(rt; count, 9);
-    assert!(rt; receipts.is_empty() && last.is_empty());
+    let told = receipts.len().saturating_add(last.len()) as u64;
+    Ok([all, kept, joined, marked, split, seen, count, told])
+}
+
+#[test]
+fn marks_move_between_seats(rt: HostRuntime) -> Result<(), Fail> {
+    let moved = moved(rt.alloc())?;
+    assert_eq!(rt; moved, [1 << 63, (1 << 63) - 3, (1 << 63) - 2, 2, 0, 8, 9, 0]);
     Ok(())
 }

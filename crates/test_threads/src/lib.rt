@@ -8,15 +8,11 @@ mod audits;
 #[cfg(test)]
 mod board;
 #[cfg(test)]
-mod commands;
-#[cfg(test)]
 mod gates;
 #[cfg(test)]
 mod links;
 #[cfg(test)]
 mod live;
-#[cfg(test)]
-mod live_commands;
 #[cfg(test)]
 mod log;
 #[cfg(test)]
@@ -29,7 +25,5 @@ mod shares;
 mod sharing;
 #[cfg(test)]
 mod support;
-#[cfg(test)]
-mod terminals;
 #[cfg(test)]
 mod wires;

@@ -1,7 +1,7 @@
 //! The links of a world, and what waits on one.
 
 use fw_air::{Fate, Fates, LinkQueue, links_of};
-use fw_world::World;
+use fw_world::run;
 use std::alloc::{AllocError, Global};
 use std::test::Fail;
 use test_support::{OPENED_FOR_SOME, TWO_HEADS, events_of, setup_of};
@@ -22,10 +22,9 @@ const FATES: &[Fate] = &[Fate::Deliver, Fate::Drop, Fate::Twice, Fate::Late];
 /// The links of two head ends.
 fn all_links(alloc: Global) -> Result<Vec<LinkQueue>, Fail> {
     let setup = setup_of(alloc, TWO_HEADS)?;
-    let mut world = World::new(alloc, &setup)?;
-    for event in &events_of(alloc, &[OPENED_FOR_SOME])? {
-        world.step(alloc, event)?;
-    }
+    let Ok(world) = run(alloc, &setup, &events_of(alloc, &[OPENED_FOR_SOME])?) else {
+        return Err("an event is refused".into());
+    };
     Ok(links_of(alloc, &setup, &world)?)
 }
 

@@ -128,6 +128,20 @@ fn log_grows_at_its_ends(rt: HostRuntime) -> Result<(), Fail> {
     Ok(())
 }
 
+/// Appends a tick that sends a datagram: what is returned, and what its stub says.
+fn add<R: Wait>(
+    rt: &R,
+    alloc: Global,
+    log: &SharedLog,
+    link: Link,
+    byte: u8,
+) -> Result<(Sent, (usize, CoreEvent)), AllocError> {
+    let mut room = log.reserve(alloc)?;
+    room.push(link.datagram(alloc, byte)?);
+    let (sent, stub) = log.append(rt, room, CoreEvent::Tick(link.head, link.meter));
+    Ok((sent, stub.spend()))
+}
+
 /// Adds N events with a datagram each: whether their numbers rose, each with that of its datagram.
 fn add_all<R: Wait>(
     rt: &R,
@@ -139,10 +153,7 @@ fn add_all<R: Wait>(
     let mut next = 0;
     let mut rose = true;
     for _ in 0..EVENTS {
-        let mut room = log.reserve(alloc)?;
-        room.push(link.datagram(alloc, byte)?);
-        let (sent, stub) = log.append(rt, room, CoreEvent::Tick(link.head, link.meter));
-        let (number, _tick) = stub.spend();
+        let (sent, (number, _tick)) = add(rt, alloc, log, link, byte)?;
         let Sent {
             event,
             first,
@@ -154,13 +165,8 @@ fn add_all<R: Wait>(
     Ok(rose)
 }
 
-/// The byte of a datagram, and the greatest number of a datagram with this byte.
-const FOUND: &[(u8, Option<u64>)] = &[(10, Some(4)), (11, Some(1)), (12, Some(3)), (13, None)];
-
-#[test]
-fn finds_the_last(rt: HostRuntime) -> Result<(), Fail> {
-    let alloc = rt.alloc();
-    let link = Link::new()?;
+/// A log of one event, which sent the datagrams 10 and 11.
+fn of_two(alloc: Global, link: Link) -> Result<SharedLog, AllocError> {
     let mut sent = Vec::new(alloc);
     sent.push(link.datagram(alloc, 10)?)?;
     sent.push(link.datagram(alloc, 11)?)?;
@@ -169,20 +175,41 @@ fn finds_the_last(rt: HostRuntime) -> Result<(), Fail> {
         event: link.tick(),
         count: 2,
     })?;
-    assert_eq!(rt; (sent.len(), entries.len()), (2, 1));
-    let log = SharedLog::new(sent, entries);
-    for byte in [12, 12, 10] {
-        let mut room = log.reserve(alloc)?;
-        room.push(link.datagram(alloc, byte)?);
-        let (_sent, stub) = log.append(&rt, room, CoreEvent::Tick(link.head, link.meter));
-        let _ = stub.spend();
-    }
+    Ok(SharedLog::new(sent, entries))
+}
+
+/// Whether the last datagram with these bytes to the meter has this number, or isn't there, and none with them went to the head end.
+fn finds<R: Wait>(
+    rt: &R,
+    log: &SharedLog,
+    link: Link,
+    bytes: &[u8],
+    number: Option<u64>,
+) -> bool {
     let (head, meter) = (Actor::Head(link.head), Actor::Meter(link.meter));
-    for (byte, number) in FOUND {
-        assert_eq!(rt; log.find(&rt, head, meter, &[*byte]), *number);
-        assert_eq!(rt; log.find(&rt, meter, head, &[*byte]), None);
+    log.find(rt, head, meter, bytes) == number && log.find(rt, meter, head, bytes).is_none()
+}
+
+/// The bytes of a datagram, and the greatest number of a datagram with them.
+const FOUND: &[(&[u8], Option<u64>)] = &[
+    (&[10], Some(4)),
+    (&[11], Some(1)),
+    (&[12], Some(3)),
+    (&[13], None),
+    (&[], None),
+];
+
+#[test]
+fn finds_the_last(rt: HostRuntime) -> Result<(), Fail> {
+    let alloc = rt.alloc();
+    let link = Link::new()?;
+    let log = of_two(alloc, link)?;
+    for byte in [12, 12, 10] {
+        let _added = add(&rt, alloc, &log, link, byte)?;
     }
-    assert_eq!(rt; log.find(&rt, head, meter, &[]), None);
+    for (bytes, number) in FOUND {
+        assert!(rt; finds(&rt, &log, link, bytes, *number));
+    }
     Ok(())
 }
 
