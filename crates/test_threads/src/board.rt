@@ -93,6 +93,9 @@ fn moved(alloc: Global) -> Result<[u64; 8], Fail> {
 #[test]
 fn marks_move_between_seats(rt: HostRuntime) -> Result<(), Fail> {
     let moved = moved(rt.alloc())?;
-    assert_eq!(rt; moved, [1 << 63, (1 << 63) - 3, (1 << 63) - 2, 2, 0, 8, 9, 0]);
+    assert_eq!(rt;
+        moved,
+        [1 << 63, (1 << 63) - 3, (1 << 63) - 2, 2, 0, 8, 9, 0]
+    );
     Ok(())
 }

@@ -3,6 +3,7 @@
 ghost use Rattle.std.specs.Prelude.{◌≤◌, length, IfOk, IfSome};
 
 use crate::gates::{Meet, Open};
+use crate::support::outcome;
 use crossbeam_channel::{Receiver, Sender, unbounded};
 use fw_accounts::Report;
 use fw_air::{Wire, WireFault};
@@ -14,7 +15,7 @@ use std::test::Fail;
 use std::thread::Threads;
 use test_support::{
     FOUR, Given, LARGE, Line, NO_HEAD, OLDER, OPENED, OPENED_FOR_FOUR, OPENED_LARGE, SMALL,
-    done_rows, events_of, expect, push, report, setup_of,
+    done_rows, events_of, expect, setup_of,
 };
 
 /// Which calls of an end of a wire go wrong, counted from 1 on.
@@ -140,19 +141,8 @@ impl Rollout {
         alloc: Global,
         gate: &G,
     ) -> Result<String, Fail> {
-        match self.ended(rt, alloc, gate)? {
-            Ok(made) => told_of(alloc, self.0, &made),
-            Err(refusal) => Ok(refusal.to_string(alloc)?),
-        }
+        outcome(alloc, self.0, self.ended(rt, alloc, gate)?)
     }
-}
-
-/// The report of a world and the board's count.
-fn told_of(alloc: Global, given: &Given, made: &Report) -> Result<String, Fail> {
-    let mut text = report(alloc, &setup_of(alloc, given)?, &made.world)?;
-    let board = made.board;
-    push(&mut text, format!(in alloc; "board {board}")?.as_str())?;
-    Ok(text)
 }
 
 /// Nothing is lost: each link is done in its ninth round, when twenty datagrams were sent on it.

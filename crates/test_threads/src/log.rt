@@ -179,13 +179,7 @@ fn of_two(alloc: Global, link: Link) -> Result<SharedLog, AllocError> {
 }
 
 /// Whether the last datagram with these bytes to the meter has this number, or isn't there, and none with them went to the head end.
-fn finds<R: Wait>(
-    rt: &R,
-    log: &SharedLog,
-    link: Link,
-    bytes: &[u8],
-    number: Option<u64>,
-) -> bool {
+fn finds<R: Wait>(rt: &R, log: &SharedLog, link: Link, bytes: &[u8], number: Option<u64>) -> bool {
     let (head, meter) = (Actor::Head(link.head), Actor::Meter(link.meter));
     log.find(rt, head, meter, bytes) == number && log.find(rt, meter, head, bytes).is_none()
 }

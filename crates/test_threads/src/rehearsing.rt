@@ -2,7 +2,8 @@
 //! out by hand from the head end's and the meter's documents.
 
 use crate::gates::{Below, Counts, Held, Meet, Open};
-use fw_accounts::Report;
+use crate::support::outcome;
+use fw_accounts::{Receipts, Report};
 use fw_air::{CoreEvent, Fate, Fates, Receipt, schedule};
 use fw_workers::{Gate, RehearseError, rehearse};
 use fw_world::{Activation, Event};
@@ -12,7 +13,7 @@ use std::test::Fail;
 use std::thread::Threads;
 use test_support::{
     DONE, FOUR, Given, LARGE, Line, NO_HEAD, OLDER, OPENED, OPENED_BY_TWO, OPENED_FOR_FOUR,
-    OPENED_LARGE, SMALL, TWO_HEADS, done_rows, events_of, expect, numbered, push, report, setup_of,
+    OPENED_LARGE, SMALL, TWO_HEADS, done_rows, events_of, expect, numbered, setup_of,
 };
 
 /// Some events, and after them N rounds by M workers, in which datagrams have these fates.
@@ -39,15 +40,7 @@ impl Rehearsal {
         alloc: Global,
         gate: &G,
     ) -> Result<String, Fail> {
-        match self.ended(rt, alloc, gate)? {
-            Ok(made) => {
-                let mut text = report(alloc, &setup_of(alloc, self.0)?, &made.world)?;
-                let board = made.board;
-                push(&mut text, format!(in alloc; "board {board}")?.as_str())?;
-                Ok(text)
-            }
-            Err(refusal) => Ok(refusal.to_string(alloc)?),
-        }
+        outcome(alloc, self.0, self.ended(rt, alloc, gate)?)
     }
 
     /// The same where every worker may go on.
@@ -112,12 +105,16 @@ fn count_gate(rt: HostRuntime) -> Result<(), Fail> {
 fn each_event_passes(rt: HostRuntime) -> Result<(), Fail> {
     let gate = Counts::new();
     let report = BY_TWO.ended(&rt, rt.alloc(), &gate)??;
-    let (first, second) = gate.passes();
-    assert_eq!(rt; report.receipts.len(), 2);
-    for (receipts, passes) in report.receipts.iter().zip([first, second]) {
-        assert!(rt; receipts.as_slice().len() as u64 <= passes);
-    }
+    assert!(rt; are_within(&report.receipts, gate.passes()));
     Ok(())
+}
+
+/// Whether these are the receipts of two workers, and each has no more than it passed its gate.
+fn are_within(receipts: &[Receipts], passes: (u64, u64)) -> bool {
+    let [first, second] = receipts else {
+        return false;
+    };
+    first.as_slice().len() as u64 <= passes.0 && second.as_slice().len() as u64 <= passes.1
 }
 
 /// Both links of each meter have different workers. Which image a meter has at the end isn't fixed, nor how many rows are done.
@@ -270,11 +267,16 @@ fn expect_same(
         return Err("another number of events".into());
     }
     for (receipt, (number, event)) in receipts.iter().zip(events.iter().enumerate().skip(from)) {
-        let found = numbered(alloc, receipt.number, &receipt.event.event())?;
-        let want = numbered(alloc, number, event)?;
-        expect(alloc, number, found.as_str(), want.as_str())?;
+        expect_of(alloc, receipt, number, event)?;
     }
     Ok(())
+}
+
+/// A receipt is of the event of this number.
+fn expect_of(alloc: Global, receipt: &Receipt, number: usize, event: &Event) -> Result<(), Fail> {
+    let found = numbered(alloc, receipt.number, &receipt.event.event())?;
+    let want = numbered(alloc, number, event)?;
+    expect(alloc, number, found.as_str(), want.as_str())
 }
 
 fn turns_in(receipts: &[Receipt]) -> usize {

@@ -4,6 +4,7 @@
 ghost use Rattle.std.specs.Prelude.{◌≡◌, MatchOption, Ok, Err};
 
 use crate::gates::Open;
+use crate::support::outcome;
 use fw_air::Sent;
 use fw_names::{HeadId, MeterId};
 use fw_workers::{
@@ -13,7 +14,7 @@ use std::alloc::Global;
 use std::sync::Wait;
 use std::test::Fail;
 use std::thread::Threads;
-use test_support::{OPENED, SMALL, events_of, expect, head, meter, push, report, setup_of};
+use test_support::{OPENED, SMALL, events_of, expect, head, meter, push, setup_of};
 
 /// A link on which all that is sent comes at once, in order.
 #[derive(Drop)]
@@ -66,37 +67,40 @@ impl Share for GoodLink {
     }
 }
 
-/// What one worker makes in nine rounds of the link of this head end and this meter: the report and the board's count, or why there is
-/// none.
+/// What workers of these shares lead to in nine rounds.
+fn led_to<R: Threads + Wait + Sync, H: Share + Send + Drop>(
+    rt: &R,
+    alloc: Global,
+    shares: Vec<H>,
+) -> Result<String, Fail> {
+    let setup = setup_of(alloc, SMALL)?;
+    let given = events_of(alloc, &[OPENED])?;
+    let workers = shares.len() as u32;
+    let opening = begin(alloc, &setup, &given, workers)?;
+    let task = Task {
+        setup: &setup,
+        given: &given,
+        rounds: 9,
+        workers,
+        gate: &Open,
+    };
+    let made = match work(rt, alloc, &task, opening, shares) {
+        Ok(made) => Ok(made),
+        Err(reason) => Err(RehearseError::from(reason)),
+    };
+    outcome(alloc, SMALL, made)
+}
+
+/// The same of one worker, which has the link of this head end and this meter.
 fn told<R: Threads + Wait + Sync>(
     rt: &R,
     alloc: Global,
     numbers: (u32, u32),
 ) -> Result<String, Fail> {
-    let setup = setup_of(alloc, SMALL)?;
-    let given = events_of(alloc, &[OPENED])?;
-    let opening = begin(alloc, &setup, &given, 1)?;
-    let task = Task {
-        setup: &setup,
-        given: &given,
-        rounds: 9,
-        workers: 1,
-        gate: &Open,
-    };
+    let (head, meter) = (head(numbers.0)?, meter(numbers.1)?);
     let mut shares = Vec::new(alloc);
-    shares.push(GoodLink {
-        head: head(numbers.0)?,
-        meter: meter(numbers.1)?,
-    })?;
-    match work(rt, alloc, &task, opening, shares) {
-        Ok(made) => {
-            let mut text = report(alloc, &setup, &made.world)?;
-            let board = made.board;
-            push(&mut text, format!(in alloc; "board {board}")?.as_str())?;
-            Ok(text)
-        }
-        Err(reason) => Ok(RehearseError::from(reason).to_string(alloc)?),
-    }
+    shares.push(GoodLink { head, meter })?;
+    led_to(rt, alloc, shares)
 }
 
 /// Links by the numbers of their ends, and what comes of them: the campaign's own, and two of which one end isn't there.
@@ -140,30 +144,17 @@ impl Share for Refused {
     }
 }
 
-/// Why there is no report of these workers.
+/// The same of workers that are refused for these reasons.
 fn refusal_of<R: Threads + Wait + Sync>(
     rt: &R,
     alloc: Global,
     reasons: &[Option<RoundsError>],
 ) -> Result<String, Fail> {
-    let setup = setup_of(alloc, SMALL)?;
-    let given = events_of(alloc, &[OPENED])?;
-    let opening = begin(alloc, &setup, &given, 2)?;
-    let task = Task {
-        setup: &setup,
-        given: &given,
-        rounds: 9,
-        workers: 2,
-        gate: &Open,
-    };
     let mut shares = Vec::new(alloc);
     for reason in reasons {
         shares.push(Refused(*reason))?;
     }
-    match work(rt, alloc, &task, opening, shares) {
-        Ok(_) => Err("a report".into()),
-        Err(reason) => Ok(RehearseError::from(reason).to_string(alloc)?),
-    }
+    led_to(rt, alloc, shares)
 }
 
 /// Why each worker is refused, from the lowest on, and what is returned: the lowest worker's refusal. Where none is refused, the rounds

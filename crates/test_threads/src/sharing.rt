@@ -2,12 +2,12 @@
 
 ghost use Rattle.std.specs.Prelude.{◌≡◌, ◌<◌, IfOk};
 
-use crate::support::{Case, each};
+use crate::support::{Case, each, with_board};
 use fw_air::{CoreEvent, Entry, Sent, SharedLog, audit};
-use fw_head::News;
+use fw_head::{HeadCore, News};
 use fw_shared::{Board, Desk, Seat, SharedMeter};
 use fw_store::MemoryStore;
-use fw_world::{Event, NumberedMeter, Parts, Setup, StepError, World};
+use fw_world::{Event, NumberedMeter, Parts, Setup, StepError, World, run};
 use std::alloc::{AllocError, Global};
 use std::sync::Wait;
 use std::test::Fail;
@@ -15,7 +15,7 @@ use std::thread;
 use std::thread::Threads;
 use test_support::{
     FOUR, Given, Line, OPENED, OPENED_BY_TWO, OPENED_FOR_FOUR, OPENED_FOR_SOME, OPENED_TWO_LARGE,
-    SMALL, TWO_HEADS, TWO_LARGE, done_rows, events_of, expect, head, meter, push, report, setup_of,
+    SMALL, TWO_HEADS, TWO_LARGE, done_rows, events_of, expect, head, meter, push, setup_of,
 };
 
 /// Head ends and meters in the order of their setup, and the log.
@@ -29,10 +29,9 @@ struct Shared {
 impl Shared {
     /// Those of a new world after these openings.
     fn new(alloc: Global, setup: &Setup, openings: Vec<Event>) -> Result<Shared, Fail> {
-        let mut world = World::new(alloc, setup)?;
-        for opening in &openings {
-            world.step(alloc, opening)?;
-        }
+        let Ok(world) = run(alloc, setup, &openings) else {
+            return Err("an opening is refused".into());
+        };
         let Parts { heads, meters, .. } = world.into_parts();
         let mut shared = Shared {
             desks: Vec::new(alloc),
@@ -51,26 +50,45 @@ impl Shared {
         Ok(shared)
     }
 
-    /// The report of the world that its parts are, by an audit of them.
+    /// The world that its parts are, by an audit of them.
     fn audited(self, alloc: Global, setup: &Setup) -> Result<World, Fail> {
-        let (sent, entries) = self.log.into_inner(alloc)?;
-        let mut events = Vec::new(alloc);
-        for entry in entries {
-            events.push(entry.event)?;
-        }
-        let mut heads = Vec::new(alloc);
-        for desk in self.desks {
-            heads.push(desk.into_inner(alloc)?)?;
-        }
-        let mut meters = Vec::new(alloc);
-        for shared in self.meters {
-            let number = shared.meter();
-            let mut core = shared.into_inner();
-            core.unfuse();
-            meters.push(NumberedMeter::new(number, core))?;
-        }
+        let Shared { desks, meters, log } = self;
+        let (sent, entries) = log.into_inner(alloc)?;
+        let events = events_in(alloc, entries)?;
+        let heads = unshared_heads(alloc, desks)?;
+        let meters = unshared_meters(alloc, meters)?;
         Ok(audit(alloc, setup, &events, &heads, &meters, &sent)?)
     }
+}
+
+fn events_in(alloc: Global, entries: Vec<Entry>) -> Result<Vec<Event>, AllocError> {
+    let mut events = Vec::new(alloc);
+    for entry in entries {
+        events.push(entry.event)?;
+    }
+    Ok(events)
+}
+
+fn unshared_heads(alloc: Global, desks: Vec<Desk>) -> Result<Vec<HeadCore>, Fail> {
+    let mut heads = Vec::new(alloc);
+    for desk in desks {
+        heads.push(desk.into_inner(alloc)?)?;
+    }
+    Ok(heads)
+}
+
+fn unshared_meters(
+    alloc: Global,
+    meters: Vec<SharedMeter<MemoryStore>>,
+) -> Result<Vec<NumberedMeter>, AllocError> {
+    let mut cores = Vec::new(alloc);
+    for shared in meters {
+        let number = shared.meter();
+        let mut core = shared.into_inner();
+        core.unfuse();
+        cores.push(NumberedMeter::new(number, core))?;
+    }
+    Ok(cores)
 }
 
 /// The log after openings, which send nothing.
@@ -141,12 +159,29 @@ fn link_round<R: Wait>(
     let end = asked.first.saturating_add(asked.count);
     'asks: for number in asked.first..end {
         let replied = meter.serve(rt, alloc, log, seat, number)?;
-        let end = replied.first.saturating_add(replied.count);
-        'replies: for number in replied.first..end {
-            hear(rt, alloc, log, board, seat, desk, number)?;
-        }
+        hear_all(rt, alloc, log, board, seat, desk, &replied)?;
     }
     let _turned = meter.turn(rt, alloc, log, seat)?;
+    Ok(())
+}
+
+/// A head end hears all that was sent.
+fn hear_all<R: Wait>(
+    rt: &R,
+    alloc: Global,
+    log: &SharedLog,
+    board: &Board,
+    seat: &mut Seat,
+    desk: &Desk,
+    sent: &Sent,
+) -> Result<(), Stopped>
+    requires { seat.old.board ≡ board.now.id }
+    ensures { seat.new.board ≡ board.now.id }
+{
+    let end = sent.first.saturating_add(sent.count);
+    'replies: for number in sent.first..end {
+        hear(rt, alloc, log, board, seat, desk, number)?;
+    }
     Ok(())
 }
 
@@ -193,9 +228,7 @@ impl Joined {
     /// The report of that world, and the board's count.
     fn told<R: Threads + Wait + Sync>(&self, rt: &R, alloc: Global) -> Result<String, Fail> {
         let (world, count) = self.audited(rt, alloc)?;
-        let mut text = report(alloc, &setup_of(alloc, self.0)?, &world)?;
-        push(&mut text, format!(in alloc; "board {count}")?.as_str())?;
-        Ok(text)
+        with_board(alloc, &setup_of(alloc, self.0)?, &world, count)
     }
 }
 

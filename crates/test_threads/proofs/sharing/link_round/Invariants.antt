@@ -3,6 +3,3 @@ use Rattle.test_threads.proofs.sharing.link_round.Given as goal
 
 abbrev pub invariant-asks : goal.invariant-asks
 invariant-asks g l = l.seat.board ≡ l.board.id
-
-abbrev pub invariant-replies : goal.invariant-replies
-invariant-replies g l = l.seat.board ≡ l.board.id

@@ -2,6 +2,7 @@
 
 use crate::answering::{BrokenReader, DEFAULTS, FullWriter};
 use crate::apdus::*;
+use crate::ending::ended;
 use crate::lines::lines;
 use crate::sessions::*;
 use crate::wire::Exchange;
@@ -15,7 +16,6 @@ use std::{env, fs};
 use test_support::expect_at;
 
 /// Bytes in hexadecimal, and N bytes 00 after them.
-#[derive(Clone, Copy)]
 pub(crate) struct Spelled(pub(crate) &'static str, pub(crate) usize);
 
 /// A step at a path of a test's own. A command has these options for a new meter.
@@ -100,11 +100,7 @@ impl Place<'_> {
     ) -> Result<String, Fail> {
         let mut written = Vec::new(alloc);
         let result = self.run(alloc, &mut input.as_bytes(), &mut written, fresh);
-        let mut text = String::from_utf8(written)?;
-        if let Err(fault) = result {
-            text.push_str(format!(in alloc; "{fault}")?.as_str())?;
-        }
-        Ok(text)
+        ended(alloc, written, result)
     }
 
     fn says(

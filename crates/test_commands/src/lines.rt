@@ -9,18 +9,36 @@ use test_support::expect_at;
 
 /// The lines of a session: those that are read, and those that are written.
 pub(crate) fn lines(alloc: Global, parts: &[&[Exchange]]) -> Result<(String, String), AllocError> {
-    let mut read = String::new(alloc);
-    let mut written = String::new(alloc);
+    let mut told = (String::new(alloc), String::new(alloc));
     for part in parts {
-        for (request, reply) in *part {
-            push_line(alloc, &mut read, request)?;
-            push_line(alloc, &mut written, reply)?;
-        }
+        push_exchanges(alloc, &mut told, part)?;
     }
-    Ok((read, written))
+    Ok(told)
 }
 
-pub(crate) fn push_line(alloc: Global, lines: &mut String, text: &str) -> Result<(), AllocError> {
+/// Appends the lines of a part of a session.
+pub(crate) fn push_exchanges(
+    alloc: Global,
+    told: &mut (String, String),
+    part: &[Exchange],
+) -> Result<(), AllocError> {
+    for (request, reply) in part {
+        push_exchange(alloc, told, (request, reply))?;
+    }
+    Ok(())
+}
+
+/// Appends those of a request and its reply.
+pub(crate) fn push_exchange(
+    alloc: Global,
+    told: &mut (String, String),
+    exchange: (&str, &str),
+) -> Result<(), AllocError> {
+    push_line(alloc, &mut told.0, exchange.0)?;
+    push_line(alloc, &mut told.1, exchange.1)
+}
+
+fn push_line(alloc: Global, lines: &mut String, text: &str) -> Result<(), AllocError> {
     let line = datagram(alloc, text)?;
     lines.push_str(&line)?;
     lines.push_str("\n")

@@ -1,7 +1,9 @@
 //! The command `live`, over a reader and a writer in memory and sockets on this machine.
 
-use crate::commands::{FOUR, NO_HEADS, TWICE};
-use crate::terminals::{NO_TERMINAL, no_capture};
+use crate::ending::ended;
+use crate::rehearsals::{FOUR, NO_HEADS, TWICE};
+use crate::replaying::no_capture;
+use crate::terminals::NO_TERMINAL;
 use fw_cli::{LiveOptions, run_live};
 use std::alloc::Global;
 use std::net::Net;
@@ -38,11 +40,7 @@ impl Live {
             NO_TERMINAL,
             &options,
         );
-        let mut text = String::from_utf8(written)?;
-        if let Err(fault) = result {
-            text.push_str(format!(in alloc; "{fault}")?.as_str())?;
-        }
-        Ok(text)
+        ended(alloc, written, result)
     }
 }
 

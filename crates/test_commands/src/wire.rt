@@ -14,7 +14,6 @@ use test_support::expect_at;
 pub(crate) type Exchange = (&'static str, &'static str);
 
 /// A part of a session.
-#[derive(Clone, Copy)]
 pub(crate) enum Part {
     /// Each request gets its reply.
     Says(&'static [Exchange]),

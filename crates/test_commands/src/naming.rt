@@ -1,6 +1,7 @@
 //! The command `name`, over readers and writers in memory, and over some that fail.
 
 use crate::answering::{BrokenReader, EndlessReader, FullWriter};
+use crate::ending::ended;
 use fw_cli::{NameOptions, run_name};
 use fw_names::{CampaignId, HeadId};
 use std::alloc::Global;
@@ -19,11 +20,7 @@ fn options(head: u32, serial: u32, release: u32) -> Result<NameOptions, Fail> {
 fn named<R: Read>(alloc: Global, reader: &mut R, options: &NameOptions) -> Result<String, Fail> {
     let mut written = Vec::new(alloc);
     let result = run_name(alloc, reader, &mut written, options);
-    let mut text = String::from_utf8(written)?;
-    if let Err(fault) = result {
-        text.push_str(format!(in alloc; "{fault}")?.as_str())?;
-    }
-    Ok(text)
+    ended(alloc, written, result)
 }
 
 /// An image of a campaign: its head end and its serial number there, and the image's release.

@@ -1,9 +1,12 @@
 //! What commands show on a terminal, which fails: what is written elsewhere stays the same.
 
-use crate::commands::{FOUR, FOUR_DONE};
+use crate::ending::ended;
+use crate::rehearsals::FOUR;
+use crate::replaying::no_capture;
 use fw_cli::{
     LiveOptions, RehearseOptions, ReplayOptions, Rounds, run_live, run_rehearse, run_replay,
 };
+use fw_faults::Fault;
 use fw_report::{ReportForm, Style};
 use std::alloc::Global;
 use std::fmt::Display;
@@ -26,11 +29,6 @@ pub(crate) struct Terminal {
 /// No terminal.
 pub(crate) const NO_TERMINAL: Option<&'static Terminal> = None;
 
-/// No capture.
-pub(crate) fn no_capture() -> Option<Vec<u8>> {
-    None
-}
-
 impl Terminal {
     /// A terminal that is to get these texts.
     fn of(alloc: Global, wanted: &'static [&'static str]) -> Terminal {
@@ -50,12 +48,13 @@ impl Terminal {
         }
     }
 
-    /// How many texts came, and how many of them are other ones.
-    fn told(&self) -> (u64, u64) {
-        (
-            self.came.load(Ordering::SeqCst),
-            self.others.load(Ordering::SeqCst),
-        )
+    /// What was written, and the fault, if there is one; then how many texts came, and how many of them are other ones.
+    fn told(&self, written: Vec<u8>, result: Result<(), Fault>) -> Result<String, Fail> {
+        let mut text = ended(self.alloc, written, result)?;
+        let came = self.came.load(Ordering::SeqCst);
+        let others = self.others.load(Ordering::SeqCst);
+        text.push_str(format!(in self.alloc; "{came} texts, {others} others")?.as_str())?;
+        Ok(text)
     }
 }
 
@@ -72,6 +71,19 @@ impl Eprint for Terminal {
         self.eprint(value)
     }
 }
+
+/// What there is to report once all four rows are done, without the board's count.
+const REPORT: &str = "\
+row 7 1 1 done
+row 7 1 2 done
+row 7 1 3 done
+row 7 1 4 done
+meter 1 status 6 active 7 1 size 3
+meter 2 status 6 active 7 1 size 3
+meter 3 status 6 active 7 1 size 3
+meter 4 status 6 active 7 1 size 3
+activations 4
+";
 
 const CLEARED: &str = "\r                                                            \r";
 
@@ -109,9 +121,11 @@ fn terminal_of_a_rehearsal(rt: HostRuntime) -> Result<(), Fail> {
         Some(&terminal),
         &options,
     );
-    assert!(rt; result.is_ok());
-    assert_eq!(rt; String::from_utf8(written)?.as_str(), FOUR_DONE);
-    assert_eq!(rt; terminal.told(), (6, 0));
+    let told = terminal.told(written, result)?;
+    assert_eq!(rt;
+        told.strip_prefix(REPORT),
+        Some("board 4\n6 texts, 0 others")
+    );
     Ok(())
 }
 
@@ -136,9 +150,8 @@ fn terminal_of_a_live_rollout(rt: HostRuntime) -> Result<(), Fail> {
         Some(&terminal),
         &options,
     );
-    assert!(rt; result.is_ok());
-    assert!(rt; String::from_utf8(written)?.ends_with("\nboard 0\n"));
-    assert_eq!(rt; terminal.told(), (2, 0));
+    let told = terminal.told(written, result)?;
+    assert!(rt; told.ends_with("\nboard 0\n2 texts, 0 others"));
     Ok(())
 }
 
@@ -174,19 +187,18 @@ fn terminal_of_a_replay(rt: HostRuntime) -> Result<(), Fail> {
     };
     let mut written = Vec::new(alloc);
     let reader = &mut FOUR.as_bytes();
-    let result = run_replay(
+    let result = match run_replay(
         alloc,
         reader,
         &mut written,
         &mut no_capture(),
         Some(&terminal),
         &options,
-    );
-    assert!(rt; result.is_ok());
-    assert_eq!(rt;
-        FOUR_DONE.strip_prefix(String::from_utf8(written)?.as_str()),
-        Some("board 4\n")
-    );
-    assert_eq!(rt; terminal.told(), (11, 0));
+    ) {
+        Ok(_ended) => Ok(()),
+        Err(fault) => Err(fault),
+    };
+    let told = terminal.told(written, result)?;
+    assert_eq!(rt; told.strip_prefix(REPORT), Some("11 texts, 0 others"));
     Ok(())
 }

@@ -1,7 +1,9 @@
 //! The command `rehearse`, over readers and writers in memory. Scripts and reports are worked out by hand from the head end's and the
 //! meter's documents.
 
-use crate::terminals::{NO_TERMINAL, no_capture};
+use crate::ending::ended;
+use crate::replaying::no_capture;
+use crate::terminals::NO_TERMINAL;
 use fw_cli::{RehearseOptions, Rounds, run_rehearse};
 use fw_faults::Fault;
 use std::alloc::Global;
@@ -9,6 +11,7 @@ use std::io::{Read, Write};
 use std::sync::Wait;
 use std::test::Fail;
 use std::thread::Threads;
+use test_support::expect;
 
 /// A script, the rounds and the workers of its rehearsal, and the fates of the datagrams.
 struct Rehearsal(&'static str, u32, u32, &'static str);
@@ -56,11 +59,7 @@ impl Rehearsal {
     ) -> Result<String, Fail> {
         let mut written = Vec::new(alloc);
         let result = self.run(rt, alloc, &mut self.0.as_bytes(), &mut written, trace);
-        let mut text = String::from_utf8(written)?;
-        if let Err(fault) = result {
-            text.push_str(format!(in alloc; "{fault}")?.as_str())?;
-        }
-        Ok(text)
+        ended(alloc, written, result)
     }
 }
 
@@ -73,10 +72,7 @@ fn each<T: Threads + Wait + Sync>(
 ) -> Result<(), Fail> {
     for (at, (rehearsal, want)) in rows.iter().enumerate() {
         let found = rehearsal.told(rt, alloc, trace)?;
-        if found.as_str() != *want {
-            let told = format!(in alloc; "row {at}: {found} in place of {want}")?;
-            return Err(Fail::from(told));
-        }
+        expect(alloc, at, found.as_str(), want)?;
     }
     Ok(())
 }
@@ -91,7 +87,7 @@ meter 4 block 2 capacity 64 factory 78
 open 7 1 616263 1 2 3 4
 ";
 
-pub(crate) const FOUR_DONE: &str = "\
+const FOUR_DONE: &str = "\
 row 7 1 1 done
 row 7 1 2 done
 row 7 1 3 done

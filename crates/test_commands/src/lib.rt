@@ -1,5 +1,6 @@
-//! Tests of the meter over a store in memory, and of the command that serves it, through their public calls. Expected replies are worked out by
-//! hand from the standards, and SHA-256 values are the published ones or those of `sha256sum`.
+//! Tests of the commands over readers, writers and terminals in memory, and of the meter over a store in memory, through their public calls.
+//! Expected replies and reports are worked out by hand from the standards and the documents, and SHA-256 values are the published ones or those
+//! of `sha256sum`.
 #![tactic(auto)]
 
 #[cfg(test)]
@@ -9,6 +10,8 @@ mod apdus;
 #[cfg(test)]
 mod comparing;
 #[cfg(test)]
+mod ending;
+#[cfg(test)]
 mod faults;
 #[cfg(test)]
 mod handling;
@@ -17,6 +20,8 @@ mod limits;
 #[cfg(test)]
 mod lines;
 #[cfg(test)]
+mod live;
+#[cfg(test)]
 mod naming;
 #[cfg(test)]
 mod old_files;
@@ -24,6 +29,8 @@ mod old_files;
 mod old_meters;
 #[cfg(test)]
 mod refused_scripts;
+#[cfg(test)]
+mod rehearsals;
 #[cfg(test)]
 mod replaying;
 #[cfg(test)]
@@ -38,6 +45,8 @@ mod slices;
 mod stored;
 #[cfg(test)]
 mod stores;
+#[cfg(test)]
+mod terminals;
 #[cfg(test)]
 mod tracing;
 #[cfg(test)]

@@ -2,10 +2,11 @@
 
 use crate::answering::answered;
 use crate::apdus::*;
-use crate::lines::push_line;
+use crate::lines::{lines, push_exchange, push_exchanges};
 use crate::sessions::MIXED_BLOCKS;
 use crate::wire::{Exchange, Part, block_text, large_sessions, sessions};
 use fw_cli::AnswerOptions;
+use std::alloc::{AllocError, Global};
 use std::test::Fail;
 use test_support::expect_at;
 
@@ -224,7 +225,19 @@ fn turns_in_other_statuses(rt: HostRuntime) -> Result<(), Fail> {
     sessions(rt.alloc(), &[IDLE_TURNS, IDLE_TURN])
 }
 
-/// `answer` takes no turns: there an image of 4,097 bytes stays in status 2.
+/// The lines of a session in which an image of 4,097 bytes is sent and verified, and those that `answer` writes: it takes no turns, so that the
+/// image stays in status 2.
+fn without_turns(alloc: Global) -> Result<(String, String), AllocError> {
+    let mut told = lines(alloc, &[&[(ENABLE, SET_DONE), (INITIATE_4097, DONE)]])?;
+    for (number, size) in FIVE.iter().enumerate() {
+        let block = block_text(alloc, number, *size)?;
+        push_exchange(alloc, &mut told, (block.as_str(), DONE))?;
+    }
+    push_exchanges(alloc, &mut told, BEGUN)?;
+    push_exchanges(alloc, &mut told, BEGUN)?;
+    Ok(told)
+}
+
 #[test]
 fn answer_takes_no_turns(rt: HostRuntime) -> Result<(), Fail> {
     let options = AnswerOptions {
@@ -232,26 +245,7 @@ fn answer_takes_no_turns(rt: HostRuntime) -> Result<(), Fail> {
         capacity: 8_193,
         factory: "78",
     };
-    let mut read = String::new(rt.alloc());
-    let mut want = String::new(rt.alloc());
-    for (request, reply) in &[(ENABLE, SET_DONE), (INITIATE_4097, DONE)] {
-        push_line(rt.alloc(), &mut read, request)?;
-        push_line(rt.alloc(), &mut want, reply)?;
-    }
-    for (number, size) in FIVE.iter().enumerate() {
-        let block = block_text(rt.alloc(), number, *size)?;
-        push_line(rt.alloc(), &mut read, &block)?;
-        push_line(rt.alloc(), &mut want, DONE)?;
-    }
-    for (request, reply) in &[
-        (VERIFY, TEMPORARY_FAILURE),
-        (GET_STATUS, VERIFYING),
-        (VERIFY, TEMPORARY_FAILURE),
-        (GET_STATUS, VERIFYING),
-    ] {
-        push_line(rt.alloc(), &mut read, request)?;
-        push_line(rt.alloc(), &mut want, reply)?;
-    }
+    let (read, want) = without_turns(rt.alloc())?;
     let found = answered(rt.alloc(), &read, &options)?;
     expect_at(rt.alloc(), "status 2", found.as_str(), want.as_str())
 }

@@ -22,7 +22,7 @@ pub(crate) const ALONE: Given = None;
 const NO_TERMINAL: Option<&'static Stderr> = None;
 
 /// No capture.
-fn no_capture() -> Option<Vec<u8>> {
+pub(crate) fn no_capture() -> Option<Vec<u8>> {
     None
 }
 

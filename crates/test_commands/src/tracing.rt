@@ -2,6 +2,7 @@
 //! and the lines were written by hand.
 
 use crate::answering::{BrokenReader, EndlessReader, FullWriter};
+use crate::ending::ended;
 use fw_cli::run_trace;
 use std::alloc::Global;
 use std::io::Read;
@@ -12,11 +13,7 @@ use test_support::{Case, each, expect_at};
 fn traced<R: Read>(alloc: Global, reader: &mut R) -> Result<String, Fail> {
     let mut written = Vec::new(alloc);
     let result = run_trace(alloc, reader, &mut written);
-    let mut text = String::from_utf8(written)?;
-    if let Err(fault) = result {
-        text.push_str(format!(in alloc; "{fault}")?.as_str())?;
-    }
-    Ok(text)
+    ended(alloc, written, result)
 }
 
 /// A capture in hexadecimal.
