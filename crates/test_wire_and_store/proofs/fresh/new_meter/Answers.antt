@@ -4,7 +4,7 @@ use Rattle.fw_image.specs.Fresh.{fresh_meter}
 use Rattle.fw_image.specs.Meter.{migrated}
 use Rattle.fw_image.specs.Stored.{IsMeterOf}
 use Rattle.std.proofs.Common.{refl, ap, ◌∙◌}
-use Rattle.test_store.proofs.fresh.new_meter.Goals as goal
+use Rattle.test_wire_and_store.proofs.fresh.new_meter.Goals as goal
 
 pub returns-in-Ok-open_store : goal.returns-in-Ok-open_store
 returns-in-Ok-open_store c =

@@ -4,7 +4,7 @@ use Rattle.fw_image.specs.Fresh.{fresh_meter}
 use Rattle.fw_image.specs.Phases.{state_in}
 use Rattle.fw_image.specs.Stored.{IsMeterOf}
 use Rattle.std.proofs.Common.{refl}
-use Rattle.test_store.proofs.fresh.old_meter.Goals as goal
+use Rattle.test_wire_and_store.proofs.fresh.old_meter.Goals as goal
 
 pub returns-in-Ok-open_kept : goal.returns-in-Ok-open_kept
 returns-in-Ok-open_kept c =

@@ -1,6 +1,6 @@
-//! Tests of a client of a meter, of the book of campaigns, its records and how it is kept, and of the head end, through their public calls.
-//! Expected bytes are worked out by hand from the standards and the formats, and SHA-256 values are the published ones or those of
-//! `sha256sum`.
+//! Tests of a client of a meter, of the book of campaigns, its records and how it is kept, of the head end, and of the daemons of a meter and of a
+//! head end, through their public calls. Expected bytes are worked out by hand from the standards and the formats, and SHA-256 values are the
+//! published ones or those of `sha256sum`.
 #![tactic(auto)]
 
 #[cfg(test)]
@@ -14,6 +14,8 @@ mod book;
 #[cfg(test)]
 mod books;
 #[cfg(test)]
+mod captures;
+#[cfg(test)]
 mod client;
 #[cfg(test)]
 mod ends;
@@ -21,6 +23,8 @@ mod ends;
 mod head;
 #[cfg(test)]
 mod kept;
+#[cfg(test)]
+mod loopback;
 #[cfg(test)]
 mod openings;
 #[cfg(test)]
@@ -38,7 +42,11 @@ mod reopened;
 #[cfg(test)]
 mod returns;
 #[cfg(test)]
+mod rollouts;
+#[cfg(test)]
 mod rows;
+#[cfg(test)]
+mod setting;
 #[cfg(test)]
 mod transfers;
 #[cfg(test)]

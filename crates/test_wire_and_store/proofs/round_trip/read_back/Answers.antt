@@ -8,7 +8,7 @@ use Rattle.fw_axdr.specs.Value.{Value}
 use Rattle.fw_axdr.specs.View.{value_of}
 use Rattle.fw_axdr.specs.Spelling.{IsData, max_depth, short}
 use Rattle.fw_axdr.specs.Laws.{OneSpelling}
-use Rattle.test_codec.proofs.round_trip.read_back.Goals as goal
+use Rattle.test_wire_and_store.proofs.round_trip.read_back.Goals as goal
 
 -- where bytes begin with a Data, what is read at their front is its value, and takes as many bytes
 found_again : OneSpelling → (out s more : List ℕ) (v : Value) (r : Result (Data × ℕ) AxdrError) → out ≡ s ++ more → IsData max_depth s v
