@@ -23,7 +23,7 @@ ghost use Rattle.fw_workers.specs.Refusals.{TellsOfEvent};
 use crate::beginning::{Beginning, begin};
 use crate::deal::dealt;
 use crate::error::{RehearseError, RoundsError};
-use crate::fated_rounds::{FatedLink, FatedRounds};
+use crate::fated_rounds::{FatedLink, FatedSteps};
 use crate::gate::Gate;
 use crate::shared_world::SharedWorld;
 use crate::threads::{Share, Task, work};
@@ -57,12 +57,8 @@ impl<'a> Share for FatedLinks<'a> {
         let Some(fates) = Fates::new(self.fates) else {
             unreachable!();
         };
-        let all = FatedRounds {
-            shared,
-            fates: &fates,
-            rounds,
-        };
-        all.rounds(rt, alloc, worker, &mut self.links)
+        let mut steps = FatedSteps { rt, shared, worker };
+        steps.rounds(alloc, &mut self.links, rounds, &fates)
     }
 }
 
