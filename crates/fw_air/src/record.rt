@@ -2,17 +2,12 @@
 
 ghost use Rattle.std.specs.Prelude.{
   ◌≡◌,
-  ◌+◌,
-  ◌-◌,
   ◌<◌,
-  ◌≤◌,
-  ◌++◌,
   ◌∷◌,
   [],
   List,
   All,
   None,
-  is_some,
   IsTrue,
   false,
   IfErr,
@@ -26,13 +21,10 @@ ghost use Rattle.fw_world.specs.declared.error.StepError.TheVariants.{OutOfMemor
 ghost use Rattle.fw_world.specs.declared.runs.RunError.TheVariants as stopped;
 ghost use Rattle.fw_world.specs.Refusals.{refusal_of};
 ghost use Rattle.fw_world.specs.Runs.{events_of};
-ghost use Rattle.fw_world.specs.State.{meter_at};
-ghost use Rattle.fw_world.specs.Step.{Event as Given, deliver, tick, turn};
+ghost use Rattle.fw_world.specs.Step.{Event as Given, deliver, turn};
 ghost use Rattle.fw_world.specs.View.{event_of};
-ghost use Rattle.fw_air.specs.Fates.{by_fates, comes, waits};
 ghost use Rattle.fw_air.specs.Inside.{Follows, GoesOn};
-ghost use Rattle.fw_air.specs.Links.{AreSent, IsThere, late_of, link_of, passed_of, queue_of};
-ghost use Rattle.fw_air.specs.Logs.{capped};
+ghost use Rattle.fw_air.specs.Links.{AreSent, IsThere, link_of, queue_of};
 ghost use Rattle.fw_air.specs.Queues.{HasFates, RoundHasFates, RoundsHaveFates};
 ghost use Rattle.fw_air.specs.Rounds.{IsLinkRound, IsRound, OneByOne, last_turn};
 
@@ -230,7 +222,7 @@ impl Record {
 impl LinkSteps for Record {
     ghost use Rattle.std.specs.Prelude.{◌≡◌};
     ghost use Rattle.fw_world.specs.declared.error.StepError.TheVariants.{OutOfMemory};
-    ghost use Rattle.fw_air.specs.Inside.{GoesOn, HasBegun, HasPassed, HasTurned, Recorded};
+    ghost use Rattle.fw_air.specs.Inside.{GoesOn, HasBegun, HasPassed, HasTurned};
     ghost use Rattle.fw_air.specs.Links.{IsThere};
 
     type Link = LinkQueue;
