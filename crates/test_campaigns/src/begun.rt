@@ -1,10 +1,9 @@
 //! A head end that begins with a book that was kept. It is head end 7, and sends four blocks at a time.
 
 use crate::book::{Call, after};
-use crate::head::{Step, head_session};
+use crate::head::{Step, head_session, width};
 use crate::parts::{fresh, shown};
 use crate::transfers::TO_CONFIRM;
-use fw_blocks::Width;
 use fw_head::{HeadCore, HeadParts};
 use std::alloc::Global;
 use std::test::Fail;
@@ -99,8 +98,4 @@ const WAITS: &[(Step, &str)] = &[
 #[test]
 fn an_ask_is_outstanding(rt: HostRuntime) -> Result<(), Fail> {
     head_session(rt.alloc(), 4, &[WAITS])
-}
-
-fn width() -> Result<Width, Fail> {
-    Ok(Width::new(4).ok_or("a width")?)
 }

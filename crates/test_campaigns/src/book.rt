@@ -2,10 +2,10 @@
 
 use fw_book::{Book, BookError};
 use fw_client::{ActiveClaim, Ask, Client, Heard};
-use fw_names::{CampaignId, HeadId, MeterId};
+use fw_names::{CampaignId, MeterId};
 use std::alloc::Global;
 use std::test::Fail;
-use test_support::{Case, Kept};
+use test_support::{Case, Kept, head, meter};
 
 /// A call of a book.
 #[derive(Clone, Copy)]
@@ -34,14 +34,8 @@ pub(crate) const RELEASE_ANSWER: &str =
     "0001000100010033c401c000092d02000000070000000100000005ba7816bf8f01cfea414140de5dae2223b00361a396177a9cb410ff61f20015ad";
 
 /// The campaign of these numbers.
-pub(crate) fn campaign(head: u32, serial: u32) -> Result<CampaignId, Fail> {
-    let head = HeadId::new(head).ok_or("a head end's number begins at 1")?;
-    Ok(CampaignId::new(head, serial).ok_or("a serial number begins at 1")?)
-}
-
-/// The meter of this number.
-pub(crate) fn meter(number: u32) -> Result<MeterId, Fail> {
-    Ok(MeterId::new(number).ok_or("every number is a meter's")?)
+pub(crate) fn campaign(number: u32, serial: u32) -> Result<CampaignId, Fail> {
+    Ok(CampaignId::new(head(number)?, serial).ok_or("a serial number begins at 1")?)
 }
 
 /// The meters of these numbers.
@@ -55,8 +49,7 @@ pub(crate) fn meters(alloc: Global, numbers: &[u32]) -> Result<Vec<MeterId>, Fai
 
 /// A book of head end 7 with no campaign.
 pub(crate) fn fresh(alloc: Global) -> Result<Kept<Book>, Fail> {
-    let head = HeadId::new(7).ok_or("a head end's number begins at 1")?;
-    Ok(Kept(Book::new(alloc, head)))
+    Ok(Kept(Book::new(alloc, head(7)?)))
 }
 
 /// The claim that a client of a meter hears of an answer.

@@ -1,11 +1,11 @@
 //! The bytes of a book, as written and as read.
 
-use crate::book::{Call, Written, bytes_of, campaign, fresh, meter};
+use crate::book::{Call, Written, bytes_of, campaign, fresh};
 use fw_book::{Book, BookError};
 use fw_names::MeterId;
 use std::alloc::{AllocError, Global};
 use std::test::Fail;
-use test_support::{Case, Kept, each};
+use test_support::{Case, Kept, each, meter};
 
 /// Campaigns stand in the order in which they were opened, each with its release, and only live rows are cancelled.
 const WRITTEN: &[(Written, &str)] = &[

@@ -1,9 +1,9 @@
 //! How rows end, and what is left of a campaign.
 
-use crate::book::{Call, Last, Written, after, campaign, meter};
+use crate::book::{Call, Last, Written, after, campaign};
 use std::alloc::Global;
 use std::test::Fail;
-use test_support::{Case, each};
+use test_support::{Case, each, meter};
 
 const REFUSED: &[(Last, &str)] = &[
     (Last(&[Call::Cancel(7, 1)]), "NoSuchCampaign"),

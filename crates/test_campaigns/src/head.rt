@@ -3,11 +3,11 @@
 
 use fw_blocks::Width;
 use fw_head::{HeadCore, News, Phase};
-use fw_names::{CampaignId, HeadId, MeterId};
+use fw_names::{CampaignId, MeterId};
 use fw_wrapper::split;
 use std::alloc::{AllocError, Global};
 use std::test::Fail;
-use test_support::{Kept, Takes, session};
+use test_support::{Kept, Takes, head, meter, session};
 
 /// A step of a head end.
 pub(crate) enum Step {
@@ -34,7 +34,7 @@ impl Takes<Step> for HeadCore {
         match *step {
             Step::Open(serial, image) => open(alloc, self, serial, 0, image),
             Step::OpenRelease(serial, release, image) => open(alloc, self, serial, release, image),
-            Step::Tick => apdus_text(alloc, &self.tick(alloc, meter()?)?),
+            Step::Tick => apdus_text(alloc, &self.tick(alloc, meter(1)?)?),
             Step::Hear(apdu) => hear(alloc, self, apdu),
             Step::Restart => {
                 self.restart();
@@ -42,7 +42,7 @@ impl Takes<Step> for HeadCore {
             }
             Step::Cancel(serial) => cancel(alloc, self, serial),
             Step::Returns => returns(alloc, self),
-            Step::Waits => Ok(format!(in alloc; "{}", self.is_waiting(meter()?))?),
+            Step::Waits => Ok(format!(in alloc; "{}", self.is_waiting(meter(1)?))?),
         }
     }
 }
@@ -53,18 +53,17 @@ pub(crate) fn head_session(
     width: u8,
     parts: &[&[(Step, &str)]],
 ) -> Result<(), Fail> {
-    let number = HeadId::new(7).ok_or("a head end's number begins at 1")?;
     let width = Width::new(width).ok_or("a width")?;
-    let mut head = Kept(HeadCore::new(alloc, number, width));
+    let mut head = Kept(HeadCore::new(alloc, head(7)?, width));
     for part in parts {
         session(alloc, &mut head.0, part)?;
     }
     Ok(())
 }
 
-/// The meter that it works on.
-pub(crate) fn meter() -> Result<MeterId, Fail> {
-    Ok(MeterId::new(1).ok_or("every number is a meter's")?)
+/// Windows of four blocks.
+pub(crate) fn width() -> Result<Width, Fail> {
+    Ok(Width::new(4).ok_or("a width")?)
 }
 
 fn open(
@@ -77,7 +76,7 @@ fn open(
     if serial == 0 {
         return Err("a serial number begins at 1".into());
     }
-    let name = head.open_campaign(alloc, serial, release, image, &[meter()?])?;
+    let name = head.open_campaign(alloc, serial, release, image, &[meter(1)?])?;
     Ok(hex::encode(alloc, name.to_bytes().as_slice())?)
 }
 
@@ -109,7 +108,7 @@ fn apdu_text(alloc: Global, datagram: &[u8]) -> Result<String, Fail> {
     Ok(hex::encode(alloc, frame.apdu)?)
 }
 
-/// The datagram that carries an APDU.
+/// The datagram that carries an APDU between wPorts 1.
 pub(crate) fn carried(alloc: Global, apdu: &str) -> Result<Vec<u8>, Fail> {
     let text = format!(in alloc; "000100010001{:04x}{apdu}", apdu.len() / 2)?;
     Ok(hex::decode(alloc, text.as_str())?)
@@ -117,7 +116,7 @@ pub(crate) fn carried(alloc: Global, apdu: &str) -> Result<Vec<u8>, Fail> {
 
 fn hear(alloc: Global, head: &mut HeadCore, apdu: &str) -> Result<String, Fail> {
     let datagram = carried(alloc, apdu)?;
-    let told = head.hear(alloc, meter()?, &datagram)?;
+    let told = head.hear(alloc, meter(1)?, &datagram)?;
     heard_text(alloc, head, told)
 }
 
@@ -150,14 +149,14 @@ fn numbers(campaign: CampaignId, meter: MeterId) -> (u32, u32, u32) {
 
 /// The phase of the row of meter 1, if it is live.
 fn phase(head: &HeadCore) -> Result<Option<Phase>, Fail> {
-    let meter = meter()?;
+    let meter = meter(1)?;
     let mut view = head.view();
     let row = view.rows.find(|row| row.meter() == meter);
     Ok(row.map(|row| row.phase()))
 }
 
 fn returns(alloc: Global, head: &HeadCore) -> Result<String, Fail> {
-    let meter = meter()?;
+    let meter = meter(1)?;
     let mut view = head.view();
     let row = view.rows.find(|row| row.meter() == meter);
     let returns = row.map(|row| row.returns()).ok_or("the row ended")?;

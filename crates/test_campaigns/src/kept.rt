@@ -1,12 +1,12 @@
 //! Kept books: what is kept, what a power cut leaves, and what is refused.
 
-use crate::book::{RELEASE_ANSWER, bytes_of, campaign, claim, meter, meters};
+use crate::book::{RELEASE_ANSWER, bytes_of, campaign, claim, meters};
+use crate::readings::journal_of;
 use fw_journal::{Disk, Journal, MemoryDevice, MemoryReplacer, RewriteError};
 use fw_kept::{KeptBook, KeptError, OpenError};
-use fw_names::HeadId;
 use std::alloc::Global;
 use std::test::Fail;
-use test_support::{Case, Kept, Takes, each, session};
+use test_support::{Case, Kept, Takes, each, head, meter, session};
 
 /// A call of a book of head end 7, or a look at it.
 #[derive(Clone, Copy)]
@@ -52,7 +52,7 @@ impl Takes<Step> for KeptBook<MemoryDevice> {
     }
 }
 
-fn answer_text(alloc: Global, answer: Result<(), KeptError>) -> Result<String, Fail> {
+pub(crate) fn answer_text(alloc: Global, answer: Result<(), KeptError>) -> Result<String, Fail> {
     Ok(match answer {
         Ok(()) => String::from_str(alloc, "done")?,
         Err(refusal) => refusal.to_string(alloc)?,
@@ -89,9 +89,8 @@ pub(crate) fn device_of(alloc: Global, bytes: &[u8]) -> Result<MemoryDevice, Fai
 }
 
 /// The bytes of the book of a head end that these bytes hold, or what they are refused for.
-pub(crate) fn read_text(alloc: Global, head: u32, bytes: &[u8]) -> Result<String, Fail> {
-    let head = HeadId::new(head).ok_or("no head end")?;
-    match KeptBook::open(alloc, head, device_of(alloc, bytes)?) {
+pub(crate) fn read_text(alloc: Global, number: u32, bytes: &[u8]) -> Result<String, Fail> {
+    match KeptBook::open(alloc, head(number)?, device_of(alloc, bytes)?) {
         Ok(book) => bytes_of(alloc, book.book()),
         Err((refusal, _)) => refused_text(alloc, refusal),
     }
@@ -118,9 +117,8 @@ fn joined_text(alloc: Global, records: &[Vec<u8>]) -> Result<String, Fail> {
 }
 
 /// A new book of a head end on a device in memory.
-fn new_book(alloc: Global, head: u32) -> Result<Kept<KeptBook<MemoryDevice>>, Fail> {
-    let head = HeadId::new(head).ok_or("no head end")?;
-    match KeptBook::create(alloc, head, device_of(alloc, &[])?) {
+fn new_book(alloc: Global, number: u32) -> Result<Kept<KeptBook<MemoryDevice>>, Fail> {
+    match KeptBook::create(alloc, head(number)?, device_of(alloc, &[])?) {
         Ok(book) => Ok(Kept(book)),
         Err((refusal, _)) => Err(Fail::from(refusal.to_string(alloc)?)),
     }
@@ -210,7 +208,7 @@ struct Cut {
 
 impl Case for Cut {
     fn told(&self, alloc: Global) -> Result<String, Fail> {
-        let head = HeadId::new(7).ok_or("no head end")?;
+        let head = head(7)?;
         let mut device = device_with_one(alloc)?;
         device.fuse(self.calls.saturating_add(3), self.torn);
         match KeptBook::open(alloc, head, device) {
@@ -306,7 +304,7 @@ struct Compacted {
 
 impl Case for Compacted {
     fn told(&self, alloc: Global) -> Result<String, Fail> {
-        let head = HeadId::new(7).ok_or("no head end")?;
+        let head = head(7)?;
         let mut device = device_with_one(alloc)?;
         device.fuse(self.calls.saturating_add(3), 1);
         match KeptBook::open(alloc, head, device) {
@@ -368,23 +366,8 @@ struct Opened(&'static [&'static str]);
 
 impl Case for Opened {
     fn told(&self, alloc: Global) -> Result<String, Fail> {
-        match Journal::create(alloc, device_of(alloc, &[])?) {
-            Ok(journal) => opened_text_of(alloc, &mut Kept(journal).0, self.0),
-            Err((refusal, _)) => Err(Fail::from(refusal.to_string(alloc)?)),
-        }
+        read_text(alloc, 7, journal_of(alloc, self.0)?.0.device().bytes())
     }
-}
-
-fn opened_text_of(
-    alloc: Global,
-    journal: &mut Journal<MemoryDevice>,
-    records: &[&str],
-) -> Result<String, Fail> {
-    for record in records {
-        journal.append(alloc, &hex::decode(alloc, record)?)?;
-    }
-    journal.commit()?;
-    read_text(alloc, 7, journal.device().bytes())
 }
 
 const OPENED: &[(Opened, &str)] = &[

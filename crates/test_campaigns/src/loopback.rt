@@ -1,6 +1,6 @@
 //! A campaign of four meters over UDP on this machine. In its middle both ends are ended, and begin again with their files.
 
-use crate::setting::width;
+use crate::head::width;
 use fw_daemon::{Closed as MeterClosed, MeterDaemon, Port, UdpPort, step};
 use fw_journal::FileDevice;
 use fw_kept::KeptHead;

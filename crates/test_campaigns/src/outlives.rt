@@ -1,15 +1,13 @@
 //! A head end whose book outlives a power cut. It is head end 7, and works on meter 1.
 
-use crate::head::{Step, apdus_text, carried, heard_text, meter};
-use crate::kept::{compact_text, device_of, read_text};
+use crate::head::{Step, apdus_text, carried, heard_text, width};
+use crate::kept::{answer_text, compact_text, device_of, read_text};
 use crate::transfers::{CLAIM, TO_CONFIRM};
-use fw_blocks::Width;
 use fw_journal::{MemoryDevice, MemoryReplacer};
-use fw_kept::{KeptError, KeptHead};
-use fw_names::HeadId;
+use fw_kept::KeptHead;
 use std::alloc::Global;
 use std::test::Fail;
-use test_support::{Kept, Takes, session};
+use test_support::{Kept, Takes, head, meter, session};
 
 /// A call of its journal, or a look at its device.
 enum Look {
@@ -36,19 +34,12 @@ impl Takes<Step> for KeptHead<MemoryDevice> {
     fn take(&mut self, alloc: Global, step: &Step) -> Result<String, Fail> {
         match *step {
             Step::Open(serial, image) => open_text(alloc, self, serial, image),
-            Step::Tick => apdus_text(alloc, &self.tick(alloc, meter()?)?),
+            Step::Tick => apdus_text(alloc, &self.tick(alloc, meter(1)?)?),
             Step::Hear(apdu) => hear_text(alloc, self, apdu),
             Step::Cancel(serial) => cancel_text(alloc, self, serial),
             _ => Err("no step of a kept head end".into()),
         }
     }
-}
-
-fn answer_text(alloc: Global, answer: Result<(), KeptError>) -> Result<String, Fail> {
-    Ok(match answer {
-        Ok(()) => String::from_str(alloc, "done")?,
-        Err(refusal) => refusal.to_string(alloc)?,
-    })
 }
 
 fn open_text(
@@ -60,7 +51,7 @@ fn open_text(
     if serial == 0 {
         return Err("a serial number begins at 1".into());
     }
-    match head.open_campaign(alloc, serial, 0, image, &[meter()?]) {
+    match head.open_campaign(alloc, serial, 0, image, &[meter(1)?]) {
         Ok(name) => Ok(hex::encode(alloc, name.to_bytes().as_slice())?),
         Err(refusal) => answer_text(alloc, Err(refusal)),
     }
@@ -79,7 +70,7 @@ fn cancel_text(
 
 fn hear_text(alloc: Global, head: &mut KeptHead<MemoryDevice>, apdu: &str) -> Result<String, Fail> {
     let datagram = carried(alloc, apdu)?;
-    match head.hear(alloc, meter()?, &datagram) {
+    match head.hear(alloc, meter(1)?, &datagram) {
         Ok(told) => heard_text(alloc, head.head(), told),
         Err(refusal) => answer_text(alloc, Err(refusal)),
     }
@@ -87,14 +78,14 @@ fn hear_text(alloc: Global, head: &mut KeptHead<MemoryDevice>, apdu: &str) -> Re
 
 /// A new head end of head end 7 on a device in memory.
 fn new_head(alloc: Global) -> Result<Kept<KeptHead<MemoryDevice>>, Fail> {
-    match KeptHead::create(alloc, number()?, width()?, device_of(alloc, &[])?) {
+    match KeptHead::create(alloc, head(7)?, width()?, device_of(alloc, &[])?) {
         Ok(head) => Ok(Kept(head)),
         Err((refusal, _)) => Err(Fail::from(refusal.to_string(alloc)?)),
     }
 }
 
 fn begun_text(alloc: Global, bytes: &[u8]) -> Result<String, Fail> {
-    match KeptHead::open(alloc, number()?, width()?, device_of(alloc, bytes)?) {
+    match KeptHead::open(alloc, head(7)?, width()?, device_of(alloc, bytes)?) {
         Ok(head) => first_text(alloc, Kept(head)),
         Err((refusal, _)) => Err(Fail::from(refusal.to_string(alloc)?)),
     }
@@ -103,14 +94,6 @@ fn begun_text(alloc: Global, bytes: &[u8]) -> Result<String, Fail> {
 fn first_text(alloc: Global, head: Kept<KeptHead<MemoryDevice>>) -> Result<String, Fail> {
     let mut head = head;
     head.0.take(alloc, &Step::Tick)
-}
-
-fn number() -> Result<HeadId, Fail> {
-    Ok(HeadId::new(7).ok_or("a head end's number begins at 1")?)
-}
-
-fn width() -> Result<Width, Fail> {
-    Ok(Width::new(4).ok_or("a width")?)
 }
 
 /// The book that a cut leaves has campaign 1, of image `abc`, for meter 1, which is live.

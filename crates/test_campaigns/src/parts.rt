@@ -1,16 +1,15 @@
 //! A head end that is parted, and put together of rows again. It is head end 7, which offers `abc` in campaign (7, 1), at first to
 //! meters 1 to 4.
 
-use crate::book::{campaign, meter, meters};
+use crate::book::{campaign, meters};
 use crate::client::abc_name;
-use crate::head::carried;
+use crate::head::{carried, width};
 use crate::transfers::{CLAIM, TO_CONFIRM};
-use fw_blocks::Width;
 use fw_head::{HeadCore, HeadParts, RowCore, TakenRows};
-use fw_names::{HeadId, name_of};
+use fw_names::name_of;
 use std::alloc::Global;
 use std::test::Fail;
-use test_support::{Case, Kept, each, session};
+use test_support::{Case, Kept, each, head, meter, session};
 
 /// What becomes of the last of the four rows, that of meter 4, before they are put back.
 enum Last {
@@ -79,7 +78,7 @@ impl Last {
 }
 
 fn asks_and_hears(alloc: Global, row: &mut RowCore, apdu: &str) -> Result<(), Fail> {
-    let _asked = row.tick(alloc, b"abc", Width::new(4).ok_or("a width")?)?;
+    let _asked = row.tick(alloc, b"abc", width()?)?;
     let _news = row.hear(alloc, &carried(alloc, apdu)?)?;
     Ok(())
 }
@@ -127,9 +126,7 @@ fn hear_all(alloc: Global, row: &mut RowCore, apdus: &[&str]) -> Result<(), Fail
 
 /// The head end with no campaign.
 pub(crate) fn fresh(alloc: Global) -> Result<Kept<HeadCore>, Fail> {
-    let number = HeadId::new(7).ok_or("a head end's number begins at 1")?;
-    let width = Width::new(4).ok_or("a width")?;
-    Ok(Kept(HeadCore::new(alloc, number, width)))
+    Ok(Kept(HeadCore::new(alloc, head(7)?, width()?)))
 }
 
 /// The head end after its opening.

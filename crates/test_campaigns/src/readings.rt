@@ -9,7 +9,10 @@ use std::test::Fail;
 use test_support::{Case, Kept, each};
 
 /// A journal of these records, all committed.
-fn journal_of(alloc: Global, records: &[&str]) -> Result<Kept<Journal<MemoryDevice>>, Fail> {
+pub(crate) fn journal_of(
+    alloc: Global,
+    records: &[&str],
+) -> Result<Kept<Journal<MemoryDevice>>, Fail> {
     let mut journal = new_journal(alloc)?;
     for record in records {
         journal.0.append(alloc, &hex::decode(alloc, record)?)?;

@@ -2,10 +2,9 @@
 
 use crate::book::bytes_of;
 use fw_ledger::{read_record, read_records};
-use fw_names::HeadId;
 use std::alloc::Global;
 use std::test::Fail;
-use test_support::{Case, each};
+use test_support::{Case, each, head};
 
 /// Bytes: those of the record that they are read as, or the refusal.
 struct Read(&'static str);
@@ -78,12 +77,11 @@ struct Made(&'static [&'static str]);
 
 impl Case for Made {
     fn told(&self, alloc: Global) -> Result<String, Fail> {
-        let head = HeadId::new(7).ok_or("no head end")?;
         let mut records = Vec::new(alloc);
         for record in self.0 {
             records.push(hex::decode(alloc, record)?)?;
         }
-        match read_records(alloc, head, &records) {
+        match read_records(alloc, head(7)?, &records) {
             Ok(book) => bytes_of(alloc, &book),
             Err(refusal) => Ok(refusal.to_string(alloc)?),
         }

@@ -2,17 +2,16 @@
 //! which image the meter runs, and which blocks of its own the meter has.
 
 use crate::client::abc_name;
-use crate::head::meter;
 use crate::rows::{Step, TO_ENABLE};
 use fw_head::RowCore;
 use std::alloc::Global;
 use std::test::Fail;
-use test_support::{Kept, session};
+use test_support::{Kept, meter, session};
 
 /// Such a row takes the steps of all parts.
 fn reopened_session(alloc: Global, parts: &[&[(Step, &str)]]) -> Result<(), Fail> {
     let name = abc_name(0).ok_or("a name")?;
-    let mut row = Kept(RowCore::reopened(meter()?, name, 3));
+    let mut row = Kept(RowCore::reopened(meter(1)?, name, 3));
     for part in parts {
         session(alloc, &mut row.0, part)?;
     }

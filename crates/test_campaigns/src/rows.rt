@@ -2,12 +2,11 @@
 //! stand in hexadecimal, and each is carried from and to wPort 1.
 
 use crate::client::abc_name;
-use crate::head::{apdus_text, carried, meter};
-use fw_blocks::Width;
+use crate::head::{apdus_text, carried, width};
 use fw_head::{RowCore, RowNews};
 use std::alloc::Global;
 use std::test::Fail;
-use test_support::{Kept, Takes, session};
+use test_support::{Kept, Takes, meter, session};
 
 /// A step of a row.
 pub(crate) enum Step {
@@ -22,10 +21,7 @@ pub(crate) enum Step {
 impl Takes<Step> for RowCore {
     fn take(&mut self, alloc: Global, step: &Step) -> Result<String, Fail> {
         match step {
-            Step::Tick => {
-                let width = Width::new(4).ok_or("a width")?;
-                apdus_text(alloc, &self.tick(alloc, b"abc", width)?)
-            }
+            Step::Tick => apdus_text(alloc, &self.tick(alloc, b"abc", width()?)?),
             Step::Hear(apdu) => {
                 let news = self.hear(alloc, &carried(alloc, apdu)?)?;
                 row_text(alloc, &news, self)
@@ -58,7 +54,7 @@ fn row_session(alloc: Global, parts: &[&[(Step, &str)]]) -> Result<(), Fail> {
 /// A new row of an image of this release takes the steps of all parts.
 fn release_session(alloc: Global, release: u32, parts: &[&[(Step, &str)]]) -> Result<(), Fail> {
     let name = abc_name(release).ok_or("a name")?;
-    let mut row = Kept(RowCore::new(meter()?, name, 3));
+    let mut row = Kept(RowCore::new(meter(1)?, name, 3));
     for part in parts {
         session(alloc, &mut row.0, part)?;
     }

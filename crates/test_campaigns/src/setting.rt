@@ -8,7 +8,7 @@ ghost use Rattle.fw_kept.specs.Head.{Holds};
 ghost use Rattle.fw_rollout.specs.Daemon.{IsLed, Rests};
 ghost use Rattle.fw_rollout.specs.Leading.{Leader};
 
-use fw_blocks::Width;
+use crate::head::{carried, width};
 use fw_journal::MemoryDevice;
 use fw_kept::KeptHead;
 use fw_rollout::{Datagram, Due, Ended, HeadDaemon, Listed, MeterList, Timing};
@@ -120,12 +120,6 @@ pub(crate) fn number_of(address: SocketAddr) -> u16 {
     address.port() % 100
 }
 
-/// The datagram that carries an APDU between wPorts 1.
-fn carried(alloc: Global, apdu: &str) -> Result<Vec<u8>, Fail> {
-    let text = format!(in alloc; "000100010001{:04x}{apdu}", apdu.len() / 2)?;
-    Ok(hex::decode(alloc, text.as_str())?)
-}
-
 /// The datagram that carries an APDU from the address of this number.
 pub(crate) fn coming_from(alloc: Global, from: u16, apdu: &str) -> Result<Datagram, Fail> {
     Ok(Datagram {
@@ -149,11 +143,6 @@ fn both(alloc: Global) -> Result<Kept<MeterList>, Fail> {
         let _is_new = list.0.add(listed(number, at)?)?;
     }
     Ok(list)
-}
-
-/// The width of its windows.
-pub(crate) fn width() -> Result<Width, Fail> {
-    Ok(Width::new(4).ok_or("a width")?)
 }
 
 /// Head end 7 without a campaign.

@@ -1,10 +1,10 @@
 //! What a book shows of itself, and how its refusals are printed.
 
-use crate::book::{Call, after, campaign, meter};
+use crate::book::{Call, after, campaign};
 use fw_book::{Book, BookError};
 use std::alloc::Global;
 use std::test::Fail;
-use test_support::{Case, each, each_prints};
+use test_support::{Case, each, each_prints, meter};
 
 /// Two campaigns, the second of release 5: in the first, meter 1 failed, and meter 2 is live.
 const CALLS: &[Call] = &[
