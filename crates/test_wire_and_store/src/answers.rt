@@ -4,9 +4,10 @@ ghost use Rattle.std.specs.Prelude.{◌≤◌, IfOk};
 ghost use Rattle.fw_server.specs.Answer.{bits_in};
 
 use crate::replying::wrapped_answer;
+use crate::support::{abc_name, bits_of};
 use fw_apdu::{Invoke, LogicalName};
 use fw_axdr::Bits;
-use fw_names::{CampaignId, HeadId, ImageName, factory_name, name_of};
+use fw_names::factory_name;
 use fw_server::{Answer, ImageInfo, Outcome, answer};
 use std::alloc::Global;
 use std::test::Fail;
@@ -64,29 +65,17 @@ fn got(alloc: Global, told: &Told) -> Result<Answer, Fail> {
         Told::FirstNotTransferred(number) => Answer::FirstNotTransferred(number),
         Told::Enabled(enabled) => Answer::TransferEnabled(enabled),
         Told::Status(status) => Answer::TransferStatus(status),
-        Told::Blocks(bytes, len) => Answer::TransferredBlocks(bits(alloc, bytes, len)?),
+        Told::Blocks(bytes, len) => Answer::TransferredBlocks(bits_of(alloc, bytes, len)?),
         Told::NothingToActivate => Answer::ToActivate(None),
         Told::AbcToActivate(release) => Answer::ToActivate(Some(ImageInfo {
             size: 3,
-            name: abc_name(release).ok_or("no name")?,
+            name: abc_name(7, 1, release).ok_or("no name")?,
         })),
-        Told::AbcOffered(release) => Answer::ActiveName(abc_name(release).ok_or("no name")?),
+        Told::AbcOffered(release) => Answer::ActiveName(abc_name(7, 1, release).ok_or("no name")?),
         Told::AbcName => Answer::ActiveName(factory_name(b"abc")),
         Told::AbcDigest => Answer::ActiveDigest(factory_name(b"abc").digest),
         _ => return Err("a code is told".into()),
     })
-}
-
-/// The `len` bits of these bytes.
-fn bits(alloc: Global, bytes: &[u8], len: usize) -> Result<Bits, Fail> {
-    if bytes.len() != len.div_ceil(8) {
-        return Err("another number of bytes".into());
-    }
-    Ok(Bits::from_vec(bytes.to_vec(alloc)?, len))
-}
-
-fn abc_name(release: u32) -> Option<ImageName> {
-    Some(name_of(CampaignId::new(HeadId::new(7)?, 1)?, release, b"abc"))
 }
 
 const TOLD: &[(Told, &str)] = &[
@@ -170,7 +159,7 @@ fn first_of(alloc: Global, len: usize) -> Result<Bits, Fail> {
     if let Some(first) = bytes.first_mut() {
         *first = 0x80;
     }
-    bits(alloc, &bytes, len)
+    bits_of(alloc, &bytes, len)
 }
 
 fn front_text(alloc: Global, apdu: &[u8]) -> Result<String, Fail> {

@@ -1,6 +1,6 @@
 //! The blocks of an image, sets of their numbers, marks and windows.
 
-use fw_axdr::Bits;
+use crate::support::bits_of;
 use fw_blocks::{BlockSet, Geometry, MARKS_SIZE, MAX_BLOCK_SIZE, MAX_BLOCKS, Pages, Width, Window};
 use std::alloc::{AllocError, Global};
 use std::test::Fail;
@@ -108,20 +108,12 @@ struct Shown(&'static [u8], usize, u32);
 
 impl Case for Shown {
     fn told(&self, alloc: Global) -> Result<String, Fail> {
-        let bits = bits_of(alloc, self.0, self.1)?.ok_or("other bytes")?;
+        let bits = bits_of(alloc, self.0, self.1)?;
         Ok(match BlockSet::from_bits(alloc, &bits, self.2)? {
             Some(set) => set_text(alloc, &set)?,
             None => String::from_str(alloc, "none")?,
         })
     }
-}
-
-/// The `len` bits of these bytes.
-fn bits_of(alloc: Global, bytes: &[u8], len: usize) -> Result<Option<Bits>, AllocError> {
-    if bytes.len() != len.div_ceil(8) {
-        return Ok(None);
-    }
-    Ok(Some(Bits::from_vec(bytes.to_vec(alloc)?, len)))
 }
 
 const SHOWN: &[(Shown, &str)] = &[

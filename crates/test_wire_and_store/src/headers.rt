@@ -1,8 +1,9 @@
 //! The bytes of a store's header, which are worked out by hand from the format: how headers are written, and which bytes are one's,
 //! each condition once, met and not met.
 
+use crate::support::abc_name;
 use fw_blocks::Pages;
-use fw_names::{CampaignId, HeadId, ImageName, factory_name, name_of};
+use fw_names::factory_name;
 use fw_store::{
     Goal, Header, HeaderBytes, HeaderVersion, Slot, StoredStatus, VERSION_ONE_SIZE,
     VERSION_TWO_SIZE,
@@ -455,11 +456,6 @@ fn fresh() -> Header {
     Header::fresh(HeaderVersion::Two, 2, 3, factory_name(b"abc"))
 }
 
-/// The name under which a campaign of head end 7 offers `abc` of this release.
-fn abc_name(serial: u32, release: u32) -> Option<ImageName> {
-    Some(name_of(CampaignId::new(HeadId::new(7)?, serial)?, release, b"abc"))
-}
-
 /// The marks with these numbers besides.
 pub(crate) fn marked(mut marks: Pages, numbers: &[u32]) -> Pages {
     for number in numbers {
@@ -471,7 +467,7 @@ pub(crate) fn marked(mut marks: Pages, numbers: &[u32]) -> Pages {
 }
 
 fn receiving() -> Option<Header> {
-    let name = abc_name(1, 0)?;
+    let name = abc_name(7, 1, 0)?;
     Some(Header {
         version: HeaderVersion::Two,
         enabled: true,
@@ -515,9 +511,9 @@ fn renewed() -> Option<Header> {
         status: StoredStatus::Initiated,
         block_size: 2,
         running_size: 3,
-        running_name: abc_name(1, 5)?,
+        running_name: abc_name(7, 1, 5)?,
         goal: Some(Goal {
-            name: abc_name(2, 6)?,
+            name: abc_name(7, 2, 6)?,
             size: 3,
         }),
         marks: Pages::none(),

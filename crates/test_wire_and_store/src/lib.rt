@@ -1,6 +1,6 @@
 //! Tests of what goes over the wire (A-XDR Data, the wrapper, the services, image names, captures), of the blocks of an image, of the header of a
 //! store, of stores in memory, on devices and in files, of journals, of the digest of a slot, of Image transfer over a store in memory, and of what
-//! a meter makes of requests and how it spells answers, through their public calls alone, and four callers that are proved from the public
+//! a meter makes of requests and how it spells answers, through their public calls alone, and callers that are proved from the public
 //! contracts alone. Expected bytes are worked out by hand from the standards and the formats, and SHA-256 values are the published ones or those
 //! of `sha256sum`.
 #![tactic(auto)]
@@ -33,6 +33,7 @@ mod digests;
 mod faults;
 #[cfg(test)]
 mod files;
+#[cfg(test)]
 pub mod fresh;
 #[cfg(test)]
 mod headers;
@@ -48,7 +49,9 @@ mod opening;
 mod plans;
 #[cfg(test)]
 mod refusals;
+#[cfg(test)]
 mod replying;
+#[cfg(test)]
 mod round_trip;
 #[cfg(test)]
 mod session;
@@ -65,5 +68,7 @@ mod types;
 #[cfg(test)]
 mod wrapper_tests;
 
+#[cfg(test)]
 pub use replying::wrapped_answer;
+#[cfg(test)]
 pub use round_trip::{read_back, split_back};

@@ -1,10 +1,8 @@
 //! Names of images: 01, the head end's number, the campaign's serial number, and the SHA-256 (FIPS 180-4) of the image; with a
 //! release 02 in place of 01, and the release before the SHA-256.
 
-use crate::support::{Way, each_by};
-use fw_names::{
-    CampaignId, HeadId, ImageName, MeterId, digest_of, factory_name, is_risen, name_of,
-};
+use crate::support::{Way, abc_name, each_by};
+use fw_names::{CampaignId, HeadId, ImageName, MeterId, digest_of, factory_name, is_risen};
 use std::alloc::Global;
 use std::test::Fail;
 use test_support::{Case, each};
@@ -140,7 +138,7 @@ impl Case for Named {
     fn told(&self, alloc: Global) -> Result<String, Fail> {
         let name = match *self {
             Named::Factory => Some(factory_name(b"abc")),
-            Named::Offered(head, serial, release) => offered(head, serial, release),
+            Named::Offered(head, serial, release) => abc_name(head, serial, release),
             Named::Digest => return Ok(hex::encode(alloc, digest_of(b"abc"))?),
         };
         Ok(match name {
@@ -148,11 +146,6 @@ impl Case for Named {
             None => String::from_str(alloc, "none")?,
         })
     }
-}
-
-fn offered(head: u32, serial: u32, release: u32) -> Option<ImageName> {
-    let campaign = CampaignId::new(HeadId::new(head)?, serial)?;
-    Some(name_of(campaign, release, b"abc"))
 }
 
 /// Numbers of head ends and serial numbers begin at 1.

@@ -358,13 +358,8 @@ impl Trial {
     }
 
     fn open_store(&mut self, store: MemoryStore) -> Result<(), Fail> {
-        match open_store(store) {
-            Ok(meter) => {
-                self.meter = Some(meter);
-                Ok(())
-            }
-            Err((error, _store)) => Err(error.into()),
-        }
+        self.meter = Some(opened(store)?);
+        Ok(())
     }
 
     /// Opens a store, whose header stays as it is.

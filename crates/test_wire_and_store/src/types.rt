@@ -19,35 +19,31 @@ fn idle(alloc: Global) -> Result<Idle<MemoryStore>, Fail> {
     }
 }
 
-fn enabled(alloc: Global) -> Result<Idle<MemoryStore>, Fail> {
-    match idle(alloc)?.set_enabled(true) {
+/// What a call leads to. A refusal is an error.
+fn done<T: Drop, B: Drop>(answer: Result<T, (Refusal, B)>) -> Result<T, Fail> {
+    match answer {
         Ok(next) => Ok(next),
         Err((refusal, _back)) => Err(refusal.into()),
     }
+}
+
+fn enabled(alloc: Global) -> Result<Idle<MemoryStore>, Fail> {
+    done(idle(alloc)?.set_enabled(true))
 }
 
 /// It receives an image of four bytes.
 fn begun(alloc: Global) -> Result<Receiving<MemoryStore>, Fail> {
-    match enabled(alloc)?.initiate(bbbb()?, 4) {
-        Ok(next) => Ok(next),
-        Err((refusal, _back)) => Err(refusal.into()),
-    }
+    done(enabled(alloc)?.initiate(bbbb()?, 4))
 }
 
 /// It receives the same image anew.
 fn begun_again(alloc: Global) -> Result<Receiving<MemoryStore>, Fail> {
-    match with_block(alloc)?.initiate(bbbb()?, 4) {
-        Ok(next) => Ok(next),
-        Err((refusal, _back)) => Err(refusal.into()),
-    }
+    done(with_block(alloc)?.initiate(bbbb()?, 4))
 }
 
 /// It has block 0.
 fn with_block(alloc: Global) -> Result<Receiving<MemoryStore>, Fail> {
-    match begun(alloc)?.block(0, b"bb") {
-        Ok(next) => Ok(next),
-        Err((refusal, _back)) => Err(refusal.into()),
-    }
+    done(begun(alloc)?.block(0, b"bb"))
 }
 
 /// A transfer whose store fails isn't disabled.
