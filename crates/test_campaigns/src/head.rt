@@ -122,7 +122,10 @@ fn hear(alloc: Global, head: &mut HeadCore, apdu: &str) -> Result<String, Fail> 
 
 /// The news, and the phase of the row of meter 1 afterwards.
 pub(crate) fn heard_text(alloc: Global, head: &HeadCore, told: News) -> Result<String, Fail> {
-    let phase = phase(head)?;
+    let phase = match live(head)? {
+        Some((phase, _)) => Some(phase),
+        None => None,
+    };
     Ok(news_text(alloc, told, phase)?)
 }
 
@@ -143,22 +146,24 @@ fn news_text(alloc: Global, news: News, phase: Option<Phase>) -> Result<String, 
 }
 
 fn numbers(campaign: CampaignId, meter: MeterId) -> (u32, u32, u32) {
-    let head = campaign.head().map_or(0, |head| head.number());
+    let head = match campaign.head() {
+        Some(head) => head.number(),
+        None => 0,
+    };
     (head, campaign.serial(), meter.number())
 }
 
-/// The phase of the row of meter 1, if it is live.
-fn phase(head: &HeadCore) -> Result<Option<Phase>, Fail> {
+/// The phase of the row of meter 1, if it is live, and how often it returned to `Start`.
+fn live(head: &HeadCore) -> Result<Option<(Phase, u8)>, Fail> {
     let meter = meter(1)?;
     let mut view = head.view();
     let row = view.rows.find(|row| row.meter() == meter);
-    Ok(row.map(|row| row.phase()))
+    Ok(row.map(|row| (row.phase(), row.returns())))
 }
 
 fn returns(alloc: Global, head: &HeadCore) -> Result<String, Fail> {
-    let meter = meter(1)?;
-    let mut view = head.view();
-    let row = view.rows.find(|row| row.meter() == meter);
-    let returns = row.map(|row| row.returns()).ok_or("the row ended")?;
+    let Some((_, returns)) = live(head)? else {
+        return Err("the row ended".into());
+    };
     Ok(format!(in alloc; "{returns}")?)
 }

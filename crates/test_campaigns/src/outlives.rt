@@ -2,6 +2,7 @@
 
 use crate::head::{Step, apdus_text, carried, heard_text, width};
 use crate::kept::{answer_text, compact_text, device_of, read_text};
+use crate::setting::new_head;
 use crate::transfers::{CLAIM, TO_CONFIRM};
 use fw_journal::{MemoryDevice, MemoryReplacer};
 use fw_kept::KeptHead;
@@ -76,14 +77,6 @@ fn hear_text(alloc: Global, head: &mut KeptHead<MemoryDevice>, apdu: &str) -> Re
     }
 }
 
-/// A new head end of head end 7 on a device in memory.
-fn new_head(alloc: Global) -> Result<Kept<KeptHead<MemoryDevice>>, Fail> {
-    match KeptHead::create(alloc, head(7)?, width()?, device_of(alloc, &[])?) {
-        Ok(head) => Ok(Kept(head)),
-        Err((refusal, _)) => Err(Fail::from(refusal.to_string(alloc)?)),
-    }
-}
-
 fn begun_text(alloc: Global, bytes: &[u8]) -> Result<String, Fail> {
     match KeptHead::open(alloc, head(7)?, width()?, device_of(alloc, bytes)?) {
         Ok(head) => first_text(alloc, Kept(head)),
@@ -143,7 +136,7 @@ const COMPACTED: &[(Look, &str)] = &[(Look::Compact, "done")];
 #[test]
 fn a_kept_head_end_outlives_a_cut(rt: HostRuntime) -> Result<(), Fail> {
     let alloc = rt.alloc();
-    let mut head = new_head(alloc)?;
+    let mut head = Kept(new_head(alloc)?);
     session(alloc, &mut head.0, TO_CONFIRM)?;
     session(alloc, &mut head.0, WAITING)?;
     session(alloc, &mut head.0, DONE)?;

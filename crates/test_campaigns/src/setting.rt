@@ -146,7 +146,7 @@ fn both(alloc: Global) -> Result<Kept<MeterList>, Fail> {
 }
 
 /// Head end 7 without a campaign.
-fn new_head(alloc: Global) -> Result<KeptHead<MemoryDevice>, Fail>
+pub(crate) fn new_head(alloc: Global) -> Result<KeptHead<MemoryDevice>, Fail>
     ensures { IfOk result (λ head. (synced : Contents) × Holds (λ _. true) bytes_of leaves head synced) }
 {
     let (number, width) = (head(7)?, width()?);

@@ -562,7 +562,10 @@ pub(crate) fn sight(alloc: Global, view: &MeterView) -> Result<String, AllocErro
 
 /// The numbers of the head end and the campaign, the release, if there is one, and the first four bytes of the digest.
 fn name_text(alloc: Global, name: ImageName) -> Result<String, AllocError> {
-    let head = name.campaign.head().map_or(0, |head| head.number());
+    let head = match name.campaign.head() {
+        Some(head) => head.number(),
+        None => 0,
+    };
     let serial = name.campaign.serial();
     let [a, b, c, d, ..] = name.digest;
     let digest = u32::from_be_bytes([a, b, c, d]);

@@ -33,12 +33,14 @@ fn enabled(alloc: Global) -> Result<Idle<MemoryStore>, Fail> {
 
 /// It receives an image of four bytes.
 fn begun(alloc: Global) -> Result<Receiving<MemoryStore>, Fail> {
-    done(enabled(alloc)?.initiate(bbbb()?, 4))
+    let name = bbbb()?;
+    done(enabled(alloc)?.initiate(name, 4))
 }
 
 /// It receives the same image anew.
 fn begun_again(alloc: Global) -> Result<Receiving<MemoryStore>, Fail> {
-    done(with_block(alloc)?.initiate(bbbb()?, 4))
+    let name = bbbb()?;
+    done(with_block(alloc)?.initiate(name, 4))
 }
 
 /// It has block 0.
