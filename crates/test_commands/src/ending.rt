@@ -8,10 +8,10 @@ use std::test::Fail;
 pub(crate) fn ended(
     alloc: Global,
     written: Vec<u8>,
-    result: Result<(), Fault>,
+    outcome: Result<(), Fault>,
 ) -> Result<String, Fail> {
     let mut text = String::from_utf8(written)?;
-    if let Err(fault) = result {
+    if let Err(fault) = outcome {
         text.push_str(format!(in alloc; "{fault}")?.as_str())?;
     }
     Ok(text)

@@ -16,6 +16,7 @@ use std::{env, fs};
 use test_support::expect_at;
 
 /// Bytes in hexadecimal, and N bytes 00 after them.
+#[derive(Clone, Copy)]
 pub(crate) struct Spelled(pub(crate) &'static str, pub(crate) usize);
 
 /// A step at a path of a test's own. A command has these options for a new meter.

@@ -49,8 +49,8 @@ impl Terminal {
     }
 
     /// What was written, and the fault, if there is one; then how many texts came, and how many of them are other ones.
-    fn told(&self, written: Vec<u8>, result: Result<(), Fault>) -> Result<String, Fail> {
-        let mut text = ended(self.alloc, written, result)?;
+    fn told(&self, written: Vec<u8>, outcome: Result<(), Fault>) -> Result<String, Fail> {
+        let mut text = ended(self.alloc, written, outcome)?;
         let came = self.came.load(Ordering::SeqCst);
         let others = self.others.load(Ordering::SeqCst);
         text.push_str(format!(in self.alloc; "{came} texts, {others} others")?.as_str())?;

@@ -14,6 +14,7 @@ use test_support::expect_at;
 pub(crate) type Exchange = (&'static str, &'static str);
 
 /// A part of a session.
+#[derive(Clone, Copy)]
 pub(crate) enum Part {
     /// Each request gets its reply.
     Says(&'static [Exchange]),
