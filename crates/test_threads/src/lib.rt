@@ -1,5 +1,5 @@
 //! Tests of what threads share and what workers make together: the log, the links and the wires of `fw_air`, the shared world of
-//! `fw_shared`, rehearsals and live rollouts, through public calls and commands. Each test joins its threads, and ends in the same way
+//! `fw_shared`, rehearsals and live rollouts, through public calls. Each test joins its threads, and ends in the same way
 //! whatever their schedule.
 #![tactic(auto)]
 
