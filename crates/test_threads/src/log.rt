@@ -128,20 +128,6 @@ fn log_grows_at_its_ends(rt: HostRuntime) -> Result<(), Fail> {
     Ok(())
 }
 
-/// Appends a tick that sends a datagram: what is returned, and what its stub says.
-fn add<R: Wait>(
-    rt: &R,
-    alloc: Global,
-    log: &SharedLog,
-    link: Link,
-    byte: u8,
-) -> Result<(Sent, (usize, CoreEvent)), AllocError> {
-    let mut room = log.reserve(alloc)?;
-    room.push(link.datagram(alloc, byte)?);
-    let (sent, stub) = log.append(rt, room, CoreEvent::Tick(link.head, link.meter));
-    Ok((sent, stub.spend()))
-}
-
 /// Adds N events with a datagram each: whether their numbers rose, each with that of its datagram.
 fn add_all<R: Wait>(
     rt: &R,
@@ -153,7 +139,10 @@ fn add_all<R: Wait>(
     let mut next = 0;
     let mut rose = true;
     for _ in 0..EVENTS {
-        let (sent, (number, _tick)) = add(rt, alloc, log, link, byte)?;
+        let mut room = log.reserve(alloc)?;
+        room.push(link.datagram(alloc, byte)?);
+        let (sent, stub) = log.append(rt, room, CoreEvent::Tick(link.head, link.meter));
+        let (number, _tick) = stub.spend();
         let Sent {
             event,
             first,
@@ -178,10 +167,28 @@ fn of_two(alloc: Global, link: Link) -> Result<SharedLog, AllocError> {
     Ok(SharedLog::new(sent, entries))
 }
 
-/// Whether the last datagram with these bytes to the meter has this number, or isn't there, and none with them went to the head end.
-fn finds<R: Wait>(rt: &R, log: &SharedLog, link: Link, bytes: &[u8], number: Option<u64>) -> bool {
-    let (head, meter) = (Actor::Head(link.head), Actor::Meter(link.meter));
-    log.find(rt, head, meter, bytes) == number && log.find(rt, meter, head, bytes).is_none()
+/// The log after that, with a tick for each of the datagrams 12, 12 and 10.
+fn of_five<R: Wait>(rt: &R, alloc: Global, link: Link) -> Result<SharedLog, AllocError> {
+    let log = of_two(alloc, link)?;
+    for byte in [12, 12, 10] {
+        let mut room = log.reserve(alloc)?;
+        room.push(link.datagram(alloc, byte)?);
+        let (_sent, stub) = log.append(rt, room, CoreEvent::Tick(link.head, link.meter));
+        let _ = stub.spend();
+    }
+    Ok(log)
+}
+
+/// The number of the last datagram with these bytes to the meter, and to the head end.
+fn found<R: Wait>(
+    rt: &R,
+    log: &SharedLog,
+    link: &Link,
+    bytes: &[u8],
+) -> (Option<u64>, Option<u64>) {
+    let there = log.find(rt, Actor::Head(link.head), Actor::Meter(link.meter), bytes);
+    let back = log.find(rt, Actor::Meter(link.meter), Actor::Head(link.head), bytes);
+    (there, back)
 }
 
 /// The bytes of a datagram, and the greatest number of a datagram with them.
@@ -195,14 +202,10 @@ const FOUND: &[(&[u8], Option<u64>)] = &[
 
 #[test]
 fn finds_the_last(rt: HostRuntime) -> Result<(), Fail> {
-    let alloc = rt.alloc();
     let link = Link::new()?;
-    let log = of_two(alloc, link)?;
-    for byte in [12, 12, 10] {
-        let _added = add(&rt, alloc, &log, link, byte)?;
-    }
+    let log = of_five(&rt, rt.alloc(), link)?;
     for (bytes, number) in FOUND {
-        assert!(rt; finds(&rt, &log, link, bytes, *number));
+        assert_eq!(rt; found(&rt, &log, &link, bytes), (*number, None));
     }
     Ok(())
 }
