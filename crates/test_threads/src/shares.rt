@@ -67,15 +67,15 @@ impl Share for GoodLink {
     }
 }
 
-/// What workers of these shares lead to in nine rounds.
+/// What this number of workers leads to in nine rounds, by their shares.
 fn led_to<R: Threads + Wait + Sync, H: Share + Send + Drop>(
     rt: &R,
     alloc: Global,
+    workers: u32,
     shares: Vec<H>,
 ) -> Result<String, Fail> {
     let setup = setup_of(alloc, SMALL)?;
     let given = events_of(alloc, &[OPENED])?;
-    let workers = shares.len() as u32;
     let opening = begin(alloc, &setup, &given, workers)?;
     let task = Task {
         setup: &setup,
@@ -100,7 +100,7 @@ fn told<R: Threads + Wait + Sync>(
     let (head, meter) = (head(numbers.0)?, meter(numbers.1)?);
     let mut shares = Vec::new(alloc);
     shares.push(GoodLink { head, meter })?;
-    led_to(rt, alloc, shares)
+    led_to(rt, alloc, 1, shares)
 }
 
 /// Links by the numbers of their ends, and what comes of them: the campaign's own, and two of which one end isn't there.
@@ -144,7 +144,7 @@ impl Share for Refused {
     }
 }
 
-/// The same of workers that are refused for these reasons.
+/// The same of two workers that are refused for these reasons.
 fn refusal_of<R: Threads + Wait + Sync>(
     rt: &R,
     alloc: Global,
@@ -154,7 +154,7 @@ fn refusal_of<R: Threads + Wait + Sync>(
     for reason in reasons {
         shares.push(Refused(*reason))?;
     }
-    led_to(rt, alloc, shares)
+    led_to(rt, alloc, 2, shares)
 }
 
 /// Why each worker is refused, from the lowest on, and what is returned: the lowest worker's refusal. Where none is refused, the rounds
