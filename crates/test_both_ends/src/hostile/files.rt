@@ -1,0 +1,360 @@
+//! Files of stores with a header of either version, cut at each length, and with each byte of what a file begins with turned to each
+//! value: such a file is refused by a name, or the meter is opened as its header says, which is one of version 2 then.
+
+use crate::hostile::disk::Disk;
+use crate::hostile::support::{expect_tried, failed, opened, replies};
+use fw_image::{MeterView, OpenError};
+use fw_meter::MeterCore;
+use fw_names::ImageName;
+use fw_store::{DeviceStore, FileStoreError, VERSION_TWO_SIZE};
+use std::alloc::Global;
+use std::test::Fail;
+use test_support::Kept;
+
+/// Where the header of a file begins: after the capacity.
+const HEADER_AT: usize = 4;
+
+/// How many bytes of it stand there. The others stand after the slots: eight of releases, and in version 2 the marks of the blocks from
+/// 4,096 on.
+const FRONT_SIZE: usize = 614;
+
+/// Where the first slot begins.
+const SLOTS_AT: usize = HEADER_AT + FRONT_SIZE;
+
+/// Where the slots of a file end.
+fn slots_end(bytes: &[u8]) -> Result<usize, Fail> {
+    let [a, b, c, d, ..] = bytes else {
+        return Err("a capacity".into());
+    };
+    let capacity = u32::from_be_bytes([*a, *b, *c, *d]) as usize;
+    Ok(SLOTS_AT.saturating_add(capacity.saturating_mul(2)))
+}
+
+/// The header of version 2 in the bytes of a file.
+fn header_of(bytes: &[u8]) -> Result<[u8; VERSION_TWO_SIZE], Fail> {
+    let front = bytes.get(HEADER_AT..SLOTS_AT).ok_or("a header")?;
+    let last = bytes.get(slots_end(bytes)?..).ok_or("two slots")?;
+    if FRONT_SIZE.saturating_add(last.len()) != VERSION_TWO_SIZE {
+        return Err("the header of an open meter isn't of version 2".into());
+    }
+    let mut header = [0; VERSION_TWO_SIZE];
+    for (to, byte) in header.iter_mut().zip(front.iter().chain(last)) {
+        *to = *byte;
+    }
+    Ok(header)
+}
+
+/// The 41 bytes of a name in a header, and its release there.
+fn name_bytes(name: ImageName) -> ([u8; 41], [u8; 4]) {
+    let mut bytes = [0; 41];
+    let head = name.campaign.head().map_or(0, |head| head.number());
+    bytes[0] = 1;
+    bytes[1..5].copy_from_slice(&head.to_be_bytes());
+    bytes[5..9].copy_from_slice(&name.campaign.serial().to_be_bytes());
+    bytes[9..].copy_from_slice(&name.digest);
+    (bytes, name.release.to_be_bytes())
+}
+
+/// The bytes of the goal of a header that shows this, and its release.
+fn goal_bytes(view: &MeterView) -> ([u8; 45], [u8; 4]) {
+    let mut bytes = [0; 45];
+    let mut release = [0; 4];
+    if let Some(goal) = view.goal {
+        let (name, number) = name_bytes(goal.name);
+        bytes[..4].copy_from_slice(&goal.size.to_be_bytes());
+        bytes[4..].copy_from_slice(&name);
+        release = number;
+    }
+    (bytes, release)
+}
+
+/// What a meter shows is what the header has in its fields.
+fn shows(view: &MeterView, header: &[u8; VERSION_TWO_SIZE]) -> bool {
+    let (active, active_release) = name_bytes(view.active);
+    let (goal, goal_release) = goal_bytes(view);
+    let marks = view.marked.as_slice();
+    let Some(marked) = marks.get(..512) else {
+        return false;
+    };
+    let Some(more_marked) = marks.get(512..) else {
+        return false;
+    };
+    &header[..4] == b"FWH2".as_slice()
+        && view.limit == 16_384
+        && u8::from(view.enabled) == header[4]
+        && view.status.number() == header[6]
+        && u8::from(view.goal.is_some()) == header[7]
+        && view.active_size.to_be_bytes().as_slice() == &header[12..16]
+        && active.as_slice() == &header[16..57]
+        && goal.as_slice() == &header[57..102]
+        && marked == &header[102..614]
+        && active_release.as_slice() == &header[614..618]
+        && goal_release.as_slice() == &header[618..622]
+        && more_marked == &header[622..]
+}
+
+/// What comes of a file.
+#[derive(Clone, Copy)]
+enum Outcome {
+    Opened,
+    BadFile,
+    BadHeader,
+    BadImage,
+}
+
+/// A meter was opened that shows what the header of its file says.
+fn shown(alloc: Global, disk: &Disk, view: &MeterView) -> Result<Outcome, Fail> {
+    let header = header_of(&disk.bytes(alloc)?)?;
+    if shows(view, &header) {
+        Ok(Outcome::Opened)
+    } else {
+        Err("a meter was opened as its header doesn't say".into())
+    }
+}
+
+/// What comes of the file on a disk. A meter that is opened shows what its header says.
+fn judged(alloc: Global, disk: &Disk) -> Result<Outcome, Fail> {
+    let store = match DeviceStore::reopen_on(disk.open()?) {
+        Ok(store) => store,
+        Err(FileStoreError::BadFile) => return Ok(Outcome::BadFile),
+        Err(refusal) => return Err(refusal.into()),
+    };
+    match MeterCore::open_store(store) {
+        Ok(meter) => {
+            let view = meter.view();
+            drop(meter);
+            shown(alloc, disk, &view)
+        }
+        Err((OpenError::BadHeader, _store)) => Ok(Outcome::BadHeader),
+        Err((OpenError::BadImage, _store)) => Ok(Outcome::BadImage),
+        Err((OpenError::Fault, _store)) => Err("a call of the store failed".into()),
+    }
+}
+
+/// A disk with the file of a new meter that runs `x`, with blocks of two bytes and slots of `capacity` bytes.
+fn new_file(alloc: Global, capacity: u32) -> Result<Disk, Fail> {
+    let disk = Disk::with(alloc, b"")?;
+    DeviceStore::create_on(disk.open()?, capacity, 2, b"x")?;
+    Ok(disk)
+}
+
+/// How much shorter a file is with a header of version 1, and with one that has no releases.
+const SHORTER: &[usize] = &[1_536, 1_544];
+
+/// The first four bytes of the header of a file are made those of version 1.
+fn make_old(bytes: &mut Vec<u8>) {
+    if let Some(byte) = bytes.get_mut(7) {
+        *byte = b'1';
+    }
+}
+
+/// Whether a file of `len` bytes is judged right. With a header of version 2 it is a store at its own length, and with one of version 1 at
+/// the lengths without what version 2 has besides. At a length of the other version its header is bad.
+fn is_right(outcome: Outcome, old: bool, len: usize, size: usize) -> bool {
+    let is_whole = len == size;
+    let is_shorter = SHORTER.iter().any(|less| len.saturating_add(*less) == size);
+    match outcome {
+        Outcome::Opened => if old { is_shorter } else { is_whole },
+        Outcome::BadHeader => if old { is_whole } else { is_shorter },
+        Outcome::BadFile => !is_whole && !is_shorter,
+        Outcome::BadImage => false,
+    }
+}
+
+/// Bytes of a file, which are taken for what they are. What isn't opened stays as it is, and what is, is the file of a new store then.
+fn is_taken_right(
+    alloc: Global,
+    cut: &[u8],
+    new: &[u8],
+    old: bool,
+    size: usize,
+) -> Result<bool, Fail> {
+    let disk = Disk::with(alloc, cut)?;
+    let outcome = judged(alloc, &disk)?;
+    let left = if matches!(outcome, Outcome::Opened) {
+        new
+    } else {
+        cut
+    };
+    Ok(is_right(outcome, old, cut.len(), size) && disk.holds(left))
+}
+
+/// The file of a store of this capacity at each length: no byte, and so on up to one byte more than it has; once it is a new one, and once
+/// its header begins as one of version 1.
+fn each_length(alloc: Global, capacity: u32, size: usize, old: bool) -> Result<usize, Fail> {
+    let new = new_file(alloc, capacity)?.bytes(alloc)?;
+    let mut bytes = new.as_slice().to_vec(alloc)?;
+    bytes.push(0)?;
+    if old {
+        make_old(&mut bytes);
+    }
+    let mut tried = 0usize;
+    for len in 0..=size.saturating_add(1) {
+        let cut = bytes.get(..len).ok_or("as many bytes")?;
+        if !is_taken_right(alloc, cut, &new, old, size)? {
+            return failed(alloc, "the file isn't taken for what it is", len);
+        }
+        tried = tried.saturating_add(1);
+    }
+    Ok(tried)
+}
+
+/// A file has 4 bytes, a header of 2,158, and two slots: with slots of one byte 2,164 in all, and with slots of eight 2,178. So there are
+/// 2,166 lengths, and 2,180.
+#[test]
+fn cut_at_each_length(rt: HostRuntime) -> Result<(), Fail> {
+    let alloc = rt.alloc();
+    for old in [false, true] {
+        let small = each_length(alloc, 1, 2_164, old)?;
+        let tried = small.saturating_add(each_length(alloc, 8, 2_178, old)?);
+        expect_tried(alloc, tried, 2_166 + 2_180)?;
+    }
+    Ok(())
+}
+
+/// How many files a meter was opened from, and how many were refused.
+#[derive(Clone, Copy, Debug, PartialEq, Eq)]
+struct Count {
+    opened: usize,
+    bad_file: usize,
+    bad_header: usize,
+    bad_image: usize,
+}
+
+impl Count {
+    const NONE: Count = Count {
+        opened: 0,
+        bad_file: 0,
+        bad_header: 0,
+        bad_image: 0,
+    };
+
+    fn note(&mut self, outcome: Outcome) {
+        let number = match outcome {
+            Outcome::Opened => &mut self.opened,
+            Outcome::BadFile => &mut self.bad_file,
+            Outcome::BadHeader => &mut self.bad_header,
+            Outcome::BadImage => &mut self.bad_image,
+        };
+        *number = number.saturating_add(1);
+    }
+
+    fn all(&self) -> usize {
+        self.opened
+            .saturating_add(self.bad_file)
+            .saturating_add(self.bad_header)
+            .saturating_add(self.bad_image)
+    }
+}
+
+/// What comes of a file with one byte turned to each value.
+fn turned(alloc: Global, file: &[u8], at: usize, count: &mut Count) -> Result<(), Fail> {
+    for value in 0..=255u8 {
+        count.note(judged_with(alloc, file, at, value)?);
+    }
+    Ok(())
+}
+
+/// What comes of a file with this byte at this place.
+fn judged_with(alloc: Global, file: &[u8], at: usize, value: u8) -> Result<Outcome, Fail> {
+    let disk = Disk::with(alloc, file)?;
+    disk.set(at, value);
+    judged(alloc, &disk)
+}
+
+/// What comes of a file with one bit of a byte turned.
+fn bits_turned(alloc: Global, file: &[u8], at: usize, count: &mut Count) -> Result<(), Fail> {
+    let whole = *file.get(at).ok_or("a byte of the file")?;
+    for bit in 0..8u32 {
+        count.note(judged_with(alloc, file, at, whole ^ (1 << bit))?);
+    }
+    Ok(())
+}
+
+fn expect(alloc: Global, count: Count, want: Count) -> Result<(), Fail> {
+    expect_tried(alloc, count.all(), want.all())?;
+    if count != want {
+        let told = format!(in alloc; "{count:?} in place of {want:?}")?;
+        return Err(Fail::from(told));
+    }
+    Ok(())
+}
+
+/// Sets image_transfer_enabled to true; initiates `abc` of campaign 1 of head end 7; the second of its two blocks.
+const TO_RECEIVING: &[&str] = &[
+    "000100010001000fc101c1001200002c0000ff05000301",
+    "000100010001003fc301c1001200002c0000ff010102020929010000000700000001ba7816bf8f01cfea414140de5dae2223b00361a396177a9cb410ff61f20015ad0600000003",
+    "0001000100010017c301c1001200002c0000ff020102020600000001090163",
+];
+
+/// The file of a meter that runs `x` and receives `abc`, of which the second block is there, with eight bytes a slot.
+fn receiving(alloc: Global) -> Result<Vec<u8>, Fail> {
+    let disk = new_file(alloc, 8)?;
+    receive(alloc, &disk)?;
+    disk.bytes(alloc)
+}
+
+/// The meter in the file on a disk receives `abc`.
+fn receive(alloc: Global, disk: &Disk) -> Result<(), Fail> {
+    let mut meter = Kept(opened(DeviceStore::reopen_on(disk.open()?)?)?);
+    replies(alloc, &mut meter.0, TO_RECEIVING)?;
+    Ok(())
+}
+
+/// Of each of the 626 bytes that stand before the slots or are releases the value that it has opens the meter. Beside these a store can
+/// have: not enabled; a block size of 1; a goal of 4 to 8 bytes, which has a second block too; a goal in another campaign, whose two
+/// numbers are any except 0, with another digest, of any release, and with each other choice of its two marks. The image that runs isn't
+/// the name's in the other slot, with 2 to 8 bytes, or under another digest. With another capacity the file has another length than its
+/// store; with 776 bytes a slot it has that of one of version 1, as which it doesn't begin.
+#[test]
+fn each_byte_turned(rt: HostRuntime) -> Result<(), Fail> {
+    let alloc = rt.alloc();
+    let file = receiving(alloc)?;
+    let mut count = Count::NONE;
+    for at in (0..SLOTS_AT).chain(634..642) {
+        turned(alloc, &file, at, &mut count)?;
+    }
+    let want = Count {
+        opened: 626 + 1 + 1 + 5 + 2 * (3 * 255 + 254) + 32 * 255 + 4 * 255 + 3,
+        bad_file: 4 * 255 - 1,
+        bad_header: 626 * 256 - 11_854 - 1_019 - 8_168,
+        bad_image: 1 + 7 + 32 * 255,
+    };
+    expect(alloc, count, want)
+}
+
+/// The 1,536 bytes after the releases are marks of blocks that the goal hasn't.
+#[test]
+fn each_bit_of_the_further_marks_turned(rt: HostRuntime) -> Result<(), Fail> {
+    let alloc = rt.alloc();
+    let file = receiving(alloc)?;
+    let mut count = Count::NONE;
+    for at in 642..file.len() {
+        bits_turned(alloc, &file, at, &mut count)?;
+    }
+    let want = Count {
+        bad_header: 1_536 * 8,
+        ..Count::NONE
+    };
+    expect(alloc, count, want)
+}
+
+/// The same file with a header of version 1, as the first one here. With twelve bytes a slot it is one without releases.
+#[test]
+fn each_byte_of_an_old_file_turned(rt: HostRuntime) -> Result<(), Fail> {
+    let alloc = rt.alloc();
+    let mut file = receiving(alloc)?;
+    file.truncate(642);
+    make_old(&mut file);
+    let mut count = Count::NONE;
+    for at in (0..SLOTS_AT).chain(634..642) {
+        turned(alloc, &file, at, &mut count)?;
+    }
+    let want = Count {
+        opened: 626 + 1 + 1 + 5 + 2 * (3 * 255 + 254) + 32 * 255 + 4 * 255 + 3 + 1,
+        bad_file: 4 * 255 - 1,
+        bad_header: 626 * 256 - 11_855 - 1_019 - 8_168,
+        bad_image: 1 + 7 + 32 * 255,
+    };
+    expect(alloc, count, want)
+}
