@@ -1,6 +1,6 @@
 """The loads that the programs of bench/ measure, and how they are measured.
 
-A load is a line of `crates/test_calls/src/loads.rt`. The bytes in it are spelled here as docs/FORMATS.md says.
+A load is a line of `crates/test_both_ends/src/loads.rt`, whose test of the built program of tests does it. The bytes in it are spelled here as docs/FORMATS.md says.
 """
 
 import hashlib
@@ -10,8 +10,11 @@ import re
 import subprocess
 import sys
 
-CRATE = pathlib.Path(__file__).resolve().parent.parent / "crates" / "test_calls"
-PROGRAM = CRATE / "out" / "test_calls"
+CRATE = pathlib.Path(__file__).resolve().parent.parent / "crates" / "test_both_ends"
+PROGRAM = CRATE / "out" / "test_both_ends_tests"
+TEST = "loads::loads_of_standard_input"
+# What a test that passed prints after its own lines.
+PASSED = "\ntest result: ok\n"
 OBJECT = bytes.fromhex("001200002c0000ff")
 
 
@@ -62,10 +65,11 @@ def load(word, first, second, strings=()):
 
 
 def build():
-    """Proves and builds the program, where that was not done yet."""
-    with open(CRATE / "stdin") as stdin:
-        if subprocess.run(["rt", "run"], cwd=CRATE, stdin=stdin, capture_output=True).returncode != 0:
-            sys.exit("rt run of test_calls failed")
+    """Proves and builds the program of tests, and runs them, where that was not done yet."""
+    if PROGRAM.exists():
+        return
+    if subprocess.run(["rt", "test"], cwd=CRATE, stdin=subprocess.DEVNULL, capture_output=True).returncode != 0:
+        sys.exit("rt test of test_both_ends failed")
 
 
 # The C library copies and sets by one instruction from some 2,048 bytes on, where the processor has it, and callgrind counts that once a
@@ -76,8 +80,8 @@ COUNTED = "glibc.cpu.x86_rep_movsb_threshold=1073741824:glibc.cpu.x86_rep_stosb_
 def run(line, folder, tool=()):
     """Runs the program on a load in a folder, and gives the lines that it printed and its standard error."""
     env = {**os.environ, "GLIBC_TUNABLES": COUNTED} if tool else None
-    done = subprocess.run([*tool, PROGRAM], cwd=folder, env=env, input=line.encode(), capture_output=True, check=True)
-    return done.stdout.decode().splitlines(), done.stderr.decode()
+    done = subprocess.run([*tool, PROGRAM, TEST], cwd=folder, env=env, input=line.encode(), capture_output=True, check=True)
+    return done.stdout.decode().removesuffix(PASSED).splitlines(), done.stderr.decode()
 
 
 def instructions(line, folder):
