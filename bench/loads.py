@@ -65,8 +65,9 @@ def load(word, first, second, strings=()):
 
 
 def build():
-    """Proves and builds the program of tests, and runs them, where that was not done yet."""
-    if PROGRAM.exists():
+    """Proves and builds the program of tests, and runs them, where that was not done since a source changed."""
+    changed = max(source.stat().st_mtime for source in CRATE.parent.glob("*/src/**/*.rt"))
+    if PROGRAM.exists() and PROGRAM.stat().st_mtime > changed:
         return
     if subprocess.run(["rt", "test"], cwd=CRATE, stdin=subprocess.DEVNULL, capture_output=True).returncode != 0:
         sys.exit("rt test of test_both_ends failed")
