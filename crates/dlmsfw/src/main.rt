@@ -16,8 +16,9 @@ mod streams;
 use cause::{BookPlaces, CapturePlace, MeterPlaces};
 use clap::error::ErrorKind;
 use fw_cli::{
-    Ended, MeterFault, run_answer, run_answer_stored, run_head, run_live, run_meter, run_name,
-    run_rehearse, run_replay, run_status, run_trace,
+    AnswerOptions, Ended, HeadOptions, LiveOptions, MeterFault, MeterOptions, NameOptions,
+    RehearseOptions, ReplayOptions, StatusOptions, StoredOptions, run_answer, run_answer_stored,
+    run_head, run_live, run_meter, run_name, run_rehearse, run_replay, run_status, run_trace,
 };
 use fw_faults::Fault;
 use options::{CaptureOption, Invocation, TraceOptions};
@@ -60,6 +61,12 @@ enum Ending<'a> {
     NoText,
 }
 
+impl<'a> From<Fault> for Ending<'a> {
+    fn from(fault: Fault) -> Ending<'a> {
+        Ending::Fault(fault)
+    }
+}
+
 fn main(rt: HostRuntime) -> ExitCode {
     let _closed = streams::stand_ins(&rt);
     let words = match words(&rt) {
@@ -84,69 +91,180 @@ fn run<
     R: AllocGlobal + Files<File = File> + Clock + Input + Print + Threads + Wait + Net + Sync,
     E: Eprint + Sync,
 >(rt: &R, terminal: Option<&E>, words: &'a [String]) -> Result<(), Ending<'a>> {
-    let invocation = match options::parse(rt.alloc(), words) {
-        Ok(invocation) => invocation,
-        Err(error) => return Err(Ending::CommandLine(error)),
-    };
-    let alloc = rt.alloc();
+    match options::parse(rt.alloc(), words) {
+        Ok(invocation) => run_command(rt, terminal, invocation),
+        Err(error) => Err(Ending::CommandLine(error)),
+    }
+}
+
+/// Runs a command with its options.
+fn run_command<
+    'a,
+    R: AllocGlobal + Files<File = File> + Clock + Input + Print + Threads + Wait + Net + Sync,
+    E: Eprint + Sync,
+>(rt: &R, terminal: Option<&E>, invocation: Invocation<'a>) -> Result<(), Ending<'a>> {
+    match invocation {
+        Invocation::Answer(options) => answer(rt, options),
+        Invocation::StoredAnswer(options) => answer_stored(rt, options),
+        Invocation::Name(options) => name(rt, options),
+        Invocation::Replay(options, to) => replay(rt, terminal, options, to),
+        Invocation::Rehearse(options, to) => rehearse(rt, terminal, options, to),
+        Invocation::Live(options, to) => live(rt, terminal, options, to),
+        Invocation::Trace(options) => trace_to_output(rt, options),
+        Invocation::Meter(options) => meter(rt, options),
+        Invocation::Head(options) => head(rt, terminal, options),
+        Invocation::Status(options) => status(rt, options),
+    }
+}
+
+/// `answer` without a store.
+fn answer<'a, R: AllocGlobal + Input + Print>(
+    rt: &R,
+    options: AnswerOptions<'a>,
+) -> Result<(), Ending<'a>> {
     let reader = &mut rt.reader();
     let writer = &mut io::writer(rt);
-    let done = match invocation {
-        Invocation::Answer(options) => run_answer(alloc, reader, writer, &options),
-        Invocation::StoredAnswer(options) => {
-            run_answer_stored(rt, alloc, reader, writer, &options)
-        }
-        Invocation::Name(options) => run_name(alloc, reader, writer, &options),
-        Invocation::Replay(options, to) => {
-            let mut capture = created(rt, to)?;
-            return match run_replay(alloc, reader, writer, &mut capture, terminal, &options) {
-                Ok(Ended::Refused) => Err(Ending::Refused),
-                Ok(Ended::Whole) => Ok(()),
-                Err(fault) => Err(ending_of(fault, to)),
-            };
-        }
-        Invocation::Rehearse(options, to) => {
-            let mut capture = created(rt, to)?;
-            return run_rehearse(
-                rt,
-                alloc,
-                reader,
-                writer,
-                &mut capture,
-                terminal,
-                &options,
-            ).map_err(|fault| ending_of(fault, to));
-        }
-        Invocation::Live(options, to) => {
-            let mut capture = created(rt, to)?;
-            return run_live(rt, alloc, reader, writer, &mut capture, terminal, &options).map_err(
-                |fault| ending_of(fault, to),
-            );
-        }
-        Invocation::Trace(options) => trace(rt, alloc, reader, writer, &options),
-        Invocation::Meter(options) => {
-            let places = MeterPlaces::of(&options);
-            return match run_meter(rt, alloc, writer, options) {
-                Ok(()) => Ok(()),
-                Err(ended) => Err(Ending::Meter(ended, places)),
-            };
-        }
-        Invocation::Head(options) => {
-            return match run_head(rt, alloc, writer, terminal, &options) {
-                Ok(()) => Ok(()),
-                Err(fault) => Err(Ending::Book(fault, BookPlaces::of_head(&options))),
-            };
-        }
-        Invocation::Status(options) => {
-            return match run_status(rt, alloc, writer, &options) {
-                Ok(()) => Ok(()),
-                Err(fault) => Err(Ending::Book(fault, BookPlaces::of_status(&options))),
-            };
-        }
-    };
-    match done {
+    Ok(run_answer(rt.alloc(), reader, writer, &options)?)
+}
+
+/// `answer` over the store in a file.
+fn answer_stored<'a, R: AllocGlobal + Files<File = File> + Input + Print>(
+    rt: &R,
+    options: StoredOptions<'a>,
+) -> Result<(), Ending<'a>> {
+    let reader = &mut rt.reader();
+    let writer = &mut io::writer(rt);
+    Ok(run_answer_stored(rt, rt.alloc(), reader, writer, &options)?)
+}
+
+/// `name`.
+fn name<'a, R: AllocGlobal + Input + Print>(
+    rt: &R,
+    options: NameOptions,
+) -> Result<(), Ending<'a>> {
+    let reader = &mut rt.reader();
+    let writer = &mut io::writer(rt);
+    Ok(run_name(rt.alloc(), reader, writer, &options)?)
+}
+
+/// `replay`, whose run may have a capture.
+fn replay<'a, R: AllocGlobal + Files<File = File> + Input + Print, E: Eprint>(
+    rt: &R,
+    terminal: Option<&E>,
+    options: ReplayOptions<'a>,
+    to: CaptureOption<'a>,
+) -> Result<(), Ending<'a>> {
+    let mut capture = created(rt, to)?;
+    let reader = &mut rt.reader();
+    let writer = &mut io::writer(rt);
+    match run_replay(rt.alloc(), reader, writer, &mut capture, terminal, &options) {
+        Ok(Ended::Refused) => Err(Ending::Refused),
+        Ok(Ended::Whole) => Ok(()),
+        Err(fault) => Err(ending_of(fault, to)),
+    }
+}
+
+/// `rehearse`, whose run may have a capture.
+fn rehearse<
+    'a,
+    R: AllocGlobal + Files<File = File> + Input + Print + Threads + Wait + Sync,
+    E: Eprint + Sync,
+>(
+    rt: &R,
+    terminal: Option<&E>,
+    options: RehearseOptions<'a>,
+    to: CaptureOption<'a>,
+) -> Result<(), Ending<'a>> {
+    let mut capture = created(rt, to)?;
+    let reader = &mut rt.reader();
+    let writer = &mut io::writer(rt);
+    match run_rehearse(
+        rt,
+        rt.alloc(),
+        reader,
+        writer,
+        &mut capture,
+        terminal,
+        &options,
+    ) {
         Ok(()) => Ok(()),
-        Err(fault) => Err(Ending::Fault(fault)),
+        Err(fault) => Err(ending_of(fault, to)),
+    }
+}
+
+/// `live`, whose run may have a capture.
+fn live<
+    'a,
+    R: AllocGlobal + Files<File = File> + Input + Print + Threads + Wait + Net + Sync,
+    E: Eprint + Sync,
+>(
+    rt: &R,
+    terminal: Option<&E>,
+    options: LiveOptions,
+    to: CaptureOption<'a>,
+) -> Result<(), Ending<'a>> {
+    let mut capture = created(rt, to)?;
+    let reader = &mut rt.reader();
+    let writer = &mut io::writer(rt);
+    match run_live(
+        rt,
+        rt.alloc(),
+        reader,
+        writer,
+        &mut capture,
+        terminal,
+        &options,
+    ) {
+        Ok(()) => Ok(()),
+        Err(fault) => Err(ending_of(fault, to)),
+    }
+}
+
+/// `trace`.
+fn trace_to_output<'a, R: AllocGlobal + Files<File = File> + Input + Print>(
+    rt: &R,
+    options: TraceOptions<'a>,
+) -> Result<(), Ending<'a>> {
+    let reader = &mut rt.reader();
+    let writer = &mut io::writer(rt);
+    Ok(trace(rt, rt.alloc(), reader, writer, &options)?)
+}
+
+/// `meter`, until it is ended.
+fn meter<'a, R: AllocGlobal + Files<File = File> + Clock + Print + Net + Wait>(
+    rt: &R,
+    options: MeterOptions<'a>,
+) -> Result<(), Ending<'a>> {
+    let places = MeterPlaces::of(&options);
+    let writer = &mut io::writer(rt);
+    match run_meter(rt, rt.alloc(), writer, options) {
+        Ok(()) => Ok(()),
+        Err(ended) => Err(Ending::Meter(ended, places)),
+    }
+}
+
+/// `head`, until no row is live.
+fn head<'a, R: AllocGlobal + Files<File = File> + Clock + Print + Net + Wait, E: Eprint>(
+    rt: &R,
+    terminal: Option<&E>,
+    options: HeadOptions<'a>,
+) -> Result<(), Ending<'a>> {
+    let writer = &mut io::writer(rt);
+    match run_head(rt, rt.alloc(), writer, terminal, &options) {
+        Ok(()) => Ok(()),
+        Err(fault) => Err(Ending::Book(fault, BookPlaces::of_head(&options))),
+    }
+}
+
+/// `status`.
+fn status<'a, R: AllocGlobal + Files<File = File> + Print>(
+    rt: &R,
+    options: StatusOptions<'a>,
+) -> Result<(), Ending<'a>> {
+    let writer = &mut io::writer(rt);
+    match run_status(rt, rt.alloc(), writer, &options) {
+        Ok(()) => Ok(()),
+        Err(fault) => Err(Ending::Book(fault, BookPlaces::of_status(&options))),
     }
 }
 
