@@ -43,7 +43,7 @@ pub spells : (letters : List ℕ) → 1 ≤ length letters → length letters �
 spells letters some few all =
     let found = fates_for letters all in
     let size : length found.0 ≡ length letters = sym (length-map found.0 letter_of) ∙ ap (λ (l : List ℕ). length l) found.1 in
-    (found.0, record { spelled = found.1; is_fates = record { some = omega (arith, size, some); few = omega (arith, size, few) } })
+    (found.0, record { spelled = found.1; is_fates = record { some = omega (arith, size, some); most = omega (arith, size, few) } })
 
 pub size_of : (letters : List ℕ) → SpellsSome letters → (1 ≤ length letters) × (length letters ≤ max_fates)
 size_of letters spelled =
