@@ -112,7 +112,7 @@ fn run_command<
         Invocation::Live(options, to) => live(rt, terminal, options, to),
         Invocation::Trace(options) => trace_to_output(rt, options),
         Invocation::Meter(options) => meter(rt, options),
-        Invocation::Head(options) => head(rt, terminal, options),
+        Invocation::Head(options) => head(rt, terminal, &options),
         Invocation::Status(options) => status(rt, options),
     }
 }
@@ -247,12 +247,12 @@ fn meter<'a, R: AllocGlobal + Files<File = File> + Clock + Print + Net + Wait>(
 fn head<'a, R: AllocGlobal + Files<File = File> + Clock + Print + Net + Wait, E: Eprint>(
     rt: &R,
     terminal: Option<&E>,
-    options: HeadOptions<'a>,
+    options: &HeadOptions<'a>,
 ) -> Result<(), Ending<'a>> {
     let writer = &mut io::writer(rt);
-    match run_head(rt, rt.alloc(), writer, terminal, &options) {
+    match run_head(rt, rt.alloc(), writer, terminal, options) {
         Ok(()) => Ok(()),
-        Err(fault) => Err(Ending::Book(fault, BookPlaces::of_head(&options))),
+        Err(fault) => Err(Ending::Book(fault, BookPlaces::of_head(options))),
     }
 }
 
