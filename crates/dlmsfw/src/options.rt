@@ -3,6 +3,7 @@
 mod answer;
 mod head;
 mod live;
+mod manual;
 mod meter;
 mod name;
 mod rehearse;
@@ -11,11 +12,12 @@ mod status;
 mod trace;
 
 use clap::error::ErrorKind;
-use clap::{Arg, ArgAction, ArgMatches, Command, Error};
+use clap::{ArgMatches, Command, Error};
 use fw_cli::{
     AnswerOptions, HeadOptions, LiveOptions, MeterOptions, NameOptions, RehearseOptions,
     ReplayOptions, StatusOptions, StoredOptions,
 };
+use manual::{CommandOption, Presence, Takes};
 use std::alloc::{AllocError, AllocFailed, Global};
 use std::net::SocketAddr;
 pub(crate) use trace::TraceOptions;
@@ -150,32 +152,29 @@ fn dlmsfw<'a>(alloc: Global) -> Result<Command<'a>, AllocError> {
         .subcommand(trace::command(alloc)?)
 }
 
-/// An option with a value.
-fn option<'a>(alloc: Global, name: &'a str, value_name: &'a str) -> Arg<'a> {
-    Arg::new(alloc, name).long(name).value_name(value_name)
-}
-
 /// The option that asks for a trace.
-fn trace_flag<'a>(alloc: Global) -> Arg<'a> {
-    Arg::new(alloc, "trace")
-        .long("trace")
-        .action(ArgAction::SetTrue)
-        .help("Tells each datagram that was sent before the report, in a line")
-}
+const TRACE: CommandOption = CommandOption {
+    name: "trace",
+    takes: Takes::Nothing,
+    presence: Presence::Optional,
+    help: "Tells each datagram that was sent before the report, in a line",
+};
 
 /// The option that asks for a capture.
-fn capture_file<'a>(alloc: Global) -> Arg<'a> {
-    option(alloc, "capture", "FILE").help(
-        "The file that gets the capture of what was sent, made or replaced",
-    )
-}
+const CAPTURE: CommandOption = CommandOption {
+    name: "capture",
+    takes: Takes::Text("FILE"),
+    presence: Presence::Optional,
+    help: "The file that gets the capture of what was sent, made or replaced",
+};
 
 /// The option that asks for a capture of a daemon.
-fn daemon_capture<'a>(alloc: Global) -> Arg<'a> {
-    option(alloc, "capture", "CAPTURE").help(
-        "The file that what is received and sent is appended to as a capture",
-    )
-}
+const DAEMON_CAPTURE: CommandOption = CommandOption {
+    name: "capture",
+    takes: Takes::Text("CAPTURE"),
+    presence: Presence::Optional,
+    help: "The file that what is received and sent is appended to as a capture",
+};
 
 /// Where the capture of a run goes.
 fn capture_of<'a>(given: &ArgMatches<'a>) -> CaptureOption<'a> {

@@ -1,6 +1,7 @@
 //! The command `answer`, and its help.
 
-use super::{Invocation, STATUSES, option};
+use super::manual::{CommandOption, Manual, Presence, Takes};
+use super::{Invocation, manual};
 use clap::{ArgMatches, Command};
 use fw_cli::{AnswerOptions, StoredOptions};
 use std::alloc::{AllocError, Global};
@@ -60,33 +61,43 @@ Exit status:
      write of its header failed.
   2  a wrong command line: standard error says what is wrong";
 
-/// The command.
+/// The command and its options.
+const MANUAL: &Manual = &Manual {
+    name: "answer",
+    about: "Answers datagrams, one a line",
+    long_about: ABOUT,
+    endings: ENDINGS,
+    options: &[
+        CommandOption {
+            name: "block-size",
+            takes: Takes::Number("BYTES"),
+            presence: Presence::Default("2"),
+            help: "Bytes per block of an image transfer, 1 to 1024",
+        },
+        CommandOption {
+            name: "capacity",
+            takes: Takes::Number("BYTES"),
+            presence: Presence::Default("64"),
+            help: "Bytes of the longest image, 1 to 16777216, in at most 16384 blocks",
+        },
+        CommandOption {
+            name: "factory",
+            takes: Takes::Text("HEX"),
+            presence: Presence::Default("616263"),
+            help: "The image that the meter runs, in hexadecimal, 1 byte to the capacity",
+        },
+        CommandOption {
+            name: "store",
+            takes: Takes::Text("FILE"),
+            presence: Presence::Optional,
+            help: "The file that has the meter, made with the other options where it isn't there",
+        },
+    ],
+};
+
+/// The parser of the command.
 pub(super) fn command<'a>(alloc: Global) -> Result<Command<'a>, AllocError> {
-    Command::new(alloc, "answer")
-        .about("Answers datagrams, one a line")
-        .long_about(ABOUT)
-        .after_help(STATUSES)
-        .after_long_help(ENDINGS)
-        .arg(
-            option(alloc, "block-size", "BYTES")
-                .default_value("2")
-                .help("Bytes per block of an image transfer, 1 to 1024")
-                .value_parser(clap::value_parser!(u64)),
-        )?
-        .arg(
-            option(alloc, "capacity", "BYTES")
-                .default_value("64")
-                .help("Bytes of the longest image, 1 to 16777216, in at most 16384 blocks")
-                .value_parser(clap::value_parser!(u64)),
-        )?
-        .arg(
-            option(alloc, "factory", "HEX").default_value("616263").help(
-                "The image that the meter runs, in hexadecimal, 1 byte to the capacity",
-            ),
-        )?
-        .arg(option(alloc, "store", "FILE").help(
-            "The file that has the meter, made with the other options where it isn't there",
-        ))
+    manual::command(alloc, MANUAL)
 }
 
 /// The command with the options that were given. All except the file have a default.

@@ -1,7 +1,8 @@
 //! The command `head`, and its help.
 
-use super::{Invocation, STATUSES, WrongValue, address, daemon_capture, option};
-use clap::{ArgAction, ArgMatches, Command};
+use super::manual::{CommandOption, Manual, Presence, Takes};
+use super::{DAEMON_CAPTURE, Invocation, WrongValue, address, manual};
+use clap::{ArgMatches, Command};
 use fw_blocks::Width;
 use fw_cli::HeadOptions;
 use fw_host::{BookOptions, Opening};
@@ -98,102 +99,98 @@ Exit status:
      Of a row whose end the disk doesn't have nothing was printed.
   2  a wrong command line: standard error says what is wrong";
 
-/// The command.
+/// The command and its options.
+const MANUAL: &Manual = &Manual {
+    name: "head",
+    about: "Runs a head end that leads meters over UDP to the images that they are offered",
+    long_about: ABOUT,
+    endings: ENDINGS,
+    options: &[
+        CommandOption {
+            name: "head",
+            takes: Takes::Within("N", 1, u32::MAX),
+            presence: Presence::Required,
+            help: "The number of the head end, 1 to 4294967295",
+        },
+        CommandOption {
+            name: "book",
+            takes: Takes::Text("FILE"),
+            presence: Presence::Required,
+            help: "The file that has its book",
+        },
+        CommandOption {
+            name: "new",
+            takes: Takes::Nothing,
+            presence: Presence::Optional,
+            help: "Makes the book, where no file is there",
+        },
+        CommandOption {
+            name: "meters",
+            takes: Takes::Text("LIST"),
+            presence: Presence::Required,
+            help: "The file that has the meters, a line NUMBER,ADDR:PORT for each",
+        },
+        CommandOption {
+            name: "listen",
+            takes: Takes::Text("ADDR:PORT"),
+            presence: Presence::Required,
+            help: "The address that datagrams are sent from and received at",
+        },
+        CommandOption {
+            name: "width",
+            takes: Takes::Within("W", 1, 15),
+            presence: Presence::Default("4"),
+            help: "How many blocks are sent to a meter at a time, 1 to 15",
+        },
+        CommandOption {
+            name: "flight",
+            takes: Takes::Within("N", 1, 65_536),
+            presence: Presence::Default("256"),
+            help: "How many datagrams are out at once, 1 to 65536",
+        },
+        CommandOption {
+            name: "resend",
+            takes: Takes::Within("MS", 1, 60_000),
+            presence: Presence::Default("200"),
+            help: "How long the first answer of a meter is waited for, in milliseconds, 1 to 60000",
+        },
+        CommandOption {
+            name: "stay",
+            takes: Takes::Nothing,
+            presence: Presence::Optional,
+            help: "Goes on where no row is live",
+        },
+        DAEMON_CAPTURE,
+        CommandOption {
+            name: "open",
+            takes: Takes::Within("SERIAL", 1, u32::MAX),
+            presence: Presence::With("image"),
+            help: "Opens campaigns for all meters, with serial numbers from this one on, 1 to 4294967295",
+        },
+        CommandOption {
+            name: "release",
+            takes: Takes::Within("R", 0, u32::MAX),
+            presence: Presence::Default("0"),
+            help: "The release of the image, 0 to 4294967295; 0 is none",
+        },
+        CommandOption {
+            name: "image",
+            takes: Takes::Text("FILE"),
+            presence: Presence::With("open"),
+            help: "The file whose bytes are the image",
+        },
+        CommandOption {
+            name: "cancel",
+            takes: Takes::Within("SERIAL", 1, u32::MAX),
+            presence: Presence::Optional,
+            help: "Cancels the live rows of this campaign first",
+        },
+    ],
+};
+
+/// The parser of the command.
 pub(super) fn command<'a>(alloc: Global) -> Result<Command<'a>, AllocError> {
-    let command = Command::new(alloc, "head")
-        .about("Runs a head end that leads meters over UDP to the images that they are offered")
-        .long_about(ABOUT)
-        .after_help(STATUSES)
-        .after_long_help(ENDINGS)
-        .arg(
-            option(alloc, "head", "N")
-                .required(true)
-                .help("The number of the head end, 1 to 4294967295")
-                .value_parser(clap::value_parser!(u32).range(1..)),
-        )?
-        .arg(
-            option(alloc, "book", "FILE")
-                .required(true)
-                .help("The file that has its book"),
-        )?
-        .arg(
-            clap::Arg::new(alloc, "new")
-                .long("new")
-                .action(ArgAction::SetTrue)
-                .help("Makes the book, where no file is there"),
-        )?
-        .arg(
-            option(alloc, "meters", "LIST").required(true).help(
-                "The file that has the meters, a line NUMBER,ADDR:PORT for each",
-            ),
-        )?
-        .arg(
-            option(alloc, "listen", "ADDR:PORT")
-                .required(true)
-                .help("The address that datagrams are sent from and received at"),
-        )?;
-    with_campaigns(alloc, with_times(alloc, command)?)
-}
-
-/// The command with the options that say what is opened and cancelled.
-fn with_campaigns<'a>(alloc: Global, command: Command<'a>) -> Result<Command<'a>, AllocError> {
-    command
-        .arg(
-            option(alloc, "open", "SERIAL")
-                .requires_arg("image")?
-                .help(
-                    "Opens campaigns for all meters, with serial numbers from this one on, 1 to 4294967295",
-                )
-                .value_parser(clap::value_parser!(u32).range(1..)),
-        )?
-        .arg(
-            option(alloc, "release", "R")
-                .default_value("0")
-                .help("The release of the image, 0 to 4294967295; 0 is none")
-                .value_parser(clap::value_parser!(u32)),
-        )?
-        .arg(
-            option(alloc, "image", "FILE")
-                .requires_arg("open")?
-                .help("The file whose bytes are the image"),
-        )?
-        .arg(
-            option(alloc, "cancel", "SERIAL")
-                .help("Cancels the live rows of this campaign first")
-                .value_parser(clap::value_parser!(u32).range(1..)),
-        )
-}
-
-/// The command with the options that say how meters are asked.
-fn with_times<'a>(alloc: Global, command: Command<'a>) -> Result<Command<'a>, AllocError> {
-    command
-        .arg(
-            option(alloc, "width", "W")
-                .default_value("4")
-                .help("How many blocks are sent to a meter at a time, 1 to 15")
-                .value_parser(clap::value_parser!(u8).range(1..=15)),
-        )?
-        .arg(
-            option(alloc, "flight", "N")
-                .default_value("256")
-                .help("How many datagrams are out at once, 1 to 65536")
-                .value_parser(clap::value_parser!(u32).range(1..=65_536)),
-        )?
-        .arg(
-            option(alloc, "resend", "MS")
-                .default_value("200")
-                .help(
-                    "How long the first answer of a meter is waited for, in milliseconds, 1 to 60000",
-                )
-                .value_parser(clap::value_parser!(u32).range(1..=60_000)),
-        )?
-        .arg(
-            clap::Arg::new(alloc, "stay")
-                .long("stay")
-                .action(ArgAction::SetTrue)
-                .help("Goes on where no row is live"),
-        )?
-        .arg(daemon_capture(alloc))
+    manual::command(alloc, MANUAL)
 }
 
 /// The command with the options that were given. The parser lets only those numbers pass that a head end, a campaign or a width can have, and

@@ -1,6 +1,7 @@
 //! The command `live`, and its help.
 
-use super::{STATUSES, capture_file, option, trace_flag};
+use super::manual::{CommandOption, Manual, Presence, Takes};
+use super::{CAPTURE, TRACE, manual};
 use clap::{ArgMatches, Command};
 use fw_cli::LiveOptions;
 use std::alloc::{AllocError, Global};
@@ -60,29 +61,33 @@ Exit status:
      Except at Output, nothing was written to standard output.
   2  a wrong command line: standard error says what is wrong";
 
-/// The command.
+/// The command and its options.
+const MANUAL: &Manual = &Manual {
+    name: "live",
+    about: "Runs a script with several workers over UDP sockets, and tells how each campaign ended",
+    long_about: ABOUT,
+    endings: ENDINGS,
+    options: &[
+        CommandOption {
+            name: "rounds",
+            takes: Takes::Within("R", 1, 100_000),
+            presence: Presence::Required,
+            help: "How many rounds of each link follow, 1 to 100000",
+        },
+        CommandOption {
+            name: "workers",
+            takes: Takes::Within("W", 1, 8),
+            presence: Presence::Required,
+            help: "How many workers make them, 1 to 8",
+        },
+        TRACE,
+        CAPTURE,
+    ],
+};
+
+/// The parser of the command.
 pub(super) fn command<'a>(alloc: Global) -> Result<Command<'a>, AllocError> {
-    Command::new(alloc, "live")
-        .about(
-            "Runs a script with several workers over UDP sockets, and tells how each campaign ended",
-        )
-        .long_about(ABOUT)
-        .after_help(STATUSES)
-        .after_long_help(ENDINGS)
-        .arg(
-            option(alloc, "rounds", "R")
-                .required(true)
-                .help("How many rounds of each link follow, 1 to 100000")
-                .value_parser(clap::value_parser!(u32).range(1..=100_000)),
-        )?
-        .arg(
-            option(alloc, "workers", "W")
-                .required(true)
-                .help("How many workers make them, 1 to 8")
-                .value_parser(clap::value_parser!(u32).range(1..=8)),
-        )?
-        .arg(trace_flag(alloc))?
-        .arg(capture_file(alloc))
+    manual::command(alloc, MANUAL)
 }
 
 /// The options that were given. The parser lets none of them lack.

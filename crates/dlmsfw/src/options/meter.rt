@@ -1,7 +1,8 @@
 //! The command `meter`, and its help.
 
-use super::{Invocation, STATUSES, WrongValue, address, daemon_capture, option};
-use clap::{ArgAction, ArgMatches, Command};
+use super::manual::{CommandOption, Manual, Presence, Takes};
+use super::{DAEMON_CAPTURE, Invocation, WrongValue, address, manual};
+use clap::{ArgMatches, Command};
 use fw_cli::MeterOptions;
 use fw_host::NewMeter;
 use std::alloc::{AllocError, Global};
@@ -91,49 +92,62 @@ Exit status:
      Except at a Socket or a CaptureFault that came later nothing was answered.
   2  a wrong command line: standard error says what is wrong";
 
-/// The command.
+/// The command and its options.
+const MANUAL: &Manual = &Manual {
+    name: "meter",
+    about: "Runs a meter that answers datagrams over UDP until it is ended",
+    long_about: ABOUT,
+    endings: ENDINGS,
+    options: &[
+        CommandOption {
+            name: "listen",
+            takes: Takes::Text("ADDR:PORT"),
+            presence: Presence::Required,
+            help: "The address that datagrams are received at",
+        },
+        CommandOption {
+            name: "store",
+            takes: Takes::Text("FILE"),
+            presence: Presence::Required,
+            help: "The file that has the meter, made where it isn't there",
+        },
+        CommandOption {
+            name: "head",
+            takes: Takes::Texts("ADDR:PORT"),
+            presence: Presence::Optional,
+            help: "An address that may ask, once for each; without it any may",
+        },
+        CommandOption {
+            name: "block-size",
+            takes: Takes::Within("BYTES", 1, 1_024),
+            presence: Presence::Default("1024"),
+            help: "Bytes per block of an image transfer, 1 to 1024, of a new meter",
+        },
+        CommandOption {
+            name: "capacity",
+            takes: Takes::Within("BYTES", 1, 16_777_216),
+            presence: Presence::Default("1048576"),
+            help: "Bytes of its longest image, 1 to 16777216, in at most 16384 blocks",
+        },
+        CommandOption {
+            name: "factory-file",
+            takes: Takes::Text("FILE"),
+            presence: Presence::Optional,
+            help: "The file whose bytes are the image that it runs, 1 byte to the capacity; without it `abc`",
+        },
+        CommandOption {
+            name: "count",
+            takes: Takes::Within("N", 1, 4_096),
+            presence: Presence::Optional,
+            help: "Runs meters 1 to N, 4096 at most, at ports from PORT on",
+        },
+        DAEMON_CAPTURE,
+    ],
+};
+
+/// The parser of the command.
 pub(super) fn command<'a>(alloc: Global) -> Result<Command<'a>, AllocError> {
-    Command::new(alloc, "meter")
-        .about("Runs a meter that answers datagrams over UDP until it is ended")
-        .long_about(ABOUT)
-        .after_help(STATUSES)
-        .after_long_help(ENDINGS)
-        .arg(
-            option(alloc, "listen", "ADDR:PORT")
-                .required(true)
-                .help("The address that datagrams are received at"),
-        )?
-        .arg(
-            option(alloc, "store", "FILE")
-                .required(true)
-                .help("The file that has the meter, made where it isn't there"),
-        )?
-        .arg(
-            option(alloc, "head", "ADDR:PORT")
-                .action(ArgAction::Append)
-                .help("An address that may ask, once for each; without it any may"),
-        )?
-        .arg(
-            option(alloc, "block-size", "BYTES")
-                .default_value("1024")
-                .help("Bytes per block of an image transfer, 1 to 1024, of a new meter")
-                .value_parser(clap::value_parser!(u32).range(1..=1024)),
-        )?
-        .arg(
-            option(alloc, "capacity", "BYTES")
-                .default_value("1048576")
-                .help("Bytes of its longest image, 1 to 16777216, in at most 16384 blocks")
-                .value_parser(clap::value_parser!(u32).range(1..=16_777_216)),
-        )?
-        .arg(option(alloc, "factory-file", "FILE").help(
-            "The file whose bytes are the image that it runs, 1 byte to the capacity; without it `abc`",
-        ))?
-        .arg(
-            option(alloc, "count", "N")
-                .help("Runs meters 1 to N, 4096 at most, at ports from PORT on")
-                .value_parser(clap::value_parser!(u32).range(1..=4096)),
-        )?
-        .arg(daemon_capture(alloc))
+    manual::command(alloc, MANUAL)
 }
 
 /// The command with the options that were given. The parser lets none of the others lack.

@@ -1,6 +1,7 @@
 //! The command `name`, and its help.
 
-use super::{Invocation, STATUSES, option};
+use super::manual::{CommandOption, Manual, Presence, Takes};
+use super::{Invocation, manual};
 use clap::{ArgMatches, Command};
 use fw_cli::NameOptions;
 use fw_names::{CampaignId, HeadId};
@@ -38,31 +39,37 @@ Exit status:
        OutOfMemory   the system gives no more memory; nothing was written
   2  a wrong command line: standard error says what is wrong";
 
-/// The command.
+/// The command and its options.
+const MANUAL: &Manual = &Manual {
+    name: "name",
+    about: "Prints the name under which a campaign offers an image",
+    long_about: ABOUT,
+    endings: ENDINGS,
+    options: &[
+        CommandOption {
+            name: "head",
+            takes: Takes::Within("H", 1, u32::MAX),
+            presence: Presence::Required,
+            help: "The number of the head end, 1 to 4294967295",
+        },
+        CommandOption {
+            name: "serial",
+            takes: Takes::Within("S", 1, u32::MAX),
+            presence: Presence::Required,
+            help: "The serial number of its campaign, 1 to 4294967295",
+        },
+        CommandOption {
+            name: "release",
+            takes: Takes::Within("N", 0, u32::MAX),
+            presence: Presence::Default("0"),
+            help: "The release of the image, 0 to 4294967295; 0 is none",
+        },
+    ],
+};
+
+/// The parser of the command.
 pub(super) fn command<'a>(alloc: Global) -> Result<Command<'a>, AllocError> {
-    Command::new(alloc, "name")
-        .about("Prints the name under which a campaign offers an image")
-        .long_about(ABOUT)
-        .after_help(STATUSES)
-        .after_long_help(ENDINGS)
-        .arg(
-            option(alloc, "head", "H")
-                .required(true)
-                .help("The number of the head end, 1 to 4294967295")
-                .value_parser(clap::value_parser!(u32).range(1..)),
-        )?
-        .arg(
-            option(alloc, "serial", "S")
-                .required(true)
-                .help("The serial number of its campaign, 1 to 4294967295")
-                .value_parser(clap::value_parser!(u32).range(1..)),
-        )?
-        .arg(
-            option(alloc, "release", "N")
-                .default_value("0")
-                .help("The release of the image, 0 to 4294967295; 0 is none")
-                .value_parser(clap::value_parser!(u32)),
-        )
+    manual::command(alloc, MANUAL)
 }
 
 /// The command with the options that were given. The parser lets only those numbers pass that a head end, a campaign or a release can

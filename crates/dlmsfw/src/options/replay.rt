@@ -1,6 +1,7 @@
 //! The command `replay`, and its help.
 
-use super::{STATUSES, capture_file, option, trace_flag};
+use super::manual::{CommandOption, Manual, Presence, Takes};
+use super::{CAPTURE, TRACE, manual};
 use clap::{ArgMatches, Command};
 use fw_cli::{ReplayOptions, Rounds};
 use fw_report::{ReportForm, Style};
@@ -136,32 +137,39 @@ Exit status:
        OutOfMemory   the system gives no more memory; nothing was written
   2  a wrong command line: standard error says what is wrong";
 
-/// The command.
+/// The command and its options.
+const MANUAL: &Manual = &Manual {
+    name: "replay",
+    about: "Replays a script of head ends and meters, and tells how each campaign ended",
+    long_about: ABOUT,
+    endings: ENDINGS,
+    options: &[
+        CommandOption {
+            name: "rounds",
+            takes: Takes::Within("R", 1, 100_000),
+            presence: Presence::With("fates"),
+            help: "How many rounds of each link follow, 1 to 100000",
+        },
+        CommandOption {
+            name: "fates",
+            takes: Takes::Text("F"),
+            presence: Presence::With("rounds"),
+            help: "The fates of datagrams: d it comes, x it is lost, t it comes twice, l it comes a round late",
+        },
+        TRACE,
+        CAPTURE,
+        CommandOption {
+            name: "report",
+            takes: Takes::OneOf("FORM", FORMS),
+            presence: Presence::Default(LINES),
+            help: "The form of the report",
+        },
+    ],
+};
+
+/// The parser of the command.
 pub(super) fn command<'a>(alloc: Global) -> Result<Command<'a>, AllocError> {
-    Command::new(alloc, "replay")
-        .about("Replays a script of head ends and meters, and tells how each campaign ended")
-        .long_about(ABOUT)
-        .after_help(STATUSES)
-        .after_long_help(ENDINGS)
-        .arg(
-            option(alloc, "rounds", "R")
-                .requires_arg("fates")?
-                .help("How many rounds of each link follow, 1 to 100000")
-                .value_parser(clap::value_parser!(u32).range(1..=100_000)),
-        )?
-        .arg(
-            option(alloc, "fates", "F").requires_arg("rounds")?.help(
-                "The fates of datagrams: d it comes, x it is lost, t it comes twice, l it comes a round late",
-            ),
-        )?
-        .arg(trace_flag(alloc))?
-        .arg(capture_file(alloc))?
-        .arg(
-            option(alloc, "report", "FORM")
-                .default_value(LINES)
-                .help("The form of the report")
-                .value_parser(FORMS),
-        )
+    manual::command(alloc, MANUAL)
 }
 
 /// The options that were given. The parser lets neither pass without the other.

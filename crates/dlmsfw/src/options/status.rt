@@ -1,6 +1,7 @@
 //! The command `status`, and its help.
 
-use super::{Invocation, STATUSES, option};
+use super::manual::{CommandOption, Manual, Presence, Takes};
+use super::{Invocation, manual};
 use clap::{ArgMatches, Command};
 use fw_cli::{StatusForm, StatusOptions};
 use std::alloc::{AllocError, Global};
@@ -40,24 +41,31 @@ Exit status:
      Except at Output, nothing was written.
   2  a wrong command line: standard error says what is wrong";
 
-/// The command.
+/// The command and its options.
+const MANUAL: &Manual = &Manual {
+    name: "status",
+    about: "Tells how far the rows of a head end's book are",
+    long_about: ABOUT,
+    endings: ENDINGS,
+    options: &[
+        CommandOption {
+            name: "book",
+            takes: Takes::Text("FILE"),
+            presence: Presence::Required,
+            help: "The file that has the book",
+        },
+        CommandOption {
+            name: "report",
+            takes: Takes::OneOf("FORM", FORMS),
+            presence: Presence::Default(TABLE),
+            help: "The form of the report",
+        },
+    ],
+};
+
+/// The parser of the command.
 pub(super) fn command<'a>(alloc: Global) -> Result<Command<'a>, AllocError> {
-    Command::new(alloc, "status")
-        .about("Tells how far the rows of a head end's book are")
-        .long_about(ABOUT)
-        .after_help(STATUSES)
-        .after_long_help(ENDINGS)
-        .arg(
-            option(alloc, "book", "FILE")
-                .required(true)
-                .help("The file that has the book"),
-        )?
-        .arg(
-            option(alloc, "report", "FORM")
-                .default_value(TABLE)
-                .help("The form of the report")
-                .value_parser(FORMS),
-        )
+    manual::command(alloc, MANUAL)
 }
 
 /// The command with the options that were given.

@@ -1,7 +1,8 @@
 //! The command `trace`, and its help.
 
-use super::STATUSES;
-use clap::{Arg, ArgMatches, Command};
+use super::manual;
+use super::manual::{CommandOption, Manual, Presence, Takes};
+use clap::{ArgMatches, Command};
 use std::alloc::{AllocError, Global};
 
 /// What the long help begins with.
@@ -40,18 +41,23 @@ Exit status:
      BadIpVersion, ShortIp, BadIpHeader, BadIpLength or BadUdpLength.
   2  a wrong command line: standard error says what is wrong";
 
-/// The command.
+/// The command and its options.
+const MANUAL: &Manual = &Manual {
+    name: "trace",
+    about: "Tells what the datagrams of a capture say",
+    long_about: ABOUT,
+    endings: ENDINGS,
+    options: &[CommandOption {
+        name: "capture",
+        takes: Takes::Argument("CAPTURE"),
+        presence: Presence::Optional,
+        help: "The file that has the capture; standard input if left out",
+    }],
+};
+
+/// The parser of the command.
 pub(super) fn command<'a>(alloc: Global) -> Result<Command<'a>, AllocError> {
-    Command::new(alloc, "trace")
-        .about("Tells what the datagrams of a capture say")
-        .long_about(ABOUT)
-        .after_help(STATUSES)
-        .after_long_help(ENDINGS)
-        .arg(
-            Arg::new(alloc, "capture").value_name("CAPTURE").help(
-                "The file that has the capture; standard input if left out",
-            ),
-        )
+    manual::command(alloc, MANUAL)
 }
 
 /// The options of the command.

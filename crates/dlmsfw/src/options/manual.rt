@@ -1,0 +1,117 @@
+//! What a command and its options are, and the parser of them.
+
+use super::STATUSES;
+use clap::{Arg, ArgAction, Command};
+use std::alloc::{AllocError, Global};
+
+/// A command, its help and its options.
+pub(super) struct Manual {
+    pub(super) name: &'static str,
+    /// What it does, in a line.
+    pub(super) about: &'static str,
+    /// What the long help begins with.
+    pub(super) long_about: &'static str,
+    /// What the long help ends with.
+    pub(super) endings: &'static str,
+    pub(super) options: &'static [CommandOption],
+}
+
+/// An option of a command.
+pub(super) struct CommandOption {
+    pub(super) name: &'static str,
+    pub(super) takes: Takes,
+    pub(super) presence: Presence,
+    pub(super) help: &'static str,
+}
+
+/// What an option takes. A value has a name in the help.
+pub(super) enum Takes {
+    /// Nothing.
+    Nothing,
+    /// A text.
+    Text(&'static str),
+    /// A text each time that the option is given.
+    Texts(&'static str),
+    /// A text that stands without the name of the option.
+    Argument(&'static str),
+    /// One of these texts.
+    OneOf(&'static str, &'static [&'static str]),
+    /// A number of at most 64 bits.
+    Number(&'static str),
+    /// A number from the first to the second.
+    Within(&'static str, u32, u32),
+}
+
+/// Whether an option is given.
+pub(super) enum Presence {
+    /// It must be.
+    Required,
+    /// It may be.
+    Optional,
+    /// It may be, with this other option alone.
+    With(&'static str),
+    /// It may be; without it, it has this value.
+    Default(&'static str),
+}
+
+/// The parser of a command.
+pub(super) fn command<'a>(
+    alloc: Global,
+    manual: &'static Manual,
+) -> Result<Command<'a>, AllocError> {
+    let mut command = Command::new(alloc, manual.name)
+        .about(manual.about)
+        .long_about(manual.long_about)
+        .after_help(STATUSES)
+        .after_long_help(manual.endings);
+    for option in manual.options {
+        command = command.arg(argument(alloc, option)?)?;
+    }
+    Ok(command)
+}
+
+/// The parser of an option.
+fn argument<'a>(alloc: Global, option: &'static CommandOption) -> Result<Arg<'a>, AllocError> {
+    let argument = taking(Arg::new(alloc, option.name).help(option.help), option);
+    match option.presence {
+        Presence::Required => Ok(argument.required(true)),
+        Presence::Optional => Ok(argument),
+        Presence::With(other) => argument.requires_arg(other),
+        Presence::Default(value) => Ok(argument.default_value(value)),
+    }
+}
+
+/// The parser of an option that takes what this one does.
+fn taking<'a>(argument: Arg<'a>, option: &'static CommandOption) -> Arg<'a> {
+    match option.takes {
+        Takes::Nothing => argument.long(option.name).action(ArgAction::SetTrue),
+        Takes::Text(value) => argument.long(option.name).value_name(value),
+        Takes::Texts(value) => {
+            argument
+                .long(option.name)
+                .value_name(value)
+                .action(ArgAction::Append)
+        }
+        Takes::Argument(value) => argument.value_name(value),
+        Takes::OneOf(value, texts) => {
+            argument
+                .long(option.name)
+                .value_name(value)
+                .value_parser(texts)
+        }
+        Takes::Number(value) => {
+            let parser = clap::value_parser!(u64);
+            argument
+                .long(option.name)
+                .value_name(value)
+                .value_parser(parser)
+        }
+        Takes::Within(value, least, most) => {
+            let parser = clap::value_parser!(u32).range(i64::from(least)..=i64::from(most));
+            argument
+                .long(option.name)
+                .value_name(value)
+                .value_parser(parser)
+        }
+    }
+}
