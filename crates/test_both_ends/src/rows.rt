@@ -75,7 +75,7 @@ fn answers_of_all_rows(rt: HostRuntime) -> Result<(), Fail> {
 
 /// Makes all rows.
 fn each(told: &mut Told<'_>) -> Result<(), Ending> {
-    let end = datagrams::identifier(told);
+    let end = datagrams::session(told, "identifier", datagrams::IDENTIFIER);
     ended(told, "identifier", end)?;
     let end = codec::rows(told);
     ended(told, "data", end)?;
@@ -83,7 +83,7 @@ fn each(told: &mut Told<'_>) -> Result<(), Ending> {
     ended(told, "campaign", end)?;
     let end = ticks::row(told);
     ended(told, "ticks", end)?;
-    let end = datagrams::transfer(told);
+    let end = datagrams::session(told, "transfer", datagrams::TRANSFER);
     ended(told, "transfer", end)?;
     let end = head::book(told);
     ended(told, "book", end)?;

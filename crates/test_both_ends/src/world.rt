@@ -4,6 +4,7 @@ mod calls;
 mod campaigns;
 mod large;
 mod old_meters;
+mod parts;
 mod recording;
 mod refusals;
 mod restarts;

@@ -2,27 +2,50 @@
 
 use fw_book::{Book, BookError};
 use fw_client::{ActiveClaim, Ask, Client, Heard};
-use fw_names::{CampaignId, MeterId};
+use fw_names::{CampaignId, HeadId, MeterId};
 use std::alloc::Global;
 use std::test::Fail;
-use test_support::{Case, Kept, head, meter};
+use test_tables::{Kept, Reads, Words};
 
-/// A call of a book.
+/// What is told of a book:
+///
+/// - `last CALLS`, of which none but the last one is refused: `done`, or its refusal, which leaves the book as it was
+/// - `bytes CALLS`, of which none is refused: the bytes of the book after them
 #[derive(Clone, Copy)]
-pub(crate) enum Call {
-    /// Opens a campaign of this head end with this serial number, for an image and meters.
-    Open(u32, u32, &'static [u8], &'static [u32]),
-    /// The same with an image of this release.
-    OpenRelease(u32, u32, u32, &'static [u8], &'static [u32]),
-    /// Cancels the campaign of this head end and this serial number.
-    Cancel(u32, u32),
-    /// Marks a meter of the campaign of this head end and this serial number as failed.
-    Fail(u32, u32, u32),
-    /// Marks done under the campaign of this head end and this serial number, by the claim that a client of a meter hears of the
-    /// first answer below.
-    Done(u32, u32, u32),
-    /// The same by the claim of the second answer.
-    DoneRelease(u32, u32, u32),
+pub(crate) struct Calls;
+
+impl Reads for Calls {
+    fn told(&mut self, alloc: Global, what: &str) -> Result<String, Fail> {
+        let mut words = Words::new(what);
+        match words.word()? {
+            "last" => last_text(alloc, words.rest()),
+            "bytes" => written_text(alloc, words.rest()),
+            _ => Err("nothing of this name is told of a book".into()),
+        }
+    }
+}
+
+fn last_text(alloc: Global, calls: &str) -> Result<String, Fail> {
+    let (before, last) = calls.rsplit_once(';').unwrap_or(("", calls));
+    let mut book = after(alloc, before)?;
+    tried_text(alloc, &mut book.0, last)
+}
+
+fn tried_text(alloc: Global, book: &mut Book, call: &str) -> Result<String, Fail> {
+    let before = bytes_of(alloc, book)?;
+    let Some(refusal) = refusal(alloc, book, call)? else {
+        return Ok(String::from_str(alloc, "done")?);
+    };
+    if bytes_of(alloc, book)? == before {
+        Ok(refusal.to_string(alloc)?)
+    } else {
+        Err("a refused call changed the book".into())
+    }
+}
+
+fn written_text(alloc: Global, calls: &str) -> Result<String, Fail> {
+    let book = after(alloc, calls)?;
+    bytes_of(alloc, &book.0)
 }
 
 /// The answer, to a client's first ask, of a meter that runs `abc` of campaign (7, 1).
@@ -33,18 +56,44 @@ const ANSWER: &str =
 pub(crate) const RELEASE_ANSWER: &str =
     "0001000100010033c401c000092d02000000070000000100000005ba7816bf8f01cfea414140de5dae2223b00361a396177a9cb410ff61f20015ad";
 
+/// The head end of this number.
+pub(crate) fn head(number: u32) -> Result<HeadId, Fail> {
+    Ok(HeadId::new(number).ok_or("a head end's number begins at 1")?)
+}
+
+/// The meter of this number.
+pub(crate) fn meter(number: u32) -> Result<MeterId, Fail> {
+    Ok(MeterId::new(number).ok_or("every number is a meter's")?)
+}
+
 /// The campaign of these numbers.
 pub(crate) fn campaign(number: u32, serial: u32) -> Result<CampaignId, Fail> {
     Ok(CampaignId::new(head(number)?, serial).ok_or("a serial number begins at 1")?)
 }
 
 /// The meters of these numbers.
-pub(crate) fn meters(alloc: Global, numbers: &[u32]) -> Result<Vec<MeterId>, Fail> {
+pub(crate) fn meters(alloc: Global, numbers: &str) -> Result<Vec<MeterId>, Fail> {
     let mut meters = Vec::new(alloc);
-    for number in numbers {
-        meters.push(meter(*number)?)?;
+    for number in numbers.split(' ') {
+        if !number.is_empty() {
+            meters.push(meter(number.parse::<u32>()?)?)?;
+        }
     }
     Ok(meters)
+}
+
+/// So many meters, whose numbers begin again from 0 after `round` of them.
+pub(crate) fn first_meters(alloc: Global, count: u32, round: u32) -> Result<Vec<MeterId>, Fail> {
+    let mut meters = Vec::new(alloc);
+    for number in 0..count {
+        meters.push(meter(number.checked_rem(round).unwrap_or(number))?)?;
+    }
+    Ok(meters)
+}
+
+/// The bytes of an image, of which `-` has none.
+pub(crate) fn image(word: &str) -> &[u8] {
+    if word == "-" { b"" } else { word.as_bytes() }
 }
 
 /// A book of head end 7 with no campaign.
@@ -62,29 +111,29 @@ pub(crate) fn claim(alloc: Global, number: u32, answer: &str) -> Result<ActiveCl
     }
 }
 
-/// What a call is refused for.
-fn refusal(alloc: Global, book: &mut Book, call: &Call) -> Result<Option<BookError>, Fail> {
-    let answer = match *call {
-        Call::Open(head, serial, image, numbers) => {
-            let campaign = campaign(head, serial)?;
-            return opening_refusal(alloc, book, campaign, 0, image, numbers);
-        }
-        Call::OpenRelease(head, serial, release, image, numbers) => {
-            let campaign = campaign(head, serial)?;
-            return opening_refusal(alloc, book, campaign, release, image, numbers);
-        }
-        Call::Cancel(head, serial) => book.cancel(campaign(head, serial)?),
-        Call::Fail(head, serial, number) => book.mark_failed(
-            campaign(head, serial)?,
-            meter(number)?,
-        ),
-        Call::Done(head, serial, number) => {
-            book.mark_done(campaign(head, serial)?, claim(alloc, number, ANSWER)?)
-        }
-        Call::DoneRelease(head, serial, number) => {
-            let claim = claim(alloc, number, RELEASE_ANSWER)?;
-            book.mark_done(campaign(head, serial)?, claim)
-        }
+/// What a call is refused for, each under the campaign of a head end and a serial number:
+///
+/// - `open HEAD SERIAL RELEASE IMAGE METER..`
+/// - `cancel HEAD SERIAL`
+/// - `fail HEAD SERIAL METER`, which marks the meter as failed
+/// - `done HEAD SERIAL METER`, which marks it done, by the claim that a client of the meter hears of the first answer
+/// - `done-release HEAD SERIAL METER`, by the claim of the second answer
+fn refusal(alloc: Global, book: &mut Book, call: &str) -> Result<Option<BookError>, Fail> {
+    let mut words = Words::new(call);
+    let what = words.word()?;
+    let campaign = campaign(words.number()?, words.number()?)?;
+    if what == "open" {
+        return opening_refusal(alloc, book, campaign, words);
+    }
+    if what == "cancel" {
+        return Ok(book.cancel(campaign).err());
+    }
+    let number = words.number()?;
+    let answer = match what {
+        "fail" => book.mark_failed(campaign, meter(number)?),
+        "done" => book.mark_done(campaign, claim(alloc, number, ANSWER)?),
+        "done-release" => book.mark_done(campaign, claim(alloc, number, RELEASE_ANSWER)?),
+        _ => return Err("no call of a book has this name".into()),
     };
     Ok(answer.err())
 }
@@ -94,20 +143,19 @@ fn opening_refusal(
     alloc: Global,
     book: &mut Book,
     campaign: CampaignId,
-    release: u32,
-    image: &[u8],
-    numbers: &[u32],
+    mut words: Words<'_>,
 ) -> Result<Option<BookError>, Fail> {
-    let meters = meters(alloc, numbers)?;
+    let (release, image) = (words.number()?, image(words.word()?));
+    let meters = meters(alloc, words.rest())?;
     let opened = book.open_campaign(alloc, campaign, release, image, &meters);
     Ok(opened.err())
 }
 
 /// The book after calls, of which none is refused.
-pub(crate) fn after(alloc: Global, calls: &[Call]) -> Result<Kept<Book>, Fail> {
+pub(crate) fn after(alloc: Global, calls: &str) -> Result<Kept<Book>, Fail> {
     let mut book = fresh(alloc)?;
-    for call in calls {
-        if refusal(alloc, &mut book.0, call)?.is_some() {
+    for call in calls.split(';') {
+        if !call.is_empty() && refusal(alloc, &mut book.0, call)?.is_some() {
             return Err("a call was refused".into());
         }
     }
@@ -117,37 +165,4 @@ pub(crate) fn after(alloc: Global, calls: &[Call]) -> Result<Kept<Book>, Fail> {
 /// The bytes of a book, in hexadecimal.
 pub(crate) fn bytes_of(alloc: Global, book: &Book) -> Result<String, Fail> {
     Ok(hex::encode(alloc, book.write(alloc)?.as_slice())?)
-}
-
-/// The last call after others, of which none is refused: `done`, or its refusal, which leaves the book as it was.
-pub(crate) struct Last(pub(crate) &'static [Call]);
-
-impl Case for Last {
-    fn told(&self, alloc: Global) -> Result<String, Fail> {
-        let (last, before) = self.0.split_last().ok_or("no call")?;
-        let mut book = after(alloc, before)?;
-        last_text(alloc, &mut book.0, last)
-    }
-}
-
-fn last_text(alloc: Global, book: &mut Book, last: &Call) -> Result<String, Fail> {
-    let before = bytes_of(alloc, book)?;
-    let Some(refusal) = refusal(alloc, book, last)? else {
-        return Ok(String::from_str(alloc, "done")?);
-    };
-    if bytes_of(alloc, book)? == before {
-        Ok(refusal.to_string(alloc)?)
-    } else {
-        Err("a refused call changed the book".into())
-    }
-}
-
-/// The bytes of the book after calls.
-pub(crate) struct Written(pub(crate) &'static [Call]);
-
-impl Case for Written {
-    fn told(&self, alloc: Global) -> Result<String, Fail> {
-        let book = after(alloc, self.0)?;
-        bytes_of(alloc, &book.0)
-    }
 }

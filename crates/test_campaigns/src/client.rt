@@ -4,98 +4,73 @@ ghost use Rattle.std.specs.Prelude.{IsTrue};
 ghost use Rattle.fw_client.specs.Ask.{Fits};
 ghost use Rattle.fw_client.specs.View.{ask_of};
 
+use crate::book::meter;
+use crate::subject::{Subject, takes};
 use fw_client::{Ask, Client, Heard};
-use fw_names::{CampaignId, HeadId, ImageName, MeterId, name_of};
+use fw_names::{CampaignId, HeadId, ImageName, name_of};
 use std::alloc::Global;
 use std::test::Fail;
-use test_support::{Case, Takes, session};
+use test_tables::{Reads, Words};
 
-/// What is asked of a meter, as `fw_client::Ask` has it.
-#[derive(Clone, Copy)]
-pub(crate) enum Wish {
-    BlockSize,
-    FirstMissing,
-    Blocks,
-    Status,
-    Info,
-    ActiveName,
-    Enable,
-    /// An image of this size in bytes under the name of `abc`, which campaign 1 of head end 7 offers.
-    Initiate(u32),
-    /// The same of this release.
-    InitiateRelease(u32, u32),
-    Block(u32, &'static [u8]),
-    Verify,
-    Activate,
-}
-
-impl Wish {
-    /// The release of the image that is initiated.
-    fn release(&self) -> u32 {
-        match self {
-            Wish::InitiateRelease(release, _) => *release,
-            _ => 0,
-        }
-    }
-
-    fn ask(&self, name: ImageName) -> Ask<'_> {
-        match self {
-            Wish::BlockSize => Ask::BlockSize,
-            Wish::FirstMissing => Ask::FirstMissing,
-            Wish::Blocks => Ask::Blocks,
-            Wish::Status => Ask::Status,
-            Wish::Info => Ask::Info,
-            Wish::ActiveName => Ask::ActiveName,
-            Wish::Enable => Ask::Enable,
-            Wish::Initiate(size) | Wish::InitiateRelease(_, size) => {
-                Ask::Initiate { name, size: *size }
-            }
-            Wish::Block(number, value) => Ask::Block {
-                number: *number,
-                value,
-            },
-            Wish::Verify => Ask::Verify,
-            Wish::Activate => Ask::Activate,
-        }
-    }
-}
-
-/// A step of a client.
-#[derive(Clone, Copy)]
-pub(crate) enum Step {
-    /// It asks: the datagram, or the refusal.
-    Ask(Wish),
-    /// It asks for the block of this number to be stored, with 1,024 bytes 5a: the size of the datagram, its first 33 bytes, and
-    /// the last.
-    Largest(u32),
-    /// It hears a datagram: what is heard.
-    Hear(&'static str),
-    /// It hears a datagram that begins so, and has 2,048 bytes 5a after that: how many bits are heard, in how many bytes, and whether
-    /// each of these is 5a.
-    HearMost(&'static str),
-    /// It drops what is outstanding.
-    Forget,
-    /// Whose client it is: the meter's number.
-    Meter,
-}
-
-impl Takes<Step> for Client {
-    fn take(&mut self, alloc: Global, step: &Step) -> Result<String, Fail> {
-        match step {
-            Step::Ask(wish) => asked(alloc, self, wish),
-            Step::Largest(number) => largest(alloc, self, *number),
-            Step::Hear(datagram) => {
-                let heard = self.hear(alloc, &hex::decode(alloc, datagram)?)?;
-                heard_text(alloc, &heard)
-            }
-            Step::HearMost(begin) => most(alloc, self, begin),
-            Step::Forget => {
-                self.forget();
+/// A step of a client:
+///
+/// - `ask ASK`: the datagram, or the refusal
+/// - `largest NUMBER`, an ask for the block of this number to be stored, with 1,024 bytes 5a: the size of the datagram, its first 33 bytes, and
+///   the last
+/// - `hear DATAGRAM`: what is heard
+/// - `hear-most BEGIN`, a datagram that begins so, and has 2,048 bytes 5a after that: how many bits are heard, in how many bytes, and whether
+///   each of these is 5a
+/// - `forget`, which drops what is outstanding
+/// - `meter`: the number of the meter whose client it is
+/// - `answer METER ASK DATAGRAM`, for which a new client of this meter asks, and hears a datagram: what is heard
+impl Reads for Subject<Client> {
+    fn told(&mut self, alloc: Global, what: &str) -> Result<String, Fail> {
+        let client = &mut self.0;
+        let mut words = Words::new(what);
+        match words.word()? {
+            "ask" => asked(alloc, client, words.rest()),
+            "largest" => largest(alloc, client, words.number()?),
+            "hear" => heard(alloc, client, words.rest()),
+            "hear-most" => most(alloc, client, words.rest()),
+            "forget" => {
+                client.forget();
                 Ok(String::new(alloc))
             }
-            Step::Meter => Ok(format!(in alloc; "{}", self.meter().number())?),
+            "meter" => Ok(format!(in alloc; "{}", client.meter().number())?),
+            "answer" => answered(alloc, words),
+            _ => Err("a client takes no such step".into()),
         }
     }
+}
+
+/// What is asked of a meter, as `fw_client::Ask` has it: `block-size`, `first-missing`, `blocks`, `status`, `info`, `active-name`, `enable`,
+/// `initiate RELEASE SIZE` under the name of `abc`, `block NUMBER BYTES`, `verify` or `activate`.
+fn ask<'a>(what: &'a str) -> Option<Ask<'a>> {
+    let mut words = Words::new(what);
+    Some(match words.next()? {
+        "block-size" => Ask::BlockSize,
+        "first-missing" => Ask::FirstMissing,
+        "blocks" => Ask::Blocks,
+        "status" => Ask::Status,
+        "info" => Ask::Info,
+        "active-name" => Ask::ActiveName,
+        "enable" => Ask::Enable,
+        "initiate" => Ask::Initiate {
+            name: abc_in(1, number(&mut words)?)?,
+            size: number(&mut words)?,
+        },
+        "block" => Ask::Block {
+            number: number(&mut words)?,
+            value: words.rest().as_bytes(),
+        },
+        "verify" => Ask::Verify,
+        "activate" => Ask::Activate,
+        _ => return None,
+    })
+}
+
+fn number(words: &mut Words<'_>) -> Option<u32> {
+    words.next()?.parse::<u32>().ok()
 }
 
 /// Whether a client may be given the ask.
@@ -108,12 +83,18 @@ fn fits(ask: &Ask<'_>) -> bool
     }
 }
 
-fn asked(alloc: Global, client: &mut Client, wish: &Wish) -> Result<String, Fail> {
-    let ask = wish.ask(abc_name(wish.release()).ok_or("a name")?);
-    if !fits(&ask) {
-        return Err("too long a block".into());
+fn asked(alloc: Global, client: &mut Client, what: &str) -> Result<String, Fail> {
+    match ask(what) {
+        Some(ask) if fits(&ask) => told_of(alloc, client, &ask),
+        _ => Err("no ask has this name, or too long a block".into()),
     }
-    Ok(match client.ask(alloc, &ask) {
+}
+
+/// The datagram of an ask, or the refusal.
+fn told_of(alloc: Global, client: &mut Client, ask: &Ask<'_>) -> Result<String, Fail>
+    requires { Fits (ask_of ask.now) }
+{
+    Ok(match client.ask(alloc, ask) {
         Ok(datagram) => hex::encode(alloc, datagram.as_slice())?,
         Err(refusal) => refusal.to_string(alloc)?,
     })
@@ -126,6 +107,11 @@ fn largest(alloc: Global, client: &mut Client, number: u32) -> Result<String, Fa
     let front = hex::encode(alloc, bytes.get(..33).unwrap_or(&[]))?;
     let last = bytes.last().copied().unwrap_or(0);
     Ok(format!(in alloc; "{} {front} {last:02x}", bytes.len())?)
+}
+
+fn heard(alloc: Global, client: &mut Client, datagram: &str) -> Result<String, Fail> {
+    let heard = client.hear(alloc, &hex::decode(alloc, datagram)?)?;
+    heard_text(alloc, &heard)
 }
 
 fn most(alloc: Global, client: &mut Client, begin: &str) -> Result<String, Fail> {
@@ -141,9 +127,24 @@ fn most(alloc: Global, client: &mut Client, begin: &str) -> Result<String, Fail>
     })
 }
 
+fn answered(alloc: Global, mut words: Words<'_>) -> Result<String, Fail> {
+    let mut client = Client::new(meter(words.number()?)?);
+    let _asked = asked(alloc, &mut client, words.word()?)?;
+    heard(alloc, &mut client, words.rest())
+}
+
 /// The name of `abc` in campaign 1 of head end 7, of this release.
-pub(crate) fn abc_name(release: u32) -> Option<ImageName> {
-    Some(name_of(CampaignId::new(HeadId::new(7)?, 1)?, release, b"abc"))
+pub(crate) fn abc_name(release: u32) -> Result<ImageName, Fail> {
+    abc_name_in(1, release)
+}
+
+/// The same in the campaign of this serial number.
+pub(crate) fn abc_name_in(serial: u32, release: u32) -> Result<ImageName, Fail> {
+    Ok(abc_in(serial, release).ok_or("a serial number begins at 1")?)
+}
+
+fn abc_in(serial: u32, release: u32) -> Option<ImageName> {
+    Some(name_of(CampaignId::new(HeadId::new(7)?, serial)?, release, b"abc"))
 }
 
 /// What is heard, as `Debug` gives it, except names, which are spelled.
@@ -161,32 +162,7 @@ fn heard_text(alloc: Global, heard: &Heard) -> Result<String, Fail> {
     })
 }
 
-/// A new client of this meter.
-fn client_of(meter: u32) -> Result<Client, Fail> {
-    Ok(Client::new(MeterId::new(meter).ok_or("a meter")?))
-}
-
-/// A new client of meter 1 takes these steps.
-pub(crate) fn steps(alloc: Global, rows: &[(Step, &str)]) -> Result<(), Fail> {
-    session(alloc, &mut client_of(1)?, rows)
-}
-
-/// A new client of meter 1 takes the steps of all parts.
-pub(crate) fn parts(alloc: Global, parts: &[&[(Step, &str)]]) -> Result<(), Fail> {
-    let mut client = client_of(1)?;
-    for part in parts {
-        session(alloc, &mut client, part)?;
-    }
-    Ok(())
-}
-
-/// A new client of a meter asks, and hears a datagram: what is heard.
-pub(crate) struct Answer(pub(crate) u32, pub(crate) Wish, pub(crate) &'static str);
-
-impl Case for Answer {
-    fn told(&self, alloc: Global) -> Result<String, Fail> {
-        let mut client = client_of(self.0)?;
-        let _asked = asked(alloc, &mut client, &self.1)?;
-        client.take(alloc, &Step::Hear(self.2))
-    }
+/// A new client of meter 1 takes the steps of these tables.
+pub(crate) fn steps(alloc: Global, tables: &[&str]) -> Result<(), Fail> {
+    takes(alloc, &mut Subject(Client::new(meter(1)?)), tables)
 }

@@ -1,64 +1,50 @@
 //! What a head end is made to do, step by step. It is head end 7, and works on meter 1. APDUs stand in hexadecimal, and each is
 //! carried from and to wPort 1.
 
+use crate::book::{head, meter};
+use crate::subject::{Subject, takes};
 use fw_blocks::Width;
 use fw_head::{HeadCore, News, Phase};
 use fw_names::{CampaignId, MeterId};
 use fw_wrapper::split;
 use std::alloc::{AllocError, Global};
 use std::test::Fail;
-use test_support::{Kept, Takes, head, meter, session};
+use test_tables::{Reads, Words};
 
-/// A step of a head end.
-pub(crate) enum Step {
-    /// It opens the campaign of this serial number for meter 1: the spelling of the name that is returned.
-    Open(u32, &'static [u8]),
-    /// The same with an image of this release.
-    OpenRelease(u32, u32, &'static [u8]),
-    /// The APDUs that a tick sends to meter 1.
-    Tick,
-    /// It is given this APDU of meter 1: the news, and the phase of the row, if it is live.
-    Hear(&'static str),
-    /// It starts again.
-    Restart,
-    /// It cancels the campaign of this serial number.
-    Cancel(u32),
-    /// How often the row of meter 1 returned to `Start`.
-    Returns,
-    /// Whether an ask of meter 1 is outstanding.
-    Waits,
-}
-
-impl Takes<Step> for HeadCore {
-    fn take(&mut self, alloc: Global, step: &Step) -> Result<String, Fail> {
-        match *step {
-            Step::Open(serial, image) => open(alloc, self, serial, 0, image),
-            Step::OpenRelease(serial, release, image) => open(alloc, self, serial, release, image),
-            Step::Tick => apdus_text(alloc, &self.tick(alloc, meter(1)?)?),
-            Step::Hear(apdu) => hear(alloc, self, apdu),
-            Step::Restart => {
-                self.restart();
+/// A step of a head end:
+///
+/// - `open SERIAL RELEASE IMAGE`, a campaign for meter 1: the spelling of the name that is returned
+/// - `tick`: the APDUs that it sends to meter 1
+/// - `hear APDU`, of meter 1: the news, and the phase of the row, if it is live
+/// - `restart`
+/// - `cancel SERIAL`
+/// - `returns`: how often the row of meter 1 returned to `Start`
+/// - `waits`: whether an ask of meter 1 is outstanding
+impl Reads for Subject<HeadCore> {
+    fn told(&mut self, alloc: Global, what: &str) -> Result<String, Fail> {
+        let head = &mut self.0;
+        let mut words = Words::new(what);
+        match words.word()? {
+            "open" => open(alloc, head, words),
+            "tick" => apdus_text(alloc, &head.tick(alloc, meter(1)?)?),
+            "hear" => hear(alloc, head, words.rest()),
+            "restart" => {
+                head.restart();
                 Ok(String::new(alloc))
             }
-            Step::Cancel(serial) => cancel(alloc, self, serial),
-            Step::Returns => returns(alloc, self),
-            Step::Waits => Ok(format!(in alloc; "{}", self.is_waiting(meter(1)?))?),
+            "cancel" => cancel(alloc, head, words.number()?),
+            "returns" => returns(alloc, head),
+            "waits" => Ok(format!(in alloc; "{}", head.is_waiting(meter(1)?))?),
+            _ => Err("a head end takes no such step".into()),
         }
     }
 }
 
-/// A new head end with windows of this width takes the steps of all parts.
-pub(crate) fn head_session(
-    alloc: Global,
-    width: u8,
-    parts: &[&[(Step, &str)]],
-) -> Result<(), Fail> {
+/// A new head end with windows of this width takes the steps of these tables.
+pub(crate) fn head_session(alloc: Global, width: u8, tables: &[&str]) -> Result<(), Fail> {
     let width = Width::new(width).ok_or("a width")?;
-    let mut head = Kept(HeadCore::new(alloc, head(7)?, width));
-    for part in parts {
-        session(alloc, &mut head.0, part)?;
-    }
-    Ok(())
+    let mut head = Subject(HeadCore::new(alloc, head(7)?, width));
+    takes(alloc, &mut head, tables)
 }
 
 /// Windows of four blocks.
@@ -66,16 +52,12 @@ pub(crate) fn width() -> Result<Width, Fail> {
     Ok(Width::new(4).ok_or("a width")?)
 }
 
-fn open(
-    alloc: Global,
-    head: &mut HeadCore,
-    serial: u32,
-    release: u32,
-    image: &[u8],
-) -> Result<String, Fail> {
+fn open(alloc: Global, head: &mut HeadCore, mut words: Words<'_>) -> Result<String, Fail> {
+    let (serial, release) = (words.number()?, words.number()?);
     if serial == 0 {
         return Err("a serial number begins at 1".into());
     }
+    let image = words.rest().as_bytes();
     let name = head.open_campaign(alloc, serial, release, image, &[meter(1)?])?;
     Ok(hex::encode(alloc, name.to_bytes().as_slice())?)
 }

@@ -14,8 +14,6 @@ mod book;
 #[cfg(test)]
 mod books;
 #[cfg(test)]
-mod captures;
-#[cfg(test)]
 mod client;
 #[cfg(test)]
 mod ends;
@@ -47,6 +45,8 @@ mod rollouts;
 mod rows;
 #[cfg(test)]
 mod setting;
+#[cfg(test)]
+mod subject;
 #[cfg(test)]
 mod transfers;
 #[cfg(test)]

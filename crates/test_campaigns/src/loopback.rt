@@ -1,5 +1,6 @@
 //! A campaign of four meters over UDP on this machine. In its middle both ends are ended, and begin again with their files.
 
+use crate::book::{head, meter};
 use crate::head::width;
 use fw_daemon::{Closed as MeterClosed, MeterDaemon, Port, UdpPort, step};
 use fw_journal::FileDevice;
@@ -16,7 +17,7 @@ use std::net::{Ipv4Addr, SocketAddr};
 use std::path::PathBuf;
 use std::test::Fail;
 use std::{env, fs};
-use test_support::{Kept, expect_at, head, meter};
+use test_tables::{Kept, expect_at};
 
 /// The image, of twenty blocks, and its SHA-256 by `sha256sum`.
 const IMAGE: &[u8; 40] = b"forty bytes of an image in blocks of two";

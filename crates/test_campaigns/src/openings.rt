@@ -1,165 +1,103 @@
 //! Openings: what they are refused for, in order, and what they return.
 
-use crate::book::{Call, Last, campaign, fresh, meters};
+use crate::book::{Calls, campaign, first_meters, fresh, meter};
 use fw_book::{Book, BookError};
-use std::alloc::{AllocError, Global};
+use fw_names::MeterId;
+use std::alloc::Global;
 use std::test::Fail;
-use test_support::{Case, each};
+use test_tables::{Reads, Words, each_line};
 
 /// Each refusal by itself, and before all that come after it.
-const REFUSED: &[(Last, &str)] = &[
-    (Last(&[Call::Open(8, 1, b"abc", &[1])]), "ForeignHead"),
-    (
-        Last(&[Call::Open(7, 1, b"abc", &[1]), Call::Open(8, 1, b"", &[])]),
-        "ForeignHead",
-    ),
-    (
-        Last(&[
-            Call::Open(7, 1, b"abc", &[1]),
-            Call::Open(7, 1, b"abc", &[2]),
-        ]),
-        "SerialUsed",
-    ),
-    (
-        Last(&[Call::Open(7, 1, b"abc", &[1]), Call::Open(7, 1, b"", &[])]),
-        "SerialUsed",
-    ),
-    (
-        Last(&[
-            Call::Open(7, 1, b"abc", &[1]),
-            Call::Open(7, 1, b"abc", &[1]),
-        ]),
-        "SerialUsed",
-    ),
-    (Last(&[Call::Open(7, 1, b"", &[1])]), "EmptyImage"),
-    (Last(&[Call::Open(7, 1, b"", &[])]), "EmptyImage"),
-    (Last(&[Call::Open(7, 1, b"abc", &[])]), "NoMeters"),
-    (Last(&[Call::Open(7, 1, b"abc", &[1, 1])]), "MeterTwice"),
-    (
-        Last(&[Call::Open(7, 1, b"abc", &[3, 1, 2, 1])]),
-        "MeterTwice",
-    ),
-    (
-        Last(&[
-            Call::Open(7, 1, b"abc", &[1]),
-            Call::Open(7, 2, b"abc", &[1, 1]),
-        ]),
-        "MeterTwice",
-    ),
-    (
-        Last(&[
-            Call::Open(7, 1, b"abc", &[1]),
-            Call::Open(7, 2, b"abc", &[1]),
-        ]),
-        "MeterBusy",
-    ),
-    (
-        Last(&[
-            Call::Open(7, 1, b"abc", &[1, 2]),
-            Call::Fail(7, 1, 1),
-            Call::Open(7, 2, b"abc", &[1]),
-            Call::Open(7, 3, b"abc", &[3, 2]),
-        ]),
-        "MeterBusy",
-    ),
-];
+const REFUSED: &str = "
+    last open 8 1 0 abc 1                                                     => ForeignHead
+    last open 7 1 0 abc 1; open 8 1 0 -                                       => ForeignHead
+    last open 7 1 0 abc 1; open 7 1 0 abc 2                                   => SerialUsed
+    last open 7 1 0 abc 1; open 7 1 0 -                                       => SerialUsed
+    last open 7 1 0 abc 1; open 7 1 0 abc 1                                   => SerialUsed
+    last open 7 1 0 - 1                                                       => EmptyImage
+    last open 7 1 0 -                                                         => EmptyImage
+    last open 7 1 0 abc                                                       => NoMeters
+    last open 7 1 0 abc 1 1                                                   => MeterTwice
+    last open 7 1 0 abc 3 1 2 1                                               => MeterTwice
+    last open 7 1 0 abc 1; open 7 2 0 abc 1 1                                 => MeterTwice
+    last open 7 1 0 abc 1; open 7 2 0 abc 1                                   => MeterBusy
+    last open 7 1 0 abc 1 2; fail 7 1 1; open 7 2 0 abc 1; open 7 3 0 abc 3 2 => MeterBusy
+";
 
 /// A meter is free again once its row has ended.
-const TAKEN: &[(Last, &str)] = &[
-    (
-        Last(&[
-            Call::Open(7, 1, b"abc", &[1]),
-            Call::Fail(7, 1, 1),
-            Call::Open(7, 2, b"abc", &[1]),
-        ]),
-        "done",
-    ),
-    (
-        Last(&[
-            Call::Open(7, 1, b"abc", &[1]),
-            Call::Cancel(7, 1),
-            Call::Open(7, 2, b"abc", &[1]),
-        ]),
-        "done",
-    ),
-    (
-        Last(&[
-            Call::Open(7, 2, b"abc", &[1]),
-            Call::Open(7, 1, b"abc", &[2]),
-        ]),
-        "done",
-    ),
-];
+const TAKEN: &str = "
+    last open 7 1 0 abc 1; fail 7 1 1; open 7 2 0 abc 1 => done
+    last open 7 1 0 abc 1; cancel 7 1; open 7 2 0 abc 1 => done
+    last open 7 2 0 abc 1; open 7 1 0 abc 2             => done
+";
 
 #[test]
 fn openings_are_refused_in_order(rt: HostRuntime) -> Result<(), Fail> {
-    each(rt.alloc(), REFUSED)?;
-    each(rt.alloc(), TAKEN)
+    let alloc = rt.alloc();
+    each_line(alloc, &mut Calls, REFUSED)?;
+    each_line(alloc, &mut Calls, TAKEN)
 }
 
-/// An image of N bytes for M meters, whose numbers begin again from 0 after R of them: the refusal.
-struct Sized(usize, u32, u32);
+/// An opening of campaign 1 of head end 7:
+///
+/// - `sized SIZE METERS ROUND`, with an image of this size for so many meters, whose numbers begin again from 0 after a round: the refusal
+/// - `named RELEASE HEAD SERIAL`, with `abc` of this release for meter 1: the name that is returned, and the one of this campaign in the book
+#[derive(Clone, Copy)]
+struct Opening;
 
-impl Case for Sized {
-    fn told(&self, alloc: Global) -> Result<String, Fail> {
-        let image = vec![in alloc; 0u8; self.0]?;
-        let numbers = numbers(alloc, self.1, self.2)?;
-        let refusal = refusal(alloc, &image, &numbers)?;
-        Ok(format!(in alloc; "{refusal:?}")?)
+impl Reads for Opening {
+    fn told(&mut self, alloc: Global, what: &str) -> Result<String, Fail> {
+        let mut words = Words::new(what);
+        let what = words.word()?;
+        let (first, second, third) = (words.number()?, words.number()?, words.number()?);
+        match what {
+            "sized" => sized_text(alloc, first, second, third),
+            "named" => names_text(alloc, &mut fresh(alloc)?.0, first, (second, third)),
+            _ => Err("no opening has this name".into()),
+        }
     }
 }
 
-/// `count` numbers from 0 on, which begin again after `round` of them.
-fn numbers(alloc: Global, count: u32, round: u32) -> Result<Vec<u32>, AllocError> {
-    let mut numbers = Vec::new(alloc);
-    for number in 0..count {
-        numbers.push(number.checked_rem(round).unwrap_or(number))?;
-    }
-    Ok(numbers)
+fn sized_text(alloc: Global, size: u32, count: u32, round: u32) -> Result<String, Fail> {
+    let image = vec![in alloc; 0u8; size as usize]?;
+    let refusal = refusal(alloc, &image, &first_meters(alloc, count, round)?)?;
+    Ok(format!(in alloc; "{refusal:?}")?)
 }
 
-fn refusal(alloc: Global, image: &[u8], numbers: &[u32]) -> Result<Option<BookError>, Fail> {
-    let meters = meters(alloc, numbers)?;
+fn refusal(alloc: Global, image: &[u8], meters: &[MeterId]) -> Result<Option<BookError>, Fail> {
     let mut book = fresh(alloc)?;
     let opened = book
         .0
-        .open_campaign(alloc, campaign(7, 1)?, 0, image, &meters);
+        .open_campaign(alloc, campaign(7, 1)?, 0, image, meters);
     Ok(opened.err())
 }
 
-const LIMITS: &[(Sized, &str)] = &[
-    (Sized(4_194_305, 256, 256), "None"),
+const LIMITS: &str = "
+    sized 4194305 256 256  => None
     // the longest image isn't too long
-    (Sized(16_777_216, 257, 257), "Some(TooManyMeters)"),
-    (Sized(16_777_217, 1, 1), "Some(ImageTooLong)"),
-    (Sized(16_777_217, 0, 1), "Some(ImageTooLong)"),
-    (Sized(1, 257, 257), "Some(TooManyMeters)"),
+    sized 16777216 257 257 => Some(TooManyMeters)
+    sized 16777217 1 1     => Some(ImageTooLong)
+    sized 16777217 0 1     => Some(ImageTooLong)
+    sized 1 257 257        => Some(TooManyMeters)
     // too many meters is reported before that one of them is named twice
-    (Sized(1, 257, 1), "Some(TooManyMeters)"),
-    (Sized(1, 256, 255), "Some(MeterTwice)"),
-];
+    sized 1 257 1          => Some(TooManyMeters)
+    sized 1 256 255        => Some(MeterTwice)
+";
 
 #[test]
 fn limits_of_an_opening(rt: HostRuntime) -> Result<(), Fail> {
-    each(rt.alloc(), LIMITS)
+    each_line(rt.alloc(), &mut Opening, LIMITS)
 }
 
-/// Serial 1 of head end 7 is opened with `abc` of this release for meter 1: the name that is returned, and the one of this campaign in the
-/// book.
-struct Name(u32, u32, u32);
-
-impl Case for Name {
-    fn told(&self, alloc: Global) -> Result<String, Fail> {
-        let mut book = fresh(alloc)?;
-        names_text(alloc, &mut book.0, self)
-    }
-}
-
-fn names_text(alloc: Global, book: &mut Book, name: &Name) -> Result<String, Fail> {
-    let meters = meters(alloc, &[1])?;
-    let answered = book.open_campaign(alloc, campaign(7, 1)?, name.0, b"abc", &meters)?;
+fn names_text(
+    alloc: Global,
+    book: &mut Book,
+    release: u32,
+    (head, serial): (u32, u32),
+) -> Result<String, Fail> {
+    let answered = book.open_campaign(alloc, campaign(7, 1)?, release, b"abc", &[meter(1)?])?;
     let answered = hex::encode(alloc, answered.to_bytes().as_slice())?;
-    Ok(match book.name(campaign(name.1, name.2)?) {
+    Ok(match book.name(campaign(head, serial)?) {
         Some(name) => {
             let name = hex::encode(alloc, name.to_bytes().as_slice())?;
             format!(in alloc; "{answered}, {name}")?
@@ -168,30 +106,15 @@ fn names_text(alloc: Global, book: &mut Book, name: &Name) -> Result<String, Fai
     })
 }
 
-const NAMES: &[(Name, &str)] = &[
-    (
-        Name(0, 7, 1),
-        "010000000700000001ba7816bf8f01cfea414140de5dae2223b00361a396177a9cb410ff61f20015ad, 010000000700000001ba7816bf8f01cfea414140de5dae2223b00361a396177a9cb410ff61f20015ad",
-    ),
-    (
-        Name(0, 7, 2),
-        "010000000700000001ba7816bf8f01cfea414140de5dae2223b00361a396177a9cb410ff61f20015ad, none",
-    ),
-    (
-        Name(0, 8, 1),
-        "010000000700000001ba7816bf8f01cfea414140de5dae2223b00361a396177a9cb410ff61f20015ad, none",
-    ),
-    (
-        Name(5, 7, 1),
-        "02000000070000000100000005ba7816bf8f01cfea414140de5dae2223b00361a396177a9cb410ff61f20015ad, 02000000070000000100000005ba7816bf8f01cfea414140de5dae2223b00361a396177a9cb410ff61f20015ad",
-    ),
-    (
-        Name(4_294_967_295, 7, 2),
-        "020000000700000001ffffffffba7816bf8f01cfea414140de5dae2223b00361a396177a9cb410ff61f20015ad, none",
-    ),
-];
+const NAMES: &str = "
+    named 0 7 1          => 010000000700000001ba7816bf8f01cfea414140de5dae2223b00361a396177a9cb410ff61f20015ad, 010000000700000001ba7816bf8f01cfea414140de5dae2223b00361a396177a9cb410ff61f20015ad
+    named 0 7 2          => 010000000700000001ba7816bf8f01cfea414140de5dae2223b00361a396177a9cb410ff61f20015ad, none
+    named 0 8 1          => 010000000700000001ba7816bf8f01cfea414140de5dae2223b00361a396177a9cb410ff61f20015ad, none
+    named 5 7 1          => 02000000070000000100000005ba7816bf8f01cfea414140de5dae2223b00361a396177a9cb410ff61f20015ad, 02000000070000000100000005ba7816bf8f01cfea414140de5dae2223b00361a396177a9cb410ff61f20015ad
+    named 4294967295 7 2 => 020000000700000001ffffffffba7816bf8f01cfea414140de5dae2223b00361a396177a9cb410ff61f20015ad, none
+";
 
 #[test]
 fn an_opening_answers_the_name(rt: HostRuntime) -> Result<(), Fail> {
-    each(rt.alloc(), NAMES)
+    each_line(rt.alloc(), &mut Opening, NAMES)
 }

@@ -8,40 +8,37 @@ ghost use Rattle.fw_kept.specs.Head.{Holds};
 ghost use Rattle.fw_rollout.specs.Daemon.{IsLed, Rests};
 ghost use Rattle.fw_rollout.specs.Leading.{Leader};
 
+use crate::book::{head, meter};
 use crate::head::{carried, width};
+use crate::subject::Subject;
 use fw_journal::MemoryDevice;
 use fw_kept::KeptHead;
 use fw_rollout::{Datagram, Due, Ended, HeadDaemon, Listed, MeterList, Timing};
 use std::alloc::Global;
 use std::net::{Ipv4Addr, SocketAddr};
 use std::test::Fail;
-use test_support::{Kept, Takes, head, meter};
+use test_tables::{Kept, Reads, Words};
 
-/// What is done with a daemon, or asked of it. Times are in microseconds.
-pub(crate) enum Event {
-    /// What is sent at this time: the meter, the number of its address, and the APDUs.
-    Due(u64),
-    /// An APDU comes at this time, from the address of this number: what comes of it.
-    Comes(u64, u16, &'static str),
-    /// Whether the rows that ended are to be put on the device at this time.
-    IsSaveDue(u64),
-    /// The rows that ended are put on the device: which they are.
-    Saved,
-    /// Whether all is over.
-    IsOver,
-    /// How far it is.
-    Counts,
-}
-
-impl Takes<Event> for HeadDaemon<MemoryDevice> {
-    fn take(&mut self, alloc: Global, event: &Event) -> Result<String, Fail> {
-        match *event {
-            Event::Due(now) => due_text(alloc, self, now),
-            Event::Comes(now, from, apdu) => heard_text(alloc, self, now, (from, apdu)),
-            Event::IsSaveDue(now) => answer_text(alloc, self.is_save_due(now)),
-            Event::Saved => saved_text(alloc, self),
-            Event::IsOver => answer_text(alloc, self.is_over()),
-            Event::Counts => Ok(format!(in alloc; "{:?}", self.counts())?),
+/// What is done with a daemon, or asked of it. Times are in microseconds:
+///
+/// - `due TIME`: what is sent at this time: the meter, the number of its address, and the APDUs
+/// - `comes TIME ADDRESS APDU`, from the address of this number: what comes of it
+/// - `save-due TIME`: whether the rows that ended are to be put on the device at this time
+/// - `saved`, which puts them there: which they are
+/// - `over`: whether all is over
+/// - `counts`: how far it is
+impl Reads for Subject<HeadDaemon<MemoryDevice>> {
+    fn told(&mut self, alloc: Global, what: &str) -> Result<String, Fail> {
+        let daemon = &mut self.0;
+        let mut words = Words::new(what);
+        match words.word()? {
+            "due" => due_text(alloc, daemon, u64::from(words.number()?)),
+            "comes" => heard_text(alloc, daemon, words),
+            "save-due" => answer_text(alloc, daemon.is_save_due(u64::from(words.number()?))),
+            "saved" => saved_text(alloc, daemon),
+            "over" => answer_text(alloc, daemon.is_over()),
+            "counts" => Ok(format!(in alloc; "{:?}", daemon.counts())?),
+            _ => Err("a daemon takes no such step".into()),
         }
     }
 }
@@ -86,11 +83,11 @@ fn push_apdu(alloc: Global, text: &mut String, datagram: &[u8]) -> Result<(), Fa
 fn heard_text(
     alloc: Global,
     daemon: &mut HeadDaemon<MemoryDevice>,
-    now: u64,
-    (from, apdu): (u16, &str),
+    mut words: Words<'_>,
 ) -> Result<String, Fail> {
-    let datagram = carried(alloc, apdu)?;
-    let heard = daemon.heard(now, address(from), &datagram)?;
+    let now = u64::from(words.number()?);
+    let Datagram { address, bytes } = coming(alloc, words)?;
+    let heard = daemon.heard(now, address, &bytes)?;
     Ok(format!(in alloc; "{heard:?}")?)
 }
 
@@ -103,10 +100,10 @@ fn saved_text(alloc: Global, daemon: &mut HeadDaemon<MemoryDevice>) -> Result<St
     Ok(text)
 }
 
-/// Appends a row that ended.
+/// Appends a row that ended, with a semicolon after it.
 pub(crate) fn push_ended(text: &mut String, ended: &Ended) -> Result<(), Fail> {
     let (meter, ending) = (ended.meter.number(), ended.ending);
-    write!(text, "{meter} {ending:?} ")?;
+    write!(text, "{meter} {ending:?};")?;
     Ok(())
 }
 
@@ -120,11 +117,11 @@ pub(crate) fn number_of(address: SocketAddr) -> u16 {
     address.port() % 100
 }
 
-/// The datagram that carries an APDU from the address of this number.
-pub(crate) fn coming_from(alloc: Global, from: u16, apdu: &str) -> Result<Datagram, Fail> {
+/// The datagram of `ADDRESS APDU`, which carries the APDU from the address of this number.
+pub(crate) fn coming(alloc: Global, mut words: Words<'_>) -> Result<Datagram, Fail> {
     Ok(Datagram {
-        address: address(from),
-        bytes: carried(alloc, apdu)?,
+        address: address(words.word()?.parse::<u16>()?),
+        bytes: carried(alloc, words.rest())?,
     })
 }
 

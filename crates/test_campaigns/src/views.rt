@@ -1,39 +1,39 @@
 //! What a book shows of itself, and how its refusals are printed.
 
-use crate::book::{Call, after, campaign};
+use crate::book::{after, campaign, meter};
 use fw_book::{Book, BookError};
 use std::alloc::Global;
 use std::test::Fail;
-use test_support::{Case, each, each_prints, meter};
+use test_tables::{Reads, Words, each_line, each_prints};
 
 /// Two campaigns, the second of release 5: in the first, meter 1 failed, and meter 2 is live.
-const CALLS: &[Call] = &[
-    Call::Open(7, 5, b"abc", &[2, 1]),
-    Call::Fail(7, 5, 1),
-    Call::OpenRelease(7, 3, 5, b"abd", &[1]),
-];
+const CALLS: &str = "open 7 5 0 abc 2 1; fail 7 5 1; open 7 3 5 abd 1";
 
-/// What is shown of the book after these calls.
-enum Shown {
-    /// The head end, and then each row in order: its campaign's serial number, its meter's number and its state.
-    Rows,
-    /// The image of a campaign, its release, and the name under which it is offered.
-    Offer(u32, u32),
-    /// The state of a meter in campaign (7, 5), whether it is live there, and whether it is live in any campaign.
-    Meter(u32),
-    /// Whether any row of campaign (7, 5) is live, before it is cancelled and afterwards.
-    Live,
+/// What is shown of the book after these calls:
+///
+/// - `rows`: the head end, and then each row in order: its campaign's serial number, its meter's number and its state
+/// - `offer HEAD SERIAL`: the image of a campaign, its release, and the name under which it is offered
+/// - `meter SERIAL METER`: the state of a meter in a campaign of head end 7, whether it is live there, and whether it is live in any campaign
+/// - `state SERIAL METER`: its state there
+/// - `live`: whether any row of campaign (7, 5) is live, before it is cancelled and afterwards
+#[derive(Clone, Copy)]
+pub(crate) struct After(pub(crate) &'static str);
+
+impl Reads for After {
+    fn told(&mut self, alloc: Global, what: &str) -> Result<String, Fail> {
+        let mut book = after(alloc, self.0)?;
+        shown_text(alloc, &mut book.0, Words::new(what))
+    }
 }
 
-impl Case for Shown {
-    fn told(&self, alloc: Global) -> Result<String, Fail> {
-        let mut book = after(alloc, CALLS)?;
-        match *self {
-            Shown::Rows => rows_text(alloc, &book.0),
-            Shown::Offer(head, serial) => offer_text(alloc, &book.0, head, serial),
-            Shown::Meter(number) => meter_text(alloc, &book.0, number),
-            Shown::Live => live_text(alloc, &mut book.0),
-        }
+fn shown_text(alloc: Global, book: &mut Book, mut words: Words<'_>) -> Result<String, Fail> {
+    match words.word()? {
+        "rows" => rows_text(alloc, book),
+        "offer" => offer_text(alloc, book, words.number()?, words.number()?),
+        "meter" => meter_text(alloc, book, words.number()?, words.number()?),
+        "state" => state_text(alloc, book, words.number()?, words.number()?),
+        "live" => live_text(alloc, book),
+        _ => Err("nothing of this name is shown".into()),
     }
 }
 
@@ -57,12 +57,17 @@ fn offer_text(alloc: Global, book: &Book, head: u32, serial: u32) -> Result<Stri
     Ok(format!(in alloc; "{image} {} {name}", offer.release())?)
 }
 
-fn meter_text(alloc: Global, book: &Book, number: u32) -> Result<String, Fail> {
+fn meter_text(alloc: Global, book: &Book, serial: u32, number: u32) -> Result<String, Fail> {
     let meter = meter(number)?;
-    let offer = book.offer(campaign(7, 5)?).ok_or("no serial 5")?;
+    let offer = book.offer(campaign(7, serial)?).ok_or("no such campaign")?;
     let (state, live) = (offer.state(meter), offer.is_live(meter));
     let busy = book.is_busy(meter);
     Ok(format!(in alloc; "{state:?} {live} {busy}")?)
+}
+
+fn state_text(alloc: Global, book: &Book, serial: u32, number: u32) -> Result<String, Fail> {
+    let state = book.state(campaign(7, serial)?, meter(number)?);
+    Ok(format!(in alloc; "{state:?}")?)
 }
 
 fn live_text(alloc: Global, book: &mut Book) -> Result<String, Fail> {
@@ -77,30 +82,21 @@ fn has_live(book: &Book) -> Result<bool, Fail> {
     Ok(book.offer(campaign).is_some_and(|offer| offer.has_live()))
 }
 
-const SHOWN: &[(Shown, &str)] = &[
-    (
-        Shown::Rows,
-        "7 [(5, 2, Live), (5, 1, Failed), (3, 1, Live)]",
-    ),
-    (
-        Shown::Offer(7, 5),
-        "616263 0 010000000700000005ba7816bf8f01cfea414140de5dae2223b00361a396177a9cb410ff61f20015ad",
-    ),
-    (
-        Shown::Offer(7, 3),
-        "616264 5 02000000070000000300000005a52d159f262b2c6ddb724a61840befc36eb30c88877a4030b65cbe86298449c9",
-    ),
-    (Shown::Offer(7, 4), "none"),
-    (Shown::Offer(8, 5), "none"),
-    (Shown::Meter(2), "Some(Live) true true"),
-    (Shown::Meter(1), "Some(Failed) false true"),
-    (Shown::Meter(3), "None false false"),
-    (Shown::Live, "true false"),
-];
+const SHOWN: &str = "
+    rows      => 7 [(5, 2, Live), (5, 1, Failed), (3, 1, Live)]
+    offer 7 5 => 616263 0 010000000700000005ba7816bf8f01cfea414140de5dae2223b00361a396177a9cb410ff61f20015ad
+    offer 7 3 => 616264 5 02000000070000000300000005a52d159f262b2c6ddb724a61840befc36eb30c88877a4030b65cbe86298449c9
+    offer 7 4 => none
+    offer 8 5 => none
+    meter 5 2 => Some(Live) true true
+    meter 5 1 => Some(Failed) false true
+    meter 5 3 => None false false
+    live      => true false
+";
 
 #[test]
 fn what_is_shown(rt: HostRuntime) -> Result<(), Fail> {
-    each(rt.alloc(), SHOWN)
+    each_line(rt.alloc(), &mut After(CALLS), SHOWN)
 }
 
 const REFUSALS: &[(BookError, &str)] = &[

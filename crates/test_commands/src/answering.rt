@@ -1,5 +1,8 @@
 //! The command `answer`, over readers and writers in memory, and over some that fail.
 
+use crate::ending::report_of;
+use crate::lines::answers;
+use crate::replaying::script_of;
 use fw_capture::{CaptureError, CaptureFault};
 use fw_cli::{AnswerOptions, run_answer};
 use fw_faults::Fault;
@@ -7,7 +10,7 @@ use std::alloc::Global;
 use std::io;
 use std::io::{ErrorKind, Read, Write};
 use std::test::Fail;
-use test_support::{Case, each, each_prints, expect_at};
+use test_tables::{Reads, Words, each_line, each_prints, expect_at};
 
 pub(crate) const DEFAULTS: AnswerOptions<'static> = AnswerOptions {
     block_size: 2,
@@ -16,33 +19,10 @@ pub(crate) const DEFAULTS: AnswerOptions<'static> = AnswerOptions {
 };
 
 /// A confirmed GET of the active firmware identifier, and its answer.
-const GET: &str = "000100010001000dc001c100010100000200ff0200\n";
+const GET_LINE: &str = "000100010001000dc001c100010100000200ff0200\n";
 
-const NAME: &str =
+const NAME_LINE: &str =
     "000100010001002fc401c1000929010000000000000000ba7816bf8f01cfea414140de5dae2223b00361a396177a9cb410ff61f20015ad\n";
-
-/// Whole datagrams: reads of a new meter, and then a transfer of two blocks up to where it can be switched to.
-const TRANSFER: &str = "\
-000100010001000dc001c1001200002c0000ff0400
-000100010001000dc001c1001200002c0000ff0300
-000100010001000fc101c1001200002c0000ff05000301
-000100010001003fc301c1001200002c0000ff010102020929010000000700000001ba7816bf8f01cfea414140de5dae2223b00361a396177a9cb410ff61f20015ad0600000003
-0001000100010018c301c1001200002c0000ff02010202060000000009026162
-0001000100010017c301c1001200002c0000ff020102020600000001090163
-000100010001000fc301c1001200002c0000ff03010f00
-000100010001000dc001c1001200002c0000ff0700
-";
-
-const TRANSFERRED: &str = "\
-0001000100010009c401c1000600000000
-0001000100010006c401c1000400
-0001000100010004c501c100
-0001000100010005c701c10000
-0001000100010005c701c10000
-0001000100010005c701c10000
-0001000100010005c701c10000
-000100010001005ac401c1000101020306000000030929010000000700000001ba7816bf8f01cfea414140de5dae2223b00361a396177a9cb410ff61f20015ad0920ba7816bf8f01cfea414140de5dae2223b00361a396177a9cb410ff61f20015ad
-";
 
 /// What is written of these lines, and after it the fault, if there is one.
 pub(crate) fn answered(
@@ -67,141 +47,108 @@ fn from_reader<R: Read>(
     Ok(text)
 }
 
-/// Lines for a meter with the options above.
-struct Lines(&'static str);
+/// Reads what is answered:
+///
+/// - `lines TEXT`: lines, as `script_of` has them, for a meter with the options above
+/// - `options BLOCK-SIZE CAPACITY IMAGE`: a bad line for a meter with these
+/// - `room N`: a GET and a bad line, where the writer has room for N bytes
+#[derive(Clone, Copy)]
+struct Answers;
 
-impl Case for Lines {
-    fn told(&self, alloc: Global) -> Result<String, Fail> {
-        answered(alloc, self.0, &DEFAULTS)
+impl Reads for Answers {
+    fn told(&mut self, alloc: Global, what: &str) -> Result<String, Fail> {
+        let mut words = Words::new(what);
+        match words.word()? {
+            "lines" => {
+                let told = answered(alloc, &script_of(alloc, words.rest())?, &DEFAULTS)?;
+                Ok(report_of(alloc, REPORTS, &told)?)
+            }
+            "options" => {
+                let options = AnswerOptions {
+                    block_size: u64::from(words.number()?),
+                    capacity: words.word()?.parse::<u64>()?,
+                    factory: words.rest(),
+                };
+                answered(alloc, "x", &options)
+            }
+            _ => into_room(alloc, words.number()? as usize),
+        }
     }
 }
 
-const ANSWERED: &[(Lines, &str)] = &[
-    (Lines(GET), NAME),
-    // a length that is one too low
-    (Lines("000100010001000cc001c100010100000200ff0200\n"), "-\n"),
-    // no confirmation wanted
-    (Lines("000100010001000dc0018100010100000200ff0200\n"), "-\n"),
-    // a byte after the request
-    (
-        Lines("000100010001000ec001c100010100000200ff020000\n"),
-        "-\n",
-    ),
-    // an empty datagram, then either case and no LF at the end
-    (
-        Lines("\n000100010001000DC001C100010100000200FF0100"),
-        "-\n000100010001000cc401c10009060100000200ff\n",
-    ),
-    (Lines(""), ""),
-    (Lines(TRANSFER), TRANSFERRED),
-];
-
-/// A line after a GET and an empty datagram, and before another GET.
-struct Third(&'static str);
-
-impl Case for Third {
-    fn told(&self, alloc: Global) -> Result<String, Fail> {
-        let input = format!(in alloc; "{GET}\n{}\n{GET}", self.0)?;
-        answered(alloc, input.as_str(), &DEFAULTS)
-    }
+fn into_room(alloc: Global, room: usize) -> Result<String, Fail> {
+    let input = script_of(alloc, "get / x /")?;
+    let mut writer = FullWriter { room };
+    let result = run_answer(alloc, &mut input.as_bytes(), &mut writer, &DEFAULTS);
+    Ok(format!(in alloc; "{result:?}")?)
 }
 
-/// The replies before a bad line, and the fault.
-const BAD: &str =
-    "000100010001002fc401c1000929010000000000000000ba7816bf8f01cfea414140de5dae2223b00361a396177a9cb410ff61f20015ad\n-\nBadLine(3)";
+/// The answer to a GET, and that before a bad line in the third place.
+const REPORTS: &str = "\
+[name]
+000100010001002fc401c1000929010000000000000000ba7816bf8f01cfea414140de5dae2223b00361a396177a9cb410ff61f20015ad
+[bad]
+000100010001002fc401c1000929010000000000000000ba7816bf8f01cfea414140de5dae2223b00361a396177a9cb410ff61f20015ad
+-
+BadLine(3)";
 
-const BAD_LINES: &[(Third, &str)] = &[
-    (Third("0"), BAD),
-    (Third("0g"), BAD),
-    (Third(" 00"), BAD),
-    (Third("00 "), BAD),
-    (Third("00\r"), BAD),
-    (Third("-"), BAD),
-    (Third("#"), BAD),
-    (Third("0x00"), BAD),
-];
+const ANSWERED: &str = "\
+lines get /                                             => name
+// a length that is one too low
+lines 000100010001000cc001c100010100000200ff0200 /      => - /
+// no confirmation wanted
+lines 000100010001000dc0018100010100000200ff0200 /      => - /
+// a byte after the request
+lines 000100010001000ec001c100010100000200ff020000 /    => - /
+// an empty datagram, then either case and no LF at the end
+lines / 000100010001000DC001C100010100000200FF0100      => - / 000100010001000cc401c10009060100000200ff /
+lines                                                   =>
+
+// a line after a GET and an empty datagram, and before another GET
+lines get / / 0 / get /                                 => bad
+lines get / / 0g / get /                                => bad
+lines get / / _ 00 / get /                              => bad
+lines get / / 00 _ / get /                              => bad
+lines get / / 00^ / get /                               => bad
+lines get / / - / get /                                 => bad
+lines get / / # / get /                                 => bad
+lines get / / 0x00 / get /                              => bad
+";
+
+/// Whole datagrams: reads of a new meter, and then a transfer of two blocks up to where it can be switched to.
+const TRANSFER: &str = "\
+[TRANSFER]
+000100010001000dc001c1001200002c0000ff0400 => 0001000100010009c401c1000600000000
+000100010001000dc001c1001200002c0000ff0300 => 0001000100010006c401c1000400
+000100010001000fc101c1001200002c0000ff05000301 => 0001000100010004c501c100
+000100010001003fc301c1001200002c0000ff010102020929010000000700000001 sha-abc 0600000003 => 0001000100010005c701c10000
+0001000100010018c301c1001200002c0000ff02010202060000000009026162 => 0001000100010005c701c10000
+0001000100010017c301c1001200002c0000ff020102020600000001090163 => 0001000100010005c701c10000
+000100010001000fc301c1001200002c0000ff03010f00 => 0001000100010005c701c10000
+000100010001000dc001c1001200002c0000ff0700 => 000100010001005ac401c1000101020306000000030929010000000700000001 sha-abc 0920 sha-abc
+";
 
 #[test]
 fn answers_each_line_before_a_bad_one(rt: HostRuntime) -> Result<(), Fail> {
-    each(rt.alloc(), ANSWERED)?;
-    each(rt.alloc(), BAD_LINES)
+    each_line(rt.alloc(), &mut Answers, ANSWERED)?;
+    answers(rt.alloc(), TRANSFER, "TRANSFER", &DEFAULTS)
 }
 
-/// Options, where the input would be a bad line.
-struct Options(AnswerOptions<'static>);
-
-impl Case for Options {
-    fn told(&self, alloc: Global) -> Result<String, Fail> {
-        answered(alloc, "x", &self.0)
-    }
-}
-
-/// Options that describe no meter. The input isn't looked at.
-const OPTIONS: &[(Options, &str)] = &[
-    (
-        Options(AnswerOptions {
-            factory: "6",
-            ..DEFAULTS
-        }),
-        "BadSetup",
-    ),
-    (
-        Options(AnswerOptions {
-            factory: "6x",
-            ..DEFAULTS
-        }),
-        "BadSetup",
-    ),
-    (
-        Options(AnswerOptions {
-            factory: "",
-            ..DEFAULTS
-        }),
-        "BadSetup",
-    ),
-    (
-        Options(AnswerOptions {
-            block_size: 0,
-            ..DEFAULTS
-        }),
-        "BadSetup",
-    ),
-    (
-        Options(AnswerOptions {
-            capacity: 2,
-            ..DEFAULTS
-        }),
-        "BadSetup",
-    ),
-    (
-        Options(AnswerOptions {
-            capacity: 16_777_217,
-            ..DEFAULTS
-        }),
-        "BadSetup",
-    ),
-    (
-        Options(AnswerOptions {
-            capacity: 4_294_967_296,
-            ..DEFAULTS
-        }),
-        "BadSetup",
-    ),
-];
-
-/// The largest capacity.
-const LARGEST: &[(Options, &str)] = &[(
-    Options(AnswerOptions {
-        capacity: 16_777_216,
-        ..DEFAULTS
-    }),
-    "BadLine(1)",
-)];
+/// Options that describe no meter, and the largest capacity. The input is looked at only for this one.
+const OPTIONS: &str = "\
+options 2 64 6              => BadSetup
+options 2 64 6x             => BadSetup
+options 2 64                => BadSetup
+options 0 64 616263         => BadSetup
+options 2 2 616263          => BadSetup
+options 2 16777217 616263   => BadSetup
+options 2 4294967296 616263 => BadSetup
+options 2 16777216 616263   => BadLine(1)
+";
 
 #[test]
 fn options_that_describe_no_meter_are_refused(rt: HostRuntime) -> Result<(), Fail> {
-    each(rt.alloc(), OPTIONS)?;
-    each(rt.alloc(), LARGEST)
+    each_line(rt.alloc(), &mut Answers, OPTIONS)
 }
 
 /// Interrupted once, then a byte at a time, and then broken.
@@ -262,7 +209,7 @@ fn readers_that_fail(rt: HostRuntime) -> Result<(), Fail> {
     let alloc = rt.alloc();
     let mut broken = BrokenReader {
         interrupted: false,
-        left: GET.as_bytes(),
+        left: GET_LINE.as_bytes(),
     };
     let found = from_reader(alloc, &mut broken, &DEFAULTS)?;
     expect_at(alloc, "broken", found.as_str(), "Input")?;
@@ -278,11 +225,11 @@ fn an_interrupted_reader_is_asked_again(rt: HostRuntime) -> Result<(), Fail> {
     let alloc = rt.alloc();
     let mut reader = InterruptedReader {
         interruptions: 1_000_000,
-        left: GET.as_bytes(),
+        left: GET_LINE.as_bytes(),
         reads: 0,
     };
     let found = from_reader(alloc, &mut reader, &DEFAULTS)?;
-    expect_at(alloc, "interrupted", found.as_str(), NAME)?;
+    expect_at(alloc, "interrupted", found.as_str(), NAME_LINE)?;
     let reads = format!(in alloc; "{}", reader.reads)?;
     expect_at(alloc, "reads", reads.as_str(), "1000002")
 }
@@ -308,23 +255,11 @@ impl Write for FullWriter {
     }
 }
 
-/// A writer with room for N bytes, where a bad line comes after a GET.
-struct Room(usize);
-
-impl Case for Room {
-    fn told(&self, alloc: Global) -> Result<String, Fail> {
-        let input = format!(in alloc; "{GET}x\n")?;
-        let mut writer = FullWriter { room: self.0 };
-        let result = run_answer(alloc, &mut input.as_bytes(), &mut writer, &DEFAULTS);
-        Ok(format!(in alloc; "{result:?}")?)
-    }
-}
-
-const ROOMS: &[(Room, &str)] = &[
-    (Room(0), "Err(Output)"),
-    (Room(1), "Err(Output)"),
-    (Room(40), "Err(Output)"),
-];
+const ROOMS: &str = "\
+room 0  => Err(Output)
+room 1  => Err(Output)
+room 40 => Err(Output)
+";
 
 const FAULTS: &[(Fault, &str)] = &[
     (Fault::BadLine(3), "BadLine 3"),
@@ -364,6 +299,6 @@ const FAULTS: &[(Fault, &str)] = &[
 
 #[test]
 fn writers_that_fail_and_printed_faults(rt: HostRuntime) -> Result<(), Fail> {
-    each(rt.alloc(), ROOMS)?;
+    each_line(rt.alloc(), &mut Answers, ROOMS)?;
     each_prints(rt.alloc(), FAULTS)
 }

@@ -1,61 +1,61 @@
 //! Whether two meters are the same, each after a session of its own.
 
-use crate::apdus::*;
-use crate::sessions::*;
-use crate::wire::{Part, same_after};
+use crate::wire::same_after;
 use std::alloc::Global;
 use std::test::Fail;
-use test_support::{Case, each};
+use test_tables::{Reads, each_line};
 
-/// Two sessions.
-struct Compared(&'static [Part], &'static [Part]);
+/// Transfers that were begun.
+const BEGUN: &str = "\
+[ENABLED]
+enable => set-done
 
-impl Case for Compared {
-    fn told(&self, alloc: Global) -> Result<String, Fail> {
-        let same = same_after(alloc, self.0, self.1)?;
-        Ok(format!(in alloc; "{same}")?)
+[BBBB]
+enable        => set-done
+initiate-bbbb => done
+
+[AA_OF_BBBB]
+enable        => set-done
+initiate-bbbb => done
+aa-at-0       => done
+
+[BB_OF_BBBB]
+enable        => set-done
+initiate-bbbb => done
+bb-at-0       => done
+
+[BBBB_AGAIN]
+enable        => set-done
+initiate-bbbb => done
+aa-at-0       => done
+initiate-bbbb => done
+";
+
+/// Reads two sessions.
+#[derive(Clone, Copy)]
+struct Compares;
+
+impl Reads for Compares {
+    fn told(&mut self, alloc: Global, what: &str) -> Result<String, Fail> {
+        let (one, other) = what.split_once('|').ok_or("one session alone")?;
+        let same = same_after(alloc, BEGUN, one, other)?;
+        Ok(String::from_str(alloc, if same { "the same" } else { "another" })?)
     }
 }
 
-const PAIRS: &[(Compared, &str)] = &[
-    // a fuse makes no difference, and a restart none here
-    (Compared(&[], &[Part::Fuses(0)]), "true"),
-    (
-        Compared(
-            &[Part::Says(WHOLE_TRANSFER)],
-            &[Part::Says(WHOLE_TRANSFER), Part::Restarts],
-        ),
-        "true",
-    ),
-    // one is enabled, one has activated, and one has other bytes of a block
-    (Compared(&[], &[Part::Says(&[(ENABLE, SET_DONE)])]), "false"),
-    (
-        Compared(&[Part::Says(TWO_BLOCKS)], &[Part::Says(WHOLE_TRANSFER)]),
-        "false",
-    ),
-    (
-        Compared(
-            &[Part::Says(&[(ENABLE, SET_DONE), (INITIATE_BBBB, DONE), (AA_AT_0, DONE)])],
-            &[Part::Says(&[(ENABLE, SET_DONE), (INITIATE_BBBB, DONE), (BB_AT_0, DONE)])],
-        ),
-        "false",
-    ),
-    // bytes that no block has make no difference
-    (
-        Compared(
-            &[Part::Says(&[(ENABLE, SET_DONE), (INITIATE_BBBB, DONE)])],
-            &[Part::Says(&[
-                (ENABLE, SET_DONE),
-                (INITIATE_BBBB, DONE),
-                (AA_AT_0, DONE),
-                (INITIATE_BBBB, DONE),
-            ])],
-        ),
-        "true",
-    ),
-];
+const PAIRS: &str = "\
+// a fuse makes no difference, and a restart none here
+               | fuse 0                  => the same
+WHOLE_TRANSFER | WHOLE_TRANSFER; restart => the same
+// one is enabled, one has activated, and one has other bytes of a block
+               | ENABLED                 => another
+TWO_BLOCKS     | WHOLE_TRANSFER          => another
+AA_OF_BBBB     | BB_OF_BBBB              => another
+// bytes that no block has make no difference
+BBBB           | BBBB_AGAIN              => the same
+";
 
 #[test]
 fn by_their_sessions(rt: HostRuntime) -> Result<(), Fail> {
-    each(rt.alloc(), PAIRS)
+    each_line(rt.alloc(), &mut Compares, PAIRS)
 }

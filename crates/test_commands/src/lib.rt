@@ -8,6 +8,8 @@ mod answering;
 #[cfg(test)]
 mod apdus;
 #[cfg(test)]
+mod captures;
+#[cfg(test)]
 mod comparing;
 #[cfg(test)]
 mod ending;

@@ -1,66 +1,70 @@
-//! Sessions with the command `answer`, one datagram a line, with the options that it has by default.
+//! Sessions with the command `answer`, one datagram a line.
 
 use crate::answering::{DEFAULTS, answered};
-use crate::sessions::*;
-use crate::wire::{Exchange, datagram};
-use std::alloc::{AllocError, Global};
+use crate::sessions::exchanges_of;
+use crate::wire::datagram;
+use fw_cli::AnswerOptions;
+use std::alloc::Global;
 use std::test::Fail;
-use test_support::expect_at;
+use test_tables::expect_at;
 
-/// The lines of a session: those that are read, and those that are written.
-pub(crate) fn lines(alloc: Global, parts: &[&[Exchange]]) -> Result<(String, String), AllocError> {
-    let mut told = (String::new(alloc), String::new(alloc));
-    for part in parts {
-        push_exchanges(alloc, &mut told, part)?;
+/// One side of a session.
+#[derive(Clone, Copy)]
+pub(crate) enum Side {
+    Requests,
+    Replies,
+}
+
+/// The lines of one side of these exchanges.
+pub(crate) fn lines(alloc: Global, exchanges: &str, side: Side) -> Result<String, Fail> {
+    let mut lines = String::new(alloc);
+    for line in exchanges.lines() {
+        let (request, reply) = line.split_once("=>").ok_or("a request without a reply")?;
+        let words = match side {
+            Side::Requests => request,
+            Side::Replies => reply,
+        };
+        lines.push_str(&datagram(alloc, words)?)?;
+        lines.push_str("\n")?;
     }
-    Ok(told)
+    Ok(lines)
 }
 
-/// Appends the lines of a part of a session.
-pub(crate) fn push_exchanges(
+/// In a session in parts, with a new meter, each request gets its reply.
+pub(crate) fn answers(
     alloc: Global,
-    told: &mut (String, String),
-    part: &[Exchange],
-) -> Result<(), AllocError> {
-    for (request, reply) in part {
-        push_exchange(alloc, told, (request, reply))?;
-    }
-    Ok(())
+    sections: &str,
+    parts: &str,
+    options: &AnswerOptions<'_>,
+) -> Result<(), Fail> {
+    let exchanges = exchanges_of(alloc, sections, parts)?;
+    let found = answered(alloc, &lines(alloc, &exchanges, Side::Requests)?, options)?;
+    expect_at(
+        alloc,
+        parts,
+        &found,
+        &lines(alloc, &exchanges, Side::Replies)?,
+    )
 }
 
-/// Appends those of a request and its reply.
-pub(crate) fn push_exchange(
-    alloc: Global,
-    told: &mut (String, String),
-    exchange: (&str, &str),
-) -> Result<(), AllocError> {
-    push_line(alloc, &mut told.0, exchange.0)?;
-    push_line(alloc, &mut told.1, exchange.1)
-}
-
-fn push_line(alloc: Global, lines: &mut String, text: &str) -> Result<(), AllocError> {
-    let line = datagram(alloc, text)?;
-    lines.push_str(&line)?;
-    lines.push_str("\n")
-}
-
-/// A session in parts, with a new meter.
-fn session(alloc: Global, parts: &[&[Exchange]]) -> Result<(), Fail> {
-    let (read, want) = lines(alloc, parts)?;
-    let found = answered(alloc, &read, &DEFAULTS)?;
-    expect_at(alloc, read.as_str(), found.as_str(), want.as_str())
-}
+/// Sessions, a line each.
+const LINE_BY_LINE: &str = "\
+NOTHING_SENT
+TEN_BLOCKS
+SIZES_THAT_DO_NOT_FIT
+MIXED_BLOCKS; BOTH_BLOCKS_AGAIN
+LATE_BLOCK; ACTIVATED_TWICE
+LATE_BLOCK; ANOTHER_IMAGE
+BLOCKS_THAT_DO_NOT_FIT
+REFUSED_BY_A_NEW_METER
+TWO_BLOCKS
+WHOLE_TRANSFER
+";
 
 #[test]
 fn sessions_line_by_line(rt: HostRuntime) -> Result<(), Fail> {
-    session(rt.alloc(), &[NOTHING_SENT])?;
-    session(rt.alloc(), &[TEN_BLOCKS])?;
-    session(rt.alloc(), &[SIZES_THAT_DO_NOT_FIT])?;
-    session(rt.alloc(), &[MIXED_BLOCKS, BOTH_BLOCKS_AGAIN])?;
-    session(rt.alloc(), &[LATE_BLOCK, ACTIVATED_TWICE])?;
-    session(rt.alloc(), &[LATE_BLOCK, ANOTHER_IMAGE])?;
-    session(rt.alloc(), &[BLOCKS_THAT_DO_NOT_FIT])?;
-    session(rt.alloc(), &[REFUSED_BY_A_NEW_METER])?;
-    session(rt.alloc(), &[TWO_BLOCKS])?;
-    session(rt.alloc(), &[WHOLE_TRANSFER])
+    for parts in LINE_BY_LINE.lines() {
+        answers(rt.alloc(), "", parts, &DEFAULTS)?;
+    }
+    Ok(())
 }

@@ -1,93 +1,66 @@
 //! The command `rehearse`, over readers and writers in memory. Scripts and reports are worked out by hand from the head end's and the
 //! meter's documents.
 
-use crate::ending::ended;
-use crate::replaying::no_capture;
+use crate::ending::{ended, report_of};
+use crate::replaying::{no_capture, script_of};
 use crate::terminals::NO_TERMINAL;
 use fw_cli::{RehearseOptions, Rounds, run_rehearse};
 use fw_faults::Fault;
 use std::alloc::Global;
-use std::io::{Read, Write};
 use std::sync::Wait;
 use std::test::Fail;
 use std::thread::Threads;
-use test_support::expect;
+use test_tables::{Words, expect_at};
 
-/// A script, the rounds and the workers of its rehearsal, and the fates of the datagrams.
-struct Rehearsal(&'static str, u32, u32, &'static str);
-
-/// Whether a trace is asked for.
-#[derive(Clone, Copy)]
-enum Trace {
-    Without,
-    With,
-}
-
-impl Rehearsal {
-    /// What the command returns.
-    fn run<T: Threads + Wait + Sync, R: Read, W: Write>(
-        &self,
-        rt: &T,
-        alloc: Global,
-        reader: &mut R,
-        writer: &mut W,
-        trace: Trace,
-    ) -> Result<(), Fault> {
-        let Rehearsal(_, rounds, workers, fates) = *self;
-        let rounds = Rounds { rounds, fates };
-        run_rehearse(
-            rt,
-            alloc,
-            reader,
-            writer,
-            &mut no_capture(),
-            NO_TERMINAL,
-            &RehearseOptions {
-                rounds,
-                workers,
-                trace: matches!(trace, Trace::With),
-            },
-        )
-    }
-
-    /// What is written, and after it the fault.
-    fn told<T: Threads + Wait + Sync>(
-        &self,
-        rt: &T,
-        alloc: Global,
-        trace: Trace,
-    ) -> Result<String, Fail> {
-        let mut written = Vec::new(alloc);
-        let result = self.run(rt, alloc, &mut self.0.as_bytes(), &mut written, trace);
-        ended(alloc, written, result)
-    }
-}
-
-/// Each rehearsal reports what stands beside it. Any other report is an error, with the place of its row.
+/// Each rehearsal reports what stands after its arrow. A line has the rounds and the workers of one, the fates of the datagrams, and after `|` the
+/// script, as `script_of` has it.
 fn each<T: Threads + Wait + Sync>(
     rt: &T,
     alloc: Global,
-    rows: &[(Rehearsal, &str)],
-    trace: Trace,
+    table: &str,
+    trace: bool,
 ) -> Result<(), Fail> {
-    for (at, (rehearsal, want)) in rows.iter().enumerate() {
-        let found = rehearsal.told(rt, alloc, trace)?;
-        expect(alloc, at, found.as_str(), want)?;
+    for line in table.lines() {
+        if !line.starts_with("//") {
+            let (what, want) = line.split_once("=>").ok_or("a row without an arrow")?;
+            let told = rehearsed(rt, alloc, what, trace)?;
+            expect_at(alloc, line, &told, want.trim())?;
+        }
     }
     Ok(())
 }
 
-/// A head end, and four meters with blocks of two bytes.
-pub(crate) const FOUR: &str = "\
-head 7 width 4
-meter 1 block 2 capacity 64 factory 78
-meter 2 block 2 capacity 64 factory 78
-meter 3 block 2 capacity 64 factory 78
-meter 4 block 2 capacity 64 factory 78
-open 7 1 616263 1 2 3 4
-";
+/// What is written, and after it the fault.
+fn rehearsed<T: Threads + Wait + Sync>(
+    rt: &T,
+    alloc: Global,
+    what: &str,
+    trace: bool,
+) -> Result<String, Fail> {
+    let (how, script) = what.split_once('|').ok_or("no script")?;
+    let script = script_of(alloc, script.trim())?;
+    let mut words = Words::new(how);
+    let (rounds, workers, fates) = (words.number()?, words.number()?, words.rest());
+    let mut written = Vec::new(alloc);
+    let result = run_rehearse(
+        rt,
+        alloc,
+        &mut script.as_bytes(),
+        &mut written,
+        &mut no_capture(),
+        NO_TERMINAL,
+        &RehearseOptions {
+            rounds: Rounds { rounds, fates },
+            workers,
+            trace,
+        },
+    );
+    Ok(report_of(alloc, REPORTS, &ended(alloc, written, result)?)?)
+}
 
-const FOUR_DONE: &str = "\
+/// Reports by their names.
+const REPORTS: &str = "\
+[four-done]
 row 7 1 1 done
 row 7 1 2 done
 row 7 1 3 done
@@ -98,9 +71,7 @@ meter 3 status 6 active 7 1 size 3
 meter 4 status 6 active 7 1 size 3
 activations 4
 board 4
-";
-
-const NONE_DONE: &str = "\
+[none-done]
 row 7 1 1 live
 row 7 1 2 live
 row 7 1 3 live
@@ -111,122 +82,18 @@ meter 3 status 0 active 0 0 size 1
 meter 4 status 0 active 0 0 size 1
 activations 0
 board 0
-";
-
-const ONE: &str = "\
-head 7 width 4
-meter 1 block 2 capacity 64 factory 78
-open 7 1 616263 1
-";
-
-/// A campaign of release 5 that is done, and after it one without a release for the same meter.
-const OLDER: &str = "\
-head 7 width 4
-meter 1 block 2 capacity 64 factory 78
-open-release 7 1 5 616263 1
-tick 7 1
-deliver 0 1
-tick 7 1
-deliver 2 3
-tick 7 1
-deliver 4 5
-tick 7 1
-deliver 6 7 8 9
-tick 7 1
-deliver 10 11
-tick 7 1
-deliver 12 13
-tick 7 1
-deliver 14 15
-tick 7 1
-deliver 16 17
-tick 7 1
-deliver 18 19
-open 7 2 616263 1
-";
-
-const OLDER_FAILED: &str = "\
+[older-failed]
 row 7 1 1 done
 row 7 2 1 failed
 meter 1 status 6 active 7 1 size 3
 activations 1
 board 1
-";
-
-/// An old meter, which starts again before the rounds, and stops before its header is written in version 2 or after that.
-const OLD_BEFORE: &str = "\
-head 7 width 4
-meter 1 block 2 capacity 64 factory 78 old
-open 7 1 616263 1
-stop-restart 1 2 0
-";
-
-const OLD_AFTER: &str = "\
-head 7 width 4
-meter 1 block 2 capacity 64 factory 78 old
-open 7 1 616263 1
-stop-restart 1 3 0
-";
-
-const ONE_DONE: &str = "\
+[one-done]
 row 7 1 1 done
 meter 1 status 6 active 7 1 size 3
 activations 1
 board 1
-";
-
-pub(crate) const TWICE: &str = "\
-head 7 width 4
-meter 1 block 2 capacity 64 factory 78
-open 7 1 616263 1
-open 7 1 616263 1
-";
-
-const BUSY: &str = "\
-head 7 width 4
-meter 1 block 2 capacity 64 factory 78
-open 7 1 616263 1
-open 7 2 616263 1
-";
-
-pub(crate) const NO_HEADS: &str = "meter 1 block 2 capacity 64 factory 78\n";
-
-const REPORTS: &[(Rehearsal, &str)] = &[
-    // of each link every third datagram is lost, and every fourth comes twice
-    (Rehearsal(FOUR, 40, 2, "ddxtdxdtxddx"), FOUR_DONE),
-    // nine rounds in which all comes, by a worker, and by more than there are links
-    (Rehearsal(FOUR, 9, 1, "d"), FOUR_DONE),
-    (Rehearsal(FOUR, 9, 8, "d"), FOUR_DONE),
-    // each datagram is lost
-    (Rehearsal(FOUR, 9, 2, "x"), NONE_DONE),
-    // the meter runs a higher release
-    (Rehearsal(OLDER, 3, 1, "d"), OLDER_FAILED),
-    // the meter is an old one
-    (Rehearsal(OLD_BEFORE, 9, 1, "d"), ONE_DONE),
-    (Rehearsal(OLD_AFTER, 9, 1, "d"), ONE_DONE),
-    // no link
-    (
-        Rehearsal(
-            "head 7 width 4\nmeter 1 block 2 capacity 64 factory 78\n",
-            1,
-            1,
-            "d",
-        ),
-        "meter 1 status 0 active 0 0 size 1\nactivations 0\nboard 0\n",
-    ),
-];
-
-#[test]
-fn rehearsals_and_their_reports(rt: HostRuntime) -> Result<(), Fail> {
-    each(&rt, rt.alloc(), REPORTS, Trace::Without)
-}
-
-/// Fates come first, then a bad line, then what can't begin, and last an event that is refused. Of none of these anything is written.
-/// With one worker the datagrams have one order: that in which `replay` sends them in the same rounds.
-const TRACES: &[(Rehearsal, &str)] = &[
-    (
-        Rehearsal(ONE, 9, 1, "d"),
-        "\
+[trace]
 0 head 7 -> meter 1  get block size
 1 meter 1 -> head 7  get 2
 2 head 7 -> meter 1  enable
@@ -251,11 +118,7 @@ row 7 1 1 done
 meter 1 status 6 active 7 1 size 3
 activations 1
 board 1
-",
-    ),
-    (
-        Rehearsal(ONE, 2, 1, "xd"),
-        "\
+[trace-lost]
 0 head 7 -> meter 1  get block size  lost
 1 head 7 -> meter 1  get block size
 2 meter 1 -> head 7  get 2  lost
@@ -263,43 +126,79 @@ row 7 1 1 live
 meter 1 status 0 active 0 0 size 1
 activations 0
 board 0
-",
-    ),
-];
+";
+
+const REHEARSALS: &str = "\
+// of each link every third datagram is lost, and every fourth comes twice
+40 2 ddxtdxdtxddx  | four /                                    => four-done
+// nine rounds in which all comes, by a worker, and by more than there are links
+9 1 d              | four /                                    => four-done
+9 8 d              | four /                                    => four-done
+// each datagram is lost
+9 2 x              | four /                                    => none-done
+// the meter runs a higher release
+3 1 d              | to-done-5 / open 7 2 616263 1 /           => older-failed
+// the meter is an old one
+9 1 d              | old-setup / open / stop-restart 1 2 0 /   => one-done
+9 1 d              | old-setup / open / stop-restart 1 3 0 /   => one-done
+// no link
+1 1 d              | setup /                                   => meter 1 status 0 active 0 0 size 1 / activations 0 / board 0 /
+";
+
+#[test]
+fn rehearsals_and_their_reports(rt: HostRuntime) -> Result<(), Fail> {
+    each(&rt, rt.alloc(), REHEARSALS, false)
+}
+
+/// With one worker the datagrams have one order: that in which `replay` sends them in the same rounds.
+const TRACES: &str = "\
+9 1 d              | setup / open / => trace
+2 1 xd             | setup / open / => trace-lost
+";
 
 #[test]
 fn rehearsals_and_their_traces(rt: HostRuntime) -> Result<(), Fail> {
-    each(&rt, rt.alloc(), TRACES, Trace::With)
+    each(&rt, rt.alloc(), TRACES, true)
 }
 
-const BAD: &[(Rehearsal, &str)] = &[
-    (Rehearsal("x\n", 1, 0, ""), "BadFates"),
-    (Rehearsal("x\n", 1, 0, "dxtlD"), "BadFates"),
-    (Rehearsal("x\n", 1, 0, "dxtl"), "BadLine 1"),
-    (Rehearsal(NO_HEADS, 1, 1, "d"), "BadSetup"),
-    // no workers, and nine workers: there are 1 to 8
-    (Rehearsal(FOUR, 1, 0, "d"), "BadSetup"),
-    (Rehearsal(FOUR, 1, 9, "d"), "BadSetup"),
-    (Rehearsal(TWICE, 1, 1, "d"), "Event"),
-    (Rehearsal(BUSY, 1, 1, "d"), "Event"),
-];
+/// Fates come first, then a bad line, then what can't begin, and last an event that is refused. Of none of these anything is written.
+const BAD: &str = "\
+1 0                | x /                                => BadFates
+1 0 dxtlD          | x /                                => BadFates
+1 0 dxtl           | x /                                => BadLine 1
+1 1 d              | meter 1 block 2 capacity 64 factory 78 / => BadSetup
+// no workers, and nine workers: there are 1 to 8
+1 0 d              | four /                             => BadSetup
+1 9 d              | four /                             => BadSetup
+1 1 d              | setup / open / open /              => Event
+1 1 d              | setup / open / open 7 2 616263 1 / => Event
+";
 
 #[test]
 fn what_cannot_be_rehearsed(rt: HostRuntime) -> Result<(), Fail> {
-    each(&rt, rt.alloc(), BAD, Trace::Without)
+    each(&rt, rt.alloc(), BAD, false)
 }
 
 #[test]
 fn writer_that_fails(rt: HostRuntime) -> Result<(), Fail> {
     let alloc = rt.alloc();
+    let script = script_of(alloc, "setup / open /")?;
     let mut room = [0; 70];
-    let mut writer = room.as_mut_slice();
-    let result = Rehearsal(ONE, 1, 1, "d").run(
+    let result = run_rehearse(
         &rt,
         alloc,
-        &mut ONE.as_bytes(),
-        &mut writer,
-        Trace::Without,
+        &mut script.as_bytes(),
+        &mut room.as_mut_slice(),
+        &mut no_capture(),
+        NO_TERMINAL,
+        &RehearseOptions {
+            rounds: Rounds {
+                rounds: 1,
+                fates: "d",
+            },
+            workers: 1,
+            trace: false,
+        },
     );
     assert!(rt; result == Err(Fault::Output));
     Ok(())

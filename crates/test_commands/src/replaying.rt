@@ -2,21 +2,14 @@
 //! head end's and the meter's documents.
 
 use crate::answering::{BrokenReader, EndlessReader, FullWriter};
+use crate::apdus::{digits, push_word};
+use crate::ending::report_of;
 use fw_cli::{Ended, ReplayOptions, Rounds, run_replay};
 use fw_report::{ReportForm, Style};
 use std::alloc::{AllocError, Global};
 use std::io::{Read, Stderr};
 use std::test::Fail;
-use test_support::{Case, each, expect_at};
-
-/// Rounds: how many, and the fates of their datagrams.
-pub(crate) type Given = Option<(u32, &'static str)>;
-
-/// A head end asks a meter.
-const TICK: &str = "tick 7 1\n";
-
-/// No rounds.
-pub(crate) const ALONE: Given = None;
+use test_tables::{Reads, Words, each_line, expect_at, named};
 
 /// No terminal.
 const NO_TERMINAL: Option<&'static Stderr> = None;
@@ -26,25 +19,42 @@ pub(crate) fn no_capture() -> Option<Vec<u8>> {
     None
 }
 
-/// The report in lines, without a trace.
-const LINES: Style = Style {
-    trace: false,
-    report: ReportForm::Lines,
+/// The options without rounds.
+const ALONE: ReplayOptions<'static> = ReplayOptions {
+    rounds: None,
+    style: Style {
+        trace: false,
+        report: ReportForm::Lines,
+    },
 };
 
-/// The options with these rounds.
-pub(crate) fn options(given: Option<(u32, &str)>) -> ReplayOptions<'_> {
-    ReplayOptions {
-        rounds: match given {
-            Some((rounds, fates)) => Some(Rounds { rounds, fates }),
+/// The options that words give: `lines`, `trace` with the trace before them, `table` or `json`, and the rounds and fates, if there are rounds.
+fn options_of<'a>(
+    form: &str,
+    rounds: Option<&str>,
+    fates: &'a str,
+) -> Result<ReplayOptions<'a>, Fail> {
+    Ok(ReplayOptions {
+        rounds: match rounds {
+            Some(rounds) => Some(Rounds {
+                rounds: rounds.parse::<u32>()?,
+                fates,
+            }),
             None => None,
         },
-        style: LINES,
-    }
+        style: Style {
+            trace: form == "trace",
+            report: match form {
+                "table" => ReportForm::Table,
+                "json" => ReportForm::Json,
+                _ => ReportForm::Lines,
+            },
+        },
+    })
 }
 
 /// What is written of what a reader has, and after it whether an event was refused, or the fault.
-pub(crate) fn replayed<R: Read>(
+fn replayed<R: Read>(
     alloc: Global,
     reader: &mut R,
     options: &ReplayOptions<'_>,
@@ -67,453 +77,125 @@ pub(crate) fn replayed<R: Read>(
     Ok(text)
 }
 
-/// The parts, one after the other.
-pub(crate) fn joined(alloc: Global, parts: &[&str]) -> Result<String, AllocError> {
+/// The text of a script, whose lines stand between slashes, or names of some. In a line `_` stands for an empty word, `^` at the end of a word
+/// for a carriage return, and `DD*N` for N times the digits DD.
+pub(crate) fn script_of(alloc: Global, script: &str) -> Result<String, Fail> {
+    // names stand for lines, and for names of lines
+    let lines = expanded(alloc, &expanded(alloc, script)?)?;
     let mut text = String::new(alloc);
-    for part in parts {
-        text.push_str(part)?;
+    for (at, line) in lines.split('/').enumerate() {
+        if at > 0 {
+            text.push_str("\n")?;
+        }
+        push_line(&mut text, line.trim())?;
     }
     Ok(text)
 }
 
-/// A script in parts, and the rounds.
-pub(crate) struct Script(pub(crate) &'static [&'static str], pub(crate) Given);
+fn expanded(alloc: Global, script: &str) -> Result<String, AllocError> {
+    let mut text = String::new(alloc);
+    for (at, part) in script.split('/').enumerate() {
+        if at > 0 {
+            text.push_str("/")?;
+        }
+        text.push_str(named(SCRIPTS, part.trim()).unwrap_or(part))?;
+    }
+    Ok(text)
+}
 
-impl Case for Script {
-    fn told(&self, alloc: Global) -> Result<String, Fail> {
-        let script = joined(alloc, self.0)?;
-        replayed(alloc, &mut script.as_bytes(), &options(self.1))
+fn push_line(text: &mut String, line: &str) -> Result<(), Fail> {
+    for (at, word) in line.split(' ').enumerate() {
+        if at > 0 {
+            text.push_str(" ")?;
+        }
+        match word.strip_suffix("^") {
+            Some(word) => {
+                push_word(text, word)?;
+                text.push_str("\r")?;
+            }
+            None if word == "_" => {}
+            None => push_word(text, word)?,
+        }
+    }
+    Ok(())
+}
+
+/// Reads how a script is replayed, as `options_of` has it, and after `|` the script, as `script_of` has it. It reports what is written, and then
+/// whether an event was refused, or the fault.
+#[derive(Clone, Copy)]
+pub(crate) struct Replays;
+
+impl Reads for Replays {
+    fn told(&mut self, alloc: Global, what: &str) -> Result<String, Fail> {
+        let (how, script) = what.split_once('|').ok_or("no script")?;
+        let script = script_of(alloc, script.trim())?;
+        let mut words = Words::new(how);
+        let form = words.word()?;
+        let rounds = words.next();
+        let fates = digits(alloc, "", words.rest())?;
+        let options = options_of(form, rounds, &fates)?;
+        let told = replayed(alloc, &mut script.as_bytes(), &options)?;
+        Ok(report_of(alloc, REPORTS, &told)?)
     }
 }
 
-/// One head end, and one meter with blocks of two bytes.
-pub(crate) const SETUP: &str = "\
-head 7 width 4
-meter 1 block 2 capacity 64 factory 78
+/// Parts of scripts.
+const SCRIPTS: &str = "\
+// one head end, and one meter with blocks of two bytes
+setup = head 7 width 4 / meter 1 block 2 capacity 64 factory 78
+open = open 7 1 616263 1
+// the same image of release 5
+open-5 = open-release 7 1 5 616263 1
+// up to where the image is there
+up-to-blocks = tick 7 1 / deliver 0 1 / tick 7 1 / deliver 2 3 / tick 7 1 / deliver 4 5 / tick 7 1 / deliver 6 7 8 9
+// then up to where the meter is asked to verify, which datagram 12 is
+up-to-verify = tick 7 1 / deliver 10 11 / tick 7 1
+// then up to where it is asked to activate, which datagram 16 is
+up-to-activate = deliver 12 13 / tick 7 1 / deliver 14 15 / tick 7 1
+// then up to the claim, which datagram 19 is
+up-to-done = deliver 16 17 / tick 7 1 / deliver 18 19
+// a campaign up to where the meter is asked to activate, and up to where its row is done, and one of release 5
+to-activate = setup / open / up-to-blocks / up-to-verify / up-to-activate
+to-done = setup / open / up-to-blocks / up-to-verify / up-to-activate / up-to-done
+to-done-5 = setup / open-5 / up-to-blocks / up-to-verify / up-to-activate / up-to-done
+// the same image again, and in place of its claim the old one
+second = open 7 2 616263 1 / tick 7 1 / deliver 20 21 / tick 7 1 / deliver 22 23 / tick 7 1 / deliver 24 25 / tick 7 1 / \
+    deliver 26 27 28 29 / tick 7 1 / deliver 30 31 / tick 7 1 / deliver 32 33 / tick 7 1 / deliver 34 35 / tick 7 1 / deliver 36 37 / \
+    tick 7 1 / deliver 19
+// after a second opening, up to where the meter answered whether it takes the image
+up-to-start = tick 7 1 / deliver 20 21 / tick 7 1 / deliver 22 23 / tick 7 1 / deliver 24 25
+// two head ends compete for a meter, and a late block of one lands after a block of the other
+mixed = head 1 width 4 / head 2 width 4 / meter 1 block 2 capacity 64 factory 78 / open 1 1 61616161 1 / open 2 1 62626262 1 / tick 1 1 / \
+    deliver 0 1 / tick 1 1 / deliver 2 3 / tick 1 1 / deliver 4 5 / tick 1 1 / tick 2 1 / deliver 8 9 / tick 2 1 / deliver 10 11 / \
+    tick 2 1 / deliver 12 13 / tick 2 1 / deliver 14 15 7 16 17 / tick 2 1 / deliver 19 20 / tick 2 1 / deliver 21 22
+// four meters
+four = head 7 width 4 / meter 1 block 2 capacity 64 factory 78 / meter 2 block 2 capacity 64 factory 78 / \
+    meter 3 block 2 capacity 64 factory 78 / meter 4 block 2 capacity 64 factory 78 / open 7 1 616263 1 2 3 4
+// a datagram comes three times, an answer to it twice, and the meter stops in two that enable it, of which the second comes again
+disturbed = tick 7 1 / deliver 0 0 0 1 1 / tick 7 1 / stop 4 0 0 / tick 7 1 / stop 5 0 0 / deliver 5
+// one head end, and one old meter with blocks of two bytes
+old-setup = head 7 width 4 / meter 1 block 2 capacity 64 factory 78 old
+// the image is verified, and the meter starts again. It stops before its header is written in version 2, and after that
+stopped-before = deliver 12 13 / stop-restart 1 3 0
+stopped-after = deliver 12 13 / stop-restart 1 4 0
+// then up to where it is asked to activate, which datagram 16 is
+on-to-activate = tick 7 1 / deliver 14 15 / tick 7 1
+// a GET of the active firmware identifier, for `answer`
+get = 000100010001000dc001c100010100000200ff0200
 ";
 
-pub(crate) const OPEN: &str = "open 7 1 616263 1\n";
-
-/// The same image of release 5.
-pub(crate) const OPEN_5: &str = "open-release 7 1 5 616263 1\n";
-
-/// Up to where the image is there.
-pub(crate) const UP_TO_BLOCKS: &str = "\
-tick 7 1
-deliver 0 1
-tick 7 1
-deliver 2 3
-tick 7 1
-deliver 4 5
-tick 7 1
-deliver 6 7 8 9
-";
-
-/// Then up to where the meter is asked to verify, which datagram 12 is.
-pub(crate) const UP_TO_VERIFY: &str = "\
-tick 7 1
-deliver 10 11
-tick 7 1
-";
-
-/// Then up to where it is asked to activate, which datagram 16 is.
-const UP_TO_ACTIVATE: &str = "\
-deliver 12 13
-tick 7 1
-deliver 14 15
-tick 7 1
-";
-
-/// Then up to the claim, which datagram 19 is.
-pub(crate) const UP_TO_DONE: &str = "\
-deliver 16 17
-tick 7 1
-deliver 18 19
-";
-
-/// The same image again, and in place of its claim the old one.
-const SECOND: &str = "\
-open 7 2 616263 1
-tick 7 1
-deliver 20 21
-tick 7 1
-deliver 22 23
-tick 7 1
-deliver 24 25
-tick 7 1
-deliver 26 27 28 29
-tick 7 1
-deliver 30 31
-tick 7 1
-deliver 32 33
-tick 7 1
-deliver 34 35
-tick 7 1
-deliver 36 37
-tick 7 1
-deliver 19
-";
-
-/// After a second opening, up to where the meter answered whether it takes the image.
-const UP_TO_START: &str = "\
-tick 7 1
-deliver 20 21
-tick 7 1
-deliver 22 23
-tick 7 1
-deliver 24 25
-";
-
-/// Two head ends compete for a meter, and a late block of one lands after a block of the other.
-const MIXED: &str = "\
-head 1 width 4
-head 2 width 4
-meter 1 block 2 capacity 64 factory 78
-open 1 1 61616161 1
-open 2 1 62626262 1
-tick 1 1
-deliver 0 1
-tick 1 1
-deliver 2 3
-tick 1 1
-deliver 4 5
-tick 1 1
-tick 2 1
-deliver 8 9
-tick 2 1
-deliver 10 11
-tick 2 1
-deliver 12 13
-tick 2 1
-deliver 14 15 7 16 17
-tick 2 1
-deliver 19 20
-tick 2 1
-deliver 21 22
-";
-
-/// Four meters.
-const FOUR: &str = "\
-head 7 width 4
-meter 1 block 2 capacity 64 factory 78
-meter 2 block 2 capacity 64 factory 78
-meter 3 block 2 capacity 64 factory 78
-meter 4 block 2 capacity 64 factory 78
-open 7 1 616263 1 2 3 4
-";
-
-pub(crate) const DONE: &str = "\
+/// Reports by their names.
+const REPORTS: &str = "\
+[done]
 row 7 1 1 done
 meter 1 status 6 active 7 1 size 3
 activations 1
-";
-
-const OLDER_FAILED: &str = "\
+[older-failed]
 row 7 1 1 done
 row 7 2 1 failed
 meter 1 status 6 active 7 1 size 3
 activations 1
-";
-
-/// The lines of a campaign, and those after them.
-struct After(&'static [&'static str], &'static [&'static str]);
-
-impl Case for After {
-    fn told(&self, alloc: Global) -> Result<String, Fail> {
-        let mut script = joined(alloc, self.0)?;
-        script.push_str(joined(alloc, self.1)?.as_str())?;
-        replayed(alloc, &mut script.as_bytes(), &options(ALONE))
-    }
-}
-
-/// A campaign up to where the meter is asked to activate.
-const TO_ACTIVATE: &[&str] = &[SETUP, OPEN, UP_TO_BLOCKS, UP_TO_VERIFY, UP_TO_ACTIVATE];
-
-/// A campaign up to where its row is done.
-const TO_DONE: &[&str] = &[
-    SETUP,
-    OPEN,
-    UP_TO_BLOCKS,
-    UP_TO_VERIFY,
-    UP_TO_ACTIVATE,
-    UP_TO_DONE,
-];
-
-/// One of release 5.
-const TO_DONE_5: &[&str] = &[
-    SETUP,
-    OPEN_5,
-    UP_TO_BLOCKS,
-    UP_TO_VERIFY,
-    UP_TO_ACTIVATE,
-    UP_TO_DONE,
-];
-
-/// What is left where a campaign stops or is done, and by what comes after it.
-const CAMPAIGNS: &[(After, &str)] = &[
-    (After(TO_DONE, &[]), DONE),
-    (
-        After(TO_DONE, &[SECOND]),
-        "\
-row 7 1 1 done
-row 7 2 1 live
-meter 1 status 6 active 7 2 size 3
-activations 2
-",
-    ),
-    (
-        After(TO_ACTIVATE, &["stop 16 0 0\n"]),
-        "\
-row 7 1 1 live
-meter 1 status 3 active 0 0 size 1
-activations 0
-",
-    ),
-    (
-        After(TO_ACTIVATE, &["stop 16 1 0\n"]),
-        "\
-row 7 1 1 live
-meter 1 status 6 active 7 1 size 3
-activations 1
-",
-    ),
-    // a meter that runs release 5 takes none below it, and takes an equal one
-    (
-        After(TO_DONE_5, &["open 7 2 616263 1\n", UP_TO_START]),
-        OLDER_FAILED,
-    ),
-    (
-        After(TO_DONE_5, &["open-release 7 2 4 616264 1\n", UP_TO_START]),
-        OLDER_FAILED,
-    ),
-    (
-        After(TO_DONE_5, &["open-release 7 2 5 616264 1\n", UP_TO_START]),
-        "\
-row 7 1 1 done
-row 7 2 1 live
-meter 1 status 1 active 7 1 size 3
-activations 1
-",
-    ),
-];
-
-const REPORTS: &[(Script, &str)] = &[
-    (
-        Script(&[FOUR], Some((40, "ddxtdxdtxddx"))),
-        "\
-row 7 1 1 done
-row 7 1 2 done
-row 7 1 3 done
-row 7 1 4 done
-meter 1 status 6 active 7 1 size 3
-meter 2 status 6 active 7 1 size 3
-meter 3 status 6 active 7 1 size 3
-meter 4 status 6 active 7 1 size 3
-activations 4
-",
-    ),
-    (
-        Script(&[MIXED], ALONE),
-        "\
-row 1 1 1 live
-row 2 1 1 live
-meter 1 status 4 active 0 0 size 1
-activations 0
-",
-    ),
-    // release 0 is none
-    (
-        Script(&[SETUP, "open-release 7 1 0 616263 1\n"], Some((9, "d"))),
-        DONE,
-    ),
-    (
-        Script(
-            &[SETUP, "open-release 7 1 4294967295 616263 1\n"],
-            Some((9, "d")),
-        ),
-        DONE,
-    ),
-    // nine rounds in which all comes
-    (Script(&[SETUP, OPEN], Some((9, "d"))), DONE),
-    // a cancelled row, and a line feed that is missing
-    (
-        Script(&[SETUP, OPEN, "cancel 7 1"], ALONE),
-        "row 7 1 1 cancelled\nmeter 1 status 0 active 0 0 size 1\nactivations 0\n",
-    ),
-    // no events
-    (
-        Script(&[SETUP], ALONE),
-        "meter 1 status 0 active 0 0 size 1\nactivations 0\n",
-    ),
-    // head ends and meters as the setup has them, and not by their numbers
-    (
-        Script(
-            &[
-                "head 9 width 1\nhead 2 width 1\nmeter 4294967295 block 2 capacity 64 factory 7879\n",
-                "meter 0 block 2 capacity 64 factory 78\n\n# openings\n",
-                "open 2 4294967295 61 0\nopen 2 1 61 4294967295\nopen 9 1 61 0 4294967295\n",
-            ],
-            ALONE,
-        ),
-        "row 9 1 0 live\nrow 9 1 4294967295 live\nrow 2 4294967295 0 live\nrow 2 1 4294967295 live\n\
-         meter 4294967295 status 0 active 0 0 size 2\nmeter 0 status 0 active 0 0 size 1\nactivations 0\n",
-    ),
-];
-
-#[test]
-fn scripts_and_their_reports(rt: HostRuntime) -> Result<(), Fail> {
-    each(rt.alloc(), REPORTS)?;
-    each(rt.alloc(), CAMPAIGNS)
-}
-
-/// A script in parts, and the rounds, with the trace too.
-struct Traced(&'static [&'static str], Given);
-
-impl Case for Traced {
-    fn told(&self, alloc: Global) -> Result<String, Fail> {
-        let script = joined(alloc, self.0)?;
-        let ReplayOptions { rounds, style } = options(self.1);
-        let options = ReplayOptions {
-            rounds,
-            style: Style {
-                trace: true,
-                report: style.report,
-            },
-        };
-        replayed(alloc, &mut script.as_bytes(), &options)
-    }
-}
-
-/// Campaigns, no datagram, an event that is refused, what the network does, and initiates that a meter refuses.
-const TRACES: &[(Traced, &str)] = &[
-    (Traced(TO_DONE, ALONE), TRACE),
-    // the names of an image with a release, and then an image of a lower one
-    (
-        Traced(
-            &[
-                SETUP,
-                OPEN_5,
-                UP_TO_BLOCKS,
-                UP_TO_VERIFY,
-                UP_TO_ACTIVATE,
-                UP_TO_DONE,
-                "open 7 2 616263 1\n",
-                UP_TO_START,
-            ],
-            ALONE,
-        ),
-        TRACE_5,
-    ),
-    (
-        Traced(&[SETUP], ALONE),
-        "meter 1 status 0 active 0 0 size 1\nactivations 0\n",
-    ),
-    // what comes after an event that is refused doesn't happen
-    (
-        Traced(&[SETUP, OPEN, "tick 7 1\ndeliver 0 2\ndeliver 1\n"], ALONE),
-        "\
-0 head 7 -> meter 1  get block size
-1 meter 1 -> head 7  get 2  lost
-row 7 1 1 live
-meter 1 status 0 active 0 0 size 1
-activations 0
-refused 3 NoSuchDatagram
-status 1",
-    ),
-    (
-        Traced(&[SETUP, OPEN, DISTURBED], ALONE),
-        "\
-0 head 7 -> meter 1  get block size  3 times
-1 meter 1 -> head 7  get 2  twice
-2 meter 1 -> head 7  get 2  lost
-3 meter 1 -> head 7  get 2  lost
-4 head 7 -> meter 1  enable  stopped
-5 head 7 -> meter 1  enable  twice  stopped
-6 meter 1 -> head 7  set 0  lost
-row 7 1 1 live
-meter 1 status 0 active 0 0 size 1
-activations 0
-",
-    ),
-    (
-        Traced(&[SETUP, OPEN], Some((2, "xd"))),
-        "\
-0 head 7 -> meter 1  get block size  lost
-1 head 7 -> meter 1  get block size
-2 meter 1 -> head 7  get 2  lost
-row 7 1 1 live
-meter 1 status 0 active 0 0 size 1
-activations 0
-",
-    ),
-    // a late block of one head end
-    (Traced(&[MIXED], ALONE), TRACE_MIXED),
-    // an image that is larger than the slots of the meter
-    (
-        Traced(
-            &[
-                "head 7 width 4\nmeter 1 block 2 capacity 2 factory 78\n",
-                OPEN,
-                "tick 7 1\ndeliver 0 1\ntick 7 1\ndeliver 2 3\ntick 7 1\ndeliver 4 5\n",
-            ],
-            ALONE,
-        ),
-        "\
-0 head 7 -> meter 1  get block size
-1 meter 1 -> head 7  get 2
-2 head 7 -> meter 1  enable
-3 meter 1 -> head 7  set 0
-4 head 7 -> meter 1  initiate campaign 7 1 (3 bytes)
-5 meter 1 -> head 7  action 250: not within the limits of the meter
-row 7 1 1 failed
-meter 1 status 0 active 0 0 size 1
-activations 0
-",
-    ),
-];
-
-const TRACE_MIXED: &str = "\
-0 head 1 -> meter 1  get block size
-1 meter 1 -> head 1  get 2
-2 head 1 -> meter 1  enable
-3 meter 1 -> head 1  set 0
-4 head 1 -> meter 1  initiate campaign 1 1 (4 bytes)
-5 meter 1 -> head 1  action 0
-6 head 1 -> meter 1  block 0 (2 bytes)  lost
-7 head 1 -> meter 1  block 1 (2 bytes)  late
-8 head 2 -> meter 1  get block size
-9 meter 1 -> head 2  get 2
-10 head 2 -> meter 1  enable
-11 meter 1 -> head 2  set 0
-12 head 2 -> meter 1  initiate campaign 2 1 (4 bytes)
-13 meter 1 -> head 2  action 0
-14 head 2 -> meter 1  block 0 (2 bytes)
-15 head 2 -> meter 1  block 1 (2 bytes)
-16 meter 1 -> head 2  action 0
-17 meter 1 -> head 2  action 0
-18 meter 1 -> head 1  action 0  lost
-19 head 2 -> meter 1  get first not transferred block
-20 meter 1 -> head 2  get 2
-21 head 2 -> meter 1  verify
-22 meter 1 -> head 2  action 250
-row 1 1 1 live
-row 2 1 1 live
-meter 1 status 4 active 0 0 size 1
-activations 0
-";
-
-/// A datagram comes three times, an answer to it twice, and the meter stops in two that enable it, of which the second comes again.
-const DISTURBED: &str = "\
-tick 7 1
-deliver 0 0 0 1 1
-tick 7 1
-stop 4 0 0
-tick 7 1
-stop 5 0 0
-deliver 5
-";
-
-const TRACE: &str = "\
+[trace]
 0 head 7 -> meter 1  get block size
 1 meter 1 -> head 7  get 2
 2 head 7 -> meter 1  enable
@@ -537,9 +219,7 @@ const TRACE: &str = "\
 row 7 1 1 done
 meter 1 status 6 active 7 1 size 3
 activations 1
-";
-
-const TRACE_5: &str = "\
+[trace-5]
 0 head 7 -> meter 1  get block size
 1 meter 1 -> head 7  get 2
 2 head 7 -> meter 1  enable
@@ -570,35 +250,81 @@ row 7 1 1 done
 row 7 2 1 failed
 meter 1 status 6 active 7 1 size 3
 activations 1
-";
-
-#[test]
-fn traces(rt: HostRuntime) -> Result<(), Fail> {
-    each(rt.alloc(), TRACES)
-}
-
-/// A script in parts, with the report in this form.
-struct Formed(&'static [&'static str], ReportForm);
-
-impl Case for Formed {
-    fn told(&self, alloc: Global) -> Result<String, Fail> {
-        let script = joined(alloc, self.0)?;
-        let options = ReplayOptions {
-            rounds: None,
-            style: Style {
-                trace: false,
-                report: self.1,
-            },
-        };
-        replayed(alloc, &mut script.as_bytes(), &options)
-    }
-}
-
-/// A campaign with a release, and an event that is refused.
-const FORMS: &[(Formed, &str)] = &[
-    (
-        Formed(TO_DONE_5, ReportForm::Table),
-        "\
+[trace-mixed]
+0 head 1 -> meter 1  get block size
+1 meter 1 -> head 1  get 2
+2 head 1 -> meter 1  enable
+3 meter 1 -> head 1  set 0
+4 head 1 -> meter 1  initiate campaign 1 1 (4 bytes)
+5 meter 1 -> head 1  action 0
+6 head 1 -> meter 1  block 0 (2 bytes)  lost
+7 head 1 -> meter 1  block 1 (2 bytes)  late
+8 head 2 -> meter 1  get block size
+9 meter 1 -> head 2  get 2
+10 head 2 -> meter 1  enable
+11 meter 1 -> head 2  set 0
+12 head 2 -> meter 1  initiate campaign 2 1 (4 bytes)
+13 meter 1 -> head 2  action 0
+14 head 2 -> meter 1  block 0 (2 bytes)
+15 head 2 -> meter 1  block 1 (2 bytes)
+16 meter 1 -> head 2  action 0
+17 meter 1 -> head 2  action 0
+18 meter 1 -> head 1  action 0  lost
+19 head 2 -> meter 1  get first not transferred block
+20 meter 1 -> head 2  get 2
+21 head 2 -> meter 1  verify
+22 meter 1 -> head 2  action 250
+row 1 1 1 live
+row 2 1 1 live
+meter 1 status 4 active 0 0 size 1
+activations 0
+[four-done]
+row 7 1 1 done
+row 7 1 2 done
+row 7 1 3 done
+row 7 1 4 done
+meter 1 status 6 active 7 1 size 3
+meter 2 status 6 active 7 1 size 3
+meter 3 status 6 active 7 1 size 3
+meter 4 status 6 active 7 1 size 3
+activations 4
+[by-the-setup]
+row 9 1 0 live
+row 9 1 4294967295 live
+row 2 4294967295 0 live
+row 2 1 4294967295 live
+meter 4294967295 status 0 active 0 0 size 2
+meter 0 status 0 active 0 0 size 1
+activations 0
+[trace-disturbed]
+0 head 7 -> meter 1  get block size  3 times
+1 meter 1 -> head 7  get 2  twice
+2 meter 1 -> head 7  get 2  lost
+3 meter 1 -> head 7  get 2  lost
+4 head 7 -> meter 1  enable  stopped
+5 head 7 -> meter 1  enable  twice  stopped
+6 meter 1 -> head 7  set 0  lost
+row 7 1 1 live
+meter 1 status 0 active 0 0 size 1
+activations 0
+[trace-two-rounds]
+0 head 7 -> meter 1  get block size  lost
+1 head 7 -> meter 1  get block size
+2 meter 1 -> head 7  get 2  lost
+row 7 1 1 live
+meter 1 status 0 active 0 0 size 1
+activations 0
+[trace-too-large]
+0 head 7 -> meter 1  get block size
+1 meter 1 -> head 7  get 2
+2 head 7 -> meter 1  enable
+3 meter 1 -> head 7  set 0
+4 head 7 -> meter 1  initiate campaign 7 1 (3 bytes)
+5 meter 1 -> head 7  action 250: not within the limits of the meter
+row 7 1 1 failed
+meter 1 status 0 active 0 0 size 1
+activations 0
+[table-done]
 head end    campaign    meter       state
 7           1           1           done
 
@@ -606,16 +332,7 @@ meter       status                   head end    campaign    release     bytes
 1           activation successful    7           1           5           3
 
 images activated: 1
-",
-    ),
-    (
-        Formed(TO_DONE_5, ReportForm::Json),
-        "{\"activations\":1,\"meters\":[{\"active\":{\"campaign\":1,\"head\":7,\"release\":5,\"size\":3},\"meter\":1,\"status\":6}],\
-         \"refused\":null,\"rows\":[{\"campaign\":1,\"head\":7,\"meter\":1,\"state\":\"done\"}]}\n",
-    ),
-    (
-        Formed(&[SETUP, OPEN, "tick 7 1\ndeliver 0 2\n"], ReportForm::Table),
-        "\
+[table-refused]
 head end    campaign    meter       state
 7           1           1           live
 
@@ -624,111 +341,113 @@ meter       status                   head end    campaign    release     bytes
 
 images activated: 0
 event 3 refused: NoSuchDatagram
-status 1",
-    ),
-    (
-        Formed(&[SETUP, OPEN, "tick 7 1\ndeliver 0 2\n"], ReportForm::Json),
-        "{\"activations\":0,\"meters\":[{\"active\":{\"campaign\":0,\"head\":0,\"release\":0,\"size\":1},\"meter\":1,\"status\":0}],\
-         \"refused\":{\"cause\":\"NoSuchDatagram\",\"event\":3},\
-         \"rows\":[{\"campaign\":1,\"head\":7,\"meter\":1,\"state\":\"live\"}]}\nstatus 1",
-    ),
-];
+status 1";
+
+const REPLAYED: &str = "\
+lines 40 ddxtdxdtxddx | four /                             => four-done
+lines | mixed /                                            => row 1 1 1 live / row 2 1 1 live / meter 1 status 4 active 0 0 size 1 / activations 0 /
+// release 0 is none
+lines 9 d | setup / open-release 7 1 0 616263 1 /          => done
+lines 9 d | setup / open-release 7 1 4294967295 616263 1 / => done
+// nine rounds in which all comes
+lines 9 d | setup / open /                                 => done
+// a cancelled row, and a line feed that is missing
+lines | setup / open / cancel 7 1                          => row 7 1 1 cancelled / meter 1 status 0 active 0 0 size 1 / activations 0 /
+// no events
+lines | setup /                                            => meter 1 status 0 active 0 0 size 1 / activations 0 /
+// head ends and meters as the setup has them, and not by their numbers
+lines | head 9 width 1 / head 2 width 1 / meter 4294967295 block 2 capacity 64 factory 7879 / meter 0 block 2 capacity 64 factory 78 / \
+    / # openings / open 2 4294967295 61 0 / open 2 1 61 4294967295 / open 9 1 61 0 4294967295 / => by-the-setup
+";
+
+/// What is left where a campaign stops or is done, and by what comes after it.
+const CAMPAIGNS: &str = "\
+lines | to-done /                                     => done
+lines | to-done / second /                            => row 7 1 1 done / row 7 2 1 live / meter 1 status 6 active 7 2 size 3 / activations 2 /
+lines | to-activate / stop 16 0 0 /                   => row 7 1 1 live / meter 1 status 3 active 0 0 size 1 / activations 0 /
+lines | to-activate / stop 16 1 0 /                   => row 7 1 1 live / meter 1 status 6 active 7 1 size 3 / activations 1 /
+// a meter that runs release 5 takes none below it, and takes an equal one
+lines | to-done-5 / open 7 2 616263 1 / up-to-start / => older-failed
+lines | to-done-5 / open-release 7 2 4 616264 1 / up-to-start / => older-failed
+lines | to-done-5 / open-release 7 2 5 616264 1 / up-to-start / => \
+    row 7 1 1 done / row 7 2 1 live / meter 1 status 1 active 7 1 size 3 / activations 1 /
+";
+
+#[test]
+fn scripts_and_their_reports(rt: HostRuntime) -> Result<(), Fail> {
+    each_line(rt.alloc(), &mut Replays, REPLAYED)?;
+    each_line(rt.alloc(), &mut Replays, CAMPAIGNS)
+}
+
+/// Campaigns, no datagram, an event that is refused, what the network does, and initiates that a meter refuses.
+const TRACES: &str = "\
+trace | to-done /                                           => trace
+// the names of an image with a release, and then an image of a lower one
+trace | setup / open-5 / up-to-blocks / up-to-verify / up-to-activate / up-to-done / open 7 2 616263 1 / up-to-start / => trace-5
+trace | setup /                                             => meter 1 status 0 active 0 0 size 1 / activations 0 /
+// what comes after an event that is refused doesn't happen
+trace | setup / open / tick 7 1 / deliver 0 2 / deliver 1 / => \
+    0 head 7 -> meter 1  get block size / 1 meter 1 -> head 7  get 2  lost / row 7 1 1 live / meter 1 status 0 active 0 0 size 1 / \
+    activations 0 / refused 3 NoSuchDatagram / status 1
+trace | setup / open / disturbed /                          => trace-disturbed
+trace 2 xd | setup / open /                                 => trace-two-rounds
+// a late block of one head end
+trace | mixed /                                             => trace-mixed
+// an image that is larger than the slots of the meter
+trace | head 7 width 4 / meter 1 block 2 capacity 2 factory 78 / open / tick 7 1 / deliver 0 1 / tick 7 1 / deliver 2 3 / tick 7 1 / \
+    deliver 4 5 / => trace-too-large
+";
+
+#[test]
+fn traces(rt: HostRuntime) -> Result<(), Fail> {
+    each_line(rt.alloc(), &mut Replays, TRACES)
+}
+
+/// A campaign with a release, and an event that is refused.
+const FORMS: &str = "\
+table | to-done-5 /                             => table-done
+json | to-done-5 / => \
+    {\"activations\":1,\"meters\":[{\"active\":{\"campaign\":1,\"head\":7,\"release\":5,\"size\":3},\"meter\":1,\"status\":6}],\
+    \"refused\":null,\"rows\":[{\"campaign\":1,\"head\":7,\"meter\":1,\"state\":\"done\"}]} /
+table | setup / open / tick 7 1 / deliver 0 2 / => table-refused
+json | setup / open / tick 7 1 / deliver 0 2 / => \
+    {\"activations\":0,\"meters\":[{\"active\":{\"campaign\":0,\"head\":0,\"release\":0,\"size\":1},\"meter\":1,\"status\":0}],\
+    \"refused\":{\"cause\":\"NoSuchDatagram\",\"event\":3},\"rows\":[{\"campaign\":1,\"head\":7,\"meter\":1,\"state\":\"live\"}]} / \
+    status 1
+";
 
 #[test]
 fn forms_of_reports(rt: HostRuntime) -> Result<(), Fail> {
-    each(rt.alloc(), FORMS)
+    each_line(rt.alloc(), &mut Replays, FORMS)
 }
 
 /// Stops after N calls of the store: in a block that is written again, and in verify.
-const STOPS: &[(Script, &str)] = &[
-    (
-        Script(
-            &[
-                SETUP,
-                OPEN,
-                UP_TO_BLOCKS,
-                "stop 6 0 238\n",
-                UP_TO_VERIFY,
-                "deliver 12 13\n",
-            ],
-            ALONE,
-        ),
-        "row 7 1 1 live\nmeter 1 status 4 active 0 0 size 1\nactivations 0\n",
-    ),
-    (
-        Script(
-            &[
-                SETUP,
-                OPEN,
-                UP_TO_BLOCKS,
-                "stop 6 1 238\n",
-                UP_TO_VERIFY,
-                "deliver 12 13\n",
-            ],
-            ALONE,
-        ),
-        "row 7 1 1 live\nmeter 1 status 3 active 0 0 size 1\nactivations 0\n",
-    ),
-    (
-        Script(
-            &[SETUP, OPEN, UP_TO_BLOCKS, UP_TO_VERIFY, "stop 12 0 0\n"],
-            ALONE,
-        ),
-        "row 7 1 1 live\nmeter 1 status 1 active 0 0 size 1\nactivations 0\n",
-    ),
-    (
-        Script(
-            &[SETUP, OPEN, UP_TO_BLOCKS, UP_TO_VERIFY, "stop 12 1 0\n"],
-            ALONE,
-        ),
-        "row 7 1 1 live\nmeter 1 status 1 active 0 0 size 1\nactivations 0\n",
-    ),
-    (
-        Script(
-            &[SETUP, OPEN, UP_TO_BLOCKS, UP_TO_VERIFY, "stop 12 2 0\n"],
-            ALONE,
-        ),
-        "row 7 1 1 live\nmeter 1 status 3 active 0 0 size 1\nactivations 0\n",
-    ),
-];
+const STOPS: &str = "\
+lines | setup / open / up-to-blocks / stop 6 0 238 / up-to-verify / deliver 12 13 / => \
+    row 7 1 1 live / meter 1 status 4 active 0 0 size 1 / activations 0 /
+lines | setup / open / up-to-blocks / stop 6 1 238 / up-to-verify / deliver 12 13 / => \
+    row 7 1 1 live / meter 1 status 3 active 0 0 size 1 / activations 0 /
+lines | setup / open / up-to-blocks / up-to-verify / stop 12 0 0 / => row 7 1 1 live / meter 1 status 1 active 0 0 size 1 / activations 0 /
+lines | setup / open / up-to-blocks / up-to-verify / stop 12 1 0 / => row 7 1 1 live / meter 1 status 1 active 0 0 size 1 / activations 0 /
+lines | setup / open / up-to-blocks / up-to-verify / stop 12 2 0 / => row 7 1 1 live / meter 1 status 3 active 0 0 size 1 / activations 0 /
+";
 
 #[test]
 fn stops(rt: HostRuntime) -> Result<(), Fail> {
-    each(rt.alloc(), STOPS)
+    each_line(rt.alloc(), &mut Replays, STOPS)
 }
 
-/// N rounds for an image of 8,193 bytes, which is verified in three slices.
-struct Large(u32);
-
-impl Case for Large {
-    fn told(&self, alloc: Global) -> Result<String, Fail> {
-        let image = hex::encode(alloc, vec![in alloc; b'a'; 8193]?.as_slice())?;
-        let script = joined(
-            alloc,
-            &[
-                "head 7 width 4\nmeter 1 block 1024 capacity 8193 factory 78\nopen 7 1 ",
-                image.as_str(),
-                " 1\n",
-            ],
-        )?;
-        replayed(alloc, &mut script.as_bytes(), &options(Some((self.0, "d"))))
-    }
-}
-
-const LARGE: &[(Large, &str)] = &[
-    (
-        Large(12),
-        "row 7 1 1 live\nmeter 1 status 6 active 7 1 size 8193\nactivations 1\n",
-    ),
-    (
-        Large(13),
-        "row 7 1 1 done\nmeter 1 status 6 active 7 1 size 8193\nactivations 1\n",
-    ),
-];
+/// Rounds for an image of 8,193 bytes, which is verified in three slices.
+const LARGE: &str = "\
+lines 12 d | head 7 width 4 / meter 1 block 1024 capacity 8193 factory 78 / open 7 1 61*8193 1 / => \
+    row 7 1 1 live / meter 1 status 6 active 7 1 size 8193 / activations 1 /
+lines 13 d | head 7 width 4 / meter 1 block 1024 capacity 8193 factory 78 / open 7 1 61*8193 1 / => \
+    row 7 1 1 done / meter 1 status 6 active 7 1 size 8193 / activations 1 /
+";
 
 #[test]
 fn rounds_with_turns(rt: HostRuntime) -> Result<(), Fail> {
-    each(rt.alloc(), LARGE)
+    each_line(rt.alloc(), &mut Replays, LARGE)
 }
 
 #[test]
@@ -738,117 +457,108 @@ fn readers_that_fail(rt: HostRuntime) -> Result<(), Fail> {
         interrupted: false,
         left: b"x\n",
     };
-    let found = replayed(alloc, &mut broken, &options(ALONE))?;
+    let found = replayed(alloc, &mut broken, &ALONE)?;
     expect_at(alloc, "broken", found.as_str(), "Input")?;
-    let found = replayed(alloc, &mut EndlessReader, &options(ALONE))?;
+    let found = replayed(alloc, &mut EndlessReader, &ALONE)?;
     expect_at(alloc, "endless", found.as_str(), "TooMuchInput")?;
     // bad fates are reported before anything is read
-    let found = replayed(alloc, &mut EndlessReader, &options(Some((1, ""))))?;
+    let found = replayed(
+        alloc,
+        &mut EndlessReader,
+        &options_of("lines", Some("1"), "")?,
+    )?;
     expect_at(alloc, "unread", found.as_str(), "BadFates")
 }
 
-/// A writer with room for N bytes, where an event is refused.
-struct Room(usize);
+/// Reads into what a script is replayed: `room N`, a writer with room for N bytes; `capture-room N`, a capture with as much, and whether nothing is
+/// written elsewhere; or `capture`, one in memory. The script stands after `|`.
+#[derive(Clone, Copy)]
+struct Written;
 
-impl Case for Room {
-    fn told(&self, alloc: Global) -> Result<String, Fail> {
-        let script = joined(alloc, &[SETUP, OPEN, OPEN])?;
-        let mut writer = FullWriter { room: self.0 };
-        let result = run_replay(
-            alloc,
-            &mut script.as_bytes(),
-            &mut writer,
-            &mut no_capture(),
-            NO_TERMINAL,
-            &options(ALONE),
-        );
-        Ok(format!(in alloc; "{result:?}")?)
+impl Reads for Written {
+    fn told(&mut self, alloc: Global, what: &str) -> Result<String, Fail> {
+        let (how, script) = what.split_once('|').ok_or("no script")?;
+        let script = script_of(alloc, script.trim())?;
+        let mut words = Words::new(how);
+        match words.word()? {
+            "room" => into_room(alloc, &script, words.number()? as usize),
+            "capture-room" => capture_into_room(alloc, &script, words.number()? as usize),
+            _ => captured(alloc, &script),
+        }
     }
 }
 
-const ROOMS: &[(Room, &str)] = &[
-    (Room(0), "Err(Output)"),
-    (Room(70), "Err(Output)"),
-    (Room(200), "Ok(Refused)"),
-];
+fn into_room(alloc: Global, script: &str, room: usize) -> Result<String, Fail> {
+    let result = run_replay(
+        alloc,
+        &mut script.as_bytes(),
+        &mut FullWriter { room },
+        &mut no_capture(),
+        NO_TERMINAL,
+        &ALONE,
+    );
+    Ok(format!(in alloc; "{result:?}")?)
+}
+
+fn capture_into_room(alloc: Global, script: &str, room: usize) -> Result<String, Fail> {
+    let mut written = Vec::new(alloc);
+    let result = run_replay(
+        alloc,
+        &mut script.as_bytes(),
+        &mut written,
+        &mut Some(FullWriter { room }),
+        NO_TERMINAL,
+        &ALONE,
+    );
+    let is_silent = written.is_empty();
+    Ok(format!(in alloc; "{result:?} {is_silent}")?)
+}
+
+fn captured(alloc: Global, script: &str) -> Result<String, Fail> {
+    let mut capture = Some(Vec::new(alloc));
+    let result = run_replay(
+        alloc,
+        &mut script.as_bytes(),
+        &mut Vec::new(alloc),
+        &mut capture,
+        NO_TERMINAL,
+        &ALONE,
+    );
+    let Some(bytes) = capture else {
+        return Err(Fail::from("no capture"));
+    };
+    let digits = hex::encode(alloc, bytes.as_slice())?;
+    Ok(format!(in alloc; "{result:?} {digits}")?)
+}
+
+/// Where an event is refused.
+const ROOMS: &str = "\
+room 0   | setup / open / open / => Err(Output)
+room 70  | setup / open / open / => Err(Output)
+room 200 | setup / open / open / => Ok(Refused)
+";
 
 #[test]
 fn writers_that_fail(rt: HostRuntime) -> Result<(), Fail> {
-    each(rt.alloc(), ROOMS)
+    each_line(rt.alloc(), &mut Written, ROOMS)
 }
 
-/// A writer of captures with room for N bytes, where an event is refused.
-struct CaptureRoom(usize);
-
-impl Case for CaptureRoom {
-    fn told(&self, alloc: Global) -> Result<String, Fail> {
-        let script = joined(alloc, &[SETUP, OPEN, TICK, OPEN])?;
-        let mut written = Vec::new(alloc);
-        let result = run_replay(
-            alloc,
-            &mut script.as_bytes(),
-            &mut written,
-            &mut Some(FullWriter { room: self.0 }),
-            NO_TERMINAL,
-            &options(ALONE),
-        );
-        let is_silent = written.is_empty();
-        Ok(format!(in alloc; "{result:?} {is_silent}")?)
-    }
-}
-
-const CAPTURE_ROOMS: &[(CaptureRoom, &str)] = &[
-    (CaptureRoom(0), "Err(CaptureFault) true"),
-    (CaptureRoom(108), "Err(CaptureFault) true"),
-    (CaptureRoom(109), "Ok(Refused) false"),
-];
-
-#[test]
-fn captures_that_fail(rt: HostRuntime) -> Result<(), Fail> {
-    each(rt.alloc(), CAPTURE_ROOMS)
-}
-
-/// Events after the opening of a campaign.
-struct CapturedRun(&'static str);
-
-impl Case for CapturedRun {
-    fn told(&self, alloc: Global) -> Result<String, Fail> {
-        let script = joined(alloc, &[SETUP, OPEN, self.0])?;
-        let mut written = Vec::new(alloc);
-        let mut capture = Some(Vec::new(alloc));
-        let result = run_replay(
-            alloc,
-            &mut script.as_bytes(),
-            &mut written,
-            &mut capture,
-            NO_TERMINAL,
-            &options(ALONE),
-        );
-        let Some(bytes) = capture else {
-            return Err(Fail::from("no capture"));
-        };
-        let digits = hex::encode(alloc, bytes.as_slice())?;
-        Ok(format!(in alloc; "{result:?} {digits}")?)
-    }
-}
-
-/// Nothing is sent; and the block size is asked for, also where an event is refused then. The checksums were worked out apart.
-const CAPTURED_RUNS: &[(CapturedRun, &str)] = &[
-    (
-        CapturedRun(""),
-        "Ok(Whole) 4d3cb2a1020004000000000000000000ffff000065000000",
-    ),
-    (
-        CapturedRun(TICK),
-        "Ok(Whole) 4d3cb2a1020004000000000000000000ffff0000650000000000000000000000450000004500000060000000001d114020010db800000001000000000000000720010db80000000200000000000000010fdb0fdb001df33f000100010001000dc001c0001200002c0000ff0200",
-    ),
-    (
-        CapturedRun("tick 7 1\ndeliver 9\n"),
-        "Ok(Refused) 4d3cb2a1020004000000000000000000ffff0000650000000000000000000000450000004500000060000000001d114020010db800000001000000000000000720010db80000000200000000000000010fdb0fdb001df33f000100010001000dc001c0001200002c0000ff0200",
-    ),
-];
+/// Captures that fail where an event is refused. Then captures where nothing is sent, and where the block size is asked for, also where an event is
+/// refused then. The checksums were worked out apart.
+const CAPTURES: &str = "\
+capture-room 0   | setup / open / tick 7 1 / open / => Err(CaptureFault) true
+capture-room 108 | setup / open / tick 7 1 / open / => Err(CaptureFault) true
+capture-room 109 | setup / open / tick 7 1 / open / => Ok(Refused) false
+capture | setup / open / => Ok(Whole) 4d3cb2a1020004000000000000000000ffff000065000000
+capture | setup / open / tick 7 1 / => \
+    Ok(Whole) 4d3cb2a1020004000000000000000000ffff0000650000000000000000000000450000004500000060000000001d114020010db8000000010000000000000007\
+    20010db80000000200000000000000010fdb0fdb001df33f000100010001000dc001c0001200002c0000ff0200
+capture | setup / open / tick 7 1 / deliver 9 / => \
+    Ok(Refused) 4d3cb2a1020004000000000000000000ffff0000650000000000000000000000450000004500000060000000001d114020010db8000000010000000000000007\
+    20010db80000000200000000000000010fdb0fdb001df33f000100010001000dc001c0001200002c0000ff0200
+";
 
 #[test]
 fn captures(rt: HostRuntime) -> Result<(), Fail> {
-    each(rt.alloc(), CAPTURED_RUNS)
+    each_line(rt.alloc(), &mut Written, CAPTURES)
 }

@@ -1,8 +1,7 @@
 //! What commands show on a terminal, which fails: what is written elsewhere stays the same.
 
 use crate::ending::ended;
-use crate::rehearsals::FOUR;
-use crate::replaying::no_capture;
+use crate::replaying::{no_capture, script_of};
 use fw_cli::{
     LiveOptions, RehearseOptions, ReplayOptions, Rounds, run_live, run_rehearse, run_replay,
 };
@@ -111,7 +110,8 @@ fn terminal_of_a_rehearsal(rt: HostRuntime) -> Result<(), Fail> {
         trace: false,
     };
     let mut written = Vec::new(alloc);
-    let reader = &mut FOUR.as_bytes();
+    let script = script_of(alloc, "four /")?;
+    let reader = &mut script.as_bytes();
     let result = run_rehearse(
         &rt,
         alloc,
@@ -140,7 +140,8 @@ fn terminal_of_a_live_rollout(rt: HostRuntime) -> Result<(), Fail> {
         trace: false,
     };
     let mut written = Vec::new(alloc);
-    let reader = &mut FOUR.as_bytes();
+    let script = script_of(alloc, "four /")?;
+    let reader = &mut script.as_bytes();
     let result = run_live(
         &rt,
         alloc,
@@ -186,7 +187,8 @@ fn terminal_of_a_replay(rt: HostRuntime) -> Result<(), Fail> {
         },
     };
     let mut written = Vec::new(alloc);
-    let reader = &mut FOUR.as_bytes();
+    let script = script_of(alloc, "four /")?;
+    let reader = &mut script.as_bytes();
     let result = match run_replay(
         alloc,
         reader,

@@ -1,108 +1,46 @@
-//! Sessions with a meter, in hexadecimal.
+//! Sessions with a meter, in words.
 
-use crate::apdus::DONE;
+use crate::apdus::apdu;
+use crate::sessions::exchanges_of;
 use fw_image::MeterView;
 use fw_meter::{MeterCore, asks_for_response};
 use fw_names::ImageName;
 use fw_store::{Goal, MemoryStore};
 use std::alloc::{AllocError, Global};
 use std::test::Fail;
-use test_support::expect_at;
+use test_tables::{Words, expect_at};
 
-/// A request, and the reply to it, or `-` where there is none. APDUs go from wPort 1 to wPort 1; what begins with another
-/// digit than `c` is a whole datagram.
-pub(crate) type Exchange = (&'static str, &'static str);
-
-/// A part of a session.
-#[derive(Clone, Copy)]
-pub(crate) enum Part {
-    /// Each request gets its reply.
-    Says(&'static [Exchange]),
-    /// Each request gets its reply, and changes nothing that can be seen.
-    SaysInVain(&'static [Exchange]),
-    /// What can be seen of the meter, as `sight` gives it.
-    Shows(&'static str),
-    /// N more calls of the store succeed. A write that then fails leaves the byte ee.
-    Fuses(u64),
-    /// No call of the store fails any more.
-    Unfuses,
-    /// The meter is restarted.
-    Restarts,
-    /// It is restarted, and stops after N calls of its store. Then it is opened with the header that is there.
-    StopsInRestart(u64),
-    /// An image may have at most N blocks.
-    Limits(u32),
-    /// A request gets a reply with N bytes 00 between two parts.
-    SaysZeros(&'static str, &'static str, usize, &'static str),
-    /// The meter takes a turn.
-    Turns,
-    /// Blocks of N bytes 61 are sent, from block 0 on, and each is done.
-    Sends(&'static [u32]),
-}
-
-/// Sessions, each with a new meter that runs `abc`, with blocks of two bytes and room for 64.
-pub(crate) fn sessions(alloc: Global, sessions: &[&[Part]]) -> Result<(), Fail> {
-    for parts in sessions {
-        session(alloc, parts)?;
-    }
-    Ok(())
-}
-
-/// One of them.
-pub(crate) fn session(alloc: Global, parts: &[Part]) -> Result<(), Fail> {
-    session_with(alloc, 2, 64, parts)
-}
-
-/// Sessions, each with a new meter that runs `x`, with blocks of 1,024 bytes and room for 8,193.
-pub(crate) fn large_sessions(alloc: Global, sessions: &[&[Part]]) -> Result<(), Fail> {
-    for parts in sessions {
-        played(alloc, 1_024, 8_193, b"x", parts)?;
-    }
-    Ok(())
-}
-
-/// A session with a new meter that runs `abc`.
-pub(crate) fn session_with(
-    alloc: Global,
-    block_size: u32,
-    capacity: u32,
-    parts: &[Part],
-) -> Result<(), Fail> {
-    played(alloc, block_size, capacity, b"abc", parts)?;
-    Ok(())
-}
-
-/// The same with an old meter, whose header has version 1.
-pub(crate) fn old_session_with(
-    alloc: Global,
-    block_size: u32,
-    capacity: u32,
-    parts: &[Part],
-) -> Result<(), Fail> {
-    let store = MemoryStore::new_old(alloc, capacity, block_size, b"abc")?;
-    played_by(alloc, kept(store)?, parts)?;
+/// A session with meters, one after another. It begins with a new one that runs `abc`, with blocks of two bytes and room for 64. Its steps stand
+/// between semicolons and line ends:
+///
+/// - `REQUEST => REPLY`, in names and digits, with `-` where there is no reply. APDUs go from wPort 1 to wPort 1; what begins with another digit
+///   than `c` is a whole datagram. In place of it stands the name of a section with such lines, of the sections that are passed or of `SESSIONS`
+/// - `in-vain` before those: they change nothing that can be seen
+/// - `shows TEXT`: what can be seen of the meter, as `sight` gives it; `limit N`: an image may have at most N blocks
+/// - `fuse N`: N more calls of the store succeed, and a write that then fails leaves the byte ee; `unfuse`: no call fails any more
+/// - `turn`: the meter takes a turn; `restart`: it is restarted
+/// - `stop-restart N`: it is restarted, and stops after N calls of its store. Then it is opened with the header that is there
+/// - `new`: another new meter, also `new BLOCK-SIZE CAPACITY IMAGE`; `new-old`: an old one, whose header has version 1
+pub(crate) fn session(alloc: Global, sections: &str, script: &str) -> Result<(), Fail> {
+    played(alloc, sections, script)?;
     Ok(())
 }
 
 /// Just those requests that are replied to ask for a response.
-pub(crate) fn asking(alloc: Global, exchanges: &[Exchange]) -> Result<(), Fail> {
-    for exchange in exchanges {
-        let request = hex::decode(alloc, datagram(alloc, exchange.0)?.as_str())?;
-        let asks = if asks_for_response(alloc, &request)? {
-            "asks"
-        } else {
-            "-"
-        };
-        let want = if exchange.1 == "-" { "-" } else { "asks" };
-        expect_at(alloc, exchange.0, asks, want)?;
+pub(crate) fn asking(alloc: Global, sections: &str, parts: &str) -> Result<(), Fail> {
+    for line in exchanges_of(alloc, sections, parts)?.lines() {
+        let (request, reply) = line.split_once("=>").ok_or("a request without a reply")?;
+        let datagram = hex::decode(alloc, datagram(alloc, request)?.as_str())?;
+        if asks_for_response(alloc, &datagram)? == (reply.trim() == "-") {
+            expect_at(alloc, line, "asks for the other", "")?;
+        }
     }
     Ok(())
 }
 
-/// The store of a new meter that runs `abc`, with blocks of two bytes and room for 64, after a session. A restart returns it where a
-/// call of it fails.
-pub(crate) fn store_after(alloc: Global, parts: &[Part]) -> Result<MemoryStore, Fail> {
-    let mut meter = played(alloc, 2, 64, b"abc", parts)?.into_meter();
+/// The store of a meter after a session. A restart returns it where a call of it fails.
+pub(crate) fn store_after(alloc: Global, script: &str) -> Result<MemoryStore, Fail> {
+    let mut meter = played(alloc, "", script)?.into_meter();
     meter.fuse(0, 0);
     match meter.restart() {
         Ok(_meter) => Err("a meter was opened from a store that fails".into()),
@@ -113,35 +51,24 @@ pub(crate) fn store_after(alloc: Global, parts: &[Part]) -> Result<MemoryStore, 
     }
 }
 
-/// Whether two new meters that run `abc`, with blocks of two bytes and room for 64, are the same after a session each.
-pub(crate) fn same_after(alloc: Global, one: &[Part], other: &[Part]) -> Result<bool, Fail> {
-    let one = played(alloc, 2, 64, b"abc", one)?;
-    let other = played(alloc, 2, 64, b"abc", other)?;
+/// Whether two meters are the same after a session each.
+pub(crate) fn same_after(
+    alloc: Global,
+    sections: &str,
+    one: &str,
+    other: &str,
+) -> Result<bool, Fail> {
+    let one = played(alloc, sections, one)?;
+    let other = played(alloc, sections, other)?;
     Ok(one.meter.same(&other.meter))
 }
 
-fn played(
-    alloc: Global,
-    block_size: u32,
-    capacity: u32,
-    factory: &[u8],
-    parts: &[Part],
-) -> Result<Wire, Fail> {
-    let store = MemoryStore::new(alloc, capacity, block_size, factory)?;
-    played_by(alloc, opened(store)?, parts)
-}
-
-/// A session with a meter.
-fn played_by(alloc: Global, meter: MeterCore<MemoryStore>, parts: &[Part]) -> Result<Wire, Fail> {
-    let mut wire = Wire {
-        meter,
-        told: String::new(alloc),
-    };
-    for part in parts {
-        match part {
-            Part::Restarts => wire = wire.restarted()?,
-            Part::StopsInRestart(calls) => wire = wire.stopped(*calls)?,
-            part => wire.take(alloc, part)?,
+/// The meter at the end of a session.
+fn played(alloc: Global, sections: &str, script: &str) -> Result<Wire, Fail> {
+    let mut wire = Wire::new(alloc, opened(MemoryStore::new(alloc, 64, 2, b"abc")?)?);
+    for line in script.lines() {
+        if !line.starts_with("//") {
+            wire = wire.after_line(alloc, sections, line)?;
         }
     }
     Ok(wire)
@@ -177,9 +104,41 @@ impl Drop for Wire {
 }
 
 impl Wire {
+    fn new(alloc: Global, meter: MeterCore<MemoryStore>) -> Wire {
+        Wire {
+            meter,
+            told: String::new(alloc),
+        }
+    }
+
     fn into_meter(self) -> MeterCore<MemoryStore> {
         let Wire { meter, told: _ } = self;
         meter
+    }
+
+    /// After the steps of a line.
+    fn after_line(self, alloc: Global, sections: &str, line: &str) -> Result<Wire, Fail> {
+        let mut wire = self;
+        for step in line.split(';') {
+            wire = wire.after(alloc, sections, step.trim())?;
+        }
+        Ok(wire)
+    }
+
+    /// After a step.
+    fn after(mut self, alloc: Global, sections: &str, step: &str) -> Result<Wire, Fail> {
+        let mut words = Words::new(step);
+        match words.next().unwrap_or("") {
+            "" => Ok(self),
+            "new" => Ok(Wire::new(alloc, fresh(alloc, words)?)),
+            "new-old" => Ok(Wire::new(alloc, fresh_old(alloc, words)?)),
+            "restart" => self.restarted(),
+            "stop-restart" => self.stopped(u64::from(words.number()?)),
+            _ => {
+                self.take(alloc, sections, step)?;
+                Ok(self)
+            }
+        }
     }
 
     fn restarted(self) -> Result<Wire, Fail> {
@@ -207,73 +166,47 @@ impl Wire {
         }
     }
 
-    /// Plays a part that is no restart.
-    fn take(&mut self, alloc: Global, part: &Part) -> Result<(), Fail> {
-        match part {
-            Part::Says(exchanges) => self.all(alloc, exchanges, false),
-            Part::SaysInVain(exchanges) => self.all(alloc, exchanges, true),
-            Part::Shows(want) => expect_at(alloc, "in sight", self.sight(alloc)?.as_str(), want),
-            Part::Fuses(calls) => {
-                self.meter.fuse(*calls, 0xee);
-                Ok(())
-            }
-            Part::Unfuses | Part::Restarts | Part::StopsInRestart(_) => {
-                self.meter.unfuse();
-                Ok(())
-            }
-            Part::Limits(limit) => self.limits(alloc, *limit),
-            Part::SaysZeros(request, front, count, back) => {
-                let want = zeros_text(alloc, front, *count, back)?;
-                self.says(alloc, request, want.as_str())
-            }
-            Part::Turns => {
-                self.meter.turn();
-                Ok(())
-            }
-            Part::Sends(sizes) => self.sends(alloc, sizes),
-        }
-    }
-
-    fn all(&mut self, alloc: Global, exchanges: &[Exchange], in_vain: bool) -> Result<(), Fail> {
-        for exchange in exchanges {
-            if in_vain {
-                self.says_in_vain(alloc, exchange)?;
-            } else {
-                self.says(alloc, exchange.0, exchange.1)?;
-            }
+    /// Takes a step with the same meter.
+    fn take(&mut self, alloc: Global, sections: &str, step: &str) -> Result<(), Fail> {
+        let mut words = Words::new(step);
+        match words.word()? {
+            "shows" => expect_at(alloc, "in sight", &self.sight(alloc)?, words.rest())?,
+            "limit" => self.limit(alloc, words.rest())?,
+            "fuse" => self.meter.fuse(u64::from(words.number()?), 0xee),
+            "unfuse" => self.meter.unfuse(),
+            "turn" => self.meter.turn(),
+            "in-vain" => self.says_in_vain(alloc, sections, words.rest())?,
+            _ => self.says(alloc, sections, step)?,
         }
         Ok(())
     }
 
-    fn sends(&mut self, alloc: Global, sizes: &[u32]) -> Result<(), Fail> {
-        for (number, size) in sizes.iter().enumerate() {
-            let block = block_text(alloc, number, *size)?;
-            self.says(alloc, &block, DONE)?;
-        }
-        Ok(())
-    }
-
-    fn limits(&self, alloc: Global, want: u32) -> Result<(), Fail> {
+    fn limit(&self, alloc: Global, want: &str) -> Result<(), Fail> {
         let limit = format!(in alloc; "{}", self.meter.view().limit)?;
-        let want = format!(in alloc; "{want}")?;
-        expect_at(alloc, "the limit", limit.as_str(), want.as_str())
+        expect_at(alloc, "the limit", limit.as_str(), want)
     }
 
-    fn says(&mut self, alloc: Global, request: &str, want: &str) -> Result<(), Fail> {
-        let reply = self.reply_to(alloc, request)?;
-        let want = datagram(alloc, want)?;
-        expect_at(alloc, request, reply.as_str(), want.as_str())
+    fn says(&mut self, alloc: Global, sections: &str, part: &str) -> Result<(), Fail> {
+        for line in exchanges_of(alloc, sections, part)?.lines() {
+            self.exchange(alloc, line)?;
+        }
+        Ok(())
     }
 
-    fn says_in_vain(&mut self, alloc: Global, exchange: &Exchange) -> Result<(), Fail> {
+    fn says_in_vain(&mut self, alloc: Global, sections: &str, part: &str) -> Result<(), Fail> {
         let before = self.sight(alloc)?;
-        self.says(alloc, exchange.0, exchange.1)?;
-        expect_at(
-            alloc,
-            exchange.0,
-            self.sight(alloc)?.as_str(),
-            before.as_str(),
-        )
+        for line in exchanges_of(alloc, sections, part)?.lines() {
+            self.exchange(alloc, line)?;
+            expect_at(alloc, line, &self.sight(alloc)?, &before)?;
+        }
+        Ok(())
+    }
+
+    /// The request of a line gets its reply.
+    fn exchange(&mut self, alloc: Global, line: &str) -> Result<(), Fail> {
+        let (request, want) = line.split_once("=>").ok_or("a request without a reply")?;
+        let reply = self.reply_to(alloc, request)?;
+        expect_at(alloc, line, &reply, &datagram(alloc, want)?)
     }
 
     /// The reply to a request, or `-` where there is none.
@@ -313,6 +246,21 @@ impl Wire {
     }
 }
 
+/// A new meter, of the block size, the capacity and the factory image that are left of its step.
+fn fresh(alloc: Global, mut words: Words<'_>) -> Result<MeterCore<MemoryStore>, Fail> {
+    if words.rest().is_empty() {
+        return opened(MemoryStore::new(alloc, 64, 2, b"abc")?);
+    }
+    let (block_size, capacity) = (words.number()?, words.number()?);
+    opened(MemoryStore::new(alloc, capacity, block_size, words.rest().as_bytes())?)
+}
+
+/// An old one.
+fn fresh_old(alloc: Global, mut words: Words<'_>) -> Result<MeterCore<MemoryStore>, Fail> {
+    let (block_size, capacity) = (words.number()?, words.number()?);
+    kept(MemoryStore::new_old(alloc, capacity, block_size, words.rest().as_bytes())?)
+}
+
 /// The name of the image that runs, and what can be seen of a transfer.
 fn transfer_text(alloc: Global, view: &MeterView) -> Result<String, AllocError> {
     let name = name_text(alloc, view.active)?;
@@ -339,7 +287,10 @@ fn goal_text(alloc: Global, goal: Option<Goal>) -> Result<String, AllocError> {
 
 /// The numbers of the head end and the campaign, the release, if there is one, and the first four bytes of the digest.
 fn name_text(alloc: Global, name: ImageName) -> Result<String, AllocError> {
-    let head = name.campaign.head().map_or(0, |head| head.number());
+    let head = match name.campaign.head() {
+        Some(head) => head.number(),
+        None => 0,
+    };
     let serial = name.campaign.serial();
     let [a, b, c, d, ..] = name.digest;
     let digest = u32::from_be_bytes([a, b, c, d]);
@@ -361,31 +312,13 @@ fn marks_text(alloc: Global, view: &MeterView) -> Result<String, AllocError> {
     Ok(marks)
 }
 
-/// image_block_transfer of `size` bytes 61, whose length is spelled in two bytes.
-pub(crate) fn block_text(alloc: Global, number: usize, size: u32) -> Result<String, AllocError> {
-    let mut text = format!(in alloc; "c301c1001200002c0000ff0201020206{number:08x}0982{size:04x}")?;
-    for _ in 0..size {
-        text.push_str("61")?;
-    }
-    Ok(text)
-}
-
-/// `count` bytes 00 between two parts.
-fn zeros_text(alloc: Global, front: &str, count: usize, back: &str) -> Result<String, AllocError> {
-    let mut text = String::from_str(alloc, front)?;
-    for _ in 0..count {
-        text.push_str("00")?;
-    }
-    text.push_str(back)?;
-    Ok(text)
-}
-
-/// The datagram that carries an APDU from wPort 1 to wPort 1. All else is kept.
-pub(crate) fn datagram(alloc: Global, text: &str) -> Result<String, AllocError> {
+/// The datagram of an APDU from wPort 1 to wPort 1, in digits. All else is kept.
+pub(crate) fn datagram(alloc: Global, words: &str) -> Result<String, Fail> {
+    let text = apdu(alloc, words)?;
     if text.starts_with('c') {
         let size = text.len() / 2;
-        format!(in alloc; "000100010001{size:04x}{text}")
+        Ok(format!(in alloc; "000100010001{size:04x}{text}")?)
     } else {
-        String::from_str(alloc, text)
+        Ok(text)
     }
 }

@@ -1,149 +1,158 @@
-//! What worlds are made with, and what happens in them, by numbers.
+//! What worlds are made with, and what happens in them, in words.
 
 use fw_names::{CampaignId, HeadId, MeterId, factory_name};
 use fw_world::{Event, HeadSetup, MeterSetup, Setup};
 use std::alloc::Global;
 use std::test::Fail;
+use test_tables::{Words, named};
 
-/// Head ends by number and width, and meters by number, block size, capacity and factory image.
-pub struct Given(
-    pub &'static [(u32, u32)],
-    pub &'static [(u32, u32, u32, &'static [u8])],
-);
-
-/// Some events. Datagrams are named by their places among all that were sent.
-pub enum Line {
-    /// A head end opens the campaign of this serial number, of an image for meters.
-    Open(u32, u32, &'static [u8], &'static [u32]),
-    /// The same of an image of this release.
-    OpenRelease(u32, u32, u32, &'static [u8], &'static [u32]),
-    /// The same of an image of N bytes `a`, without a release.
-    OpenLong(u32, u32, usize, &'static [u32]),
-    /// The same of the image `abc`, for one meter that is named N times.
-    OpenOften(u32, u32, u32, usize),
-    /// A head end cancels the campaign of this serial number.
-    Cancel(u32, u32),
-    /// A head end sends to a meter.
-    Tick(u32, u32),
-    /// These datagrams come, one after another.
-    Deliver(&'static [usize]),
-    /// A datagram comes to its meter, which stops after N calls of its store.
-    Stop(usize, u64, u8),
-    /// A meter starts again.
-    RestartMeter(u32),
-    /// A meter starts again, and stops in it after N calls of its store.
-    StopRestart(u32, u64, u8),
-    /// A head end starts again.
-    RestartHead(u32),
-    /// A meter goes on with what it verifies.
-    Turn(u32),
-}
-
-/// What a world is made with.
-pub fn setup_of(alloc: Global, given: &Given) -> Result<Setup, Fail> {
+/// What a world is made with, parts between semicolons: `head NUMBER WIDTH`, and `meter NUMBER BLOCK-SIZE CAPACITY IMAGE` with its factory image.
+pub fn setup_of(alloc: Global, given: &str) -> Result<Setup, Fail> {
     setup_with(alloc, given, false)
 }
 
 /// The same with old meters.
-pub fn old_setup_of(alloc: Global, given: &Given) -> Result<Setup, Fail> {
+pub fn old_setup_of(alloc: Global, given: &str) -> Result<Setup, Fail> {
     setup_with(alloc, given, true)
 }
 
-/// The same with meters of which all are old ones, or none.
-fn setup_with(alloc: Global, given: &Given, old: bool) -> Result<Setup, Fail> {
-    let mut heads = Vec::new(alloc);
-    for (number, width) in given.0 {
-        let head = head(*number)?;
-        heads.push(HeadSetup {
-            head,
-            width: *width,
-        })?;
+fn setup_with(alloc: Global, given: &str, old: bool) -> Result<Setup, Fail> {
+    let mut setup = Setup {
+        heads: Vec::new(alloc),
+        meters: Vec::new(alloc),
+    };
+    for part in given.split(';') {
+        let mut words = Words::new(part);
+        match words.word()? {
+            "head" => setup.heads.push(head_setup(&mut words)?)?,
+            _ => setup.meters.push(meter_setup(alloc, &mut words, old)?)?,
+        }
     }
-    let mut meters = Vec::new(alloc);
-    for (number, block_size, capacity, factory) in given.1 {
-        meters.push(MeterSetup {
-            meter: meter(*number)?,
-            block_size: *block_size,
-            capacity: *capacity,
-            factory: factory.to_vec(alloc)?,
-            old,
-        })?;
-    }
-    Ok(Setup { heads, meters })
+    Ok(setup)
 }
 
-/// The events of all parts.
-pub fn events_of(alloc: Global, parts: &[&[Line]]) -> Result<Vec<Event>, Fail> {
+fn head_setup(words: &mut Words<'_>) -> Result<HeadSetup, Fail> {
+    Ok(HeadSetup {
+        head: head(words.number()?)?,
+        width: words.number()?,
+    })
+}
+
+fn meter_setup(alloc: Global, words: &mut Words<'_>, old: bool) -> Result<MeterSetup, Fail> {
+    Ok(MeterSetup {
+        meter: meter(words.number()?)?,
+        block_size: words.number()?,
+        capacity: words.number()?,
+        factory: image(alloc, words.word()?)?,
+        old,
+    })
+}
+
+/// The events of a script, between semicolons. Datagrams are named by their places among all that were sent, and an image by its bytes, by
+/// `a*N` for N bytes `a`, or by `-` for none:
+///
+/// - `open HEAD SERIAL IMAGE METER..` and `open-release HEAD SERIAL RELEASE IMAGE METER..`, where `METER*N` is a meter that is named N times
+/// - `cancel HEAD SERIAL`, `tick HEAD METER`, `turn METER`, `restart-head HEAD`, `restart-meter METER`
+/// - `deliver DATAGRAM..`, one after another
+/// - `stop DATAGRAM CALLS TORN` and `stop-restart METER CALLS TORN`, which stop after N calls of the store
+///
+/// Any other part is the name of a script in `names`. A part without a word is no event.
+pub fn events_of(alloc: Global, names: &str, script: &str) -> Result<Vec<Event>, Fail> {
     let mut events = Vec::new(alloc);
-    for part in parts {
-        for line in *part {
-            push_line(alloc, &mut events, line)?;
+    for part in script.split(';') {
+        match named(names, part.trim()) {
+            Some(text) => push_events(alloc, &mut events, text)?,
+            None => push_event(alloc, &mut events, part)?,
         }
     }
     Ok(events)
 }
 
-fn push_line(alloc: Global, events: &mut Vec<Event>, line: &Line) -> Result<(), Fail> {
-    if let Line::Deliver(datagrams) = line {
-        for datagram in *datagrams {
-            events.push(Event::Deliver(*datagram))?;
-        }
-        return Ok(());
+fn push_events(alloc: Global, events: &mut Vec<Event>, script: &str) -> Result<(), Fail> {
+    for part in script.split(';') {
+        push_event(alloc, events, part)?;
     }
-    events.push(event(alloc, line)?)?;
     Ok(())
 }
 
-fn event(alloc: Global, line: &Line) -> Result<Event, Fail> {
-    Ok(match *line {
-        Line::Open(head, serial, image, numbers) => {
-            let meters = meters(alloc, numbers)?;
-            opening(head, serial, 0, image.to_vec(alloc)?, meters)?
-        }
-        Line::OpenRelease(head, serial, release, image, numbers) => {
-            let meters = meters(alloc, numbers)?;
-            opening(head, serial, release, image.to_vec(alloc)?, meters)?
-        }
-        Line::OpenLong(head, serial, size, numbers) => {
-            let meters = meters(alloc, numbers)?;
-            opening(head, serial, 0, vec![in alloc; b'a'; size]?, meters)?
-        }
-        Line::OpenOften(head, serial, number, times) => {
-            let meters = vec![in alloc; meter(number)?; times]?;
-            opening(head, serial, 0, b"abc".to_vec(alloc)?, meters)?
-        }
-        Line::Cancel(head, serial) => Event::CancelCampaign(campaign(head, serial)?),
-        Line::Tick(number, other) => Event::Tick(head(number)?, meter(other)?),
-        Line::Deliver(_) => return Err("several events".into()),
-        Line::Stop(datagram, calls, torn) => Event::Stop {
-            datagram,
-            calls,
-            torn,
+fn push_event(alloc: Global, events: &mut Vec<Event>, part: &str) -> Result<(), Fail> {
+    let mut words = Words::new(part);
+    let Some(word) = words.next() else {
+        return Ok(());
+    };
+    let event = match word {
+        "open" => opening(alloc, &mut words, false)?,
+        "open-release" => opening(alloc, &mut words, true)?,
+        "deliver" => return push_deliveries(events, &words),
+        word => short(word, &mut words)?,
+    };
+    events.push(event)?;
+    Ok(())
+}
+
+fn push_deliveries(events: &mut Vec<Event>, words: &Words<'_>) -> Result<(), Fail> {
+    for word in words.rest().split_whitespace() {
+        events.push(Event::Deliver(word.parse::<usize>()?))?;
+    }
+    Ok(())
+}
+
+/// An event that has numbers alone.
+fn short(word: &str, words: &mut Words<'_>) -> Result<Event, Fail> {
+    let first = words.number()?;
+    Ok(match word {
+        "cancel" => Event::CancelCampaign(campaign(first, words.number()?)?),
+        "tick" => Event::Tick(head(first)?, meter(words.number()?)?),
+        "turn" => Event::Turn(meter(first)?),
+        "restart-head" => Event::RestartHead(head(first)?),
+        "restart-meter" => Event::RestartMeter(meter(first)?),
+        "stop" => Event::Stop {
+            datagram: first as usize,
+            calls: u64::from(words.number()?),
+            torn: torn(words)?,
         },
-        Line::RestartMeter(number) => Event::RestartMeter(meter(number)?),
-        Line::StopRestart(number, calls, torn) => Event::StopRestart {
-            meter: meter(number)?,
-            calls,
-            torn,
+        "stop-restart" => Event::StopRestart {
+            meter: meter(first)?,
+            calls: u64::from(words.number()?),
+            torn: torn(words)?,
         },
-        Line::RestartHead(number) => Event::RestartHead(head(number)?),
-        Line::Turn(number) => Event::Turn(meter(number)?),
+        _ => return Err("no event has this name".into()),
     })
 }
 
-fn opening(
-    head: u32,
-    serial: u32,
-    release: u32,
-    image: Vec<u8>,
-    meters: Vec<MeterId>,
-) -> Result<Event, Fail> {
+fn torn(words: &mut Words<'_>) -> Result<u8, Fail> {
+    Ok(words.word()?.parse::<u8>()?)
+}
+
+fn opening(alloc: Global, words: &mut Words<'_>, is_released: bool) -> Result<Event, Fail> {
     Ok(Event::OpenCampaign {
-        campaign: campaign(head, serial)?,
-        release,
-        image,
-        meters,
+        campaign: campaign(words.number()?, words.number()?)?,
+        release: if is_released { words.number()? } else { 0 },
+        image: image(alloc, words.word()?)?,
+        meters: meters(alloc, words)?,
     })
+}
+
+fn image(alloc: Global, word: &str) -> Result<Vec<u8>, Fail> {
+    if word == "-" {
+        return Ok(Vec::new(alloc));
+    }
+    match word.strip_prefix("a*") {
+        Some(size) => Ok(vec![in alloc; b'a'; size.parse::<usize>()?]?),
+        None => Ok(word.as_bytes().to_vec(alloc)?),
+    }
+}
+
+fn meters(alloc: Global, words: &Words<'_>) -> Result<Vec<MeterId>, Fail> {
+    let mut meters = Vec::new(alloc);
+    for word in words.rest().split_whitespace() {
+        let (number, times) = word.split_once('*').unwrap_or((word, "1"));
+        let named = meter(number.parse::<u32>()?)?;
+        for _ in 0..times.parse::<u32>()? {
+            meters.push(named)?;
+        }
+    }
+    Ok(meters)
 }
 
 /// The head end of this number.
@@ -164,115 +173,10 @@ fn campaign(number: u32, serial: u32) -> Result<CampaignId, Fail> {
     Ok(CampaignId::new(head(number)?, serial).ok_or("a serial number begins at 1")?)
 }
 
-fn meters(alloc: Global, numbers: &[u32]) -> Result<Vec<MeterId>, Fail> {
-    let mut meters = Vec::new(alloc);
-    for number in numbers {
-        meters.push(meter(*number)?)?;
-    }
-    Ok(meters)
-}
-
 /// One head end and one meter, and a campaign of two blocks.
-pub const SMALL: &Given = &Given(&[(7, 4)], &[(1, 2, 64, b"x")]);
+pub const SMALL: &str = "head 7 4; meter 1 2 64 x";
 
-/// Its opening.
-pub const OPENED: &[Line] = &[Line::Open(7, 1, b"abc", &[1])];
-
-/// The same campaign up to its end, in which all is delivered.
-pub const DONE: &[Line] = &[
-    Line::Open(7, 1, b"abc", &[1]),
-    Line::Tick(7, 1),
-    Line::Deliver(&[0, 1]),
-    Line::Tick(7, 1),
-    Line::Deliver(&[2, 3]),
-    Line::Tick(7, 1),
-    Line::Deliver(&[4, 5]),
-    Line::Tick(7, 1),
-    Line::Deliver(&[6, 7, 8, 9]),
-    Line::Tick(7, 1),
-    Line::Deliver(&[10, 11]),
-    Line::Tick(7, 1),
-    Line::Deliver(&[12, 13]),
-    Line::Tick(7, 1),
-    Line::Deliver(&[14, 15]),
-    Line::Tick(7, 1),
-    Line::Deliver(&[16, 17]),
-    Line::Tick(7, 1),
-    Line::Deliver(&[18, 19]),
-];
-
-/// The same campaign of an image of release 5, and after its end one of an image without a release for the same meter.
-pub const OLDER: &[Line] = &[
-    Line::OpenRelease(7, 1, 5, b"abc", &[1]),
-    Line::Tick(7, 1),
-    Line::Deliver(&[0, 1]),
-    Line::Tick(7, 1),
-    Line::Deliver(&[2, 3]),
-    Line::Tick(7, 1),
-    Line::Deliver(&[4, 5]),
-    Line::Tick(7, 1),
-    Line::Deliver(&[6, 7, 8, 9]),
-    Line::Tick(7, 1),
-    Line::Deliver(&[10, 11]),
-    Line::Tick(7, 1),
-    Line::Deliver(&[12, 13]),
-    Line::Tick(7, 1),
-    Line::Deliver(&[14, 15]),
-    Line::Tick(7, 1),
-    Line::Deliver(&[16, 17]),
-    Line::Tick(7, 1),
-    Line::Deliver(&[18, 19]),
-    Line::Open(7, 2, b"abc", &[1]),
-];
-
-/// Four meters of one head end.
-pub const FOUR: &Given = &Given(
-    &[(7, 4)],
-    &[
-        (1, 2, 64, b"x"),
-        (2, 2, 64, b"x"),
-        (3, 2, 64, b"x"),
-        (4, 2, 64, b"x"),
-    ],
-);
-
-/// A campaign for all of them.
-pub const OPENED_FOR_FOUR: &[Line] = &[Line::Open(7, 1, b"abc", &[1, 2, 3, 4])];
-
-/// Two head ends that compete for the same meters, each with an image of its own.
-pub const TWO_HEADS: &Given = &Given(
-    &[(7, 4), (8, 4)],
-    &[
-        (1, 2, 64, b"x"),
-        (2, 2, 64, b"x"),
-        (3, 2, 64, b"x"),
-        (4, 2, 64, b"x"),
-    ],
-);
-
-/// The second offers its image to two meters alone.
-pub const OPENED_FOR_SOME: &[Line] = &[
-    Line::Open(7, 1, b"abc", &[1, 2, 3, 4]),
-    Line::Open(8, 1, b"def", &[4, 2]),
-];
-
-/// Both offer their images to all meters.
-pub const OPENED_BY_TWO: &[Line] = &[
-    Line::Open(7, 1, b"abc", &[1, 2, 3, 4]),
-    Line::Open(8, 1, b"def", &[1, 2, 3, 4]),
-];
-
-/// A meter with blocks of 1,024 bytes, and an image that it verifies in three slices.
-pub const LARGE: &Given = &Given(&[(7, 4)], &[(1, 1024, 8193, b"x")]);
-
-/// Its campaign.
-pub const OPENED_LARGE: &[Line] = &[Line::OpenLong(7, 1, 8193, &[1])];
-
-/// Two such meters.
-pub const TWO_LARGE: &Given = &Given(&[(7, 4)], &[(1, 1024, 8193, b"x"), (2, 1024, 8193, b"x")]);
-
-/// Their campaign.
-pub const OPENED_TWO_LARGE: &[Line] = &[Line::OpenLong(7, 1, 8193, &[1, 2])];
-
-/// A meter without a head end.
-pub const NO_HEAD: &Given = &Given(&[], &[(1, 2, 64, b"x")]);
+/// That campaign up to its end, in which all is delivered.
+pub const DONE: &str =
+    "open 7 1 abc 1; tick 7 1; deliver 0 1; tick 7 1; deliver 2 3; tick 7 1; deliver 4 5; tick 7 1; deliver 6 7 8 9; \
+    tick 7 1; deliver 10 11; tick 7 1; deliver 12 13; tick 7 1; deliver 14 15; tick 7 1; deliver 16 17; tick 7 1; deliver 18 19";

@@ -1,33 +1,12 @@
 //! Audits of the parts of runs.
 
-use crate::support::{Case, each};
+use crate::support::{events_in, setup_in, setup_text, world_of};
 use fw_air::audit;
-use fw_world::{Event, Parts, Setup, run};
+use fw_world::{Event, Parts, Setup};
 use std::alloc::Global;
-use std::sync::Wait;
 use std::test::Fail;
-use std::thread::Threads;
-use test_support::{
-    DONE, Given, LARGE, Line, NO_HEAD, SMALL, events_of, old_setup_of, report, setup_of,
-};
-
-/// What an audit is given of a run.
-enum Told {
-    /// All of it.
-    All,
-    /// The last event is left out.
-    WithoutLastEvent,
-    /// There is one event more, which is refused.
-    WithRefused,
-    /// The last datagram is left out.
-    WithoutLastDatagram,
-    /// The head end is left out.
-    WithoutHead,
-    /// The meter is left out.
-    WithoutMeter,
-    /// The setup has no head end.
-    NoHead,
-}
+use test_support::{old_setup_of, report};
+use test_tables::{Reads, Words, each_line};
 
 /// A run: its setup, its events, and the parts of the world that it leads to.
 #[derive(Drop)]
@@ -39,12 +18,8 @@ struct Made {
 
 impl Made {
     /// The run of some events.
-    fn new(alloc: Global, setup: Setup, lines: &[Line]) -> Result<Made, Fail> {
-        let events = events_of(alloc, &[lines])?;
-        let Ok(world) = run(alloc, &setup, &events) else {
-            return Err("an event is refused".into());
-        };
-        let parts = world.into_parts();
+    fn new(alloc: Global, setup: Setup, events: Vec<Event>) -> Result<Made, Fail> {
+        let parts = world_of(alloc, &setup, &events)?.into_parts();
         Ok(Made {
             setup,
             events,
@@ -52,24 +27,25 @@ impl Made {
         })
     }
 
-    /// Changes what is given.
-    fn change(&mut self, alloc: Global, told: &Told) -> Result<(), Fail> {
+    /// Changes what is given of it: all, or all except what is named.
+    fn change(&mut self, alloc: Global, told: &str) -> Result<(), Fail> {
         match told {
-            Told::All => {}
-            Told::WithoutLastEvent => {
+            "all" => {}
+            "without_last_event" => {
                 let _last = self.events.pop();
             }
-            Told::WithRefused => self.events.push(Event::Deliver(self.parts.sent.len()))?,
-            Told::WithoutLastDatagram => {
+            "with_refused" => self.events.push(Event::Deliver(self.parts.sent.len()))?,
+            "without_last_datagram" => {
                 let _last = self.parts.sent.pop();
             }
-            Told::WithoutHead => {
+            "without_head" => {
                 let _last = self.parts.heads.pop();
             }
-            Told::WithoutMeter => {
+            "without_meter" => {
                 let _last = self.parts.meters.pop();
             }
-            Told::NoHead => self.setup = setup_of(alloc, NO_HEAD)?,
+            "over_no_head" => self.setup = setup_in(alloc, "no_head")?,
+            _ => return Err("no change has this name".into()),
         }
         Ok(())
     }
@@ -89,104 +65,49 @@ impl Made {
     }
 }
 
-/// An audit of the parts of a run.
-struct Audit(&'static Given, &'static [Line], Told);
+/// Audits of the parts of runs, of rows `AGE SETUP SCRIPT CHANGE`, in which all meters of the setup are new ones or old ones.
+#[derive(Clone, Copy)]
+struct Audited;
 
-impl Case for Audit {
-    fn told<R: Threads + Wait + Sync>(&self, _rt: &R, alloc: Global) -> Result<String, Fail> {
-        let mut made = Made::new(alloc, setup_of(alloc, self.0)?, self.1)?;
-        made.change(alloc, &self.2)?;
+impl Reads for Audited {
+    fn told(&mut self, alloc: Global, what: &str) -> Result<String, Fail> {
+        let mut words = Words::new(what);
+        let (age, setup) = (words.word()?, words.word()?);
+        let (script, change) = (words.word()?, words.word()?);
+        let events = events_in(alloc, script)?;
+        let setup = match age {
+            "old" => old_setup_of(alloc, setup_text(setup))?,
+            _ => setup_in(alloc, setup)?,
+        };
+        let mut made = Made::new(alloc, setup, events)?;
+        made.change(alloc, change)?;
         made.audited(alloc)
     }
 }
 
 /// Of the campaign that ends, the last event makes the row done. The first answer moves the row to another phase. The turn changes the
-/// meter alone.
-const AUDITS: &[(Audit, &str)] = &[
-    (
-        Audit(SMALL, DONE, Told::All),
-        "row 7 1 1 done; meter 1 status 6 active 7 1 size 3; activations 1; sent 20",
-    ),
-    (Audit(SMALL, DONE, Told::WithoutLastEvent), "Mismatch"),
-    (Audit(SMALL, DONE, Told::WithRefused), "Mismatch"),
-    (Audit(SMALL, DONE, Told::WithoutLastDatagram), "Mismatch"),
-    (Audit(SMALL, DONE, Told::WithoutHead), "Mismatch"),
-    (Audit(SMALL, DONE, Told::WithoutMeter), "Mismatch"),
-    (Audit(SMALL, DONE, Told::NoHead), "BadSetup"),
-    (
-        Audit(SMALL, ANSWERED, Told::All),
-        "row 7 1 1 live; meter 1 status 0 active 0 0 size 1; activations 0; sent 2",
-    ),
-    (Audit(SMALL, ANSWERED, Told::WithoutLastEvent), "Mismatch"),
-    (
-        Audit(LARGE, TURNED, Told::All),
-        "row 7 1 1 live; meter 1 status 3 active 0 0 size 1; activations 0; sent 20",
-    ),
-    (Audit(LARGE, TURNED, Told::WithoutLastEvent), "Mismatch"),
-];
+/// meter alone. With one event more, that one is refused.
+const AUDITS: &str = "
+    new small done     all => row 7 1 1 done; meter 1 status 6 active 7 1 size 3; activations 1; sent 20
+    new small done     without_last_event    => Mismatch
+    new small done     with_refused          => Mismatch
+    new small done     without_last_datagram => Mismatch
+    new small done     without_head          => Mismatch
+    new small done     without_meter         => Mismatch
+    new small done     over_no_head          => BadSetup
+    new small answered all => row 7 1 1 live; meter 1 status 0 active 0 0 size 1; activations 0; sent 2
+    new small answered without_last_event    => Mismatch
+    new large turned   all => row 7 1 1 live; meter 1 status 3 active 0 0 size 1; activations 0; sent 20
+    new large turned   without_last_event    => Mismatch
 
-/// Up to the first answer.
-const ANSWERED: &[Line] = &[
-    Line::Open(7, 1, b"abc", &[1]),
-    Line::Tick(7, 1),
-    Line::Deliver(&[0, 1]),
-];
-
-/// Up to where 4,097 bytes in five blocks, by windows of four, are verified.
-const TURNED: &[Line] = &[
-    Line::OpenLong(7, 1, 4097, &[1]),
-    Line::Tick(7, 1),
-    Line::Deliver(&[0, 1]),
-    Line::Tick(7, 1),
-    Line::Deliver(&[2, 3]),
-    Line::Tick(7, 1),
-    Line::Deliver(&[4, 5]),
-    Line::Tick(7, 1),
-    Line::Deliver(&[6, 7, 8, 9, 10, 11, 12, 13]),
-    Line::Tick(7, 1),
-    Line::Deliver(&[14, 15]),
-    Line::Tick(7, 1),
-    Line::Deliver(&[16, 17]),
-    Line::Tick(7, 1),
-    Line::Deliver(&[18]),
-    Line::Turn(1),
-];
-
-/// The same where the meter is an old one.
-struct OldAudit(&'static [Line], Told);
-
-impl Case for OldAudit {
-    fn told<R: Threads + Wait + Sync>(&self, _rt: &R, alloc: Global) -> Result<String, Fail> {
-        let mut made = Made::new(alloc, old_setup_of(alloc, SMALL)?, self.0)?;
-        made.change(alloc, &self.1)?;
-        made.audited(alloc)
-    }
-}
-
-/// A restart that stops before the meter's header is written in version 2 changes nothing, and one that stops after that does.
-const OLD_AUDITS: &[(OldAudit, &str)] = &[
-    (
-        OldAudit(&[Line::StopRestart(1, 2, 0)], Told::All),
-        NOTHING_SENT,
-    ),
-    (
-        OldAudit(&[Line::StopRestart(1, 2, 0)], Told::WithoutLastEvent),
-        NOTHING_SENT,
-    ),
-    (
-        OldAudit(&[Line::StopRestart(1, 3, 0)], Told::All),
-        NOTHING_SENT,
-    ),
-    (
-        OldAudit(&[Line::StopRestart(1, 3, 0)], Told::WithoutLastEvent),
-        "Mismatch",
-    ),
-];
-
-const NOTHING_SENT: &str = "meter 1 status 0 active 0 0 size 1; activations 0; sent 0";
+    // A restart that stops before the meter's header is written in version 2 changes nothing, and one that stops after that does.
+    old small stopped_after_2 all                => meter 1 status 0 active 0 0 size 1; activations 0; sent 0
+    old small stopped_after_2 without_last_event => meter 1 status 0 active 0 0 size 1; activations 0; sent 0
+    old small stopped_after_3 all                => meter 1 status 0 active 0 0 size 1; activations 0; sent 0
+    old small stopped_after_3 without_last_event => Mismatch
+";
 
 #[test]
 fn audits(rt: HostRuntime) -> Result<(), Fail> {
-    each(&rt, rt.alloc(), AUDITS)?;
-    each(&rt, rt.alloc(), OLD_AUDITS)
+    each_line(rt.alloc(), &mut Audited, AUDITS)
 }

@@ -1,63 +1,72 @@
 //! The links of a world, and what waits on one.
 
-use fw_air::{Fate, Fates, LinkQueue, links_of};
-use fw_world::run;
-use std::alloc::{AllocError, Global};
+use crate::support::{events_in, fates_of, setup_in, world_of};
+use fw_air::{Fates, LinkQueue, links_of};
+use std::alloc::Global;
 use std::test::Fail;
-use test_support::{OPENED_FOR_SOME, TWO_HEADS, events_of, setup_of};
-
-/// By head ends and then by meters, in the order of the setup.
-const LINKS: &[(u32, u32)] = &[(7, 1), (7, 2), (7, 3), (7, 4), (8, 2), (8, 4)];
-
-/// Numbers of datagrams, from the first to after the last: those of them that come, and those that are late.
-const PASSED: &[(usize, usize, &[usize], &[usize])] = &[
-    (10, 13, &[10, 12, 12], &[]),
-    (13, 13, &[], &[]),
-    (13, 16, &[14], &[13]),
-    (17, 18, &[17, 17], &[]),
-];
-
-const FATES: &[Fate] = &[Fate::Deliver, Fate::Drop, Fate::Twice, Fate::Late];
+use test_support::push;
+use test_tables::{Reads, Words, each_line, expect_at};
 
 /// The links of two head ends.
 fn all_links(alloc: Global) -> Result<Vec<LinkQueue>, Fail> {
-    let setup = setup_of(alloc, TWO_HEADS)?;
-    let Ok(world) = run(alloc, &setup, &events_of(alloc, &[OPENED_FOR_SOME])?) else {
-        return Err("an event is refused".into());
-    };
+    let setup = setup_in(alloc, "two_heads")?;
+    let world = world_of(alloc, &setup, &events_in(alloc, "opened_for_some")?)?;
     Ok(links_of(alloc, &setup, &world)?)
 }
 
-/// Whether a link is that of these numbers.
-fn is_of(link: &LinkQueue, numbers: (u32, u32)) -> bool {
-    (link.head().number(), link.meter().number()) == numbers
+/// The numbers of their ends.
+fn ends(alloc: Global, links: &[LinkQueue]) -> Result<String, Fail> {
+    let mut text = String::new(alloc);
+    for link in links {
+        let (head, meter) = (link.head().number(), link.meter().number());
+        push(&mut text, format!(in alloc; "{head} {meter}")?.as_str())?;
+    }
+    Ok(text)
 }
 
-/// Whether just these come of the datagrams from one number on and below another, and just those are late.
-fn passes(
-    alloc: Global,
-    link: &mut LinkQueue,
-    fates: &Fates<'_>,
-    part: &(usize, usize, &[usize], &[usize]),
-) -> Result<bool, AllocError> {
-    let (from, end, coming, late) = part;
-    let has_come = link.pass(alloc, fates, *from, *end)?.as_slice() == *coming;
-    Ok(link.take_late(alloc).as_slice() == *late && has_come)
+/// A link and the fates of its datagrams. A row has the numbers of datagrams, from the first to after the last: it tells those of them that
+/// come, and those that are late. Without numbers it tells those that are late now.
+#[derive(Drop)]
+struct Passing<'a> {
+    link: &'a mut LinkQueue,
+    fates: Fates<'a>,
 }
+
+impl<'a> Reads for Passing<'a> {
+    fn told(&mut self, alloc: Global, what: &str) -> Result<String, Fail> {
+        let mut words = Words::new(what);
+        if words.word()? == "late" {
+            return Ok(format!(in alloc; "{:?}", self.link.take_late(alloc).as_slice())?);
+        }
+        let (from, end) = (words.number()? as usize, words.number()? as usize);
+        let coming = self.link.pass(alloc, &self.fates, from, end)?;
+        let late = self.link.take_late(alloc);
+        Ok(format!(in alloc; "{:?} {:?}", coming.as_slice(), late.as_slice())?)
+    }
+}
+
+const PASSED: &str = "
+    pass 10 13 => [10, 12, 12] []
+    pass 13 13 => [] []
+    pass 13 16 => [14] [13]
+    pass 17 18 => [17, 17] []
+    late       => []
+";
 
 #[test]
 fn links(rt: HostRuntime) -> Result<(), Fail> {
     let alloc = rt.alloc();
-    let fates = Fates::new(FATES).ok_or("1 to 4,096 fates")?;
     let mut links = all_links(alloc)?;
-    assert_eq!(rt; links.len(), LINKS.len());
-    for (link, numbers) in links.iter().zip(LINKS) {
-        assert!(rt; is_of(link, *numbers));
-    }
+    // By head ends and then by meters, in the order of the setup.
+    let told = ends(alloc, &links)?;
+    expect_at(
+        alloc,
+        "links",
+        told.as_str(),
+        "7 1; 7 2; 7 3; 7 4; 8 2; 8 4",
+    )?;
+    let fates = fates_of(alloc, "deliver,drop,twice,late")?;
+    let fates = Fates::new(&fates).ok_or("1 to 4,096 fates")?;
     let link = links.first_mut().ok_or("a link")?;
-    for part in PASSED {
-        assert!(rt; passes(alloc, link, &fates, part)?);
-    }
-    assert!(rt; link.take_late(alloc).is_empty());
-    Ok(())
+    each_line(alloc, &mut Passing { link, fates }, PASSED)
 }

@@ -1,5 +1,6 @@
 //! The log: in one thread, and added to by two.
 
+use crate::support::sent_text;
 use fw_air::{CoreEvent, Entry, Sent, SharedLog};
 use fw_names::{HeadId, MeterId};
 use fw_world::{Actor, Datagram, Direction, Event};
@@ -7,6 +8,8 @@ use std::alloc::{AllocError, Global};
 use std::sync::Wait;
 use std::test::Fail;
 use std::thread;
+use test_support::{head, meter, numbered, push};
+use test_tables::{Reads, Words, each_line};
 
 /// How many events each of two threads adds.
 const EVENTS: usize = 200;
@@ -22,14 +25,9 @@ impl Link {
     /// That of head end 7 and meter 1.
     fn new() -> Result<Link, Fail> {
         Ok(Link {
-            head: HeadId::new(7).ok_or("7 is a head end's number")?,
-            meter: MeterId::new(1).ok_or("1 is a meter's number")?,
+            head: head(7)?,
+            meter: meter(1)?,
         })
-    }
-
-    /// A tick.
-    fn tick(self) -> Event {
-        Event::Tick(self.head, self.meter)
     }
 
     /// A datagram to the meter, of one byte.
@@ -41,55 +39,88 @@ impl Link {
             bytes: vec![in alloc; byte]?,
         })
     }
+
+    /// A log of one tick, which sent datagrams of these bytes.
+    fn log(self, alloc: Global, bytes: &[u8]) -> Result<SharedLog, AllocError> {
+        let mut sent = Vec::new(alloc);
+        for byte in bytes {
+            sent.push(self.datagram(alloc, *byte)?)?;
+        }
+        let mut entries = Vec::new(alloc);
+        entries.push(Entry {
+            event: Event::Tick(self.head, self.meter),
+            count: sent.len(),
+        })?;
+        Ok(SharedLog::new(sent, entries))
+    }
 }
 
-/// A log of one event, which sent the datagram 10.
-fn begun(alloc: Global, link: Link) -> Result<SharedLog, AllocError> {
-    let mut sent = Vec::new(alloc);
-    sent.push(link.datagram(alloc, 10)?)?;
-    let mut entries = Vec::new(alloc);
-    entries.push(Entry {
-        event: link.tick(),
-        count: 1,
-    })?;
-    Ok(SharedLog::new(sent, entries))
-}
-
-/// Appends a tick that sends the datagrams 11 and 12: what is returned, and what its stub says.
-fn tick<R: Wait>(
-    rt: &R,
-    alloc: Global,
-    log: &SharedLog,
+/// A log of a link. Rows add a `tick` with datagrams of one or two bytes, or a `deliver`, or ask for the datagram of a number or for the last one
+/// with these bytes.
+#[derive(Drop)]
+struct Logged<'a, R: Wait> {
+    rt: &'a R,
+    log: SharedLog,
     link: Link,
-) -> Result<(Sent, (usize, CoreEvent)), AllocError> {
-    let mut room = log.reserve(alloc)?;
-    room.push(link.datagram(alloc, 11)?);
-    room.push(link.datagram(alloc, 12)?);
-    let (sent, stub) = log.append(rt, room, CoreEvent::Tick(link.head, link.meter));
-    Ok((sent, stub.spend()))
 }
 
-/// Appends a delivery that sends nothing: the same.
-fn deliver<R: Wait>(
-    rt: &R,
-    alloc: Global,
-    log: &SharedLog,
-) -> Result<(Sent, (usize, CoreEvent)), AllocError> {
-    let room = log.reserve(alloc)?;
-    let (sent, stub) = log.append(rt, room, CoreEvent::Deliver(2));
-    Ok((sent, stub.spend()))
+impl<'a, R: Wait> Reads for Logged<'a, R> {
+    fn told(&mut self, alloc: Global, what: &str) -> Result<String, Fail> {
+        let mut words = Words::new(what);
+        match words.word()? {
+            "tick" => self.tick(alloc, &mut words),
+            "deliver" => self.deliver(alloc, words.number()? as usize),
+            "get" => self.get(alloc, words.number()? as usize),
+            _ => self.find(alloc, &mut words),
+        }
+    }
 }
 
-/// Whether the datagram of this number is this one, or isn't there.
-fn shows<R: Wait>(
-    rt: &R,
-    alloc: Global,
-    log: &SharedLog,
-    number: usize,
-    byte: Option<u8>,
-) -> Result<bool, AllocError> {
-    let found = log.get(rt, alloc, number)?;
-    Ok(found.and_then(|datagram| datagram.bytes.first().copied()) == byte)
+impl<'a, R: Wait> Logged<'a, R> {
+    fn tick(&self, alloc: Global, words: &mut Words<'_>) -> Result<String, Fail> {
+        let first = words.word()?.parse::<u8>()?;
+        let mut room = self.log.reserve(alloc)?;
+        room.push(self.link.datagram(alloc, first)?);
+        if let Some(second) = words.next() {
+            room.push(self.link.datagram(alloc, second.parse::<u8>()?)?);
+        }
+        let event = CoreEvent::Tick(self.link.head, self.link.meter);
+        let (sent, stub) = self.log.append(self.rt, room, event);
+        added(alloc, sent, stub.spend())
+    }
+
+    fn deliver(&self, alloc: Global, number: usize) -> Result<String, Fail> {
+        let room = self.log.reserve(alloc)?;
+        let (sent, stub) = self.log.append(self.rt, room, CoreEvent::Deliver(number));
+        added(alloc, sent, stub.spend())
+    }
+
+    /// The first byte of the datagram of this number.
+    fn get(&self, alloc: Global, number: usize) -> Result<String, Fail> {
+        let found = self.log.get(self.rt, alloc, number)?;
+        let byte = found.and_then(|datagram| datagram.bytes.first().copied());
+        Ok(format!(in alloc; "{byte:?}")?)
+    }
+
+    /// The number of the last datagram with these bytes to the meter, and to the head end.
+    fn find(&self, alloc: Global, words: &mut Words<'_>) -> Result<String, Fail> {
+        let bytes = match words.next() {
+            Some(word) => vec![in alloc; word.parse::<u8>()?]?,
+            None => Vec::new(alloc),
+        };
+        let (head, meter) = (Actor::Head(self.link.head), Actor::Meter(self.link.meter));
+        let there = self.log.find(self.rt, head, meter, &bytes);
+        let back = self.log.find(self.rt, meter, head, &bytes);
+        Ok(format!(in alloc; "{there:?} {back:?}")?)
+    }
+}
+
+/// What is returned where an event is added, and what its stub says.
+fn added(alloc: Global, sent: Sent, stub: (usize, CoreEvent)) -> Result<String, Fail> {
+    let (number, event) = stub;
+    let mut text = sent_text(alloc, sent)?;
+    push(&mut text, numbered(alloc, number, &event.event())?.as_str())?;
+    Ok(text)
 }
 
 /// Whether these are the datagrams 10, 11 and 12, and the events that sent one, two and none of them, the last one a delivery.
@@ -107,25 +138,43 @@ fn are_grown(sent: &[Datagram], entries: &[Entry]) -> bool {
     are_sent && are_counted && matches!(delivered.event, Event::Deliver(2))
 }
 
+const GROWS: &str = "
+    tick 11 12 => event 1 sent 1 2; 1 tick 7 1
+    deliver 2  => event 2 sent 3 0; 2 deliver 2
+    get 0      => Some(10)
+    get 1      => Some(11)
+    get 2      => Some(12)
+    get 3      => None
+";
+
 #[test]
 fn log_grows_at_its_ends(rt: HostRuntime) -> Result<(), Fail> {
-    let alloc = rt.alloc();
-    let link = Link::new()?;
-    let log = begun(alloc, link)?;
-    let ticked = tick(&rt, alloc, &log, link)?;
-    let delivered = deliver(&rt, alloc, &log)?;
-    for (number, byte) in [(0, Some(10)), (1, Some(11)), (2, Some(12)), (3, None)] {
-        assert!(rt; shows(&rt, alloc, &log, number, byte)?);
-    }
-    let (sent, entries) = log.into_inner(alloc)?;
+    let (rt, alloc, link) = (&rt, rt.alloc(), Link::new()?);
+    let log = link.log(alloc, &[10])?;
+    let mut logged = Logged { rt, log, link };
+    each_line(alloc, &mut logged, GROWS)?;
+    let (sent, entries) = logged.log.into_inner(alloc)?;
     assert!(rt; are_grown(&sent, &entries));
-    let (tick, stub) = ticked;
-    assert_eq!(rt; (tick.event, tick.first, tick.count), (1, 1, 2));
-    assert!(rt; stub == (1, CoreEvent::Tick(link.head, link.meter)));
-    let (delivery, stub) = delivered;
-    assert_eq!(rt; (delivery.event, delivery.first, delivery.count), (2, 3, 0));
-    assert!(rt; stub == (2, CoreEvent::Deliver(2)));
     Ok(())
+}
+
+/// The bytes of a datagram, and the greatest number of a datagram with them.
+const FOUND: &str = "
+    tick 12 => event 1 sent 2 1; 1 tick 7 1
+    tick 12 => event 2 sent 3 1; 2 tick 7 1
+    tick 10 => event 3 sent 4 1; 3 tick 7 1
+    find 10 => Some(4) None
+    find 11 => Some(1) None
+    find 12 => Some(3) None
+    find 13 => None None
+    find    => None None
+";
+
+#[test]
+fn finds_the_last(rt: HostRuntime) -> Result<(), Fail> {
+    let (rt, alloc, link) = (&rt, rt.alloc(), Link::new()?);
+    let log = link.log(alloc, &[10, 11])?;
+    each_line(alloc, &mut Logged { rt, log, link }, FOUND)
 }
 
 /// Adds N events with a datagram each: whether their numbers rose, each with that of its datagram.
@@ -154,66 +203,9 @@ fn add_all<R: Wait>(
     Ok(rose)
 }
 
-/// A log of one event, which sent the datagrams 10 and 11.
-fn of_two(alloc: Global, link: Link) -> Result<SharedLog, AllocError> {
-    let mut sent = Vec::new(alloc);
-    sent.push(link.datagram(alloc, 10)?)?;
-    sent.push(link.datagram(alloc, 11)?)?;
-    let mut entries = Vec::new(alloc);
-    entries.push(Entry {
-        event: link.tick(),
-        count: 2,
-    })?;
-    Ok(SharedLog::new(sent, entries))
-}
-
-/// The log after that, with a tick for each of the datagrams 12, 12 and 10.
-fn of_five<R: Wait>(rt: &R, alloc: Global, link: Link) -> Result<SharedLog, AllocError> {
-    let log = of_two(alloc, link)?;
-    for byte in [12, 12, 10] {
-        let mut room = log.reserve(alloc)?;
-        room.push(link.datagram(alloc, byte)?);
-        let (_sent, stub) = log.append(rt, room, CoreEvent::Tick(link.head, link.meter));
-        let _ = stub.spend();
-    }
-    Ok(log)
-}
-
-/// The number of the last datagram with these bytes to the meter, and to the head end.
-fn found<R: Wait>(
-    rt: &R,
-    log: &SharedLog,
-    link: &Link,
-    bytes: &[u8],
-) -> (Option<u64>, Option<u64>) {
-    let there = log.find(rt, Actor::Head(link.head), Actor::Meter(link.meter), bytes);
-    let back = log.find(rt, Actor::Meter(link.meter), Actor::Head(link.head), bytes);
-    (there, back)
-}
-
-/// The bytes of a datagram, and the greatest number of a datagram with them.
-const FOUND: &[(&[u8], Option<u64>)] = &[
-    (&[10], Some(4)),
-    (&[11], Some(1)),
-    (&[12], Some(3)),
-    (&[13], None),
-    (&[], None),
-];
-
-#[test]
-fn finds_the_last(rt: HostRuntime) -> Result<(), Fail> {
-    let link = Link::new()?;
-    let log = of_five(&rt, rt.alloc(), link)?;
-    for (bytes, number) in FOUND {
-        assert_eq!(rt; found(&rt, &log, &link, bytes), (*number, None));
-    }
-    Ok(())
-}
-
 #[test]
 fn two_threads_add(rt: HostRuntime) -> Result<(), Fail> {
-    let alloc = rt.alloc();
-    let link = Link::new()?;
+    let (alloc, link) = (rt.alloc(), Link::new()?);
     let log = SharedLog::new(Vec::new(alloc), Vec::new(alloc));
     let (one, other) = thread::join(
         &rt,

@@ -1,13 +1,13 @@
 //! The daemon of a meter over a UDP socket on this machine.
 
-use fw_daemon::{Closed, MeterDaemon, Port, UdpPort, step};
+use fw_daemon::{MeterDaemon, Port, UdpPort, step};
 use fw_meter::MeterCore;
 use fw_store::MemoryStore;
 use std::alloc::Global;
 use std::net::{Ipv4Addr, Net, SocketAddr, UdpSocket};
 use std::test::Fail;
 use std::time::Duration;
-use test_support::expect_at;
+use test_tables::expect_at;
 
 /// A GET of the active firmware identifier, and the reply of a meter that was made with `abc`.
 const GET_NAME: &str = "000100010001000dc001c100010100000200ff0200";
@@ -34,37 +34,54 @@ fn daemon_for(alloc: Global, head: SocketAddr) -> Result<MeterDaemon<MemoryStore
     Ok(MeterDaemon::new(meter, heads))
 }
 
-/// One round of a daemon.
-fn round(
+/// A socket asks, and the daemon makes a round.
+fn ask(
     alloc: Global,
+    socket: &UdpSocket,
     port: &mut UdpPort,
     daemon: &mut MeterDaemon<MemoryStore>,
-) -> Result<(), Closed> {
+) -> Result<(), Fail> {
+    let request = hex::decode(alloc, GET_NAME)?;
+    socket.send_to(&request, port.address()?)?;
     step(alloc, port, daemon)?;
     Ok(())
 }
 
-#[test]
-fn a_meter_replies_over_udp(rt: HostRuntime) -> Result<(), Fail> {
-    let alloc = rt.alloc();
-    let head = socket(&rt)?;
-    let stranger = socket(&rt)?;
-    let mut daemon = daemon_for(alloc, head.local_addr()?)?;
-    let mut port = UdpPort::bind(&rt, SocketAddr::from((Ipv4Addr::LOCALHOST, 0)))?;
-    let at = port.address()?;
-    let request = hex::decode(alloc, GET_NAME)?;
-    stranger.send_to(&request, at)?;
-    round(alloc, &mut port, &mut daemon)?;
-    head.send_to(&request, at)?;
-    round(alloc, &mut port, &mut daemon)?;
+/// What comes at the head end, and from where.
+fn reply(alloc: Global, head: &UdpSocket) -> Result<String, Fail> {
     let mut reply = [0; 100];
     let (count, from) = head.recv_from(&mut reply)?;
     let text = hex::encode(alloc, &reply[..count])?;
-    expect_at(alloc, "the reply", text.as_str(), FACTORY_NAME)?;
-    let ends = format!(in alloc; "{from}")?;
-    let meter = format!(in alloc; "{at}")?;
-    expect_at(alloc, "the sender", ends.as_str(), meter.as_str())?;
+    Ok(format!(in alloc; "{text} from {from}")?)
+}
+
+/// Of a stranger and the head end, which both ask, the head end alone has a reply. It comes from the port.
+fn replies(
+    alloc: Global,
+    stranger: &UdpSocket,
+    head: &UdpSocket,
+    port: &mut UdpPort,
+    daemon: &mut MeterDaemon<MemoryStore>,
+) -> Result<(), Fail> {
+    ask(alloc, stranger, port, daemon)?;
+    ask(alloc, head, port, daemon)?;
+    let at = port.address()?;
+    let want = format!(in alloc; "{FACTORY_NAME} from {at}")?;
+    expect_at(
+        alloc,
+        "the reply",
+        reply(alloc, head)?.as_str(),
+        want.as_str(),
+    )?;
     let seen = format!(in alloc; "{:?}, {} faults", daemon.dropped(), port.faults())?;
     let want = "Dropped { strangers: 1, unserved: 0 }, 0 faults";
     expect_at(alloc, "dropped", seen.as_str(), want)
+}
+
+#[test]
+fn a_meter_replies_over_udp(rt: HostRuntime) -> Result<(), Fail> {
+    let (head, stranger) = (socket(&rt)?, socket(&rt)?);
+    let mut port = UdpPort::bind(&rt, SocketAddr::from((Ipv4Addr::LOCALHOST, 0)))?;
+    let mut daemon = daemon_for(rt.alloc(), head.local_addr()?)?;
+    replies(rt.alloc(), &stranger, &head, &mut port, &mut daemon)
 }

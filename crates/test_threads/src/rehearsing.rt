@@ -1,112 +1,72 @@
 //! Rehearsals: what workers in threads of their own lead to, under gates that part them, and what is refused. What is expected was worked
 //! out by hand from the head end's and the meter's documents.
 
-use crate::gates::{Below, Counts, Held, Meet, Open};
-use crate::support::outcome;
+use crate::gates::Rules;
+use crate::support::{Task, fates_of, outcome, row_of};
 use fw_accounts::{Receipts, Report};
-use fw_air::{CoreEvent, Fate, Fates, Receipt, schedule};
-use fw_workers::{Gate, RehearseError, rehearse};
+use fw_air::{CoreEvent, Fates, Receipt, schedule};
+use fw_workers::{RehearseError, rehearse};
 use fw_world::{Activation, Event};
 use std::alloc::Global;
 use std::sync::Wait;
 use std::test::Fail;
 use std::thread::Threads;
-use test_support::{
-    DONE, FOUR, Given, LARGE, Line, NO_HEAD, OLDER, OPENED, OPENED_BY_TWO, OPENED_FOR_FOUR,
-    OPENED_LARGE, SMALL, TWO_HEADS, done_rows, events_of, expect, numbered, setup_of,
-};
+use test_support::numbered;
+use test_tables::{Words, expect, expect_at};
 
-/// Some events, and after them N rounds by M workers, in which datagrams have these fates.
-struct Rehearsal(&'static Given, &'static [Line], u32, u32, &'static [Fate]);
-
-impl Rehearsal {
-    /// How it ends under a gate.
-    fn ended<R: Threads + Wait + Sync, G: Gate + Sync>(
-        &self,
-        rt: &R,
-        alloc: Global,
-        gate: &G,
-    ) -> Result<Result<Report, RehearseError>, Fail> {
-        let setup = setup_of(alloc, self.0)?;
-        let given = events_of(alloc, &[self.1])?;
-        let fates = Fates::new(self.4).ok_or("1 to 4,096 fates")?;
-        Ok(rehearse(rt, alloc, &setup, &given, self.2, self.3, &fates, gate))
-    }
-
-    /// The report of the world and the board's count, or the refusal.
-    fn told_under<R: Threads + Wait + Sync, G: Gate + Sync>(
-        &self,
-        rt: &R,
-        alloc: Global,
-        gate: &G,
-    ) -> Result<String, Fail> {
-        outcome(alloc, self.0, self.ended(rt, alloc, gate)?)
-    }
-
-    /// The same where every worker may go on.
-    fn told<R: Threads + Wait + Sync>(&self, rt: &R, alloc: Global) -> Result<String, Fail> {
-        self.told_under(rt, alloc, &Open)
+/// Rehearsals of rows `SETUP SCRIPT ROUNDS WORKERS AIR GATE`: the report of the world and the board's count, or the refusal. A word after
+/// them asks for something else.
+fn rehearsed<R: Threads + Wait + Sync>(rt: &R, alloc: Global, what: &str) -> Result<String, Fail> {
+    let mut words = Words::new(what);
+    let task = Task::of(alloc, &mut words)?;
+    let air = words.word()?;
+    let gate = Rules::of(&mut words)?;
+    let made = ended(rt, alloc, &task, air, &gate)?;
+    match words.next() {
+        Some("scheduled") => scheduled(alloc, &task, air, &made?),
+        Some("releases_rise") => {
+            let rise = never_falls(made?.world.activations());
+            Ok(format!(in alloc; "{rise}")?)
+        }
+        Some("each_event_passed") => {
+            let passed = are_within(&made?.receipts, gate.passes());
+            Ok(format!(in alloc; "{passed}")?)
+        }
+        asked => outcome(alloc, &task.setup, made, asked),
     }
 }
 
-const GOOD_AIR: &[Fate] = &[Fate::Deliver];
-
-/// Every third datagram of a link is lost, and every fourth comes twice.
-const BAD_AIR: &[Fate] = &[
-    Fate::Deliver,
-    Fate::Deliver,
-    Fate::Drop,
-    Fate::Twice,
-    Fate::Deliver,
-    Fate::Drop,
-    Fate::Deliver,
-    Fate::Twice,
-    Fate::Drop,
-    Fate::Deliver,
-    Fate::Deliver,
-    Fate::Drop,
-];
-
-/// Each link is done in its sixteenth round, when thirty datagrams were sent on it.
-const FOUR_DONE: &str = "row 7 1 1 done; row 7 1 2 done; row 7 1 3 done; row 7 1 4 done; \
-     meter 1 status 6 active 7 1 size 3; meter 2 status 6 active 7 1 size 3; \
-     meter 3 status 6 active 7 1 size 3; meter 4 status 6 active 7 1 size 3; \
-     activations 4; sent 120; board 4";
-
-const ONE_DONE: &str =
-    "row 7 1 1 done; meter 1 status 6 active 7 1 size 3; activations 1; sent 20; board 1";
-
-/// What two workers do together over bad air.
-const BY_TWO: Rehearsal = Rehearsal(FOUR, OPENED_FOR_FOUR, 40, 2, BAD_AIR);
-
-#[test]
-fn two_workers_meet(rt: HostRuntime) -> Result<(), Fail> {
-    let told = BY_TWO.told_under(&rt, rt.alloc(), &Meet::new())?;
-    expect(rt.alloc(), 0, told.as_str(), FOUR_DONE)
-}
-
-#[test]
-fn one_held(rt: HostRuntime) -> Result<(), Fail> {
-    for held in [0, 1] {
-        let told = BY_TWO.told_under(&rt, rt.alloc(), &Held::new(held))?;
-        expect(rt.alloc(), held as usize, told.as_str(), FOUR_DONE)?;
+/// Each row of rehearsals reports what stands after its arrow.
+fn rehearse_all<R: Threads + Wait + Sync>(rt: &R, alloc: Global, table: &str) -> Result<(), Fail> {
+    for line in table.lines() {
+        if let Some((what, want)) = row_of(line)? {
+            let told = rehearsed(rt, alloc, what)?;
+            expect_at(alloc, what, told.as_str(), want)?;
+        }
     }
     Ok(())
 }
 
-#[test]
-fn count_gate(rt: HostRuntime) -> Result<(), Fail> {
-    let told = BY_TWO.told_under(&rt, rt.alloc(), &Below(4))?;
-    expect(rt.alloc(), 0, told.as_str(), "GateShut")
-}
-
-/// Each worker's passes are counted from 0 on, and there is one before each event.
-#[test]
-fn each_event_passes(rt: HostRuntime) -> Result<(), Fail> {
-    let gate = Counts::new();
-    let report = BY_TWO.ended(&rt, rt.alloc(), &gate)??;
-    assert!(rt; are_within(&report.receipts, gate.passes()));
-    Ok(())
+/// How a rehearsal ends.
+fn ended<R: Threads + Wait + Sync>(
+    rt: &R,
+    alloc: Global,
+    task: &Task,
+    air: &str,
+    gate: &Rules,
+) -> Result<Result<Report, RehearseError>, Fail> {
+    let fates = fates_of(alloc, air)?;
+    let fates = Fates::new(&fates).ok_or("1 to 4,096 fates")?;
+    Ok(rehearse(
+        rt,
+        alloc,
+        &task.setup,
+        &task.given,
+        task.rounds,
+        task.workers,
+        &fates,
+        gate,
+    ))
 }
 
 /// Whether these are the receipts of two workers, and each has no more than it passed its gate.
@@ -117,159 +77,48 @@ fn are_within(receipts: &[Receipts], passes: (u64, u64)) -> bool {
     first.as_slice().len() as u64 <= passes.0 && second.as_slice().len() as u64 <= passes.1
 }
 
-/// Both links of each meter have different workers. Which image a meter has at the end isn't fixed, nor how many rows are done.
-const BY_THREE: Rehearsal = Rehearsal(TWO_HEADS, OPENED_BY_TWO, 40, 3, GOOD_AIR);
-
-#[test]
-fn two_heads(rt: HostRuntime) -> Result<(), Fail> {
-    let alloc = rt.alloc();
-    let report = BY_THREE.ended(&rt, alloc, &Open)??;
-    let done = done_rows(&setup_of(alloc, TWO_HEADS)?, &report.world)?;
-    assert_eq!(rt; report.board, done);
-    Ok(())
-}
-
-/// The same with a release of each head end: no meter goes back to a lower one.
-const RELEASES_BY_THREE: Rehearsal = Rehearsal(TWO_HEADS, RELEASES_OF_TWO, 40, 3, GOOD_AIR);
-
-const RELEASES_OF_TWO: &[Line] = &[
-    Line::OpenRelease(7, 1, 5, b"abc", &[1, 2, 3, 4]),
-    Line::OpenRelease(8, 1, 4, b"def", &[1, 2, 3, 4]),
-];
-
-#[test]
-fn releases_of_two_heads(rt: HostRuntime) -> Result<(), Fail> {
-    let report = RELEASES_BY_THREE.ended(&rt, rt.alloc(), &Open)??;
-    assert!(rt; !report.world.activations().is_empty());
-    assert!(rt; never_falls(report.world.activations()));
-    Ok(())
-}
-
-/// Whether no meter switches to a lower release than one to which it switched before.
+/// Whether meters switch to images, and none to a lower release than one to which it switched before.
 fn never_falls(activations: &[Activation]) -> bool {
-    activations.iter().enumerate().all(|(at, later)| {
-        activations.iter().take(at).all(|before| before.meter != later.meter
-            || before.name.release <= later.name.release)
-    })
+    !activations.is_empty()
+        && activations.iter().enumerate().all(|(at, later)| {
+            activations.iter().take(at).all(|before| before.meter != later.meter
+                || before.name.release <= later.name.release)
+        })
 }
 
-const REHEARSALS: &[(Rehearsal, &str)] = &[
-    (Rehearsal(FOUR, OPENED_FOR_FOUR, 40, 1, BAD_AIR), FOUR_DONE),
-    (Rehearsal(FOUR, OPENED_FOR_FOUR, 40, 4, BAD_AIR), FOUR_DONE),
-    // some workers have no link
-    (Rehearsal(FOUR, OPENED_FOR_FOUR, 40, 8, BAD_AIR), FOUR_DONE),
-    (Rehearsal(SMALL, OPENED, 9, 1, GOOD_AIR), ONE_DONE),
-    // without rounds, and after a campaign that has ended: its row is on the board from the start
-    (
-        Rehearsal(SMALL, OPENED, 0, 2, GOOD_AIR),
-        "row 7 1 1 live; meter 1 status 0 active 0 0 size 1; activations 0; sent 0; board 0",
-    ),
-    (Rehearsal(SMALL, DONE, 3, 2, GOOD_AIR), ONE_DONE),
-    // its meter runs release 5, and refuses an image without a release in the third round
-    (
-        Rehearsal(SMALL, OLDER, 2, 1, GOOD_AIR),
-        "row 7 1 1 done; row 7 2 1 live; meter 1 status 6 active 7 1 size 3; activations 1; sent 24; board 1",
-    ),
-    (
-        Rehearsal(SMALL, OLDER, 3, 2, GOOD_AIR),
-        "row 7 1 1 done; row 7 2 1 failed; meter 1 status 6 active 7 1 size 3; activations 1; sent 26; board 1",
-    ),
-    // its meter takes two turns, at the ends of the eighth and the ninth round
-    (
-        Rehearsal(LARGE, OPENED_LARGE, 12, 1, GOOD_AIR),
-        "row 7 1 1 live; meter 1 status 6 active 7 1 size 8193; activations 1; sent 36; board 0",
-    ),
-    (
-        Rehearsal(LARGE, OPENED_LARGE, 13, 1, GOOD_AIR),
-        "row 7 1 1 done; meter 1 status 6 active 7 1 size 8193; activations 1; sent 38; board 1",
-    ),
-    // the setup comes first: no workers and nine workers, where there are 1 to 8, and what no world is made with
-    (Rehearsal(SMALL, OPENED, 9, 0, GOOD_AIR), "BadSetup"),
-    (Rehearsal(SMALL, OPENED, 9, 9, GOOD_AIR), "BadSetup"),
-    (Rehearsal(NO_HEAD, OPENED, 9, 0, GOOD_AIR), "BadSetup"),
-    (Rehearsal(NO_HEAD, OPENED, 9, 9, GOOD_AIR), "BadSetup"),
-    (Rehearsal(NO_HEAD, OPENED, 9, 1, GOOD_AIR), "BadSetup"),
-    (Rehearsal(SMALL, SAME_SERIAL, 9, 0, GOOD_AIR), "BadSetup"),
-    (Rehearsal(SMALL, SAME_SERIAL, 9, 1, GOOD_AIR), "Event(1)"),
-    (Rehearsal(SMALL, SAME_METER, 9, 1, GOOD_AIR), "Event(1)"),
-    (Rehearsal(SMALL, NOT_SENT_YET, 9, 2, GOOD_AIR), "Event(3)"),
-];
-
-/// A campaign that is opened twice, a meter that is live in another one, and a datagram that was never sent.
-const SAME_SERIAL: &[Line] = &[
-    Line::Open(7, 1, b"abc", &[1]),
-    Line::Open(7, 1, b"abc", &[1]),
-];
-
-const SAME_METER: &[Line] = &[
-    Line::Open(7, 1, b"abc", &[1]),
-    Line::Open(7, 2, b"abc", &[1]),
-];
-
-const NOT_SENT_YET: &[Line] = &[
-    Line::Open(7, 1, b"abc", &[1]),
-    Line::Tick(7, 1),
-    Line::Deliver(&[0, 2]),
-];
-
-#[test]
-fn rehearsals(rt: HostRuntime) -> Result<(), Fail> {
-    for (at, (rehearsal, want)) in REHEARSALS.iter().enumerate() {
-        expect(
-            rt.alloc(),
-            at,
-            rehearsal.told(&rt, rt.alloc())?.as_str(),
-            want,
-        )?;
-    }
-    Ok(())
+/// The events of a rehearsal by one worker: how many there are, and how many turns among them. Its receipts are what `schedule` puts
+/// after the given events.
+fn scheduled(alloc: Global, task: &Task, air: &str, made: &Report) -> Result<String, Fail> {
+    let [receipts] = made.receipts.as_slice() else {
+        return Err("not one worker".into());
+    };
+    let fates = fates_of(alloc, air)?;
+    let fates = Fates::new(&fates).ok_or("1 to 4,096 fates")?;
+    let Ok(events) = schedule(alloc, &task.setup, &task.given, task.rounds, &fates) else {
+        return Err("an event is refused".into());
+    };
+    told_as(alloc, receipts.as_slice(), &events, task.given.len())
 }
 
-/// A rehearsal by one worker, whose receipts are what `schedule` puts after the given events: how many there are, and how many turns among
-/// them.
-struct Scheduled(Rehearsal);
-
-impl Scheduled {
-    /// What it reports.
-    fn told<R: Threads + Wait + Sync>(&self, rt: &R, alloc: Global) -> Result<String, Fail> {
-        let (events, given) = self.scheduled(alloc)?;
-        let report = self.0.ended(rt, alloc, &Open)??;
-        let [receipts] = report.receipts.as_slice() else {
-            return Err("not one worker".into());
-        };
-        let receipts = receipts.as_slice();
-        expect_same(alloc, receipts, &events, given)?;
-        let (count, turns) = (receipts.len(), turns_in(receipts));
-        Ok(format!(in alloc; "{count} events, {turns} turns")?)
-    }
-
-    /// The events of its schedule, and how many of them are given.
-    fn scheduled(&self, alloc: Global) -> Result<(Vec<Event>, usize), Fail> {
-        let Rehearsal(given, lines, rounds, _, fates) = self.0;
-        let setup = setup_of(alloc, given)?;
-        let given = events_of(alloc, &[lines])?;
-        let fates = Fates::new(fates).ok_or("1 to 4,096 fates")?;
-        match schedule(alloc, &setup, &given, rounds, &fates) {
-            Ok(events) => Ok((events, given.len())),
-            Err(_) => Err("an event is refused".into()),
-        }
-    }
-}
-
-/// The receipts are of all events from this number on.
-fn expect_same(
+/// The receipts are of all events from this number on: how many there are, and how many turns among them.
+fn told_as(
     alloc: Global,
     receipts: &[Receipt],
     events: &[Event],
     from: usize,
-) -> Result<(), Fail> {
-    if receipts.len() != events.len().saturating_sub(from) {
+) -> Result<String, Fail> {
+    let count = receipts.len();
+    if count != events.len().saturating_sub(from) {
         return Err("another number of events".into());
     }
+    let mut turns = 0u32;
     for (receipt, (number, event)) in receipts.iter().zip(events.iter().enumerate().skip(from)) {
         expect_of(alloc, receipt, number, event)?;
+        if matches!(receipt.event, CoreEvent::Turn(_)) {
+            turns = turns.saturating_add(1);
+        }
     }
-    Ok(())
+    Ok(format!(in alloc; "{count} events, {turns} turns")?)
 }
 
 /// A receipt is of the event of this number.
@@ -279,52 +128,114 @@ fn expect_of(alloc: Global, receipt: &Receipt, number: usize, event: &Event) -> 
     expect(alloc, number, found.as_str(), want.as_str())
 }
 
-fn turns_in(receipts: &[Receipt]) -> usize {
-    receipts
-        .iter()
-        .filter(|receipt| matches!(receipt.event, CoreEvent::Turn(_)))
-        .count()
+/// What two workers do together over bad air. Each link is done in its sixteenth round, when thirty datagrams were sent on it.
+const MET: &str = "
+    four opened_for_four 40 2 bad meet => four_done_over_bad_air
+";
+
+#[test]
+fn two_workers_meet(rt: HostRuntime) -> Result<(), Fail> {
+    rehearse_all(&rt, rt.alloc(), MET)
+}
+
+const HELD: &str = "
+    four opened_for_four 40 2 bad held 0 => four_done_over_bad_air
+    four opened_for_four 40 2 bad held 1 => four_done_over_bad_air
+";
+
+#[test]
+fn one_held(rt: HostRuntime) -> Result<(), Fail> {
+    rehearse_all(&rt, rt.alloc(), HELD)
+}
+
+const SHUT: &str = "
+    four opened_for_four 40 2 bad below 4 => GateShut
+";
+
+#[test]
+fn count_gate(rt: HostRuntime) -> Result<(), Fail> {
+    rehearse_all(&rt, rt.alloc(), SHUT)
+}
+
+/// Each worker's passes are counted from 0 on, and there is one before each event.
+const COUNTED: &str = "
+    four opened_for_four 40 2 bad counted each_event_passed => true
+";
+
+#[test]
+fn each_event_passes(rt: HostRuntime) -> Result<(), Fail> {
+    rehearse_all(&rt, rt.alloc(), COUNTED)
+}
+
+/// Both links of each meter have different workers. Which image a meter has at the end isn't fixed, nor how many rows are done.
+const BY_THREE: &str = "
+    two_heads opened_by_two 40 3 good open board_counts_rows => true
+";
+
+#[test]
+fn two_heads(rt: HostRuntime) -> Result<(), Fail> {
+    rehearse_all(&rt, rt.alloc(), BY_THREE)
+}
+
+/// The same with a release of each head end: no meter goes back to a lower one.
+const RELEASES_BY_THREE: &str = "
+    two_heads released_by_two 40 3 good open releases_rise => true
+";
+
+#[test]
+fn releases_of_two_heads(rt: HostRuntime) -> Result<(), Fail> {
+    rehearse_all(&rt, rt.alloc(), RELEASES_BY_THREE)
+}
+
+const REHEARSALS: &str = "
+    four opened_for_four 40 1 bad open => four_done_over_bad_air
+    four opened_for_four 40 4 bad open => four_done_over_bad_air
+    // some workers have no link
+    four opened_for_four 40 8 bad open => four_done_over_bad_air
+    small opened 9 1 good open => one_done
+
+    // without rounds, and after a campaign that has ended: its row is on the board from the start
+    small opened 0 2 good open => row 7 1 1 live; meter 1 status 0 active 0 0 size 1; activations 0; sent 0; board 0
+    small done 3 2 good open => one_done
+
+    // its meter runs release 5, and refuses an image without a release in the third round
+    small older 2 1 good open => row 7 1 1 done; row 7 2 1 live; meter 1 status 6 active 7 1 size 3; activations 1; sent 24; board 1
+    small older 3 2 good open => row 7 1 1 done; row 7 2 1 failed; meter 1 status 6 active 7 1 size 3; activations 1; sent 26; board 1
+
+    // its meter takes two turns, at the ends of the eighth and the ninth round
+    large opened_large 12 1 good open => row 7 1 1 live; meter 1 status 6 active 7 1 size 8193; activations 1; sent 36; board 0
+    large opened_large 13 1 good open => row 7 1 1 done; meter 1 status 6 active 7 1 size 8193; activations 1; sent 38; board 1
+
+    // the setup comes first: no workers and nine workers, where there are 1 to 8, and what no world is made with
+    small   opened       9 0 good open => BadSetup
+    small   opened       9 9 good open => BadSetup
+    no_head opened       9 0 good open => BadSetup
+    no_head opened       9 9 good open => BadSetup
+    no_head opened       9 1 good open => BadSetup
+    small   same_serial  9 0 good open => BadSetup
+    small   same_serial  9 1 good open => Event(1)
+    small   same_meter   9 1 good open => Event(1)
+    small   not_sent_yet 9 2 good open => Event(3)
+";
+
+#[test]
+fn rehearsals(rt: HostRuntime) -> Result<(), Fail> {
+    rehearse_all(&rt, rt.alloc(), REHEARSALS)
 }
 
 /// Each round has a tick of each link. Of the datagrams of a link over bad air, thirty up to the end of its campaign, ten of each twelve
 /// come.
-const SCHEDULED: &[(Scheduled, &str)] = &[
-    (
-        Scheduled(Rehearsal(SMALL, OPENED, 9, 1, GOOD_AIR)),
-        "29 events, 0 turns",
-    ),
-    (
-        Scheduled(Rehearsal(FOUR, OPENED_FOR_FOUR, 40, 1, BAD_AIR)),
-        "260 events, 0 turns",
-    ),
-    (
-        Scheduled(Rehearsal(LARGE, OPENED_LARGE, 13, 1, GOOD_AIR)),
-        "53 events, 2 turns",
-    ),
+const SCHEDULED: &str = "
+    small opened          9  1 good open scheduled            => 29 events, 0 turns
+    four  opened_for_four 40 1 bad open scheduled             => 260 events, 0 turns
+    large opened_large    13 1 good open scheduled            => 53 events, 2 turns
     // what is late
-    (
-        Scheduled(Rehearsal(SMALL, OPENED, 3, 1, &[Fate::Late, Fate::Deliver])),
-        "7 events, 0 turns",
-    ),
-    (
-        Scheduled(Rehearsal(SMALL, OPENED, 11, 1, &[Fate::Deliver, Fate::Late])),
-        "33 events, 0 turns",
-    ),
-    (
-        Scheduled(Rehearsal(SMALL, OPENED, 7, 1, &[Fate::Twice, Fate::Late, Fate::Drop])),
-        "27 events, 0 turns",
-    ),
-];
+    small opened          3  1 late,deliver open scheduled    => 7 events, 0 turns
+    small opened          11 1 deliver,late open scheduled    => 33 events, 0 turns
+    small opened          7  1 twice,late,drop open scheduled => 27 events, 0 turns
+";
 
 #[test]
 fn one_worker_makes_the_schedule(rt: HostRuntime) -> Result<(), Fail> {
-    for (at, (scheduled, want)) in SCHEDULED.iter().enumerate() {
-        expect(
-            rt.alloc(),
-            at,
-            scheduled.told(&rt, rt.alloc())?.as_str(),
-            want,
-        )?;
-    }
-    Ok(())
+    rehearse_all(&rt, rt.alloc(), SCHEDULED)
 }

@@ -3,8 +3,8 @@
 
 ghost use Rattle.std.specs.Prelude.{◌≡◌, MatchOption, Ok, Err};
 
-use crate::gates::Open;
-use crate::support::outcome;
+use crate::gates::Rules;
+use crate::support::{events_in, outcome, row_of, setup_in};
 use fw_air::Sent;
 use fw_names::{HeadId, MeterId};
 use fw_workers::{
@@ -14,7 +14,8 @@ use std::alloc::Global;
 use std::sync::Wait;
 use std::test::Fail;
 use std::thread::Threads;
-use test_support::{OPENED, SMALL, events_of, expect, head, meter, push, setup_of};
+use test_support::{head, meter, push};
+use test_tables::{Words, expect_at};
 
 /// A link on which all that is sent comes at once, in order.
 #[derive(Drop)]
@@ -67,61 +68,6 @@ impl Share for GoodLink {
     }
 }
 
-/// What this number of workers leads to in nine rounds, by their shares.
-fn led_to<R: Threads + Wait + Sync, H: Share + Send + Drop>(
-    rt: &R,
-    alloc: Global,
-    workers: u32,
-    shares: Vec<H>,
-) -> Result<String, Fail> {
-    let setup = setup_of(alloc, SMALL)?;
-    let given = events_of(alloc, &[OPENED])?;
-    let opening = begin(alloc, &setup, &given, workers)?;
-    let task = Task {
-        setup: &setup,
-        given: &given,
-        rounds: 9,
-        workers,
-        gate: &Open,
-    };
-    let made = match work(rt, alloc, &task, opening, shares) {
-        Ok(made) => Ok(made),
-        Err(reason) => Err(RehearseError::from(reason)),
-    };
-    outcome(alloc, SMALL, made)
-}
-
-/// The same of one worker, which has the link of this head end and this meter.
-fn told<R: Threads + Wait + Sync>(
-    rt: &R,
-    alloc: Global,
-    numbers: (u32, u32),
-) -> Result<String, Fail> {
-    let (head, meter) = (head(numbers.0)?, meter(numbers.1)?);
-    let mut shares = Vec::new(alloc);
-    shares.push(GoodLink { head, meter })?;
-    led_to(rt, alloc, 1, shares)
-}
-
-/// Links by the numbers of their ends, and what comes of them: the campaign's own, and two of which one end isn't there.
-const SHARES: &[((u32, u32), &str)] = &[
-    (
-        (7, 1),
-        "row 7 1 1 done; meter 1 status 6 active 7 1 size 3; activations 1; sent 20; board 1",
-    ),
-    ((8, 1), "Mismatch"),
-    ((7, 2), "Mismatch"),
-];
-
-#[test]
-fn shares_of_its_own(rt: HostRuntime) -> Result<(), Fail> {
-    for (at, (numbers, want)) in SHARES.iter().enumerate() {
-        let told = told(&rt, rt.alloc(), *numbers)?;
-        expect(rt.alloc(), at, told.as_str(), want)?;
-    }
-    Ok(())
-}
-
 /// A worker that is refused at once, for this reason, or for none.
 #[derive(Drop)]
 struct Refused(Option<RoundsError>);
@@ -144,51 +90,81 @@ impl Share for Refused {
     }
 }
 
-/// The same of two workers that are refused for these reasons.
-fn refusal_of<R: Threads + Wait + Sync>(
+/// What this number of workers leads to in nine rounds, by their shares.
+fn led_to<R: Threads + Wait + Sync, H: Share + Send + Drop>(
     rt: &R,
     alloc: Global,
-    reasons: &[Option<RoundsError>],
+    workers: u32,
+    shares: Vec<H>,
 ) -> Result<String, Fail> {
-    let mut shares = Vec::new(alloc);
-    for reason in reasons {
-        shares.push(Refused(*reason))?;
-    }
-    led_to(rt, alloc, 2, shares)
+    let gate = Rules::of(&mut Words::new("open"))?;
+    let setup = setup_in(alloc, "small")?;
+    let given = events_in(alloc, "opened")?;
+    let opening = begin(alloc, &setup, &given, workers)?;
+    let task = Task {
+        setup: &setup,
+        given: &given,
+        rounds: 9,
+        workers,
+        gate: &gate,
+    };
+    let made = match work(rt, alloc, &task, opening, shares) {
+        Ok(made) => Ok(made),
+        Err(reason) => Err(RehearseError::from(reason)),
+    };
+    outcome(alloc, &setup, made, None)
 }
 
-/// Why each worker is refused, from the lowest on, and what is returned: the lowest worker's refusal. Where none is refused, the rounds
-/// that they didn't make are missed.
-const REFUSALS: &[(&[Option<RoundsError>], &str)] = &[
-    (
-        &[Some(RoundsError::GateShut), Some(RoundsError::OutOfMemory)],
-        "GateShut",
-    ),
-    (
-        &[Some(RoundsError::OutOfMemory), Some(RoundsError::GateShut)],
-        "OutOfMemory",
-    ),
-    (&[None, Some(RoundsError::GateShut)], "GateShut"),
-    (&[Some(RoundsError::OutOfMemory), None], "OutOfMemory"),
-    (&[None, None], "Mismatch"),
-];
+/// Rows give a worker the `link` of a head end and a meter, or have workers `refused` for reasons, from the lowest worker on: what they lead
+/// to. Or they say which links are `dealt` to a number of workers: which of them each has.
+fn shared_out<R: Threads + Wait + Sync>(rt: &R, alloc: Global, what: &str) -> Result<String, Fail> {
+    let mut words = Words::new(what);
+    match words.word()? {
+        "link" => {
+            let (head, meter) = (head(words.number()?)?, meter(words.number()?)?);
+            led_to(rt, alloc, 1, vec![in alloc; GoodLink { head, meter }]?)
+        }
+        "refused" => {
+            let (first, second) = (reason(words.word()?)?, reason(words.word()?)?);
+            let shares = vec![in alloc; Refused(first), Refused(second)]?;
+            led_to(rt, alloc, 2, shares)
+        }
+        _ => dealt_to(alloc, words.number()?, words.rest()),
+    }
+}
 
-#[test]
-fn the_lowest_workers_refusal_is_told(rt: HostRuntime) -> Result<(), Fail> {
-    for (at, (reasons, want)) in REFUSALS.iter().enumerate() {
-        let told = refusal_of(&rt, rt.alloc(), reasons)?;
-        expect(rt.alloc(), at, told.as_str(), want)?;
+/// Each row of shares reports what stands after its arrow.
+fn shares_out<R: Threads + Wait + Sync>(rt: &R, alloc: Global, table: &str) -> Result<(), Fail> {
+    for line in table.lines() {
+        if let Some((what, want)) = row_of(line)? {
+            let told = shared_out(rt, alloc, what)?;
+            expect_at(alloc, what, told.as_str(), want)?;
+        }
     }
     Ok(())
 }
 
+/// Why a worker is refused, if it is.
+fn reason(word: &str) -> Result<Option<RoundsError>, Fail> {
+    Ok(match word {
+        "none" => None,
+        "gate_shut" => Some(RoundsError::GateShut),
+        "out_of_memory" => Some(RoundsError::OutOfMemory),
+        _ => return Err("no refusal has this name".into()),
+    })
+}
+
 /// Which of these links each of `workers` workers is dealt.
-fn dealt_to(alloc: Global, links: &[u32], workers: u32) -> Result<String, Fail> {
+fn dealt_to(alloc: Global, workers: u32, numbers: &str) -> Result<String, Fail> {
     if workers == 0 {
         return Err("no workers".into());
     }
+    let mut links = Vec::new(alloc);
+    for number in numbers.split_whitespace() {
+        links.push(number.parse::<u32>()?)?;
+    }
     let mut text = String::new(alloc);
-    for share in dealt(alloc, links.to_vec(alloc)?, workers)? {
+    for share in dealt(alloc, links, workers)? {
         push(
             &mut text,
             format!(in alloc; "{:?}", share.as_slice())?.as_str(),
@@ -197,19 +173,41 @@ fn dealt_to(alloc: Global, links: &[u32], workers: u32) -> Result<String, Fail> 
     Ok(text)
 }
 
-/// Links, the number of workers, and what each worker is dealt.
-const DEALT: &[(&[u32], u32, &str)] = &[
-    (&[7, 8, 9, 7, 6], 2, "[7, 9, 6]; [8, 7]"),
-    (&[7, 8], 3, "[7]; [8]; []"),
-    (&[7, 8], 1, "[7, 8]"),
-    (&[], 2, "[]; []"),
-];
+/// The campaign's own link, and two of which one end isn't there.
+const SHARES: &str = "
+    link 7 1 => one_done
+    link 8 1 => Mismatch
+    link 7 2 => Mismatch
+";
+
+#[test]
+fn shares_of_its_own(rt: HostRuntime) -> Result<(), Fail> {
+    shares_out(&rt, rt.alloc(), SHARES)
+}
+
+/// The lowest worker's refusal is returned. Where none is refused, the rounds that they didn't make are missed.
+const REFUSALS: &str = "
+    refused gate_shut     out_of_memory => GateShut
+    refused out_of_memory gate_shut     => OutOfMemory
+    refused none          gate_shut     => GateShut
+    refused out_of_memory none          => OutOfMemory
+    refused none          none          => Mismatch
+";
+
+#[test]
+fn the_lowest_workers_refusal_is_told(rt: HostRuntime) -> Result<(), Fail> {
+    shares_out(&rt, rt.alloc(), REFUSALS)
+}
+
+/// The number of workers and links, and what each worker is dealt.
+const DEALT: &str = "
+    dealt 2 7 8 9 7 6 => [7, 9, 6]; [8, 7]
+    dealt 3 7 8       => [7]; [8]; []
+    dealt 1 7 8       => [7, 8]
+    dealt 2           => []; []
+";
 
 #[test]
 fn links_are_dealt_in_turn(rt: HostRuntime) -> Result<(), Fail> {
-    for (at, (links, workers, want)) in DEALT.iter().enumerate() {
-        let told = dealt_to(rt.alloc(), links, *workers)?;
-        expect(rt.alloc(), at, told.as_str(), want)?;
-    }
-    Ok(())
+    shares_out(&rt, rt.alloc(), DEALT)
 }

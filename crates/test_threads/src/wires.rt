@@ -3,7 +3,10 @@
 ghost use Rattle.std.specs.Prelude.{◌≤◌, length, IfOk, IfSome};
 
 use fw_air::{MAX_RECEIVED, Pass, UdpWire, Wire, WireFault};
+use std::alloc::Global;
+use std::str::from_utf8;
 use std::test::Fail;
+use test_tables::{Reads, Words, each_line};
 
 /// A wire on which `waiting` datagrams of one byte wait, and which may fail after them.
 #[derive(Drop)]
@@ -30,18 +33,8 @@ impl Wire for Stored {
     }
 }
 
-/// How many datagrams wait, whether the wire fails after them, and how many come in a pass and in the next.
-const PASSES: &[(u32, bool, u32, u32)] = &[
-    (0, false, 0, 0),
-    (3, false, 3, 0),
-    (3, true, 3, 0),
-    (64, false, 64, 0),
-    (65, false, 64, 1),
-    (200, true, 64, 64),
-];
-
 /// How many datagrams come in a pass, up to 100.
-fn passed<W: Wire>(wire: &mut W) -> u32 {
+fn passed(wire: &mut Stored) -> u32 {
     let mut pass = Pass::new();
     let mut buffer = [0; MAX_RECEIVED];
     for came in 0..100 {
@@ -52,54 +45,104 @@ fn passed<W: Wire>(wire: &mut W) -> u32 {
     100
 }
 
+/// Rows say how many datagrams wait, and whether the wire `fails` after them or is `silent`: how many come in a pass and in the next.
+#[derive(Clone, Copy)]
+struct Passes;
+
+impl Reads for Passes {
+    fn told(&mut self, alloc: Global, what: &str) -> Result<String, Fail> {
+        let mut words = Words::new(what);
+        let mut wire = Stored {
+            waiting: words.number()?,
+            fails: words.word()? == "fails",
+        };
+        let (first, second) = (passed(&mut wire), passed(&mut wire));
+        Ok(format!(in alloc; "{first} {second}")?)
+    }
+}
+
+const PASSES: &str = "
+    0   silent => 0 0
+    3   silent => 3 0
+    3   fails  => 3 0
+    64  silent => 64 0
+    65  silent => 64 1
+    200 fails  => 64 64
+";
+
 #[test]
 fn passes_over_a_wire(rt: HostRuntime) -> Result<(), Fail> {
-    for (waiting, fails, first, second) in PASSES {
-        let mut wire = Stored {
-            waiting: *waiting,
-            fails: *fails,
-        };
-        assert_eq!(rt; passed(&mut wire), *first);
-        assert_eq!(rt; passed(&mut wire), *second);
-    }
-    Ok(())
+    each_line(rt.alloc(), &mut Passes, PASSES)
 }
+
+/// Both ends of a wire of sockets. Rows name an end that sends or receives text, or give the size of a datagram that the head end sends:
+/// how many bytes a pass gives of it at the meter.
+#[derive(Drop)]
+struct Sockets {
+    head: UdpWire,
+    meter: UdpWire,
+}
+
+impl Reads for Sockets {
+    fn told(&mut self, alloc: Global, what: &str) -> Result<String, Fail> {
+        let mut words = Words::new(what);
+        let wire = match words.word()? {
+            "head" => &mut self.head,
+            "meter" => &mut self.meter,
+            _ => return self.passed(alloc, words.number()? as usize),
+        };
+        match words.next() {
+            Some(text) => Ok(format!(in alloc; "{:?}", wire.send(text.as_bytes()))?),
+            None => received(alloc, wire),
+        }
+    }
+}
+
+impl Sockets {
+    /// What a pass gives at the meter of a datagram of this size.
+    fn passed(&mut self, alloc: Global, size: usize) -> Result<String, Fail> {
+        let sent = self.head.send(&vec![in alloc; b'a'; size]?);
+        let came = Pass::new().next(&mut self.meter, &mut [0; MAX_RECEIVED]);
+        Ok(format!(in alloc; "{sent:?} {came:?}")?)
+    }
+}
+
+/// The text that comes at an end, or what comes in its place.
+fn received(alloc: Global, wire: &mut UdpWire) -> Result<String, Fail> {
+    let mut buffer = [0; MAX_RECEIVED];
+    match wire.receive(&mut buffer) {
+        Ok(Some(count)) => Ok(from_utf8(&buffer[..count])?.to_string(alloc)?),
+        other => Ok(format!(in alloc; "{other:?}")?),
+    }
+}
+
+const SENT: &str = "
+    meter      => Ok(None)
+    head ask   => Ok(3)
+    meter      => ask
+    meter reply => Ok(5)
+    head       => reply
+    head       => Ok(None)
+";
 
 #[test]
 fn udp_wires(rt: HostRuntime) -> Result<(), Fail> {
-    let (mut head, mut meter) = UdpWire::pair(&rt, rt.alloc())?;
-    let mut buffer = [0; MAX_RECEIVED];
-    assert!(rt; meter.receive(&mut buffer) == Ok(None));
-    assert!(rt; head.send(b"ask") == Ok(3));
-    assert!(rt; meter.receive(&mut buffer) == Ok(Some(3)));
-    assert!(rt; buffer.starts_with(b"ask"));
-    assert!(rt; meter.send(b"reply") == Ok(5));
-    assert!(rt; head.receive(&mut buffer) == Ok(Some(5)));
-    assert!(rt; buffer.starts_with(b"reply"));
-    assert!(rt; head.receive(&mut buffer) == Ok(None));
-    Ok(())
+    let (head, meter) = UdpWire::pair(&rt, rt.alloc())?;
+    each_line(rt.alloc(), &mut Sockets { head, meter }, SENT)
 }
 
-/// How many bytes a datagram has that goes over sockets, and how many of them a pass gives. One that is longer than any of this profile
-/// is cut.
-const SIZES: &[(usize, usize)] = &[
-    (1, 1),
-    (1_289, 1_289),
-    (2_312, 2_312),
-    (2_313, 2_313),
-    (2_314, 2_313),
-    (4_096, 2_313),
-];
+/// A datagram that is longer than any of this profile is cut.
+const SIZES: &str = "
+    size 1    => Ok(1) Some(1)
+    size 1289 => Ok(1289) Some(1289)
+    size 2312 => Ok(2312) Some(2312)
+    size 2313 => Ok(2313) Some(2313)
+    size 2314 => Ok(2314) Some(2313)
+    size 4096 => Ok(4096) Some(2313)
+";
 
 #[test]
 fn long_datagrams(rt: HostRuntime) -> Result<(), Fail> {
-    let (mut head, mut meter) = UdpWire::pair(&rt, rt.alloc())?;
-    let mut buffer = [0; MAX_RECEIVED];
-    for (size, came) in SIZES {
-        let sent = vec![in rt.alloc(); b'a'; *size]?;
-        let mut pass = Pass::new();
-        assert!(rt; head.send(&sent) == Ok(*size));
-        assert!(rt; pass.next(&mut meter, &mut buffer) == Some(*came));
-    }
-    Ok(())
+    let (head, meter) = UdpWire::pair(&rt, rt.alloc())?;
+    each_line(rt.alloc(), &mut Sockets { head, meter }, SIZES)
 }

@@ -11,34 +11,32 @@ use fw_names::factory_name;
 use fw_server::{Answer, ImageInfo, Outcome, answer};
 use std::alloc::Global;
 use std::test::Fail;
-use test_support::{Case, each};
+use test_tables::{Reads, Words, each_line};
 
-/// What is answered to a request that is confirmed, of high priority, and has the invoke-id 1.
+#[derive(Clone, Copy)]
 enum Told {
-    LogicalName([u8; 6]),
-    BlockSize(u32),
-    FirstNotTransferred(u32),
-    Enabled(bool),
-    Status(u8),
-    /// N blocks, and the bytes of their bits.
-    Blocks(&'static [u8], usize),
-    NothingToActivate,
-    /// Of 3 bytes, from campaign 1 of head end 7, of this release.
-    AbcToActivate(u32),
-    /// The name of `abc` as a factory image, and its digest.
-    AbcName,
-    AbcDigest,
-    /// Its name in that campaign, of this release.
-    AbcOffered(u32),
-    GetCode(u8),
-    SetCode(u8),
-    ActionCode(u8),
+    /// What is answered to a request that is confirmed, of high priority, and has the invoke-id 1.
+    Answer,
+    /// Of N blocks, of which the first is there, the size of the answer and its first ten bytes.
+    Most,
+    /// Of an invoke byte, which is repeated whole, the answer to a SET that is done.
+    Repeated,
+    /// The datagram that answers a status from wPort 1 to another.
+    Wrapped,
 }
 
-impl Case for Told {
-    fn told(&self, alloc: Global) -> Result<String, Fail> {
-        let outcome = outcome(alloc, self)?;
-        answer_text(alloc, 0xc1, &outcome)
+impl Reads for Told {
+    fn told(&mut self, alloc: Global, what: &str) -> Result<String, Fail> {
+        let mut words = Words::new(what);
+        match self {
+            Told::Answer => answer_text(alloc, 0xc1, &outcome(alloc, words)?),
+            Told::Most => most_text(alloc, words.number()? as usize),
+            Told::Repeated => {
+                let invoke = words.word()?.parse::<u8>()?;
+                answer_text(alloc, invoke, &Outcome::SetCode(0))
+            }
+            Told::Wrapped => wrapped_text(alloc, words),
+        }
     }
 }
 
@@ -48,110 +46,98 @@ fn answer_text(alloc: Global, invoke: u8, outcome: &Outcome) -> Result<String, F
     Ok(hex::encode(alloc, apdu.as_slice())?)
 }
 
-fn outcome(alloc: Global, told: &Told) -> Result<Outcome, Fail> {
-    Ok(match *told {
-        Told::GetCode(code) => Outcome::GetCode(code),
-        Told::SetCode(code) => Outcome::SetCode(code),
-        Told::ActionCode(code) => Outcome::ActionCode(code),
-        _ => Outcome::Got(got(alloc, told)?),
+/// An answer by its name: a code of a service, or what is got.
+fn outcome(alloc: Global, mut words: Words<'_>) -> Result<Outcome, Fail> {
+    Ok(match words.word()? {
+        "get-code" => Outcome::GetCode(byte(words)?),
+        "set-code" => Outcome::SetCode(byte(words)?),
+        "action-code" => Outcome::ActionCode(byte(words)?),
+        "transferred-blocks" => Outcome::Got(Answer::TransferredBlocks(blocks(alloc, words)?)),
+        word => Outcome::Got(got(word, words)?),
     })
 }
 
-/// What is got, where the answer is no code.
-fn got(alloc: Global, told: &Told) -> Result<Answer, Fail> {
-    Ok(match *told {
-        Told::LogicalName(name) => Answer::LogicalName(LogicalName(name)),
-        Told::BlockSize(size) => Answer::BlockSize(size),
-        Told::FirstNotTransferred(number) => Answer::FirstNotTransferred(number),
-        Told::Enabled(enabled) => Answer::TransferEnabled(enabled),
-        Told::Status(status) => Answer::TransferStatus(status),
-        Told::Blocks(bytes, len) => Answer::TransferredBlocks(bits_of(alloc, bytes, len)?),
-        Told::NothingToActivate => Answer::ToActivate(None),
-        Told::AbcToActivate(release) => Answer::ToActivate(Some(ImageInfo {
+fn byte(mut words: Words<'_>) -> Result<u8, Fail> {
+    Ok(words.word()?.parse::<u8>()?)
+}
+
+/// N blocks, and the bytes of their bits.
+fn blocks(alloc: Global, mut words: Words<'_>) -> Result<Bits, Fail> {
+    let len = words.number()? as usize;
+    bits_of(alloc, &hex::decode(alloc, words.rest())?, len)
+}
+
+/// What is got. The image is `abc`, of 3 bytes, from campaign 1 of head end 7, of a release, or a factory image.
+fn got(word: &str, mut words: Words<'_>) -> Result<Answer, Fail> {
+    Ok(match word {
+        "logical-name" => Answer::LogicalName(logical_name(words.rest())?),
+        "block-size" => Answer::BlockSize(words.number()?),
+        "first-not-transferred" => Answer::FirstNotTransferred(words.number()?),
+        "enabled" => Answer::TransferEnabled(words.rest() == "true"),
+        "status" => Answer::TransferStatus(byte(words)?),
+        "nothing-to-activate" => Answer::ToActivate(None),
+        "to-activate" => Answer::ToActivate(Some(ImageInfo {
             size: 3,
-            name: abc_name(7, 1, release).ok_or("no name")?,
+            name: abc_name(7, 1, words.number()?).ok_or("no name")?,
         })),
-        Told::AbcOffered(release) => Answer::ActiveName(abc_name(7, 1, release).ok_or("no name")?),
-        Told::AbcName => Answer::ActiveName(factory_name(b"abc")),
-        Told::AbcDigest => Answer::ActiveDigest(factory_name(b"abc").digest),
-        _ => return Err("a code is told".into()),
+        "offered-name" => Answer::ActiveName(abc_name(7, 1, words.number()?).ok_or("no name")?),
+        "factory-name" => Answer::ActiveName(factory_name(b"abc")),
+        "digest" => Answer::ActiveDigest(factory_name(b"abc").digest),
+        _ => return Err("no answer has this name".into()),
     })
 }
 
-const TOLD: &[(Told, &str)] = &[
-    (
-        Told::LogicalName([0, 0, 44, 0, 0, 255]),
-        "c401c100090600002c0000ff",
-    ),
-    (
-        Told::LogicalName([1, 0, 0, 2, 0, 255]),
-        "c401c10009060100000200ff",
-    ),
-    (
-        Told::LogicalName([1, 0, 0, 2, 8, 255]),
-        "c401c10009060100000208ff",
-    ),
-    (Told::BlockSize(1024), "c401c1000600000400"),
-    (Told::FirstNotTransferred(2), "c401c1000600000002"),
-    (
-        Told::FirstNotTransferred(4_294_967_295),
-        "c401c10006ffffffff",
-    ),
-    (Told::Enabled(true), "c401c1000301"),
-    (Told::Enabled(false), "c401c1000300"),
-    (Told::Status(0), "c401c1001600"),
-    (Told::Status(1), "c401c1001601"),
-    (Told::Status(3), "c401c1001603"),
-    (Told::Status(4), "c401c1001604"),
-    (Told::Status(6), "c401c1001606"),
-    // ten blocks of which 0, 1 and 9 are there, two that aren't, and no blocks
-    (Told::Blocks(&[0xc0, 0x40], 10), "c401c100040ac040"),
-    (Told::Blocks(&[0], 2), "c401c100040200"),
-    (Told::Blocks(&[], 0), "c401c1000400"),
-    // an empty array, and an array of one structure of the size, the name and its digest
-    (Told::NothingToActivate, "c401c1000100"),
-    (
-        Told::AbcToActivate(0),
-        "c401c1000101020306000000030929010000000700000001ba7816bf8f01cfea414140de5dae2223b00361a396177a9cb410ff61f20015ad0920ba7816bf8f01cfea414140de5dae2223b00361a396177a9cb410ff61f20015ad",
-    ),
-    (
-        Told::AbcToActivate(5),
-        "c401c100010102030600000003092d02000000070000000100000005ba7816bf8f01cfea414140de5dae2223b00361a396177a9cb410ff61f20015ad0920ba7816bf8f01cfea414140de5dae2223b00361a396177a9cb410ff61f20015ad",
-    ),
-    (
-        Told::AbcOffered(5),
-        "c401c100092d02000000070000000100000005ba7816bf8f01cfea414140de5dae2223b00361a396177a9cb410ff61f20015ad",
-    ),
-    (
-        Told::AbcName,
-        "c401c1000929010000000000000000ba7816bf8f01cfea414140de5dae2223b00361a396177a9cb410ff61f20015ad",
-    ),
-    (
-        Told::AbcDigest,
-        "c401c1000920ba7816bf8f01cfea414140de5dae2223b00361a396177a9cb410ff61f20015ad",
-    ),
-    (Told::GetCode(4), "c401c10104"),
-    (Told::SetCode(0), "c501c100"),
-    (Told::SetCode(12), "c501c10c"),
-    (Told::ActionCode(0), "c701c10000"),
-    (Told::ActionCode(250), "c701c1fa00"),
-];
-
-/// N blocks, of which the first is there: the size of the answer and its first ten bytes.
-struct Most(usize);
-
-impl Case for Most {
-    fn told(&self, alloc: Global) -> Result<String, Fail> {
-        let outcome = Outcome::Got(Answer::TransferredBlocks(first_of(alloc, self.0)?));
-        let apdu = answer(alloc, &Invoke(0xc1), &outcome)?;
-        front_text(alloc, apdu.as_slice())
+fn logical_name(name: &str) -> Result<LogicalName, Fail> {
+    match name {
+        "0-0:44.0.0.255" => Ok(LogicalName([0, 0, 44, 0, 0, 255])),
+        "1-0:0.2.0.255" => Ok(LogicalName([1, 0, 0, 2, 0, 255])),
+        "1-0:0.2.8.255" => Ok(LogicalName([1, 0, 0, 2, 8, 255])),
+        _ => Err("no object has this name".into()),
     }
 }
 
-const MOST: &[(Most, &str)] = &[
-    (Most(4096), "520 c401c100048210008000"),
-    (Most(16384), "2056 c401c100048240008000"),
-];
+const TOLD: &str = "
+    logical-name 0-0:44.0.0.255      => c401c100090600002c0000ff
+    logical-name 1-0:0.2.0.255       => c401c10009060100000200ff
+    logical-name 1-0:0.2.8.255       => c401c10009060100000208ff
+    block-size 1024                  => c401c1000600000400
+    first-not-transferred 2          => c401c1000600000002
+    first-not-transferred 4294967295 => c401c10006ffffffff
+    enabled true                     => c401c1000301
+    enabled false                    => c401c1000300
+    status 0                         => c401c1001600
+    status 1                         => c401c1001601
+    status 3                         => c401c1001603
+    status 4                         => c401c1001604
+    status 6                         => c401c1001606
+    // ten blocks of which 0, 1 and 9 are there, two that aren't, and no blocks
+    transferred-blocks 10 c040       => c401c100040ac040
+    transferred-blocks 2 00          => c401c100040200
+    transferred-blocks 0             => c401c1000400
+    // an empty array, and an array of one structure of the size, the name and its digest
+    nothing-to-activate              => c401c1000100
+    to-activate 0 => c401c1000101020306000000030929010000000700000001ba7816bf8f01cfea414140de5dae2223b00361a396177a9cb410ff61f20015ad0920ba7816bf8f01cfea414140de5dae2223b00361a396177a9cb410ff61f20015ad
+    to-activate 5 => c401c100010102030600000003092d02000000070000000100000005ba7816bf8f01cfea414140de5dae2223b00361a396177a9cb410ff61f20015ad0920ba7816bf8f01cfea414140de5dae2223b00361a396177a9cb410ff61f20015ad
+    offered-name 5                   => c401c100092d02000000070000000100000005ba7816bf8f01cfea414140de5dae2223b00361a396177a9cb410ff61f20015ad
+    factory-name                     => c401c1000929010000000000000000ba7816bf8f01cfea414140de5dae2223b00361a396177a9cb410ff61f20015ad
+    digest                           => c401c1000920ba7816bf8f01cfea414140de5dae2223b00361a396177a9cb410ff61f20015ad
+    get-code 4                       => c401c10104
+    set-code 0                       => c501c100
+    set-code 12                      => c501c10c
+    action-code 0                    => c701c10000
+    action-code 250                  => c701c1fa00
+";
+
+fn most_text(alloc: Global, len: usize) -> Result<String, Fail> {
+    let outcome = Outcome::Got(Answer::TransferredBlocks(first_of(alloc, len)?));
+    let apdu = answer(alloc, &Invoke(0xc1), &outcome)?;
+    front_text(alloc, apdu.as_slice())
+}
+
+const MOST: &str = "
+    4096  => 520 c401c100048210008000
+    16384 => 2056 c401c100048240008000
+";
 
 /// `len` bits, of which the first is set.
 fn first_of(alloc: Global, len: usize) -> Result<Bits, Fail> {
@@ -167,41 +153,31 @@ fn front_text(alloc: Global, apdu: &[u8]) -> Result<String, Fail> {
     Ok(format!(in alloc; "{} {front}", apdu.len())?)
 }
 
-/// An invoke byte, which is repeated whole: the answer to a SET that is done.
-struct Repeated(u8);
+/// The bytes are 00, 4f, 7f, b0 and ff.
+const REPEATED: &str = "
+    0   => c5010000
+    79  => c5014f00
+    127 => c5017f00
+    176 => c501b000
+    255 => c501ff00
+";
 
-impl Case for Repeated {
-    fn told(&self, alloc: Global) -> Result<String, Fail> {
-        answer_text(alloc, self.0, &Outcome::SetCode(0))
-    }
+fn wrapped_text(alloc: Global, mut words: Words<'_>) -> Result<String, Fail> {
+    let dest = words.word()?.parse::<u16>()?;
+    let outcome = Outcome::Got(Answer::TransferStatus(byte(words)?));
+    let datagram = wrapped_answer(alloc, 1, dest, &Invoke(0xc1), &outcome);
+    Ok(hex::encode(alloc, datagram.as_deref().unwrap_or(&[]))?)
 }
 
-const REPEATED: &[(Repeated, &str)] = &[
-    (Repeated(0x00), "c5010000"),
-    (Repeated(0x4f), "c5014f00"),
-    (Repeated(0x7f), "c5017f00"),
-    (Repeated(0xb0), "c501b000"),
-    (Repeated(0xff), "c501ff00"),
-];
-
-/// The datagram that answers this status from wPort 1 to another.
-struct Wrapped(u16, u8);
-
-impl Case for Wrapped {
-    fn told(&self, alloc: Global) -> Result<String, Fail> {
-        let outcome = Outcome::Got(Answer::TransferStatus(self.1));
-        let datagram = wrapped_answer(alloc, 1, self.0, &Invoke(0xc1), &outcome);
-        Ok(hex::encode(alloc, datagram.as_deref().unwrap_or(&[]))?)
-    }
-}
+/// To wPort 1234 in hexadecimal.
+const WRAPPED: &str = "
+    4660 3 => 0001000112340006c401c1001603
+";
 
 #[test]
 fn each_answer(rt: HostRuntime) -> Result<(), Fail> {
-    each(rt.alloc(), TOLD)?;
-    each(rt.alloc(), MOST)?;
-    each(rt.alloc(), REPEATED)?;
-    each(
-        rt.alloc(),
-        &[(Wrapped(0x1234, 3), "0001000112340006c401c1001603")],
-    )
+    each_line(rt.alloc(), &mut Told::Answer, TOLD)?;
+    each_line(rt.alloc(), &mut Told::Most, MOST)?;
+    each_line(rt.alloc(), &mut Told::Repeated, REPEATED)?;
+    each_line(rt.alloc(), &mut Told::Wrapped, WRAPPED)
 }

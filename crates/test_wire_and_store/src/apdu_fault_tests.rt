@@ -1,12 +1,33 @@
 //! Faults of byte strings that are no request or no response: which one, and that the leftmost one decides.
 
-use crate::support::{Way, each_by};
 use fw_apdu::{ApduError, read_request, read_response};
 use fw_axdr::AxdrError;
 use fw_wrapper::WrapError;
 use std::alloc::{AllocError, Global};
 use std::test::Fail;
-use test_support::{each, each_prints};
+use test_tables::{Reads, each_line, each_prints};
+
+/// Which faults are told of bytes in hexadecimal.
+#[derive(Clone, Copy)]
+enum Faults {
+    /// That of a request.
+    Request,
+    /// That of a response.
+    Response,
+    /// That of each proper prefix of an APDU, of no byte first: S where the service is truncated, and D where the Data is.
+    Prefixes,
+}
+
+impl Reads for Faults {
+    fn told(&mut self, alloc: Global, what: &str) -> Result<String, Fail> {
+        let bytes = hex::decode(alloc, what)?;
+        match self {
+            Faults::Request => Ok(fault_text(alloc, read_request(alloc, &bytes).err())?),
+            Faults::Response => Ok(fault_text(alloc, read_response(alloc, &bytes).err())?),
+            Faults::Prefixes => prefixes_text(alloc, &bytes),
+        }
+    }
+}
 
 /// The fault, as `Debug` gives it.
 fn fault_text(alloc: Global, fault: Option<ApduError>) -> Result<String, AllocError> {
@@ -16,104 +37,72 @@ fn fault_text(alloc: Global, fault: Option<ApduError>) -> Result<String, AllocEr
     }
 }
 
-/// The fault of a request.
-struct Asked;
-
-impl Way for Asked {
-    fn told(&self, alloc: Global, bytes: &[u8]) -> Result<String, Fail> {
-        Ok(fault_text(alloc, read_request(alloc, bytes).err())?)
-    }
-}
-
-/// The fault of a response.
-struct Answered;
-
-impl Way for Answered {
-    fn told(&self, alloc: Global, bytes: &[u8]) -> Result<String, Fail> {
-        Ok(fault_text(alloc, read_response(alloc, bytes).err())?)
-    }
-}
-
-/// First bytes of no request.
-const FRONTS: &[(&str, &str)] = &[
-    ("", "Truncated"),
-    ("c0", "Truncated"),
-    ("00", "UnknownService"),
-    ("bf01", "UnknownService"),
-    ("c202", "UnknownService"),
-    ("c401", "UnknownService"),
-    ("c5", "UnknownService"),
-    ("c7", "UnknownService"),
-    ("ff", "UnknownService"),
-    ("c000", "UnsupportedForm"),
-    ("c102c1", "UnsupportedForm"),
-    ("c3ff", "UnsupportedForm"),
-];
+/// First bytes of no request. The first are none.
+const FRONTS: &str = "
+           => Truncated
+    c0     => Truncated
+    00     => UnknownService
+    bf01   => UnknownService
+    c202   => UnknownService
+    c401   => UnknownService
+    c5     => UnknownService
+    c7     => UnknownService
+    ff     => UnknownService
+    c000   => UnsupportedForm
+    c102c1 => UnsupportedForm
+    c3ff   => UnsupportedForm
+";
 
 /// A GET, SETs and ACTIONs of an attribute or a method 5 of class 18, 0-0:44.0.0.255.
-const REQUESTS: &[(&str, &str)] = &[
-    ("c001c1001200002c0000ff0500", "none"),
-    ("c001c1001200002c0000ff050000", "Trailing"),
-    ("c001c1001200002c0000ff0501", "UnsupportedForm"),
-    ("c001c1001200002c0000ff05ff00", "UnsupportedForm"),
-    ("c101c1001200002c0000ff05000301", "none"),
-    ("c101c1001200002c0000ff0500030100", "Trailing"),
-    ("c101c1001200002c0000ff05010301", "UnsupportedForm"),
-    ("c101c1001200002c0000ff050007", "BadData(UnknownTag)"),
-    ("c101c1001200002c0000ff0500098007", "BadData(BadLength)"),
-    ("c101c1001200002c0000ff05000600", "BadData(Truncated)"),
-    (
-        "c101c1001200002c0000ff05000201020102010201020102010201020100",
-        "BadData(TooDeep)",
-    ),
-    ("c301c1001200002c0000ff0500", "none"),
-    ("c301c1001200002c0000ff050000", "Trailing"),
-    ("c301c1001200002c0000ff05010f00", "none"),
-    ("c301c1001200002c0000ff05010f0000", "Trailing"),
-    ("c301c1001200002c0000ff05010700", "BadData(UnknownTag)"),
-    ("c301c1001200002c0000ff05ff0980", "BadData(BadLength)"),
-    ("c301c1001200002c0000ff05010600", "BadData(Truncated)"),
-    (
-        "c301c1001200002c0000ff05010101010101010101010101010101010100",
-        "BadData(TooDeep)",
-    ),
-];
+const REQUESTS: &str = "
+    c001c1001200002c0000ff0500                                   => none
+    c001c1001200002c0000ff050000                                 => Trailing
+    c001c1001200002c0000ff0501                                   => UnsupportedForm
+    c001c1001200002c0000ff05ff00                                 => UnsupportedForm
+    c101c1001200002c0000ff05000301                               => none
+    c101c1001200002c0000ff0500030100                             => Trailing
+    c101c1001200002c0000ff05010301                               => UnsupportedForm
+    c101c1001200002c0000ff050007                                 => BadData(UnknownTag)
+    c101c1001200002c0000ff0500098007                             => BadData(BadLength)
+    c101c1001200002c0000ff05000600                               => BadData(Truncated)
+    c101c1001200002c0000ff05000201020102010201020102010201020100 => BadData(TooDeep)
+    c301c1001200002c0000ff0500                                   => none
+    c301c1001200002c0000ff050000                                 => Trailing
+    c301c1001200002c0000ff05010f00                               => none
+    c301c1001200002c0000ff05010f0000                             => Trailing
+    c301c1001200002c0000ff05010700                               => BadData(UnknownTag)
+    c301c1001200002c0000ff05ff0980                               => BadData(BadLength)
+    c301c1001200002c0000ff05010600                               => BadData(Truncated)
+    c301c1001200002c0000ff05010101010101010101010101010101010100 => BadData(TooDeep)
+";
 
 /// Responses and their faults.
-const RESPONSES: &[(&str, &str)] = &[
-    ("", "Truncated"),
-    ("c001", "UnknownService"),
-    ("c602", "UnknownService"),
-    ("c402c1", "UnsupportedForm"),
-    ("c500", "UnsupportedForm"),
-    ("c702", "UnsupportedForm"),
-    ("c401c102", "UnsupportedForm"),
-    ("c701c10001ff", "UnsupportedForm"),
-    ("c401c1000700", "BadData(UnknownTag)"),
-    ("c701c10001000980", "BadData(BadLength)"),
-    (
-        "c401c1000201020102010201020102010201020100",
-        "BadData(TooDeep)",
-    ),
-    ("c401c1000000", "Trailing"),
-    ("c401c1010400", "Trailing"),
-    ("c501c10000", "Trailing"),
-    ("c701c1000000", "Trailing"),
-    ("c701c10001000000", "Trailing"),
-    ("c701c10001010400", "Trailing"),
-];
+const RESPONSES: &str = "
+                                               => Truncated
+    c001                                       => UnknownService
+    c602                                       => UnknownService
+    c402c1                                     => UnsupportedForm
+    c500                                       => UnsupportedForm
+    c702                                       => UnsupportedForm
+    c401c102                                   => UnsupportedForm
+    c701c10001ff                               => UnsupportedForm
+    c401c1000700                               => BadData(UnknownTag)
+    c701c10001000980                           => BadData(BadLength)
+    c401c1000201020102010201020102010201020100 => BadData(TooDeep)
+    c401c1000000                               => Trailing
+    c401c1010400                               => Trailing
+    c501c10000                                 => Trailing
+    c701c1000000                               => Trailing
+    c701c10001000000                           => Trailing
+    c701c10001010400                           => Trailing
+";
 
-/// The fault of each proper prefix of an APDU, of no byte first: S where the service is truncated, and D where the Data is.
-struct Prefixes;
-
-impl Way for Prefixes {
-    fn told(&self, alloc: Global, bytes: &[u8]) -> Result<String, Fail> {
-        let mut told = String::new(alloc);
-        for len in 0..bytes.len() {
-            told.push_str(letter(fault_of(alloc, bytes.first(), &bytes[..len])))?;
-        }
-        Ok(told)
+fn prefixes_text(alloc: Global, bytes: &[u8]) -> Result<String, Fail> {
+    let mut told = String::new(alloc);
+    for len in 0..bytes.len() {
+        told.push_str(letter(fault_of(alloc, bytes.first(), &bytes[..len])))?;
     }
+    Ok(told)
 }
 
 /// The fault of bytes that begin an APDU with this first byte.
@@ -133,20 +122,17 @@ fn letter(fault: Option<ApduError>) -> &'static str {
 }
 
 /// The Data begins after what the service itself has.
-const WHOLE: &[(&str, &str)] = &[
-    ("c001c100010100000200ff0200", "SSSSSSSSSSSSS"),
-    ("c101c1001200002c0000ff05000301", "SSSSSSSSSSSSSDD"),
-    (
-        "c301c1001200002c0000ff02010202060000000009026162",
-        "SSSSSSSSSSSSSDDDDDDDDDDD",
-    ),
-    ("c401c10009026162", "SSSSDDDD"),
-    ("c401c10104", "SSSSS"),
-    ("c501c100", "SSSS"),
-    ("c701c1fa00", "SSSSS"),
-    ("c701c10001001604", "SSSSSSDD"),
-    ("c701c100010104", "SSSSSSS"),
-];
+const WHOLE: &str = "
+    c001c100010100000200ff0200                       => SSSSSSSSSSSSS
+    c101c1001200002c0000ff05000301                   => SSSSSSSSSSSSSDD
+    c301c1001200002c0000ff02010202060000000009026162 => SSSSSSSSSSSSSDDDDDDDDDDD
+    c401c10009026162                                 => SSSSDDDD
+    c401c10104                                       => SSSSS
+    c501c100                                         => SSSS
+    c701c1fa00                                       => SSSSS
+    c701c10001001604                                 => SSSSSSDD
+    c701c100010104                                   => SSSSSSS
+";
 
 /// The names that the faults print.
 const NAMES: &[(ApduError, &str)] = &[
@@ -172,10 +158,10 @@ const WRAPPER_NAMES: &[(WrapError, &str)] = &[
 
 #[test]
 fn each_fault(rt: HostRuntime) -> Result<(), Fail> {
-    each_by(rt.alloc(), &Asked, FRONTS)?;
-    each_by(rt.alloc(), &Asked, REQUESTS)?;
-    each_by(rt.alloc(), &Answered, RESPONSES)?;
-    each_by(rt.alloc(), &Prefixes, WHOLE)?;
+    each_line(rt.alloc(), &mut Faults::Request, FRONTS)?;
+    each_line(rt.alloc(), &mut Faults::Request, REQUESTS)?;
+    each_line(rt.alloc(), &mut Faults::Response, RESPONSES)?;
+    each_line(rt.alloc(), &mut Faults::Prefixes, WHOLE)?;
     each_prints(rt.alloc(), NAMES)?;
     each_prints(rt.alloc(), WRAPPER_NAMES)
 }

@@ -4,7 +4,7 @@ use crate::support::joined;
 use fw_axdr::{AxdrError, read};
 use std::alloc::{AllocError, Global};
 use std::test::Fail;
-use test_support::{Case, each};
+use test_tables::{Reads, each_line};
 
 /// The fault of the parts, one after another, by the first letter of its name, or `.`; D is for the depth.
 fn letter(alloc: Global, parts: &[&[u8]]) -> Result<&'static str, AllocError> {
@@ -19,56 +19,66 @@ fn letter(alloc: Global, parts: &[&[u8]]) -> Result<&'static str, AllocError> {
     })
 }
 
-/// Each byte alone, from 00 to ff.
-struct Tags;
+/// What is made of bytes in hexadecimal, and the faults of that.
+#[derive(Clone, Copy)]
+enum Made {
+    /// Of a byte it alone, and each of the 63 after it.
+    Tags,
+    /// Of a tag it with none to eight bytes after it.
+    Fixed,
+    /// What stands in the innermost of elements, at depth 8, after seven, and at depth 9, after eight, of each nesting.
+    Innermost,
+}
 
-impl Case for Tags {
-    fn told(&self, alloc: Global) -> Result<String, Fail> {
-        let mut told = String::new(alloc);
-        for tag in 0..=0xff {
-            told.push_str(letter(alloc, &[&[tag]])?)?;
+impl Reads for Made {
+    fn told(&mut self, alloc: Global, what: &str) -> Result<String, Fail> {
+        let bytes = hex::decode(alloc, what)?;
+        match self {
+            Made::Tags => tags_text(alloc, *bytes.first().ok_or("no tag")?),
+            Made::Fixed => fixed_text(alloc, &bytes),
+            Made::Innermost => innermost_text(alloc, &bytes),
         }
-        Ok(told)
     }
+}
+
+fn tags_text(alloc: Global, first: u8) -> Result<String, Fail> {
+    let mut told = String::new(alloc);
+    for further in 0..64 {
+        told.push_str(letter(alloc, &[&[first.wrapping_add(further)]])?)?;
+    }
+    Ok(told)
 }
 
 /// The tags are 0, 1 to 6, 9, 10, 15 to 18, and 20 to 22.
-const TAGS: &[(Tags, &str)] = &[(
-    Tags,
-    "\
-.TTTTTTUUTTUUUUTTTTUTTTUUUUUUUUUUUUUUUUUUUUUUUUUUUUUUUUUUUUUUUUU\
-UUUUUUUUUUUUUUUUUUUUUUUUUUUUUUUUUUUUUUUUUUUUUUUUUUUUUUUUUUUUUUUU\
-UUUUUUUUUUUUUUUUUUUUUUUUUUUUUUUUUUUUUUUUUUUUUUUUUUUUUUUUUUUUUUUU\
-UUUUUUUUUUUUUUUUUUUUUUUUUUUUUUUUUUUUUUUUUUUUUUUUUUUUUUUUUUUUUUUU",
-)];
+const TAGS: &str = "
+    00 => .TTTTTTUUTTUUUUTTTTUTTTUUUUUUUUUUUUUUUUUUUUUUUUUUUUUUUUUUUUUUUUU
+    40 => UUUUUUUUUUUUUUUUUUUUUUUUUUUUUUUUUUUUUUUUUUUUUUUUUUUUUUUUUUUUUUUU
+    80 => UUUUUUUUUUUUUUUUUUUUUUUUUUUUUUUUUUUUUUUUUUUUUUUUUUUUUUUUUUUUUUUU
+    c0 => UUUUUUUUUUUUUUUUUUUUUUUUUUUUUUUUUUUUUUUUUUUUUUUUUUUUUUUUUUUUUUUU
+";
 
-/// A tag with none to eight bytes after it.
-struct Fixed(u8);
-
-impl Case for Fixed {
-    fn told(&self, alloc: Global) -> Result<String, Fail> {
-        let mut told = String::new(alloc);
-        for size in 0..9 {
-            let contents = vec![in alloc; 0xff; size]?;
-            told.push_str(letter(alloc, &[&[self.0], &contents])?)?;
-        }
-        Ok(told)
+fn fixed_text(alloc: Global, tag: &[u8]) -> Result<String, Fail> {
+    let mut told = String::new(alloc);
+    for size in 0..9 {
+        let contents = vec![in alloc; 0xff; size]?;
+        told.push_str(letter(alloc, &[tag, &contents])?)?;
     }
+    Ok(told)
 }
 
 /// The types of a fixed size, which is 1, 2, 4 or 8 bytes.
-const FIXED: &[(Fixed, &str)] = &[
-    (Fixed(0x03), "T........"),
-    (Fixed(0x05), "TTTT....."),
-    (Fixed(0x06), "TTTT....."),
-    (Fixed(0x0f), "T........"),
-    (Fixed(0x10), "TT......."),
-    (Fixed(0x11), "T........"),
-    (Fixed(0x12), "TT......."),
-    (Fixed(0x14), "TTTTTTTT."),
-    (Fixed(0x15), "TTTTTTTT."),
-    (Fixed(0x16), "T........"),
-];
+const FIXED: &str = "
+    03 => T........
+    05 => TTTT.....
+    06 => TTTT.....
+    0f => T........
+    10 => TT.......
+    11 => T........
+    12 => TT.......
+    14 => TTTTTTTT.
+    15 => TTTTTTTT.
+    16 => T........
+";
 
 /// Arrays, structures, and both in turn, of one element each and one in another: eight of them.
 const NESTINGS: &[[u8; 16]] = &[
@@ -77,33 +87,29 @@ const NESTINGS: &[[u8; 16]] = &[
     [1, 1, 2, 1, 1, 1, 2, 1, 1, 1, 2, 1, 1, 1, 2, 1],
 ];
 
-/// What stands in the innermost of them: its fault at depth 8, after seven, and at depth 9, after eight, of each nesting.
-struct Innermost(&'static [u8]);
-
-impl Case for Innermost {
-    fn told(&self, alloc: Global) -> Result<String, Fail> {
-        let mut told = String::new(alloc);
-        for outer in NESTINGS {
-            told.push_str(letter(alloc, &[&outer[..14], self.0])?)?;
-            told.push_str(letter(alloc, &[outer, self.0])?)?;
-        }
-        Ok(told)
+fn innermost_text(alloc: Global, inner: &[u8]) -> Result<String, Fail> {
+    let mut told = String::new(alloc);
+    for outer in NESTINGS {
+        told.push_str(letter(alloc, &[&outer[..14], inner])?)?;
+        told.push_str(letter(alloc, &[outer, inner])?)?;
     }
+    Ok(told)
 }
 
-const INNERMOST: &[(Innermost, &str)] = &[
-    (Innermost(&[]), "TTTTTT"),
-    (Innermost(&[0x00]), ".D.D.D"),
-    (Innermost(&[0x07]), "UDUDUD"),
-    (Innermost(&[0x09, 0x80]), "BDBDBD"),
-    (Innermost(&[0x01, 0x00]), ".D.D.D"),
-    (Innermost(&[0x01, 0x01]), "TDTDTD"),
-    (Innermost(&[0x02, 0x02, 0x00]), "DDDDDD"),
-];
+/// The first is of no byte.
+const INNERMOST: &str = "
+           => TTTTTT
+    00     => .D.D.D
+    07     => UDUDUD
+    0980   => BDBDBD
+    0100   => .D.D.D
+    0101   => TDTDTD
+    020200 => DDDDDD
+";
 
 #[test]
 fn each_tag_each_size_and_each_depth(rt: HostRuntime) -> Result<(), Fail> {
-    each(rt.alloc(), TAGS)?;
-    each(rt.alloc(), FIXED)?;
-    each(rt.alloc(), INNERMOST)
+    each_line(rt.alloc(), &mut Made::Tags, TAGS)?;
+    each_line(rt.alloc(), &mut Made::Fixed, FIXED)?;
+    each_line(rt.alloc(), &mut Made::Innermost, INNERMOST)
 }

@@ -2,51 +2,49 @@
 //! published one.
 
 use crate::headers::{RELEASES_AT, padded, with_patch};
-use crate::test_device::TestDevice;
-use fw_store::{
-    DeviceStore, FileStore, HeaderBytes, HeaderVersion, ImageStore, MemoryStore, Slot, StoreFault,
-};
+use crate::support::slot_of;
+use fw_store::{HeaderBytes, HeaderVersion, ImageStore, StoreFault};
 use std::alloc::{AllocError, Global};
 use std::test::Fail;
-use test_support::Takes;
+use test_tables::{Reads, Words, each_line};
 
-/// A call of a store.
-#[derive(Clone, Copy)]
-pub(crate) enum Call {
-    /// The header's bytes, as far as they aren't zeros.
-    Header,
-    /// A header of version 2 that begins with these bytes, and has zeros after them.
-    WriteHeader(&'static [u8]),
-    /// The same with these bytes from its releases on: they, and the marks after them.
-    WriteTail(&'static [u8], &'static [u8]),
-    /// Both of version 1.
-    WriteOldHeader(&'static [u8]),
-    WriteOldTail(&'static [u8], &'static [u8]),
-    /// N bytes of a slot, from a place on.
-    Read(Slot, u32, u32),
-    Write(Slot, u32, &'static [u8]),
-    Capacity,
-    Faults,
+/// A store that is called.
+#[derive(Drop)]
+struct Session<'a, S: ImageStore>(&'a mut S);
+
+impl<S: ImageStore> Reads for Session<'_, S> {
+    fn told(&mut self, alloc: Global, what: &str) -> Result<String, Fail> {
+        called(alloc, self.0, what)
+    }
+}
+
+/// Each call of the store is answered so.
+pub(crate) fn calls<S: ImageStore>(alloc: Global, store: &mut S, table: &str) -> Result<(), Fail> {
+    each_line(alloc, &mut Session(store), table)
 }
 
 /// What a store answers to a call: bytes in hexadecimal, `done`, or the fault, and `outside` where the bytes don't lie in a slot.
+///
+/// - `header`: the header's bytes, as far as they aren't zeros
+/// - `write-header BEGIN TAIL`: one of version 2 that begins with these bytes, has others from its releases on, and zeros elsewhere;
+///   `write-old-header` of version 1
+/// - `read SLOT AT COUNT`, `write SLOT AT BYTES`
+/// - `capacity`, `faults`
 pub(crate) fn called<S: ImageStore>(
     alloc: Global,
     store: &mut S,
-    call: &Call,
+    call: &str,
 ) -> Result<String, Fail> {
-    match *call {
-        Call::Header => header_text(alloc, store.header()),
-        Call::WriteHeader(begin) => head_text(alloc, store, HeaderVersion::Two, begin, &[]),
-        Call::WriteTail(begin, tail) => head_text(alloc, store, HeaderVersion::Two, begin, tail),
-        Call::WriteOldHeader(begin) => head_text(alloc, store, HeaderVersion::One, begin, &[]),
-        Call::WriteOldTail(begin, tail) => {
-            head_text(alloc, store, HeaderVersion::One, begin, tail)
-        }
-        Call::Read(slot, at, count) => read_text(alloc, store, slot, at, count),
-        Call::Write(slot, at, bytes) => write_text(alloc, store, slot, at, bytes),
-        Call::Capacity => Ok(number_text(alloc, u64::from(store.capacity()))?),
-        Call::Faults => Ok(number_text(alloc, store.faults())?),
+    let mut words = Words::new(call);
+    match words.word()? {
+        "header" => header_text(alloc, store.header()),
+        "write-header" => head_text(alloc, store, HeaderVersion::Two, words),
+        "write-old-header" => head_text(alloc, store, HeaderVersion::One, words),
+        "read" => read_text(alloc, store, words),
+        "write" => write_text(alloc, store, words),
+        "capacity" => Ok(number_text(alloc, u64::from(store.capacity()))?),
+        "faults" => Ok(number_text(alloc, store.faults())?),
+        _ => Err("no call has this name".into()),
     }
 }
 
@@ -54,16 +52,16 @@ fn number_text(alloc: Global, number: u64) -> Result<String, AllocError> {
     format!(in alloc; "{number}")
 }
 
-/// A header is written that begins with these bytes, and has those from its releases on.
 fn head_text<S: ImageStore>(
     alloc: Global,
     store: &mut S,
     version: HeaderVersion,
-    begin: &[u8],
-    tail: &[u8],
+    mut words: Words<'_>,
 ) -> Result<String, Fail> {
-    let front = padded(version, begin).ok_or("it is too long")?;
-    let bytes = with_patch(&front, RELEASES_AT, tail).ok_or("it is too long")?;
+    let begin = hex::decode(alloc, words.next().unwrap_or(""))?;
+    let tail = hex::decode(alloc, words.rest())?;
+    let front = padded(version, &begin).ok_or("it is too long")?;
+    let bytes = with_patch(&front, RELEASES_AT, &tail).ok_or("it is too long")?;
     Ok(done_text(alloc, store.write_header(&bytes))?)
 }
 
@@ -126,10 +124,9 @@ fn done_text(alloc: Global, answer: Result<(), StoreFault>) -> Result<String, Al
 fn read_text<S: ImageStore>(
     alloc: Global,
     store: &mut S,
-    slot: Slot,
-    at: u32,
-    count: u32,
+    mut words: Words<'_>,
 ) -> Result<String, Fail> {
+    let (slot, at, count) = (slot_of(words.word()?)?, words.number()?, words.number()?);
     if u64::from(at) + u64::from(count) > u64::from(store.capacity()) {
         return Ok(String::from_str(alloc, "outside")?);
     }
@@ -143,79 +140,53 @@ fn read_text<S: ImageStore>(
 fn write_text<S: ImageStore>(
     alloc: Global,
     store: &mut S,
-    slot: Slot,
-    at: u32,
-    bytes: &[u8],
+    mut words: Words<'_>,
 ) -> Result<String, Fail> {
+    let (slot, at) = (slot_of(words.word()?)?, words.number()?);
+    let bytes = words.rest().as_bytes();
     if u64::from(at) + bytes.len() as u64 > u64::from(store.capacity()) {
         return Ok(String::from_str(alloc, "outside")?);
     }
     Ok(done_text(alloc, store.write(slot, at, bytes))?)
 }
 
-impl Takes<Call> for MemoryStore {
-    fn take(&mut self, alloc: Global, step: &Call) -> Result<String, Fail> {
-        called(alloc, self, step)
-    }
-}
-
-impl Takes<Call> for DeviceStore<TestDevice> {
-    fn take(&mut self, alloc: Global, step: &Call) -> Result<String, Fail> {
-        called(alloc, self, step)
-    }
-}
-
-impl Takes<Call> for FileStore {
-    fn take(&mut self, alloc: Global, step: &Call) -> Result<String, Fail> {
-        called(alloc, self, step)
-    }
-}
-
 /// Of a new store with blocks of 2 bytes, the factory image `abc`, and 8 bytes a slot.
-pub(crate) const FRESH: &[(Call, &str)] = &[
-    (Call::Capacity, "8"),
-    (Call::Faults, "0"),
-    (
-        Call::Header,
-        "46574832000000000000000200000003010000000000000000ba7816bf8f01cfea414140de5dae2223b00361a396177a9cb410ff61f20015ad",
-    ),
-    (Call::Read(Slot::First, 0, 8), "6162630000000000"),
-    (Call::Read(Slot::Second, 0, 8), "0000000000000000"),
-    (Call::Read(Slot::Second, 8, 1), "outside"),
-];
+pub(crate) const FRESH: &str = "
+    capacity        => 8
+    faults          => 0
+    header          => 46574832000000000000000200000003010000000000000000ba7816bf8f01cfea414140de5dae2223b00361a396177a9cb410ff61f20015ad
+    read first 0 8  => 6162630000000000
+    read second 0 8 => 0000000000000000
+    read second 8 1 => outside
+";
 
 /// It keeps a header and what is written into either slot, and leaves the rest.
-pub(crate) const WRITES: &[(Call, &str)] = &[
-    (Call::WriteHeader(&[1, 2, 3, 4, 5]), "done"),
-    (Call::Write(Slot::First, 1, b"xy"), "done"),
-    (Call::Write(Slot::Second, 5, b"pqr"), "done"),
-];
+pub(crate) const WRITES: &str = "
+    write-header 0102030405 => done
+    write first 1 xy        => done
+    write second 5 pqr      => done
+";
 
-pub(crate) const KEPT: &[(Call, &str)] = &[
-    (Call::Capacity, "8"),
-    (Call::Faults, "0"),
-    (Call::Header, "0102030405"),
-    (Call::Read(Slot::First, 0, 8), "6178790000000000"),
-    (Call::Read(Slot::Second, 0, 8), "0000000000707172"),
-    (Call::Read(Slot::Second, 5, 3), "707172"),
-];
+pub(crate) const KEPT: &str = "
+    capacity        => 8
+    faults          => 0
+    header          => 0102030405
+    read first 0 8  => 6178790000000000
+    read second 0 8 => 0000000000707172
+    read second 5 3 => 707172
+";
 
-/// The same in version 1: the front of the header of such a store, and what each call of one with it returns.
-pub(crate) const OLD_FRONT: &[u8] = &[
-    0x46, 0x57, 0x48, 0x31, 0, 0, 0, 0, 0, 0, 0, 2, 0, 0, 0, 3, 1, 0, 0, 0, 0, 0, 0, 0, 0, 0xba,
-    0x78, 0x16, 0xbf, 0x8f, 0x01, 0xcf, 0xea, 0x41, 0x41, 0x40, 0xde, 0x5d, 0xae, 0x22, 0x23, 0xb0,
-    0x03, 0x61, 0xa3, 0x96, 0x17, 0x7a, 0x9c, 0xb4, 0x10, 0xff, 0x61, 0xf2, 0x00, 0x15, 0xad,
-];
+/// The front of the header of such a store in version 1 is written, and the calls of one with it.
+pub(crate) const OLD_FRONT: &str = "
+    write-old-header 46574831000000000000000200000003010000000000000000ba7816bf8f01cfea414140de5dae2223b00361a396177a9cb410ff61f20015ad => done
+";
 
-pub(crate) const OLD_FRESH: &[(Call, &str)] = &[
-    (Call::Capacity, "8"),
-    (
-        Call::Header,
-        "46574831000000000000000200000003010000000000000000ba7816bf8f01cfea414140de5dae2223b00361a396177a9cb410ff61f20015ad (version 1)",
-    ),
-    (Call::Read(Slot::First, 0, 8), "6162630000000000"),
-    (Call::Read(Slot::Second, 0, 8), "0000000000000000"),
-];
+pub(crate) const OLD_FRESH: &str = "
+    capacity        => 8
+    header          => 46574831000000000000000200000003010000000000000000ba7816bf8f01cfea414140de5dae2223b00361a396177a9cb410ff61f20015ad (version 1)
+    read first 0 8  => 6162630000000000
+    read second 0 8 => 0000000000000000
+";
 
 /// The bytes of a store with 8 bytes a slot: how many there are, the capacity, the header as far as it isn't zeros, both slots, and what
 /// stands after them: nothing, the releases, or these and the marks.
@@ -233,7 +204,3 @@ pub(crate) fn stored_text(alloc: Global, bytes: &[u8]) -> Result<String, Fail> {
     let tail = tail_text(alloc, &bytes[634..])?;
     Ok(format!(in alloc; "{len} bytes: {capacity} {header} {slots} {tail}")?)
 }
-
-/// Those of a new one.
-pub(crate) const FRESH_BYTES: &str =
-    "2178 bytes: 00000008 46574832000000000000000200000003010000000000000000ba7816bf8f01cfea414140de5dae2223b00361a396177a9cb410ff61f20015ad 61626300000000000000000000000000 0000000000000000";

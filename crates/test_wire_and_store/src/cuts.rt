@@ -5,7 +5,7 @@ use fw_store::{Scratch, prepare_journal, recover};
 use fw_undo::{Change, HeaderWrite, MAX_JOURNAL_SIZE, MAX_PART_SIZE};
 use std::alloc::Global;
 use std::test::Fail;
-use test_support::{Case, Kept, each, expect};
+use test_tables::{Kept, Reads, Words, each_line, expect};
 
 /// A write of two bytes at place 511, across the end of a sector, and of some after place 513 where there were none.
 fn write() -> HeaderWrite<'static> {
@@ -43,41 +43,48 @@ fn spells(alloc: Global, row: usize, bytes: &[u8], want: &str) -> Result<(), Fai
     expect(alloc, row, text.as_str(), want)
 }
 
-/// What stands in the places of both parts.
-struct Found(&'static [u8], &'static [u8]);
+/// What stands in the places of both parts, in hexadecimal.
+#[derive(Clone, Copy)]
+struct Found;
 
-impl Case for Found {
-    fn told(&self, alloc: Global) -> Result<String, Fail> {
-        let write = write();
-        if !write.fits() || self.0.len() != write.before.len() || self.1.len() > MAX_PART_SIZE {
-            return Err("no such write".into());
-        }
-        let told = if write.is_torn(self.0, self.1) {
-            "torn"
-        } else {
-            "-"
-        };
-        Ok(String::from_str(alloc, told)?)
+impl Reads for Found {
+    fn told(&mut self, alloc: Global, what: &str) -> Result<String, Fail> {
+        let mut words = Words::new(what);
+        let first = hex::decode(alloc, words.word()?)?;
+        let last = hex::decode(alloc, words.rest())?;
+        Ok(String::from_str(alloc, torn_text(&first, &last)?)?)
     }
 }
 
+fn torn_text(first: &[u8], last: &[u8]) -> Result<&'static str, Fail> {
+    let write = write();
+    if !write.fits() || first.len() != write.before.len() || last.len() > MAX_PART_SIZE {
+        return Err("no such write".into());
+    }
+    Ok(if write.is_torn(first, last) {
+        "torn"
+    } else {
+        "-"
+    })
+}
+
 /// Either byte of the first part is in a sector of its own. Where the file has its new length already, a zero stands for what isn't written.
-/// What is torn here is found as a header whose marks are torn is.
-const FOUND: &[(Found, &str)] = &[
-    (Found(b"ab", b""), "torn"),
-    (Found(b"ad", b""), "torn"),
-    (Found(b"cb", b"e"), "torn"),
-    (Found(b"cd", b"\0"), "torn"),
-    (Found(b"cd", b""), "torn"),
-    (Found(b"cd", b"e"), "-"),
-    (Found(b"xb", b""), "-"),
-    (Found(b"ab", b"f"), "-"),
-    (Found(b"ab", b"e\0"), "-"),
-];
+/// What is torn here is found as a header whose marks are torn is. Before the write the parts are `ab` and nothing, and after it `cd` and `e`.
+const FOUND: &str = "
+    6162      => torn
+    6164      => torn
+    6362 65   => torn
+    6364 00   => torn
+    6364      => torn
+    6364 65   => -
+    7862      => -
+    6162 66   => -
+    6162 6500 => -
+";
 
 #[test]
 fn what_a_cut_leaves(rt: HostRuntime) -> Result<(), Fail> {
-    each(rt.alloc(), FOUND)
+    each_line(rt.alloc(), &mut Found, FOUND)
 }
 
 /// A device with 511 zeros and these bytes.

@@ -1,11 +1,37 @@
 //! Digests of slots (FIPS 180-4).
 
+use crate::support::slot_of;
 use fw_store::{ImageStore, MemoryStore, Slot};
 use fw_verify::{Digesting, digest};
 use sha2::{Digest, Sha256};
 use std::alloc::Global;
 use std::test::Fail;
-use test_support::{Case, Kept, each};
+use test_tables::{Kept, Reads, Words, each_line};
+
+#[derive(Clone, Copy)]
+enum Told {
+    /// Of a slot with the bytes `abcd` the digest of the first N.
+    Published,
+    /// Of N bytes of a slot that count from 0 to 250 and again: whether the digest is that of these bytes as one message.
+    Whole,
+    /// Of N bytes of a store that fails after M calls: whether there is a digest.
+    Failing,
+    /// Of N bytes in steps, of which the third is tried before over a store that fails, and the last has nothing to take: how many are
+    /// taken and whether that is all, and whether the digest is that of the bytes as one message.
+    Steps,
+}
+
+impl Reads for Told {
+    fn told(&mut self, alloc: Global, what: &str) -> Result<String, Fail> {
+        let mut words = Words::new(what);
+        match self {
+            Told::Published => published_text(alloc, words),
+            Told::Whole => whole_text(alloc, words.number()?),
+            Told::Failing => failing_text(alloc, words),
+            Told::Steps => steps_text(alloc, words.number()?),
+        }
+    }
+}
 
 /// The digest of the first bytes of a slot that has these bytes and others after them, over a store that fails after `calls` calls. A
 /// failure is one fault.
@@ -30,46 +56,25 @@ fn digest_in(
     }
 }
 
-/// The first N of the bytes `abcd` in a slot: their digest.
-struct Published(Slot, u32);
-
-impl Case for Published {
-    fn told(&self, alloc: Global) -> Result<String, Fail> {
-        let found = digest_in(alloc, self.0, b"abcd", self.1, 9)?.ok_or("a fault")?;
-        Ok(hex::encode(alloc, found)?)
-    }
+fn published_text(alloc: Global, mut words: Words<'_>) -> Result<String, Fail> {
+    let slot = slot_of(words.word()?)?;
+    let found = digest_in(alloc, slot, b"abcd", words.number()?, 9)?.ok_or("a fault")?;
+    Ok(hex::encode(alloc, found)?)
 }
 
 /// The SHA-256 of no bytes, and of `abc`.
-const PUBLISHED: &[(Published, &str)] = &[
-    (
-        Published(Slot::First, 0),
-        "e3b0c44298fc1c149afbf4c8996fb92427ae41e4649b934ca495991b7852b855",
-    ),
-    (
-        Published(Slot::Second, 0),
-        "e3b0c44298fc1c149afbf4c8996fb92427ae41e4649b934ca495991b7852b855",
-    ),
-    (
-        Published(Slot::First, 3),
-        "ba7816bf8f01cfea414140de5dae2223b00361a396177a9cb410ff61f20015ad",
-    ),
-    (
-        Published(Slot::Second, 3),
-        "ba7816bf8f01cfea414140de5dae2223b00361a396177a9cb410ff61f20015ad",
-    ),
-];
+const PUBLISHED: &str = "
+    first 0  => e3b0c44298fc1c149afbf4c8996fb92427ae41e4649b934ca495991b7852b855
+    second 0 => e3b0c44298fc1c149afbf4c8996fb92427ae41e4649b934ca495991b7852b855
+    first 3  => ba7816bf8f01cfea414140de5dae2223b00361a396177a9cb410ff61f20015ad
+    second 3 => ba7816bf8f01cfea414140de5dae2223b00361a396177a9cb410ff61f20015ad
+";
 
-/// N bytes of a slot that count from 0 to 250 and again: whether the digest is that of these bytes as one message.
-struct Whole(u32);
-
-impl Case for Whole {
-    fn told(&self, alloc: Global) -> Result<String, Fail> {
-        let whole = Sha256::digest(counted(alloc, self.0)?.as_slice());
-        let found = digest_in(alloc, Slot::Second, &counted(alloc, 8_200)?, self.0, 9)?;
-        let same = found == Some(whole);
-        Ok(format!(in alloc; "{same}")?)
-    }
+fn whole_text(alloc: Global, size: u32) -> Result<String, Fail> {
+    let whole = Sha256::digest(counted(alloc, size)?.as_slice());
+    let found = digest_in(alloc, Slot::Second, &counted(alloc, 8_200)?, size, 9)?;
+    let same = found == Some(whole);
+    Ok(format!(in alloc; "{same}")?)
 }
 
 fn counted(alloc: Global, size: u32) -> Result<Vec<u8>, Fail> {
@@ -81,56 +86,45 @@ fn counted(alloc: Global, size: u32) -> Result<Vec<u8>, Fail> {
 }
 
 /// Sizes around the number of bytes that are read at once.
-const WHOLE: &[(Whole, &str)] = &[
-    (Whole(0), "true"),
-    (Whole(1), "true"),
-    (Whole(63), "true"),
-    (Whole(64), "true"),
-    (Whole(4_095), "true"),
-    (Whole(4_096), "true"),
-    (Whole(4_097), "true"),
-    (Whole(8_191), "true"),
-    (Whole(8_192), "true"),
-    (Whole(8_193), "true"),
-    (Whole(8_200), "true"),
-];
+const WHOLE: &str = "
+    0    => true
+    1    => true
+    63   => true
+    64   => true
+    4095 => true
+    4096 => true
+    4097 => true
+    8191 => true
+    8192 => true
+    8193 => true
+    8200 => true
+";
 
-/// The digest of N bytes of a store that fails after M calls: whether there is one.
-struct Failing(u32, u64);
-
-impl Case for Failing {
-    fn told(&self, alloc: Global) -> Result<String, Fail> {
-        let found = digest_in(alloc, Slot::First, b"abc", self.0, self.1)?;
-        let found = found.is_some();
-        Ok(format!(in alloc; "{found}")?)
-    }
+fn failing_text(alloc: Global, mut words: Words<'_>) -> Result<String, Fail> {
+    let (size, calls) = (words.number()?, u64::from(words.number()?));
+    let found = digest_in(alloc, Slot::First, b"abc", size, calls)?.is_some();
+    Ok(format!(in alloc; "{found}")?)
 }
 
 /// 4,096 bytes are read at once, and after a fault the store isn't asked again.
-const FAILING: &[(Failing, &str)] = &[
-    (Failing(0, 0), "true"),
-    (Failing(1, 0), "false"),
-    (Failing(4_096, 0), "false"),
-    (Failing(4_096, 1), "true"),
-    (Failing(4_097, 0), "false"),
-    (Failing(4_097, 1), "false"),
-    (Failing(4_097, 2), "true"),
-];
+const FAILING: &str = "
+    0 0    => true
+    1 0    => false
+    4096 0 => false
+    4096 1 => true
+    4097 0 => false
+    4097 1 => false
+    4097 2 => true
+";
 
-/// N bytes in steps, of which the third is tried before over a store that fails, and the last has nothing to take: how many are taken and
-/// whether that is all, and whether the digest is that of the bytes as one message.
-struct Steps(u32);
-
-impl Case for Steps {
-    fn told(&self, alloc: Global) -> Result<String, Fail> {
-        let whole = Sha256::digest(counted(alloc, self.0)?.as_slice());
-        let bytes = counted(alloc, 8_200)?;
-        let mut store = Kept(MemoryStore::new(alloc, 8_200, 2, b"xyz")?);
-        steps_text(alloc, &mut store.0, &bytes, self.0, &whole)
-    }
+fn steps_text(alloc: Global, size: u32) -> Result<String, Fail> {
+    let whole = Sha256::digest(counted(alloc, size)?.as_slice());
+    let bytes = counted(alloc, 8_200)?;
+    let mut store = Kept(MemoryStore::new(alloc, 8_200, 2, b"xyz")?);
+    steps_told(alloc, &mut store.0, &bytes, size, &whole)
 }
 
-fn steps_text(
+fn steps_told(
     alloc: Global,
     store: &mut MemoryStore,
     bytes: &[u8],
@@ -159,26 +153,17 @@ fn steps_text(
     Ok(format!(in alloc; "{one} {first}, {two} {second}, fails {fails}, {three} {third}, {same}")?)
 }
 
-const STEPS: &[(Steps, &str)] = &[
-    (Steps(0), "0 true, 0 true, fails false, 0 true, true"),
-    (
-        Steps(4_096),
-        "4096 true, 4096 true, fails false, 4096 true, true",
-    ),
-    (
-        Steps(4_097),
-        "4096 false, 4097 true, fails false, 4097 true, true",
-    ),
-    (
-        Steps(8_193),
-        "4096 false, 8192 false, fails true, 8193 true, true",
-    ),
-];
+const STEPS: &str = "
+    0    => 0 true, 0 true, fails false, 0 true, true
+    4096 => 4096 true, 4096 true, fails false, 4096 true, true
+    4097 => 4096 false, 4097 true, fails false, 4097 true, true
+    8193 => 4096 false, 8192 false, fails true, 8193 true, true
+";
 
 #[test]
 fn digests(rt: HostRuntime) -> Result<(), Fail> {
-    each(rt.alloc(), PUBLISHED)?;
-    each(rt.alloc(), WHOLE)?;
-    each(rt.alloc(), FAILING)?;
-    each(rt.alloc(), STEPS)
+    each_line(rt.alloc(), &mut Told::Published, PUBLISHED)?;
+    each_line(rt.alloc(), &mut Told::Whole, WHOLE)?;
+    each_line(rt.alloc(), &mut Told::Failing, FAILING)?;
+    each_line(rt.alloc(), &mut Told::Steps, STEPS)
 }

@@ -1,98 +1,91 @@
 //! Transfers whose store fails.
 
-use crate::session::{
-    BLOCK_0, BOTH_BLOCKS, Call, ENABLED, NO_BLOCK, Row, SPOILT, SWITCHED, TO_VERIFIED, VERIFIED,
-    session,
-};
-use fw_image::Refusal;
-use fw_store::Slot;
+use crate::session::{TO_VERIFIED, session};
 use std::test::Fail;
 
-const FAULT: Option<Refusal> = Some(Refusal::Fault);
-
 /// The read of the image fails, or the write of the header. Then it is verified all the same.
-const A_VERIFY_THAT_FAILS: &[Row] = &[
-    (Call::Enable(true), None, ENABLED),
-    (Call::Initiate(4), None, NO_BLOCK),
-    (Call::Block(0, b"bb"), None, BLOCK_0),
-    (Call::Block(1, b"bb"), None, BOTH_BLOCKS),
-    (Call::Fuse(0, 0), None, BOTH_BLOCKS),
-    (Call::Verify, FAULT, BOTH_BLOCKS),
-    (Call::Fuse(1, 0), None, BOTH_BLOCKS),
-    (Call::Verify, FAULT, BOTH_BLOCKS),
-    (Call::Unfuse, None, BOTH_BLOCKS),
-    (Call::Reopen, None, BOTH_BLOCKS),
-    (Call::Fuse(2, 0), None, BOTH_BLOCKS),
-    (Call::Verify, None, VERIFIED),
-    (Call::Unfuse, None, VERIFIED),
-    (Call::Reopen, None, VERIFIED),
-];
+const A_VERIFY_THAT_FAILS: &str = "
+    enable true => true, NotInitiated, no goal, marks, runs 3 of 0 0 ba7816bf
+    initiate 4  => true, Initiated, goal 4 of 2 1 81cc5b17, marks, runs 3 of 0 0 ba7816bf
+    block 0 bb  => true, Initiated, goal 4 of 2 1 81cc5b17, marks 0, runs 3 of 0 0 ba7816bf
+    block 1 bb  => true, Initiated, goal 4 of 2 1 81cc5b17, marks 0 1, runs 3 of 0 0 ba7816bf
+    fuse 0 0    => true, Initiated, goal 4 of 2 1 81cc5b17, marks 0 1, runs 3 of 0 0 ba7816bf
+    verify      => Fault: true, Initiated, goal 4 of 2 1 81cc5b17, marks 0 1, runs 3 of 0 0 ba7816bf
+    fuse 1 0    => true, Initiated, goal 4 of 2 1 81cc5b17, marks 0 1, runs 3 of 0 0 ba7816bf
+    verify      => Fault: true, Initiated, goal 4 of 2 1 81cc5b17, marks 0 1, runs 3 of 0 0 ba7816bf
+    unfuse      => true, Initiated, goal 4 of 2 1 81cc5b17, marks 0 1, runs 3 of 0 0 ba7816bf
+    reopen      => true, Initiated, goal 4 of 2 1 81cc5b17, marks 0 1, runs 3 of 0 0 ba7816bf
+    fuse 2 0    => true, Initiated, goal 4 of 2 1 81cc5b17, marks 0 1, runs 3 of 0 0 ba7816bf
+    verify      => true, VerificationSuccessful, goal 4 of 2 1 81cc5b17, marks 0 1, runs 3 of 0 0 ba7816bf
+    unfuse      => true, VerificationSuccessful, goal 4 of 2 1 81cc5b17, marks 0 1, runs 3 of 0 0 ba7816bf
+    reopen      => true, VerificationSuccessful, goal 4 of 2 1 81cc5b17, marks 0 1, runs 3 of 0 0 ba7816bf
+";
 
 /// The same of an image whose digest differs, which is not known before the header is written.
-const A_SPOILT_VERIFY_THAT_FAILS: &[Row] = &[
-    (Call::Enable(true), None, ENABLED),
-    (Call::Initiate(4), None, NO_BLOCK),
-    (Call::Block(0, b"bb"), None, BLOCK_0),
-    (Call::Block(1, b"aa"), None, BOTH_BLOCKS),
-    (Call::Fuse(0, 0), None, BOTH_BLOCKS),
-    (Call::Verify, FAULT, BOTH_BLOCKS),
-    (Call::Fuse(1, 0), None, BOTH_BLOCKS),
-    (Call::Verify, FAULT, BOTH_BLOCKS),
-    (Call::Fuse(2, 0), None, BOTH_BLOCKS),
-    (Call::Verify, Some(Refusal::Differs), SPOILT),
-    (Call::Unfuse, None, SPOILT),
-    (Call::Reopen, None, SPOILT),
-];
+const A_SPOILT_VERIFY_THAT_FAILS: &str = "
+    enable true => true, NotInitiated, no goal, marks, runs 3 of 0 0 ba7816bf
+    initiate 4  => true, Initiated, goal 4 of 2 1 81cc5b17, marks, runs 3 of 0 0 ba7816bf
+    block 0 bb  => true, Initiated, goal 4 of 2 1 81cc5b17, marks 0, runs 3 of 0 0 ba7816bf
+    block 1 aa  => true, Initiated, goal 4 of 2 1 81cc5b17, marks 0 1, runs 3 of 0 0 ba7816bf
+    fuse 0 0    => true, Initiated, goal 4 of 2 1 81cc5b17, marks 0 1, runs 3 of 0 0 ba7816bf
+    verify      => Fault: true, Initiated, goal 4 of 2 1 81cc5b17, marks 0 1, runs 3 of 0 0 ba7816bf
+    fuse 1 0    => true, Initiated, goal 4 of 2 1 81cc5b17, marks 0 1, runs 3 of 0 0 ba7816bf
+    verify      => Fault: true, Initiated, goal 4 of 2 1 81cc5b17, marks 0 1, runs 3 of 0 0 ba7816bf
+    fuse 2 0    => true, Initiated, goal 4 of 2 1 81cc5b17, marks 0 1, runs 3 of 0 0 ba7816bf
+    verify      => Differs: true, VerificationFailed, goal 4 of 2 1 81cc5b17, marks 0 1, runs 3 of 0 0 ba7816bf
+    unfuse      => true, VerificationFailed, goal 4 of 2 1 81cc5b17, marks 0 1, runs 3 of 0 0 ba7816bf
+    reopen      => true, VerificationFailed, goal 4 of 2 1 81cc5b17, marks 0 1, runs 3 of 0 0 ba7816bf
+";
 
 /// The write of the block fails and leaves its first half, or the block is there and its mark isn't.
-const A_BLOCK_THAT_FAILS: &[Row] = &[
-    (Call::Enable(true), None, ENABLED),
-    (Call::Initiate(4), None, NO_BLOCK),
-    (Call::Fuse(0, 238), None, NO_BLOCK),
-    (Call::Block(0, b"ab"), FAULT, NO_BLOCK),
-    (Call::Unfuse, None, NO_BLOCK),
-    (Call::Holds(Slot::Second, b"a\xee\0\0"), None, NO_BLOCK),
-    (Call::Fuse(1, 238), None, NO_BLOCK),
-    (Call::Block(0, b"ab"), FAULT, NO_BLOCK),
-    (Call::Unfuse, None, NO_BLOCK),
-    (Call::Holds(Slot::Second, b"ab\0\0"), None, NO_BLOCK),
-    (Call::Fuse(2, 238), None, NO_BLOCK),
-    (Call::Block(0, b"ab"), None, BLOCK_0),
-    (Call::Unfuse, None, BLOCK_0),
+const A_BLOCK_THAT_FAILS: &str = "
+    enable true           => true, NotInitiated, no goal, marks, runs 3 of 0 0 ba7816bf
+    initiate 4            => true, Initiated, goal 4 of 2 1 81cc5b17, marks, runs 3 of 0 0 ba7816bf
+    fuse 0 238            => true, Initiated, goal 4 of 2 1 81cc5b17, marks, runs 3 of 0 0 ba7816bf
+    block 0 ab            => Fault: true, Initiated, goal 4 of 2 1 81cc5b17, marks, runs 3 of 0 0 ba7816bf
+    unfuse                => true, Initiated, goal 4 of 2 1 81cc5b17, marks, runs 3 of 0 0 ba7816bf
+    holds second 61ee0000 => true, Initiated, goal 4 of 2 1 81cc5b17, marks, runs 3 of 0 0 ba7816bf
+    fuse 1 238            => true, Initiated, goal 4 of 2 1 81cc5b17, marks, runs 3 of 0 0 ba7816bf
+    block 0 ab            => Fault: true, Initiated, goal 4 of 2 1 81cc5b17, marks, runs 3 of 0 0 ba7816bf
+    unfuse                => true, Initiated, goal 4 of 2 1 81cc5b17, marks, runs 3 of 0 0 ba7816bf
+    holds second 61620000 => true, Initiated, goal 4 of 2 1 81cc5b17, marks, runs 3 of 0 0 ba7816bf
+    fuse 2 238            => true, Initiated, goal 4 of 2 1 81cc5b17, marks, runs 3 of 0 0 ba7816bf
+    block 0 ab            => true, Initiated, goal 4 of 2 1 81cc5b17, marks 0, runs 3 of 0 0 ba7816bf
+    unfuse                => true, Initiated, goal 4 of 2 1 81cc5b17, marks 0, runs 3 of 0 0 ba7816bf
     // its mark is there, so one call is enough, and a failure leaves the mark
-    (Call::Fuse(1, 238), None, BLOCK_0),
-    (Call::Block(0, b"cd"), None, BLOCK_0),
-    (Call::Block(0, b"ef"), FAULT, BLOCK_0),
-    (Call::Unfuse, None, BLOCK_0),
-    (Call::Holds(Slot::Second, b"e\xee\0\0"), None, BLOCK_0),
-];
+    fuse 1 238            => true, Initiated, goal 4 of 2 1 81cc5b17, marks 0, runs 3 of 0 0 ba7816bf
+    block 0 cd            => true, Initiated, goal 4 of 2 1 81cc5b17, marks 0, runs 3 of 0 0 ba7816bf
+    block 0 ef            => Fault: true, Initiated, goal 4 of 2 1 81cc5b17, marks 0, runs 3 of 0 0 ba7816bf
+    unfuse                => true, Initiated, goal 4 of 2 1 81cc5b17, marks 0, runs 3 of 0 0 ba7816bf
+    holds second 65ee0000 => true, Initiated, goal 4 of 2 1 81cc5b17, marks 0, runs 3 of 0 0 ba7816bf
+";
 
 /// The meter stops before the write of the header.
-const STOP_BEFORE: &[Row] = &[
-    (Call::Fuse(0, 0), None, VERIFIED),
-    (Call::Activate, FAULT, VERIFIED),
-    (Call::Unfuse, None, VERIFIED),
-    (Call::Reopen, None, VERIFIED),
-    (Call::Runs(b"abc"), None, VERIFIED),
-];
+const STOP_BEFORE: &str = "
+    fuse 0 0 => true, VerificationSuccessful, goal 4 of 2 1 81cc5b17, marks 0 1, runs 3 of 0 0 ba7816bf
+    activate => Fault: true, VerificationSuccessful, goal 4 of 2 1 81cc5b17, marks 0 1, runs 3 of 0 0 ba7816bf
+    unfuse   => true, VerificationSuccessful, goal 4 of 2 1 81cc5b17, marks 0 1, runs 3 of 0 0 ba7816bf
+    reopen   => true, VerificationSuccessful, goal 4 of 2 1 81cc5b17, marks 0 1, runs 3 of 0 0 ba7816bf
+    runs abc => true, VerificationSuccessful, goal 4 of 2 1 81cc5b17, marks 0 1, runs 3 of 0 0 ba7816bf
+";
 
 /// It stops after that.
-const STOP_AFTER: &[Row] = &[
-    (Call::Fuse(1, 0), None, VERIFIED),
-    (Call::Activate, None, SWITCHED),
-    (Call::Unfuse, None, SWITCHED),
-    (Call::Reopen, None, SWITCHED),
-    (Call::Runs(b"bbbb"), None, SWITCHED),
-];
+const STOP_AFTER: &str = "
+    fuse 1 0  => true, VerificationSuccessful, goal 4 of 2 1 81cc5b17, marks 0 1, runs 3 of 0 0 ba7816bf
+    activate  => true, ActivationSuccessful, no goal, marks, runs 4 of 2 1 81cc5b17
+    unfuse    => true, ActivationSuccessful, no goal, marks, runs 4 of 2 1 81cc5b17
+    reopen    => true, ActivationSuccessful, no goal, marks, runs 4 of 2 1 81cc5b17
+    runs bbbb => true, ActivationSuccessful, no goal, marks, runs 4 of 2 1 81cc5b17
+";
 
-const OTHER_HEADERS_THAT_ARE_NOT_WRITTEN: &[Row] = &[
-    (Call::Enable(true), None, ENABLED),
-    (Call::Fuse(0, 0), None, ENABLED),
-    (Call::Enable(false), FAULT, ENABLED),
-    (Call::Initiate(4), FAULT, ENABLED),
-    (Call::Unfuse, None, ENABLED),
-    (Call::Reopen, None, ENABLED),
-];
+const OTHER_HEADERS_THAT_ARE_NOT_WRITTEN: &str = "
+    enable true  => true, NotInitiated, no goal, marks, runs 3 of 0 0 ba7816bf
+    fuse 0 0     => true, NotInitiated, no goal, marks, runs 3 of 0 0 ba7816bf
+    enable false => Fault: true, NotInitiated, no goal, marks, runs 3 of 0 0 ba7816bf
+    initiate 4   => Fault: true, NotInitiated, no goal, marks, runs 3 of 0 0 ba7816bf
+    unfuse       => true, NotInitiated, no goal, marks, runs 3 of 0 0 ba7816bf
+    reopen       => true, NotInitiated, no goal, marks, runs 3 of 0 0 ba7816bf
+";
 
 #[test]
 fn each_call_that_fails(rt: HostRuntime) -> Result<(), Fail> {

@@ -10,7 +10,7 @@ use std::os::unix::fs::symlink;
 use std::path::{AsPath, Path, PathBuf};
 use std::test::Fail;
 use std::{env, fs};
-use test_support::{Case, Kept, Takes, each, expect, session};
+use test_tables::{Kept, Reads, Words, each_line, expect};
 
 /// What opening a journal returns: its records, each with a bar after it, or the refusal.
 fn told_of<D: JournalDevice + Drop>(
@@ -38,26 +38,26 @@ fn read_text(alloc: Global, bytes: &[u8]) -> Result<String, Fail> {
     told_of(alloc, &Journal::open(alloc, device))
 }
 
-/// A step with a journal.
-enum Step {
-    Append(&'static str),
-    Commit,
-    /// How many bytes it has up to its shut gate.
-    Size,
-    /// All bytes of its device.
-    Bytes,
-    /// What is read where the device is opened again.
-    Again,
+/// A journal on a device in memory. Its drop is written out, so that each place that drops it calls that.
+struct Stepped(Journal<MemoryDevice>);
+
+impl Drop for Stepped {
+    fn drop(self) {
+        let Stepped(_) = self;
+    }
 }
 
-impl Takes<Step> for Journal<MemoryDevice> {
-    fn take(&mut self, alloc: Global, step: &Step) -> Result<String, Fail> {
-        match step {
-            Step::Append(record) => answer_text(alloc, self.append(alloc, record.as_bytes())),
-            Step::Commit => answer_text(alloc, self.commit()),
-            Step::Size => Ok(format!(in alloc; "{}", self.size())?),
-            Step::Bytes => Ok(hex::encode(alloc, self.device().bytes())?),
-            Step::Again => read_text(alloc, self.device().bytes()),
+/// A step with a journal: `append RECORD`, `commit`; `size`: how many bytes it has up to its shut gate; `bytes`: all bytes of its device;
+/// `again`: what is read where the device is opened again.
+impl Reads for Stepped {
+    fn told(&mut self, alloc: Global, what: &str) -> Result<String, Fail> {
+        let mut words = Words::new(what);
+        match words.word()? {
+            "append" => answer_text(alloc, self.0.append(alloc, words.rest().as_bytes())),
+            "commit" => answer_text(alloc, self.0.commit()),
+            "size" => Ok(format!(in alloc; "{}", self.0.size())?),
+            "bytes" => Ok(hex::encode(alloc, self.0.device().bytes())?),
+            _ => read_text(alloc, self.0.device().bytes()),
         }
     }
 }
@@ -70,42 +70,73 @@ fn answer_text(alloc: Global, answer: Result<(), JournalError>) -> Result<String
 }
 
 /// A new journal on a device in memory.
-fn new_journal(alloc: Global) -> Result<Kept<Journal<MemoryDevice>>, Fail> {
+fn new_journal(alloc: Global) -> Result<Stepped, Fail> {
     let device = MemoryDevice::new(alloc, Vec::new(alloc))?;
     match Journal::create(alloc, device) {
-        Ok(journal) => Ok(Kept(journal)),
+        Ok(journal) => Ok(Stepped(journal)),
         Err((refusal, _)) => Err(Fail::from(refusal.to_string(alloc)?)),
     }
 }
 
 #[test]
 fn keeps_what_is_committed(rt: HostRuntime) -> Result<(), Fail> {
-    let alloc = rt.alloc();
-    let mut journal = new_journal(alloc)?;
-    session(alloc, &mut journal.0, KEPT)
+    each_line(rt.alloc(), &mut new_journal(rt.alloc())?, KEPT)
 }
 
-const KEPT: &[(Step, &str)] = &[
-    (Step::Bytes, "46574a3100"),
-    (Step::Size, "4"),
-    (Step::Commit, "done"),
-    (Step::Bytes, "46574a3100"),
-    (Step::Append("one"), "done"),
-    (Step::Bytes, "46574a3100"),
-    (Step::Again, ""),
-    (Step::Commit, "done"),
-    (Step::Size, "44"),
-    (
-        Step::Bytes,
-        "46574a3101000000036f6e657692c3ad3540bb803c020b3aee66cd8887123234ea0c6e7143c0add73ff431ed00",
-    ),
-    (Step::Append("two"), "done"),
-    (Step::Append(""), "done"),
-    (Step::Commit, "done"),
-    (Step::Size, "121"),
-    (Step::Append("lost"), "done"),
-    (Step::Again, "one|two||"),
-];
+const KEPT: &str = "
+    bytes       => 46574a3100
+    size        => 4
+    commit      => done
+    bytes       => 46574a3100
+    append one  => done
+    bytes       => 46574a3100
+    again       =>
+    commit      => done
+    size        => 44
+    bytes       => 46574a3101000000036f6e657692c3ad3540bb803c020b3aee66cd8887123234ea0c6e7143c0add73ff431ed00
+    append two  => done
+    append      => done
+    commit      => done
+    size        => 121
+    append lost => done
+    again       => one|two||
+";
+
+#[derive(Clone, Copy)]
+enum Told {
+    /// Of a device with the journal of `one` that fails after N calls, and leaves this byte: what opening it returns, and a commit of `two` and
+    /// `three`. Then what is left, as it is read, and as it was at the last sync.
+    Cut,
+    /// What a power cut leaves of a device with the bytes 00 11 22 33, after a write of four bytes at 2 and a shortening to five, where both
+    /// changes have these fates, and none of `-`.
+    Left,
+    /// Of a journal of `one` in which `lost` waits, on a device that fails after N calls: what writing it anew with `two` and `three` returns, and
+    /// a commit after that. Then what is left, as it is read, and as it was at the last sync.
+    Rewritten,
+    /// What is read of a journal of `one` and `two` in which a byte is turned.
+    Turned,
+    /// Of bytes that are opened what that returns, and what the device then has.
+    Opened,
+    /// The same of a new journal on these bytes.
+    Created,
+}
+
+impl Reads for Told {
+    fn told(&mut self, alloc: Global, what: &str) -> Result<String, Fail> {
+        let mut words = Words::new(what);
+        match self {
+            Told::Cut => {
+                let calls = u64::from(words.number()?);
+                cut_text(alloc, calls, words.word()?.parse::<u8>()?)
+            }
+            Told::Left => fates_text(alloc, what),
+            Told::Rewritten => rewritten_text(alloc, u64::from(words.number()?)),
+            Told::Turned => turned_text(alloc, words.number()? as usize),
+            Told::Opened => opened_bytes_text(alloc, what),
+            Told::Created => created_text(alloc, what),
+        }
+    }
+}
 
 /// A device with the journal of `one`, which has no past.
 fn device_of_one(alloc: Global) -> Result<MemoryDevice, Fail> {
@@ -123,21 +154,12 @@ fn bytes_after(alloc: Global, records: &[&[u8]]) -> Result<Vec<u8>, Fail> {
     Ok(journal.0.device().bytes().to_vec(alloc)?)
 }
 
-/// A device with the journal of `one` that fails after `calls` calls: what opening it returns, and a commit of `two` and `three`. Then
-/// what is left, as it is read, and as it was at the last sync.
-struct Cut {
-    calls: u64,
-    torn: u8,
-}
-
-impl Case for Cut {
-    fn told(&self, alloc: Global) -> Result<String, Fail> {
-        let mut device = device_of_one(alloc)?;
-        device.fuse(self.calls, self.torn);
-        match Journal::open(alloc, device) {
-            Ok((journal, records)) => committed(alloc, &mut Kept(journal).0, &records),
-            Err((refusal, device)) => refused(alloc, refusal, &Kept(device).0),
-        }
+fn cut_text(alloc: Global, calls: u64, torn: u8) -> Result<String, Fail> {
+    let mut device = device_of_one(alloc)?;
+    device.fuse(calls, torn);
+    match Journal::open(alloc, device) {
+        Ok((journal, records)) => committed(alloc, &mut Kept(journal).0, &records),
+        Err((refusal, device)) => refused(alloc, refusal, &Kept(device).0),
     }
 }
 
@@ -199,19 +221,15 @@ fn same_fates(alloc: Global, changes: usize, size: usize, byte: u8) -> Result<Ve
     Ok(fates)
 }
 
-/// What a power cut leaves of a device with the bytes 00 11 22 33, after a write of four bytes at 2 and a shortening to five, where both
-/// changes have these fates.
-struct Fates(&'static [&'static str]);
-
-impl Case for Fates {
-    fn told(&self, alloc: Global) -> Result<String, Fail> {
-        let mut fates = Vec::new(alloc);
-        for fate in self.0 {
+fn fates_text(alloc: Global, what: &str) -> Result<String, Fail> {
+    let mut fates = Vec::new(alloc);
+    if what != "-" {
+        for fate in what.split(' ') {
             fates.push(hex::decode(alloc, fate)?)?;
         }
-        let left = left_by(alloc, &fates)?;
-        Ok(hex::encode(alloc, &left)?)
     }
+    let left = left_by(alloc, &fates)?;
+    Ok(hex::encode(alloc, &left)?)
 }
 
 fn left_by(alloc: Global, fates: &[Vec<u8>]) -> Result<Vec<u8>, Fail> {
@@ -224,72 +242,43 @@ fn left_by(alloc: Global, fates: &[Vec<u8>]) -> Result<Vec<u8>, Fail> {
 /// Any bytes stand in the range of a write that isn't synced, some or all of those past the old end.
 #[test]
 fn a_cut_leaves_any_bytes_of_what_is_not_synced(rt: HostRuntime) -> Result<(), Fail> {
-    each(rt.alloc(), LEFT)
+    each_line(rt.alloc(), &mut Told::Left, LEFT)
 }
 
-const LEFT: &[(Fates, &str)] = &[
-    (Fates(&[]), "00112233"),
-    (Fates(&["ff"]), "0011ff33"),
-    (Fates(&["ffee"]), "0011ffee"),
-    (Fates(&["ffeedd"]), "0011ffeedd"),
-    (Fates(&["ffeeddcc"]), "0011ffeedd"),
-    (Fates(&["ffeeddcc", "00"]), "0011ffeeddcc"),
-    (Fates(&["ffeeddccbb", "0000"]), "0011ffeeddcc"),
-];
+const LEFT: &str = "
+    -               => 00112233
+    ff              => 0011ff33
+    ffee            => 0011ffee
+    ffeedd          => 0011ffeedd
+    ffeeddcc        => 0011ffeedd
+    ffeeddcc 00     => 0011ffeeddcc
+    ffeeddccbb 0000 => 0011ffeeddcc
+";
 
 #[test]
 fn a_cut_leaves_all_of_a_group_or_nothing(rt: HostRuntime) -> Result<(), Fail> {
-    each(rt.alloc(), CUTS)
+    each_line(rt.alloc(), &mut Told::Cut, CUTS)
 }
 
-const CUTS: &[(Cut, &str)] = &[
-    (Cut { calls: 0, torn: 1 }, "BookFault: one| one|"),
-    (Cut { calls: 1, torn: 1 }, "BookFault: one| one|"),
-    (Cut { calls: 2, torn: 1 }, "BookFault: one| one|"),
-    (
-        Cut { calls: 3, torn: 1 },
-        "one| BookFault BookFault: one| one|",
-    ),
-    (
-        Cut { calls: 4, torn: 1 },
-        "one| BookFault BookFault: one| one|",
-    ),
-    (
-        Cut { calls: 5, torn: 0 },
-        "one| BookFault BookFault: one| one|",
-    ),
-    (
-        Cut { calls: 5, torn: 2 },
-        "one| BookFault BookFault: one| one|",
-    ),
-    (
-        Cut { calls: 5, torn: 1 },
-        "one| BookFault BookFault: one|two|three| one|",
-    ),
-    (
-        Cut { calls: 6, torn: 1 },
-        "one| BookFault BookFault: one|two|three| one|",
-    ),
-    (
-        Cut { calls: 7, torn: 1 },
-        "one| done done: one|two|three| one|two|three|",
-    ),
-];
+const CUTS: &str = "
+    0 1 => BookFault: one| one|
+    1 1 => BookFault: one| one|
+    2 1 => BookFault: one| one|
+    3 1 => one| BookFault BookFault: one| one|
+    4 1 => one| BookFault BookFault: one| one|
+    5 0 => one| BookFault BookFault: one| one|
+    5 2 => one| BookFault BookFault: one| one|
+    5 1 => one| BookFault BookFault: one|two|three| one|
+    6 1 => one| BookFault BookFault: one|two|three| one|
+    7 1 => one| done done: one|two|three| one|two|three|
+";
 
-/// A journal of `one` in which `lost` waits, on a device that fails after `calls` calls: what writing it anew with `two` and `three`
-/// returns, and a commit after that. Then what is left, as it is read, and as it was at the last sync.
-struct Rewritten {
-    calls: u64,
-}
-
-impl Case for Rewritten {
-    fn told(&self, alloc: Global) -> Result<String, Fail> {
-        let mut device = device_of_one(alloc)?;
-        device.fuse(self.calls.saturating_add(3), 1);
-        match Journal::open(alloc, device) {
-            Ok((journal, _)) => written_anew(alloc, &mut Kept(journal).0),
-            Err((refusal, device)) => refused(alloc, refusal, &Kept(device).0),
-        }
+fn rewritten_text(alloc: Global, calls: u64) -> Result<String, Fail> {
+    let mut device = device_of_one(alloc)?;
+    device.fuse(calls.saturating_add(3), 1);
+    match Journal::open(alloc, device) {
+        Ok((journal, _)) => written_anew(alloc, &mut Kept(journal).0),
+        Err((refusal, device)) => refused(alloc, refusal, &Kept(device).0),
     }
 }
 
@@ -341,68 +330,49 @@ fn judge_left(alloc: Global, left: &[u8]) -> Result<(), Fail> {
 
 #[test]
 fn a_cut_leaves_the_old_records_or_the_new_ones(rt: HostRuntime) -> Result<(), Fail> {
-    each(rt.alloc(), REWRITTEN)
+    each_line(rt.alloc(), &mut Told::Rewritten, REWRITTEN)
 }
 
-const REWRITTEN: &[(Rewritten, &str)] = &[
-    (
-        Rewritten { calls: 0 },
-        "NotReplaced: one| one| BookFault one|",
-    ),
-    (
-        Rewritten { calls: 1 },
-        "BookFault: two|three| one| BookFault two|three|",
-    ),
-    (
-        Rewritten { calls: 2 },
-        "done: two|three| two|three| done two|three|",
-    ),
-];
+const REWRITTEN: &str = "
+    0 => NotReplaced: one| one| BookFault one|
+    1 => BookFault: two|three| one| BookFault two|three|
+    2 => done: two|three| two|three| done two|three|
+";
 
-/// Bytes of a journal of `one` and `two` in which a byte is turned: what is read.
-struct Turned(usize);
-
-impl Case for Turned {
-    fn told(&self, alloc: Global) -> Result<String, Fail> {
-        let mut bytes = bytes_after(alloc, &[b"one", b"two"])?;
-        let byte = bytes.get_mut(self.0).ok_or("no such byte")?;
-        *byte ^= 8;
-        read_text(alloc, bytes.as_slice())
-    }
+fn turned_text(alloc: Global, at: usize) -> Result<String, Fail> {
+    let mut bytes = bytes_after(alloc, &[b"one", b"two"])?;
+    let byte = bytes.get_mut(at).ok_or("no such byte")?;
+    *byte ^= 8;
+    read_text(alloc, bytes.as_slice())
 }
 
 /// A turned gate ends the journal; any other byte is refused, with the offset of its record's gate.
 #[test]
 fn a_turned_byte_is_refused_or_ends_the_journal(rt: HostRuntime) -> Result<(), Fail> {
-    each(rt.alloc(), TURNED)
+    each_line(rt.alloc(), &mut Told::Turned, TURNED)
 }
 
-const TURNED: &[(Turned, &str)] = &[
-    (Turned(0), "BadBook 0"),
-    (Turned(3), "BadBook 0"),
-    (Turned(4), ""),
-    (Turned(5), "BadBook 4"),
-    (Turned(8), "BadBook 4"),
-    (Turned(9), "BadBook 4"),
-    (Turned(11), "BadBook 4"),
-    (Turned(12), "BadBook 4"),
-    (Turned(43), "BadBook 4"),
-    (Turned(44), "one|"),
-    (Turned(45), "BadBook 44"),
-    (Turned(83), "BadBook 44"),
-    (Turned(84), "one|two|"),
-];
+const TURNED: &str = "
+    0  => BadBook 0
+    3  => BadBook 0
+    4  =>
+    5  => BadBook 4
+    8  => BadBook 4
+    9  => BadBook 4
+    11 => BadBook 4
+    12 => BadBook 4
+    43 => BadBook 4
+    44 => one|
+    45 => BadBook 44
+    83 => BadBook 44
+    84 => one|two|
+";
 
-/// Bytes that are opened: what that returns, and what the device then has.
-struct Opened(&'static str);
-
-impl Case for Opened {
-    fn told(&self, alloc: Global) -> Result<String, Fail> {
-        let device = MemoryDevice::new(alloc, hex::decode(alloc, self.0)?)?;
-        match Journal::open(alloc, device) {
-            Ok((journal, records)) => opened_text(alloc, &Kept(journal).0, &records),
-            Err((refusal, device)) => refused_text(alloc, refusal, &Kept(device).0),
-        }
+fn opened_bytes_text(alloc: Global, digits: &str) -> Result<String, Fail> {
+    let device = MemoryDevice::new(alloc, hex::decode(alloc, digits)?)?;
+    match Journal::open(alloc, device) {
+        Ok((journal, records)) => opened_text(alloc, &Kept(journal).0, &records),
+        Err((refusal, device)) => refused_text(alloc, refusal, &Kept(device).0),
     }
 }
 
@@ -426,49 +396,47 @@ fn refused_text(
 
 fn device_text(alloc: Global, told: &str, device: &MemoryDevice) -> Result<String, Fail> {
     let bytes = hex::encode(alloc, device.bytes())?;
+    if bytes.is_empty() {
+        return Ok(format!(in alloc; "{told}:")?);
+    }
     Ok(format!(in alloc; "{told}: {bytes}")?)
 }
 
 /// What stands from a shut gate on is cut off. What is no journal is left as it is.
 #[test]
 fn opens_journals_alone(rt: HostRuntime) -> Result<(), Fail> {
-    each(rt.alloc(), OPENED)
+    each_line(rt.alloc(), &mut Told::Opened, OPENED)
 }
 
-const OPENED: &[(Opened, &str)] = &[
-    (Opened(""), "BadBook 0: "),
-    (Opened("46574a"), "BadBook 0: 46574a"),
-    (Opened("68656c6c6f"), "BadBook 0: 68656c6c6f"),
-    (Opened("46574a31"), ": 46574a3100"),
-    (Opened("46574a3100"), ": 46574a3100"),
-    (Opened("46574a3101"), ": 46574a3100"),
-    (Opened("46574a310001000000"), ": 46574a3100"),
-    (Opened("46574a310101"), "BadBook 4: 46574a310101"),
-];
+const OPENED: &str = "
+                       => BadBook 0:
+    46574a             => BadBook 0: 46574a
+    68656c6c6f         => BadBook 0: 68656c6c6f
+    46574a31           => : 46574a3100
+    46574a3100         => : 46574a3100
+    46574a3101         => : 46574a3100
+    46574a310001000000 => : 46574a3100
+    46574a310101       => BadBook 4: 46574a310101
+";
 
-/// A new journal on these bytes: what that returns, and what the device then has.
-struct Created(&'static str);
-
-impl Case for Created {
-    fn told(&self, alloc: Global) -> Result<String, Fail> {
-        let device = MemoryDevice::new(alloc, hex::decode(alloc, self.0)?)?;
-        match Journal::create(alloc, device) {
-            Ok(journal) => device_text(alloc, "made", Kept(journal).0.device()),
-            Err((refusal, device)) => refused_text(alloc, refusal, &Kept(device).0),
-        }
+fn created_text(alloc: Global, digits: &str) -> Result<String, Fail> {
+    let device = MemoryDevice::new(alloc, hex::decode(alloc, digits)?)?;
+    match Journal::create(alloc, device) {
+        Ok(journal) => device_text(alloc, "made", Kept(journal).0.device()),
+        Err((refusal, device)) => refused_text(alloc, refusal, &Kept(device).0),
     }
 }
 
 #[test]
 fn makes_a_journal_where_no_byte_is(rt: HostRuntime) -> Result<(), Fail> {
-    each(rt.alloc(), CREATED)
+    each_line(rt.alloc(), &mut Told::Created, CREATED)
 }
 
-const CREATED: &[(Created, &str)] = &[
-    (Created(""), "made: 46574a3100"),
-    (Created("00"), "NotEmpty: 00"),
-    (Created("46574a3100"), "NotEmpty: 46574a3100"),
-];
+const CREATED: &str = "
+               => made: 46574a3100
+    00         => NotEmpty: 00
+    46574a3100 => NotEmpty: 46574a3100
+";
 
 /// A path of a test's own, and no file there.
 fn new_path(rt: &HostRuntime, name: &str) -> Result<PathBuf, Fail> {

@@ -1,7 +1,8 @@
 //! Which stores are opened: each condition once, met and not met.
 
-use crate::headers::marked;
-use crate::session::{bbbb, named};
+use crate::headers::status_of;
+use crate::session::{bbbb, image_name};
+use crate::support::marked;
 use fw_image::{OpenError, Phase, open_kept, open_store};
 use fw_names::{ImageName, factory_name};
 use fw_store::{
@@ -10,44 +11,33 @@ use fw_store::{
 };
 use std::alloc::Global;
 use std::test::Fail;
-use test_support::{Case, each, each_prints};
+use test_tables::{Kept, Reads, Words, each_line, each_prints};
 
-/// A store to be opened: its header, the bytes in its second slot, and after how many calls it fails.
-#[derive(Clone, Copy)]
-struct Stored(Head, &'static [u8], Option<u64>);
-
-/// The header of a meter that has both blocks of a goal under the name of `bbbb`.
-#[derive(Clone, Copy)]
-enum Head {
-    /// It runs `abc`, in this status.
-    In(StoredStatus),
-    /// The same in version 1.
-    Old(StoredStatus),
-    /// It runs `abc` under the name of these bytes.
-    Runs(&'static [u8]),
-    /// It runs `abc` of release 5, and the goal has this release.
-    Aims(u32),
-    /// The form's first byte is another.
-    OtherForm,
-    /// It has zeros alone.
-    Zeros,
-}
-
-/// The headers above, as a store has them.
-fn bytes_of(head: &Head) -> Result<HeaderBytes, Fail> {
+/// The header of a meter that has both blocks of a goal under the name of `bbbb`:
+///
+/// - `verified`, `spoilt` or `initiated`: it runs `abc`, in this status; after `old` in version 1
+/// - `runs BYTES`: it runs `abc` under the name of these bytes
+/// - `aims RELEASE`: it runs `abc` of release 5, and the goal has this release
+/// - `other-form`: the form's first byte is another
+/// - `zeros`: it has zeros alone
+fn bytes_of(mut words: Words<'_>) -> Result<HeaderBytes, Fail> {
     let abc = factory_name(b"abc");
-    match head {
-        Head::In(status) => Ok(header(*status, abc, bbbb()?).to_bytes()),
-        Head::Old(status) => Ok(old_header(*status, abc, bbbb()?).to_bytes()),
-        Head::Runs(image) => {
-            Ok(header(StoredStatus::Initiated, factory_name(image), bbbb()?).to_bytes())
+    match words.word()? {
+        "old" => {
+            let status = status_of(words.word()?)?;
+            Ok(header_of(HeaderVersion::One, status, abc, bbbb()?).to_bytes())
         }
-        Head::Aims(release) => {
-            let goal = named(b"bbbb", *release)?;
-            Ok(header(StoredStatus::Initiated, named(b"abc", 5)?, goal).to_bytes())
+        "runs" => {
+            let running = factory_name(words.rest().as_bytes());
+            Ok(header(StoredStatus::Initiated, running, bbbb()?).to_bytes())
         }
-        Head::OtherForm => other_form(header(StoredStatus::VerificationSuccessful, abc, bbbb()?)),
-        Head::Zeros => Ok(HeaderBytes::Two([0; VERSION_TWO_SIZE])),
+        "aims" => {
+            let goal = image_name(b"bbbb", words.number()?)?;
+            Ok(header(StoredStatus::Initiated, image_name(b"abc", 5)?, goal).to_bytes())
+        }
+        "other-form" => other_form(header(StoredStatus::VerificationSuccessful, abc, bbbb()?)),
+        "zeros" => Ok(HeaderBytes::Two([0; VERSION_TWO_SIZE])),
+        status => Ok(header(status_of(status)?, abc, bbbb()?).to_bytes()),
     }
 }
 
@@ -64,10 +54,6 @@ fn other_form(header: Header) -> Result<HeaderBytes, Fail> {
 
 fn header(status: StoredStatus, running: ImageName, goal: ImageName) -> Header {
     header_of(HeaderVersion::Two, status, running, goal)
-}
-
-fn old_header(status: StoredStatus, running: ImageName, goal: ImageName) -> Header {
-    header_of(HeaderVersion::One, status, running, goal)
 }
 
 fn header_of(
@@ -92,20 +78,23 @@ fn header_of(
     }
 }
 
-impl Case for Stored {
-    /// Why it isn't opened. It is returned as it was.
-    fn told(&self, alloc: Global) -> Result<String, Fail> {
-        let refusal = refusal(open_store(fused(alloc, self)?), &made(alloc, self)?)?;
-        Ok(format!(in alloc; "{refusal:?}")?)
-    }
+/// Of a store by the bytes in its second slot, after how many calls it fails, or `-`, and its header: why it isn't opened. It is returned as it
+/// was.
+#[derive(Clone, Copy)]
+enum Opened {
+    Anew,
+    /// With its header as it is.
+    Kept,
 }
 
-/// A store that is to be opened with its header as it is.
-struct Kept(Stored);
-
-impl Case for Kept {
-    fn told(&self, alloc: Global) -> Result<String, Fail> {
-        let refusal = refusal(open_kept(fused(alloc, &self.0)?), &made(alloc, &self.0)?)?;
+impl Reads for Opened {
+    fn told(&mut self, alloc: Global, what: &str) -> Result<String, Fail> {
+        let store = fused(alloc, what)?;
+        let other = made(alloc, what)?;
+        let refusal = match self {
+            Opened::Anew => refusal(open_store(store), &other)?,
+            Opened::Kept => refusal(open_kept(store), &other)?,
+        };
         Ok(format!(in alloc; "{refusal:?}")?)
     }
 }
@@ -123,10 +112,11 @@ fn refusal(
 }
 
 /// The store, and the same once its fuse is set.
-fn made(alloc: Global, stored: &Stored) -> Result<MemoryStore, Fail> {
-    let Stored(head, spare, _) = stored;
-    let header = bytes_of(head)?;
-    let mut store = test_support::Kept(MemoryStore::new(alloc, 64, 2, b"abc")?);
+fn made(alloc: Global, what: &str) -> Result<MemoryStore, Fail> {
+    let mut words = Words::new(what);
+    let (spare, _calls) = (words.word()?.as_bytes(), words.word()?);
+    let header = bytes_of(words)?;
+    let mut store = Kept(MemoryStore::new(alloc, 64, 2, b"abc")?);
     if spare.len() > store.0.capacity() as usize {
         return Err("the bytes don't fit".into());
     }
@@ -135,69 +125,63 @@ fn made(alloc: Global, stored: &Stored) -> Result<MemoryStore, Fail> {
     Ok(store.into_inner())
 }
 
-fn fused(alloc: Global, stored: &Stored) -> Result<MemoryStore, Fail> {
-    let mut store = made(alloc, stored)?;
-    if let Some(calls) = stored.2 {
-        store.fuse(calls, 238);
+fn fused(alloc: Global, what: &str) -> Result<MemoryStore, Fail> {
+    let mut words = Words::new(what);
+    let (_spare, calls) = (words.word()?, words.word()?);
+    if calls == "-" {
+        return made(alloc, what);
     }
+    let calls = calls.parse::<u64>()?;
+    let mut store = made(alloc, what)?;
+    store.fuse(calls, 238);
     Ok(store)
 }
 
-const VERIFIED: Head = Head::In(StoredStatus::VerificationSuccessful);
-
-const SPOILT: Head = Head::In(StoredStatus::VerificationFailed);
-
-const RECEIVING: Head = Head::In(StoredStatus::Initiated);
-
-const OLD_VERIFIED: Head = Head::Old(StoredStatus::VerificationSuccessful);
-
-const OLD_RECEIVING: Head = Head::Old(StoredStatus::Initiated);
-
-const STORED: &[(Stored, &str)] = &[
+const STORED: &str = "
     // a goal that was verified has the digest of its name, and another one needn't have
-    (Stored(VERIFIED, b"bbbb", None), "None"),
-    (Stored(VERIFIED, b"bbaa", None), "Some(BadImage)"),
-    (Stored(SPOILT, b"bbaa", None), "None"),
-    (Stored(SPOILT, b"bbbb", None), "None"),
-    (Stored(RECEIVING, b"bbaa", None), "None"),
-    (Stored(RECEIVING, b"bbbb", None), "None"),
+    bbbb - verified      => None
+    bbaa - verified      => Some(BadImage)
+    bbaa - spoilt        => None
+    bbbb - spoilt        => None
+    bbaa - initiated     => None
+    bbbb - initiated     => None
     // the image that runs
-    (Stored(Head::Runs(b"abc"), b"bbbb", None), "None"),
-    (Stored(Head::Runs(b"abd"), b"bbbb", None), "Some(BadImage)"),
+    bbbb - runs abc      => None
+    bbbb - runs abd      => Some(BadImage)
     // a goal of a release below that of the image that runs, and of an equal one
-    (Stored(Head::Aims(4), b"bbbb", None), "Some(BadHeader)"),
-    (Stored(Head::Aims(5), b"bbbb", None), "None"),
+    bbbb - aims 4        => Some(BadHeader)
+    bbbb - aims 5        => None
     // zeros, and a header of another form over an image that isn't genuine either
-    (Stored(Head::Zeros, b"bbbb", None), "Some(BadHeader)"),
-    (Stored(Head::OtherForm, b"bbaa", None), "Some(BadHeader)"),
+    bbbb - zeros         => Some(BadHeader)
+    bbaa - other-form    => Some(BadHeader)
     // the header, the image that runs and the goal are read, each in one call; of a goal that wasn't verified nothing is read
-    (Stored(VERIFIED, b"bbbb", Some(0)), "Some(Fault)"),
-    (Stored(VERIFIED, b"bbbb", Some(1)), "Some(Fault)"),
-    (Stored(VERIFIED, b"bbbb", Some(2)), "Some(Fault)"),
-    (Stored(VERIFIED, b"bbbb", Some(3)), "None"),
-    (Stored(RECEIVING, b"bbbb", Some(1)), "Some(Fault)"),
-    (Stored(RECEIVING, b"bbbb", Some(2)), "None"),
+    bbbb 0 verified      => Some(Fault)
+    bbbb 1 verified      => Some(Fault)
+    bbbb 2 verified      => Some(Fault)
+    bbbb 3 verified      => None
+    bbbb 1 initiated     => Some(Fault)
+    bbbb 2 initiated     => None
     // a header of version 1 is written in version 2 after that, and not where it is refused
-    (Stored(OLD_VERIFIED, b"bbbb", None), "None"),
-    (Stored(OLD_VERIFIED, b"bbaa", None), "Some(BadImage)"),
-    (Stored(OLD_VERIFIED, b"bbbb", Some(2)), "Some(Fault)"),
-    (Stored(OLD_VERIFIED, b"bbbb", Some(3)), "Some(Fault)"),
-    (Stored(OLD_VERIFIED, b"bbbb", Some(4)), "None"),
-    (Stored(OLD_RECEIVING, b"bbbb", Some(2)), "Some(Fault)"),
-    (Stored(OLD_RECEIVING, b"bbbb", Some(3)), "None"),
-];
+    bbbb - old verified  => None
+    bbaa - old verified  => Some(BadImage)
+    bbbb 2 old verified  => Some(Fault)
+    bbbb 3 old verified  => Some(Fault)
+    bbbb 4 old verified  => None
+    bbbb 2 old initiated => Some(Fault)
+    bbbb 3 old initiated => None
+";
 
 /// With the header as it is, the calls are as many for either version.
-const KEPT: &[(Kept, &str)] = &[
-    (Kept(Stored(OLD_VERIFIED, b"bbaa", None)), "Some(BadImage)"),
-    (Kept(Stored(OLD_VERIFIED, b"bbbb", Some(2))), "Some(Fault)"),
-    (Kept(Stored(OLD_VERIFIED, b"bbbb", Some(3))), "None"),
-    (Kept(Stored(OLD_RECEIVING, b"bbbb", Some(1))), "Some(Fault)"),
-    (Kept(Stored(OLD_RECEIVING, b"bbbb", Some(2))), "None"),
-    (Kept(Stored(VERIFIED, b"bbbb", Some(2))), "Some(Fault)"),
-    (Kept(Stored(VERIFIED, b"bbbb", Some(3))), "None"),
-    (Kept(Stored(Head::Zeros, b"bbbb", None)), "Some(BadHeader)"),
-];
+const KEPT: &str = "
+    bbaa - old verified  => Some(BadImage)
+    bbbb 2 old verified  => Some(Fault)
+    bbbb 3 old verified  => None
+    bbbb 1 old initiated => Some(Fault)
+    bbbb 2 old initiated => None
+    bbbb 2 verified      => Some(Fault)
+    bbbb 3 verified      => None
+    bbbb - zeros         => Some(BadHeader)
+";
 
 const REFUSALS: &[(OpenError, &str)] = &[
     (OpenError::Fault, "Fault"),
@@ -207,7 +191,7 @@ const REFUSALS: &[(OpenError, &str)] = &[
 
 #[test]
 fn each_store(rt: HostRuntime) -> Result<(), Fail> {
-    each(rt.alloc(), STORED)?;
-    each(rt.alloc(), KEPT)?;
+    each_line(rt.alloc(), &mut Opened::Anew, STORED)?;
+    each_line(rt.alloc(), &mut Opened::Kept, KEPT)?;
     each_prints(rt.alloc(), REFUSALS)
 }

@@ -2,6 +2,7 @@
 
 use crate::calls::bytes_text;
 use crate::fresh::{new_meter, old_meter};
+use crate::support::{header_digits, slot_of};
 use fw_image::{
     MeterView, NotVerified, Phase, Receiving, Refusal, TransferStatus, open_kept, open_store,
 };
@@ -9,117 +10,96 @@ use fw_names::{CampaignId, HeadId, ImageName, factory_name, name_of};
 use fw_store::{ImageStore, MemoryStore, Slot};
 use std::alloc::{AllocError, Global};
 use std::test::Fail;
-use test_support::expect;
+use test_tables::{Reads, Words, each_line};
 
 /// A meter in one of its statuses.
 pub(crate) type Meter = Phase<MemoryStore>;
 
-/// A call of a meter, or a look at it.
-#[derive(Clone, Copy)]
-pub(crate) enum Call {
-    Enable(bool),
-    /// An image of N bytes under the name of `bbbb`, from campaign 1 of head end 2.
-    Initiate(u32),
-    /// The same of this release.
-    InitiateRelease(u32, u32),
-    /// The same under a factory's name.
-    InitiateFactory(u32),
-    Block(u32, &'static [u8]),
-    /// An image of N bytes `a` under its own name, from the same campaign, and a block of M bytes `a`.
-    InitiateOwn(u32),
-    BlockOf(u32, usize),
-    Verify,
-    Activate,
-    /// N more calls of the store succeed, and a write that then fails leaves this byte.
-    Fuse(u64, u8),
-    Unfuse,
-    /// Takes the store and opens it again.
-    Reopen,
-    /// The same, where N calls of the store succeed. If it isn't opened then, it is with the header that is there.
-    StopInReopen(u64),
-    /// An image may have at most N blocks.
-    Limited(u32),
-    /// These are the bytes of the image that runs.
-    Runs(&'static [u8]),
-    /// The size of its blocks, how many the goal has, the first that isn't there, and the bits of all.
-    Blocks(u32, u32, u32, &'static [u8]),
-    /// How many bytes the image has that was verified.
-    Verified(u32),
-    /// A slot begins with these bytes.
-    Holds(Slot, &'static [u8]),
-    /// The header begins with these digits, and has zeros after them, up to the releases where one isn't 0.
-    Headed(&'static str),
-}
-
-/// A call, the refusal, if there is one, and then what can be seen, as `sight` gives it.
-pub(crate) type Row = (Call, Option<Refusal>, &'static str);
-
 /// A new meter that receives `bbbb` and verifies it.
-pub(crate) const TO_VERIFIED: &[Row] = &[
-    (Call::Enable(true), None, ENABLED),
-    (Call::Initiate(4), None, NO_BLOCK),
-    (Call::Block(0, b"bb"), None, BLOCK_0),
-    (Call::Block(1, b"bb"), None, BOTH_BLOCKS),
-    (Call::Verify, None, VERIFIED),
-];
+pub(crate) const TO_VERIFIED: &str = "
+    enable true => true, NotInitiated, no goal, marks, runs 3 of 0 0 ba7816bf
+    initiate 4  => true, Initiated, goal 4 of 2 1 81cc5b17, marks, runs 3 of 0 0 ba7816bf
+    block 0 bb  => true, Initiated, goal 4 of 2 1 81cc5b17, marks 0, runs 3 of 0 0 ba7816bf
+    block 1 bb  => true, Initiated, goal 4 of 2 1 81cc5b17, marks 0 1, runs 3 of 0 0 ba7816bf
+    verify      => true, VerificationSuccessful, goal 4 of 2 1 81cc5b17, marks 0 1, runs 3 of 0 0 ba7816bf
+";
 
-/// What is seen of a meter that runs `abc`: with transfer enabled, and while it receives `bbbb`.
-pub(crate) const ENABLED: &str = "true, NotInitiated, no goal, marks, runs 3 of 0 0 ba7816bf";
-
-pub(crate) const NO_BLOCK: &str =
-    "true, Initiated, goal 4 of 2 1 81cc5b17, marks, runs 3 of 0 0 ba7816bf";
-
-pub(crate) const BLOCK_0: &str =
-    "true, Initiated, goal 4 of 2 1 81cc5b17, marks 0, runs 3 of 0 0 ba7816bf";
-
-pub(crate) const BOTH_BLOCKS: &str =
-    "true, Initiated, goal 4 of 2 1 81cc5b17, marks 0 1, runs 3 of 0 0 ba7816bf";
-
-/// And after it was judged, with either result, or activated.
-pub(crate) const VERIFIED: &str =
-    "true, VerificationSuccessful, goal 4 of 2 1 81cc5b17, marks 0 1, runs 3 of 0 0 ba7816bf";
-
-pub(crate) const SPOILT: &str =
-    "true, VerificationFailed, goal 4 of 2 1 81cc5b17, marks 0 1, runs 3 of 0 0 ba7816bf";
-
-pub(crate) const SWITCHED: &str =
-    "true, ActivationSuccessful, no goal, marks, runs 4 of 2 1 81cc5b17";
+/// Fronts of headers: the form, the flags and the status, the block size, the size and the name of what runs, the goal's, and its marks,
+/// and then the releases.
+const HEADERS: &str = "
+    verified       = 46574832 01 00 03 01 00000002 00000003 010000000000000000 abc 00000004 010000000200000001 bbbb c0
+    switched       = 46574832 01 01 06 00 00000002 00000004 010000000200000001 bbbb
+    release-5      = 46574832 01 00 01 01 00000002 00000003 010000000000000000 abc 00000004 010000000200000001 bbbb / 0000000000000005
+    release-5-runs = 46574832 01 01 06 00 00000002 00000004 010000000200000001 bbbb / 0000000500000000
+    release-6      = 46574832 01 01 01 01 00000002 00000004 010000000200000001 bbbb 00000004 010000000200000001 bbbb / 0000000500000006
+    old            = 46574831 01 00 00 00 00000002 00000003 010000000000000000 abc
+";
 
 /// A session with a new meter that has room for 64 bytes. Its store is taken and opened again after each call, or isn't.
-pub(crate) fn session(alloc: Global, reopens: bool, parts: &[&[Row]]) -> Result<(), Fail> {
+pub(crate) fn session(alloc: Global, reopens: bool, parts: &[&str]) -> Result<(), Fail> {
     let mut trial = Trial::none();
     trial.open(alloc, 64)?;
-    trial.play(alloc, reopens, parts)
+    trial.reopens = reopens;
+    trial.play(alloc, parts)
 }
 
 /// A session with a new old meter that has room for 10,000 bytes.
-pub(crate) fn old_session(alloc: Global, parts: &[&[Row]]) -> Result<(), Fail> {
+pub(crate) fn old_session(alloc: Global, parts: &[&str]) -> Result<(), Fail> {
     let mut trial = Trial::none();
     trial.open_old(alloc, 10_000, 2)?;
-    trial.play(alloc, false, parts)
+    trial.play(alloc, parts)
 }
 
 /// A meter that is tried. Each call takes it, and puts the one in its place that it leads to. Its drop is written out, so that each
 /// place that drops it calls that, and isn't proved to drop each kind of meter.
 pub(crate) struct Trial {
     meter: Option<Meter>,
+    /// Its store is taken and opened again after each call.
+    reopens: bool,
 }
 
 impl Drop for Trial {
     fn drop(self) {
-        let Trial { meter: _ } = self;
+        let Trial {
+            meter: _,
+            reopens: _,
+        } = self;
+    }
+}
+
+/// A call or a look, and then what can be seen, as `sight` gives it, after the refusal, if there is one.
+impl Reads for Trial {
+    fn told(&mut self, alloc: Global, what: &str) -> Result<String, Fail> {
+        let refusal = self.make(alloc, what)?;
+        let seen = self.sight(alloc)?;
+        if self.reopens {
+            self.reopen()?;
+            if self.sight(alloc)? != seen {
+                return Err("it is opened otherwise".into());
+            }
+        }
+        match refusal {
+            None => Ok(seen),
+            Some(refusal) => Ok(format!(in alloc; "{refusal:?}: {seen}")?),
+        }
     }
 }
 
 impl Trial {
     /// There is no meter yet.
     pub(crate) fn none() -> Trial {
-        Trial { meter: None }
+        Trial {
+            meter: None,
+            reopens: false,
+        }
     }
 
     /// Tries this meter.
     pub(crate) fn of(meter: Meter) -> Trial {
-        Trial { meter: Some(meter) }
+        Trial {
+            meter: Some(meter),
+            reopens: false,
+        }
     }
 
     /// Begins with a new meter that runs `abc`, with blocks of two bytes and slots of `capacity` bytes.
@@ -155,9 +135,9 @@ impl Trial {
         }
     }
 
-    /// Makes calls, of which none is an error.
-    pub(crate) fn make_all(&mut self, alloc: Global, calls: &[Call]) -> Result<(), Fail> {
-        for call in calls {
+    /// Makes calls, with semicolons between them, of which none is an error.
+    pub(crate) fn make_all(&mut self, alloc: Global, calls: &str) -> Result<(), Fail> {
+        for call in calls.split(';') {
             let _refusal = self.make(alloc, call)?;
         }
         Ok(())
@@ -206,31 +186,11 @@ impl Trial {
         Ok(before)
     }
 
-    fn play(&mut self, alloc: Global, reopens: bool, parts: &[&[Row]]) -> Result<(), Fail> {
+    fn play(&mut self, alloc: Global, parts: &[&str]) -> Result<(), Fail> {
         for part in parts {
-            for (at, row) in part.iter().enumerate() {
-                self.step(alloc, at, row)?;
-                if reopens {
-                    self.reopen()?;
-                    self.shows(alloc, at, row.2)?;
-                }
-            }
+            each_line(alloc, self, part)?;
         }
         Ok(())
-    }
-
-    fn step(&mut self, alloc: Global, at: usize, row: &Row) -> Result<(), Fail> {
-        let refusal = self.make(alloc, &row.0)?;
-        if refusal != row.1 {
-            return Err(other_refusal(alloc, at, refusal)?);
-        }
-        self.shows(alloc, at, row.2)
-    }
-
-    /// This can be seen of the meter.
-    fn shows(&self, alloc: Global, at: usize, want: &str) -> Result<(), Fail> {
-        let seen = self.sight(alloc)?;
-        expect(alloc, at, seen.as_str(), want)
     }
 
     /// What can be seen of it.
@@ -242,19 +202,33 @@ impl Trial {
     }
 
     /// Makes a call: what it is refused with. A meter that doesn't have it in its status, or another look than is wanted, is an error.
-    pub(crate) fn make(&mut self, alloc: Global, call: &Call) -> Result<Option<Refusal>, Fail> {
-        match call {
-            Call::Enable(enabled) => self.enable(*enabled),
-            Call::Initiate(size) => self.initiate(bbbb()?, *size),
-            Call::InitiateRelease(release, size) => self.initiate(named(b"bbbb", *release)?, *size),
-            Call::InitiateFactory(size) => self.initiate(factory_name(b"bbbb"), *size),
-            Call::Block(number, value) => self.block(*number, value),
-            Call::InitiateOwn(size) => self.initiate(own_name(alloc, *size)?, *size),
-            Call::BlockOf(number, count) => self.block_of(alloc, *number, *count),
-            Call::Verify => self.verify(),
-            Call::Activate => self.activate(),
+    /// Images have the name of `bbbb`, from campaign 1 of head end 2.
+    ///
+    /// - `enable BOOLEAN`
+    /// - `initiate SIZE`, `initiate-release RELEASE SIZE`, and `initiate-factory SIZE` under a factory's name
+    /// - `block NUMBER BYTES`, `verify`, `activate`
+    /// - `initiate-own SIZE`: an image of so many bytes `a` under its own name, from the same campaign; `block-of NUMBER COUNT`: a block of
+    ///   so many bytes `a`
+    pub(crate) fn make(&mut self, alloc: Global, call: &str) -> Result<Option<Refusal>, Fail> {
+        let mut words = Words::new(call);
+        match words.word()? {
+            "enable" => self.enable(words.rest() == "true"),
+            "initiate" => self.initiate(bbbb()?, words.number()?),
+            "initiate-release" => {
+                let name = image_name(b"bbbb", words.number()?)?;
+                self.initiate(name, words.number()?)
+            }
+            "initiate-factory" => self.initiate(factory_name(b"bbbb"), words.number()?),
+            "block" => self.block(words.number()?, words.rest().as_bytes()),
+            "initiate-own" => {
+                let size = words.number()?;
+                self.initiate(own_name(alloc, size)?, size)
+            }
+            "block-of" => self.block_of(alloc, words.number()?, words.number()? as usize),
+            "verify" => self.verify(),
+            "activate" => self.activate(),
             look => {
-                self.looked(alloc, look)?;
+                self.looked(alloc, look, words)?;
                 Ok(None)
             }
         }
@@ -336,14 +310,23 @@ impl Trial {
     }
 
     /// A look at the meter, or at its store.
-    fn looked(&mut self, alloc: Global, look: &Call) -> Result<(), Fail> {
+    ///
+    /// - `reopen`: its store is taken and opened again; `stop-in-reopen CALLS`: the same, where so many calls of the store succeed. If it
+    ///   isn't opened then, it is with the header that is there
+    /// - `holds SLOT BYTES`: the slot begins with these bytes
+    /// - `headed HEADER`: the header begins with the digits of this name, and has zeros after them, up to the releases where one isn't 0
+    /// - and what `looked` does
+    fn looked(&mut self, alloc: Global, look: &str, mut words: Words<'_>) -> Result<(), Fail> {
         match look {
-            Call::Reopen => self.reopen(),
-            Call::StopInReopen(calls) => self.stop_in_reopen(*calls),
-            Call::Holds(slot, bytes) => self.holds(alloc, *slot, bytes),
-            Call::Headed(digits) => self.headed(alloc, digits),
+            "reopen" => self.reopen(),
+            "stop-in-reopen" => self.stop_in_reopen(u64::from(words.number()?)),
+            "holds" => {
+                let slot = slot_of(words.word()?)?;
+                self.holds(alloc, slot, words.rest())
+            }
+            "headed" => self.headed(alloc, &header_digits(alloc, HEADERS, words.rest())?),
             look => match &mut self.meter {
-                Some(meter) => looked(alloc, meter, look),
+                Some(meter) => looked(alloc, meter, look, words),
                 None => Err("there is no meter".into()),
             },
         }
@@ -392,7 +375,7 @@ impl Trial {
         }
     }
 
-    fn holds(&mut self, alloc: Global, slot: Slot, wanted: &[u8]) -> Result<(), Fail> {
+    fn holds(&mut self, alloc: Global, slot: Slot, wanted: &str) -> Result<(), Fail> {
         let Some(meter) = self.meter.take() else {
             return Err("there is no meter".into());
         };
@@ -411,23 +394,14 @@ impl Trial {
     }
 }
 
-fn other_refusal(alloc: Global, at: usize, refusal: Option<Refusal>) -> Result<Fail, AllocError> {
-    let told = format!(in alloc; "row {at}: {refusal:?}")?;
-    Ok(Fail::from(told))
-}
-
-fn has_bytes(
-    alloc: Global,
-    store: &mut MemoryStore,
-    slot: Slot,
-    wanted: &[u8],
-) -> Result<(), Fail> {
-    if wanted.len() > store.capacity() as usize {
+fn has_bytes(alloc: Global, store: &mut MemoryStore, slot: Slot, digits: &str) -> Result<(), Fail> {
+    let size = digits.len() / 2;
+    if size > store.capacity() as usize {
         return Err("the slot has fewer bytes".into());
     }
-    let mut bytes = vec![in alloc; 0; wanted.len()]?;
+    let mut bytes = vec![in alloc; 0; size]?;
     store.read(slot, 0, &mut bytes)?;
-    if bytes.as_slice() == wanted {
+    if hex::encode(alloc, bytes.as_slice())?.as_str() == digits {
         Ok(())
     } else {
         Err("the slot has other bytes".into())
@@ -452,28 +426,35 @@ pub(crate) fn opened(store: MemoryStore) -> Result<Meter, Fail> {
 }
 
 /// A look at a meter that keeps its store.
-fn looked(alloc: Global, meter: &mut Meter, look: &Call) -> Result<(), Fail> {
+///
+/// - `fuse CALLS TORN`: so many more calls of the store succeed, and a write that then fails leaves this byte; `unfuse`
+/// - `runs BYTES`: these are the bytes of the image that runs
+/// - `blocks SIZE COUNT FIRST BITS`: the size of its blocks, how many the goal has, the first that isn't there, and the bits of all
+/// - `verified SIZE`: how many bytes the image has that was verified
+/// - `limited LIMIT`: how many blocks an image may have at most
+fn looked(alloc: Global, meter: &mut Meter, look: &str, mut words: Words<'_>) -> Result<(), Fail> {
     match look {
-        Call::Fuse(calls, torn) => meter.fuse(*calls, *torn),
-        Call::Unfuse => meter.unfuse(),
-        Call::Runs(bytes) => return runs(alloc, meter, bytes),
-        Call::Blocks(size, count, first, bits) => {
-            return blocks(alloc, meter, (*size, *count, *first), bits);
+        "fuse" => {
+            let calls = u64::from(words.number()?);
+            meter.fuse(calls, words.word()?.parse::<u8>()?);
         }
-        Call::Verified(size) => return verified(meter, *size),
-        Call::Limited(limit) => return limited(meter, *limit),
-        _ => return Err("no look".into()),
+        "unfuse" => meter.unfuse(),
+        "runs" => return runs(alloc, meter, words.rest()),
+        "blocks" => return blocks(alloc, meter, words),
+        "verified" => return verified(meter, words.number()?),
+        "limited" => return limited(meter, words.number()?),
+        _ => return Err("no look has this name".into()),
     }
     Ok(())
 }
 
 /// The name of `bbbb` in campaign 1 of head end 2.
 pub(crate) fn bbbb() -> Result<ImageName, Fail> {
-    named(b"bbbb", 0)
+    image_name(b"bbbb", 0)
 }
 
 /// The name of an image of this release there.
-pub(crate) fn named(image: &[u8], release: u32) -> Result<ImageName, Fail> {
+pub(crate) fn image_name(image: &[u8], release: u32) -> Result<ImageName, Fail> {
     let head = HeadId::new(2).ok_or("no head end")?;
     let campaign = CampaignId::new(head, 1).ok_or("no campaign")?;
     Ok(name_of(campaign, release, image))
@@ -482,29 +463,26 @@ pub(crate) fn named(image: &[u8], release: u32) -> Result<ImageName, Fail> {
 /// That of `size` bytes `a`.
 fn own_name(alloc: Global, size: u32) -> Result<ImageName, Fail> {
     let image = vec![in alloc; b'a'; size as usize]?;
-    named(&image, 0)
+    image_name(&image, 0)
 }
 
-fn runs(alloc: Global, meter: &mut Meter, wanted: &[u8]) -> Result<(), Fail> {
+fn runs(alloc: Global, meter: &mut Meter, wanted: &str) -> Result<(), Fail> {
     let mut image = vec![in alloc; 0; meter.view().active_size as usize]?;
     meter.read_running(&mut image)?;
-    if image.as_slice() == wanted {
+    if str::from_utf8(image.as_slice())? == wanted {
         Ok(())
     } else {
         Err("another image runs".into())
     }
 }
 
-fn blocks(
-    alloc: Global,
-    meter: &Meter,
-    wanted: (u32, u32, u32),
-    wanted_bits: &[u8],
-) -> Result<(), Fail> {
+fn blocks(alloc: Global, meter: &Meter, mut words: Words<'_>) -> Result<(), Fail> {
+    let wanted = (words.number()?, words.number()?, words.number()?);
     let count = meter.block_count();
     let first = meter.marks().first_missing_below(count);
     let bits = meter.marks().to_bits(alloc, count)?;
-    if (meter.block_size(), count, first) == wanted && bits.as_bytes() == wanted_bits {
+    let digits = hex::encode(alloc, bits.as_bytes())?;
+    if (meter.block_size(), count, first) == wanted && digits.as_str() == words.rest() {
         Ok(())
     } else {
         Err("it has other blocks".into())

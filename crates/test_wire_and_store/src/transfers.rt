@@ -1,271 +1,143 @@
 //! Transfers whose store doesn't fail.
 
-use crate::session::{
-    BLOCK_0, BOTH_BLOCKS, Call, ENABLED, NO_BLOCK, Row, SPOILT, SWITCHED, TO_VERIFIED, VERIFIED,
-    old_session, session,
-};
-use fw_image::Refusal;
-use fw_store::Slot;
+use crate::session::{TO_VERIFIED, old_session, session};
 use std::test::Fail;
 
-const TRANSFER: &[Row] = &[
-    (Call::Enable(true), None, ENABLED),
-    (Call::Initiate(4), None, NO_BLOCK),
-    (Call::Block(0, b"bb"), None, BLOCK_0),
-    (Call::Block(1, b"bb"), None, BOTH_BLOCKS),
-    (Call::Runs(b"abc"), None, BOTH_BLOCKS),
-    (Call::Verify, None, VERIFIED),
-    (Call::Runs(b"abc"), None, VERIFIED),
-    (Call::Activate, None, SWITCHED),
-    (Call::Runs(b"bbbb"), None, SWITCHED),
-];
-
-/// The header before the switch: form, flags and status, block size, size and name of what runs, the goal's, and marks.
-const VERIFIED_HEADER: &str = concat!(
-    "46574832",
-    "01000301",
-    "00000002",
-    "00000003",
-    "010000000000000000",
-    "ba7816bf8f01cfea414140de5dae2223b00361a396177a9cb410ff61f20015ad",
-    "00000004",
-    "010000000200000001",
-    "81cc5b17018674b401b42f35ba07bb79e211239c23bffe658da1577e3e646877",
-    "c0",
-);
-
-/// And after it.
-const SWITCHED_HEADER: &str = concat!(
-    "46574832",
-    "01010600",
-    "00000002",
-    "00000004",
-    "010000000200000001",
-    "81cc5b17018674b401b42f35ba07bb79e211239c23bffe658da1577e3e646877",
-);
+const TRANSFER: &str = "
+    enable true => true, NotInitiated, no goal, marks, runs 3 of 0 0 ba7816bf
+    initiate 4  => true, Initiated, goal 4 of 2 1 81cc5b17, marks, runs 3 of 0 0 ba7816bf
+    block 0 bb  => true, Initiated, goal 4 of 2 1 81cc5b17, marks 0, runs 3 of 0 0 ba7816bf
+    block 1 bb  => true, Initiated, goal 4 of 2 1 81cc5b17, marks 0 1, runs 3 of 0 0 ba7816bf
+    runs abc    => true, Initiated, goal 4 of 2 1 81cc5b17, marks 0 1, runs 3 of 0 0 ba7816bf
+    verify      => true, VerificationSuccessful, goal 4 of 2 1 81cc5b17, marks 0 1, runs 3 of 0 0 ba7816bf
+    runs abc    => true, VerificationSuccessful, goal 4 of 2 1 81cc5b17, marks 0 1, runs 3 of 0 0 ba7816bf
+    activate    => true, ActivationSuccessful, no goal, marks, runs 4 of 2 1 81cc5b17
+    runs bbbb   => true, ActivationSuccessful, no goal, marks, runs 4 of 2 1 81cc5b17
+";
 
 /// The header and the slots before the switch and after it.
-const STORED: &[Row] = &[
-    (Call::Enable(true), None, ENABLED),
-    (Call::Initiate(4), None, NO_BLOCK),
-    (Call::Block(1, b"bb"), None, BLOCK_1),
-    (Call::Block(0, b"bb"), None, BOTH_BLOCKS),
-    (Call::Verify, None, VERIFIED),
-    (Call::Headed(VERIFIED_HEADER), None, VERIFIED),
-    (Call::Activate, None, SWITCHED),
-    (Call::Headed(SWITCHED_HEADER), None, SWITCHED),
-    (Call::Holds(Slot::First, b"abc\0\0"), None, SWITCHED),
-    (Call::Holds(Slot::Second, b"bbbb\0"), None, SWITCHED),
-];
+const STORED: &str = "
+    enable true             => true, NotInitiated, no goal, marks, runs 3 of 0 0 ba7816bf
+    initiate 4              => true, Initiated, goal 4 of 2 1 81cc5b17, marks, runs 3 of 0 0 ba7816bf
+    block 1 bb              => true, Initiated, goal 4 of 2 1 81cc5b17, marks 1, runs 3 of 0 0 ba7816bf
+    block 0 bb              => true, Initiated, goal 4 of 2 1 81cc5b17, marks 0 1, runs 3 of 0 0 ba7816bf
+    verify                  => true, VerificationSuccessful, goal 4 of 2 1 81cc5b17, marks 0 1, runs 3 of 0 0 ba7816bf
+    headed verified         => true, VerificationSuccessful, goal 4 of 2 1 81cc5b17, marks 0 1, runs 3 of 0 0 ba7816bf
+    activate                => true, ActivationSuccessful, no goal, marks, runs 4 of 2 1 81cc5b17
+    headed switched         => true, ActivationSuccessful, no goal, marks, runs 4 of 2 1 81cc5b17
+    holds first 6162630000  => true, ActivationSuccessful, no goal, marks, runs 4 of 2 1 81cc5b17
+    holds second 6262626200 => true, ActivationSuccessful, no goal, marks, runs 4 of 2 1 81cc5b17
+";
 
 /// After the marks the header has the release of the image that runs, and that of the goal. Its names have none.
-const RELEASES: &[Row] = &[
-    (Call::Enable(true), None, ENABLED),
-    (Call::InitiateRelease(5, 4), None, RELEASE_5),
-    (Call::Headed(RELEASE_5_HEADER), None, RELEASE_5),
-    (Call::Block(0, b"bb"), None, RELEASE_5_BLOCK_0),
-    (Call::Block(1, b"bb"), None, RELEASE_5_BLOCKS),
-    (Call::Verify, None, RELEASE_5_VERIFIED),
-    (Call::Activate, None, RELEASE_5_RUNS),
-    (Call::Headed(RELEASE_5_RUNS_HEADER), None, RELEASE_5_RUNS),
-    (
-        Call::InitiateRelease(4, 4),
-        Some(Refusal::BadInitiate),
-        RELEASE_5_RUNS,
-    ),
-    (Call::InitiateRelease(6, 4), None, RELEASE_6),
-    (Call::Headed(RELEASE_6_HEADER), None, RELEASE_6),
-];
-
-const RELEASE_5: &str =
-    "true, Initiated, goal 4 of 2 1 release 5 81cc5b17, marks, runs 3 of 0 0 ba7816bf";
-
-const RELEASE_5_BLOCK_0: &str =
-    "true, Initiated, goal 4 of 2 1 release 5 81cc5b17, marks 0, runs 3 of 0 0 ba7816bf";
-
-const RELEASE_5_BLOCKS: &str =
-    "true, Initiated, goal 4 of 2 1 release 5 81cc5b17, marks 0 1, runs 3 of 0 0 ba7816bf";
-
-const RELEASE_5_VERIFIED: &str =
-    "true, VerificationSuccessful, goal 4 of 2 1 release 5 81cc5b17, marks 0 1, runs 3 of 0 0 ba7816bf";
-
-const RELEASE_5_RUNS: &str =
-    "true, ActivationSuccessful, no goal, marks, runs 4 of 2 1 release 5 81cc5b17";
-
-const RELEASE_6: &str =
-    "true, Initiated, goal 4 of 2 1 release 6 81cc5b17, marks, runs 4 of 2 1 release 5 81cc5b17";
-
-const RELEASE_5_HEADER: &str = concat!(
-    "46574832",
-    "01000101",
-    "00000002",
-    "00000003",
-    "010000000000000000",
-    "ba7816bf8f01cfea414140de5dae2223b00361a396177a9cb410ff61f20015ad",
-    "00000004",
-    "010000000200000001",
-    "81cc5b17018674b401b42f35ba07bb79e211239c23bffe658da1577e3e646877",
-    " 0000000000000005",
-);
-
-const RELEASE_5_RUNS_HEADER: &str = concat!(
-    "46574832",
-    "01010600",
-    "00000002",
-    "00000004",
-    "010000000200000001",
-    "81cc5b17018674b401b42f35ba07bb79e211239c23bffe658da1577e3e646877",
-    " 0000000500000000",
-);
-
-const RELEASE_6_HEADER: &str = concat!(
-    "46574832",
-    "01010101",
-    "00000002",
-    "00000004",
-    "010000000200000001",
-    "81cc5b17018674b401b42f35ba07bb79e211239c23bffe658da1577e3e646877",
-    "00000004",
-    "010000000200000001",
-    "81cc5b17018674b401b42f35ba07bb79e211239c23bffe658da1577e3e646877",
-    " 0000000500000006",
-);
+const RELEASES: &str = "
+    enable true           => true, NotInitiated, no goal, marks, runs 3 of 0 0 ba7816bf
+    initiate-release 5 4  => true, Initiated, goal 4 of 2 1 release 5 81cc5b17, marks, runs 3 of 0 0 ba7816bf
+    headed release-5      => true, Initiated, goal 4 of 2 1 release 5 81cc5b17, marks, runs 3 of 0 0 ba7816bf
+    block 0 bb            => true, Initiated, goal 4 of 2 1 release 5 81cc5b17, marks 0, runs 3 of 0 0 ba7816bf
+    block 1 bb            => true, Initiated, goal 4 of 2 1 release 5 81cc5b17, marks 0 1, runs 3 of 0 0 ba7816bf
+    verify                => true, VerificationSuccessful, goal 4 of 2 1 release 5 81cc5b17, marks 0 1, runs 3 of 0 0 ba7816bf
+    activate              => true, ActivationSuccessful, no goal, marks, runs 4 of 2 1 release 5 81cc5b17
+    headed release-5-runs => true, ActivationSuccessful, no goal, marks, runs 4 of 2 1 release 5 81cc5b17
+    initiate-release 4 4  => BadInitiate: true, ActivationSuccessful, no goal, marks, runs 4 of 2 1 release 5 81cc5b17
+    initiate-release 6 4  => true, Initiated, goal 4 of 2 1 release 6 81cc5b17, marks, runs 4 of 2 1 release 5 81cc5b17
+    headed release-6      => true, Initiated, goal 4 of 2 1 release 6 81cc5b17, marks, runs 4 of 2 1 release 5 81cc5b17
+";
 
 /// A block of another image is among the blocks.
-const LATE_BLOCK: &[Row] = &[
-    (Call::Enable(true), None, ENABLED),
-    (Call::Initiate(4), None, NO_BLOCK),
-    (Call::Block(0, b"bb"), None, BLOCK_0),
-    (Call::Block(1, b"aa"), None, BOTH_BLOCKS),
-    (Call::Verify, Some(Refusal::Differs), SPOILT),
-    (Call::Runs(b"abc"), None, SPOILT),
-    (Call::Initiate(4), None, NO_BLOCK),
-];
+const LATE_BLOCK: &str = "
+    enable true => true, NotInitiated, no goal, marks, runs 3 of 0 0 ba7816bf
+    initiate 4  => true, Initiated, goal 4 of 2 1 81cc5b17, marks, runs 3 of 0 0 ba7816bf
+    block 0 bb  => true, Initiated, goal 4 of 2 1 81cc5b17, marks 0, runs 3 of 0 0 ba7816bf
+    block 1 aa  => true, Initiated, goal 4 of 2 1 81cc5b17, marks 0 1, runs 3 of 0 0 ba7816bf
+    verify      => Differs: true, VerificationFailed, goal 4 of 2 1 81cc5b17, marks 0 1, runs 3 of 0 0 ba7816bf
+    runs abc    => true, VerificationFailed, goal 4 of 2 1 81cc5b17, marks 0 1, runs 3 of 0 0 ba7816bf
+    initiate 4  => true, Initiated, goal 4 of 2 1 81cc5b17, marks, runs 3 of 0 0 ba7816bf
+";
 
 /// The last bytes of a block stay, also where it was marked before, and a short last block is taken.
-const AGAIN: &[Row] = &[
-    (Call::Enable(true), None, ENABLED),
-    (Call::Initiate(4), None, NO_BLOCK),
-    (Call::Block(0, b"aa"), None, BLOCK_0),
-    (Call::Block(0, b"bb"), None, BLOCK_0),
-    (Call::Holds(Slot::Second, b"bb\0\0"), None, BLOCK_0),
-    (Call::Initiate(3), None, THREE),
-    (Call::Block(1, b"x"), None, THREE_BLOCK_1),
-    (Call::Holds(Slot::Second, b"bbx\0"), None, THREE_BLOCK_1),
-];
-
-const THREE: &str = "true, Initiated, goal 3 of 2 1 81cc5b17, marks, runs 3 of 0 0 ba7816bf";
-
-const THREE_BLOCK_1: &str =
-    "true, Initiated, goal 3 of 2 1 81cc5b17, marks 1, runs 3 of 0 0 ba7816bf";
+const AGAIN: &str = "
+    enable true           => true, NotInitiated, no goal, marks, runs 3 of 0 0 ba7816bf
+    initiate 4            => true, Initiated, goal 4 of 2 1 81cc5b17, marks, runs 3 of 0 0 ba7816bf
+    block 0 aa            => true, Initiated, goal 4 of 2 1 81cc5b17, marks 0, runs 3 of 0 0 ba7816bf
+    block 0 bb            => true, Initiated, goal 4 of 2 1 81cc5b17, marks 0, runs 3 of 0 0 ba7816bf
+    holds second 62620000 => true, Initiated, goal 4 of 2 1 81cc5b17, marks 0, runs 3 of 0 0 ba7816bf
+    initiate 3            => true, Initiated, goal 3 of 2 1 81cc5b17, marks, runs 3 of 0 0 ba7816bf
+    block 1 x             => true, Initiated, goal 3 of 2 1 81cc5b17, marks 1, runs 3 of 0 0 ba7816bf
+    holds second 62627800 => true, Initiated, goal 3 of 2 1 81cc5b17, marks 1, runs 3 of 0 0 ba7816bf
+";
 
 /// The blocks that a meter shows in each status, of none at first, of three, and of two again; and how many bytes were verified.
-const BLOCKS: &[Row] = &[
-    (Call::Enable(true), None, ENABLED),
-    (Call::Blocks(2, 0, 0, b""), None, ENABLED),
-    (Call::Initiate(5), None, FIVE),
-    (Call::Blocks(2, 3, 0, b"\x00"), None, FIVE),
-    (Call::Block(0, b"bb"), None, FIVE_BLOCK_0),
-    (Call::Block(2, b"b"), None, FIVE_BLOCKS_0_2),
-    (Call::Blocks(2, 3, 1, b"\xa0"), None, FIVE_BLOCKS_0_2),
-    (Call::Block(1, b"bb"), None, FIVE_BLOCKS),
-    (Call::Blocks(2, 3, 3, b"\xe0"), None, FIVE_BLOCKS),
-    (Call::Verified(0), None, FIVE_BLOCKS),
-    (Call::Verify, Some(Refusal::Differs), FIVE_SPOILT),
-    (Call::Blocks(2, 3, 3, b"\xe0"), None, FIVE_SPOILT),
-    (Call::Initiate(4), None, NO_BLOCK),
-    (Call::Blocks(2, 2, 0, b"\x00"), None, NO_BLOCK),
-    (Call::Block(1, b"bb"), None, BLOCK_1),
-    (Call::Blocks(2, 2, 0, b"\x40"), None, BLOCK_1),
-    (Call::Block(0, b"bb"), None, BOTH_BLOCKS),
-    (Call::Verify, None, VERIFIED),
-    (Call::Blocks(2, 2, 2, b"\xc0"), None, VERIFIED),
-    (Call::Verified(4), None, VERIFIED),
-    (Call::Activate, None, SWITCHED),
-    (Call::Blocks(2, 0, 0, b""), None, SWITCHED),
-    (Call::Verified(0), None, SWITCHED),
-];
-
-const FIVE: &str = "true, Initiated, goal 5 of 2 1 81cc5b17, marks, runs 3 of 0 0 ba7816bf";
-
-const FIVE_BLOCK_0: &str =
-    "true, Initiated, goal 5 of 2 1 81cc5b17, marks 0, runs 3 of 0 0 ba7816bf";
-
-const FIVE_BLOCKS_0_2: &str =
-    "true, Initiated, goal 5 of 2 1 81cc5b17, marks 0 2, runs 3 of 0 0 ba7816bf";
-
-const FIVE_BLOCKS: &str =
-    "true, Initiated, goal 5 of 2 1 81cc5b17, marks 0 1 2, runs 3 of 0 0 ba7816bf";
-
-const FIVE_SPOILT: &str =
-    "true, VerificationFailed, goal 5 of 2 1 81cc5b17, marks 0 1 2, runs 3 of 0 0 ba7816bf";
+const BLOCKS: &str = "
+    enable true     => true, NotInitiated, no goal, marks, runs 3 of 0 0 ba7816bf
+    blocks 2 0 0    => true, NotInitiated, no goal, marks, runs 3 of 0 0 ba7816bf
+    initiate 5      => true, Initiated, goal 5 of 2 1 81cc5b17, marks, runs 3 of 0 0 ba7816bf
+    blocks 2 3 0 00 => true, Initiated, goal 5 of 2 1 81cc5b17, marks, runs 3 of 0 0 ba7816bf
+    block 0 bb      => true, Initiated, goal 5 of 2 1 81cc5b17, marks 0, runs 3 of 0 0 ba7816bf
+    block 2 b       => true, Initiated, goal 5 of 2 1 81cc5b17, marks 0 2, runs 3 of 0 0 ba7816bf
+    blocks 2 3 1 a0 => true, Initiated, goal 5 of 2 1 81cc5b17, marks 0 2, runs 3 of 0 0 ba7816bf
+    block 1 bb      => true, Initiated, goal 5 of 2 1 81cc5b17, marks 0 1 2, runs 3 of 0 0 ba7816bf
+    blocks 2 3 3 e0 => true, Initiated, goal 5 of 2 1 81cc5b17, marks 0 1 2, runs 3 of 0 0 ba7816bf
+    verified 0      => true, Initiated, goal 5 of 2 1 81cc5b17, marks 0 1 2, runs 3 of 0 0 ba7816bf
+    verify          => Differs: true, VerificationFailed, goal 5 of 2 1 81cc5b17, marks 0 1 2, runs 3 of 0 0 ba7816bf
+    blocks 2 3 3 e0 => true, VerificationFailed, goal 5 of 2 1 81cc5b17, marks 0 1 2, runs 3 of 0 0 ba7816bf
+    initiate 4      => true, Initiated, goal 4 of 2 1 81cc5b17, marks, runs 3 of 0 0 ba7816bf
+    blocks 2 2 0 00 => true, Initiated, goal 4 of 2 1 81cc5b17, marks, runs 3 of 0 0 ba7816bf
+    block 1 bb      => true, Initiated, goal 4 of 2 1 81cc5b17, marks 1, runs 3 of 0 0 ba7816bf
+    blocks 2 2 0 40 => true, Initiated, goal 4 of 2 1 81cc5b17, marks 1, runs 3 of 0 0 ba7816bf
+    block 0 bb      => true, Initiated, goal 4 of 2 1 81cc5b17, marks 0 1, runs 3 of 0 0 ba7816bf
+    verify          => true, VerificationSuccessful, goal 4 of 2 1 81cc5b17, marks 0 1, runs 3 of 0 0 ba7816bf
+    blocks 2 2 2 c0 => true, VerificationSuccessful, goal 4 of 2 1 81cc5b17, marks 0 1, runs 3 of 0 0 ba7816bf
+    verified 4      => true, VerificationSuccessful, goal 4 of 2 1 81cc5b17, marks 0 1, runs 3 of 0 0 ba7816bf
+    activate        => true, ActivationSuccessful, no goal, marks, runs 4 of 2 1 81cc5b17
+    blocks 2 0 0    => true, ActivationSuccessful, no goal, marks, runs 4 of 2 1 81cc5b17
+    verified 0      => true, ActivationSuccessful, no goal, marks, runs 4 of 2 1 81cc5b17
+";
 
 /// An image can be initiated in each status, and the next one goes into the slot that the switch has freed.
-const BEGUN_AGAIN: &[Row] = &[
-    (Call::Initiate(4), None, NO_BLOCK),
-    (Call::Block(0, b"bb"), None, BLOCK_0),
-    (Call::Initiate(4), None, NO_BLOCK),
-    (Call::Block(1, b"bb"), None, BLOCK_1),
-    (Call::Block(0, b"bb"), None, BOTH_BLOCKS),
-    (Call::Verify, None, VERIFIED),
-    (Call::Activate, None, SWITCHED),
-    (Call::Initiate(4), None, NEXT),
-    (Call::Block(0, b"cd"), None, NEXT_BLOCK_0),
-    (Call::Holds(Slot::First, b"cdc\0"), None, NEXT_BLOCK_0),
-    (Call::Initiate(4), None, NEXT),
-    (Call::Runs(b"bbbb"), None, NEXT),
-];
-
-const BLOCK_1: &str = "true, Initiated, goal 4 of 2 1 81cc5b17, marks 1, runs 3 of 0 0 ba7816bf";
-
-const NEXT: &str = "true, Initiated, goal 4 of 2 1 81cc5b17, marks, runs 4 of 2 1 81cc5b17";
-
-const NEXT_BLOCK_0: &str =
-    "true, Initiated, goal 4 of 2 1 81cc5b17, marks 0, runs 4 of 2 1 81cc5b17";
+const BEGUN_AGAIN: &str = "
+    initiate 4           => true, Initiated, goal 4 of 2 1 81cc5b17, marks, runs 3 of 0 0 ba7816bf
+    block 0 bb           => true, Initiated, goal 4 of 2 1 81cc5b17, marks 0, runs 3 of 0 0 ba7816bf
+    initiate 4           => true, Initiated, goal 4 of 2 1 81cc5b17, marks, runs 3 of 0 0 ba7816bf
+    block 1 bb           => true, Initiated, goal 4 of 2 1 81cc5b17, marks 1, runs 3 of 0 0 ba7816bf
+    block 0 bb           => true, Initiated, goal 4 of 2 1 81cc5b17, marks 0 1, runs 3 of 0 0 ba7816bf
+    verify               => true, VerificationSuccessful, goal 4 of 2 1 81cc5b17, marks 0 1, runs 3 of 0 0 ba7816bf
+    activate             => true, ActivationSuccessful, no goal, marks, runs 4 of 2 1 81cc5b17
+    initiate 4           => true, Initiated, goal 4 of 2 1 81cc5b17, marks, runs 4 of 2 1 81cc5b17
+    block 0 cd           => true, Initiated, goal 4 of 2 1 81cc5b17, marks 0, runs 4 of 2 1 81cc5b17
+    holds first 63646300 => true, Initiated, goal 4 of 2 1 81cc5b17, marks 0, runs 4 of 2 1 81cc5b17
+    initiate 4           => true, Initiated, goal 4 of 2 1 81cc5b17, marks, runs 4 of 2 1 81cc5b17
+    runs bbbb            => true, Initiated, goal 4 of 2 1 81cc5b17, marks, runs 4 of 2 1 81cc5b17
+";
 
 /// An old meter admits 4,096 blocks, of 8,192 bytes, and writes headers of version 1. Once it is opened again it admits more.
-const OLD: &[Row] = &[
-    (Call::Limited(4_096), None, NEW),
-    (Call::Enable(true), None, ENABLED),
-    (Call::Headed(OLD_HEADER), None, ENABLED),
-    (Call::Initiate(8_193), Some(Refusal::BadInitiate), ENABLED),
-    (Call::Initiate(8_192), None, MOST),
-    (Call::Reopen, None, MOST),
-    (Call::Limited(16_384), None, MOST),
-    (Call::Initiate(8_193), None, ONE_MORE),
-];
-
-const NEW: &str = "false, NotInitiated, no goal, marks, runs 3 of 0 0 ba7816bf";
-
-const MOST: &str = "true, Initiated, goal 8192 of 2 1 81cc5b17, marks, runs 3 of 0 0 ba7816bf";
-
-const ONE_MORE: &str = "true, Initiated, goal 8193 of 2 1 81cc5b17, marks, runs 3 of 0 0 ba7816bf";
-
-const OLD_HEADER: &str = concat!(
-    "46574831",
-    "01000000",
-    "00000002",
-    "00000003",
-    "010000000000000000",
-    "ba7816bf8f01cfea414140de5dae2223b00361a396177a9cb410ff61f20015ad",
-);
+const OLD: &str = "
+    limited 4096  => false, NotInitiated, no goal, marks, runs 3 of 0 0 ba7816bf
+    enable true   => true, NotInitiated, no goal, marks, runs 3 of 0 0 ba7816bf
+    headed old    => true, NotInitiated, no goal, marks, runs 3 of 0 0 ba7816bf
+    initiate 8193 => BadInitiate: true, NotInitiated, no goal, marks, runs 3 of 0 0 ba7816bf
+    initiate 8192 => true, Initiated, goal 8192 of 2 1 81cc5b17, marks, runs 3 of 0 0 ba7816bf
+    reopen        => true, Initiated, goal 8192 of 2 1 81cc5b17, marks, runs 3 of 0 0 ba7816bf
+    limited 16384 => true, Initiated, goal 8192 of 2 1 81cc5b17, marks, runs 3 of 0 0 ba7816bf
+    initiate 8193 => true, Initiated, goal 8193 of 2 1 81cc5b17, marks, runs 3 of 0 0 ba7816bf
+";
 
 /// To open a verified one takes four calls of its store, of which the last one writes the header. It has all else as before.
-const OLD_VERIFIED: &[Row] = &[
-    (Call::StopInReopen(3), None, VERIFIED),
-    (Call::Limited(4_096), None, VERIFIED),
-    (Call::StopInReopen(4), None, VERIFIED),
-    (Call::Limited(16_384), None, VERIFIED),
-    (Call::Headed(VERIFIED_HEADER), None, VERIFIED),
-    (Call::StopInReopen(3), None, VERIFIED),
-    (Call::Limited(16_384), None, VERIFIED),
-    (Call::Activate, None, SWITCHED),
-    (Call::Headed(SWITCHED_HEADER), None, SWITCHED),
-];
+const OLD_VERIFIED: &str = "
+    stop-in-reopen 3 => true, VerificationSuccessful, goal 4 of 2 1 81cc5b17, marks 0 1, runs 3 of 0 0 ba7816bf
+    limited 4096     => true, VerificationSuccessful, goal 4 of 2 1 81cc5b17, marks 0 1, runs 3 of 0 0 ba7816bf
+    stop-in-reopen 4 => true, VerificationSuccessful, goal 4 of 2 1 81cc5b17, marks 0 1, runs 3 of 0 0 ba7816bf
+    limited 16384    => true, VerificationSuccessful, goal 4 of 2 1 81cc5b17, marks 0 1, runs 3 of 0 0 ba7816bf
+    headed verified  => true, VerificationSuccessful, goal 4 of 2 1 81cc5b17, marks 0 1, runs 3 of 0 0 ba7816bf
+    stop-in-reopen 3 => true, VerificationSuccessful, goal 4 of 2 1 81cc5b17, marks 0 1, runs 3 of 0 0 ba7816bf
+    limited 16384    => true, VerificationSuccessful, goal 4 of 2 1 81cc5b17, marks 0 1, runs 3 of 0 0 ba7816bf
+    activate         => true, ActivationSuccessful, no goal, marks, runs 4 of 2 1 81cc5b17
+    headed switched  => true, ActivationSuccessful, no goal, marks, runs 4 of 2 1 81cc5b17
+";
 
 #[test]
 fn each_transfer(rt: HostRuntime) -> Result<(), Fail> {
-    let sessions: &[&[&[Row]]] = &[
+    let sessions: &[&[&str]] = &[
         &[TRANSFER],
         &[STORED],
         &[LATE_BLOCK],

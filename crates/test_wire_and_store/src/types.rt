@@ -1,15 +1,12 @@
 //! Calls of a transfer whose type is its status.
 
 use crate::fresh::new_meter;
-use crate::session::{BLOCK_0, ENABLED, NO_BLOCK, Trial, bbbb, opened, sight};
+use crate::session::{Trial, bbbb, opened, sight};
 use fw_image::{Idle, MeterView, Phase, Receiving, Refusal};
 use fw_store::MemoryStore;
 use std::alloc::Global;
 use std::test::Fail;
-use test_support::{Case, each};
-
-/// What is seen of a new meter that runs `abc`.
-const NEW: &str = "false, NotInitiated, no goal, marks, runs 3 of 0 0 ba7816bf";
+use test_tables::{Reads, Words, each_line};
 
 /// The transfer of a new meter.
 fn idle(alloc: Global) -> Result<Idle<MemoryStore>, Fail> {
@@ -66,56 +63,40 @@ fn in_vain(transfer: Idle<MemoryStore>, size: u32) -> Result<(Refusal, MeterView
     }
 }
 
-/// A transfer: the refusal of its last call, if there is one, and what is seen.
-enum Transfer {
-    New,
-    Enabled,
-    NotDisabled,
-    /// While it is disabled.
-    NotInitiated(u32),
-    /// Once it is enabled.
-    NotEvenThen(u32),
-    Begun,
-    WithBlock,
-    BegunAgain,
-    /// Its store is opened in the status of that transfer.
-    Opened,
-}
+/// A transfer by what has come of it: the refusal of its last call, if there is one, and what is seen. `not-initiated SIZE` is while it is
+/// disabled, `not-even-then SIZE` once it is enabled, and `opened` has its store opened in the status of that transfer.
+#[derive(Clone, Copy)]
+struct Transfer;
 
-impl Case for Transfer {
-    fn told(&self, alloc: Global) -> Result<String, Fail> {
-        match refused(alloc, self)? {
-            Some((refusal, view)) => refused_text(alloc, refusal, &view),
-            None => seen_text(alloc, self),
-        }
+impl Reads for Transfer {
+    fn told(&mut self, alloc: Global, what: &str) -> Result<String, Fail> {
+        let mut words = Words::new(what);
+        let (refusal, view) = match words.word()? {
+            "not-disabled" => not_disabled(alloc)?,
+            "not-initiated" => in_vain(idle(alloc)?, words.number()?)?,
+            "not-even-then" => in_vain(enabled(alloc)?, words.number()?)?,
+            "compared" => return compared_text(alloc, &begun(alloc)?),
+            word => return seen_text(alloc, word),
+        };
+        refused_text(alloc, refusal, &view)
     }
 }
 
-/// The refusal of a transfer's last call and what is seen, of one whose last call is refused.
-fn refused(alloc: Global, transfer: &Transfer) -> Result<Option<(Refusal, MeterView)>, Fail> {
-    Ok(Some(match transfer {
-        Transfer::NotDisabled => not_disabled(alloc)?,
-        Transfer::NotInitiated(size) => in_vain(idle(alloc)?, *size)?,
-        Transfer::NotEvenThen(size) => in_vain(enabled(alloc)?, *size)?,
-        _ => return Ok(None),
-    }))
-}
-
-fn seen_text(alloc: Global, transfer: &Transfer) -> Result<String, Fail> {
-    let trial = Trial::of(reached(alloc, transfer)?);
+fn seen_text(alloc: Global, name: &str) -> Result<String, Fail> {
+    let trial = Trial::of(reached(alloc, name)?);
     trial.sight(alloc)
 }
 
 /// The meter of a transfer whose last call is done.
-fn reached(alloc: Global, transfer: &Transfer) -> Result<Phase<MemoryStore>, Fail> {
-    match transfer {
-        Transfer::New => Ok(Phase::Idle(idle(alloc)?)),
-        Transfer::Enabled => Ok(Phase::Idle(enabled(alloc)?)),
-        Transfer::Begun => Ok(Phase::Receiving(begun(alloc)?)),
-        Transfer::WithBlock => Ok(Phase::Receiving(with_block(alloc)?)),
-        Transfer::BegunAgain => Ok(Phase::Receiving(begun_again(alloc)?)),
-        Transfer::Opened => opened(with_block(alloc)?.into_store()),
-        _ => Err("its last call is refused".into()),
+fn reached(alloc: Global, name: &str) -> Result<Phase<MemoryStore>, Fail> {
+    match name {
+        "new" => Ok(Phase::Idle(idle(alloc)?)),
+        "enabled" => Ok(Phase::Idle(enabled(alloc)?)),
+        "begun" => Ok(Phase::Receiving(begun(alloc)?)),
+        "with-block" => Ok(Phase::Receiving(with_block(alloc)?)),
+        "begun-again" => Ok(Phase::Receiving(begun_again(alloc)?)),
+        "opened" => opened(with_block(alloc)?.into_store()),
+        _ => Err("no transfer has this name".into()),
     }
 }
 
@@ -124,35 +105,19 @@ fn refused_text(alloc: Global, refusal: Refusal, view: &MeterView) -> Result<Str
     Ok(format!(in alloc; "{refusal:?}: {seen}")?)
 }
 
-const TRANSFERS: &[(Transfer, &str)] = &[
-    (Transfer::New, NEW),
-    (Transfer::Enabled, ENABLED),
-    (
-        Transfer::NotDisabled,
-        "Fault: true, NotInitiated, no goal, marks, runs 3 of 0 0 ba7816bf",
-    ),
-    (
-        Transfer::NotInitiated(4),
-        "Disabled: false, NotInitiated, no goal, marks, runs 3 of 0 0 ba7816bf",
-    ),
-    (
-        Transfer::NotEvenThen(0),
-        "BadInitiate: true, NotInitiated, no goal, marks, runs 3 of 0 0 ba7816bf",
-    ),
-    (Transfer::Begun, NO_BLOCK),
-    (Transfer::WithBlock, BLOCK_0),
-    (Transfer::BegunAgain, NO_BLOCK),
-    (Transfer::Opened, BLOCK_0),
-];
-
-/// Whether two transfers that receive the same image are the same, and whether they are once one has a block.
-struct Compared;
-
-impl Case for Compared {
-    fn told(&self, alloc: Global) -> Result<String, Fail> {
-        compared_text(alloc, &begun(alloc)?)
-    }
-}
+const TRANSFERS: &str = "
+    new             => false, NotInitiated, no goal, marks, runs 3 of 0 0 ba7816bf
+    enabled         => true, NotInitiated, no goal, marks, runs 3 of 0 0 ba7816bf
+    not-disabled    => Fault: true, NotInitiated, no goal, marks, runs 3 of 0 0 ba7816bf
+    not-initiated 4 => Disabled: false, NotInitiated, no goal, marks, runs 3 of 0 0 ba7816bf
+    not-even-then 0 => BadInitiate: true, NotInitiated, no goal, marks, runs 3 of 0 0 ba7816bf
+    begun           => true, Initiated, goal 4 of 2 1 81cc5b17, marks, runs 3 of 0 0 ba7816bf
+    with-block      => true, Initiated, goal 4 of 2 1 81cc5b17, marks 0, runs 3 of 0 0 ba7816bf
+    begun-again     => true, Initiated, goal 4 of 2 1 81cc5b17, marks, runs 3 of 0 0 ba7816bf
+    opened          => true, Initiated, goal 4 of 2 1 81cc5b17, marks 0, runs 3 of 0 0 ba7816bf
+    // whether two transfers that receive the same image are the same, and whether they are once one has a block
+    compared => true false
+";
 
 fn compared_text(alloc: Global, one: &Receiving<MemoryStore>) -> Result<String, Fail> {
     let before = is_like(one, begun(alloc))?;
@@ -169,6 +134,5 @@ fn is_like(
 
 #[test]
 fn by_its_type(rt: HostRuntime) -> Result<(), Fail> {
-    each(rt.alloc(), TRANSFERS)?;
-    each(rt.alloc(), &[(Compared, "true false")])
+    each_line(rt.alloc(), &mut Transfer, TRANSFERS)
 }

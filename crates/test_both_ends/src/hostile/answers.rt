@@ -1,18 +1,19 @@
 //! Answers to a head end, each cut short at each byte. It hears nothing in them, and each is still awaited after them.
 
-use crate::hostile::campaign::{ALL, events, head, meter, setup};
+use crate::hostile::campaign::{ALL, events, world_of};
 use crate::hostile::support::{expect_tried, failed};
 use fw_blocks::Width;
 use fw_head::{HeadCore, News, Phase};
-use fw_world::{Datagram, Direction, Event, World, run};
+use fw_world::{Datagram, Direction, Event};
 use fw_wrapper::join;
 use std::alloc::Global;
 use std::test::Fail;
-use test_support::Kept;
+use test_support::{SMALL, head, meter, setup_of};
+use test_tables::Kept;
 
 /// The phase of the row of the meter, and how often it returned to its start; none where it isn't live.
 fn row(core: &HeadCore) -> Result<Option<(Phase, u32)>, Fail> {
-    let meter = meter()?;
+    let meter = meter(1)?;
     let mut view = core.view();
     let row = view.rows.find(|row| row.meter() == meter);
     Ok(row.map(|row| (row.phase(), u32::from(row.returns()))))
@@ -20,60 +21,52 @@ fn row(core: &HeadCore) -> Result<Option<(Phase, u32)>, Fail> {
 
 /// Whether something is heard in these bytes.
 fn hears(alloc: Global, core: &mut HeadCore, bytes: &[u8]) -> Result<bool, Fail> {
-    let news = core.hear(alloc, meter()?, bytes)?;
+    let news = core.hear(alloc, meter(1)?, bytes)?;
     Ok(!matches!(news, News::Nothing))
 }
 
-/// Nothing is heard in what an answer begins with, and the row stays.
-fn cut(alloc: Global, core: &mut HeadCore, answer: &[u8]) -> Result<usize, Fail> {
+/// An answer. Nothing is heard in what it begins with, and the row stays; then it comes whole.
+fn answered(alloc: Global, core: &mut HeadCore, answer: &[u8]) -> Result<usize, Fail> {
     let before = row(core)?;
     for count in 0..answer.len() {
         if hears(alloc, core, &answer[..count])? || row(core)? != before {
             return failed(alloc, "something was heard", count);
         }
     }
-    Ok(answer.len())
-}
-
-/// An answer: first what it begins with, and then whole.
-fn answered(alloc: Global, core: &mut HeadCore, answer: &[u8]) -> Result<usize, Fail> {
-    let tried = cut(alloc, core, answer)?;
     if !hears(alloc, core, answer)? {
-        return failed(alloc, "the answer wasn't heard", tried);
+        return failed(alloc, "the answer wasn't heard", answer.len());
     }
-    Ok(tried)
-}
-
-/// A datagram of the campaign, where it is an answer.
-fn delivered(alloc: Global, core: &mut HeadCore, datagram: &Datagram) -> Result<usize, Fail> {
-    match datagram.direction {
-        Direction::ToMeter => Ok(0),
-        Direction::ToHead => answered(alloc, core, &datagram.bytes),
-    }
-}
-
-/// An event of the campaign, as the head end has it.
-fn had(alloc: Global, core: &mut HeadCore, world: &World, event: &Event) -> Result<usize, Fail> {
-    match event {
-        Event::Tick(_, meter) => {
-            core.tick(alloc, *meter)?;
-            Ok(0)
-        }
-        Event::Deliver(number) => {
-            let datagram = world.sent().get(*number).ok_or("it was sent")?;
-            delivered(alloc, core, datagram)
-        }
-        _ => Ok(0),
-    }
+    Ok(answer.len())
 }
 
 /// A head end that sends up to `width` blocks at a time, and offers this image to the meter.
 fn opened(alloc: Global, width: u8, image: &[u8]) -> Result<Kept<HeadCore>, Fail> {
-    let meters = [meter()?];
     let width = Width::new(width).ok_or("a width")?;
-    let mut core = Kept(HeadCore::new(alloc, head()?, width));
-    core.0.open_campaign(alloc, 1, 0, image, &meters)?;
+    let mut core = Kept(HeadCore::new(alloc, head(7)?, width));
+    core.0.open_campaign(alloc, 1, 0, image, &[meter(1)?])?;
     Ok(core)
+}
+
+/// An event of the campaign in which these datagrams are sent, as the head end has it.
+fn had(
+    alloc: Global,
+    core: &mut HeadCore,
+    sent: &[Datagram],
+    event: &Event,
+) -> Result<usize, Fail> {
+    match event {
+        Event::Tick(_, meter) => {
+            core.tick(alloc, *meter)?;
+        }
+        Event::Deliver(number) => {
+            let datagram = sent.get(*number).ok_or("it was sent")?;
+            if datagram.direction == Direction::ToHead {
+                return answered(alloc, core, &datagram.bytes);
+            }
+        }
+        _ => (),
+    }
+    Ok(0)
 }
 
 /// The answers of the campaign have 17, 12, 13, 13, 13, 17, 13, 98, 13 and 55 bytes.
@@ -81,72 +74,56 @@ fn opened(alloc: Global, width: u8, image: &[u8]) -> Result<Kept<HeadCore>, Fail
 fn each_answer_cut_short(rt: HostRuntime) -> Result<(), Fail> {
     let alloc = rt.alloc();
     let events = events(alloc, ALL)?;
-    let tried = match run(alloc, &setup(alloc)?, &events) {
-        Ok(world) => had_all(alloc, &world, &events)?,
-        Err(_) => return Err("an event of the campaign is refused".into()),
-    };
+    let world = world_of(alloc, &setup_of(alloc, SMALL)?, &events)?;
+    let mut core = opened(alloc, 4, b"abc")?;
+    let mut tried = 0usize;
+    for event in &events {
+        tried = tried.saturating_add(had(alloc, &mut core.0, world.0.sent(), event)?);
+    }
     expect_tried(alloc, tried, 264)
 }
 
-/// All events of the campaign, as a head end has them.
-fn had_all(alloc: Global, world: &World, events: &[Event]) -> Result<usize, Fail> {
-    let mut core = opened(alloc, 4, b"abc")?;
-    let mut tried = 0usize;
-    for event in events {
-        tried = tried.saturating_add(had(alloc, &mut core.0, world, event)?);
-    }
-    Ok(tried)
-}
-
-/// What is answered to each tick, while a head end that sends three blocks at a time has sent six of them: the block size, and that all is
-/// done; then that block 1 is the first that is missing.
-const UP_TO_GAPS: &[&[&str]] = &[
-    &["c401c0000600000002"],
-    &["c501c100"],
-    &["c701c20000"],
-    &["c701c30000", "c701c40000", "c701c50000"],
-    &["c701c60000", "c701c70000", "c701c80000"],
-    &["c401c9000600000001"],
-];
+/// What is answered to each tick, a line each, while a head end that sends three blocks at a time has sent six of them: the block size, and
+/// that all is done; then that block 1 is the first that is missing.
+const UP_TO_GAPS: &str = "\
+c401c0000600000002
+c501c100
+c701c20000
+c701c30000 c701c40000 c701c50000
+c701c60000 c701c70000 c701c80000
+c401c9000600000001";
 
 /// Blocks 0, 2 and 4 of six are there; the others come; none is missing; and the image has another digest.
-const GAPS: &[&[&str]] = &[
-    &["c401ca000406a8"],
-    &["c701cb0000", "c701cc0000", "c701cd0000"],
-    &["c401ce000600000006"],
-    &["c701cffa00"],
-];
+const GAPS: &str = "\
+c401ca000406a8
+c701cb0000 c701cc0000 c701cd0000
+c401ce000600000006
+c701cffa00";
 
 /// The same blocks of five.
-const OTHER_COUNT: &[&[&str]] = &[&["c401ca000405a8"]];
+const OTHER_COUNT: &str = "c401ca000405a8";
 
-/// A head end ticks, and hears these answers.
-fn round(alloc: Global, core: &mut HeadCore, answers: &[&str]) -> Result<usize, Fail> {
-    core.tick(alloc, meter()?)?;
+/// A head end ticks, and hears these answers, a line each time.
+fn rounds(alloc: Global, core: &mut HeadCore, answers: &str) -> Result<usize, Fail> {
     let mut tried = 0usize;
-    for apdu in answers {
-        tried = tried.saturating_add(answered(alloc, core, &carried(alloc, apdu)?)?);
+    for line in answers.lines() {
+        core.tick(alloc, meter(1)?)?;
+        for apdu in line.split(' ') {
+            tried = tried.saturating_add(carried(alloc, core, apdu)?);
+        }
     }
     Ok(tried)
 }
 
-/// The datagram that carries an APDU.
-fn carried(alloc: Global, apdu: &str) -> Result<Vec<u8>, Fail> {
+/// An answer in a datagram.
+fn carried(alloc: Global, core: &mut HeadCore, apdu: &str) -> Result<usize, Fail> {
     let apdu = hex::decode(alloc, apdu)?;
-    Ok(join(alloc, 1, 1, &apdu)?)
-}
-
-/// The same for several ticks, each with its answers.
-fn rounds(alloc: Global, core: &mut HeadCore, part: &[&[&str]]) -> Result<usize, Fail> {
-    let mut tried = 0usize;
-    for answers in part {
-        tried = tried.saturating_add(round(alloc, core, answers)?);
-    }
-    Ok(tried)
+    let answer = join(alloc, 1, 1, &apdu)?;
+    answered(alloc, core, &answer)
 }
 
 /// A head end that offers an image of six blocks hears the answers up to the gaps, and then these.
-fn behind_gaps(alloc: Global, then: &[&[&str]]) -> Result<usize, Fail> {
+fn behind_gaps(alloc: Global, then: &str) -> Result<usize, Fail> {
     let mut core = opened(alloc, 3, b"abcdefghijkl")?;
     let tried = rounds(alloc, &mut core.0, UP_TO_GAPS)?;
     Ok(tried.saturating_add(rounds(alloc, &mut core.0, then)?))

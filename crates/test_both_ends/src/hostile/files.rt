@@ -2,14 +2,14 @@
 //! value: such a file is refused by a name, or the meter is opened as its header says, which is one of version 2 then.
 
 use crate::hostile::disk::Disk;
-use crate::hostile::support::{expect_tried, failed, opened, replies};
+use crate::hostile::support::{Count, Outcome, datagrams, expect_tried, failed, opened, replies};
 use fw_image::{MeterView, OpenError};
 use fw_meter::MeterCore;
 use fw_names::ImageName;
 use fw_store::{DeviceStore, FileStoreError, VERSION_TWO_SIZE};
 use std::alloc::Global;
 use std::test::Fail;
-use test_support::Kept;
+use test_tables::{Kept, Reads, each_line};
 
 /// Where the header of a file begins: after the capacity.
 const HEADER_AT: usize = 4;
@@ -91,15 +91,6 @@ fn shows(view: &MeterView, header: &[u8; VERSION_TWO_SIZE]) -> bool {
         && active_release.as_slice() == &header[614..618]
         && goal_release.as_slice() == &header[618..622]
         && more_marked == &header[622..]
-}
-
-/// What comes of a file.
-#[derive(Clone, Copy)]
-enum Outcome {
-    Opened,
-    BadFile,
-    BadHeader,
-    BadImage,
 }
 
 /// A meter was opened that shows what the header of its file says.
@@ -212,45 +203,62 @@ fn cut_at_each_length(rt: HostRuntime) -> Result<(), Fail> {
     Ok(())
 }
 
-/// How many files a meter was opened from, and how many were refused.
-#[derive(Clone, Copy, Debug, PartialEq, Eq)]
-struct Count {
-    opened: usize,
-    bad_file: usize,
-    bad_header: usize,
-    bad_image: usize,
+/// The file of a meter that runs `x` and receives `abc`, of which the second block is there, with eight bytes a slot. A row says what is
+/// turned: each byte that stands before the slots or is of a release, to each value, or each bit of the further marks of version 2.
+#[derive(Clone, Copy)]
+struct Turned {
+    /// Whether the file is made one with a header of version 1 before.
+    is_old: bool,
 }
 
-impl Count {
-    const NONE: Count = Count {
-        opened: 0,
-        bad_file: 0,
-        bad_header: 0,
-        bad_image: 0,
-    };
-
-    fn note(&mut self, outcome: Outcome) {
-        let number = match outcome {
-            Outcome::Opened => &mut self.opened,
-            Outcome::BadFile => &mut self.bad_file,
-            Outcome::BadHeader => &mut self.bad_header,
-            Outcome::BadImage => &mut self.bad_image,
-        };
-        *number = number.saturating_add(1);
-    }
-
-    fn all(&self) -> usize {
-        self.opened
-            .saturating_add(self.bad_file)
-            .saturating_add(self.bad_header)
-            .saturating_add(self.bad_image)
+impl Reads for Turned {
+    fn told(&mut self, alloc: Global, what: &str) -> Result<String, Fail> {
+        let file = receiving(alloc, self.is_old)?;
+        let mut count = Count::new();
+        match what {
+            "bytes" => {
+                turn_all(alloc, &file, 0, SLOTS_AT, false, &mut count)?;
+                turn_all(alloc, &file, 634, 642, false, &mut count)?;
+            }
+            "marks" => turn_all(alloc, &file, 642, file.len(), true, &mut count)?,
+            _ => return Err("bytes or marks are turned".into()),
+        }
+        count.told(alloc)
     }
 }
 
-/// What comes of a file with one byte turned to each value.
-fn turned(alloc: Global, file: &[u8], at: usize, count: &mut Count) -> Result<(), Fail> {
-    for value in 0..=255u8 {
-        count.note(judged_with(alloc, file, at, value)?);
+fn receiving(alloc: Global, is_old: bool) -> Result<Vec<u8>, Fail> {
+    let disk = new_file(alloc, 8)?;
+    let mut meter = Kept(opened(DeviceStore::reopen_on(disk.open()?)?)?);
+    replies(
+        alloc,
+        &mut meter.0,
+        &datagrams(alloc, "enable initiate block-1")?,
+    )?;
+    let mut file = disk.bytes(alloc)?;
+    if is_old {
+        file.truncate(642);
+        make_old(&mut file);
+    }
+    Ok(file)
+}
+
+/// Turns the bytes of a file from `start` on up to `end`, one at a time: each to each value, or each of their bits.
+fn turn_all(
+    alloc: Global,
+    file: &[u8],
+    start: usize,
+    end: usize,
+    is_by_bits: bool,
+    count: &mut Count,
+) -> Result<(), Fail> {
+    for at in start..end {
+        let whole = *file.get(at).ok_or("a byte of the file")?;
+        for turn in 0..=255u8 {
+            if !is_by_bits || turn.is_power_of_two() {
+                count.note(judged_with(alloc, file, at, whole ^ turn)?);
+            }
+        }
     }
     Ok(())
 }
@@ -262,99 +270,44 @@ fn judged_with(alloc: Global, file: &[u8], at: usize, value: u8) -> Result<Outco
     judged(alloc, &disk)
 }
 
-/// What comes of a file with one bit of a byte turned.
-fn bits_turned(alloc: Global, file: &[u8], at: usize, count: &mut Count) -> Result<(), Fail> {
-    let whole = *file.get(at).ok_or("a byte of the file")?;
-    for bit in 0..8u32 {
-        count.note(judged_with(alloc, file, at, whole ^ (1 << bit))?);
-    }
-    Ok(())
-}
-
-fn expect(alloc: Global, count: Count, want: Count) -> Result<(), Fail> {
-    expect_tried(alloc, count.all(), want.all())?;
-    if count != want {
-        let told = format!(in alloc; "{count:?} in place of {want:?}")?;
-        return Err(Fail::from(told));
-    }
-    Ok(())
-}
-
-/// Sets image_transfer_enabled to true; initiates `abc` of campaign 1 of head end 7; the second of its two blocks.
-const TO_RECEIVING: &[&str] = &[
-    "000100010001000fc101c1001200002c0000ff05000301",
-    "000100010001003fc301c1001200002c0000ff010102020929010000000700000001ba7816bf8f01cfea414140de5dae2223b00361a396177a9cb410ff61f20015ad0600000003",
-    "0001000100010017c301c1001200002c0000ff020102020600000001090163",
-];
-
-/// The file of a meter that runs `x` and receives `abc`, of which the second block is there, with eight bytes a slot.
-fn receiving(alloc: Global) -> Result<Vec<u8>, Fail> {
-    let disk = new_file(alloc, 8)?;
-    receive(alloc, &disk)?;
-    disk.bytes(alloc)
-}
-
-/// The meter in the file on a disk receives `abc`.
-fn receive(alloc: Global, disk: &Disk) -> Result<(), Fail> {
-    let mut meter = Kept(opened(DeviceStore::reopen_on(disk.open()?)?)?);
-    replies(alloc, &mut meter.0, TO_RECEIVING)?;
-    Ok(())
-}
-
 /// Of each of the 626 bytes that stand before the slots or are releases the value that it has opens the meter. Beside these a store can
 /// have: not enabled; a block size of 1; a goal of 4 to 8 bytes, which has a second block too; a goal in another campaign, whose two
 /// numbers are any except 0, with another digest, of any release, and with each other choice of its two marks. The image that runs isn't
 /// the name's in the other slot, with 2 to 8 bytes, or under another digest. With another capacity the file has another length than its
 /// store; with 776 bytes a slot it has that of one of version 1, as which it doesn't begin.
+const BYTES: &str = "
+    // Opened: 626 + 1 + 1 + 5 + 2 * (3 * 255 + 254) + 32 * 255 + 4 * 255 + 3. Bad files: 4 * 255 - 1. Bad images: 1 + 7 + 32 * 255.
+    // Of all 626 * 256 the others are bad headers.
+    bytes => opened 11854, bad file 1019, bad header 139215, bad image 8168
+";
+
 #[test]
 fn each_byte_turned(rt: HostRuntime) -> Result<(), Fail> {
-    let alloc = rt.alloc();
-    let file = receiving(alloc)?;
-    let mut count = Count::NONE;
-    for at in (0..SLOTS_AT).chain(634..642) {
-        turned(alloc, &file, at, &mut count)?;
-    }
-    let want = Count {
-        opened: 626 + 1 + 1 + 5 + 2 * (3 * 255 + 254) + 32 * 255 + 4 * 255 + 3,
-        bad_file: 4 * 255 - 1,
-        bad_header: 626 * 256 - 11_854 - 1_019 - 8_168,
-        bad_image: 1 + 7 + 32 * 255,
-    };
-    expect(alloc, count, want)
+    each_line(rt.alloc(), &mut Turned { is_old: false }, BYTES)
 }
 
 /// The 1,536 bytes after the releases are marks of blocks that the goal hasn't.
+const MARKS: &str = "
+    // Bad headers: 1,536 * 8.
+    marks => opened 0, bad file 0, bad header 12288, bad image 0
+";
+
 #[test]
 fn each_bit_of_the_further_marks_turned(rt: HostRuntime) -> Result<(), Fail> {
-    let alloc = rt.alloc();
-    let file = receiving(alloc)?;
-    let mut count = Count::NONE;
-    for at in 642..file.len() {
-        bits_turned(alloc, &file, at, &mut count)?;
-    }
-    let want = Count {
-        bad_header: 1_536 * 8,
-        ..Count::NONE
-    };
-    expect(alloc, count, want)
+    each_line(rt.alloc(), &mut Turned { is_old: false }, MARKS)
 }
 
 /// The same file with a header of version 1, as the first one here. With twelve bytes a slot it is one without releases.
+const BYTES_OF_AN_OLD_FILE: &str = "
+    // Opened: one more than above.
+    bytes => opened 11855, bad file 1019, bad header 139214, bad image 8168
+";
+
 #[test]
 fn each_byte_of_an_old_file_turned(rt: HostRuntime) -> Result<(), Fail> {
-    let alloc = rt.alloc();
-    let mut file = receiving(alloc)?;
-    file.truncate(642);
-    make_old(&mut file);
-    let mut count = Count::NONE;
-    for at in (0..SLOTS_AT).chain(634..642) {
-        turned(alloc, &file, at, &mut count)?;
-    }
-    let want = Count {
-        opened: 626 + 1 + 1 + 5 + 2 * (3 * 255 + 254) + 32 * 255 + 4 * 255 + 3 + 1,
-        bad_file: 4 * 255 - 1,
-        bad_header: 626 * 256 - 11_855 - 1_019 - 8_168,
-        bad_image: 1 + 7 + 32 * 255,
-    };
-    expect(alloc, count, want)
+    each_line(
+        rt.alloc(),
+        &mut Turned { is_old: true },
+        BYTES_OF_AN_OLD_FILE,
+    )
 }

@@ -2,112 +2,52 @@
 //! code 1, hardware-fault, and the meter is as before it, except for bytes of the block that is being written; or the operation is done.
 
 use crate::hostile::disk::{Disk, Takes};
-use crate::hostile::support::{self, expect_tried, failed, opened};
+use crate::hostile::support::{self, datagrams, expect_tried, failed, opened};
 use fw_image::OpenError;
 use fw_meter::MeterCore;
 use fw_store::{DeviceStore, FileStoreError};
 use std::alloc::Global;
-use std::ops::Range;
 use std::test::Fail;
-use test_support::Kept;
+use test_tables::{Kept, Words};
 
-/// A request to a meter.
-struct Operation {
-    asks: &'static str,
-    /// The reply where the store failed, and where it is done.
-    fault: &'static str,
-    done: &'static str,
-    /// Where in the file the block is that it writes.
-    block: Range<usize>,
-    /// How many bytes it writes: those of the block, and the 2,158 of a header.
-    writes: usize,
-}
-
-const SET_FAULT: &str = "0001000100010004c501c101";
-
-const SET_DONE: &str = "0001000100010004c501c100";
-
-const FAULT: &str = "0001000100010005c701c10100";
-
-const DONE: &str = "0001000100010005c701c10000";
-
-/// A campaign for a meter that runs `x`, with blocks of two bytes and room for eight: image_transfer_enabled is set to true; `abc` of
-/// campaign 1 of head end 7 is initiated; block 0 comes as `zz`, and once more as `ab`, now under its old mark; block 1; verify;
-/// activate. The second slot of the file begins at byte 626.
-const CAMPAIGN: &[Operation] = &[
-    Operation {
-        asks: "000100010001000fc101c1001200002c0000ff05000301",
-        fault: SET_FAULT,
-        done: SET_DONE,
-        block: 0..0,
-        writes: 2_158,
-    },
-    Operation {
-        asks: "000100010001003fc301c1001200002c0000ff010102020929010000000700000001ba7816bf8f01cfea414140de5dae2223b00361a396177a9cb410ff61f20015ad0600000003",
-        fault: FAULT,
-        done: DONE,
-        block: 0..0,
-        writes: 2_158,
-    },
-    Operation {
-        asks: "0001000100010018c301c1001200002c0000ff02010202060000000009027a7a",
-        fault: FAULT,
-        done: DONE,
-        block: 626..628,
-        writes: 2_160,
-    },
-    Operation {
-        asks: "0001000100010018c301c1001200002c0000ff02010202060000000009026162",
-        fault: FAULT,
-        done: DONE,
-        block: 626..628,
-        writes: 2,
-    },
-    Operation {
-        asks: "0001000100010017c301c1001200002c0000ff020102020600000001090163",
-        fault: FAULT,
-        done: DONE,
-        block: 628..629,
-        writes: 2_159,
-    },
-    Operation {
-        asks: "000100010001000fc301c1001200002c0000ff03010f00",
-        fault: FAULT,
-        done: DONE,
-        block: 0..0,
-        writes: 2_158,
-    },
-    Operation {
-        asks: "000100010001000fc301c1001200002c0000ff04010f00",
-        fault: FAULT,
-        done: DONE,
-        block: 0..0,
-        writes: 2_158,
-    },
-];
+/// A campaign for a meter that runs `x`, with blocks of two bytes and room for eight; the first block comes as `zz`, and once more as `ab`,
+/// now under its old mark. A line for each operation: the request, the reply where the store failed, and the one where it is done; then
+/// where in the file the block begins and ends that it writes, and how many bytes it writes: those of the block, and the 2,158 of a header.
+/// The second slot of the file begins at byte 626.
+const CAMPAIGN: &str = "\
+enable set-fault set-done: 0 0 2158
+initiate fault done: 0 0 2158
+block-0-zz fault done: 626 628 2160
+block-0 fault done: 626 628 2
+block-1 fault done: 628 629 2159
+verify fault done: 0 0 2158
+activate fault done: 0 0 2158";
 
 /// GETs of attributes 2 to 7, and of the active firmware identifier.
-const READS: &[&str] = &[
-    "000100010001000dc001c1001200002c0000ff0200",
-    "000100010001000dc001c1001200002c0000ff0300",
-    "000100010001000dc001c1001200002c0000ff0400",
-    "000100010001000dc001c1001200002c0000ff0500",
-    "000100010001000dc001c1001200002c0000ff0600",
-    "000100010001000dc001c1001200002c0000ff0700",
-    "000100010001000dc001c100010100000200ff0200",
-];
+const READS: &str = "get-2 get-3 get-4 get-5 get-6 get-7 get-firmware";
+
+/// The request of the operation of this line, and its two replies.
+fn exchange(alloc: Global, line: &str) -> Result<Vec<Vec<u8>>, Fail> {
+    let (names, _) = line.split_once(':').ok_or("names and numbers")?;
+    datagrams(alloc, names)
+}
 
 /// The replies of the meter in the file on a disk to these requests, one after the other.
-fn replies(alloc: Global, disk: &Disk, asks: &[&str]) -> Result<Vec<Vec<u8>>, Fail> {
+fn replies(alloc: Global, disk: &Disk, asks: &[Vec<u8>]) -> Result<Vec<u8>, Fail> {
     let mut meter = Kept(opened(DeviceStore::reopen_on(disk.open()?)?)?);
     support::replies(alloc, &mut meter.0, asks)
 }
 
-/// Whether a meter gives this reply to a request.
-fn is_reply(alloc: Global, disk: &Disk, asks: &str, want: &str) -> Result<bool, Fail> {
-    let want = hex::decode(alloc, want)?;
-    let replies = replies(alloc, disk, &[asks])?;
-    Ok(replies.len() == 1 && replies[0].as_slice() == want.as_slice())
+/// Whether an operation is done on a disk. It has no other replies than its two.
+fn is_done(alloc: Global, disk: &Disk, exchange: &[Vec<u8>]) -> Result<bool, Fail> {
+    let [ask @ .., fault, done] = exchange else {
+        return Err("a request and two replies".into());
+    };
+    let reply = replies(alloc, disk, ask)?;
+    if reply != *fault && reply != *done {
+        return Err("another reply".into());
+    }
+    Ok(reply == *done)
 }
 
 /// The file of a new meter, and then the one after each operation.
@@ -116,90 +56,88 @@ fn files(alloc: Global) -> Result<Vec<Vec<u8>>, Fail> {
     DeviceStore::create_on(disk.open()?, 8, 2, b"x")?;
     let mut files = Vec::new(alloc);
     files.push(disk.bytes(alloc)?)?;
-    for (at, operation) in CAMPAIGN.iter().enumerate() {
-        if !is_reply(alloc, &disk, operation.asks, operation.done)? {
-            return failed(alloc, "the operation isn't done", at);
+    for line in CAMPAIGN.lines() {
+        if !is_done(alloc, &disk, &exchange(alloc, line)?)? {
+            return failed(alloc, "the operation isn't done", files.len());
         }
         files.push(disk.bytes(alloc)?)?;
     }
     Ok(files)
 }
 
-/// The file is as before an operation, except in its block, where each byte is as before it or as after it.
-fn is_between(found: &[u8], before: &[u8], after: &[u8], block: &Range<usize>) -> bool {
+/// The file is as before an operation, except from `start` on up to `end`, where each byte is as before it or as after it.
+fn is_between(found: &[u8], before: &[u8], after: &[u8], start: usize, end: usize) -> bool {
     found.len() == before.len()
         && found.iter().zip(before.iter().zip(after)).enumerate().all(|(
             at,
             (byte, (old, new)),
-        )| byte == old || (block.contains(&at) && byte == new))
-}
-
-/// An operation on a disk that takes `room` bytes more, which are too few for it, or enough. The bytes of the file then.
-fn on_full_disk(
-    alloc: Global,
-    operation: &Operation,
-    before: &[u8],
-    room: usize,
-) -> Result<Vec<u8>, Fail> {
-    let disk = Disk::with(alloc, before)?;
-    disk.takes(Takes::Only(room));
-    let want = if room == operation.writes {
-        operation.done
-    } else {
-        operation.fault
-    };
-    if !is_reply(alloc, &disk, operation.asks, want)? {
-        return failed(alloc, "another reply", room);
-    }
-    disk.bytes(alloc)
-}
-
-/// The bytes of a file after an operation on a disk that took `room` bytes more.
-fn is_right(operation: &Operation, found: &[u8], before: &[u8], after: &[u8], room: usize) -> bool {
-    if room == operation.writes {
-        found == after
-    } else {
-        is_between(found, before, after, &operation.block)
-    }
+        )| byte == old || (start <= at && at < end && byte == new))
 }
 
 /// The replies to the reads of the meter in a file, which is opened again.
-fn reads_of(alloc: Global, file: &[u8]) -> Result<Vec<Vec<u8>>, Fail> {
+fn reads_of(alloc: Global, reads: &[Vec<u8>], file: &[u8]) -> Result<Vec<u8>, Fail> {
     let disk = Disk::with(alloc, file)?;
-    replies(alloc, &disk, READS)
+    replies(alloc, &disk, reads)
 }
 
-/// The same, and whether the file is right then and its reads are answered so.
-fn is_left_right(
-    alloc: Global,
-    operation: &Operation,
-    (before, after): (&[u8], &[u8]),
-    room: usize,
-    want: &[Vec<u8>],
-) -> Result<bool, Fail> {
-    let found = on_full_disk(alloc, operation, before, room)?;
-    let is_right = is_right(operation, &found, before, after, room);
-    Ok(is_right && reads_of(alloc, &found)?.as_slice() == want)
+/// What is known of an operation: its request and its two replies, and the file and the answers to the reads before it and after it.
+#[derive(Clone, Copy)]
+struct Operation<'a> {
+    exchange: &'a [Vec<u8>],
+    reads: &'a [Vec<u8>],
+    files: (&'a [u8], &'a [u8]),
+    answers: (&'a [u8], &'a [u8]),
 }
 
-/// An operation with room for each number of bytes up to those that it writes. With less than these the reads are answered as before it.
-fn on_full_disks(
-    alloc: Global,
-    operation: &Operation,
-    before: &[u8],
-    after: &[u8],
-) -> Result<usize, Fail> {
-    let old = reads_of(alloc, before)?;
-    let new = reads_of(alloc, after)?;
-    let mut tried = 0usize;
-    for room in 0..=operation.writes {
-        let want = if room == operation.writes { &new } else { &old };
-        if !is_left_right(alloc, operation, (before, after), room, want)? {
-            return failed(alloc, "another file, or another meter", room);
-        }
-        tried = tried.saturating_add(1);
+/// The operation of this line with room for each number of bytes up to those that it writes.
+fn on_full_disks(alloc: Global, line: &str, before: &[u8], after: &[u8]) -> Result<usize, Fail> {
+    let (names, numbers) = line.split_once(':').ok_or("names and numbers")?;
+    let mut words = Words::new(numbers);
+    let block = (words.number()? as usize, words.number()? as usize);
+    let writes = words.number()? as usize;
+    let reads = datagrams(alloc, READS)?;
+    let old = reads_of(alloc, &reads, before)?;
+    let new = reads_of(alloc, &reads, after)?;
+    let exchange = datagrams(alloc, names)?;
+    let operation = Operation {
+        exchange: &exchange,
+        reads: &reads,
+        files: (before, after),
+        answers: (&old, &new),
+    };
+    for room in 0..=writes {
+        is_right(alloc, operation, block, room, room == writes)?;
     }
-    Ok(tried)
+    Ok(writes.saturating_add(1))
+}
+
+/// An operation with so much room, which suffices or not. Where it doesn't, it has the reply of a fault, the file is as before, except in
+/// the block that it writes, and the reads are answered as before.
+fn is_right(
+    alloc: Global,
+    operation: Operation<'_>,
+    (start, end): (usize, usize),
+    room: usize,
+    suffices: bool,
+) -> Result<(), Fail> {
+    let (before, after) = operation.files;
+    let disk = Disk::with(alloc, before)?;
+    disk.takes(Takes::Only(room));
+    if is_done(alloc, &disk, operation.exchange)? != suffices {
+        return failed(alloc, "another reply", room);
+    }
+    let found = disk.bytes(alloc)?;
+    let is_file = if suffices {
+        found.as_slice() == after
+    } else {
+        is_between(&found, before, after, start, end)
+    };
+    let (old, new) = operation.answers;
+    let want = if suffices { new } else { old };
+    if !is_file || reads_of(alloc, operation.reads, &found)?.as_slice() != want {
+        return failed(alloc, "another file, or another meter", room);
+    }
+    Ok(())
 }
 
 /// The operations write 2,158, 2,158, 2,160, 2, 2,159, 2,158 and 2,158 bytes, 12,953 in all. Each is tried with room for none and so on up
@@ -209,17 +147,14 @@ fn a_disk_that_is_full(rt: HostRuntime) -> Result<(), Fail> {
     let alloc = rt.alloc();
     let files = files(alloc)?;
     let mut tried = 0usize;
-    for (operation, (before, after)) in CAMPAIGN
-        .iter()
-        .zip(files.iter().zip(files.iter().skip(1)))
-    {
-        tried = tried.saturating_add(on_full_disks(alloc, operation, before, after)?);
+    for (line, (before, after)) in CAMPAIGN.lines().zip(files.iter().zip(files.iter().skip(1))) {
+        tried = tried.saturating_add(on_full_disks(alloc, line, before, after)?);
     }
     expect_tried(alloc, tried, 12_953 + 7)
 }
 
 /// How many bytes the file of the same store has with a header of version 1: without releases, and with them.
-const OLD_SIZES: &[usize] = &[634, 642];
+const OLD_SIZES: [usize; 2] = [634, 642];
 
 /// What such a file has of this one, whose goal has no block from 4,096 on. Its header begins as one of version 1.
 fn old_file(alloc: Global, file: &[u8], size: usize) -> Result<Vec<u8>, Fail> {
@@ -241,20 +176,15 @@ fn is_opened(disk: &Disk, takes: Takes) -> Result<bool, Fail> {
     }
 }
 
-/// The meter in an old file is opened with room for those of a header of version 2 alone, and the file is as wanted then.
-fn is_opened_right(alloc: Global, old: &[u8], room: usize, want: &[u8]) -> Result<bool, Fail> {
-    let disk = Disk::with(alloc, old)?;
-    let opened = is_opened(&disk, Takes::Only(room))?;
-    Ok(opened == (room == 2_158) && disk.holds(want))
-}
-
 /// The meter in an old file is opened with room for each number of bytes up to those of a header of version 2. With less than these it
 /// isn't, and the file is as before; with these the file is the new one.
 fn opened_on_full_disks(alloc: Global, old: &[u8], new: &[u8]) -> Result<usize, Fail> {
     let mut tried = 0usize;
     for room in 0..=2_158 {
+        let disk = Disk::with(alloc, old)?;
+        let is_opened = is_opened(&disk, Takes::Only(room))?;
         let want = if room == 2_158 { new } else { old };
-        if !is_opened_right(alloc, old, room, want)? {
+        if is_opened != (room == 2_158) || !disk.holds(want) {
             return failed(alloc, "another file", room);
         }
         tried = tried.saturating_add(1);
@@ -269,7 +199,7 @@ fn an_old_store_on_a_full_disk(rt: HostRuntime) -> Result<(), Fail> {
     let mut tried = 0usize;
     for new in &files(alloc)? {
         for size in OLD_SIZES {
-            let old = old_file(alloc, new, *size)?;
+            let old = old_file(alloc, new, size)?;
             tried = tried.saturating_add(opened_on_full_disks(alloc, &old, new)?);
         }
     }
@@ -278,7 +208,7 @@ fn an_old_store_on_a_full_disk(rt: HostRuntime) -> Result<(), Fail> {
 
 /// The meter in an old file on a disk that is only read: it isn't opened, and the file stays as it is. Where its header is kept it is, and
 /// answers the reads so.
-fn on_read_only_disk_as_old(alloc: Global, old: &[u8], want: &[Vec<u8>]) -> Result<(), Fail> {
+fn on_read_only_disk_as_old(alloc: Global, old: &[u8], want: &[u8]) -> Result<(), Fail> {
     let disk = Disk::with(alloc, old)?;
     if is_opened(&disk, Takes::Nothing)? {
         return failed(alloc, "it is opened", old.len());
@@ -295,9 +225,9 @@ fn an_old_store_on_a_disk_that_is_only_read(rt: HostRuntime) -> Result<(), Fail>
     let alloc = rt.alloc();
     let mut tried = 0usize;
     for new in &files(alloc)? {
-        let want = reads_of(alloc, new)?;
+        let want = reads_of(alloc, &datagrams(alloc, READS)?, new)?;
         for size in OLD_SIZES {
-            on_read_only_disk_as_old(alloc, &old_file(alloc, new, *size)?, &want)?;
+            on_read_only_disk_as_old(alloc, &old_file(alloc, new, size)?, &want)?;
             tried = tried.saturating_add(1);
         }
     }
@@ -305,9 +235,10 @@ fn an_old_store_on_a_disk_that_is_only_read(rt: HostRuntime) -> Result<(), Fail>
 }
 
 /// The replies to the reads of the meter in the file on a disk, whose header is kept.
-fn kept_reads(alloc: Global, disk: &Disk) -> Result<Vec<Vec<u8>>, Fail> {
+fn kept_reads(alloc: Global, disk: &Disk) -> Result<Vec<u8>, Fail> {
+    let reads = datagrams(alloc, READS)?;
     match MeterCore::open_kept(DeviceStore::reopen_on(disk.open()?)?) {
-        Ok(meter) => support::replies(alloc, &mut Kept(meter).0, READS),
+        Ok(meter) => support::replies(alloc, &mut Kept(meter).0, &reads),
         Err((error, _store)) => Err(error.into()),
     }
 }
@@ -359,18 +290,18 @@ fn a_store_on_a_full_disk(rt: HostRuntime) -> Result<(), Fail> {
 }
 
 /// An operation on a disk that is only read, and then the reads: these are answered as on any other disk.
-fn on_read_only_disk(alloc: Global, operation: &Operation, before: &[u8]) -> Result<usize, Fail> {
+fn on_read_only_disk(alloc: Global, line: &str, before: &[u8]) -> Result<usize, Fail> {
     let disk = Disk::with(alloc, before)?;
-    let want = replies(alloc, &disk, READS)?;
+    let reads = datagrams(alloc, READS)?;
+    let want = replies(alloc, &disk, &reads)?;
     disk.takes(Takes::Nothing);
-    if !is_reply(alloc, &disk, operation.asks, operation.fault)? {
-        return failed(alloc, "another reply", 0);
+    if is_done(alloc, &disk, &exchange(alloc, line)?)? {
+        return failed(alloc, "the operation is done", 0);
     }
-    let found = replies(alloc, &disk, READS)?;
-    if found != want || !disk.holds(before) {
+    if replies(alloc, &disk, &reads)? != want || !disk.holds(before) {
         return failed(alloc, "it isn't as before", 0);
     }
-    Ok(found.len().saturating_add(1))
+    Ok(reads.len().saturating_add(1))
 }
 
 /// The making of a store, and seven operations, each of them with seven reads.
@@ -384,8 +315,8 @@ fn a_disk_that_is_only_read(rt: HostRuntime) -> Result<(), Fail> {
         return failed(alloc, "a store is made", 0);
     }
     let mut tried = 1usize;
-    for (operation, before) in CAMPAIGN.iter().zip(&files) {
-        tried = tried.saturating_add(on_read_only_disk(alloc, operation, before)?);
+    for (line, before) in CAMPAIGN.lines().zip(&files) {
+        tried = tried.saturating_add(on_read_only_disk(alloc, line, before)?);
     }
     expect_tried(alloc, tried, 1 + 7 * (1 + 7))
 }

@@ -5,7 +5,7 @@ use fw_store::{FileStore, ImageStore, MemoryStore};
 use std::alloc::{AllocError, Global};
 use std::fs;
 use std::test::Fail;
-use test_support::Kept;
+use test_tables::Kept;
 
 /// Room for the longest image of a load.
 const CAPACITY: u32 = 16_777_216;

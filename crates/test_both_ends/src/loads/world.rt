@@ -7,7 +7,7 @@ use fw_world::{Event, Setup, World, run};
 use std::alloc::Global;
 use std::test::Fail;
 use std::time::CpuClock;
-use test_support::Kept;
+use test_tables::Kept;
 
 /// How many blocks the head end sends at a time.
 const WIDTH: u32 = 15;

@@ -8,19 +8,19 @@ use fw_names::{CampaignId, HeadId, MeterId};
 use fw_world::{Event, HeadSetup, MeterSetup, Setup, World};
 use std::alloc::Global;
 use std::fmt::Write;
+use test_tables::Kept;
 
 /// The datagrams that come after each tick, by their places among all that are sent.
-const ROUNDS: &[&[usize]] = &[
-    &[0, 1],
-    &[2, 3],
-    &[4, 5],
-    &[6, 7, 8, 9],
-    &[10, 11],
-    &[12, 13],
-    &[14, 15],
-    &[16, 17],
-    &[18, 19],
-];
+const ROUNDS: &str = "\
+0 1
+2 3
+4 5
+6 7 8 9
+10 11
+12 13
+14 15
+16 17
+18 19";
 
 /// The head end, the meter and the campaign.
 #[derive(Clone, Copy)]
@@ -91,7 +91,27 @@ fn step(alloc: Global, actors: Actors, world: &mut World, event: &Event) -> Resu
         |world: &World| -> Sight { sight(actors, world) },
         |world: &mut World| world.step(alloc, event).told(),
     )?
-    .map_err(|_| Ending::Unexpected)
+    .ok()
+    .ok_or(Ending::Unexpected)
+}
+
+/// The opening, and all rounds.
+fn make(alloc: Global, actors: Actors, world: &mut World) -> Result<(), Ending> {
+    let opening = made(|| opening(alloc, actors))?;
+    step(alloc, actors, world, &opening)?;
+    for round in ROUNDS.lines() {
+        step(
+            alloc,
+            actors,
+            world,
+            &Event::Tick(actors.head, actors.meter),
+        )?;
+        for datagram in round.split(' ') {
+            let datagram = datagram.parse::<usize>().ok().ok_or(Ending::Unexpected)?;
+            step(alloc, actors, world, &Event::Deliver(datagram))?;
+        }
+    }
+    Ok(())
 }
 
 /// Prints how the campaign ends.
@@ -99,21 +119,12 @@ pub(crate) fn row(told: &mut Told<'_>) -> Result<(), Ending> {
     let alloc = told.alloc();
     let actors = Actors::new().ok_or(Ending::Unexpected)?;
     let setup = made(|| setup(alloc, actors))?;
-    let mut world = made(|| World::new(alloc, &setup).map_err(|_| Refused))?;
-    let opening = made(|| opening(alloc, actors))?;
-    step(alloc, actors, &mut world, &opening)?;
-    for round in ROUNDS {
-        step(
-            alloc,
-            actors,
-            &mut world,
-            &Event::Tick(actors.head, actors.meter),
-        )?;
-        for datagram in *round {
-            step(alloc, actors, &mut world, &Event::Deliver(*datagram))?;
-        }
-    }
-    let (row, view, _sent, activations) = sight(actors, &world);
+    let mut world = Kept(made(|| World::new(alloc, &setup).ok().ok_or(Refused))?);
+    make(alloc, actors, &mut world.0)?;
+    tell(told, sight(actors, &world.0))
+}
+
+fn tell(told: &mut Told<'_>, (row, view, _sent, activations): Sight) -> Result<(), Ending> {
     let row = row.ok_or(Ending::Unexpected)?;
     let view = view.ok_or(Ending::Unexpected)?;
     let status = view.status.number();

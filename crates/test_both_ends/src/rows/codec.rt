@@ -1,35 +1,37 @@
 //! Reading and writing A-XDR Data.
 
-use crate::rows::refusals::{Answer, Ending, Hex, made, retried};
+use crate::rows::refusals::{Answer, Ending, Hex, bytes_of, made, retried};
 use crate::rows::telling::Told;
 use fw_axdr::{Data, read, write_to};
 use std::fmt::Write;
 
 /// The byte 61 after a longer form of length than is needed; a number that lacks a byte; a tag of no type; a first byte of no length; an
 /// element at depth 8, and one at depth 9; and an octet-string and an array of 2^32 - 1.
-const SPELLINGS: &[&[u8]] = &[
-    &[0x09, 0x81, 0x01, 0x61],
-    &[0x06, 0, 0, 0],
-    &[0x07],
-    &[0x09, 0x80],
-    &[2, 1, 2, 1, 2, 1, 2, 1, 2, 1, 2, 1, 2, 1, 0],
-    &[2, 1, 2, 1, 2, 1, 2, 1, 2, 1, 2, 1, 2, 1, 2, 1, 0],
-    &[0x09, 0x84, 0xff, 0xff, 0xff, 0xff],
-    &[0x01, 0x84, 0xff, 0xff, 0xff, 0xff],
-];
+const SPELLINGS: &str = "\
+09810161
+06000000
+07
+0980
+020102010201020102010201020100
+0201020102010201020102010201020100
+0984ffffffff
+0184ffffffff";
 
 /// What each of them is read as, written again, and how many bytes were read; or the fault.
 pub(crate) fn rows(told: &mut Told<'_>) -> Result<(), Ending> {
     let alloc = told.alloc();
-    for bytes in SPELLINGS {
-        match made(|| read(alloc, bytes).told())? {
-            Ok((data, used)) => {
-                written(told, &data, used)?;
-            }
-            Err(fault) => writeln!(told, "data: {fault}")?,
-        }
+    for spelling in SPELLINGS.lines() {
+        row(told, &bytes_of(alloc, spelling)?)?;
     }
     Ok(())
+}
+
+fn row(told: &mut Told<'_>, bytes: &[u8]) -> Result<(), Ending> {
+    let alloc = told.alloc();
+    match made(|| read(alloc, bytes).told())? {
+        Ok((data, used)) => written(told, &data, used),
+        Err(fault) => Ok(writeln!(told, "data: {fault}")?),
+    }
 }
 
 /// Writes a Data, and prints it.

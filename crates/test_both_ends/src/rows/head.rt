@@ -3,10 +3,10 @@
 use crate::rows::campaign::Actors;
 use crate::rows::refusals::{Answer, Ending, Hex, made, retried};
 use crate::rows::telling::Told;
-use fw_book::{Book, BookError, RowState};
+use fw_book::{Book, RowState};
 use std::alloc::Global;
 use std::fmt::Write;
-use test_support::Kept;
+use test_tables::Kept;
 
 fn state(actors: Actors, book: &Book) -> Option<RowState> {
     book.state(actors.campaign, actors.meter)
@@ -18,11 +18,8 @@ fn written(alloc: Global, actors: Actors, book: &mut Book) -> Result<Vec<u8>, En
         |book: &Book| -> Option<RowState> { state(actors, book) },
         |book: &mut Book| book.write(alloc).told(),
     )?
-    .map_err(|_| Ending::Unexpected)
-}
-
-fn read(alloc: Global, bytes: &[u8]) -> Result<Result<Book, BookError>, Ending> {
-    made(|| Book::read(alloc, bytes).told())
+    .ok()
+    .ok_or(Ending::Unexpected)
 }
 
 /// The book of the head end, which has opened the campaign.
@@ -36,7 +33,8 @@ fn opened(alloc: Global, actors: Actors) -> Result<Kept<Book>, Ending> {
                 .told()
         },
     )?
-    .map_err(|_| Ending::Unexpected)?;
+    .ok()
+    .ok_or(Ending::Unexpected)?;
     Ok(book)
 }
 
@@ -49,7 +47,8 @@ fn tell(told: &mut Told<'_>, actors: Actors, book: &mut Book) -> Result<Vec<u8>,
 
 /// Prints the bytes of the book that these are read as, or the refusal.
 fn tell_read(told: &mut Told<'_>, actors: Actors, bytes: &[u8]) -> Result<(), Ending> {
-    match read(told.alloc(), bytes)? {
+    let alloc = told.alloc();
+    match made(|| Book::read(alloc, bytes).told())? {
         Ok(book) => {
             tell(told, actors, &mut Kept(book).0)?;
         }

@@ -4,7 +4,7 @@ use fw_axdr::AxdrError;
 use fw_book::BookError;
 use fw_client::AskError;
 use fw_world::StepError;
-use std::alloc::{AllocError, AllocFailed};
+use std::alloc::{AllocError, AllocFailed, Global};
 use std::fmt;
 use thiserror::Error;
 
@@ -80,6 +80,11 @@ pub(crate) fn made<T, C: FnMut() -> Result<T, Refused>>(mut call: C) -> Result<T
         }
     }
     Err(Ending::OutOfMemory)
+}
+
+/// The bytes of these digits.
+pub(crate) fn bytes_of(alloc: Global, digits: &str) -> Result<Vec<u8>, Ending> {
+    made(|| hex::decode(alloc, digits).ok().ok_or(Refused))
 }
 
 /// The answer of a call, except out of memory.

@@ -27,7 +27,7 @@ impl<'a> Told<'a> {
 
 impl fmt::Write for Told<'_> {
     fn write_str(&mut self, s: &str) -> fmt::Result {
-        print!(self.rt; "{s}").map_err(|_| fmt::Error)?;
+        print!(self.rt; "{s}").ok().ok_or(fmt::Error)?;
         if let Some(wanted) = self.wanted {
             self.wanted = Some(wanted.strip_prefix(s).ok_or(fmt::Error)?);
         }

@@ -3,7 +3,7 @@
 
 use crate::rows::campaign::Actors;
 use crate::rows::datagrams::{meter, replied};
-use crate::rows::refusals::{Answer, Ending, Refused, made, retried};
+use crate::rows::refusals::{Answer, Ending, Refused, bytes_of, retried};
 use crate::rows::telling::Told;
 use fw_blocks::Width;
 use fw_head::{HeadCore, News, Phase};
@@ -12,7 +12,7 @@ use fw_names::MeterId;
 use fw_store::MemoryStore;
 use std::alloc::Global;
 use std::fmt::Write;
-use test_support::Kept;
+use test_tables::Kept;
 
 /// How many ticks are answered, and how many aren't, the last of which asks under the id of the first.
 const ANSWERED: u8 = 8;
@@ -41,7 +41,8 @@ fn opened(alloc: Global, actors: Actors) -> Result<Kept<HeadCore>, Ending> {
             .open_campaign(alloc, 1, 0, b"abc", &[actors.meter])
             .told(),
     )?
-    .map_err(|_| Ending::Unexpected)?;
+    .ok()
+    .ok_or(Ending::Unexpected)?;
     Ok(head)
 }
 
@@ -49,7 +50,7 @@ fn ticked(alloc: Global, head: &mut HeadCore, meter: MeterId) -> Result<Vec<Vec<
     retried(
         head,
         |head: &HeadCore| -> Sight { sight(meter, head) },
-        |head: &mut HeadCore| head.tick(alloc, meter).map_err(|_| Refused),
+        |head: &mut HeadCore| head.tick(alloc, meter).ok().ok_or(Refused),
     )
 }
 
@@ -62,7 +63,7 @@ fn heard(
     retried(
         head,
         |head: &HeadCore| -> Sight { sight(meter, head) },
-        |head: &mut HeadCore| head.hear(alloc, meter, datagram).map_err(|_| Refused),
+        |head: &mut HeadCore| head.hear(alloc, meter, datagram).ok().ok_or(Refused),
     )
 }
 
@@ -114,7 +115,7 @@ fn tell(
     invoke: u8,
 ) -> Result<(), Ending> {
     let alloc = told.alloc();
-    let answer = made(|| hex::decode(alloc, NO_NAME).map_err(|_| Refused))?;
+    let answer = bytes_of(alloc, NO_NAME)?;
     let news = heard(alloc, head, number, &answer)?;
     let (phase, _) = sight(number, head).ok_or(Ending::Unexpected)?;
     writeln!(told, "ticks: {invoke:02x} {news:?} {phase:?}")?;

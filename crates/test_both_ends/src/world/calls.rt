@@ -2,24 +2,22 @@
 
 ghost use Rattle.std.specs.Prelude.{◌≡◌};
 
-use crate::world::campaigns::{SMALL, UP_TO_ACTIVATE, UP_TO_BLOCKS, UP_TO_DONE, UP_TO_VERIFY};
-use crate::world::script::world_after;
+use crate::world::script::{script_of, world_after};
 use fw_world::{Activation, Actor, Datagram, Event, World};
 use std::alloc::{AllocError, Global};
 use std::test::Fail;
-use test_support::{
-    Case, Given, Kept, Line, each, events_of, head, head_number, meter, meter_text, push,
-    push_rows, report, setup_of,
-};
+use test_support::{head, head_number, meter, meter_text, push, push_rows, report};
+use test_tables::{Kept, Reads, Words, each_line, expect};
 
-/// A world takes the events one after another, also after one that is refused: each refusal, and then the report.
-struct Made(&'static Given, &'static [&'static [Line]]);
+/// A world takes the events of a script one after another, also after one that is refused: each refusal, and then the report.
+#[derive(Clone, Copy)]
+struct Steps;
 
-impl Case for Made {
-    fn told(&self, alloc: Global) -> Result<String, Fail> {
-        let setup = setup_of(alloc, self.0)?;
+impl Reads for Steps {
+    fn told(&mut self, alloc: Global, what: &str) -> Result<String, Fail> {
+        let (setup, events) = script_of(alloc, what)?;
         let mut world = Kept(World::new(alloc, &setup)?);
-        let mut text = refusals_text(alloc, &mut world.0, &events_of(alloc, self.1)?)?;
+        let mut text = refusals_text(alloc, &mut world.0, &events)?;
         push(&mut text, report(alloc, &setup, &world.0)?.as_str())?;
         Ok(text)
     }
@@ -36,71 +34,40 @@ fn refusals_text(alloc: Global, world: &mut World, events: &[Event]) -> Result<S
     Ok(text)
 }
 
-const EVENTS: &[(Made, &str)] = &[
-    (
-        Made(
-            SMALL,
-            &[UP_TO_BLOCKS, UP_TO_VERIFY, UP_TO_ACTIVATE, UP_TO_DONE],
-        ),
-        "row 7 1 1 done; meter 1 status 6 active 7 1 size 3; activations 1; sent 20",
-    ),
-    (
-        Made(
-            SMALL,
-            &[
-                &[
-                    Line::Deliver(&[0]),
-                    Line::Tick(8, 1),
-                    Line::Tick(7, 9),
-                    Line::Open(7, 1, b"", &[1]),
-                    Line::Cancel(7, 1),
-                    Line::RestartHead(8),
-                    Line::RestartMeter(9),
-                    Line::StopRestart(9, 0, 0),
-                    Line::Turn(9),
-                ],
-                UP_TO_BLOCKS,
-                &[Line::Stop(1, 0, 0), Line::Open(7, 2, b"abd", &[1])],
-                UP_TO_VERIFY,
-                UP_TO_ACTIVATE,
-                UP_TO_DONE,
-            ],
-        ),
-        "NoSuchDatagram; NoSuchActor; NoSuchActor; EmptyImage; NoSuchCampaign; NoSuchActor; NoSuchActor; NoSuchActor; NoSuchActor; NoSuchActor; MeterBusy; row 7 1 1 done; meter 1 status 6 active 7 1 size 3; activations 1; sent 20",
-    ),
-];
+const EVENTS: &str = "
+    small: to-blocks; to-verify; to-activate; to-done => row 7 1 1 done; meter 1 status 6 active 7 1 size 3; activations 1; sent 20
+    small: deliver 0; tick 8 1; tick 7 9; open 7 1 - 1; cancel 7 1; restart-head 8; restart-meter 9; stop-restart 9 0 0; turn 9; \
+        to-blocks; stop 1 0 0; open 7 2 abd 1; to-verify; to-activate; to-done \
+        => NoSuchDatagram; NoSuchActor; NoSuchActor; EmptyImage; NoSuchCampaign; NoSuchActor; NoSuchActor; NoSuchActor; NoSuchActor; \
+        NoSuchActor; MeterBusy; row 7 1 1 done; meter 1 status 6 active 7 1 size 3; activations 1; sent 20
+";
 
 #[test]
 fn events_made_one_by_one(rt: HostRuntime) -> Result<(), Fail> {
-    each(rt.alloc(), EVENTS)
+    each_line(rt.alloc(), &mut Steps, EVENTS)
 }
 
-/// What is shown of a world of one head end and one meter after all parts of the campaign.
-enum Shown {
-    /// The meter of this number.
-    Meter(u32),
-    /// The rows of the head end of this number.
-    Book(u32),
-    /// The first two datagrams: who sent each, to whom, and its bytes in hexadecimal.
-    Sent,
-    /// Each meter that switched, the campaign in its image's name, and the image in hexadecimal.
-    Activations,
-}
+/// The campaign of one head end and one meter, with all its events.
+const DONE: &str = "small: to-blocks; to-verify; to-activate; to-done";
 
-impl Case for Shown {
-    fn told(&self, alloc: Global) -> Result<String, Fail> {
-        let parts = &[UP_TO_BLOCKS, UP_TO_VERIFY, UP_TO_ACTIVATE, UP_TO_DONE];
-        let world = world_after(alloc, &setup_of(alloc, SMALL)?, parts)?;
-        shown_text(alloc, &world.0, self)
-    }
-}
+/// What a world shows:
+///
+/// - `meter NUMBER` and `book NUMBER`, the meter, and the rows of the head end
+/// - `sent`, the first two datagrams: who sent each, to whom, and its bytes in hexadecimal
+/// - `activations`, each meter that switched, the campaign in its image's name, and the image in hexadecimal
+#[derive(Clone, Copy)]
+struct Shown<'a>(&'a World);
 
-fn shown_text(alloc: Global, world: &World, what: &Shown) -> Result<String, Fail> {
-    match *what {
-        Shown::Meter(number) => shown_meter(alloc, world, number),
-        Shown::Book(number) => shown_book(alloc, world, number),
-        Shown::Sent => shown_sent(alloc, world),
-        Shown::Activations => shown_activations(alloc, world),
+impl Reads for Shown<'_> {
+    fn told(&mut self, alloc: Global, what: &str) -> Result<String, Fail> {
+        let mut words = Words::new(what);
+        match words.word()? {
+            "meter" => shown_meter(alloc, self.0, words.number()?),
+            "book" => shown_book(alloc, self.0, words.number()?),
+            "sent" => shown_sent(alloc, self.0),
+            "activations" => shown_activations(alloc, self.0),
+            _ => Err("nothing of this name is shown".into()),
+        }
     }
 }
 
@@ -137,16 +104,11 @@ fn datagram_text(alloc: Global, datagram: &Datagram) -> Result<String, Fail> {
 }
 
 fn actor_text(alloc: Global, actor: Actor) -> Result<String, AllocError> {
-    match actor {
-        Actor::Head(head) => {
-            let number = head.number();
-            format!(in alloc; "head {number}")
-        }
-        Actor::Meter(meter) => {
-            let number = meter.number();
-            format!(in alloc; "meter {number}")
-        }
-    }
+    let (name, number) = match actor {
+        Actor::Head(head) => ("head", head.number()),
+        Actor::Meter(meter) => ("meter", meter.number()),
+    };
+    format!(in alloc; "{name} {number}")
 }
 
 fn shown_activations(alloc: Global, world: &World) -> Result<String, Fail> {
@@ -166,32 +128,21 @@ fn activation_text(alloc: Global, activation: &Activation) -> Result<String, Fai
 }
 
 /// The first datagram reads image_block_size under the invoke byte c0, and the second answers 2.
-const SHOWN: &[(Shown, &str)] = &[
-    (Shown::Meter(1), "meter 1 status 6 active 7 1 size 3"),
-    (Shown::Meter(7), "none"),
-    (Shown::Book(7), "row 7 1 1 done"),
-    (Shown::Book(1), "none"),
-    (
-        Shown::Sent,
-        "head 7 to meter 1 000100010001000dc001c0001200002c0000ff0200; meter 1 to head 7 0001000100010009c401c0000600000002",
-    ),
-    (Shown::Activations, "meter 1 7 1 616263"),
-];
+const SHOWN: &str = "
+    meter 1     => meter 1 status 6 active 7 1 size 3
+    meter 7     => none
+    book 7      => row 7 1 1 done
+    book 1      => none
+    sent        => head 7 to meter 1 000100010001000dc001c0001200002c0000ff0200; meter 1 to head 7 0001000100010009c401c0000600000002
+    activations => meter 1 7 1 616263
+";
 
 #[test]
 fn what_is_shown(rt: HostRuntime) -> Result<(), Fail> {
-    each(rt.alloc(), SHOWN)
-}
-
-/// A world that events led to, taken apart and joined again: its report.
-struct Joined(&'static Given, &'static [&'static [Line]]);
-
-impl Case for Joined {
-    fn told(&self, alloc: Global) -> Result<String, Fail> {
-        let setup = setup_of(alloc, self.0)?;
-        let world = world_after(alloc, &setup, self.1)?;
-        report(alloc, &setup, &Kept(rejoined(world.into_inner())).0)
-    }
+    let alloc = rt.alloc();
+    let (setup, events) = script_of(alloc, DONE)?;
+    let world = world_after(alloc, &setup, &events)?;
+    each_line(alloc, &mut Shown(&world.0), SHOWN)
 }
 
 /// A world that is taken apart and joined is as it was.
@@ -201,15 +152,16 @@ fn rejoined(world: World) -> World
     World::from_parts(world.into_parts())
 }
 
-const JOINED: &[(Joined, &str)] = &[(
-    Joined(
-        SMALL,
-        &[UP_TO_BLOCKS, UP_TO_VERIFY, UP_TO_ACTIVATE, UP_TO_DONE],
-    ),
-    "row 7 1 1 done; meter 1 status 6 active 7 1 size 3; activations 1; sent 20",
-)];
-
 #[test]
 fn taken_apart_and_joined(rt: HostRuntime) -> Result<(), Fail> {
-    each(rt.alloc(), JOINED)
+    let alloc = rt.alloc();
+    let (setup, events) = script_of(alloc, DONE)?;
+    let world = world_after(alloc, &setup, &events)?;
+    let joined = Kept(rejoined(world.into_inner()));
+    expect(
+        alloc,
+        0,
+        report(alloc, &setup, &joined.0)?.as_str(),
+        "row 7 1 1 done; meter 1 status 6 active 7 1 size 3; activations 1; sent 20",
+    )
 }

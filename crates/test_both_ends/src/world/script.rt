@@ -1,34 +1,51 @@
 //! Scripts: a world, what happens in it, and how it ends.
 
-use fw_world::{RunError, Setup, World, run};
+use crate::world::parts::{PARTS, SETUPS};
+use fw_world::{Event, RunError, Setup, World, run};
 use std::alloc::Global;
 use std::test::Fail;
-use test_support::{Case, Given, Kept, Line, events_of, push, report, setup_of};
+use test_support::{events_of, old_setup_of, report, setup_of};
+use test_tables::{Kept, Reads, named};
 
-/// The world after all parts, of which no event is refused.
+/// The setup and the events of a script `SETUP: EVENTS`, by the names of `SETUPS` and `PARTS`. In `old SETUP` all meters are old ones.
+pub(crate) fn script_of(alloc: Global, script: &str) -> Result<(Setup, Vec<Event>), Fail> {
+    let (setup, events) = script.split_once(':').ok_or("a script without a setup")?;
+    let setup = match setup.strip_prefix("old ") {
+        Some(setup) => old_setup_of(alloc, setup_named(setup)?)?,
+        None => setup_of(alloc, setup_named(setup)?)?,
+    };
+    Ok((setup, events_of(alloc, PARTS, events)?))
+}
+
+fn setup_named(name: &str) -> Result<&'static str, Fail> {
+    Ok(named(SETUPS, name).ok_or("no setup has this name")?)
+}
+
+/// The world after all events, of which none is refused.
 pub(crate) fn world_after(
     alloc: Global,
     setup: &Setup,
-    parts: &[&[Line]],
+    events: &[Event],
 ) -> Result<Kept<World>, Fail> {
-    let events = events_of(alloc, parts)?;
     let mut world = Kept(World::new(alloc, setup)?);
-    for event in &events {
-        world.0.step(alloc, event)?;
+    for event in events {
+        step(alloc, &mut world.0, event)?;
     }
     Ok(world)
 }
 
-/// The report of the world after all parts, or where an event is refused, of that before it.
-pub(crate) struct Script(
-    pub(crate) &'static Given,
-    pub(crate) &'static [&'static [Line]],
-);
+/// A world takes an event, which isn't refused.
+pub(crate) fn step(alloc: Global, world: &mut World, event: &Event) -> Result<(), Fail> {
+    Ok(world.step(alloc, event)?)
+}
 
-impl Case for Script {
-    fn told(&self, alloc: Global) -> Result<String, Fail> {
-        let setup = setup_of(alloc, self.0)?;
-        let events = events_of(alloc, self.1)?;
+/// The report of the world after all events of a script, or where one is refused, of that before it.
+#[derive(Clone, Copy)]
+pub(crate) struct Script;
+
+impl Reads for Script {
+    fn told(&mut self, alloc: Global, what: &str) -> Result<String, Fail> {
+        let (setup, events) = script_of(alloc, what)?;
         match run(alloc, &setup, &events) {
             Ok(world) => report(alloc, &setup, &world),
             Err(error) => stopped(alloc, &setup, &error),
@@ -38,14 +55,11 @@ impl Case for Script {
 
 /// What a run that was stopped leaves, and why it was.
 fn stopped(alloc: Global, setup: &Setup, error: &RunError) -> Result<String, Fail> {
-    let name = error.to_string(alloc)?;
     match error {
-        RunError::Setup(_) => Ok(name),
+        RunError::Setup(_) => Ok(error.to_string(alloc)?),
         RunError::Event { at, world, .. } => {
-            let refused = format!(in alloc; "refused {at} {name}")?;
-            let mut text = report(alloc, setup, world)?;
-            push(&mut text, refused.as_str())?;
-            Ok(text)
+            let report = report(alloc, setup, world)?;
+            Ok(format!(in alloc; "{report}; refused {at} {error}")?)
         }
     }
 }

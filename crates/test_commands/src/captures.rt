@@ -9,7 +9,7 @@ use std::io::Write;
 use std::net::{Ipv4Addr, SocketAddr, UdpSocket};
 use std::rt::Clock;
 use std::test::Fail;
-use test_support::expect_at;
+use test_tables::expect_at;
 
 /// A GET of image_block_size, and the answer of a meter whose blocks have 64 bytes.
 const GET: &str = "000100010001000dc001c1001200002c0000ff0200";

@@ -1,0 +1,10 @@
+//! Runners of tables, that tests stand on. It is no part of the product.
+#![tactic(auto)]
+
+mod expected;
+mod kept;
+mod tables;
+
+pub use expected::{expect, expect_at};
+pub use kept::Kept;
+pub use tables::{Reads, Words, each_line, each_prints, named};

@@ -1,0 +1,84 @@
+//! Tables as texts: a line a row, `what => report`.
+
+use crate::expected::{expect, expect_at};
+use std::alloc::Global;
+use std::fmt::Display;
+use std::test::Fail;
+
+/// Something that reads what stands in a row, and reports what it makes of it.
+pub trait Reads {
+    fn told(&mut self, alloc: Global, what: &str) -> Result<String, Fail>;
+}
+
+/// Each row reports what stands after its arrow. Empty lines and those that begin with `//` are no rows.
+pub fn each_line<R: Reads>(alloc: Global, subject: &mut R, table: &str) -> Result<(), Fail> {
+    for line in table.lines() {
+        row(alloc, subject, line.trim())?;
+    }
+    Ok(())
+}
+
+fn row<R: Reads>(alloc: Global, subject: &mut R, line: &str) -> Result<(), Fail> {
+    if line.is_empty() || line.starts_with("//") {
+        return Ok(());
+    }
+    let (what, want) = line.split_once("=>").ok_or("a row without an arrow")?;
+    let told = subject.told(alloc, what.trim())?;
+    expect_at(alloc, line, told.as_str(), want.trim())
+}
+
+/// Each fault prints what stands beside it.
+pub fn each_prints<E: Display>(alloc: Global, rows: &[(E, &str)]) -> Result<(), Fail> {
+    for (at, (fault, want)) in rows.iter().enumerate() {
+        let printed = format!(in alloc; "{fault}")?;
+        expect(alloc, at, printed.as_str(), want)?;
+    }
+    Ok(())
+}
+
+/// The text of this name among lines `name = text`.
+pub fn named<'a>(names: &'a str, name: &str) -> Option<&'a str> {
+    for line in names.lines() {
+        if let Some((key, text)) = line.split_once(" = ") {
+            if key.trim() == name {
+                return Some(text.trim());
+            }
+        }
+    }
+    None
+}
+
+/// The words of a line, one after another.
+#[derive(Clone, Copy)]
+pub struct Words<'a>(&'a str);
+
+impl<'a> Words<'a> {
+    pub fn new(line: &'a str) -> Words<'a> {
+        Words(line.trim())
+    }
+
+    /// The next word, if one is left.
+    pub fn next(&mut self) -> Option<&'a str> {
+        if self.0.is_empty() {
+            return None;
+        }
+        let (word, rest) = self.0.split_once(' ').unwrap_or((self.0, ""));
+        self.0 = rest.trim_start();
+        Some(word)
+    }
+
+    /// The next word.
+    pub fn word(&mut self) -> Result<&'a str, Fail> {
+        Ok(self.next().ok_or("a word is lacking")?)
+    }
+
+    /// The next word as a number.
+    pub fn number(&mut self) -> Result<u32, Fail> {
+        Ok(self.word()?.parse::<u32>()?)
+    }
+
+    /// What is left of the line.
+    pub fn rest(&self) -> &'a str {
+        self.0
+    }
+}
