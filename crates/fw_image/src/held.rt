@@ -245,6 +245,7 @@ impl<S: ImageStore> Held<S> {
     }
 
     /// Opens a store, whose header stays as it is. A store that is refused is returned, and its device is as it was.
+    #[inline(never)]
     pub(crate) fn open(mut store: S) -> Result<Held<S>, (OpenError, S)>
         ensures opened { IfOk result (λ next. Holds (S.known store) next) }
         ensures begins { IfOk result (λ next. reopened next.meter ≡ next.meter) }
@@ -266,6 +267,7 @@ impl<S: ImageStore> Held<S> {
 
     /// Opens a store, and then writes its header in version 2 where it is one of version 1. A store that is refused is returned, and
     /// its device is as it was.
+    #[inline(never)]
     pub(crate) fn open_migrated(mut store: S) -> Result<Held<S>, (OpenError, S)>
         ensures opened { IfOk result (λ next. Opens (S.known store) next) }
         ensures begins { IfOk result (λ next. reopened next.meter ≡ next.meter) }

@@ -1,4 +1,7 @@
 //! A transfer, in the status that its store holds.
+//!
+//! It has 2,600 bytes and more, and what LLVM takes for a function grows with the square of the moves of it there. So what moves it
+//! through an operation is not inlined, here and in the modules below.
 
 ghost use Rattle.std.specs.Prelude.{
   ◌≡◌,
@@ -109,6 +112,7 @@ pub fn open_kept<S: ImageStore>(store: S) -> Result<Phase<S>, (OpenError, S)>
 
 impl<S: ImageStore> Phase<S> {
     /// What is held, in its status.
+    #[inline(never)]
     pub(crate) fn of(held: Held<S>) -> Phase<S>
         ensures state { state_in result ≡ held }
         ensures phase { IsInPhase result }
@@ -138,6 +142,7 @@ impl<S: ImageStore> Phase<S> {
     }
 
     /// What is held, on its own.
+    #[inline(never)]
     fn into_held(self) -> Held<S>
         ensures { result ≡ state_in self }
     {
@@ -156,6 +161,7 @@ impl<S: ImageStore> Phase<S> {
     /// # Errors
     ///
     /// `Fault` alone.
+    #[inline(never)]
     pub fn set_enabled(self, enabled: bool) -> Result<Self, (Refusal, Self)>
         ensures makes { Makes (state_in self) (enable enabled) (told result) (left_in result) }
         ensures phase { IfOk result IsInPhase }
@@ -173,6 +179,7 @@ impl<S: ImageStore> Phase<S> {
     /// # Errors
     ///
     /// `Disabled`, `BadInitiate` or `Fault`, with the transfer as it was.
+    #[inline(never)]
     pub fn initiate(self, name: ImageName, size: u32) -> Result<Receiving<S>, (Refusal, Self)>
         ensures makes { Makes (state_in self) (initiate name size) (told result) (left_begun result) }
         ensures status { IfOk result (λ next. status_of next.meter.phase ≡ status.Initiated) }
@@ -186,6 +193,7 @@ impl<S: ImageStore> Phase<S> {
     }
 
     /// A turn of a verification that goes on, as `Verifying::turn` makes it. In every other status nothing is done.
+    #[inline(never)]
     pub fn turn(self) -> Phase<S>
         ensures turns { Turns (state_in self) (state_in result) }
         ensures phase { IsInPhase result }

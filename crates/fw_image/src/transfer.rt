@@ -216,6 +216,7 @@ impl<S: ImageStore> Receiving<S> {
     /// # Errors
     ///
     /// `Disabled`, `Missing` or `Fault`, with the transfer as it was, or `Differs`.
+    #[inline(never)]
     pub fn verify(self) -> Result<Phase<S>, NotVerified<S>>
         ensures makes { Makes self verify (told_verified result) (left_verified result) }
         ensures status { IfOk result IsVerified }
@@ -252,6 +253,7 @@ impl<S: ImageStore> Verified<S> {
     /// # Errors
     ///
     /// `Disabled` or `Fault`, with the transfer as it was.
+    #[inline(never)]
     pub fn activate(self) -> Result<Switched<S>, (Refusal, Self)>
         ensures makes { Makes self activate (told result) (left result) }
         ensures status { IfOk result (λ next. status_of next.meter.phase ≡ status.ActivationSuccessful) }
