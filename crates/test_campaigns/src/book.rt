@@ -7,7 +7,7 @@ use std::alloc::Global;
 use std::test::Fail;
 use test_tables::{Kept, Reads, Words};
 
-/// What is told of a book:
+/// What a book reports:
 ///
 /// - `last CALLS`, of which none but the last one is refused: `done`, or its refusal, which leaves the book as it was
 /// - `bytes CALLS`, of which none is refused: the bytes of the book after them

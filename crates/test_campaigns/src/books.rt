@@ -23,9 +23,9 @@ fn books_are_written(rt: HostRuntime) -> Result<(), Fail> {
 ///
 /// - `read BYTES`: those of the book that they are read as, or the refusal
 /// - `prefixes BYTES`: how many of the first bytes are a book's, where each other number of them is refused as no book's
-/// - `ended SIZE METERS`, those of one campaign with an image of this size for so many meters, each of which has ended: whether they are a
+/// - `ended SIZE METERS`, those of one campaign with an image of this size for METERS meters, each of which has ended: whether they are a
 ///   book's
-/// - `back SIZE METERS`, those of a book after it opened a campaign of release 5 with such an image for so many meters: how many bytes are
+/// - `back SIZE METERS`, those of a book after it opened a campaign of release 5 with such an image for METERS meters: how many bytes are
 ///   written, and whether the book that they are read as is written so too and offers the image
 #[derive(Clone, Copy)]
 struct Bytes;
@@ -186,7 +186,7 @@ fn ended_text(alloc: Global, mut words: Words<'_>) -> Result<String, Fail> {
     Ok(format!(in alloc; "{}", is_book(alloc, &bytes)?)?)
 }
 
-/// The bytes of one campaign with an image of this size for so many meters that were cancelled.
+/// The bytes of one campaign with an image of this size, for a number of meters, that were cancelled.
 fn ended_bytes(alloc: Global, size: u32, meters: u16) -> Result<Vec<u8>, AllocError> {
     let mut bytes = FRONT.to_vec(alloc)?;
     bytes.extend_from_slice(&size.to_be_bytes())?;

@@ -40,7 +40,7 @@ fn openings_are_refused_in_order(rt: HostRuntime) -> Result<(), Fail> {
 
 /// An opening of campaign 1 of head end 7:
 ///
-/// - `sized SIZE METERS ROUND`, with an image of this size for so many meters, whose numbers begin again from 0 after a round: the refusal
+/// - `sized SIZE METERS ROUND`, with an image of this size for METERS meters, whose numbers begin again from 0 after a round: the refusal
 /// - `named RELEASE HEAD SERIAL`, with `abc` of this release for meter 1: the name that is returned, and the one of this campaign in the book
 #[derive(Clone, Copy)]
 struct Opening;

@@ -7,7 +7,7 @@ use std::alloc::{AllocError, Global};
 use std::test::Fail;
 use test_tables::{Reads, each_line, each_prints};
 
-/// Which faults are told of bytes in hexadecimal.
+/// Which faults bytes in hexadecimal have.
 #[derive(Clone, Copy)]
 enum Faults {
     /// That of a request.

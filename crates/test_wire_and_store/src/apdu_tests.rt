@@ -10,7 +10,7 @@ use std::alloc::Global;
 use std::test::Fail;
 use test_tables::{Reads, Words, each_line};
 
-/// What is told of bytes in hexadecimal, or of words.
+/// What is reported of bytes in hexadecimal, or of words.
 #[derive(Clone, Copy)]
 enum Told {
     /// Of a request it, as `Debug` gives it, and how it is written, if that is otherwise.

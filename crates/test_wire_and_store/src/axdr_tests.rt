@@ -6,7 +6,7 @@ use std::alloc::Global;
 use std::test::Fail;
 use test_tables::{Reads, Words, each_line};
 
-/// What is told of bytes in hexadecimal.
+/// What is reported of bytes in hexadecimal.
 #[derive(Clone, Copy)]
 enum Told {
     /// Of a short spelling the value, as `Debug` gives it, if that is written so too.

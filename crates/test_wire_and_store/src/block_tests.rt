@@ -6,7 +6,7 @@ use std::alloc::{AllocError, Global};
 use std::test::Fail;
 use test_tables::{Reads, Words, each_line};
 
-/// What is told of numbers, lists of which have commas, or `-` where they are empty.
+/// What is reported of numbers, lists of which have commas, or `-` where they are empty.
 #[derive(Clone, Copy)]
 enum Told {
     /// Of a block size, the size of an image, and the number of a block: both sizes, how many blocks there are, and where that one lies.

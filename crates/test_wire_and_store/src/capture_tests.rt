@@ -25,7 +25,7 @@ fn address(text: &str) -> Result<SocketAddr, Fail> {
 enum Told {
     /// Of a datagram, by its time, its addresses and its bytes in hexadecimal, a byte and its record after it.
     Datagram,
-    /// Of a datagram of so many bytes from an address to itself the refusal, or how many bytes the capture has.
+    /// Of a datagram of N bytes from an address to itself the refusal, or how many bytes the capture has.
     Size,
     /// The same as of a datagram of a note at a time.
     Note,

@@ -39,8 +39,8 @@ impl Reads for Told {
 /// The bytes of a device, after calls of a table:
 ///
 /// - `new CALLS`: of a new store
-/// - `old LEN CALLS`: of an old one of so many bytes, with releases or without
-/// - `within ROOM CALLS`: of an old one of 642 bytes on a device that has room for so many
+/// - `old LEN CALLS`: of an old one of LEN bytes, with releases or without
+/// - `within ROOM CALLS`: of an old one of 642 bytes on a device that has room for ROOM bytes
 /// - `over LEN`: of a new store on a device that had other bytes, which are no part of it
 /// - `failing CALLS`: whether the device, which fails as soon as the store is opened, fails then, and its bytes
 fn stored(alloc: Global, mut words: Words<'_>) -> Result<String, Fail> {

@@ -23,7 +23,7 @@ fn fresh(alloc: Global) -> Result<Tried, Fail> {
 /// A step is a call, or
 ///
 /// - `new CAPACITY`: another new store takes its place
-/// - `fuse CALLS TORN`: so many more calls succeed, and a write that then fails leaves this byte
+/// - `fuse CALLS TORN`: CALLS more calls succeed, and a write that then fails leaves this byte
 /// - `unfuse`
 /// - `same CAPACITY CALL`: whether it is the same as a store with this capacity, which is new except for the call, if there is one
 impl Reads for Tried {

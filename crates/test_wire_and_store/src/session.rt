@@ -207,8 +207,8 @@ impl Trial {
     /// - `enable BOOLEAN`
     /// - `initiate SIZE`, `initiate-release RELEASE SIZE`, and `initiate-factory SIZE` under a factory's name
     /// - `block NUMBER BYTES`, `verify`, `activate`
-    /// - `initiate-own SIZE`: an image of so many bytes `a` under its own name, from the same campaign; `block-of NUMBER COUNT`: a block of
-    ///   so many bytes `a`
+    /// - `initiate-own SIZE`: an image of SIZE bytes `a` under its own name, from the same campaign; `block-of NUMBER COUNT`: a block of
+    ///   COUNT bytes `a`
     pub(crate) fn make(&mut self, alloc: Global, call: &str) -> Result<Option<Refusal>, Fail> {
         let mut words = Words::new(call);
         match words.word()? {
@@ -311,7 +311,7 @@ impl Trial {
 
     /// A look at the meter, or at its store.
     ///
-    /// - `reopen`: its store is taken and opened again; `stop-in-reopen CALLS`: the same, where so many calls of the store succeed. If it
+    /// - `reopen`: its store is taken and opened again; `stop-in-reopen CALLS`: the same, where CALLS calls of the store succeed. If it
     ///   isn't opened then, it is with the header that is there
     /// - `holds SLOT BYTES`: the slot begins with these bytes
     /// - `headed HEADER`: the header begins with the digits of this name, and has zeros after them, up to the releases where one isn't 0
@@ -427,7 +427,7 @@ pub(crate) fn opened(store: MemoryStore) -> Result<Meter, Fail> {
 
 /// A look at a meter that keeps its store.
 ///
-/// - `fuse CALLS TORN`: so many more calls of the store succeed, and a write that then fails leaves this byte; `unfuse`
+/// - `fuse CALLS TORN`: CALLS more calls of the store succeed, and a write that then fails leaves this byte; `unfuse`
 /// - `runs BYTES`: these are the bytes of the image that runs
 /// - `blocks SIZE COUNT FIRST BITS`: the size of its blocks, how many the goal has, the first that isn't there, and the bits of all
 /// - `verified SIZE`: how many bytes the image has that was verified

@@ -15,7 +15,7 @@ const PATH: &str = "book";
 /// The number of the head end.
 const HEAD: u32 = 7;
 
-/// A book of so many rows, of which each campaign offers an image of `size` bytes `a`, is opened, each row is marked as failed, all marks are
+/// A book of `rows` rows, of which each campaign offers an image of `size` bytes `a`, is opened, each row is marked as failed, all marks are
 /// committed, and the book is read back. Counts the rows that are read.
 pub fn measure(rt: &HostRuntime, rows: u32, size: u32, timed: bool) -> Result<u64, Fail> {
     let head = HeadId::new(HEAD).ok_or("a head end")?;
