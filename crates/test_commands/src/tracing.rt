@@ -16,7 +16,7 @@ fn traced<R: Read>(alloc: Global, reader: &mut R) -> Result<String, Fail> {
     ended(alloc, written, result)
 }
 
-/// Reads `capture DIGITS`: what a capture tells; or `room N`: a note is told to a writer with room for N bytes.
+/// Reads `capture DIGITS`: what a capture tells; or `room N`: a note is written to a writer with room for N bytes.
 #[derive(Clone, Copy)]
 struct Traces;
 
