@@ -10,25 +10,34 @@ pub trait Reads {
     fn told(&mut self, alloc: Global, what: &str) -> Result<String, Fail>;
 }
 
-/// Each row reports what stands after its arrow. Empty lines and those that begin with `//` are no rows.
+/// Each row reports what stands after its arrow. Empty lines and those that begin with `//` are no rows. A table has one row at least.
 pub fn each_line<R: Reads>(alloc: Global, subject: &mut R, table: &str) -> Result<(), Fail> {
+    let mut has_rows = false;
     for line in table.lines() {
-        row(alloc, subject, line.trim())?;
+        has_rows |= row(alloc, subject, line.trim())?;
+    }
+    if !has_rows {
+        return Err("a table without rows".into());
     }
     Ok(())
 }
 
-fn row<R: Reads>(alloc: Global, subject: &mut R, line: &str) -> Result<(), Fail> {
+/// Whether the line is a row, which then reports what stands after its arrow.
+fn row<R: Reads>(alloc: Global, subject: &mut R, line: &str) -> Result<bool, Fail> {
     if line.is_empty() || line.starts_with("//") {
-        return Ok(());
+        return Ok(false);
     }
     let (what, want) = line.split_once("=>").ok_or("a row without an arrow")?;
     let told = subject.told(alloc, what.trim())?;
-    expect_at(alloc, line, told.as_str(), want.trim())
+    expect_at(alloc, line, told.as_str(), want.trim())?;
+    Ok(true)
 }
 
-/// Each fault prints what stands beside it.
+/// Each fault prints what stands beside it. There is one at least.
 pub fn each_prints<E: Display>(alloc: Global, rows: &[(E, &str)]) -> Result<(), Fail> {
+    if rows.is_empty() {
+        return Err("a table without rows".into());
+    }
     for (at, (fault, want)) in rows.iter().enumerate() {
         let printed = format!(in alloc; "{fault}")?;
         expect(alloc, at, printed.as_str(), want)?;
