@@ -139,7 +139,6 @@ impl Room {
 }
 
 /// All datagrams that were sent, and all events that happened, each with the number of datagrams that it added.
-#[derive(Drop)]
 pub struct Log {
     sent: Vec<Datagram>,
     entries: Vec<Entry>,
@@ -148,6 +147,19 @@ pub struct Log {
     /// How many events and datagrams there are.
     events: usize,
     datagrams: usize,
+}
+
+// Written out: where a log is let go, that is one call, and none of its parts is looked into.
+impl Drop for Log {
+    fn drop(self) {
+        let Log {
+            sent: _,
+            entries: _,
+            newer: _,
+            events: _,
+            datagrams: _,
+        } = self;
+    }
 }
 
 impl Model for Log {
@@ -256,7 +268,8 @@ impl Log {
             mut sent,
             mut entries,
             newer,
-            ..
+            events: _,
+            datagrams: _,
         } = self;
         let newest_first = unlinked(alloc, newer)?;
         unfold(&mut sent, &mut entries, newest_first)?;

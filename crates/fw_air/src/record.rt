@@ -40,10 +40,19 @@ use std::alloc::Global;
 use std::marker::Model;
 
 /// A world that events led to, and these events.
-#[derive(Drop)]
 pub(crate) struct Record {
     world: World,
     events: Vec<Event>,
+}
+
+// Written out: where a record is let go, that is one call, and none of its parts is looked into.
+impl Drop for Record {
+    fn drop(self) {
+        let Record {
+            world: _,
+            events: _,
+        } = self;
+    }
 }
 
 impl Model for Record {
@@ -87,16 +96,18 @@ impl Record {
     pub(crate) fn into_events(self) -> Vec<Event>
         ensures { events_of result.items ≡ self.events }
     {
-        self.events
+        let Record { world: _, events } = self;
+        events
     }
 
     /// What is returned where the next event was refused.
     pub(crate) fn refused(self, cause: StepError) -> RunError
         ensures { result ≡ stopped.Event (length self.events) self.world cause }
     {
+        let Record { world, events } = self;
         RunError::Event {
-            at: self.events.len(),
-            world: self.world,
+            at: events.len(),
+            world,
             cause,
         }
     }

@@ -35,9 +35,15 @@ pub type TakenRows = IntoValues<u32, RowCore>;
 
 /// The live rows by the numbers of their meters: a meter is live in one campaign at most. Contracts see the entries of the map, and
 /// the room that is left in it.
-#[derive(Drop)]
 pub(crate) struct Rows {
     rows: IndexMap<u32, RowCore>,
+}
+
+// Written out: where rows are let go, that is one call, and none of their parts is looked into.
+impl Drop for Rows {
+    fn drop(self) {
+        let Rows { rows: _ } = self;
+    }
 }
 
 impl Rows {
@@ -68,7 +74,8 @@ impl Rows {
     pub(crate) fn take_all(self) -> TakenRows
         ensures { result ≡ values_of self.rows.entries }
     {
-        self.rows.into_values()
+        let Rows { rows } = self;
+        rows.into_values()
     }
 
     /// A reopened row for each meter that is live in the book.

@@ -49,10 +49,16 @@ use std::alloc::Global;
 use std::marker::Model;
 
 /// A meter over a store.
-#[derive(Drop)]
 pub struct MeterCore<S: ImageStore + Drop> {
     /// It moves out and back within a call.
     phase: Option<Phase<S>>,
+}
+
+// Written out: where a meter is let go, that is one call, and none of its parts is looked into.
+impl<S: ImageStore + Drop> Drop for MeterCore<S> {
+    fn drop(self) {
+        let MeterCore { phase: _ } = self;
+    }
 }
 
 impl<S: ImageStore + Drop> Model for MeterCore<S> {
@@ -160,7 +166,8 @@ impl<S: ImageStore + Drop> MeterCore<S> {
         ensures back { IfErr result (λ e. Holds (S.known e.1) (stored self)) }
     {
         fw_image::laws::one_meter();
-        match self.phase {
+        let MeterCore { phase: held } = self;
+        match held {
             Some(phase) => MeterCore::open_store(phase.into_store()),
             None => unreachable!(),
         }

@@ -25,12 +25,23 @@ use std::alloc::Global;
 use std::marker::Model;
 
 /// Head ends and meters, in the order of their setup, with all that was ever sent and switched to.
-#[derive(Drop)]
 pub struct World {
     heads: Heads,
     meters: Meters,
     sent: Vec<Datagram>,
     activations: Vec<Activation>,
+}
+
+// Written out: where a world is let go, that is one call, and none of its parts is looked into.
+impl Drop for World {
+    fn drop(self) {
+        let World {
+            heads: _,
+            meters: _,
+            sent: _,
+            activations: _,
+        } = self;
+    }
 }
 
 impl Model for World {
@@ -395,11 +406,17 @@ impl World {
         // No two head ends have one number, and no two meters.
         ensures once { IsOnce (state_of result) }
     {
+        let World {
+            heads,
+            meters,
+            sent,
+            activations,
+        } = self;
         Parts {
-            heads: self.heads.into_vec(),
-            meters: self.meters.into_vec(),
-            sent: self.sent,
-            activations: self.activations,
+            heads: heads.into_vec(),
+            meters: meters.into_vec(),
+            sent,
+            activations,
         }
     }
 

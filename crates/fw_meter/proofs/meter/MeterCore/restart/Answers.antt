@@ -14,7 +14,7 @@ returns-clause-same g c = λ honest.
     let store = g.S.ImageStore.known c.into_store.result in
     let self : State = c.args.self in
     let was = ap state_there (sym c.in-Some.is) ∙ c.self.view_is in
-    let left : Holds store (stored self) = subst (λ (x : State). Holds store (stored x)) was (rw c.in-Some.phase-is at c.into_store.ensures.held) in
+    let left : Holds store (stored self) = subst (λ (x : State). Holds store (stored x)) was c.into_store.ensures.held in
     IfOk-weaker c.open_store.result (Opens store) _
     (λ meter opened. goes_on store self meter c.one_meter.ensures left opened honest) c.open_store.ensures.opened
 
@@ -23,8 +23,8 @@ returns-clause-spends g c =
     let store = g.S.ImageStore.known c.into_store.result in
     let self : State = c.args.self in
     let was = ap state_there (sym c.in-Some.is) ∙ c.self.view_is in
-    let left : Holds store (stored self) = subst (λ (x : State). Holds store (stored x)) was (rw c.in-Some.phase-is at c.into_store.ensures.held) in
-    let calls : store.fuse ≡ self.fuse = (rw c.in-Some.phase-is at c.into_store.ensures.fuse) ∙ ap (λ (x : State). x.fuse) was in
+    let left : Holds store (stored self) = subst (λ (x : State). Holds store (stored x)) was c.into_store.ensures.held in
+    let calls : store.fuse ≡ self.fuse = c.into_store.ensures.fuse ∙ ap (λ (x : State). x.fuse) was in
     IfOk-weaker c.open_store.result (Opens store) _ (λ meter opened. (
       opened.was,
       opened.goes_on,
