@@ -9,7 +9,6 @@ use fw_wrapper::join;
 use std::alloc::Global;
 use std::test::Fail;
 use test_support::{SMALL, head, meter, setup_of};
-use test_tables::Kept;
 
 /// The phase of the row of the meter, and how often it returned to its start; none where it isn't live.
 fn row(core: &HeadCore) -> Result<Option<(Phase, u32)>, Fail> {
@@ -40,10 +39,10 @@ fn answered(alloc: Global, core: &mut HeadCore, answer: &[u8]) -> Result<usize, 
 }
 
 /// A head end that sends up to `width` blocks at a time, and offers this image to the meter.
-fn opened(alloc: Global, width: u8, image: &[u8]) -> Result<Kept<HeadCore>, Fail> {
+fn opened(alloc: Global, width: u8, image: &[u8]) -> Result<HeadCore, Fail> {
     let width = Width::new(width).ok_or("a width")?;
-    let mut core = Kept(HeadCore::new(alloc, head(7)?, width));
-    core.0.open_campaign(alloc, 1, 0, image, &[meter(1)?])?;
+    let mut core = HeadCore::new(alloc, head(7)?, width);
+    core.open_campaign(alloc, 1, 0, image, &[meter(1)?])?;
     Ok(core)
 }
 
@@ -78,7 +77,7 @@ fn each_answer_cut_short(rt: HostRuntime) -> Result<(), Fail> {
     let mut core = opened(alloc, 4, b"abc")?;
     let mut tried = 0usize;
     for event in &events {
-        tried = tried.saturating_add(had(alloc, &mut core.0, world.0.sent(), event)?);
+        tried = tried.saturating_add(had(alloc, &mut core, world.sent(), event)?);
     }
     expect_tried(alloc, tried, 264)
 }
@@ -125,8 +124,8 @@ fn carried(alloc: Global, core: &mut HeadCore, apdu: &str) -> Result<usize, Fail
 /// A head end that offers an image of six blocks hears the answers up to the gaps, and then these.
 fn behind_gaps(alloc: Global, then: &str) -> Result<usize, Fail> {
     let mut core = opened(alloc, 3, b"abcdefghijkl")?;
-    let tried = rounds(alloc, &mut core.0, UP_TO_GAPS)?;
-    Ok(tried.saturating_add(rounds(alloc, &mut core.0, then)?))
+    let tried = rounds(alloc, &mut core, UP_TO_GAPS)?;
+    Ok(tried.saturating_add(rounds(alloc, &mut core, then)?))
 }
 
 /// Up to the gaps the answers have 17, 12, 13, three times 13 twice, and 17 bytes; then 15, three times 13, 17 and 13, or 15.

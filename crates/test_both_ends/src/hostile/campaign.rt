@@ -5,7 +5,6 @@ use fw_world::{Event, Setup, World, run};
 use std::alloc::Global;
 use std::test::Fail;
 use test_support::{DONE, events_of};
-use test_tables::Kept;
 
 /// How many events it has.
 pub(crate) const ALL: usize = 30;
@@ -18,13 +17,9 @@ pub(crate) fn events(alloc: Global, count: usize) -> Result<Vec<Event>, Fail> {
 }
 
 /// The world that these events make.
-pub(crate) fn world_of(
-    alloc: Global,
-    setup: &Setup,
-    events: &[Event],
-) -> Result<Kept<World>, Fail> {
+pub(crate) fn world_of(alloc: Global, setup: &Setup, events: &[Event]) -> Result<World, Fail> {
     match run(alloc, setup, events) {
-        Ok(world) => Ok(Kept(world)),
+        Ok(world) => Ok(world),
         Err(_) => Err("an event is refused".into()),
     }
 }

@@ -6,7 +6,6 @@ use fw_store::MemoryStore;
 use fw_wrapper::{join, split};
 use std::alloc::Global;
 use std::test::Fail;
-use test_tables::Kept;
 
 /// They have 21, 23, 71, 75, 32, 31, 23 and 21 bytes, 297 together, 8 of which are the header of the wrapper.
 const TRIED: &str = "get-firmware enable initiate initiate-5 block-0 block-1 verify get-7";
@@ -14,12 +13,12 @@ const TRIED: &str = "get-firmware enable initiate initiate-5 block-0 block-1 ver
 /// What a new meter does with a datagram, that runs `abc`, with blocks of two bytes and room for 64, and whose transfer these datagrams
 /// enable.
 fn handled(alloc: Global, enable: &[Vec<u8>], datagram: &[u8]) -> Result<Handled, Fail> {
-    let mut meter = Kept(opened(MemoryStore::new(alloc, 64, 2, b"abc")?)?);
-    replies(alloc, &mut meter.0, enable)?;
-    if !meter.0.enabled() {
+    let mut meter = opened(MemoryStore::new(alloc, 64, 2, b"abc")?)?;
+    replies(alloc, &mut meter, enable)?;
+    if !meter.enabled() {
         return Err("transfer isn't enabled".into());
     }
-    Ok(meter.0.handle(alloc, datagram)?)
+    Ok(meter.handle(alloc, datagram)?)
 }
 
 /// With each byte turned to each value a new meter switches to nothing.

@@ -9,7 +9,7 @@ use fw_names::ImageName;
 use fw_store::{DeviceStore, FileStoreError, VERSION_TWO_SIZE};
 use std::alloc::Global;
 use std::test::Fail;
-use test_tables::{Kept, Reads, each_line};
+use test_tables::{Reads, each_line};
 
 /// Where the header of a file begins: after the capacity.
 const HEADER_AT: usize = 4;
@@ -229,10 +229,10 @@ impl Reads for Turned {
 
 fn receiving(alloc: Global, is_old: bool) -> Result<Vec<u8>, Fail> {
     let disk = new_file(alloc, 8)?;
-    let mut meter = Kept(opened(DeviceStore::reopen_on(disk.open()?)?)?);
+    let mut meter = opened(DeviceStore::reopen_on(disk.open()?)?)?;
     replies(
         alloc,
-        &mut meter.0,
+        &mut meter,
         &datagrams(alloc, "enable initiate block-1")?,
     )?;
     let mut file = disk.bytes(alloc)?;

@@ -8,7 +8,7 @@ use fw_meter::MeterCore;
 use fw_store::{DeviceStore, FileStoreError};
 use std::alloc::Global;
 use std::test::Fail;
-use test_tables::{Kept, Words};
+use test_tables::Words;
 
 /// A campaign for a meter that runs `x`, with blocks of two bytes and room for eight; the first block comes as `zz`, and once more as `ab`,
 /// now under its old mark. A line for each operation: the request, the reply where the store failed, and the one where it is done; then
@@ -34,8 +34,8 @@ fn exchange(alloc: Global, line: &str) -> Result<Vec<Vec<u8>>, Fail> {
 
 /// The replies of the meter in the file on a disk to these requests, one after the other.
 fn replies(alloc: Global, disk: &Disk, asks: &[Vec<u8>]) -> Result<Vec<u8>, Fail> {
-    let mut meter = Kept(opened(DeviceStore::reopen_on(disk.open()?)?)?);
-    support::replies(alloc, &mut meter.0, asks)
+    let mut meter = opened(DeviceStore::reopen_on(disk.open()?)?)?;
+    support::replies(alloc, &mut meter, asks)
 }
 
 /// Whether an operation is done on a disk. It has no other replies than its two.
@@ -238,7 +238,7 @@ fn an_old_store_on_a_disk_that_is_only_read(rt: HostRuntime) -> Result<(), Fail>
 fn kept_reads(alloc: Global, disk: &Disk) -> Result<Vec<u8>, Fail> {
     let reads = datagrams(alloc, READS)?;
     match MeterCore::open_kept(DeviceStore::reopen_on(disk.open()?)?) {
-        Ok(meter) => support::replies(alloc, &mut Kept(meter).0, &reads),
+        Ok(mut meter) => support::replies(alloc, &mut meter, &reads),
         Err((error, _store)) => Err(error.into()),
     }
 }

@@ -9,7 +9,7 @@ use fw_store::{
 };
 use std::alloc::Global;
 use std::test::Fail;
-use test_tables::{Kept, Reads, Words, each_line};
+use test_tables::{Reads, Words, each_line};
 
 /// Stores with a header of this version, of 64 bytes a slot and with blocks of two bytes. A row says what is turned: each of the 622 bytes
 /// that a header of either version has, to each value, or each bit of the further marks of version 2. After that it has the image that the
@@ -44,14 +44,14 @@ impl Turned {
 }
 
 /// What is left of a store of a meter that these datagrams came to. Its header keeps its version.
-fn left_by(alloc: Global, store: MemoryStore, names: &str) -> Result<Kept<MemoryStore>, Fail> {
+fn left_by(alloc: Global, store: MemoryStore, names: &str) -> Result<MemoryStore, Fail> {
     if names.is_empty() {
-        return Ok(Kept(store));
+        return Ok(store);
     }
     match MeterCore::open_kept(store) {
         Ok(meter) => {
-            let mut meter = Kept(meter);
-            replies(alloc, &mut meter.0, &datagrams(alloc, names)?)?;
+            let mut meter = meter;
+            replies(alloc, &mut meter, &datagrams(alloc, names)?)?;
             store_of(meter)
         }
         Err((error, _store)) => Err(error.into()),
@@ -59,27 +59,26 @@ fn left_by(alloc: Global, store: MemoryStore, names: &str) -> Result<Kept<Memory
 }
 
 /// The store of a meter: a restart returns it where a call of it fails.
-fn store_of(meter: Kept<MeterCore<MemoryStore>>) -> Result<Kept<MemoryStore>, Fail> {
-    let mut meter = meter.into_inner();
+fn store_of(mut meter: MeterCore<MemoryStore>) -> Result<MemoryStore, Fail> {
     meter.fuse(0, 0);
     match meter.restart() {
         Ok(_meter) => Err("a meter was opened from a store that fails".into()),
         Err((_error, mut store)) => {
             store.unfuse();
-            Ok(Kept(store))
+            Ok(store)
         }
     }
 }
 
 /// Turns the bytes of the header from `start` on up to `end`, one at a time: each to each value, or each of their bits.
 fn turn_all(
-    mut store: Kept<MemoryStore>,
+    mut store: MemoryStore,
     start: usize,
     end: usize,
     is_by_bits: bool,
     count: &mut Count,
 ) -> Result<(), Fail> {
-    let whole = store.0.header()?;
+    let whole = store.header()?;
     for at in start..end {
         for turn in 0..=255u8 {
             if !is_by_bits || turn.is_power_of_two() {
@@ -105,16 +104,13 @@ fn with_turned(mut header: HeaderBytes, at: usize, turn: u8) -> HeaderBytes {
 }
 
 /// What comes of a header in a store.
-fn judged(
-    mut store: Kept<MemoryStore>,
-    header: &HeaderBytes,
-) -> Result<(Outcome, Kept<MemoryStore>), Fail> {
-    store.0.write_header(header)?;
-    match MeterCore::open_store(store.into_inner()) {
-        Ok(meter) if shows(&meter, header) => Ok((Outcome::Opened, store_of(Kept(meter))?)),
+fn judged(mut store: MemoryStore, header: &HeaderBytes) -> Result<(Outcome, MemoryStore), Fail> {
+    store.write_header(header)?;
+    match MeterCore::open_store(store) {
+        Ok(meter) if shows(&meter, header) => Ok((Outcome::Opened, store_of(meter)?)),
         Ok(_meter) => Err("a meter was opened as its header doesn't say".into()),
-        Err((OpenError::BadHeader, store)) => Ok((Outcome::BadHeader, Kept(store))),
-        Err((OpenError::BadImage, store)) => Ok((Outcome::BadImage, Kept(store))),
+        Err((OpenError::BadHeader, store)) => Ok((Outcome::BadHeader, store)),
+        Err((OpenError::BadImage, store)) => Ok((Outcome::BadImage, store)),
         Err((OpenError::Fault, _store)) => Err("a call of the store failed".into()),
     }
 }

@@ -11,7 +11,7 @@ use std::alloc::Global;
 use std::ops::Range;
 use std::test::Fail;
 use test_support::{SMALL, head, meter, old_setup_of, setup_of};
-use test_tables::{Kept, Words};
+use test_tables::Words;
 
 /// How many events of the campaign come before a datagram to the meter, its number, and how many calls of the store it makes: of a GET
 /// none, of a SET, an initiate and an activate one, of a new block and of a verify two.
@@ -43,7 +43,7 @@ fn restarted(alloc: Global, count: usize, datagram: Option<usize>) -> Result<Sig
     }
     given.push(Event::RestartMeter(meter(1)?))?;
     let world = world_of(alloc, &setup_of(alloc, SMALL)?, &given)?;
-    sight(&world.0)
+    sight(&world)
 }
 
 fn sight(world: &World) -> Result<Sight, Fail> {
@@ -70,18 +70,18 @@ fn is_as_wanted(
     let mut given = events(alloc, count)?;
     given.push(last)?;
     let world = world_of(alloc, setup, &given)?;
-    if sight(&world.0)? != *want {
+    if sight(&world)? != *want {
         return failed(alloc, "the meter is another one", count);
     }
     let world = gone_on(alloc, setup, &given)?;
-    if !is_done(&world.0)? {
+    if !is_done(&world)? {
         return failed(alloc, "the campaign doesn't end", count);
     }
     Ok(())
 }
 
 /// The world where the campaign goes on after these events.
-fn gone_on(alloc: Global, setup: &Setup, given: &[Event]) -> Result<Kept<World>, Fail> {
+fn gone_on(alloc: Global, setup: &Setup, given: &[Event]) -> Result<World, Fail> {
     let fates = Fates::new(&[Fate::Deliver]).ok_or("1 to 4,096 fates")?;
     match schedule(alloc, setup, given, 20, &fates) {
         Ok(events) => world_of(alloc, setup, &events),

@@ -5,7 +5,6 @@ use fw_store::{FileStore, ImageStore, MemoryStore};
 use std::alloc::{AllocError, Global};
 use std::fs;
 use std::test::Fail;
-use test_tables::Kept;
 
 /// Room for the longest image of a load.
 const CAPACITY: u32 = 16_777_216;
@@ -24,13 +23,13 @@ pub fn in_memory(
     datagrams: &[Vec<u8>],
 ) -> Result<u64, Fail> {
     let mut meter = new_meter(alloc, block_size)?;
-    Ok(handle(alloc, &mut meter.0, sent, datagrams)?)
+    Ok(handle(alloc, &mut meter, sent, datagrams)?)
 }
 
 /// A new meter over a store in memory.
-pub fn new_meter(alloc: Global, block_size: u32) -> Result<Kept<MeterCore<MemoryStore>>, Fail> {
+pub fn new_meter(alloc: Global, block_size: u32) -> Result<MeterCore<MemoryStore>, Fail> {
     let store = MemoryStore::new(alloc, CAPACITY, block_size, FACTORY)?;
-    Ok(Kept(MeterCore::open_store(store).ok().ok_or("a new store")?))
+    Ok(MeterCore::open_store(store).ok().ok_or("a new store")?)
 }
 
 /// The same over a store in a file.
@@ -41,8 +40,8 @@ pub fn in_file(
     datagrams: &[Vec<u8>],
 ) -> Result<u64, Fail> {
     let store = FileStore::create(rt, PATH, CAPACITY, block_size, FACTORY)?;
-    let mut meter = Kept(MeterCore::open_store(store).ok().ok_or("a new store")?);
-    let switched = handle(rt.alloc(), &mut meter.0, sent, datagrams)?;
+    let mut meter = MeterCore::open_store(store).ok().ok_or("a new store")?;
+    let switched = handle(rt.alloc(), &mut meter, sent, datagrams)?;
     fs::remove_file(rt, PATH)?;
     Ok(switched)
 }

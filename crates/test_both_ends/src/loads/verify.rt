@@ -24,7 +24,7 @@ pub fn measure(
     let image = vec![in rt.alloc(); b'a'; size as usize]?;
     let mut meter = new_meter(rt.alloc(), BLOCK_SIZE)?;
     for _ in 0..rounds {
-        let (verify, alone) = round(rt, &mut meter.0, &image, datagrams)?;
+        let (verify, alone) = round(rt, &mut meter, &image, datagrams)?;
         if timed {
             println!(rt; "{verify} {alone}")?;
         }

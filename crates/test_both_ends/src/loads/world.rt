@@ -7,7 +7,6 @@ use fw_world::{Event, Setup, World, run};
 use std::alloc::Global;
 use std::test::Fail;
 use std::time::CpuClock;
-use test_tables::Kept;
 
 /// How many blocks the head end sends at a time.
 const WIDTH: u32 = 15;
@@ -44,11 +43,11 @@ pub fn measure(rt: &HostRuntime, meters: u32, size: u32, timed: bool) -> Result<
 
 /// The campaign's events. In each round the head end ticks the meters in their order, and both ends hear at once what is sent.
 fn events_of(alloc: Global, setup: &Setup, size: u32) -> Result<Vec<Event>, Fail> {
-    let mut world = Kept(World::new(alloc, setup)?);
+    let mut world = World::new(alloc, setup)?;
     let mut events = Vec::new(alloc);
     let opening = opening(alloc, setup, size)?;
-    make(alloc, &mut world.0, &mut events, opening)?;
-    make_rounds(alloc, setup, &mut world.0, &mut events)?;
+    make(alloc, &mut world, &mut events, opening)?;
+    make_rounds(alloc, setup, &mut world, &mut events)?;
     Ok(events)
 }
 

@@ -8,7 +8,6 @@ use fw_names::{CampaignId, HeadId, MeterId};
 use fw_world::{Event, HeadSetup, MeterSetup, Setup, World};
 use std::alloc::Global;
 use std::fmt::Write;
-use test_tables::Kept;
 
 /// The datagrams that come after each tick, by their places among all that are sent.
 const ROUNDS: &str = "\
@@ -119,9 +118,9 @@ pub(crate) fn row(told: &mut Told<'_>) -> Result<(), Ending> {
     let alloc = told.alloc();
     let actors = Actors::new().ok_or(Ending::Unexpected)?;
     let setup = made(|| setup(alloc, actors))?;
-    let mut world = Kept(made(|| World::new(alloc, &setup).ok().ok_or(Refused))?);
-    make(alloc, actors, &mut world.0)?;
-    tell(told, sight(actors, &world.0))
+    let mut world = made(|| World::new(alloc, &setup).ok().ok_or(Refused))?;
+    make(alloc, actors, &mut world)?;
+    tell(told, sight(actors, &world))
 }
 
 fn tell(told: &mut Told<'_>, (row, view, _sent, activations): Sight) -> Result<(), Ending> {

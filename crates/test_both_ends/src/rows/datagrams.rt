@@ -7,7 +7,6 @@ use fw_meter::MeterCore;
 use fw_store::MemoryStore;
 use std::alloc::Global;
 use std::fmt::Write;
-use test_tables::Kept;
 
 /// A GET of the active firmware identifier: the name of the image that runs.
 pub(crate) const IDENTIFIER: &str = "000100010001000dc001c100010100000200ff0200";
@@ -48,9 +47,9 @@ pub(crate) fn replied(
 /// Prints the replies of a new meter that runs `abc`.
 pub(crate) fn session(told: &mut Told<'_>, row: &str, datagrams: &str) -> Result<(), Ending> {
     let alloc = told.alloc();
-    let mut meter = Kept(meter(alloc, b"abc")?);
+    let mut meter = meter(alloc, b"abc")?;
     for datagram in datagrams.lines() {
-        match replied(alloc, &mut meter.0, &bytes_of(alloc, datagram)?)? {
+        match replied(alloc, &mut meter, &bytes_of(alloc, datagram)?)? {
             Some(reply) => writeln!(told, "{row}: {}", Hex(reply.as_slice()))?,
             None => writeln!(told, "{row}: -")?,
         }

@@ -6,7 +6,6 @@ use crate::rows::telling::Told;
 use fw_book::{Book, RowState};
 use std::alloc::Global;
 use std::fmt::Write;
-use test_tables::Kept;
 
 fn state(actors: Actors, book: &Book) -> Option<RowState> {
     book.state(actors.campaign, actors.meter)
@@ -23,10 +22,10 @@ fn written(alloc: Global, actors: Actors, book: &mut Book) -> Result<Vec<u8>, En
 }
 
 /// The book of the head end, which has opened the campaign.
-fn opened(alloc: Global, actors: Actors) -> Result<Kept<Book>, Ending> {
-    let mut book = Kept(Book::new(alloc, actors.head));
+fn opened(alloc: Global, actors: Actors) -> Result<Book, Ending> {
+    let mut book = Book::new(alloc, actors.head);
     retried(
-        &mut book.0,
+        &mut book,
         |book: &Book| -> Option<RowState> { state(actors, book) },
         |book: &mut Book| {
             book.open_campaign(alloc, actors.campaign, 0, b"abc", &[actors.meter])
@@ -49,8 +48,8 @@ fn tell(told: &mut Told<'_>, actors: Actors, book: &mut Book) -> Result<Vec<u8>,
 fn tell_read(told: &mut Told<'_>, actors: Actors, bytes: &[u8]) -> Result<(), Ending> {
     let alloc = told.alloc();
     match made(|| Book::read(alloc, bytes).told())? {
-        Ok(book) => {
-            tell(told, actors, &mut Kept(book).0)?;
+        Ok(mut book) => {
+            tell(told, actors, &mut book)?;
         }
         Err(error) => writeln!(told, "book: {error}")?,
     }
@@ -60,7 +59,7 @@ fn tell_read(told: &mut Told<'_>, actors: Actors, bytes: &[u8]) -> Result<(), En
 /// Prints the bytes of a book, those of the book that they are read as, and what comes of one byte less.
 pub(crate) fn book(told: &mut Told<'_>) -> Result<(), Ending> {
     let actors = Actors::new().ok_or(Ending::Unexpected)?;
-    let bytes = tell(told, actors, &mut opened(told.alloc(), actors)?.0)?;
+    let bytes = tell(told, actors, &mut opened(told.alloc(), actors)?)?;
     tell_read(told, actors, &bytes)?;
     tell_read(told, actors, &bytes[..bytes.len().saturating_sub(1)])
 }

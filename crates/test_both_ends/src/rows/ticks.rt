@@ -12,7 +12,6 @@ use fw_names::MeterId;
 use fw_store::MemoryStore;
 use std::alloc::Global;
 use std::fmt::Write;
-use test_tables::Kept;
 
 /// How many ticks are answered, and how many aren't, the last of which asks under the id of the first.
 const ANSWERED: u8 = 8;
@@ -31,11 +30,11 @@ fn sight(meter: MeterId, head: &HeadCore) -> Sight {
     row.map(|row| (row.phase(), row.returns()))
 }
 
-fn opened(alloc: Global, actors: Actors) -> Result<Kept<HeadCore>, Ending> {
+fn opened(alloc: Global, actors: Actors) -> Result<HeadCore, Ending> {
     let width = Width::new(4).ok_or(Ending::Unexpected)?;
-    let mut head = Kept(HeadCore::new(alloc, actors.head, width));
+    let mut head = HeadCore::new(alloc, actors.head, width);
     retried(
-        &mut head.0,
+        &mut head,
         |head: &HeadCore| -> Sight { sight(actors.meter, head) },
         |head: &mut HeadCore| head
             .open_campaign(alloc, 1, 0, b"abc", &[actors.meter])
@@ -84,9 +83,9 @@ fn round(
 
 /// The ticks that are answered.
 fn answered(alloc: Global, number: MeterId, head: &mut HeadCore) -> Result<(), Ending> {
-    let mut core = Kept(meter(alloc, b"x")?);
+    let mut core = meter(alloc, b"x")?;
     for _ in 0..ANSWERED {
-        round(alloc, number, head, &mut core.0)?;
+        round(alloc, number, head, &mut core)?;
     }
     Ok(())
 }
@@ -128,7 +127,7 @@ pub(crate) fn row(told: &mut Told<'_>) -> Result<(), Ending> {
     let actors = Actors::new().ok_or(Ending::Unexpected)?;
     let number = actors.meter;
     let mut head = opened(alloc, actors)?;
-    answered(alloc, number, &mut head.0)?;
-    let invoke = unanswered(alloc, number, &mut head.0)?;
-    tell(told, number, &mut head.0, invoke)
+    answered(alloc, number, &mut head)?;
+    let invoke = unanswered(alloc, number, &mut head)?;
+    tell(told, number, &mut head, invoke)
 }

@@ -7,7 +7,7 @@ use fw_world::{Activation, Actor, Datagram, Event, World};
 use std::alloc::{AllocError, Global};
 use std::test::Fail;
 use test_support::{head, head_number, meter, meter_text, push, push_rows, report};
-use test_tables::{Kept, Reads, Words, each_line, expect};
+use test_tables::{Reads, Words, each_line, expect};
 
 /// A world takes the events of a script one after another, also after one that is refused: each refusal, and then the report.
 #[derive(Clone, Copy)]
@@ -16,9 +16,9 @@ struct Steps;
 impl Reads for Steps {
     fn told(&mut self, alloc: Global, what: &str) -> Result<String, Fail> {
         let (setup, events) = script_of(alloc, what)?;
-        let mut world = Kept(World::new(alloc, &setup)?);
-        let mut text = refusals_text(alloc, &mut world.0, &events)?;
-        push(&mut text, report(alloc, &setup, &world.0)?.as_str())?;
+        let mut world = World::new(alloc, &setup)?;
+        let mut text = refusals_text(alloc, &mut world, &events)?;
+        push(&mut text, report(alloc, &setup, &world)?.as_str())?;
         Ok(text)
     }
 }
@@ -142,7 +142,7 @@ fn what_is_shown(rt: HostRuntime) -> Result<(), Fail> {
     let alloc = rt.alloc();
     let (setup, events) = script_of(alloc, DONE)?;
     let world = world_after(alloc, &setup, &events)?;
-    each_line(alloc, &mut Shown(&world.0), SHOWN)
+    each_line(alloc, &mut Shown(&world), SHOWN)
 }
 
 /// A world that is taken apart and joined is as it was.
@@ -157,11 +157,11 @@ fn taken_apart_and_joined(rt: HostRuntime) -> Result<(), Fail> {
     let alloc = rt.alloc();
     let (setup, events) = script_of(alloc, DONE)?;
     let world = world_after(alloc, &setup, &events)?;
-    let joined = Kept(rejoined(world.into_inner()));
+    let joined = rejoined(world);
     expect(
         alloc,
         0,
-        report(alloc, &setup, &joined.0)?.as_str(),
+        report(alloc, &setup, &joined)?.as_str(),
         "row 7 1 1 done; meter 1 status 6 active 7 1 size 3; activations 1; sent 20",
     )
 }

@@ -6,7 +6,7 @@ use fw_world::{Event, World};
 use std::alloc::Global;
 use std::test::Fail;
 use test_support::{events_of, head, meter, report, setup_of};
-use test_tables::{Kept, expect};
+use test_tables::expect;
 
 /// One head end with the widest windows, and one meter with the longest blocks.
 const SETUP: &str = "head 7 15; meter 1 1024 65537 x";
@@ -48,12 +48,12 @@ fn campaign_of_65537_bytes(rt: HostRuntime) -> Result<(), Fail> {
     let alloc = rt.alloc();
     let (head, meter) = (head(7)?, meter(1)?);
     let setup = setup_of(alloc, SETUP)?;
-    let mut world = Kept(World::new(alloc, &setup)?);
-    make_campaign(alloc, &mut world.0, head, meter)?;
+    let mut world = World::new(alloc, &setup)?;
+    make_campaign(alloc, &mut world, head, meter)?;
     expect(
         alloc,
         0,
-        report(alloc, &setup, &world.0)?.as_str(),
+        report(alloc, &setup, &world)?.as_str(),
         "row 7 1 1 done; meter 1 status 6 active 7 1 size 65537; activations 1; sent 178",
     )
 }

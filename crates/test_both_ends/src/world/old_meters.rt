@@ -15,7 +15,7 @@ impl Reads for Limits {
     fn told(&mut self, alloc: Global, what: &str) -> Result<String, Fail> {
         let (setup, events) = script_of(alloc, what)?;
         let world = world_after(alloc, &setup, &events)?;
-        limited_text(alloc, &setup, &world.0)
+        limited_text(alloc, &setup, &world)
     }
 }
 

@@ -5,7 +5,7 @@ use fw_world::{Event, RunError, Setup, World, run};
 use std::alloc::Global;
 use std::test::Fail;
 use test_support::{events_of, old_setup_of, report, setup_of};
-use test_tables::{Kept, Reads, named};
+use test_tables::{Reads, named};
 
 /// The setup and the events of a script `SETUP: EVENTS`, by the names of `SETUPS` and `PARTS`. In `old SETUP` all meters are old ones.
 pub(crate) fn script_of(alloc: Global, script: &str) -> Result<(Setup, Vec<Event>), Fail> {
@@ -22,14 +22,10 @@ fn setup_named(name: &str) -> Result<&'static str, Fail> {
 }
 
 /// The world after all events, of which none is refused.
-pub(crate) fn world_after(
-    alloc: Global,
-    setup: &Setup,
-    events: &[Event],
-) -> Result<Kept<World>, Fail> {
-    let mut world = Kept(World::new(alloc, setup)?);
+pub(crate) fn world_after(alloc: Global, setup: &Setup, events: &[Event]) -> Result<World, Fail> {
+    let mut world = World::new(alloc, setup)?;
     for event in events {
-        step(alloc, &mut world.0, event)?;
+        step(alloc, &mut world, event)?;
     }
     Ok(world)
 }
