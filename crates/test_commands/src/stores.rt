@@ -6,7 +6,7 @@ use fw_meter::MeterCore;
 use fw_store::{HeaderBytes, ImageStore, MemoryStore, Slot, VERSION_TWO_SIZE};
 use std::alloc::Global;
 use std::test::Fail;
-use test_tables::{Kept, Reads, Words, each_line, expect_at};
+use test_tables::{Reads, Words, each_line, expect_at};
 
 /// Reads what is done with a store:
 ///
@@ -36,8 +36,8 @@ impl Reads for Stores {
 
 fn new(alloc: Global, mut words: Words<'_>) -> Result<String, Fail> {
     let (block_size, capacity) = (words.number()?, words.number()?);
-    let meter = Kept(opened(MemoryStore::new(alloc, capacity, block_size, b"abc")?)?);
-    Ok(format!(in alloc; "{:?}", meter.0.status())?)
+    let meter = opened(MemoryStore::new(alloc, capacity, block_size, b"abc")?)?;
+    Ok(format!(in alloc; "{:?}", meter.status())?)
 }
 
 /// Why a store isn't opened. It is returned, and is the same as the other.
