@@ -33,5 +33,5 @@ returns-in-Err c =
     let there : slice_get (events_of events) at ≡ Some (event_of event) = event_at events at _ event inside c.index-events-at-in-loop-at.is in
     if_ok c.end_at.result _ _
     (λ same is. is_refused c.args.setup.now (events_of events) at (event_of event) c.loop-at.world c.in-Err.cause c.loop-at.reasons.items same.items
-      c.loop-at.invariant there c.in-Err.ensures.refused is.1 is.0)
+    c.loop-at.invariant there c.in-Err.ensures.refused is.1 is.0)
     c.end_at.ensures
