@@ -17,7 +17,7 @@ use Rattle.fw_head.specs.Phase.{phase_of}
 use Rattle.fw_head.specs.Row.{Row}
 use Rattle.fw_world.specs.Parts.{head_behind}
 use Rattle.fw_air.specs.Audits.{IsSameHead, AreSameHeads}
-use Rattle.fw_air.specs.Inside.{IsInPhase}
+use Rattle.fw_air.specs.Private.{IsInPhase}
 
 -- ---- some element, and each
 

@@ -12,7 +12,7 @@ use Rattle.fw_air.specs.declared.fates.Fate.{Fate}
 use Rattle.fw_air.specs.declared.fates.Fate.TheVariants as fate
 use Rattle.fw_air.specs.declared.links.LinkQueue.{LinkQueue}
 use Rattle.fw_air.specs.Fates.{by_fates, comes, fate_of, waits}
-use Rattle.fw_air.specs.Inside.{Recorded, Follows}
+use Rattle.fw_air.specs.Private.{Recorded, Follows}
 use Rattle.fw_air.specs.Links.{IsNew, late_of, link_of, passed_of, queue_of}
 use Rattle.fw_air.specs.Logs.{capped}
 use Rattle.fw_air.specs.Queues.{Queue, HasFates, RoundHasFates, RoundsHaveFates, beginning, coming, new_queue}

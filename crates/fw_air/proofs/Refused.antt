@@ -15,7 +15,7 @@ use Rattle.fw_world.specs.State.{StateRun}
 use Rattle.fw_world.specs.View.{event_of}
 use Rattle.fw_air.specs.declared.audits.AuditError.TheVariants as audit
 use Rattle.fw_air.specs.Audits.{IsBrokenOff}
-use Rattle.fw_air.specs.Inside.{audit_error_of}
+use Rattle.fw_air.specs.Private.{audit_error_of}
 
 pub broken_off : (setup : Setup) (events : List Given) (error : RunError) → IsStopped setup events error → audit_error_of error ≡ audit.Mismatch → EndsIn (Err error) (λ w. IsSetup setup) → IsSetup setup × IsBrokenOff setup (events_of events)
 broken_off setup events (stopped.Setup unmade.BadSetup) s is made = absurd cc

@@ -15,7 +15,7 @@ use Rattle.fw_world.specs.State.{State}
 use Rattle.fw_world.specs.Step.{Event}
 use Rattle.fw_world.specs.View.{event_of}
 use Rattle.fw_air.specs.declared.fates.Fate.{Fate}
-use Rattle.fw_air.specs.Inside.{Recorded, Follows, GoesOn, MakesRounds}
+use Rattle.fw_air.specs.Private.{Recorded, Follows, GoesOn, MakesRounds}
 use Rattle.fw_air.specs.Rounds.{Admits, AdmittedRun, OneByOne}
 use Rattle.fw_air.specs.Schedules.{IsUnscheduled, Runs, ScheduleHasFates, Schedules}
 

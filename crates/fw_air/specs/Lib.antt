@@ -10,5 +10,5 @@ pub mod Events
 pub mod Links
 pub mod Order
 pub mod Audits
-pub mod Inside
+pub mod Private
 pub mod Parts

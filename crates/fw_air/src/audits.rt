@@ -2,7 +2,7 @@
 
 ghost use Rattle.std.specs.Prelude.{◌≡◌, IfOk, OnOk, IsErrOf};
 ghost use Rattle.fw_air.specs.Audits.{AreSameHeads, Differs};
-ghost use Rattle.fw_air.specs.Inside.{audit_error_of};
+ghost use Rattle.fw_air.specs.Private.{audit_error_of};
 ghost use Rattle.fw_world.specs.Headline.{
   IsFirstName,
   InitiatesAreOffered,

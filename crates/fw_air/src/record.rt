@@ -23,7 +23,7 @@ ghost use Rattle.fw_world.specs.Refusals.{refusal_of};
 ghost use Rattle.fw_world.specs.Runs.{events_of};
 ghost use Rattle.fw_world.specs.Step.{Event as Given, deliver, turn};
 ghost use Rattle.fw_world.specs.View.{event_of};
-ghost use Rattle.fw_air.specs.Inside.{Follows, GoesOn};
+ghost use Rattle.fw_air.specs.Private.{Follows, GoesOn};
 ghost use Rattle.fw_air.specs.Links.{AreSent, IsThere, link_of, queue_of};
 ghost use Rattle.fw_air.specs.Queues.{HasFates, RoundHasFates, RoundsHaveFates};
 ghost use Rattle.fw_air.specs.Rounds.{IsLinkRound, IsRound, OneByOne, last_turn};
@@ -60,7 +60,7 @@ impl Model for Record {
     ghost use Rattle.std.specs.FinMap.{code};
     ghost use Rattle.fw_image.specs.Meter.{cells_code};
     ghost use Rattle.fw_world.specs.Runs.{events_of};
-    ghost use Rattle.fw_air.specs.Inside.{Recorded};
+    ghost use Rattle.fw_air.specs.Private.{Recorded};
 
     ghost Value = { Recorded };
 
@@ -233,7 +233,7 @@ impl Record {
 impl LinkSteps for Record {
     ghost use Rattle.std.specs.Prelude.{◌≡◌};
     ghost use Rattle.fw_world.specs.declared.error.StepError.TheVariants.{OutOfMemory};
-    ghost use Rattle.fw_air.specs.Inside.{GoesOn, HasBegun, HasPassed, HasTurned};
+    ghost use Rattle.fw_air.specs.Private.{GoesOn, HasBegun, HasPassed, HasTurned};
     ghost use Rattle.fw_air.specs.Links.{IsThere};
 
     type Link = LinkQueue;

@@ -3,7 +3,7 @@
 ghost use Rattle.std.specs.Prelude.{◌≡◌, ◌↔◌, false, All, IsTrue};
 ghost use Rattle.std.specs.List.{AllZip, Any};
 ghost use Rattle.fw_air.specs.Audits.{AreOtherParts, AreSameHeads, IsSameHead};
-ghost use Rattle.fw_air.specs.Inside.{IsInPhase};
+ghost use Rattle.fw_air.specs.Private.{IsInPhase};
 ghost use Rattle.fw_world.specs.Parts.{state_of};
 
 use fw_book::{Book, Campaigns, Offer};

@@ -4,7 +4,7 @@ ghost use Rattle.std.specs.Prelude.{◌≡◌, IfErr, IfOk, OnOk};
 ghost use Rattle.fw_world.specs.Runs.{events_of};
 ghost use Rattle.fw_world.specs.Setup.{IsSetup, opening_state};
 ghost use Rattle.fw_world.specs.declared.error.StepError.TheVariants.{OutOfMemory};
-ghost use Rattle.fw_air.specs.Inside.{GoesOn, MakesRounds};
+ghost use Rattle.fw_air.specs.Private.{GoesOn, MakesRounds};
 ghost use Rattle.fw_air.specs.Rounds.{AdmittedRun};
 ghost use Rattle.fw_air.specs.Schedules.{IsOfWorld, IsUnscheduled, Runs, ScheduleHasFates, Schedules};
 

@@ -10,7 +10,7 @@ use Rattle.fw_apdu.specs.declared.error.ApduError.TheVariants.{Truncated, Unknow
 use Rattle.fw_apdu.specs.declared.request.Head.{Head}
 use Rattle.fw_apdu.specs.Request.{Descriptor, IsDescriptor, head_bytes}
 use Rattle.fw_apdu.specs.Fault.{BytesFail, HeadFails, SelectionFails, IfFault}
-use Rattle.fw_apdu.specs.Inside.{HeadRead, SelectionStops, descriptor_of}
+use Rattle.fw_apdu.specs.Private.{HeadRead, SelectionStops, descriptor_of}
 
 -- ten bytes are there
 ten_there : (i h l x : ℕ) (n rest : List ℕ) → length n ≡ 6 → ltb (length (i ∷ h ∷ l ∷ ((n ++ x ∷ []) ++ rest))) 10 ≡ false

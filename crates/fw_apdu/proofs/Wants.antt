@@ -12,7 +12,7 @@ use Rattle.fw_apdu.specs.Cause.{fault_from}
 use Rattle.fw_apdu.specs.Fault.{IfMemory}
 use Rattle.fw_apdu.specs.Request.{head_bytes, MayHoldData}
 use Rattle.fw_apdu.specs.Response.{MayReturnData}
-use Rattle.fw_apdu.specs.Inside.{descriptor_of, HeadRead, AnswerRead, ParameterTakes, ResultTakes, ReturnedTakes}
+use Rattle.fw_apdu.specs.Private.{descriptor_of, HeadRead, AnswerRead, ParameterTakes, ResultTakes, ReturnedTakes}
 
 pub IfMemory-map : (e : ApduError) (P Q : Type 0) → (P → Q) → IfMemory e P → IfMemory e Q
 IfMemory-map OutOfMemory P Q f h = f h

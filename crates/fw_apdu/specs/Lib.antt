@@ -7,4 +7,4 @@ pub mod Fault
 pub mod Cause
 pub mod Laws
 -- For private clauses alone: no public clause cites it.
-pub mod Inside
+pub mod Private

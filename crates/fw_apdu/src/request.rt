@@ -17,7 +17,7 @@ ghost use Rattle.fw_apdu.specs.Request.{
 };
 ghost use Rattle.fw_apdu.specs.Fault.{RequestFails, GetFails, SetFails, ActionFails, ParameterFails, IfFault, IfMemory, IsBadData};
 ghost use Rattle.fw_apdu.specs.View.{request_content, request_invoke};
-ghost use Rattle.fw_apdu.specs.Inside.{descriptor_of, HeadRead, HeadStops, SelectionStops, IsParameter, ParameterTakes};
+ghost use Rattle.fw_apdu.specs.Private.{descriptor_of, HeadRead, HeadStops, SelectionStops, IsParameter, ParameterTakes};
 
 use crate::error::ApduError;
 use crate::fields::{Invoke, LogicalName};

@@ -27,7 +27,7 @@ ghost use Rattle.fw_apdu.specs.Fault.{
   IfMemory,
   IsBadData,
 };
-ghost use Rattle.fw_apdu.specs.Inside.{AnswerRead, AnswerStops, CodeStops, IsReturned, ResultTakes, ReturnedTakes};
+ghost use Rattle.fw_apdu.specs.Private.{AnswerRead, AnswerStops, CodeStops, IsReturned, ResultTakes, ReturnedTakes};
 ghost use Rattle.fw_apdu.specs.View.{response_content, response_invoke, result_of};
 
 use crate::error::ApduError;

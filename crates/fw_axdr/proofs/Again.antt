@@ -5,7 +5,7 @@ use Rattle.std.proofs.lemmas.List.{take_at, length-append, append_cancel_right}
 use Rattle.std.proofs.lemmas.Result.{MatchResult-at_ok, MatchResult-at_err}
 use Rattle.fw_axdr.specs.declared.error.AxdrError.{AxdrError}
 use Rattle.fw_axdr.specs.declared.error.AxdrError.TheVariants.{Truncated, UnknownTag, BadLength, TooDeep, OutOfMemory}
-use Rattle.fw_axdr.specs.Inside.{tag_at, Errs, each_at, items_at, contents_at, tagged_at, data_at}
+use Rattle.fw_axdr.specs.Private.{tag_at, Errs, each_at, items_at, contents_at, tagged_at, data_at}
 use Rattle.fw_axdr.specs.Value.{Value, Values, null, array, structure, boolean, bit_string, double_long, double_long_unsigned, octet_string, visible_string, integer, long, unsigned, long_unsigned, long64, long64_unsigned, enumerated, none, more, count, depth, deepest}
 use Rattle.fw_axdr.specs.Spelling.{IsLength, Spells, SpellEach, IsData, NoneBegins}
 use Rattle.fw_axdr.specs.Fault.{Fails, IfFault}

@@ -8,7 +8,7 @@ use Rattle.std.proofs.Math.Seq.{take-append-add, set-append_seam, take-length, d
 use Rattle.std.specs.Prelude.{slice_get, All}
 use Rattle.std.proofs.lemmas.Option.{slice_get-get_or}
 use Rattle.fw_axdr.specs.Bits.{bit, byte_bits, bits, bytes_for, byte_of, packed_into, packed}
-use Rattle.fw_axdr.specs.Inside.{Keeps}
+use Rattle.fw_axdr.specs.Private.{Keeps}
 
 abbrev pub IsBytes : List ℕ → Type 0
 IsBytes bytes = (i : ℕ) → get_or bytes i 0 < 256

@@ -6,7 +6,7 @@ use Rattle.std.proofs.lemmas.List.{take_at, drop_at, take-append-drop, length-ta
 use Rattle.fw_axdr.specs.declared.error.AxdrError.{AxdrError}
 use Rattle.fw_axdr.specs.Spelling.{number, IsLength, short_length}
 use Rattle.fw_axdr.specs.Fault.{LengthFails}
-use Rattle.fw_axdr.specs.Inside.{◌>>=◌, number_at, length_by, length_at}
+use Rattle.fw_axdr.specs.Private.{◌>>=◌, number_at, length_by, length_at}
 
 -- what holds of a step and of what follows it
 pub bind_both : {A B : Type 0} (r : Result A AxdrError) (f : A → Result B AxdrError) (P : A → Type 0) (Q : AxdrError → Type 0) (P' : B → Type 0) (Q' : AxdrError → Type 0)

@@ -4,7 +4,7 @@ use Rattle.fw_axdr.specs.declared.error.AxdrError.{AxdrError}
 use Rattle.fw_axdr.specs.declared.error.AxdrError.TheVariants.{Truncated, UnknownTag, BadLength, TooDeep, OutOfMemory}
 use Rattle.fw_axdr.specs.declared.tag.Tag.{Tag}
 use Rattle.fw_axdr.specs.declared.data.Data.{Data}
-use Rattle.fw_axdr.specs.Inside.{tag_at, ◌>>=◌, Errs, join, number_at, each_at, tagged_at, data_at}
+use Rattle.fw_axdr.specs.Private.{tag_at, ◌>>=◌, Errs, join, number_at, each_at, tagged_at, data_at}
 use Rattle.fw_axdr.specs.Value.{Value, Values, none, more}
 use Rattle.fw_axdr.specs.View.{value_of, values_of}
 use Rattle.fw_axdr.proofs.Lengths.{one_byte}

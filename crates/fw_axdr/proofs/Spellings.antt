@@ -8,7 +8,7 @@ use Rattle.fw_axdr.specs.declared.error.AxdrError.{AxdrError}
 use Rattle.fw_axdr.specs.declared.error.AxdrError.TheVariants.{UnknownTag}
 use Rattle.fw_axdr.specs.declared.tag.Tag.{Tag}
 use Rattle.fw_axdr.specs.declared.tag.Tag.TheVariants as tag
-use Rattle.fw_axdr.specs.Inside.{tag_at, code, length_at, bytes_at, number_at, octets_at, bits_at, each_at, items_at, contents_at, tagged_at, data_at}
+use Rattle.fw_axdr.specs.Private.{tag_at, code, length_at, bytes_at, number_at, octets_at, bits_at, each_at, items_at, contents_at, tagged_at, data_at}
 use Rattle.fw_axdr.specs.Bits.{bits, bytes_for}
 use Rattle.fw_axdr.specs.Value.{Value, Values, none, more, count, deepest}
 use Rattle.fw_axdr.specs.Spelling.{number, IsLength, SpellEach, IsData}

@@ -4,7 +4,7 @@ use Rattle.std.specs.Prelude.{MatchOption}
 use Rattle.std.proofs.lemmas.Bool.{eqb-true, cond_both}
 use Rattle.fw_axdr.specs.declared.tag.Tag.{Tag}
 use Rattle.fw_axdr.specs.declared.tag.Tag.TheVariants as tag
-use Rattle.fw_axdr.specs.Inside.{tag_at, code}
+use Rattle.fw_axdr.specs.Private.{tag_at, code}
 use Rattle.fw_axdr.specs.Fault.{Contents, fixed, counted_bytes, counted_bits, counted_data, tags, contents_in}
 
 -- what follows a tag

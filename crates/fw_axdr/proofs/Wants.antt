@@ -6,7 +6,7 @@ use Rattle.std.proofs.lemmas.Result.{MatchResult-at_ok}
 use Rattle.fw_axdr.specs.declared.error.AxdrError.{AxdrError}
 use Rattle.fw_axdr.specs.declared.error.AxdrError.TheVariants.{Truncated, UnknownTag, BadLength, TooDeep, OutOfMemory}
 use Rattle.fw_axdr.specs.declared.tag.Tag.{Tag}
-use Rattle.fw_axdr.specs.Inside.{tag_at, code, number_at, bytes_at, length_at, each_at, data_at}
+use Rattle.fw_axdr.specs.Private.{tag_at, code, number_at, bytes_at, length_at, each_at, data_at}
 use Rattle.fw_axdr.specs.Value.{Value, Values}
 use Rattle.fw_axdr.specs.Spelling.{SomeBegins}
 use Rattle.fw_axdr.specs.Fault.{LengthFails, BytesFail, IfMemory}

@@ -7,7 +7,7 @@ pub mod Fault
 pub mod Memory
 pub mod Laws
 -- For private clauses alone: no public clause cites it.
-pub mod Inside
+pub mod Private
 -- For the model of `Items` alone.
 pub mod Stored
 pub mod Falls

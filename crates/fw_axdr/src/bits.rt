@@ -18,7 +18,7 @@ ghost use Rattle.std.specs.Prelude.{
   slice_set,
 };
 ghost use Rattle.fw_axdr.specs.Bits.{bits, bytes_for, packed};
-ghost use Rattle.fw_axdr.specs.Inside.{Keeps};
+ghost use Rattle.fw_axdr.specs.Private.{Keeps};
 
 use std::marker::Model;
 

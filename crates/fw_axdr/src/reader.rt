@@ -3,7 +3,7 @@
 
 ghost use Rattle.std.specs.Prelude.{◌≡◌, length, IfOk, IfErr};
 ghost use Rattle.fw_axdr.specs.Fault.{IfMemory};
-ghost use Rattle.fw_axdr.specs.Inside.{Gives, length_at, bytes_at, number_at};
+ghost use Rattle.fw_axdr.specs.Private.{Gives, length_at, bytes_at, number_at};
 
 use crate::error::AxdrError;
 use std::marker::Model;
@@ -36,7 +36,7 @@ impl<'a> Reader<'a> {
         self.rest.len()
     }
 
-    #[tactic(auto, unfolding(crate::specs::Inside::number_at))]
+    #[tactic(auto, unfolding(crate::specs::Private::number_at))]
     pub(crate) fn u8(&mut self) -> Result<u8, AxdrError>
         ensures gives { Gives (λ n. n) result self.new (number_at 1 self.old) }
         ensures memory { IfErr result (λ e. IfMemory e ⊥) }
@@ -48,7 +48,7 @@ impl<'a> Reader<'a> {
         Ok(*a)
     }
 
-    #[tactic(auto, unfolding(crate::specs::Inside::number_at))]
+    #[tactic(auto, unfolding(crate::specs::Private::number_at))]
     pub(crate) fn u16(&mut self) -> Result<u16, AxdrError>
         ensures gives { Gives (λ n. n) result self.new (number_at 2 self.old) }
         ensures memory { IfErr result (λ e. IfMemory e ⊥) }
@@ -61,7 +61,7 @@ impl<'a> Reader<'a> {
     }
 
     /// A number of three bytes.
-    #[tactic(auto, unfolding(crate::specs::Inside::number_at))]
+    #[tactic(auto, unfolding(crate::specs::Private::number_at))]
     fn u24(&mut self) -> Result<u32, AxdrError>
         ensures gives { Gives (λ n. n) result self.new (number_at 3 self.old) }
         ensures memory { IfErr result (λ e. IfMemory e ⊥) }
@@ -73,7 +73,7 @@ impl<'a> Reader<'a> {
         Ok(u32::from_be_bytes([0, *a, *b, *c]))
     }
 
-    #[tactic(auto, unfolding(crate::specs::Inside::number_at))]
+    #[tactic(auto, unfolding(crate::specs::Private::number_at))]
     pub(crate) fn u32(&mut self) -> Result<u32, AxdrError>
         ensures gives { Gives (λ n. n) result self.new (number_at 4 self.old) }
         ensures memory { IfErr result (λ e. IfMemory e ⊥) }
@@ -85,7 +85,7 @@ impl<'a> Reader<'a> {
         Ok(u32::from_be_bytes([*a, *b, *c, *d]))
     }
 
-    #[tactic(auto, unfolding(crate::specs::Inside::number_at))]
+    #[tactic(auto, unfolding(crate::specs::Private::number_at))]
     pub(crate) fn u64(&mut self) -> Result<u64, AxdrError>
         ensures gives { Gives (λ n. n) result self.new (number_at 8 self.old) }
         ensures memory { IfErr result (λ e. IfMemory e ⊥) }
@@ -98,7 +98,7 @@ impl<'a> Reader<'a> {
     }
 
     /// The next `len` bytes, where they are: nothing is copied.
-    #[tactic(auto, unfolding(crate::specs::Inside::bytes_at))]
+    #[tactic(auto, unfolding(crate::specs::Private::bytes_at))]
     pub(crate) fn bytes(&mut self, len: usize) -> Result<&'a [u8], AxdrError>
         ensures gives { Gives (λ x. x.now) result self.new (bytes_at len self.old) }
         ensures len { IfOk result (λ x. length x.now ≡ len) }
@@ -113,7 +113,7 @@ impl<'a> Reader<'a> {
     }
 
     /// A length: one byte below 80 (hexadecimal), or 81 to 84 and the 1 to 4 bytes that hold it.
-    #[tactic(auto, unfolding(crate::specs::Inside::length_at))]
+    #[tactic(auto, unfolding(crate::specs::Private::length_at))]
     pub(crate) fn length(&mut self) -> Result<usize, AxdrError>
         ensures gives { Gives (λ n. n) result self.new (length_at self.old) }
         ensures memory { IfErr result (λ e. IfMemory e ⊥) }

@@ -6,7 +6,7 @@ ghost use Rattle.fw_axdr.specs.Spelling.{IsData, NoneBegins, SomeBegins, max_dep
 ghost use Rattle.fw_axdr.specs.Fault.{Fails, IfFault, IfMemory};
 ghost use Rattle.fw_axdr.specs.Bits.{bytes_for};
 ghost use Rattle.fw_axdr.specs.Memory.{CountedTakes, TaggedTakes, MayTakeMemory};
-ghost use Rattle.fw_axdr.specs.Inside.{code, Gives, octets_at, bits_at, items_at, contents_at, data_at};
+ghost use Rattle.fw_axdr.specs.Private.{code, Gives, octets_at, bits_at, items_at, contents_at, data_at};
 
 use crate::bits::Bits;
 use crate::data::{Data, Items, MAX_DEPTH};
@@ -27,7 +27,7 @@ fn copied(alloc: Global, bytes: &[u8]) -> Result<Vec<u8>, AllocError>
 }
 
 /// A length, and this number of bytes, which are copied once.
-#[tactic(auto, unfolding(crate::specs::Inside::octets_at))]
+#[tactic(auto, unfolding(crate::specs::Private::octets_at))]
 fn octets(alloc: Global, reader: &mut Reader<'_>) -> Result<Octets, AxdrError>
     ensures gives { Gives (λ o. o) result reader.new (octets_at reader.old) }
     ensures memory { IfErr result
@@ -39,7 +39,7 @@ fn octets(alloc: Global, reader: &mut Reader<'_>) -> Result<Octets, AxdrError>
 }
 
 /// A length in bits, and the bytes of this number of bits.
-#[tactic(auto, unfolding(crate::specs::Inside::bits_at))]
+#[tactic(auto, unfolding(crate::specs::Private::bits_at))]
 fn bits(alloc: Global, reader: &mut Reader<'_>) -> Result<Bits, AxdrError>
     ensures gives { Gives (λ b. b) result reader.new (bits_at reader.old) }
     ensures memory { IfErr result
@@ -53,7 +53,7 @@ fn bits(alloc: Global, reader: &mut Reader<'_>) -> Result<Bits, AxdrError>
 /// A count, and this number of Data. Room is taken for those that are there, and not for those that
 /// the count claims.
 #[cycle(reading)]
-#[tactic(auto, unfolding(crate::specs::Inside::items_at))]
+#[tactic(auto, unfolding(crate::specs::Private::items_at))]
 fn items(alloc: Global, levels: u8, reader: &mut Reader<'_>) -> Result<Items, AxdrError>
     ensures gives { Gives (λ a. a) result reader.new (items_at (λ s. data_at levels s) reader.old) }
     ensures memory { IfErr result (λ e. IfMemory e
@@ -69,7 +69,7 @@ fn items(alloc: Global, levels: u8, reader: &mut Reader<'_>) -> Result<Items, Ax
 
 /// What stands after a tag.
 #[cycle(reading)]
-#[tactic(auto, unfolding(crate::specs::Inside::contents_at))]
+#[tactic(auto, unfolding(crate::specs::Private::contents_at))]
 fn contents(alloc: Global, levels: u8, tag: Tag, reader: &mut Reader<'_>) -> Result<Data, AxdrError>
     ensures gives { Gives (λ x. value_of x) result reader.new
         (contents_at (λ s. data_at levels s) tag reader.old) }
@@ -98,7 +98,7 @@ fn contents(alloc: Global, levels: u8, tag: Tag, reader: &mut Reader<'_>) -> Res
 
 /// A Data for which `levels` levels are left.
 #[cycle(reading)]
-#[tactic(auto, unfolding(crate::specs::Inside::data_at))]
+#[tactic(auto, unfolding(crate::specs::Private::data_at))]
 fn data(alloc: Global, levels: u8, reader: &mut Reader<'_>) -> Result<Data, AxdrError>
     ensures gives { Gives (λ x. value_of x) result reader.new (data_at levels reader.old) }
     ensures memory { IfErr result (λ e. IfMemory e (MayTakeMemory levels reader.old)) }

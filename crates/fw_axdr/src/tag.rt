@@ -1,7 +1,7 @@
 //! The tags of the types (IEC 62056-6-2, Common data types).
 
 ghost use Rattle.std.specs.Prelude.{◌≡◌};
-ghost use Rattle.fw_axdr.specs.Inside.{tag_at, code};
+ghost use Rattle.fw_axdr.specs.Private.{tag_at, code};
 
 /// The type that a Data's first byte stands for.
 #[derive(Clone, Copy, Debug, PartialEq, Eq)]

@@ -6,7 +6,7 @@ ghost use Rattle.fw_axdr.specs.View.{value_of, values_of};
 ghost use Rattle.fw_axdr.specs.Spelling.{IsData, max_depth, short, shorts, short_length};
 ghost use Rattle.fw_axdr.specs.Fault.{IfFault, IfMemory, unwritable, first_unwritable, counted};
 ghost use Rattle.fw_axdr.specs.Laws.{HasNumbers, HaveNumbers};
-ghost use Rattle.fw_axdr.specs.Inside.{code, Begins};
+ghost use Rattle.fw_axdr.specs.Private.{code, Begins};
 
 use crate::data::{Data, Items, MAX_DEPTH};
 use crate::error::AxdrError;

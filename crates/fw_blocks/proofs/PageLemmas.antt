@@ -14,7 +14,7 @@ use Rattle.std.specs.List.{All, flat_map}
 use Rattle.fw_axdr.specs.Bits.{byte_bits, bits, packed}
 use Rattle.fw_axdr.specs.Laws.{BytesPacked}
 use Rattle.fw_blocks.specs.Cuts.{max_blocks}
-use Rattle.fw_blocks.specs.Inside.{page_count, is_marked, marks_of, word_of, ones_of, page_of, words_of, counts_of, HoldsPages}
+use Rattle.fw_blocks.specs.Private.{page_count, is_marked, marks_of, word_of, ones_of, page_of, words_of, counts_of, HoldsPages}
 use Rattle.fw_blocks.specs.Members.{has, IsFirstMissing, all_marks}
 use Rattle.fw_blocks.proofs.BitLemmas.{length-bits, get_or-bits}
 use lib.Count.{ones_step, ones-le}

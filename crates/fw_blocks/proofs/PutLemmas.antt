@@ -8,7 +8,7 @@ use Rattle.std.proofs.lemmas.List.Folds.{list_any-append, list_any_at}
 use Rattle.std.proofs.lemmas.List.Edits.{length-insert}
 use Rattle.std.proofs.lemmas.Option.{slice_get_within, get_or_from_slice_get}
 use Rattle.std.specs.List.{AllWithin, slice_get, insert, remove}
-use Rattle.fw_blocks.specs.Inside.{set_of, IsKept, Puts}
+use Rattle.fw_blocks.specs.Private.{set_of, IsKept, Puts}
 use Rattle.fw_blocks.specs.Runs.{is_of, is_in_any, AreParted}
 use Rattle.fw_blocks.specs.declared.runs.Run.{Run}
 use Rattle.fw_blocks.proofs.RunLemmas.{Parted, AllEndBelow, parted_from, parted_into, parted_put, parted_behind, parted_front, parted_past, split_front, front_below, is_of_run, few_runs, length-set_of, has-set_of}

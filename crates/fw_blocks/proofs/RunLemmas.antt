@@ -7,7 +7,7 @@ use Rattle.std.proofs.lemmas.List.Folds.{list_any-append, list_any_none}
 use Rattle.std.proofs.lemmas.List.FromFn.{length-map-range_with_len, get_or-map-range_with_len}
 use Rattle.std.proofs.lemmas.Option.{slice_get_within, get_or_from_slice_get}
 use Rattle.std.specs.List.{AllWithin, slice_get}
-use Rattle.fw_blocks.specs.Inside.{set_of}
+use Rattle.fw_blocks.specs.Private.{set_of}
 use Rattle.fw_blocks.specs.Members.{has, IsFirstMissing}
 use Rattle.fw_blocks.specs.Runs.{is_of, is_in_any, AreParted, AreRuns}
 use Rattle.fw_blocks.specs.declared.runs.Run.{Run}

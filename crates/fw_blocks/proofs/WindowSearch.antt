@@ -3,7 +3,7 @@ use Rattle.std.proofs.Common.{◌≡◌, ℕ, zero, suc, ◌+◌, ◌-◌, ◌<�
 use Rattle.std.proofs.lemmas.List.{length-append, length-take, set_at, take_at, take_all, take-append-le}
 use Rattle.std.proofs.lemmas.List.Elements.{filter-append}
 use Rattle.std.specs.List.{filter, range_with_len}
-use Rattle.fw_blocks.specs.Inside.{HoldsFew, Lists}
+use Rattle.fw_blocks.specs.Private.{HoldsFew, Lists}
 use Rattle.fw_blocks.specs.Members.{has, absent_numbers, window}
 use Rattle.fw_blocks.specs.Runs.{is_in_any, AreRuns}
 use Rattle.fw_blocks.specs.Width.{max_width}

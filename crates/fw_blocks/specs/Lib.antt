@@ -5,4 +5,4 @@ pub mod Runs
 pub mod Width
 pub mod Laws
 -- For the models of `BlockSet`, `Pages` and `Window` alone: no public clause cites it.
-pub mod Inside
+pub mod Private

@@ -32,7 +32,7 @@ ghost use Rattle.std.specs.List.{AllWithin, HoldsAt};
 ghost use Rattle.std.specs.List.Sorted.{IsPartitionedBy};
 ghost use Rattle.fw_axdr.specs.Bits.{packed, byte_of};
 ghost use Rattle.fw_blocks.specs.Members.{has, first_missing, IsFirstMissing};
-ghost use Rattle.fw_blocks.specs.Inside.{IsKept, Puts};
+ghost use Rattle.fw_blocks.specs.Private.{IsKept, Puts};
 ghost use Rattle.fw_blocks.specs.Runs.{is_of, is_in_any, AreParted, AreRuns};
 
 use crate::runs::Run;
@@ -59,7 +59,7 @@ pub struct BlockSet {
 // other form, as in runs or in pages, under the same clauses.
 impl Model for BlockSet {
     ghost use Rattle.std.specs.Prelude.{Bool, List, vec_capacity};
-    ghost use Rattle.fw_blocks.specs.Inside.{set_of, IsKept};
+    ghost use Rattle.fw_blocks.specs.Private.{set_of, IsKept};
 
     ghost Value = { List Bool };
 

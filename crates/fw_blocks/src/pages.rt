@@ -29,7 +29,7 @@ ghost use Rattle.std.specs.Int.{w64, to_be_bytes};
 ghost use Rattle.std.specs.List.{flat_map};
 ghost use Rattle.fw_axdr.specs.Bits.{bits, packed};
 ghost use Rattle.fw_blocks.specs.Cuts.{max_blocks};
-ghost use Rattle.fw_blocks.specs.Inside.{is_marked, page_size};
+ghost use Rattle.fw_blocks.specs.Private.{is_marked, page_size};
 ghost use Rattle.fw_blocks.specs.Members.{has, first_missing, IsFirstMissing, all_marks, resized_marks};
 
 use crate::geometry::MAX_BLOCKS;
@@ -64,7 +64,7 @@ pub struct Pages {
 // Contracts see the list of the bits below the count, as they see a `BlockSet`.
 impl Model for Pages {
     ghost use Rattle.std.specs.Prelude.{Bool, List, length};
-    ghost use Rattle.fw_blocks.specs.Inside.{marks_of, words_of, counts_of, HoldsPages};
+    ghost use Rattle.fw_blocks.specs.Private.{marks_of, words_of, counts_of, HoldsPages};
 
     ghost Value = { List Bool };
 

@@ -3,7 +3,7 @@
 ghost use Rattle.std.specs.Prelude.{◌≡◌, ℕ, ◌-◌, ◌<◌, ◌≤◌, List, ◌++◌, length, SomeIff, All, Contains};
 ghost use Rattle.std.specs.List.{range_with_len};
 ghost use Rattle.std.specs.List.Sorted.{IsStrictlyIncreasing};
-ghost use Rattle.fw_blocks.specs.Inside.{Lists};
+ghost use Rattle.fw_blocks.specs.Private.{Lists};
 ghost use Rattle.fw_blocks.specs.Members.{IsAbsent, window};
 ghost use Rattle.fw_blocks.specs.Width.{IsWidth, max_width};
 
@@ -66,7 +66,7 @@ pub struct Window {
 // Contracts see the list of the numbers.
 impl Model for Window {
     ghost use Rattle.std.specs.Prelude.{ℕ, ◌++◌, ◌-◌, List, length, refl, replicate, take};
-    ghost use Rattle.fw_blocks.specs.Inside.{HoldsFew};
+    ghost use Rattle.fw_blocks.specs.Private.{HoldsFew};
     ghost use Rattle.fw_blocks.specs.Width.{max_width};
 
     ghost Value = { List ℕ };

@@ -11,7 +11,7 @@ use Rattle.fw_book.specs.declared.row.RowState.TheVariants.{Cancelled}
 use Rattle.fw_book.specs.Rows.{is_live, meters_of, is_live_in, marked_row, with_state, cancelled_row, cancelled_rows}
 use Rattle.fw_book.specs.Contents.{Offered, Contents, is_busy, IsEntry, Apart, AllApart, IsBook}
 use Rattle.fw_book.specs.Changes.{added, at_serial}
-use Rattle.fw_book.specs.Inside.{clashes, Admits}
+use Rattle.fw_book.specs.Private.{clashes, Admits}
 
 pub all_push : {X : Type 0} (P : X → Type 0) (xs : List X) (y : X) → AllByRecursion P xs → P y → AllByRecursion P (xs ++ y ∷ [])
 all_push P [] y h p = (p, tt)

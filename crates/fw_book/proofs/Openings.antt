@@ -10,7 +10,7 @@ use Rattle.fw_book.specs.declared.error.BookError.{BookError}
 use Rattle.fw_book.specs.Rows.{live_row, meters_of, repeats}
 use Rattle.fw_book.specs.Contents.{Offered, Contents, max_image, max_meters, is_busy}
 use Rattle.fw_book.specs.Changes.{opening_rows, opening_refusal, Opens}
-use Rattle.fw_book.specs.Inside.{clashes, Admits}
+use Rattle.fw_book.specs.Private.{clashes, Admits}
 use Rattle.fw_book.specs.Laws.{AdmittedOpens}
 
 -- ---- refusals

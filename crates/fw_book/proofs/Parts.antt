@@ -11,7 +11,7 @@ use Rattle.fw_book.specs.declared.row.Row.{Row}
 use Rattle.fw_book.specs.Rows.{is_live, is_live_in, meters_of, repeats}
 use Rattle.fw_book.specs.declared.version.Version.{Version}
 use Rattle.fw_book.specs.Contents.{Offered, Contents, has_serial, is_busy, IsEntry, Apart, AllApart, IsBook}
-use Rattle.fw_book.specs.Inside.{clashes, Admits, IsImage, IsRows, MetersFit, AreNumbers, IsEntryIn, TellsAll, NoNumbers, NoRows, NoCounted, NoEntry, Campaigns, NoCampaigns, Parts}
+use Rattle.fw_book.specs.Private.{clashes, Admits, IsImage, IsRows, MetersFit, AreNumbers, IsEntryIn, TellsAll, NoNumbers, NoRows, NoCounted, NoEntry, Campaigns, NoCampaigns, Parts}
 use Rattle.fw_book.specs.Format.{row_bytes, rows_bytes, counted_bytes, image_bytes, numbers_bytes, entry_bytes, entries_bytes, head_bytes, book_bytes, IsReadAs}
 use Rattle.fw_book.proofs.Books.{same_contents}
 use Rattle.fw_book.proofs.Spellings.{two_unique, rows_next, image_unique, counted_unique, numbers_unique, numbers_of, entry_parts, entry_unique, entries_next, entries_told, head_unique, same_version, SpellsIn, in_version, read_in}

@@ -11,7 +11,7 @@ use Rattle.fw_book.specs.declared.version.Version.{Version}
 use Rattle.fw_book.specs.declared.version.Version.TheVariants.{First, Second}
 use Rattle.fw_book.specs.Contents.{Offered, Contents, IsEntry, IsBook}
 use Rattle.fw_book.specs.Format.{state_number, row_bytes, rows_bytes, counted_bytes, image_bytes, numbers_bytes, entry_bytes, entries_bytes, head_bytes, book_bytes, SpellsBook, IsReadAs}
-use Rattle.fw_book.specs.Inside.{MetersFit, AreNumbers, IsEntryIn, TellsAll}
+use Rattle.fw_book.specs.Private.{MetersFit, AreNumbers, IsEntryIn, TellsAll}
 use Rattle.std.proofs.lemmas.List.{append-nil}
 
 pub split_unique : (n : ℕ) (p q s t : List ℕ) → length p ≡ n → length q ≡ n → p ++ s ≡ q ++ t → (p ≡ q) × (s ≡ t)

@@ -11,7 +11,7 @@ use Rattle.fw_book.specs.declared.error.BookError.TheVariants.{OutOfMemory}
 use Rattle.fw_book.specs.Contents.{Offered, Contents, IsEntry}
 use Rattle.fw_book.specs.Changes.{ReadRefused}
 use Rattle.fw_book.specs.Format.{state_number, row_bytes, rows_bytes, counted_bytes, image_bytes, entry_bytes, entries_bytes, IsReadAs}
-use Rattle.fw_book.specs.Inside.{MetersFit, IsEntryIn, NoEntry, state_of_number, row_before, rows_in, entry_in, Skims, AreEntries}
+use Rattle.fw_book.specs.Private.{MetersFit, IsEntryIn, NoEntry, state_of_number, row_before, rows_in, entry_in, Skims, AreEntries}
 use Rattle.fw_book.proofs.Spellings.{split_unique, two_unique, image_unique, numbers_unique, numbers_of, entry_parts, entry_some, entry_unique}
 
 state_none : (n : ℕ) → 3 < n → state_of_number n ≡ None

@@ -5,4 +5,4 @@ pub mod Changes
 pub mod Format
 pub mod Laws
 -- For private clauses alone: no public clause cites it.
-pub mod Inside
+pub mod Private

@@ -45,7 +45,7 @@ impl Drop for Book {
 
 impl Model for Book {
     ghost use Rattle.fw_book.specs.Contents.{Contents};
-    ghost use Rattle.fw_book.specs.Inside.{IsKept};
+    ghost use Rattle.fw_book.specs.Private.{IsKept};
 
     ghost Value = { Contents };
 
@@ -70,7 +70,7 @@ impl Book {
       IsRefusal,
       ReadRefused,
     };
-    ghost use Rattle.fw_book.specs.Inside.{Admits, meters_refusal};
+    ghost use Rattle.fw_book.specs.Private.{Admits, meters_refusal};
     ghost use Rattle.fw_book.specs.Format.{SpellsBook, IsReadAs};
 
     /// The book of a head end that has no campaign yet. It keeps the allocator, and takes no memory.

@@ -2,7 +2,7 @@
 
 ghost use Rattle.std.specs.Prelude.{◌≡◌, ◌==◌, ◌&&◌, ◌||◌, ℕ, false, not, OnOk, OnErr, IfErr};
 ghost use Rattle.fw_book.specs.Rows.{is_live_in};
-ghost use Rattle.fw_book.specs.Inside.{has_live_meter};
+ghost use Rattle.fw_book.specs.Private.{has_live_meter};
 
 use crate::error::BookError;
 use crate::row::Row;

@@ -4,7 +4,7 @@ ghost use Rattle.std.specs.Prelude.{◌≡◌, IfOk, IfErr, map};
 ghost use Rattle.std.specs.List.{AllByRecursion};
 ghost use Rattle.std.specs.Prelude.{◌<◌, ◌^◌};
 ghost use Rattle.fw_book.specs.Rows.{live_row, repeats, meters_of};
-ghost use Rattle.fw_book.specs.Inside.{rows_in};
+ghost use Rattle.fw_book.specs.Private.{rows_in};
 
 use crate::error::BookError;
 use crate::reading::{ROW_SIZE, row_at};

@@ -14,7 +14,7 @@ ghost use Rattle.fw_book.specs.Format.{
   form_bytes,
   head_bytes,
 };
-ghost use Rattle.fw_book.specs.Inside.{
+ghost use Rattle.fw_book.specs.Private.{
   AreNumbers,
   IsImage,
   IsRows,

@@ -6,7 +6,7 @@ ghost use Rattle.std.specs.Map.{lookup};
 ghost use Rattle.fw_book.specs.declared.row.Row.{Row};
 ghost use Rattle.fw_book.specs.Rows.{is_live_in, meters_of, repeats};
 ghost use Rattle.fw_book.specs.Contents.{Offered, Contents, is_busy};
-ghost use Rattle.fw_book.specs.Inside.{clashes, rows_in, AreEntries, Campaigns, NoCampaigns, Parts};
+ghost use Rattle.fw_book.specs.Private.{clashes, rows_in, AreEntries, Campaigns, NoCampaigns, Parts};
 ghost use Rattle.fw_book.specs.Format.{IsReadAs};
 
 use crate::reading::{Front, entry_at, head_at, row_at, skim};

@@ -5,7 +5,7 @@ use Rattle.std.proofs.lemmas.List.{length-append}
 use Rattle.fw_capture.specs.Checksum.{word_sum, checksum, checksum_of}
 use Rattle.fw_capture.specs.View.{ipv4, ipv6, datagram}
 use Rattle.fw_capture.specs.Spelling.{udp_header, sent_checksum, udp_datagram, ipv4_header, ipv4_packet, ipv4_pseudo, ipv6_header, ipv6_packet, ipv6_pseudo, record_header, packet_bytes}
-use Rattle.fw_capture.specs.Inside.{udp_summed}
+use Rattle.fw_capture.specs.Private.{udp_summed}
 use Rattle.fw_capture.proofs.Sums.{word_sum-append}
 
 -- a datagram by the sum of its pseudo header is the datagram

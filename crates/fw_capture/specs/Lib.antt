@@ -8,4 +8,4 @@ pub mod Place
 pub mod Steps
 pub mod Laws
 -- For private clauses alone: no public clause cites it.
-pub mod Inside
+pub mod Private

@@ -4,7 +4,7 @@ ghost use Rattle.std.specs.Prelude.{◌≡◌, ◌+◌, ◌≤◌, length, take,
 ghost use Rattle.std.specs.Net.Addr.{ipv4_octets, ipv6_octets};
 ghost use Rattle.fw_capture.specs.View.{told_in, told_of};
 ghost use Rattle.fw_capture.specs.Reading.{udp_at, note_at, is_passed_over, ipv4_payload_at, ipv6_payload_at, ipv4_at, ipv6_at, packet_at};
-ghost use Rattle.fw_capture.specs.Inside.{Gives};
+ghost use Rattle.fw_capture.specs.Private.{Gives};
 
 use crate::fault::CaptureFault;
 use crate::internet::UDP;

@@ -3,7 +3,7 @@
 ghost use Rattle.std.specs.Prelude.{◌≡◌, ◌+◌, ◌<◌, ◌≤◌, ◌^◌, ◌++◌, length, OnOk};
 ghost use Rattle.fw_capture.specs.Checksum.{checksum, word_sum};
 ghost use Rattle.fw_capture.specs.Spelling.{ipv4_header, ipv6_header, ipv4_pseudo, ipv6_pseudo};
-ghost use Rattle.fw_capture.specs.Inside.{Begins, udp_checksum, udp_summed};
+ghost use Rattle.fw_capture.specs.Private.{Begins, udp_checksum, udp_summed};
 
 use crate::checksum::{checksum_of, word_sum};
 use std::alloc::AllocError;

@@ -2,7 +2,7 @@
 
 ghost use Rattle.std.specs.Prelude.{◌+◌, ◌≤◌};
 ghost use Rattle.fw_capture.specs.Reading.{ethernet_at, typed_at, raw_at, link_at};
-ghost use Rattle.fw_capture.specs.Inside.{Gives};
+ghost use Rattle.fw_capture.specs.Private.{Gives};
 
 use crate::fault::CaptureFault;
 use crate::format::Link;

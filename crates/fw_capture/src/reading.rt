@@ -3,7 +3,7 @@
 ghost use Rattle.std.specs.Prelude.{◌≡◌, ◌≤◌, length, IfOk};
 ghost use Rattle.fw_capture.specs.View.{told_in};
 ghost use Rattle.fw_capture.specs.Reading.{magic_at, link_of, header_at, frame_at, record_at};
-ghost use Rattle.fw_capture.specs.Inside.{Gives};
+ghost use Rattle.fw_capture.specs.Private.{Gives};
 
 use crate::datagram::content;
 use crate::fault::CaptureFault;

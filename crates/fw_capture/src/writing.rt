@@ -5,7 +5,7 @@ ghost use Rattle.std.specs.declared.net.socket_addr.SocketAddr.TheVariants.{V4, 
 ghost use Rattle.fw_capture.specs.View.{datagram, endpoint_of, told_of, IsTold};
 ghost use Rattle.fw_capture.specs.Spelling.{file_header, record_header, second, note_text, note_protocol, loopback, ip_packet, ipv4_packet, datagram_packet, packet_bytes};
 ghost use Rattle.fw_capture.specs.Refusal.{refusal_of, IsRefusal, two_families, too_long};
-ghost use Rattle.fw_capture.specs.Inside.{Begins};
+ghost use Rattle.fw_capture.specs.Private.{Begins};
 
 use crate::error::AppendError;
 use crate::internet::{

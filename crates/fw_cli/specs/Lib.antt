@@ -11,5 +11,5 @@ pub mod Rehearsing
 pub mod Heads
 pub mod Laws
 -- For private clauses alone: no public clause cites it.
-pub mod Inside
+pub mod Private
 pub mod Fleets

@@ -28,7 +28,7 @@ ghost use Rattle.fw_air.specs.Schedules.{IsOfWorld};
 ghost use Rattle.fw_script.specs.Fates.{SpellsFates, SpellsSome};
 ghost use Rattle.fw_cli.specs.Faults.{IsOfReplay};
 ghost use Rattle.fw_faults.specs.Reading.{ReadsUntil, max_input};
-ghost use Rattle.fw_cli.specs.Inside.{rounds_in};
+ghost use Rattle.fw_cli.specs.Private.{rounds_in};
 ghost use Rattle.fw_script.specs.Script.{IsBadLine};
 ghost use Rattle.fw_cli.specs.Replaying.{
   Replays,

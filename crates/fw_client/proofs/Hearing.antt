@@ -18,7 +18,7 @@ use Rattle.fw_client.specs.Hearing.{CarriesResponse, MayCarryData, Answers, Hear
 use Rattle.fw_client.specs.Laws.{OneHearing, OnlyClaimed}
 use Rattle.fw_apdu.specs.View.{response_content, response_invoke}
 use Rattle.fw_apdu.specs.declared.response.Response.{Response}
-use Rattle.fw_client.specs.Inside.{Finds, IsResponseIn, AnsweredBy}
+use Rattle.fw_client.specs.Private.{Finds, IsResponseIn, AnsweredBy}
 use Rattle.fw_client.specs.declared.ask.Asked.{Asked}
 use Rattle.fw_client.specs.declared.ask.Asked.TheVariants as asked
 use Rattle.fw_client.specs.declared.heard.Heard.{Heard}

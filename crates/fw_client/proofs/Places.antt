@@ -9,7 +9,7 @@ use Rattle.std.specs.Cmp.{nat_cmp_total}
 use Rattle.std.specs.FinMap.{insert, remove, get, get-insert, get-remove, get-empty, same_map, nat_cmp-IsAntisymmetric}
 use Rattle.fw_client.specs.declared.ask.Asked.{Asked}
 use Rattle.fw_client.specs.State.{Asks}
-use Rattle.fw_client.specs.Inside.{asks_from}
+use Rattle.fw_client.specs.Private.{asks_from}
 
 nat_tie : (k n : ℕ) → eq_by_cmp nat_cmp k n ≡ (k == n)
 nat_tie k n = grind (arith, nat_tests)

@@ -7,7 +7,7 @@ use Rattle.fw_axdr.specs.declared.data.Data.{Data}
 use Rattle.fw_axdr.specs.View.{values_of}
 use Rattle.fw_names.specs.Name.{Name, SpellsName}
 use Rattle.fw_client.specs.Matching.{TellsOf, element}
-use Rattle.fw_client.specs.Inside.{one_of, three_of, fields_in, octets_in, signed_by, signed_of, identification_of}
+use Rattle.fw_client.specs.Private.{one_of, three_of, fields_in, octets_in, signed_by, signed_of, identification_of}
 
 -- ---- lists of other lengths
 

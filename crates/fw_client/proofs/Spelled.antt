@@ -11,7 +11,7 @@ use Rattle.fw_apdu.specs.Request.{RequestContent, request_bytes, unwritable_requ
 use Rattle.fw_names.specs.Name.{Name, IsName, name_bytes}
 use Rattle.fw_wrapper.specs.Wrapper.{max_apdu}
 use Rattle.fw_client.specs.Ask.{Ask, block_size, first_missing, blocks, status, info, active_name, enable, initiate, block, verify, activate, request_of, Fits}
-use Rattle.fw_client.specs.Inside.{IsNamed}
+use Rattle.fw_client.specs.Private.{IsNamed}
 
 -- a name is spelled in 45 bytes at most
 most : (name : Name) → IsName name → length (name_bytes name) ≤ 45

@@ -7,4 +7,4 @@ pub mod Matching
 pub mod Hearing
 pub mod Laws
 -- For private clauses and the model of `Outstanding` alone: no public clause cites it.
-pub mod Inside
+pub mod Private

@@ -8,7 +8,7 @@ ghost use Rattle.fw_apdu.specs.View.{request_content, request_invoke};
 ghost use Rattle.fw_names.specs.Name.{IsName, name_bytes};
 ghost use Rattle.fw_wrapper.specs.Wrapper.{wrapped, max_apdu};
 ghost use Rattle.fw_client.specs.Ask.{request_of, image_transfer, active_identifier, pair, Fits, CarriesRequest};
-ghost use Rattle.fw_client.specs.Inside.{IsNamed};
+ghost use Rattle.fw_client.specs.Private.{IsNamed};
 ghost use Rattle.fw_client.specs.View.{ask_of};
 
 use crate::ask::Ask;

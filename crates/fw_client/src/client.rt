@@ -10,7 +10,7 @@ ghost use Rattle.fw_client.specs.Ask.{request_of, kind_of, Fits, CarriesRequest}
 ghost use Rattle.fw_client.specs.State.{fresh, asking, forgetting, invoke_byte, IsWaiting};
 ghost use Rattle.fw_client.specs.Hearing.{Answers, Hears, IsClaimed, MayCarryData};
 ghost use Rattle.fw_client.specs.View.{ask_of};
-ghost use Rattle.fw_client.specs.Inside.{Finds, AnsweredBy};
+ghost use Rattle.fw_client.specs.Private.{Finds, AnsweredBy};
 
 use crate::ask::{Ask, Asked};
 use crate::asking::datagram;

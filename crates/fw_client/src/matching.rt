@@ -6,7 +6,7 @@ ghost use Rattle.fw_axdr.specs.View.{value_of};
 ghost use Rattle.fw_apdu.specs.View.{response_content, response_invoke};
 ghost use Rattle.fw_client.specs.Matching.{Matches, IsValue, IsNumber, IsBits, IsStatus, IsInfo, IsInfoOf, IsActive};
 ghost use Rattle.fw_client.specs.Hearing.{MayCarryData};
-ghost use Rattle.fw_client.specs.Inside.{
+ghost use Rattle.fw_client.specs.Private.{
   Finds,
   IsResponseIn,
   identification_of,

@@ -27,7 +27,7 @@ impl Model for Outstanding {
 
     ghost coded = { Prim.hlevel (codes, code) };
 
-    ghost use Rattle.fw_client.specs.Inside.{asks_from};
+    ghost use Rattle.fw_client.specs.Private.{asks_from};
 
     ghost view = { λ o. asks_from 0 o.places };
 

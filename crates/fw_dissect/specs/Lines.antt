@@ -9,9 +9,9 @@ use Rattle.fw_capture.specs.declared.packet.Note.TheVariants as notes
 use Rattle.fw_capture.specs.View.{Endpoint, ipv4, ipv6, Told, datagram, note, other}
 use Rattle.fw_world.specs.declared.datagram.Direction.{Direction}
 use Rattle.fw_world.specs.declared.datagram.Direction.TheVariants.{ToMeter, ToHead}
-use Rattle.fw_report.specs.declared.saying.Saying.{Saying}
-use Rattle.fw_report.specs.Saying.{Says}
-use Rattle.fw_report.specs.Trace.{saying_words}
+use Rattle.fw_report.specs.declared.message.Message.{Message}
+use Rattle.fw_report.specs.Message.{Says}
+use Rattle.fw_report.specs.Trace.{message_words}
 use Rattle.fw_recording.specs.Records.{HoldsRecords}
 
 -- ---- which way a datagram goes
@@ -36,9 +36,9 @@ endpoint_text (ipv6 octets port) = codes "[" ++ (ipv6_text (segments_of octets) 
 abbrev pub ends_text : Endpoint → Endpoint → List ℕ
 ends_text from to = endpoint_text from ++ (codes " -> " ++ endpoint_text to)
 
-abbrev pub datagram_line : ℕ → Endpoint → Endpoint → Saying → List ℕ
+abbrev pub datagram_line : ℕ → Endpoint → Endpoint → Message → List ℕ
 datagram_line number from to s =
-    decimal number ++ (codes " " ++ (ends_text from to ++ (codes "  " ++ (saying_words s ++ codes "\n"))))
+    decimal number ++ (codes " " ++ (ends_text from to ++ (codes "  " ++ (message_words s ++ codes "\n"))))
 
 abbrev pub note_line : Note → List ℕ
 note_line notes.Start = codes "start\n"
@@ -46,7 +46,7 @@ note_line notes.Turn = codes "turn\n"
 
 -- the line of a record, of which the datagram has this number if it tells one
 abbrev pub IsLine : ℕ → Told → List ℕ → Type 0
-IsLine number (datagram from to bytes) line = (s : Saying) × Says (direction_of bytes) bytes s × (line ≡ datagram_line number from to s)
+IsLine number (datagram from to bytes) line = (s : Message) × Says (direction_of bytes) bytes s × (line ≡ datagram_line number from to s)
 IsLine number (note n) line = line ≡ note_line n
 IsLine number other line = line ≡ []
 

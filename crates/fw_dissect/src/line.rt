@@ -2,12 +2,12 @@
 
 ghost use Rattle.std.specs.Prelude.{◌≡◌, ◌+◌, ◌<◌, ◌^◌, ◌++◌, ℕ, List, codes, IfOk, OnOk, string_bytes};
 ghost use Rattle.fw_capture.specs.View.{endpoint_of, told_in};
-ghost use Rattle.fw_report.specs.declared.saying.Saying.{Saying};
-ghost use Rattle.fw_report.specs.Saying.{Says};
+ghost use Rattle.fw_report.specs.declared.message.Message.{Message};
+ghost use Rattle.fw_report.specs.Message.{Says};
 ghost use Rattle.fw_dissect.specs.Lines.{IsLine, datagram_line, direction_of, endpoint_text, ends_text, note_line, number_after};
 
 use fw_capture::{Content, Note};
-use fw_report::{Saying, answered, append_saying, asked};
+use fw_report::{Message, answered, append_message, asked};
 use fw_world::Direction;
 use std::alloc::{AllocError, Global};
 use std::net::{Ipv6Addr, SocketAddr};
@@ -56,11 +56,11 @@ fn append_datagram(
     to: SocketAddr,
     bytes: &[u8],
 ) -> Result<(), AllocError>
-    ensures { OnOk result ((s : Saying) × Says (direction_of bytes.now) bytes.now s
+    ensures { OnOk result ((s : Message) × Says (direction_of bytes.now) bytes.now s
         × (string_bytes text.new ≡ string_bytes text.old ++ datagram_line number (endpoint_of from) (endpoint_of to) s)) }
 {
     match said(alloc, bytes) {
-        Ok(saying) => append_said(text, number, from, to, saying),
+        Ok(message) => append_said(text, number, from, to, message),
         Err(error) => Err(error),
     }
 }
@@ -71,15 +71,15 @@ fn append_said(
     number: u64,
     from: SocketAddr,
     to: SocketAddr,
-    saying: Saying,
+    message: Message,
 ) -> Result<(), AllocError>
     ensures { OnOk result (string_bytes text.new
-        ≡ string_bytes text.old ++ datagram_line number (endpoint_of from) (endpoint_of to) saying) }
+        ≡ string_bytes text.old ++ datagram_line number (endpoint_of from) (endpoint_of to) message) }
 {
     write!(text, "{number} ")?;
     append_ends(text, from, to)?;
     text.push_str("  ")?;
-    append_saying(text, saying)?;
+    append_message(text, message)?;
     text.push_str("\n")
 }
 
@@ -110,7 +110,7 @@ fn append_endpoint(text: &mut String, at: SocketAddr) -> Result<(), AllocError>
 }
 
 /// What a datagram says.
-fn said(alloc: Global, bytes: &[u8]) -> Result<Saying, AllocError>
+fn said(alloc: Global, bytes: &[u8]) -> Result<Message, AllocError>
     ensures { IfOk result (Says (direction_of bytes.now) bytes.now) }
 {
     match direction_of(bytes) {

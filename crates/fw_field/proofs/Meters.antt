@@ -4,7 +4,7 @@ use Rattle.std.proofs.lemmas.Bool.{cond-true, cond-false}
 use Rattle.std.specs.declared.net.socket_addr.SocketAddr.{SocketAddr}
 use Rattle.fw_names.specs.Name.{Name}
 use Rattle.fw_blocks.specs.Cuts.{max_blocks}
-use Rattle.fw_image.specs.Meter.{Meter, Phase, idle, receiving, verifying, sealed, spoilt, switched, reopened, reopened_phase, restarted}
+use Rattle.fw_image.specs.Meter.{Meter, Phase, idle, receiving, verifying, verified, spoilt, switched, reopened, reopened_phase, restarted}
 use Rattle.fw_image.specs.State.{State, Turns}
 use Rattle.fw_image.specs.Step.{Turn}
 use Rattle.fw_meter.specs.Laws.{Faultless, StopAfterIsStop, TurnFaultIsStop}
@@ -25,7 +25,7 @@ again_is m = ap (λ (p : Phase). (let n : Meter = record m { phase = p; limit = 
     twice idle = refl
     twice (receiving goal) = refl
     twice (verifying goal taken) = refl
-    twice (sealed goal) = refl
+    twice (verified goal) = refl
     twice (spoilt goal) = refl
     twice switched = refl
 

@@ -7,7 +7,7 @@ use Rattle.fw_head.specs.declared.stage.Stage.{Stage}
 use Rattle.fw_head.specs.declared.stage.Stage.TheVariants.{Size, Enable, Start, Blocks, Check, Gaps, Verify, Poll, Info, Activate, Confirm, Done, Failed}
 use Rattle.fw_head.specs.declared.answers.Step.{Step}
 use Rattle.fw_head.specs.Phase.{rows, otherwise, First, Leads}
-use Rattle.fw_head.specs.Inside.{IsAsking, IsAskingStep}
+use Rattle.fw_head.specs.Private.{IsAsking, IsAskingStep}
 
 -- each row of a list leads to such a step
 abbrev RowsAsk : List ((Type 0) × Step) → Type 0

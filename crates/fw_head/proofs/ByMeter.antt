@@ -16,7 +16,7 @@ use Rattle.fw_book.specs.Contents.{Contents, Offered, state_in, IsEntry, Apart, 
 use Rattle.fw_head.specs.Row.{Row, new_row}
 use Rattle.fw_head.specs.Head.{Rows, row_of, renewed, IsRowOf, AreRowsOf}
 use Rattle.fw_head.specs.Parts.{by_meter, AreLiveRows}
-use Rattle.fw_head.specs.Inside.{IsOfBook, repeats, is_row_in, has_rows, has_each}
+use Rattle.fw_head.specs.Private.{IsOfBook, repeats, is_row_in, has_rows, has_each}
 use Rattle.fw_head.proofs.LiveRows.{some_row}
 use Rattle.fw_head.proofs.NewRows.{flipped, absent}
 use Rattle.fw_head.proofs.SameRows.{keys_renewed, agree_renewed, head_kept}

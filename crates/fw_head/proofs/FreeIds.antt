@@ -7,7 +7,7 @@ use Rattle.std.specs.Cmp.{nat_cmp_total}
 use Rattle.std.specs.FinMap.{empty, get, get-insert, get-empty}
 use Rattle.fw_client.specs.State.{State, Asks, asking}
 use Rattle.fw_client.specs.declared.ask.Asked.{Asked}
-use Rattle.fw_head.specs.Inside.{AskedLately}
+use Rattle.fw_head.specs.Private.{AskedLately}
 
 nothing : (o : Option Asked) → ¬ (IsSome o) → o ≡ None
 nothing None h = refl

@@ -19,7 +19,7 @@ use Rattle.fw_head.specs.Row.{Row, new_row}
 use Rattle.fw_head.specs.Head.{Rows, row_of, IsRowOf, AreRowsOf}
 use Rattle.fw_head.specs.Parts.{by_meter, AreLiveRows, still_live, with_end, with_ends}
 use Rattle.fw_head.specs.Laws.{state_of_stage, EndsAreMarked}
-use Rattle.fw_head.specs.Inside.{IsOfBook}
+use Rattle.fw_head.specs.Private.{IsOfBook}
 use Rattle.fw_head.proofs.LiveRows.{some_row}
 use Rattle.fw_head.proofs.Names.{mark_name}
 use Rattle.fw_head.proofs.States.{same_campaign, either_campaign, of_head, state_stays, marked_ends, row_stays}

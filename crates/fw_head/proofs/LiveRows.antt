@@ -4,7 +4,7 @@ use Rattle.std.specs.Map.{lookup, set_value}
 use Rattle.std.proofs.lemmas.Bool.{cases_Bool, cond-true, cond-false}
 use Rattle.fw_head.specs.declared.news.RowNews.{RowNews}
 use Rattle.fw_head.specs.Row.{Row, RowHears}
-use Rattle.fw_head.specs.Inside.{IsOwnNews}
+use Rattle.fw_head.specs.Private.{IsOwnNews}
 use Rattle.fw_head.specs.Head.{Rows, RowsHear, at_meter}
 
 pub some_row : (row other : Row) → let o : Option Row = Some row in o ≡ Some other → row ≡ other

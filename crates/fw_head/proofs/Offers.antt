@@ -11,7 +11,7 @@ use Rattle.fw_book.specs.Changes.{DoneRefused}
 use Rattle.fw_head.specs.declared.news.RowNews.{RowNews}
 use Rattle.fw_head.specs.declared.news.RowNews.TheVariants as news
 use Rattle.fw_head.specs.Row.{Row}
-use Rattle.fw_head.specs.Inside.{IsOwnNews}
+use Rattle.fw_head.specs.Private.{IsOwnNews}
 use Rattle.fw_head.specs.Head.{IsRowOf}
 
 some_or_none : (name : Name) → (let o : Option Name = None in o ≡ Some name) → ⊥

@@ -14,7 +14,7 @@ use Rattle.fw_head.specs.declared.stage.Stage.{Stage}
 use Rattle.fw_head.specs.declared.stage.Stage.TheVariants.{Size, Enable, Start, Blocks, Check, Gaps, Verify, Poll, Info, Activate, Confirm, Done, Failed}
 use Rattle.fw_head.specs.declared.answers.Step.{Step}
 use Rattle.fw_head.specs.Phase.{count, phase_of, rows, otherwise, First, Leads}
-use Rattle.fw_head.specs.Inside.{StageHolds, StepHolds, IsCutOf, IsOwn, IsOwnStep, IsOwnNews}
+use Rattle.fw_head.specs.Private.{StageHolds, StepHolds, IsCutOf, IsOwn, IsOwnStep, IsOwnNews}
 use Rattle.fw_head.specs.declared.news.RowNews.{RowNews}
 use Rattle.fw_head.specs.Row.{IsClaimOf, news_in, with_block}
 

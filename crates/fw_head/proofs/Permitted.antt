@@ -12,7 +12,7 @@ use Rattle.fw_head.specs.declared.stage.Stage.{Stage}
 use Rattle.fw_head.specs.declared.stage.Stage.TheVariants.{Size, Enable, Start, Blocks, Check, Gaps, Verify, Poll, Info, Activate, Confirm, Done, Failed}
 use Rattle.fw_head.specs.Phase.{block_ask, asks_in, asks_first_in, count}
 use Rattle.fw_head.specs.Row.{Row, MaySend, IsPermitted, tick_asks}
-use Rattle.fw_head.specs.Inside.{IsCutOf, IsOwn, Carry}
+use Rattle.fw_head.specs.Private.{IsCutOf, IsOwn, Carry}
 
 -- ---- the numbers of a window are below the count
 

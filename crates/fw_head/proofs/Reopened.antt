@@ -14,7 +14,7 @@ use Rattle.fw_book.specs.Rows.{is_live, meters_of, repeats, state_of, is_live_in
 use Rattle.fw_book.specs.Contents.{Contents, Offered, IsEntry, Apart, AllApart, IsBook, image_in, name_in}
 use Rattle.fw_head.specs.Row.{Row, reopened_row}
 use Rattle.fw_head.specs.Head.{Rows, row_of, reopened_rows, renewed, asking, IsRowOf, AreRowsOf}
-use Rattle.fw_head.specs.Inside.{live_meters, rows_in, live_rows}
+use Rattle.fw_head.specs.Private.{live_meters, rows_in, live_rows}
 use Rattle.fw_head.specs.Laws.{BeginsRestarted}
 use Rattle.fw_head.proofs.LiveRows.{some_row}
 use Rattle.fw_head.proofs.ByMeter.{renew, made_from, made_to, renewed_from, renewed_to}

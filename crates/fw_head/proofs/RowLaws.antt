@@ -18,7 +18,7 @@ use Rattle.fw_head.specs.declared.news.RowNews.{RowNews}
 use Rattle.fw_head.specs.declared.news.RowNews.TheVariants as news
 use Rattle.fw_head.specs.Phase.{phase_of, rows, otherwise, First, Leads}
 use Rattle.fw_head.specs.Row.{Row, RowTakes, RowIgnores, max_returns, moved, settled, went, confirm_first, asked_first, stepped, with_block, news_in}
-use Rattle.fw_head.specs.Inside.{StageHolds, StepHolds}
+use Rattle.fw_head.specs.Private.{StageHolds, StepHolds}
 use Rattle.fw_head.specs.Laws.{OneRow, IsConfirmedBy, DoneByClaim}
 use Rattle.fw_head.proofs.OwnClaims.{Ended, ended_step}
 

@@ -8,7 +8,7 @@ use Rattle.fw_wrapper.specs.Wrapper.{wrapped}
 use Rattle.fw_client.specs.Ask.{Ask, request_of, kind_of, CarriesRequest}
 use Rattle.fw_client.specs.State.{State, asking, invoke_byte}
 use Rattle.fw_head.specs.Row.{bytes_of, datagrams, asking_all}
-use Rattle.fw_head.specs.Inside.{AskedLately, Carry}
+use Rattle.fw_head.specs.Private.{AskedLately, Carry}
 use Rattle.fw_head.proofs.FreeIds.{one_later}
 
 -- what was sent grows by the datagram of the next ask

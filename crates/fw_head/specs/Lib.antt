@@ -5,4 +5,4 @@ pub mod Head
 pub mod Parts
 pub mod Laws
 -- For private clauses and the models of the head end's types alone: no other public clause cites it.
-pub mod Inside
+pub mod Private

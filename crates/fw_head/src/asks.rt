@@ -10,7 +10,7 @@ ghost use Rattle.fw_client.specs.State.{asking, invoke_byte};
 ghost use Rattle.fw_client.specs.View.{ask_of};
 ghost use Rattle.fw_head.specs.Phase.{block_ask};
 ghost use Rattle.fw_head.specs.Row.{bytes_of, datagrams, asking_all};
-ghost use Rattle.fw_head.specs.Inside.{Carry};
+ghost use Rattle.fw_head.specs.Private.{Carry};
 
 use fw_blocks::Geometry;
 use fw_client::{Ask, AskError, Client, OutOfMemory};

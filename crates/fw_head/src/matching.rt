@@ -6,7 +6,7 @@ ghost use Rattle.std.specs.Option.{option_copied};
 ghost use Rattle.fw_head.specs.Row.{Row};
 ghost use Rattle.fw_head.specs.Head.{row_of};
 ghost use Rattle.fw_head.specs.Parts.{by_meter, AreLiveRows, PutRefused};
-ghost use Rattle.fw_head.specs.Inside.{IsOfBook, repeats, is_row_in, has_rows, has_each};
+ghost use Rattle.fw_head.specs.Private.{IsOfBook, repeats, is_row_in, has_rows, has_each};
 
 use crate::error::PutError;
 use crate::row::RowCore;

@@ -44,7 +44,7 @@ impl Model for RowCore {
 
     ghost coded = { Prim.hlevel (codes, code) };
 
-    ghost use Rattle.fw_head.specs.Inside.{IsRow};
+    ghost use Rattle.fw_head.specs.Private.{IsRow};
 
     ghost view = { λ r. record { name = r.name; size = r.size; stage = r.stage; client = r.client; returns = r.returns; asks_first = r.asks_first } };
 
@@ -67,7 +67,7 @@ impl RowCore {
     };
     ghost use Rattle.fw_head.specs.Phase.{phase_of, has_ended, IsLive};
     ghost use Rattle.fw_head.specs.Parts.{with_end};
-    ghost use Rattle.fw_head.specs.Inside.{IsOfBook, Carry, IsCutOf, IsOwn, IsOwnStep, IsOwnNews, IsAsking, IsAskingStep};
+    ghost use Rattle.fw_head.specs.Private.{IsOfBook, Carry, IsCutOf, IsOwn, IsOwnStep, IsOwnNews, IsAsking, IsAskingStep};
 
     /// A new row of this meter, for the image of this name and size in bytes.
     pub fn new(meter: MeterId, name: ImageName, size: u32) -> RowCore

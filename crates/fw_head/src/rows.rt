@@ -8,7 +8,7 @@ ghost use Rattle.indexmap.specs.IndexMap.{spare};
 ghost use Rattle.std.specs.Option.{option_copied, option_map_or};
 ghost use Rattle.fw_head.specs.Phase.{IsLive, has_ended};
 ghost use Rattle.fw_head.specs.Row.{Row, bytes_of, new_row, sends, ticked, IsPermitted};
-ghost use Rattle.fw_head.specs.Inside.{IsOwnNews, IsOfBook, is_row_in, has_rows, has_each, live_meters, live_rows};
+ghost use Rattle.fw_head.specs.Private.{IsOwnNews, IsOfBook, is_row_in, has_rows, has_each, live_meters, live_rows};
 ghost use Rattle.fw_head.specs.Parts.{by_meter, still_live, with_ends, AreLiveRows, PutRefused};
 ghost use Rattle.fw_head.specs.Head.{row_of, at_meter, without_meter, without_serial, new_rows, reopened_rows, renewed, RowsHear, RowsMayWant};
 ghost use Rattle.fw_head.specs.Head.{has_live_row};

@@ -21,8 +21,8 @@ use Rattle.fw_store.specs.declared.header.StoredStatus.TheVariants as kept
 use Rattle.fw_verify.specs.Progress.{Progress, reads_left}
 use Rattle.fw_verify.specs.Slices.{slice_size}
 use Rattle.fw_image.specs.declared.status.TransferStatus.TheVariants.{Initiated}
-use Rattle.fw_image.specs.Meter.{Meter, Phase, IsTrusted, status_of, goal_of, goal_size, joined, goal_bytes, receiving, verifying, sealed, spoilt, reopened}
-use Rattle.fw_image.specs.Step.{done, refused, verification_initiated, Refuses, Serves, Does, Judges, TurnsIn, digested_phase, sealed_phase, spoilt_phase, Admits, is_operation_faultless, verify}
+use Rattle.fw_image.specs.Meter.{Meter, Phase, IsTrusted, status_of, goal_of, goal_size, joined, goal_bytes, receiving, verifying, verified, spoilt, reopened}
+use Rattle.fw_image.specs.Step.{done, refused, verification_initiated, Refuses, Serves, Does, Judges, TurnsIn, digested_phase, verified_phase, spoilt_phase, Admits, is_operation_faultless, verify}
 use Rattle.fw_image.specs.declared.error.Refusal.{Refusal}
 use Rattle.fw_image.specs.declared.error.Refusal.TheVariants.{Missing, Fault, Differs}
 use Rattle.fw_image.specs.State.{Turns}
@@ -54,9 +54,9 @@ some_bytes capacity h goal is there =
 abbrev pub IsOpen : Phase → Goal → Type 0
 IsOpen p goal = (p ≡ receiving goal) ⊎ ((taken : ℕ) × (p ≡ verifying goal taken))
 
-sealed_is : (p : Phase) (goal : Goal) → IsOpen p goal → sealed_phase p ≡ sealed goal
-sealed_is p goal (inl e) = ap sealed_phase e
-sealed_is p goal (inr (taken, e)) = ap sealed_phase e
+verified_is : (p : Phase) (goal : Goal) → IsOpen p goal → verified_phase p ≡ verified goal
+verified_is p goal (inl e) = ap verified_phase e
+verified_is p goal (inr (taken, e)) = ap verified_phase e
 
 spoilt_is : (p : Phase) (goal : Goal) → IsOpen p goal → spoilt_phase p ≡ spoilt goal
 spoilt_is p goal (inl e) = ap spoilt_phase e
@@ -84,7 +84,7 @@ whole_at : (capacity : ℕ) (h : Header) (digesting : Option Progress) (d : Devi
 whole_at capacity h digesting d bytes whole =
     ap (λ (g : Option Goal). joined (meter_of capacity h d).cells (goal_count h.block_size g)) (goal_at digesting (phase_of h.status h.goal)) ∙ whole
 
-phase_judged : (genuine : Bool) (status : StoredStatus) (goal : Goal) → status ≡ judged genuine → phase_of status (Some goal) ≡ cond genuine (sealed goal) (spoilt goal)
+phase_judged : (genuine : Bool) (status : StoredStatus) (goal : Goal) → status ≡ judged genuine → phase_of status (Some goal) ≡ cond genuine (verified goal) (spoilt goal)
 phase_judged true status goal e = ap (λ (s : StoredStatus). phase_of s (Some goal)) e
 phase_judged false status goal e = ap (λ (s : StoredStatus). phase_of s (Some goal)) e
 
@@ -94,7 +94,7 @@ pub judges : (genuine honest : Bool) (capacity : ℕ) (h : Header) (digesting : 
     → Judges honest (meter_at capacity h digesting d) genuine (meter_of capacity (record h { status = status }) d')
 judges true honest capacity h digesting d d' status goal bytes e same there is whole digest =
     let p = phase_at digesting (phase_of h.status h.goal) in (
-      leaves honest _ _ (meter_judged capacity h digesting d d' status goal (sealed_phase p) same there (phase_judged true status goal e ∙ sym (sealed_is p goal is))),
+      leaves honest _ _ (meter_judged capacity h digesting d d' status goal (verified_phase p) same there (phase_judged true status goal e ∙ sym (verified_is p goal is))),
       λ b. genuine_from goal bytes (goal_of p) (goal_bytes (meter_at capacity h digesting d)) (goal_is p goal is) (whole_at capacity h digesting d bytes whole) ((digest b).0 refl),
     )
 judges false honest capacity h digesting d d' status goal bytes e same there is whole digest =
@@ -127,7 +127,7 @@ judged_keeps false status e = ap has_goal e
 
 -- the images have their names' digests as before, and the goal if it was judged so
 trusted_as : (genuine : Bool) (m : Meter) (goal : Goal) (bytes : List ℕ) → joined m.cells (goal_count m.block_size (Some goal)) ≡ Some bytes → (IsTrue genuine → sha256 bytes ≡ goal.name.digest)
-    → IsTrusted m → IsTrusted (record m { phase = cond genuine (sealed goal) (spoilt goal) })
+    → IsTrusted m → IsTrusted (record m { phase = cond genuine (verified goal) (spoilt goal) })
 trusted_as true m goal bytes whole digest is = record { running = is.running; verified = λ _. genuine_from goal bytes (Some goal) (joined m.cells (goal_count m.block_size (Some goal))) refl whole (digest refl) }
 trusted_as false m goal bytes whole digest is = record { running = is.running; verified = λ e. absurd cc }
 
@@ -137,7 +137,7 @@ pub trusted_judged : (genuine : Bool) (capacity : ℕ) (h : Header) (d d' : Devi
 trusted_judged genuine capacity h d d' status goal bytes e same there phase whole digest trusted =
     let m = meter_of capacity h d in
     let whole' : joined m.cells (goal_count h.block_size (Some goal)) ≡ Some bytes = ap (λ (p : Phase). joined m.cells (goal_count h.block_size (goal_of p))) (sym phase) ∙ whole in
-    subst IsTrusted (sym (meter_judged capacity h None d d' status goal (cond genuine (sealed goal) (spoilt goal)) same there (phase_judged genuine status goal e)))
+    subst IsTrusted (sym (meter_judged capacity h None d d' status goal (cond genuine (verified goal) (spoilt goal)) same there (phase_judged genuine status goal e)))
     (trusted_as genuine m goal bytes whole' digest trusted)
 
 -- ---- a verify
@@ -203,7 +203,7 @@ verify_part p goal taken e = ap (λ (q : Phase). verify_outcome {A = Unit {0}} (
 abbrev pub answered : Bool → Result (Unit {0}) Refusal
 answered genuine = cond genuine (Ok tt) (Err Differs)
 
-verify_in : (genuine : Bool) (p : Phase) (goal : Goal) → p ≡ cond genuine (sealed goal) (spoilt goal) → verify_outcome (answered genuine) p ≡ cond genuine done (refused Differs)
+verify_in : (genuine : Bool) (p : Phase) (goal : Goal) → p ≡ cond genuine (verified goal) (spoilt goal) → verify_outcome (answered genuine) p ≡ cond genuine done (refused Differs)
 verify_in true p goal e = ap (λ (q : Phase). verify_outcome (answered true) q) e
 verify_in false p goal e = refl
 

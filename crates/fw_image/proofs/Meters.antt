@@ -20,7 +20,7 @@ use Rattle.fw_verify.specs.Progress.{Progress}
 use Rattle.fw_image.specs.Status.{shown_status}
 use Rattle.fw_image.specs.declared.status.TransferStatus.{TransferStatus}
 use Rattle.fw_image.specs.declared.status.TransferStatus.TheVariants as shows
-use Rattle.fw_image.specs.Meter.{Meter, Phase, idle, receiving, verifying, sealed, spoilt, switched, status_of, goal_of, joined, marks_of, goal_bytes, reopened, reopened_phase}
+use Rattle.fw_image.specs.Meter.{Meter, Phase, idle, receiving, verifying, verified, spoilt, switched, status_of, goal_of, joined, marks_of, goal_bytes, reopened, reopened_phase}
 use Rattle.fw_image.specs.Step.{digested_phase}
 use Rattle.fw_image.specs.Shown.{Shown, shown_of}
 use Rattle.fw_image.specs.Stored.{phase_of, phase_at, cells_of, blocks_below, meter_of, meter_at, seen, IsVerifying, IsDigested}
@@ -76,7 +76,7 @@ same_goal : (phase : Phase) (taken : ℕ) → goal_of (digested_phase phase take
 same_goal idle taken = refl
 same_goal (receiving goal) taken = refl
 same_goal (verifying goal before) taken = refl
-same_goal (sealed goal) taken = refl
+same_goal (verified goal) taken = refl
 same_goal (spoilt goal) taken = refl
 same_goal switched taken = refl
 

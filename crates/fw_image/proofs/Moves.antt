@@ -19,7 +19,7 @@ use Rattle.fw_store.specs.declared.header.Header.{Header}
 use Rattle.fw_store.specs.declared.header.Goal.{Goal}
 use Rattle.fw_store.specs.declared.header.StoredStatus.TheVariants as kept
 use Rattle.fw_image.specs.declared.status.TransferStatus.TheVariants.{Initiated, VerificationSuccessful}
-use Rattle.fw_image.specs.Meter.{Meter, Phase, IsTrusted, status_of, goal_of, goal_bytes, IsGenuine, idle, receiving, verifying, sealed, spoilt, switched}
+use Rattle.fw_image.specs.Meter.{Meter, Phase, IsTrusted, status_of, goal_of, goal_bytes, IsGenuine, idle, receiving, verifying, verified, spoilt, switched}
 use Rattle.fw_image.specs.Shown.{shown_of}
 use Rattle.fw_image.specs.Step.{Operation, OperationOutcome, refused, Refuses, Serves, Does, Leaves, begun, switched_to, Admits, refusal_in, is_operation_faultless, enable, initiate, block, verify, activate}
 use Rattle.fw_image.specs.declared.error.Refusal.{Refusal}
@@ -251,24 +251,24 @@ valid_begun capacity h name size marks none is fits goal_is = record {
 
 -- ---- activate
 
-phase_sealed : (p : Phase) (goal : Goal) → status_of p ≡ VerificationSuccessful → goal_of p ≡ Some goal → p ≡ sealed goal
-phase_sealed idle goal status has = absurd cc
-phase_sealed (receiving g) goal status has = absurd cc
-phase_sealed (verifying g taken) goal status has = absurd cc
-phase_sealed (sealed g) goal status has = cc
-phase_sealed (spoilt g) goal status has = absurd cc
-phase_sealed switched goal status has = absurd cc
+phase_of_verified : (p : Phase) (goal : Goal) → status_of p ≡ VerificationSuccessful → goal_of p ≡ Some goal → p ≡ verified goal
+phase_of_verified idle goal status has = absurd cc
+phase_of_verified (receiving g) goal status has = absurd cc
+phase_of_verified (verifying g taken) goal status has = absurd cc
+phase_of_verified (verified g) goal status has = cc
+phase_of_verified (spoilt g) goal status has = absurd cc
+phase_of_verified switched goal status has = absurd cc
 
 phase_receiving : (p : Phase) (goal : Goal) → status_of p ≡ Initiated → goal_of p ≡ Some goal → p ≡ receiving goal
 phase_receiving idle goal status has = absurd cc
 phase_receiving (receiving g) goal status has = cc
 phase_receiving (verifying g taken) goal status has = absurd cc
-phase_receiving (sealed g) goal status has = absurd cc
+phase_receiving (verified g) goal status has = absurd cc
 phase_receiving (spoilt g) goal status has = absurd cc
 phase_receiving switched goal status has = absurd cc
 
-pub is_sealed : (capacity : ℕ) (h : Header) (goal : Goal) → IsHeader capacity h → status_of (phase_of h.status h.goal) ≡ VerificationSuccessful → h.goal ≡ Some goal → phase_of h.status h.goal ≡ sealed goal
-is_sealed capacity h goal is status has = phase_sealed (phase_of h.status h.goal) goal status (goal_again h.status h.goal is.goal_by_status ∙ has)
+pub has_verified : (capacity : ℕ) (h : Header) (goal : Goal) → IsHeader capacity h → status_of (phase_of h.status h.goal) ≡ VerificationSuccessful → h.goal ≡ Some goal → phase_of h.status h.goal ≡ verified goal
+has_verified capacity h goal is status has = phase_of_verified (phase_of h.status h.goal) goal status (goal_again h.status h.goal is.goal_by_status ∙ has)
 
 pub is_receiving : (capacity : ℕ) (h : Header) (goal : Goal) → IsHeader capacity h → status_of (phase_of h.status h.goal) ≡ Initiated → h.goal ≡ Some goal → phase_of h.status h.goal ≡ receiving goal
 is_receiving capacity h goal is status has = phase_receiving (phase_of h.status h.goal) goal status (goal_again h.status h.goal is.goal_by_status ∙ has)
@@ -290,16 +290,16 @@ abbrev pub header_switched : Header → Slot → Goal → List Bool → Header
 header_switched h slot goal marks =
     record h { running_slot = slot; status = kept.ActivationSuccessful; running_size = goal.size; running_name = goal.name; goal = None; marks = marks }
 
-switched_with : (m : Meter) (goal : Goal) (bytes : List ℕ) (p : Phase) (o : Option (List ℕ)) → p ≡ sealed goal → o ≡ Some bytes → switched_to m p o ≡ switched_to m (sealed goal) (Some bytes)
+switched_with : (m : Meter) (goal : Goal) (bytes : List ℕ) (p : Phase) (o : Option (List ℕ)) → p ≡ verified goal → o ≡ Some bytes → switched_to m p o ≡ switched_to m (verified goal) (Some bytes)
 switched_with m goal bytes p o e f i = switched_to m (e i) (f i)
 
-pub meter_of-switched : (capacity : ℕ) (h : Header) (d d' : Device) (slot : Slot) (goal : Goal) (marks : List Bool) → slot ≡ other h.running_slot → SameSlots d d' → phase_of h.status h.goal ≡ sealed goal
+pub meter_of-switched : (capacity : ℕ) (h : Header) (d d' : Device) (slot : Slot) (goal : Goal) (marks : List Bool) → slot ≡ other h.running_slot → SameSlots d d' → phase_of h.status h.goal ≡ verified goal
     → goal_bytes (meter_of capacity h d) ≡ Some (take goal.size (slot_bytes d (other h.running_slot)))
     → meter_of capacity (header_switched h slot goal marks) d' ≡ switched_to (meter_of capacity h d) (phase_of h.status h.goal) (goal_bytes (meter_of capacity h d))
 meter_of-switched capacity h d d' slot goal marks turned same phase whole =
     let m = meter_of capacity h d in
     let spare = slot_bytes d (other h.running_slot) in
-    let became : meter_of capacity (header_switched h slot goal marks) d' ≡ switched_to m (sealed goal) (Some (take goal.size spare)) = rw (turned, same (other h.running_slot)) refl in
+    let became : meter_of capacity (header_switched h slot goal marks) d' ≡ switched_to m (verified goal) (Some (take goal.size spare)) = rw (turned, same (other h.running_slot)) refl in
     became ∙ sym (switched_with m goal (take goal.size spare) (phase_of h.status h.goal) (goal_bytes m) phase whole)
 
 pub genuine_with : (goal : Goal) (bytes : List ℕ) (g : Option Goal) (o : Option (List ℕ)) → g ≡ Some goal → o ≡ Some bytes → IsGenuine g o → sha256 bytes ≡ goal.name.digest
@@ -308,10 +308,10 @@ genuine_with goal bytes g o e f is = let P : IsGenuine (Some goal) (Some bytes) 
 pub genuine_from : (goal : Goal) (bytes : List ℕ) (g : Option Goal) (o : Option (List ℕ)) → g ≡ Some goal → o ≡ Some bytes → sha256 bytes ≡ goal.name.digest → IsGenuine g o
 genuine_from goal bytes g o e f is = rw (e, f) is
 
-pub trusted_switched : (m : Meter) (goal : Goal) (bytes : List ℕ) → m.phase ≡ sealed goal → goal_bytes m ≡ Some bytes → IsTrusted m → IsTrusted (switched_to m m.phase (goal_bytes m))
+pub trusted_switched : (m : Meter) (goal : Goal) (bytes : List ℕ) → m.phase ≡ verified goal → goal_bytes m ≡ Some bytes → IsTrusted m → IsTrusted (switched_to m m.phase (goal_bytes m))
 trusted_switched m goal bytes phase whole is =
     let digest : sha256 bytes ≡ goal.name.digest = genuine_with goal bytes (goal_of m.phase) (goal_bytes m) (ap goal_of phase) whole (is.verified (ap status_of phase)) in
-    let next : IsTrusted (switched_to m (sealed goal) (Some bytes)) = record { running = digest; verified = λ e. absurd cc } in
+    let next : IsTrusted (switched_to m (verified goal) (Some bytes)) = record { running = digest; verified = λ e. absurd cc } in
     subst IsTrusted (sym (switched_with m goal bytes m.phase (goal_bytes m) phase whole)) next
 
 pub valid_switched : (capacity : ℕ) (h : Header) (slot : Slot) (goal : Goal) (marks : List Bool) → ((i : ℕ) → has marks i ≡ false) → h.goal ≡ Some goal

@@ -3,8 +3,8 @@ use Rattle.std.proofs.Common.{◌≡◌, ◌≢◌, ℕ, ◌+◌, ◌<◌, ◌�
 use Rattle.fw_names.specs.Name.{Name}
 use Rattle.fw_verify.specs.Slices.{slice_size}
 use Rattle.fw_image.specs.Laws.{OneStep, OneTurn}
-use Rattle.fw_image.specs.Meter.{Meter, Phase, idle, receiving, verifying, sealed, spoilt, switched, goal_bytes, goal_of, goal_size, IsGenuine}
-use Rattle.fw_image.specs.Step.{Operation, enable, initiate, block, verify, activate, OperationOutcome, done, refused, verification_initiated, Refuses, Serves, Admits, Does, Judges, TurnsIn, refusal_in, begun, with_cell, digested_phase, sealed_phase, spoilt_phase, switched_to}
+use Rattle.fw_image.specs.Meter.{Meter, Phase, idle, receiving, verifying, verified, spoilt, switched, goal_bytes, goal_of, goal_size, IsGenuine}
+use Rattle.fw_image.specs.Step.{Operation, enable, initiate, block, verify, activate, OperationOutcome, done, refused, verification_initiated, Refuses, Serves, Admits, Does, Judges, TurnsIn, refusal_in, begun, with_cell, digested_phase, verified_phase, spoilt_phase, switched_to}
 use Rattle.fw_image.specs.declared.error.Refusal.{Refusal}
 use Rattle.fw_image.specs.declared.error.Refusal.TheVariants.{Disabled, BadInitiate, BadBlock, Missing, Fault, Differs}
 
@@ -89,7 +89,7 @@ activated old new verification_initiated n h = elim h [ ]
 -- the goal is judged by the digest
 abbrev JudgedSo : OperationOutcome → Meter → Meter → Type 0
 JudgedSo a old new =
-    (IsDone a new (record old { phase = sealed_phase old.phase }) × IsGenuine (goal_of old.phase) (goal_bytes old))
+    (IsDone a new (record old { phase = verified_phase old.phase }) × IsGenuine (goal_of old.phase) (goal_bytes old))
     ⊎ ((a ≡ refused Differs) × (new ≡ record old { phase = spoilt_phase old.phase }) × ¬ IsGenuine (goal_of old.phase) (goal_bytes old))
 
 -- so a verify does where a slice has it whole, and else it digests a slice
@@ -115,7 +115,7 @@ both_done : (a b : OperationOutcome) (new other this : Meter) → IsDone a new t
 both_done a b new other this h k = (h.0 ∙ sym k.0, h.1 ∙ sym k.1)
 
 judged_so_once : (old new other : Meter) (a b : OperationOutcome) → JudgedSo a old new → JudgedSo b old other → Same a b new other
-judged_so_once old new other a b (inl h) (inl k) = both_done a b new other (record old { phase = sealed_phase old.phase }) h.0 k.0
+judged_so_once old new other a b (inl h) (inl k) = both_done a b new other (record old { phase = verified_phase old.phase }) h.0 k.0
 judged_so_once old new other a b (inl h) (inr k) = absurd (k.2 h.1)
 judged_so_once old new other a b (inr h) (inl k) = absurd (h.2 k.1)
 judged_so_once old new other a b (inr h) (inr k) = (h.0 ∙ sym k.0, h.1 ∙ sym k.1)
@@ -169,7 +169,7 @@ turned_once (verifying goal taken) old new other (inl h) (inl k) = h.1.is refl �
 turned_once (verifying goal taken) old new other (inl h) (inr k) = absurd (no_end taken goal.size h.0 k.0)
 turned_once (verifying goal taken) old new other (inr h) (inl k) = absurd (no_end taken goal.size k.0 h.0)
 turned_once (verifying goal taken) old new other (inr h) (inr k) = one_judgement old new other h.1 k.1
-turned_once (sealed goal) old new other h k = h ∙ sym k
+turned_once (verified goal) old new other h k = h ∙ sym k
 turned_once (spoilt goal) old new other h k = h ∙ sym k
 turned_once switched old new other h k = h ∙ sym k
 

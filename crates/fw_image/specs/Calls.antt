@@ -4,7 +4,7 @@ use Rattle.std.specs.FinMap.{get}
 use Rattle.fw_blocks.specs.Cuts.{max_blocks}
 use Rattle.fw_store.specs.Fuse.{half_torn}
 use Rattle.fw_verify.specs.Slices.{slice_size, slice_count}
-use Rattle.fw_image.specs.Meter.{Meter, Phase, verifying, sealed, goal_of, goal_size}
+use Rattle.fw_image.specs.Meter.{Meter, Phase, verifying, verified, goal_of, goal_size}
 use Rattle.fw_image.specs.Step.{Operation, enable, initiate, block, verify, activate, with_cell}
 
 -- An operation that no line refuses: one write of the header. For a block, first a write of its bytes, and the header only for a mark that
@@ -29,7 +29,7 @@ turn_calls phase = 0
 
 -- how many bytes a verified goal has
 abbrev pub verified_size : Phase → ℕ
-verified_size (sealed goal) = goal.size
+verified_size (verified goal) = goal.size
 verified_size phase = 0
 
 -- an opening that keeps the header: it is read, and the image that runs, and the goal where it was verified

@@ -22,7 +22,7 @@ pub data Phase : Type 0 where
   idle : Phase
   receiving : Goal → Phase
   verifying : Goal → ℕ → Phase
-  sealed : Goal → Phase
+  verified : Goal → Phase
   spoilt : Goal → Phase
   switched : Phase
 
@@ -50,7 +50,7 @@ abbrev pub status_of : Phase → TransferStatus
 status_of idle = NotInitiated
 status_of (receiving goal) = Initiated
 status_of (verifying goal taken) = VerificationInitiated
-status_of (sealed goal) = VerificationSuccessful
+status_of (verified goal) = VerificationSuccessful
 status_of (spoilt goal) = VerificationFailed
 status_of switched = ActivationSuccessful
 
@@ -58,7 +58,7 @@ abbrev pub goal_of : Phase → Option Goal
 goal_of idle = None
 goal_of (receiving goal) = Some goal
 goal_of (verifying goal taken) = Some goal
-goal_of (sealed goal) = Some goal
+goal_of (verified goal) = Some goal
 goal_of (spoilt goal) = Some goal
 goal_of switched = None
 

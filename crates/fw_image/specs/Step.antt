@@ -6,7 +6,7 @@ use Rattle.fw_names.specs.Name.{Name}
 use Rattle.fw_blocks.specs.Cuts.{block_start, block_end, block_count}
 use Rattle.fw_store.specs.Header.{IsGoal}
 use Rattle.fw_verify.specs.Slices.{slice_size}
-use Rattle.fw_image.specs.Meter.{Meter, Phase, receiving, verifying, sealed, spoilt, switched, goal_of, goal_size, goal_bytes, IsGenuine, reopened}
+use Rattle.fw_image.specs.Meter.{Meter, Phase, receiving, verifying, verified, spoilt, switched, goal_of, goal_size, goal_bytes, IsGenuine, reopened}
 use Rattle.fw_image.specs.Shown.{shown_of}
 use Rattle.fw_image.specs.declared.error.Refusal.{Refusal}
 use Rattle.fw_image.specs.declared.error.Refusal.TheVariants.{Disabled, BadInitiate, BadBlock, Missing, Fault, Differs}
@@ -50,7 +50,7 @@ Admits m (receiving goal) (block i value) = IsBlock m.block_size goal.size i val
 Admits m phase (block i value) = ⊥
 Admits m (receiving goal) verify = (bytes : List ℕ) × (goal_bytes m ≡ Some bytes)
 Admits m phase verify = ⊥
-Admits m (sealed goal) activate = Unit {0}
+Admits m (verified goal) activate = Unit {0}
 Admits m phase activate = ⊥
 
 -- the refusal of an operation that a phase doesn't admit
@@ -85,10 +85,10 @@ digested_phase (receiving goal) taken = verifying goal taken
 digested_phase phase taken = phase
 
 -- the goal is verified
-abbrev pub sealed_phase : Phase → Phase
-sealed_phase (receiving goal) = sealed goal
-sealed_phase (verifying goal taken) = sealed goal
-sealed_phase phase = phase
+abbrev pub verified_phase : Phase → Phase
+verified_phase (receiving goal) = verified goal
+verified_phase (verifying goal taken) = verified goal
+verified_phase phase = phase
 
 -- the goal's bytes are not its name's
 abbrev pub spoilt_phase : Phase → Phase
@@ -98,7 +98,7 @@ spoilt_phase phase = phase
 
 -- the goal's image runs
 abbrev pub switched_to : Meter → Phase → Option (List ℕ) → Meter
-switched_to m (sealed goal) (Some bytes) = record m { phase = switched; cells = empty; running = record { name = goal.name; bytes = bytes } }
+switched_to m (verified goal) (Some bytes) = record m { phase = switched; cells = empty; running = record { name = goal.name; bytes = bytes } }
 switched_to m phase bytes = m
 
 -- The meter afterwards shows what this one does, and is this one where the store is honest.
@@ -116,7 +116,7 @@ Tears honest old i value new =
 -- block of another campaign stands among them.
 abbrev pub Judges : Bool → Meter → Bool → Meter → Type 0
 Judges honest old true new =
-    Leaves honest (record old { phase = sealed_phase old.phase }) new × (IsTrue honest → IsGenuine (goal_of old.phase) (goal_bytes old))
+    Leaves honest (record old { phase = verified_phase old.phase }) new × (IsTrue honest → IsGenuine (goal_of old.phase) (goal_bytes old))
 Judges honest old false new =
     Leaves honest (record old { phase = spoilt_phase old.phase }) new × (IsTrue honest → ¬ IsGenuine (goal_of old.phase) (goal_bytes old))
 

@@ -15,7 +15,7 @@ use Rattle.fw_store.specs.declared.header.Header.{Header}
 use Rattle.fw_store.specs.declared.header.Goal.{Goal}
 use Rattle.fw_store.specs.declared.header.StoredStatus.{StoredStatus}
 use Rattle.fw_store.specs.declared.header.StoredStatus.TheVariants.{NotInitiated, Initiated, VerificationSuccessful, VerificationFailed, ActivationSuccessful}
-use Rattle.fw_image.specs.Meter.{Meter, Phase, idle, receiving, sealed, spoilt, switched, Cells, IsTrusted, migrated}
+use Rattle.fw_image.specs.Meter.{Meter, Phase, idle, receiving, verified, spoilt, switched, Cells, IsTrusted, migrated}
 use Rattle.fw_image.specs.Step.{digested_phase}
 use Rattle.fw_image.specs.State.{State}
 use Rattle.fw_image.specs.Calls.{opening_calls, restart_calls}
@@ -29,7 +29,7 @@ abbrev pub phase_of : StoredStatus → Option Goal → Phase
 phase_of NotInitiated goal = idle
 phase_of ActivationSuccessful goal = switched
 phase_of Initiated (Some goal) = receiving goal
-phase_of VerificationSuccessful (Some goal) = sealed goal
+phase_of VerificationSuccessful (Some goal) = verified goal
 phase_of VerificationFailed (Some goal) = spoilt goal
 phase_of status None = idle
 

@@ -18,7 +18,7 @@ use Rattle.fw_head.specs.Row.{IsPermitted}
 use Rattle.fw_head.specs.Head.{Head, IsHead, IsRowOf, HeadTakes, HeadHears, IsOfferedIn, went_on, news_of, ticked_head}
 use Rattle.fw_head.specs.Laws.{RowKeepsGoal}
 use Rattle.fw_kept.specs.Head.{OfferSame, OffersAlso}
-use Rattle.fw_kept.specs.Inside.{IsNewsOf, NewsMake}
+use Rattle.fw_kept.specs.Private.{IsNewsOf, NewsMake}
 use Rattle.fw_kept.proofs.Books.{live_admits}
 
 -- ---- a mark leaves what is offered

@@ -16,7 +16,7 @@ use Rattle.fw_ledger.specs.Entry.{Entry, opening, mark, cancelling, endings, Has
 use Rattle.fw_ledger.specs.Replay.{Makes, AddsNothing, IsBookOf, FailsAt, records_of}
 use Rattle.fw_ledger.specs.Laws.{OneRecord, FailedHaveNone}
 use Rattle.fw_kept.specs.Kept.{HasBook, HasNoBook, HasBadRecord, IsForeign, IsReadAs, campaign_of}
-use Rattle.fw_kept.specs.Inside.{AreReadAs, IsBadAt, IsReadingRefusal, IsRecordsRefusal}
+use Rattle.fw_kept.specs.Private.{AreReadAs, IsBadAt, IsReadingRefusal, IsRecordsRefusal}
 use Rattle.fw_kept.specs.Laws.{ForeignHaveNone, BadRecordsHaveNone}
 use Rattle.fw_kept.specs.Refusals.{open_error}
 use Rattle.fw_kept.specs.declared.error.OpenError.{OpenError}

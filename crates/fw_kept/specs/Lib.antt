@@ -4,4 +4,4 @@ pub mod Head
 pub mod Refusals
 pub mod Laws
 -- For private clauses alone: no public clause cites it.
-pub mod Inside
+pub mod Private

@@ -33,7 +33,7 @@ ghost use Rattle.fw_journal.specs.Device.{LeavesOnly, Keeps as DeviceKeeps};
 ghost use Rattle.fw_journal.specs.Refusals.{IsMakingRefusal};
 ghost use Rattle.fw_ledger.specs.Replay.{Makes};
 ghost use Rattle.fw_ledger.specs.View.{entry_of};
-ghost use Rattle.fw_kept.specs.Inside.{CanBeKept};
+ghost use Rattle.fw_kept.specs.Private.{CanBeKept};
 
 use crate::compacting::write_anew;
 use crate::error::{KeptError, OpenError};

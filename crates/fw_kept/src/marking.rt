@@ -7,7 +7,7 @@ ghost use Rattle.fw_ledger.specs.Entry.{mark};
 ghost use Rattle.fw_ledger.specs.View.{entry_of};
 ghost use Rattle.fw_kept.specs.Kept.{Keeps};
 ghost use Rattle.fw_kept.specs.Head.{IsEnd};
-ghost use Rattle.fw_kept.specs.Inside.{CanBeKept, IsNewsOf, NewsMake};
+ghost use Rattle.fw_kept.specs.Private.{CanBeKept, IsNewsOf, NewsMake};
 
 use crate::error::KeptError;
 use crate::putting::add;

@@ -5,7 +5,7 @@ ghost use Rattle.fw_book.specs.Contents.{Contents};
 ghost use Rattle.fw_ledger.specs.Replay.{IsBookOf, FailsAt, records_of};
 ghost use Rattle.fw_ledger.specs.View.{entry_of};
 ghost use Rattle.fw_kept.specs.Kept.{IsForeign, campaign_of};
-ghost use Rattle.fw_kept.specs.Inside.{IsRecordsRefusal};
+ghost use Rattle.fw_kept.specs.Private.{IsRecordsRefusal};
 
 use crate::error::OpenError;
 use fw_book::Book;

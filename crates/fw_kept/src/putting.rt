@@ -11,7 +11,7 @@ ghost use Rattle.fw_ledger.specs.Replay.{IsImage, Makes};
 ghost use Rattle.fw_ledger.specs.View.{source_of, entry_of};
 ghost use Rattle.fw_kept.specs.Kept.{HasBook, IsFull, Keeps};
 ghost use Rattle.fw_kept.specs.Refusals.{IsCommitRefusal};
-ghost use Rattle.fw_kept.specs.Inside.{CanBeKept};
+ghost use Rattle.fw_kept.specs.Private.{CanBeKept};
 
 use crate::error::KeptError;
 use fw_book::{Book, BookError};

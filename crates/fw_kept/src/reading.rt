@@ -5,7 +5,7 @@ ghost use Rattle.fw_journal.specs.Book.{HasRecord, IsBadBook};
 ghost use Rattle.fw_ledger.specs.Entry.{Entry, Spells, NoRecord};
 ghost use Rattle.fw_ledger.specs.Replay.{records_of};
 ghost use Rattle.fw_kept.specs.Kept.{HasBadRecord, HasNoBook, IsReadAs, campaign_of};
-ghost use Rattle.fw_kept.specs.Inside.{AreReadAs, IsReadingRefusal};
+ghost use Rattle.fw_kept.specs.Private.{AreReadAs, IsReadingRefusal};
 
 use crate::error::{OpenError, open_error};
 use crate::opening::{book_of, campaign_of};

@@ -17,7 +17,7 @@ use Rattle.fw_book.specs.declared.error.BookError.TheVariants.{NoSuchCampaign, N
 use Rattle.fw_book.specs.Rows.{is_live, live_row, meters_of, repeats, state_of, is_live_in, has_live, marked_row, with_state, cancelled_row, cancelled_rows}
 use Rattle.fw_book.specs.Contents.{Offered, Contents, offered_in, state_in, is_busy, IsBook}
 use Rattle.fw_book.specs.Changes.{empty_book, at_serial, opened, cancelled, mark_refusal, Opens}
-use Rattle.fw_book.specs.Inside.{Admits}
+use Rattle.fw_book.specs.Private.{Admits}
 use Rattle.fw_book.specs.Laws.{AdmittedOpens}
 use Rattle.fw_book.proofs.Books.{Keeps, Keeps-with_state, Keeps-cancelled, all_push}
 use Rattle.fw_book.proofs.Images.{found_last}

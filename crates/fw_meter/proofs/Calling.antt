@@ -14,14 +14,14 @@ use Rattle.fw_server.specs.declared.code.ResultCode.TheVariants as code
 use Rattle.fw_store.specs.Faults.{Spends}
 use Rattle.fw_store.specs.declared.fuse.Fuse.{Fuse}
 use Rattle.fw_image.specs.Calls.{calls_for}
-use Rattle.fw_image.specs.Meter.{Meter, Phase, idle, receiving, verifying, sealed, spoilt, switched}
+use Rattle.fw_image.specs.Meter.{Meter, Phase, idle, receiving, verifying, verified, spoilt, switched}
 use Rattle.fw_image.specs.State.{State, Makes, Counts}
 use Rattle.fw_image.specs.Step as image
 use Rattle.fw_image.specs.Step.{Operation, OperationOutcome, done, refused, verification_initiated, refusal_in, Refuses, Serves, is_operation_faultless}
 use Rattle.fw_image.specs.declared.error.Refusal.{Refusal}
 use Rattle.fw_image.specs.declared.error.Refusal.TheVariants.{Disabled, BadInitiate, BadBlock, Missing, Fault, Differs}
 use Rattle.fw_meter.specs.Handling.{Brings, BringsNothing, Handles, Responds}
-use Rattle.fw_meter.specs.Inside.{CallsOf, IsCalled, IsMade, Steps}
+use Rattle.fw_meter.specs.Private.{CallsOf, IsCalled, IsMade, Steps}
 use Rattle.fw_meter.specs.Step.{MeterResult, coded, tells_no_fault, operation_code, Operates, MeterStep, activation_of}
 use Rattle.fw_meter.specs.Stopping.{AsksFor, IsServed, MakesCalls, CallsStore, StopsAfter}
 use Rattle.fw_meter.proofs.Made.{not_served}
@@ -48,7 +48,7 @@ line_in (receiving goal) (image.block i value) = refl
 line_in idle operation = refl
 line_in (receiving goal) operation = refl
 line_in (verifying goal taken) operation = refl
-line_in (sealed goal) operation = refl
+line_in (verified goal) operation = refl
 line_in (spoilt goal) operation = refl
 line_in switched operation = refl
 

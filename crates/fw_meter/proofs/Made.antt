@@ -4,7 +4,7 @@ use Rattle.fw_store.specs.Faults.{count_after}
 use Rattle.fw_server.specs.Meaning.{code_number}
 use Rattle.fw_server.specs.declared.code.ResultCode.TheVariants as code
 use Rattle.fw_image.specs.declared.status.TransferStatus.TheVariants as status
-use Rattle.fw_image.specs.Meter.{Meter, Phase, idle, receiving, verifying, sealed, spoilt, switched, status_of}
+use Rattle.fw_image.specs.Meter.{Meter, Phase, idle, receiving, verifying, verified, spoilt, switched, status_of}
 use Rattle.fw_image.specs.State.{State}
 use Rattle.fw_image.specs.Phases.{state_in, IsInPhase}
 use Rattle.fw_image.specs.declared.phase.Phase.{Phase as Core}
@@ -13,7 +13,7 @@ use Rattle.fw_image.specs.Step.{Operation, enable, initiate, block, verify, acti
 use Rattle.fw_image.specs.declared.error.Refusal.{Refusal}
 use Rattle.fw_image.specs.declared.error.Refusal.TheVariants.{Disabled, Missing}
 use Rattle.fw_meter.specs.Step.{refusal_code}
-use Rattle.fw_meter.specs.Inside.{IsMade}
+use Rattle.fw_meter.specs.Private.{IsMade}
 
 refused_method : (m : Meter) (operation : Operation) (r : Refusal) → ((m.enabled ≡ false) × (r ≡ Disabled)) ⊎ ((m.enabled ≡ true) × (r ≡ refusal_in m.phase operation) × ¬ Admits m m.phase operation)
     → (m.enabled ≡ true) × Admits m m.phase operation → ⊥
@@ -50,7 +50,7 @@ lacks_block s i value false p off phase other = refused_by s (block i value) Dis
 lacks_block s i value true idle on phase other = refused_by s (block i value) Missing 2 (inr (on, rw phase refl, rw phase (λ h. h))) refl refl
 lacks_block s i value true (receiving goal) on phase other = absurd (other refl)
 lacks_block s i value true (verifying goal taken) on phase other = refused_by s (block i value) Missing 2 (inr (on, rw phase refl, rw phase (λ h. h))) refl refl
-lacks_block s i value true (sealed goal) on phase other = refused_by s (block i value) Missing 2 (inr (on, rw phase refl, rw phase (λ h. h))) refl refl
+lacks_block s i value true (verified goal) on phase other = refused_by s (block i value) Missing 2 (inr (on, rw phase refl, rw phase (λ h. h))) refl refl
 lacks_block s i value true (spoilt goal) on phase other = refused_by s (block i value) Missing 2 (inr (on, rw phase refl, rw phase (λ h. h))) refl refl
 lacks_block s i value true switched on phase other = refused_by s (block i value) Missing 2 (inr (on, rw phase refl, rw phase (λ h. h))) refl refl
 
@@ -60,7 +60,7 @@ lacks_verify s false p off phase other = refused_by s verify Disabled 3 (inl (of
 lacks_verify s true idle on phase other = refused_by s verify Missing 2 (inr (on, refl, rw phase (λ h. h))) refl refl
 lacks_verify s true (receiving goal) on phase other = absurd (other refl)
 lacks_verify s true (verifying goal taken) on phase other = refused_by s verify Missing 2 (inr (on, refl, rw phase (λ h. h))) refl refl
-lacks_verify s true (sealed goal) on phase other = refused_by s verify Missing 2 (inr (on, refl, rw phase (λ h. h))) refl refl
+lacks_verify s true (verified goal) on phase other = refused_by s verify Missing 2 (inr (on, refl, rw phase (λ h. h))) refl refl
 lacks_verify s true (spoilt goal) on phase other = refused_by s verify Missing 2 (inr (on, refl, rw phase (λ h. h))) refl refl
 lacks_verify s true switched on phase other = refused_by s verify Missing 2 (inr (on, refl, rw phase (λ h. h))) refl refl
 
@@ -70,7 +70,7 @@ lacks_activate s false p off phase other = refused_by s activate Disabled 3 (inl
 lacks_activate s true idle on phase other = refused_by s activate Missing 2 (inr (on, refl, rw phase (λ h. h))) refl refl
 lacks_activate s true (receiving goal) on phase other = refused_by s activate Missing 2 (inr (on, refl, rw phase (λ h. h))) refl refl
 lacks_activate s true (verifying goal taken) on phase other = refused_by s activate Missing 2 (inr (on, refl, rw phase (λ h. h))) refl refl
-lacks_activate s true (sealed goal) on phase other = absurd (other refl)
+lacks_activate s true (verified goal) on phase other = absurd (other refl)
 lacks_activate s true (spoilt goal) on phase other = refused_by s activate Missing 2 (inr (on, refl, rw phase (λ h. h))) refl refl
 lacks_activate s true switched on phase other = refused_by s activate Missing 2 (inr (on, refl, rw phase (λ h. h))) refl refl
 

@@ -9,7 +9,7 @@ use Rattle.fw_server.specs.Laws.{RefusesRequest}
 use Rattle.fw_image.specs.State.{State}
 use Rattle.fw_meter.specs.Step.{got, coded, tells_no_fault, activation_of, answer_of, MeterStep}
 use Rattle.fw_meter.specs.Handling.{Responds, reply_to}
-use Rattle.fw_meter.specs.Inside.{IsCalled, Steps}
+use Rattle.fw_meter.specs.Private.{IsCalled, Steps}
 use Rattle.fw_meter.proofs.Calling.{none_called, denied_called}
 
 pub responds : (old new : State) (asked : Meaning) (source invoke : ℕ) (content : RequestContent) (c : ℕ) (reply : Option (List ℕ)) (activated : Option Name)

@@ -3,7 +3,7 @@ use Rattle.std.proofs.Common.{◌≡◌, IsTrue, refl, sym, ap, ◌∙◌}
 use Rattle.fw_store.specs.Known.{Known}
 use Rattle.fw_image.specs.Calls.{verified_size, restart_calls}
 use Rattle.fw_image.specs.Laws.{OneMeter}
-use Rattle.fw_image.specs.Meter.{Meter, Phase, idle, receiving, verifying, sealed, spoilt, switched, reopened, reopened_phase, migrated, restarted}
+use Rattle.fw_image.specs.Meter.{Meter, Phase, idle, receiving, verifying, verified, spoilt, switched, reopened, reopened_phase, migrated, restarted}
 use Rattle.fw_image.specs.State.{State, stored}
 use Rattle.fw_image.specs.Stored.{Holds, Opens}
 
@@ -12,7 +12,7 @@ reopened_size : (phase : Phase) → verified_size (reopened_phase phase) ≡ ver
 reopened_size idle = refl
 reopened_size (receiving goal) = refl
 reopened_size (verifying goal taken) = refl
-reopened_size (sealed goal) = refl
+reopened_size (verified goal) = refl
 reopened_size (spoilt goal) = refl
 reopened_size switched = refl
 

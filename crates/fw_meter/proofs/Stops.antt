@@ -4,7 +4,7 @@ use Rattle.std.proofs.lemmas.Bool.{cases_eq}
 use Rattle.std.specs.FinMap.{get}
 use Rattle.fw_server.specs.Meaning.{Meaning, read, enable, initiate, block, verify, activate, refused as denied, meaning_of}
 use Rattle.fw_store.specs.declared.header.Goal.{Goal}
-use Rattle.fw_image.specs.Meter.{Meter, Phase, idle, receiving, verifying, sealed, spoilt, switched, reopened}
+use Rattle.fw_image.specs.Meter.{Meter, Phase, idle, receiving, verifying, verified, spoilt, switched, reopened}
 use Rattle.fw_image.specs.State.{Counts}
 use Rattle.fw_image.specs.Step as operations
 use Rattle.fw_image.specs.Step.{Operation, refused, done, verification_initiated, Admits, IsBlock, Does, with_cell, Step, Turn, TurnsIn}
@@ -46,7 +46,7 @@ pub admits_block : (m : Meter) (phase : Phase) (i : ℕ) (value : List ℕ) → 
 admits_block m idle i value h = elim h [ ]
 admits_block m (receiving goal) i value h = (goal, refl, h)
 admits_block m (verifying goal taken) i value h = elim h [ ]
-admits_block m (sealed goal) i value h = elim h [ ]
+admits_block m (verified goal) i value h = elim h [ ]
 admits_block m (spoilt goal) i value h = elim h [ ]
 admits_block m switched i value h = elim h [ ]
 
@@ -178,7 +178,7 @@ turn_stops p true old new h = inr h
 turn_stops idle false old new h = elim h [ ]
 turn_stops (receiving goal) false old new h = elim h [ ]
 turn_stops (verifying goal taken) false old new h = inl (h.is refl)
-turn_stops (sealed goal) false old new h = elim h [ ]
+turn_stops (verified goal) false old new h = elim h [ ]
 turn_stops (spoilt goal) false old new h = elim h [ ]
 turn_stops switched false old new h = elim h [ ]
 

@@ -4,4 +4,4 @@ pub mod Stopping
 pub mod Handling
 pub mod Laws
 -- For private clauses and the model of `MeterCore` alone: no public clause cites it.
-pub mod Inside
+pub mod Private

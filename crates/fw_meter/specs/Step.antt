@@ -13,7 +13,7 @@ use Rattle.fw_server.specs.declared.outcome.ImageInfo.{ImageInfo}
 use Rattle.fw_server.specs.declared.outcome.Answer.{Answer}
 use Rattle.fw_server.specs.declared.outcome.Answer.TheVariants as answer
 use Rattle.fw_image.specs.Status.{status_number}
-use Rattle.fw_image.specs.Meter.{Meter, Phase, sealed, count_of, status_of, marks_of}
+use Rattle.fw_image.specs.Meter.{Meter, Phase, verified, count_of, status_of, marks_of}
 use Rattle.fw_image.specs.Step as image
 use Rattle.fw_image.specs.Step.{Operation, done, refused, verification_initiated, Step}
 use Rattle.fw_image.specs.declared.error.Refusal.{Refusal}
@@ -33,7 +33,7 @@ tells_no_fault result = true
 
 -- the image that an activate would switch to
 abbrev pub verified_info : Phase → Option ImageInfo
-verified_info (sealed goal) = Some (record { size = goal.size; name = goal.name })
+verified_info (verified goal) = Some (record { size = goal.size; name = goal.name })
 verified_info phase = None
 
 -- what is read of a meter

@@ -23,7 +23,7 @@ ghost use Rattle.fw_store.specs.declared.fuse.Fuse.{Fuse};
 ghost use Rattle.fw_server.specs.Meaning as meaning;
 ghost use Rattle.fw_server.specs.Meaning.{code_number, meaning_of};
 ghost use Rattle.fw_server.specs.View.{operation_meaning};
-ghost use Rattle.fw_meter.specs.Inside.{IsCalled, Steps};
+ghost use Rattle.fw_meter.specs.Private.{IsCalled, Steps};
 ghost use Rattle.fw_meter.specs.Step.{got, answer_of, activation_of, coded};
 ghost use Rattle.fw_apdu.specs.Request.{is_confirmed};
 ghost use Rattle.fw_apdu.specs.View.{request_content, request_invoke};
@@ -65,7 +65,7 @@ impl<S: ImageStore + Drop> Model for MeterCore<S> {
     ghost use Rattle.std.specs.Coded.{codes};
     ghost use Rattle.fw_image.specs.Meter.{cells_code};
     ghost use Rattle.fw_image.specs.State.{State};
-    ghost use Rattle.fw_meter.specs.Inside.{IsThere, state_there};
+    ghost use Rattle.fw_meter.specs.Private.{IsThere, state_there};
 
     ghost Value = { State };
 

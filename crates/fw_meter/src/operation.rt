@@ -8,7 +8,7 @@ ghost use Rattle.fw_server.specs.declared.code.ResultCode.TheVariants as code;
 ghost use Rattle.fw_image.specs.Meter.{status_of};
 ghost use Rattle.fw_image.specs.Phases.{state_in, IsInPhase};
 ghost use Rattle.fw_image.specs.Step as image;
-ghost use Rattle.fw_meter.specs.Inside.{IsMade, Steps};
+ghost use Rattle.fw_meter.specs.Private.{IsMade, Steps};
 ghost use Rattle.fw_meter.specs.Step.{activation_of, coded};
 
 use crate::code::code_of;

@@ -8,7 +8,7 @@ ghost use Rattle.fw_server.specs.Answer.{bits_in_answer};
 ghost use Rattle.fw_server.specs.Meaning.{code_number};
 ghost use Rattle.fw_meter.specs.Step.{got, coded};
 ghost use Rattle.fw_meter.specs.Handling.{AsksForResponse, MayBringData, reply_to, reply_bytes};
-ghost use Rattle.fw_meter.specs.Inside.{IsHeard, IsRoomFor};
+ghost use Rattle.fw_meter.specs.Private.{IsHeard, IsRoomFor};
 
 use crate::error::OutOfMemory;
 use fw_apdu::{ApduError, Request, action_code, get_code, read_request, set_code};

@@ -10,7 +10,7 @@ use Rattle.fw_world.specs.View.{event_of}
 use Rattle.fw_report.specs.declared.course.Coming.{Coming}
 use Rattle.fw_report.specs.declared.course.Course.{Course}
 use Rattle.fw_report.specs.Course.{AreCourses, brings, course_of, stops_in}
-use Rattle.fw_report.specs.Inside.{coming_in, highest_with, with_coming, with_event, with_one_more}
+use Rattle.fw_report.specs.Private.{coming_in, highest_with, with_coming, with_event, with_one_more}
 use Rattle.fw_report.proofs.Late.{IsHighest, highest_goes_on, highest_stays, late_comes, late_stays}
 
 by_test : (a b : ℕ) (t : Bool) → a == b ≡ t → (a ≡ b) ⊎ (a ≢ b)

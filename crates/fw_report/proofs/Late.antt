@@ -5,7 +5,7 @@ use Rattle.std.specs.List.{list_any}
 use Rattle.fw_world.specs.Step.{Event, open_campaign, cancel_campaign, tick, deliver, stop, restart_meter, stop_restart, restart_head, turn}
 use Rattle.fw_report.specs.declared.course.Coming.{Coming}
 use Rattle.fw_report.specs.Course.{brings, brings_later, before_it, is_late}
-use Rattle.fw_report.specs.Inside.{coming_in}
+use Rattle.fw_report.specs.Private.{coming_in}
 
 or_false : (b : Bool) → b || false ≡ b
 or_false true = refl

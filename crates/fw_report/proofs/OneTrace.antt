@@ -11,12 +11,12 @@ use Rattle.fw_server.specs.Meaning.{Meaning, read, enable, initiate, block, veri
 use Rattle.fw_world.specs.declared.datagram.Direction.{Direction}
 use Rattle.fw_world.specs.declared.datagram.Direction.TheVariants.{ToMeter, ToHead}
 use Rattle.fw_world.specs.World.{Datagram}
-use Rattle.fw_report.specs.declared.saying.Brief.{Brief}
-use Rattle.fw_report.specs.declared.saying.Saying.{Saying}
-use Rattle.fw_report.specs.declared.saying.Saying.TheVariants as saying
-use Rattle.fw_report.specs.declared.saying.Title.{Title}
+use Rattle.fw_report.specs.declared.message.ShownValue.{ShownValue}
+use Rattle.fw_report.specs.declared.message.Message.{Message}
+use Rattle.fw_report.specs.declared.message.Message.TheVariants as message
+use Rattle.fw_report.specs.declared.message.Title.{Title}
 use Rattle.fw_report.specs.declared.trace.Note.{Note}
-use Rattle.fw_report.specs.Saying.{title_of, NamesImage, initiate_saying, SaysAsk, octets_brief, IsBrief, SaysAnswer, Carries, SaysCarried, Says}
+use Rattle.fw_report.specs.Message.{title_of, NamesImage, initiate_message, SaysAsk, shown_octets, IsShownAs, SaysAnswer, Carries, SaysCarried, Says}
 use Rattle.fw_report.specs.Trace.{line_of, TracesFrom}
 
 one_title : OneName → (bytes : List ℕ) (a b : Option Title) → NamesImage bytes a → NamesImage bytes b → a ≡ b
@@ -26,26 +26,26 @@ one_title one bytes (Some title) None (name, spells, is) k = absurd (k name spel
 one_title one bytes (Some title) (Some other) (name, spells, is) (second, spelled, same) =
     ap Some (sym is ∙ ap (λ (n : Name). title_of n) (one bytes name second spells spelled) ∙ same)
 
-one_ask : OneName → (size : ℕ) (m : Meaning) (s t : Saying) → SaysAsk size m s → SaysAsk size m t → s ≡ t
+one_ask : OneName → (size : ℕ) (m : Meaning) (s t : Message) → SaysAsk size m s → SaysAsk size m t → s ≡ t
 one_ask one size (read attribute) s t h k = h ∙ sym k
 one_ask one size (enable enabled) s t h k = h ∙ sym k
 one_ask one size (initiate identifier n) s t (a, named, is) (b, others, same) =
-    is ∙ ap (λ (title : Option Title). initiate_saying n title) (one_title one identifier a b named others) ∙ sym same
+    is ∙ ap (λ (title : Option Title). initiate_message n title) (one_title one identifier a b named others) ∙ sym same
 one_ask one size (block number bytes) s t h k = h ∙ sym k
 one_ask one size verify s t h k = h ∙ sym k
 one_ask one size activate s t h k = h ∙ sym k
 one_ask one size (refused refusal) s t h k = h ∙ sym k
 
-one_brief : OneName → (v : Value) (s t : Brief) → IsBrief v s → IsBrief v t → s ≡ t
-one_brief one (octet_string bytes) s t (a, named, is) (b, others, same) =
-    is ∙ ap (λ (title : Option Title). octets_brief (length bytes) title) (one_title one bytes a b named others) ∙ sym same
-one_brief one v s t h k = h ∙ sym k
+one_shown : OneName → (v : Value) (s t : ShownValue) → IsShownAs v s → IsShownAs v t → s ≡ t
+one_shown one (octet_string bytes) s t (a, named, is) (b, others, same) =
+    is ∙ ap (λ (title : Option Title). shown_octets (length bytes) title) (one_title one bytes a b named others) ∙ sym same
+one_shown one v s t h k = h ∙ sym k
 
-one_result : OneName → (r : GetResult) (s t : Saying) → SaysAnswer (get_response r) s → SaysAnswer (get_response r) t → s ≡ t
-one_result one (value v) s t (a, brief, is) (b, other, same) = is ∙ ap (λ (x : Brief). saying.Got x) (one_brief one v a b brief other) ∙ sym same
+one_result : OneName → (r : GetResult) (s t : Message) → SaysAnswer (get_response r) s → SaysAnswer (get_response r) t → s ≡ t
+one_result one (value v) s t (a, shown, is) (b, other, same) = is ∙ ap (λ (x : ShownValue). message.Got x) (one_shown one v a b shown other) ∙ sym same
 one_result one (code c) s t h k = h ∙ sym k
 
-one_answer : OneName → (content : ResponseContent) (s t : Saying) → SaysAnswer content s → SaysAnswer content t → s ≡ t
+one_answer : OneName → (content : ResponseContent) (s t : Message) → SaysAnswer content s → SaysAnswer content t → s ≡ t
 one_answer one (get_response r) s t h k = one_result one r s t h k
 one_answer one (set_response c) s t h k = h ∙ sym k
 one_answer one (action_response c returned) s t h k = h ∙ sym k
@@ -59,21 +59,21 @@ one_carried {C} frame Spells one bytes a b h k =
     let P : List ℕ → Type 0 = λ apdu. Spells apdu h.invoke a in
     (one k.apdu h.invoke k.invoke a b (subst P same.2 h.spells) k.spells).1
 
-one_saying : {C : Type 0} → OneFrame → (Spells : List ℕ → ℕ → C → Type 0) (SaysIt : C → Saying → Type 0)
+one_message : {C : Type 0} → OneFrame → (Spells : List ℕ → ℕ → C → Type 0) (SaysIt : C → Message → Type 0)
     → ((apdu : List ℕ) (i j : ℕ) (a b : C) → Spells apdu i a → Spells apdu j b → (i ≡ j) × (a ≡ b))
-    → ((content : C) (s t : Saying) → SaysIt content s → SaysIt content t → s ≡ t)
-    → (bytes : List ℕ) (s t : Saying) → SaysCarried Spells SaysIt bytes s → SaysCarried Spells SaysIt bytes t → s ≡ t
-one_saying {C} frame Spells SaysIt one says bytes s t (inl (a, carries, h)) (inl (b, carried, k)) =
+    → ((content : C) (s t : Message) → SaysIt content s → SaysIt content t → s ≡ t)
+    → (bytes : List ℕ) (s t : Message) → SaysCarried Spells SaysIt bytes s → SaysCarried Spells SaysIt bytes t → s ≡ t
+one_message {C} frame Spells SaysIt one says bytes s t (inl (a, carries, h)) (inl (b, carried, k)) =
     let P : C → Type 0 = λ content. SaysIt content s in
     says b s t (subst P (one_carried frame Spells one bytes a b carries carried) h) k
-one_saying {C} frame Spells SaysIt one says bytes s t (inl (a, carries, h)) (inr (none, k)) = absurd (none a carries)
-one_saying {C} frame Spells SaysIt one says bytes s t (inr (none, h)) (inl (b, carried, k)) = absurd (none b carried)
-one_saying {C} frame Spells SaysIt one says bytes s t (inr (none, h)) (inr (nothing, k)) = h ∙ sym k
+one_message {C} frame Spells SaysIt one says bytes s t (inl (a, carries, h)) (inr (none, k)) = absurd (none a carries)
+one_message {C} frame Spells SaysIt one says bytes s t (inr (none, h)) (inl (b, carried, k)) = absurd (none b carried)
+one_message {C} frame Spells SaysIt one says bytes s t (inr (none, h)) (inr (nothing, k)) = h ∙ sym k
 
-one_said : OneFrame → OneName → OneRequest → OneResponse → (way : Direction) (bytes : List ℕ) (s t : Saying) → Says way bytes s → Says way bytes t → s ≡ t
+one_said : OneFrame → OneName → OneRequest → OneResponse → (way : Direction) (bytes : List ℕ) (s t : Message) → Says way bytes s → Says way bytes t → s ≡ t
 one_said frame name request response ToMeter bytes s t h k =
-    one_saying frame SpellsRequest (λ content. SaysAsk (length bytes) (meaning_of content)) request (λ content. one_ask name (length bytes) (meaning_of content)) bytes s t h k
-one_said frame name request response ToHead bytes s t h k = one_saying frame SpellsResponse SaysAnswer response (one_answer name) bytes s t h k
+    one_message frame SpellsRequest (λ content. SaysAsk (length bytes) (meaning_of content)) request (λ content. one_ask name (length bytes) (meaning_of content)) bytes s t h k
+one_said frame name request response ToHead bytes s t h k = one_message frame SpellsResponse SaysAnswer response (one_answer name) bytes s t h k
 
 pub one_trace : OneFrame → OneName → OneRequest → OneResponse → (notes : ℕ → Note) (number : ℕ) (sent : List Datagram) (text other : List ℕ)
     → TracesFrom notes number sent text → TracesFrom notes number sent other → text ≡ other
@@ -81,4 +81,4 @@ one_trace frame name request response notes number [] text other h k = h ∙ sym
 one_trace frame name request response notes number (d ∷ sent) text other (s, rest, says, traces, is) (t, more, tells, goes, same) =
     let said : s ≡ t = one_said frame name request response d.direction d.bytes s t says tells in
     let later : rest ≡ more = one_trace frame name request response notes (number + 1) sent rest more traces goes in
-    is ∙ ap (λ (x : Saying). line_of number d x (notes number) ++ rest) said ∙ ap (λ (x : List ℕ). line_of number d t (notes number) ++ x) later ∙ sym same
+    is ∙ ap (λ (x : Message). line_of number d x (notes number) ++ rest) said ∙ ap (λ (x : List ℕ). line_of number d t (notes number) ++ x) later ∙ sym same

@@ -18,9 +18,9 @@ use Rattle.fw_world.specs.View.{event_of}
 use Rattle.fw_air.specs.Laws.{SentGrows}
 use Rattle.fw_air.specs.Rounds.{Admits, AdmittedRun}
 use Rattle.fw_report.specs.declared.reason.Reason.{Reason}
-use Rattle.fw_report.specs.declared.saying.Saying.{Saying}
+use Rattle.fw_report.specs.declared.message.Message.{Message}
 use Rattle.fw_report.specs.Reason.{Answers, AreReasons, HasReason, HasReasonAt, reason_of}
-use Rattle.fw_report.specs.Saying.{Says}
+use Rattle.fw_report.specs.Message.{Says}
 
 -- ---- lists
 
@@ -192,7 +192,7 @@ is_refused setup events at event world cause reasons same so_far there refused o
 -- ---- a datagram that comes to a meter
 
 abbrev pub Asks : List ℕ → ℕ → Option Reason → Type 0
-Asks bytes running r = (s : Saying) × Says ToMeter bytes s × (r ≡ reason_of running s)
+Asks bytes running r = (s : Message) × Says ToMeter bytes s × (r ≡ reason_of running s)
 
 pub has_reason : (bytes : List ℕ) (meter : Option Meter) (running : ℕ) (r : Option Reason) → option_map (λ (m : Meter). m.running.name.release) meter ≡ Some running → Asks bytes running r
     → HasReasonAt ToMeter bytes meter r

@@ -1,8 +1,8 @@
 -- A trace as far as it has come, one datagram after another.
 use Rattle.std.proofs.Common.{◌≡◌, ℕ, zero, suc, ◌+◌, ◌<◌, length, slice_index_or, arith, Option, List, [], ◌∷◌, ◌++◌, drop, refl, sym, ap, subst, ◌∙◌, append_assoc, append-nil}
 use Rattle.fw_world.specs.World.{Datagram}
-use Rattle.fw_report.specs.declared.saying.Saying.{Saying}
-use Rattle.fw_report.specs.Saying.{Says}
+use Rattle.fw_report.specs.declared.message.Message.{Message}
+use Rattle.fw_report.specs.Message.{Says}
 use Rattle.fw_report.specs.declared.trace.Note.{Note}
 use Rattle.fw_report.specs.Trace.{TracesFrom, line_of, note_of}
 use Rattle.fw_report.specs.declared.course.Course.{Course}
@@ -19,7 +19,7 @@ pub record SoFar (notes : ℕ → Note) (sent : List Datagram) (number : ℕ) (f
 pub begins : (notes : ℕ → Note) (sent : List Datagram) (text : List ℕ) → SoFar notes sent 0 text text
 begins notes sent text = record { told = []; written = sym (append-nil text); goes_on = λ later h. h }
 
-pub goes_on : (notes : ℕ → Note) (sent : List Datagram) (number : ℕ) (d : Datagram) (s : Saying) (first text next : List ℕ) → SoFar notes sent number first text
+pub goes_on : (notes : ℕ → Note) (sent : List Datagram) (number : ℕ) (d : Datagram) (s : Message) (first text next : List ℕ) → SoFar notes sent number first text
     → drop number sent ≡ d ∷ drop (number + 1) sent → Says d.direction d.bytes s → next ≡ text ++ line_of number d s (notes number)
     → SoFar notes sent (number + 1) first next
 goes_on notes sent number d s first text next so_far cut says more = record {

@@ -5,10 +5,10 @@ pub mod Summary
 pub mod Table
 pub mod Json
 pub mod Forms
-pub mod Saying
+pub mod Message
 pub mod Reason
 pub mod Course
 pub mod Trace
 pub mod Laws
 -- For private clauses alone: no public clause cites it.
-pub mod Inside
+pub mod Private

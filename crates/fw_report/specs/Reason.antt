@@ -15,10 +15,10 @@ use Rattle.fw_world.specs.World.{Datagram}
 use Rattle.fw_air.specs.Rounds.{Admits, AdmittedRun}
 use Rattle.fw_report.specs.declared.reason.Reason.{Reason}
 use Rattle.fw_report.specs.declared.reason.Reason.TheVariants as reason
-use Rattle.fw_report.specs.declared.saying.Saying.{Saying}
-use Rattle.fw_report.specs.declared.saying.Saying.TheVariants as saying
-use Rattle.fw_report.specs.declared.saying.Title.{Title}
-use Rattle.fw_report.specs.Saying.{Says}
+use Rattle.fw_report.specs.declared.message.Message.{Message}
+use Rattle.fw_report.specs.declared.message.Message.TheVariants as message
+use Rattle.fw_report.specs.declared.message.Title.{Title}
+use Rattle.fw_report.specs.Message.{Says}
 
 -- ---- what a meter can't be initiated with
 
@@ -30,16 +30,16 @@ reason_of_title running title =
     else (if nat_lt title.release running then reason.Below title.release running else reason.Limits)
 
 -- where a meter that runs this release refuses what it is asked for
-abbrev pub reason_of : ℕ → Saying → Option Reason
-reason_of running (saying.InitiateUnnamed size) = Some reason.Unnamed
-reason_of running (saying.Initiate title size) = Some (reason_of_title running title)
+abbrev pub reason_of : ℕ → Message → Option Reason
+reason_of running (message.InitiateUnnamed size) = Some reason.Unnamed
+reason_of running (message.Initiate title size) = Some (reason_of_title running title)
 reason_of running s = None
 
 -- ---- what an event brings
 
 -- where a datagram comes to this meter
 abbrev pub HasReasonAt : Direction → List ℕ → Option Meter → Option Reason → Type 0
-HasReasonAt ToMeter bytes (Some meter) r = (s : Saying) × Says ToMeter bytes s × (r ≡ reason_of meter.running.name.release s)
+HasReasonAt ToMeter bytes (Some meter) r = (s : Message) × Says ToMeter bytes s × (r ≡ reason_of meter.running.name.release s)
 HasReasonAt direction bytes meter r = r ≡ None
 
 -- where it is this one of a world
@@ -98,6 +98,6 @@ reason_words None = []
 reason_words (Some r) = cause_words r
 
 -- other-reason is the code of an initiate that can't be
-abbrev pub reason_told : Saying → Option Reason → Option Reason
-reason_told (saying.ActionCode c) r = if c == other_reason then r else None
+abbrev pub reason_told : Message → Option Reason → Option Reason
+reason_told (message.ActionCode c) r = if c == other_reason then r else None
 reason_told s r = None

@@ -11,15 +11,15 @@ use Rattle.fw_world.specs.View.{sender, addressee}
 use Rattle.fw_world.specs.World.{Datagram}
 use Rattle.fw_report.specs.declared.course.Course.{Course}
 use Rattle.fw_report.specs.declared.reason.Reason.{Reason}
-use Rattle.fw_report.specs.declared.saying.Brief.{Brief}
-use Rattle.fw_report.specs.declared.saying.Brief.TheVariants as brief
-use Rattle.fw_report.specs.declared.saying.Saying.{Saying}
-use Rattle.fw_report.specs.declared.saying.Saying.TheVariants as saying
-use Rattle.fw_report.specs.declared.saying.Title.{Title}
+use Rattle.fw_report.specs.declared.message.ShownValue.{ShownValue}
+use Rattle.fw_report.specs.declared.message.ShownValue.TheVariants as shown
+use Rattle.fw_report.specs.declared.message.Message.{Message}
+use Rattle.fw_report.specs.declared.message.Message.TheVariants as message
+use Rattle.fw_report.specs.declared.message.Title.{Title}
 use Rattle.fw_report.specs.declared.trace.Note.{Note}
 use Rattle.fw_report.specs.Course.{AreCourses, course_of, course_words}
 use Rattle.fw_report.specs.Reason.{AreReasons, reason_at, reason_told, reason_words}
-use Rattle.fw_report.specs.Saying.{Says}
+use Rattle.fw_report.specs.Message.{Says}
 
 -- ---- the words
 
@@ -47,31 +47,31 @@ abbrev pub title_words : Title → List ℕ
 title_words title =
     codes "campaign " ++ (decimal title.campaign.head ++ (codes " " ++ (decimal title.campaign.serial ++ release_words title.release)))
 
-abbrev pub brief_words : Brief → List ℕ
-brief_words (brief.Number n) = decimal n
-brief_words (brief.Flag true) = codes "true"
-brief_words (brief.Flag false) = codes "false"
-brief_words (brief.Status n) = codes "status " ++ decimal n
-brief_words (brief.Bits n) = codes "bits " ++ decimal n
-brief_words (brief.Name title) = title_words title
-brief_words (brief.Octets size) = codes "? " ++ in_bytes size
-brief_words (brief.Images n) = codes "images " ++ decimal n
-brief_words brief.Other = codes "?"
+abbrev pub shown_words : ShownValue → List ℕ
+shown_words (shown.Number n) = decimal n
+shown_words (shown.Flag true) = codes "true"
+shown_words (shown.Flag false) = codes "false"
+shown_words (shown.Status n) = codes "status " ++ decimal n
+shown_words (shown.Bits n) = codes "bits " ++ decimal n
+shown_words (shown.Name title) = title_words title
+shown_words (shown.Octets size) = codes "? " ++ in_bytes size
+shown_words (shown.Images n) = codes "images " ++ decimal n
+shown_words shown.Other = codes "?"
 
-abbrev pub saying_words : Saying → List ℕ
-saying_words (saying.Get attribute) = codes "get " ++ attribute_name attribute
-saying_words (saying.Enable true) = codes "enable"
-saying_words (saying.Enable false) = codes "disable"
-saying_words (saying.Initiate title size) = codes "initiate " ++ (title_words title ++ (codes " " ++ in_bytes size))
-saying_words (saying.InitiateUnnamed size) = codes "initiate ? " ++ in_bytes size
-saying_words (saying.Block number size) = codes "block " ++ (decimal number ++ (codes " " ++ in_bytes size))
-saying_words saying.Verify = codes "verify"
-saying_words saying.Activate = codes "activate"
-saying_words (saying.Got b) = codes "get " ++ brief_words b
-saying_words (saying.GotCode c) = codes "get code " ++ decimal c
-saying_words (saying.SetCode c) = codes "set " ++ decimal c
-saying_words (saying.ActionCode c) = codes "action " ++ decimal c
-saying_words (saying.Unread size) = codes "? " ++ in_bytes size
+abbrev pub message_words : Message → List ℕ
+message_words (message.Get attribute) = codes "get " ++ attribute_name attribute
+message_words (message.Enable true) = codes "enable"
+message_words (message.Enable false) = codes "disable"
+message_words (message.Initiate title size) = codes "initiate " ++ (title_words title ++ (codes " " ++ in_bytes size))
+message_words (message.InitiateUnnamed size) = codes "initiate ? " ++ in_bytes size
+message_words (message.Block number size) = codes "block " ++ (decimal number ++ (codes " " ++ in_bytes size))
+message_words message.Verify = codes "verify"
+message_words message.Activate = codes "activate"
+message_words (message.Got b) = codes "get " ++ shown_words b
+message_words (message.GotCode c) = codes "get code " ++ decimal c
+message_words (message.SetCode c) = codes "set " ++ decimal c
+message_words (message.ActionCode c) = codes "action " ++ decimal c
+message_words (message.Unread size) = codes "? " ++ in_bytes size
 
 -- ---- the lines
 
@@ -89,9 +89,9 @@ ends_words from to =
     kind_of from ++ (codes " " ++ (decimal (number_of from) ++ (codes " -> " ++ (kind_of to ++ (codes " " ++ decimal (number_of to))))))
 
 -- two spaces stand before what is said
-abbrev pub line_of : ℕ → Datagram → Saying → Note → List ℕ
+abbrev pub line_of : ℕ → Datagram → Message → Note → List ℕ
 line_of number d s note =
-    decimal number ++ (codes " " ++ (ends_words (sender d) (addressee d) ++ (codes "  " ++ (saying_words s
+    decimal number ++ (codes " " ++ (ends_words (sender d) (addressee d) ++ (codes "  " ++ (message_words s
     ++ (reason_words (reason_told s note.reason) ++ (course_words note.course ++ codes "\n"))))))
 
 -- what is known of the datagram of this number beside what it says
@@ -102,7 +102,7 @@ note_of courses reasons number = record { reason = reason_at reasons number; cou
 abbrev pub TracesFrom : (ℕ → Note) → ℕ → List Datagram → List ℕ → Type 0
 TracesFrom notes number [] text = text ≡ []
 TracesFrom notes number (d ∷ sent) text =
-    (s : Saying) × (rest : List ℕ) × Says d.direction d.bytes s × TracesFrom notes (number + 1) sent rest
+    (s : Message) × (rest : List ℕ) × Says d.direction d.bytes s × TracesFrom notes (number + 1) sent rest
     × (text ≡ line_of number d s (notes number) ++ rest)
 
 -- datagrams are numbered from 0

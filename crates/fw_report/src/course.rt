@@ -4,7 +4,7 @@ ghost use Rattle.std.specs.Prelude.{◌≡◌, ◌<◌, ◌++◌, IfOk, OnOk, le
 ghost use Rattle.fw_world.specs.Runs.{events_of};
 ghost use Rattle.fw_world.specs.View.{event_of};
 ghost use Rattle.fw_report.specs.Course.{AreCourses, course_words, times_words, late_words, stops_words};
-ghost use Rattle.fw_report.specs.Inside.{coming_in, highest_with, with_coming, with_event, with_one_more};
+ghost use Rattle.fw_report.specs.Private.{coming_in, highest_with, with_coming, with_event, with_one_more};
 
 use fw_world::Event;
 use std::alloc::{AllocError, Global};

@@ -7,11 +7,11 @@ ghost use Rattle.fw_world.specs.Runs.{events_of};
 ghost use Rattle.fw_world.specs.Setup.{IsSetup};
 ghost use Rattle.fw_world.specs.State.{meter_at};
 ghost use Rattle.fw_world.specs.View.{event_of};
-ghost use Rattle.fw_report.specs.Saying.{Says};
-ghost use Rattle.fw_report.specs.declared.saying.Saying.{Saying};
+ghost use Rattle.fw_report.specs.Message.{Says};
+ghost use Rattle.fw_report.specs.declared.message.Message.{Message};
 ghost use Rattle.fw_report.specs.Reason.{AreReasons, HasReason, HasReasonAt, reason_of, reason_of_title, reason_told, reason_words, cause_words};
 
-use crate::saying::{Saying, Title, asked};
+use crate::message::{Message, Title, asked};
 use fw_apdu::cosem;
 use fw_names::MeterId;
 use fw_world::{Datagram, Direction, Event, Setup, SetupError, StepError, World};
@@ -132,21 +132,21 @@ fn running_release(world: &World, meter: MeterId) -> Option<u32>
 
 /// Why an initiate can't be that these bytes ask of a meter which runs this release.
 fn reason_asked(alloc: Global, running: u32, bytes: &[u8]) -> Result<Option<Reason>, AllocError>
-    ensures { IfOk result (λ reason. (s : Saying) × Says Direction.ToMeter bytes.now s × (reason ≡ reason_of running s)) }
+    ensures { IfOk result (λ reason. (s : Message) × Says Direction.ToMeter bytes.now s × (reason ≡ reason_of running s)) }
 {
     match asked(alloc, bytes) {
-        Ok(saying) => Ok(reason_of(running, saying)),
+        Ok(message) => Ok(reason_of(running, message)),
         Err(error) => Err(error),
     }
 }
 
 /// Why a meter that runs this release can't be initiated so, if it can't, and nothing where no initiate is asked for.
-fn reason_of(running: u32, saying: Saying) -> Option<Reason>
-    ensures { result ≡ reason_of running saying }
+fn reason_of(running: u32, message: Message) -> Option<Reason>
+    ensures { result ≡ reason_of running message }
 {
-    match saying {
-        Saying::InitiateUnnamed(_) => Some(Reason::Unnamed),
-        Saying::Initiate { title, .. } => Some(reason_of_title(running, title)),
+    match message {
+        Message::InitiateUnnamed(_) => Some(Reason::Unnamed),
+        Message::Initiate { title, .. } => Some(reason_of_title(running, title)),
         _ => None,
     }
 }
@@ -168,11 +168,11 @@ fn reason_of_title(running: u32, title: Title) -> Reason
 }
 
 /// Why an initiate was refused, where what is said is the code for that.
-pub(crate) fn reason_told(saying: &Saying, reason: Option<Reason>) -> Option<Reason>
-    ensures { result ≡ reason_told saying.now reason }
+pub(crate) fn reason_told(message: &Message, reason: Option<Reason>) -> Option<Reason>
+    ensures { result ≡ reason_told message.now reason }
 {
-    match saying {
-        Saying::ActionCode(cosem::OTHER_REASON) => reason,
+    match message {
+        Message::ActionCode(cosem::OTHER_REASON) => reason,
         _ => None,
     }
 }

@@ -5,14 +5,14 @@ ghost use Rattle.fw_world.specs.Runs.{events_of};
 ghost use Rattle.fw_world.specs.Setup.{IsSetup};
 ghost use Rattle.fw_report.specs.Course.{course_words};
 ghost use Rattle.fw_report.specs.Reason.{reason_at, reason_words};
-ghost use Rattle.fw_report.specs.Saying.{Says};
-ghost use Rattle.fw_report.specs.Trace.{TellsTrace, IsTrace, line_of, note_of, ends_words, kind_of, number_of, saying_words, brief_words, release_words, title_words, attribute_name};
-ghost use Rattle.fw_report.specs.declared.saying.Saying.{Saying};
+ghost use Rattle.fw_report.specs.Message.{Says};
+ghost use Rattle.fw_report.specs.Trace.{TellsTrace, IsTrace, line_of, note_of, ends_words, kind_of, number_of, message_words, shown_words, release_words, title_words, attribute_name};
+ghost use Rattle.fw_report.specs.declared.message.Message.{Message};
 
 use crate::course::{Course, append_course, courses_of};
 use crate::reason::{Reason, append_reason, reason_told, reasons_of};
 use crate::report::head_number;
-use crate::saying::{Brief, Saying, Title, saying_of};
+use crate::message::{ShownValue, Message, Title, message_of};
 use fw_server::Reading;
 use fw_world::{Actor, Datagram, Event, Setup};
 use std::alloc::{AllocError, Global};
@@ -93,30 +93,30 @@ fn append_line(
     datagram: &Datagram,
     note: Note,
 ) -> Result<(), AllocError>
-    ensures { OnOk result ((s : Saying) × Says datagram.now.direction datagram.now.bytes s
+    ensures { OnOk result ((s : Message) × Says datagram.now.direction datagram.now.bytes s
         × (string_bytes text.new ≡ string_bytes text.old ++ line_of number datagram.now s note)) }
 {
-    match saying_of(alloc, datagram) {
-        Ok(saying) => append_saying_line(text, number, datagram, saying, note),
+    match message_of(alloc, datagram) {
+        Ok(message) => append_message_line(text, number, datagram, message, note),
         Err(error) => Err(error),
     }
 }
 
 /// Appends the line of a datagram that says this.
-fn append_saying_line(
+fn append_message_line(
     text: &mut String,
     number: usize,
     datagram: &Datagram,
-    saying: Saying,
+    message: Message,
     note: Note,
 ) -> Result<(), AllocError>
-    ensures { OnOk result (string_bytes text.new ≡ string_bytes text.old ++ line_of number datagram.now saying note) }
+    ensures { OnOk result (string_bytes text.new ≡ string_bytes text.old ++ line_of number datagram.now message note) }
 {
-    let reason = reason_told(&saying, note.reason);
+    let reason = reason_told(&message, note.reason);
     write!(text, "{number} ")?;
     append_ends(text, datagram.from(), datagram.to())?;
     text.push_str("  ")?;
-    append_saying(text, saying)?;
+    append_message(text, message)?;
     append_note(text, reason, note.course)
 }
 
@@ -160,29 +160,29 @@ fn number_of(actor: &Actor) -> u32
 }
 
 /// Appends what a datagram says.
-pub fn append_saying(text: &mut String, saying: Saying) -> Result<(), AllocError>
-    ensures { OnOk result (string_bytes text.new ≡ string_bytes text.old ++ saying_words saying) }
+pub fn append_message(text: &mut String, message: Message) -> Result<(), AllocError>
+    ensures { OnOk result (string_bytes text.new ≡ string_bytes text.old ++ message_words message) }
 {
-    match saying {
-        Saying::Get(attribute) => append_attribute(text, attribute),
-        Saying::Enable(true) => text.push_str("enable"),
-        Saying::Enable(false) => text.push_str("disable"),
-        Saying::Initiate { title, size } => append_initiate(text, title, size),
-        Saying::InitiateUnnamed(size) => write!(text, "initiate ? ({size} bytes)"),
-        Saying::Block { number, size } => write!(text, "block {number} ({size} bytes)"),
-        Saying::Verify => text.push_str("verify"),
-        Saying::Activate => text.push_str("activate"),
-        Saying::Got(brief) => append_got(text, brief),
-        Saying::GotCode(code) => write!(text, "get code {code}"),
-        Saying::SetCode(code) => write!(text, "set {code}"),
-        Saying::ActionCode(code) => write!(text, "action {code}"),
-        Saying::Unread(size) => write!(text, "? ({size} bytes)"),
+    match message {
+        Message::Get(attribute) => append_attribute(text, attribute),
+        Message::Enable(true) => text.push_str("enable"),
+        Message::Enable(false) => text.push_str("disable"),
+        Message::Initiate { title, size } => append_initiate(text, title, size),
+        Message::InitiateUnnamed(size) => write!(text, "initiate ? ({size} bytes)"),
+        Message::Block { number, size } => write!(text, "block {number} ({size} bytes)"),
+        Message::Verify => text.push_str("verify"),
+        Message::Activate => text.push_str("activate"),
+        Message::Got(shown) => append_got(text, shown),
+        Message::GotCode(code) => write!(text, "get code {code}"),
+        Message::SetCode(code) => write!(text, "set {code}"),
+        Message::ActionCode(code) => write!(text, "action {code}"),
+        Message::Unread(size) => write!(text, "? ({size} bytes)"),
     }
 }
 
 /// Appends that an attribute is asked for.
 fn append_attribute(text: &mut String, attribute: Reading) -> Result<(), AllocError>
-    ensures { OnOk result (string_bytes text.new ≡ string_bytes text.old ++ saying_words (Saying.Get attribute)) }
+    ensures { OnOk result (string_bytes text.new ≡ string_bytes text.old ++ message_words (Message.Get attribute)) }
 {
     let name = attribute_name(attribute);
     write!(text, "get {name}")
@@ -207,7 +207,7 @@ fn attribute_name(attribute: Reading) -> &'static str
 
 /// Appends which image is initiated.
 fn append_initiate(text: &mut String, title: Title, size: u32) -> Result<(), AllocError>
-    ensures { OnOk result (string_bytes text.new ≡ string_bytes text.old ++ saying_words (Saying.Initiate title size)) }
+    ensures { OnOk result (string_bytes text.new ≡ string_bytes text.old ++ message_words (Message.Initiate title size)) }
 {
     text.push_str("initiate ")?;
     append_title(text, title)?;
@@ -234,26 +234,26 @@ fn append_release(text: &mut String, release: u32) -> Result<(), AllocError>
 }
 
 /// Appends the answer to a GET.
-fn append_got(text: &mut String, brief: Brief) -> Result<(), AllocError>
-    ensures { OnOk result (string_bytes text.new ≡ string_bytes text.old ++ saying_words (Saying.Got brief)) }
+fn append_got(text: &mut String, shown: ShownValue) -> Result<(), AllocError>
+    ensures { OnOk result (string_bytes text.new ≡ string_bytes text.old ++ message_words (Message.Got shown)) }
 {
     text.push_str("get ")?;
-    append_brief(text, brief)
+    append_shown(text, shown)
 }
 
 /// Appends a value in short.
-fn append_brief(text: &mut String, brief: Brief) -> Result<(), AllocError>
-    ensures { OnOk result (string_bytes text.new ≡ string_bytes text.old ++ brief_words brief) }
+fn append_shown(text: &mut String, shown: ShownValue) -> Result<(), AllocError>
+    ensures { OnOk result (string_bytes text.new ≡ string_bytes text.old ++ shown_words shown) }
 {
-    match brief {
-        Brief::Number(number) => write!(text, "{number}"),
-        Brief::Flag(true) => text.push_str("true"),
-        Brief::Flag(false) => text.push_str("false"),
-        Brief::Status(status) => write!(text, "status {status}"),
-        Brief::Bits(count) => write!(text, "bits {count}"),
-        Brief::Name(title) => append_title(text, title),
-        Brief::Octets(size) => write!(text, "? ({size} bytes)"),
-        Brief::Images(count) => write!(text, "images {count}"),
-        Brief::Other => text.push_str("?"),
+    match shown {
+        ShownValue::Number(number) => write!(text, "{number}"),
+        ShownValue::Flag(true) => text.push_str("true"),
+        ShownValue::Flag(false) => text.push_str("false"),
+        ShownValue::Status(status) => write!(text, "status {status}"),
+        ShownValue::Bits(count) => write!(text, "bits {count}"),
+        ShownValue::Name(title) => append_title(text, title),
+        ShownValue::Octets(size) => write!(text, "? ({size} bytes)"),
+        ShownValue::Images(count) => write!(text, "images {count}"),
+        ShownValue::Other => text.push_str("?"),
     }
 }

@@ -7,7 +7,7 @@ use Rattle.fw_world.specs.Runs.{events_of}
 use Rattle.fw_world.specs.declared.event.Event.{Event as Given}
 use Rattle.fw_text.specs.Words.{words_of, number_of, keyword, bytes_said, first_says, at_end, numbers_of, from_one, byte_of}
 use Rattle.fw_script.specs.Script.{Said, Head, Meter, head_item, meter_item, events_item, head_line, old_said, meter_line, opening, open_line, open_release_line, deliver_line, cancel_line, tick_line, stop_line, restart_meter_line, stop_restart_line, restart_head_line, turn_line, event_line, item_of, Script, before_all, with_item, with_line, is_skipped}
-use Rattle.fw_script.specs.Inside.{names_setup}
+use Rattle.fw_script.specs.Private.{names_setup}
 
 abbrev pub IsSetup : Said → Type 0
 IsSetup (events_item events) = ⊥

@@ -3,4 +3,4 @@ pub mod Script
 pub mod Fates
 pub mod Laws
 -- For private clauses alone: no public clause cites it.
-pub mod Inside
+pub mod Private

@@ -45,7 +45,7 @@ ghost use Rattle.fw_script.specs.Script.{
   head_of,
   meter_of,
 };
-ghost use Rattle.fw_script.specs.Inside.{item_read};
+ghost use Rattle.fw_script.specs.Private.{item_read};
 
 use fw_names::{CampaignId, HeadId, MeterId};
 use fw_text::words::{

@@ -4,7 +4,7 @@ ghost use Rattle.std.specs.Prelude.{◌≡◌, false, ◌≤◌, ◌⊎◌, leng
 ghost use Rattle.fw_script.specs.Script.{is_skipped, item_of, with_line, with_item, script_of, SpellsScript, IsBadLine, BeginsScript};
 ghost use Rattle.fw_text.specs.Words.{words_of};
 ghost use Rattle.fw_faults.specs.Reading.{max_input};
-ghost use Rattle.fw_script.specs.Inside.{item_read, names_setup};
+ghost use Rattle.fw_script.specs.Private.{item_read, names_setup};
 
 use crate::item::{Item, item_of};
 use fw_faults::Fault;

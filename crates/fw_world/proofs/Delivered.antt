@@ -4,7 +4,7 @@ use Rattle.fw_world.specs.declared.datagram.Direction.{Direction}
 use Rattle.fw_world.specs.World.{Datagram}
 use Rattle.fw_world.specs.declared.datagram.Direction.TheVariants.{ToMeter, ToHead}
 use Rattle.fw_world.specs.State.{State, ServesAt, HearsAt, DeliversAt}
-use Rattle.fw_world.specs.Inside.{IsSentTo}
+use Rattle.fw_world.specs.Private.{IsSentTo}
 
 pub sent_here : (s old : State) → s ≡ old → (xs : List Datagram) (number : ℕ) (d : Datagram) → xs ≡ s.sent → slice_get xs number ≡ Some d → slice_get old.sent number ≡ Some d
 sent_here s old is xs number d same at = ap (λ (l : List Datagram). slice_get l number) (sym (same ∙ ap (λ (x : State). x.sent) is)) ∙ at

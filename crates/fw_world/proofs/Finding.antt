@@ -9,7 +9,7 @@ use Rattle.std.proofs.lemmas.Option.{slice_get-get_or, slice_get-map}
 use Rattle.fw_image.specs.Meter.{Meter}
 use Rattle.fw_head.specs.Head.{Head}
 use Rattle.fw_world.specs.Parts.{head_behind}
-use Rattle.fw_world.specs.Inside.{set_entry}
+use Rattle.fw_world.specs.Private.{set_entry}
 
 -- ---- a place in a list, by its first element and by its others
 

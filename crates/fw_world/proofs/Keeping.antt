@@ -11,7 +11,7 @@ use Rattle.fw_world.specs.World.{Datagram, Activation}
 use Rattle.fw_world.specs.Setup.{repeats, number_of_head, number_of_meter, head_entry, meter_entry}
 use Rattle.fw_world.specs.State.{State}
 use Rattle.fw_world.specs.Parts.{head_behind, number_of, IsOnce}
-use Rattle.fw_world.specs.Inside.{set_entry, IsWorld}
+use Rattle.fw_world.specs.Private.{set_entry, IsWorld}
 use Rattle.fw_world.proofs.Places.{moved_own}
 
 -- ---- numbers of what a list is made to

@@ -13,7 +13,7 @@ use Rattle.fw_head.specs.Row.{Row}
 use Rattle.fw_head.specs.Head.{went_on, HeadHears}
 use Rattle.fw_world.specs.State.{State, IsState, head_at, meter_at, set_head, set_meter}
 use Rattle.fw_world.specs.Step.{replies, activated}
-use Rattle.fw_world.specs.Inside.{replied, noted, switched_name, IsRunning}
+use Rattle.fw_world.specs.Private.{replied, noted, switched_name, IsRunning}
 use Rattle.fw_world.proofs.Refinement.{head_cases}
 
 pub on_ok : {X E : Type 0} (r : Result X E) (P Q : X → Type 0) → ((x : X) → P x → Q x) → IfOk r P → IfOk r Q

@@ -11,12 +11,12 @@ use Rattle.fw_server.specs.Meaning.{Meaning, meaning_of}
 use Rattle.fw_image.specs.Calls.{verified_size}
 use Rattle.fw_image.specs.Fits.{IsFit}
 use Rattle.fw_image.specs.Laws.{JoinedSize}
-use Rattle.fw_image.specs.Meter.{Image, Meter, Phase, sealed, status_of, goal_of, joined, goal_bytes, IsGenuine, IsTrusted}
+use Rattle.fw_image.specs.Meter.{Image, Meter, Phase, verified, status_of, goal_of, joined, goal_bytes, IsGenuine, IsTrusted}
 use Rattle.fw_image.specs.Step as image
 use Rattle.fw_image.specs.Step.{OperationOutcome, done, refused, verification_initiated, Admits, switched_to, Step}
 use Rattle.fw_meter.specs.Step.{MeterResult, got, coded, MeterStep, activation_of}
 use Rattle.fw_meter.specs.Handling.{AsksForResponse, Handles, reply_bytes}
-use Rattle.fw_world.specs.Inside.{HasRoom, IsRunning, switched_name}
+use Rattle.fw_world.specs.Private.{HasRoom, IsRunning, switched_name}
 use Rattle.fw_world.specs.Refusals.{HoldsVerified}
 use Rattle.fw_world.proofs.SafeMeters.{admits_activate, genuine_bytes, switches}
 use Rattle.fw_world.proofs.Handled.{activate_switches}
@@ -49,9 +49,9 @@ module _ (old new : Meter) (Q : Type 0) (so : Admits old old.phase image.activat
 module _ (old new : Meter) (fits : IsFit old) where
   switched_held : Admits old old.phase image.activate → HoldsVerified old
   switched_held admits =
-      let is_sealed = admits_activate old old.phase admits in
-      let goal : Goal = is_sealed.0 in
-      let phase : old.phase ≡ sealed goal = is_sealed.1 in
+      let has_verified = admits_activate old old.phase admits in
+      let goal : Goal = has_verified.0 in
+      let phase : old.phase ≡ verified goal = has_verified.1 in
       let offer = fits.goal goal (ap goal_of phase) in
       subst (λ (p : Phase). 1 ≤ verified_size p) (sym phase) offer.limits.begins
 
@@ -63,9 +63,9 @@ module _ (old new : Meter) (fits : IsFit old) where
 module _ (sizes : JoinedSize) (old new : Meter) (fits : IsFit old) (trusted : IsTrusted old) (room : List ℕ) (has : HasRoom old room) where
   switched_room : Admits old old.phase image.activate → new ≡ switched_to old old.phase (goal_bytes old) → length room ≡ length new.running.bytes
   switched_room admits is =
-      let is_sealed = admits_activate old old.phase admits in
-      let goal : Goal = is_sealed.0 in
-      let phase : old.phase ≡ sealed goal = is_sealed.1 in
+      let has_verified = admits_activate old old.phase admits in
+      let goal : Goal = has_verified.0 in
+      let phase : old.phase ≡ verified goal = has_verified.1 in
       let goal_is : goal_of old.phase ≡ Some goal = ap goal_of phase in
       let genuine : IsGenuine (Some goal) (goal_bytes old) =
       subst (λ (o : Option Goal). IsGenuine o (goal_bytes old)) goal_is (trusted.verified (ap status_of phase)) in
@@ -73,7 +73,7 @@ module _ (sizes : JoinedSize) (old new : Meter) (fits : IsFit old) (trusted : Is
       let whole : joined old.cells (goal_count old.block_size (Some goal)) ≡ Some bytes.0 =
       ap (λ (o : Option Goal). joined old.cells (goal_count old.block_size o)) (sym goal_is) ∙ bytes.1 in
       let size : length bytes.0 ≡ goal.size = sizes old.block_size goal.size old.cells bytes.0 fits.block_begins (fits.cells goal goal_is) whole in
-      let same : new ≡ switched_to old (sealed goal) (Some bytes.0) = is ∙ (λ i. switched_to old (phase i) (bytes.1 i)) in
+      let same : new ≡ switched_to old (verified goal) (Some bytes.0) = is ∙ (λ i. switched_to old (phase i) (bytes.1 i)) in
       has goal phase ∙ sym size ∙ sym (ap (λ (m : Meter). length m.running.bytes) same)
 
   pub handled_room : (Faults : Bool → Type 0) (datagram : List ℕ) (reply : Option (List ℕ)) (activated : Option Name) → Handles true Faults old datagram reply activated new

@@ -11,8 +11,8 @@ use Rattle.fw_verify.specs.Slices.{slice_size}
 use Rattle.fw_image.specs.declared.status.TransferStatus.TheVariants.{VerificationSuccessful}
 use Rattle.fw_image.specs.Fits.{CellsFit}
 use Rattle.fw_image.specs.Laws.{JoinedSize}
-use Rattle.fw_image.specs.Meter.{Meter, Phase, idle, receiving, verifying, sealed, spoilt, switched, status_of, goal_of, joined, goal_bytes, IsGenuine, reopened, reopened_phase, restarted}
-use Rattle.fw_image.specs.Step.{Operation, enable, initiate, block, verify, activate, OperationOutcome, done, refused, verification_initiated, IsOffer, IsBlock, Admits, Serves, begun, with_cell, digested_phase, sealed_phase, spoilt_phase, switched_to, Judges, Does, Step, Turn, TurnsIn}
+use Rattle.fw_image.specs.Meter.{Meter, Phase, idle, receiving, verifying, verified, spoilt, switched, status_of, goal_of, joined, goal_bytes, IsGenuine, reopened, reopened_phase, restarted}
+use Rattle.fw_image.specs.Step.{Operation, enable, initiate, block, verify, activate, OperationOutcome, done, refused, verification_initiated, IsOffer, IsBlock, Admits, Serves, begun, with_cell, digested_phase, verified_phase, spoilt_phase, switched_to, Judges, Does, Step, Turn, TurnsIn}
 use Rattle.fw_image.specs.declared.error.Refusal.{Refusal}
 use Rattle.fw_image.specs.declared.error.Refusal.TheVariants.{Fault, Differs}
 use Rattle.fw_world.specs.World.{Activation, Offers}
@@ -97,7 +97,7 @@ admits_block : (m : Meter) (phase : Phase) (number : ℕ) (value : List ℕ) →
 admits_block m idle number value h = elim h [ ]
 admits_block m (receiving goal) number value h = (goal, refl, h)
 admits_block m (verifying goal taken) number value h = elim h [ ]
-admits_block m (sealed goal) number value h = elim h [ ]
+admits_block m (verified goal) number value h = elim h [ ]
 admits_block m (spoilt goal) number value h = elim h [ ]
 admits_block m switched number value h = elim h [ ]
 
@@ -106,16 +106,16 @@ admits_initiate : (m : Meter) (phase : Phase) (name : Name) (size : ℕ) → Adm
 admits_initiate m idle name size h = h
 admits_initiate m (receiving goal) name size h = h
 admits_initiate m (verifying goal taken) name size h = h
-admits_initiate m (sealed goal) name size h = h
+admits_initiate m (verified goal) name size h = h
 admits_initiate m (spoilt goal) name size h = h
 admits_initiate m switched name size h = h
 
 -- one that admits an activate is verified
-pub admits_activate : (m : Meter) (phase : Phase) → Admits m phase activate → (goal : Goal) × (phase ≡ sealed goal)
+pub admits_activate : (m : Meter) (phase : Phase) → Admits m phase activate → (goal : Goal) × (phase ≡ verified goal)
 admits_activate m idle h = elim h [ ]
 admits_activate m (receiving goal) h = elim h [ ]
 admits_activate m (verifying goal taken) h = elim h [ ]
-admits_activate m (sealed goal) h = (goal, refl)
+admits_activate m (verified goal) h = (goal, refl)
 admits_activate m (spoilt goal) h = elim h [ ]
 admits_activate m switched h = elim h [ ]
 
@@ -217,19 +217,19 @@ module _ (IsFirst : FirstNames) (offered : Offers) (activations : List Activatio
     verified = λ e. subst (λ (o : Option Goal). IsGenuine o (joined old.cells (goal_count old.block_size o))) (sym same) (genuine e);
   }
 
-  sealed_goal : (p : Phase) → goal_of (sealed_phase p) ≡ goal_of p
-  sealed_goal idle = refl
-  sealed_goal (receiving goal) = refl
-  sealed_goal (verifying goal taken) = refl
-  sealed_goal (sealed goal) = refl
-  sealed_goal (spoilt goal) = refl
-  sealed_goal switched = refl
+  verified_goal : (p : Phase) → goal_of (verified_phase p) ≡ goal_of p
+  verified_goal idle = refl
+  verified_goal (receiving goal) = refl
+  verified_goal (verifying goal taken) = refl
+  verified_goal (verified goal) = refl
+  verified_goal (spoilt goal) = refl
+  verified_goal switched = refl
 
   spoilt_goal : (p : Phase) → goal_of (spoilt_phase p) ≡ goal_of p
   spoilt_goal idle = refl
   spoilt_goal (receiving goal) = refl
   spoilt_goal (verifying goal taken) = refl
-  spoilt_goal (sealed goal) = refl
+  spoilt_goal (verified goal) = refl
   spoilt_goal (spoilt goal) = refl
   spoilt_goal switched = refl
 
@@ -238,7 +238,7 @@ module _ (IsFirst : FirstNames) (offered : Offers) (activations : List Activatio
   spoilt_status idle e = e
   spoilt_status (receiving goal) e = absurd cc
   spoilt_status (verifying goal taken) e = absurd cc
-  spoilt_status (sealed goal) e = e
+  spoilt_status (verified goal) e = e
   spoilt_status (spoilt goal) e = e
   spoilt_status switched e = e
 
@@ -246,7 +246,7 @@ module _ (IsFirst : FirstNames) (offered : Offers) (activations : List Activatio
   digested_goal idle taken = refl
   digested_goal (receiving goal) taken = refl
   digested_goal (verifying goal n) taken = refl
-  digested_goal (sealed goal) taken = refl
+  digested_goal (verified goal) taken = refl
   digested_goal (spoilt goal) taken = refl
   digested_goal switched taken = refl
 
@@ -254,7 +254,7 @@ module _ (IsFirst : FirstNames) (offered : Offers) (activations : List Activatio
   digested_status idle taken e = e
   digested_status (receiving goal) taken e = absurd cc
   digested_status (verifying goal n) taken e = e
-  digested_status (sealed goal) taken e = e
+  digested_status (verified goal) taken e = e
   digested_status (spoilt goal) taken e = e
   digested_status switched taken e = e
 
@@ -262,7 +262,7 @@ module _ (IsFirst : FirstNames) (offered : Offers) (activations : List Activatio
   reopened_goal idle = refl
   reopened_goal (receiving goal) = refl
   reopened_goal (verifying goal taken) = refl
-  reopened_goal (sealed goal) = refl
+  reopened_goal (verified goal) = refl
   reopened_goal (spoilt goal) = refl
   reopened_goal switched = refl
 
@@ -270,7 +270,7 @@ module _ (IsFirst : FirstNames) (offered : Offers) (activations : List Activatio
   reopened_status idle e = e
   reopened_status (receiving goal) e = e
   reopened_status (verifying goal taken) e = absurd cc
-  reopened_status (sealed goal) e = e
+  reopened_status (verified goal) e = e
   reopened_status (spoilt goal) e = e
   reopened_status switched e = e
 
@@ -297,7 +297,7 @@ module _ (IsFirst : FirstNames) (offered : Offers) (activations : List Activatio
   -- the goal's bytes are judged
   judges_safe : (old new : Meter) (genuine : Bool) → Judges true old genuine new → IsSafeMeter IsFirst offered activations number old → IsSafeMeter IsFirst offered activations number new
   judges_safe old new true judges k =
-      subst (IsSafeMeter IsFirst offered activations number) (sym (judges.0.is refl)) (phase_safe old (sealed_phase old.phase) (sealed_goal old.phase) (λ e. judges.1 refl) k)
+      subst (IsSafeMeter IsFirst offered activations number) (sym (judges.0.is refl)) (phase_safe old (verified_phase old.phase) (verified_goal old.phase) (λ e. judges.1 refl) k)
   judges_safe old new false judges k =
       subst (IsSafeMeter IsFirst offered activations number) (sym (judges.0.is refl))
       (phase_safe old (spoilt_phase old.phase) (spoilt_goal old.phase) (λ e. k.verified (spoilt_status old.phase e)) k)
@@ -310,7 +310,7 @@ module _ (IsFirst : FirstNames) (offered : Offers) (activations : List Activatio
   turns_safe old new k (verifying goal taken) is (inr (last, inr other)) = judges_safe old new false other k
   turns_safe old new k idle is same = subst (IsSafeMeter IsFirst offered activations number) (sym same) k
   turns_safe old new k (receiving goal) is same = subst (IsSafeMeter IsFirst offered activations number) (sym same) k
-  turns_safe old new k (sealed goal) is same = subst (IsSafeMeter IsFirst offered activations number) (sym same) k
+  turns_safe old new k (verified goal) is same = subst (IsSafeMeter IsFirst offered activations number) (sym same) k
   turns_safe old new k (spoilt goal) is same = subst (IsSafeMeter IsFirst offered activations number) (sym same) k
   turns_safe old new k switched is same = subst (IsSafeMeter IsFirst offered activations number) (sym same) k
 
@@ -319,7 +319,7 @@ module _ (IsFirst : FirstNames) (offered : Offers) (activations : List Activatio
 
   -- the goal of a verified meter becomes the image that runs
   switched_safe : (old : Meter) (goal : Goal) (bytes : List ℕ) → goal_of old.phase ≡ Some goal → length bytes ≡ goal.size → sha256 bytes ≡ goal.name.digest
-      → IsSafeMeter IsFirst offered activations number old → IsSafeAfter (Some goal.name) (switched_to old (sealed goal) (Some bytes))
+      → IsSafeMeter IsFirst offered activations number old → IsSafeAfter (Some goal.name) (switched_to old (verified goal) (Some bytes))
   switched_safe old goal bytes is size digest k = record {
     meter = record {
       block_size = k.block_size;
@@ -355,9 +355,9 @@ module _ (IsFirst : FirstNames) (offered : Offers) (activations : List Activatio
   activate_safe : JoinedSize → (old new : Meter) → IsSafeMeter IsFirst offered activations number old → Admits old old.phase activate → new ≡ switched_to old old.phase (goal_bytes old)
       → IsSafeAfter (Some new.running.name) new
   activate_safe sizes old new k admits is =
-      let is_sealed = admits_activate old old.phase admits in
-      let goal : Goal = is_sealed.0 in
-      let phase : old.phase ≡ sealed goal = is_sealed.1 in
+      let has_verified = admits_activate old old.phase admits in
+      let goal : Goal = has_verified.0 in
+      let phase : old.phase ≡ verified goal = has_verified.1 in
       let goal_is : goal_of old.phase ≡ Some goal = ap goal_of phase in
       let genuine : IsGenuine (Some goal) (goal_bytes old) =
       subst (λ (o : Option Goal). IsGenuine o (goal_bytes old)) goal_is (k.verified (ap status_of phase)) in
@@ -365,7 +365,7 @@ module _ (IsFirst : FirstNames) (offered : Offers) (activations : List Activatio
       let whole : joined old.cells (goal_count old.block_size (Some goal)) ≡ Some bytes.0 =
       ap (λ (o : Option Goal). joined old.cells (goal_count old.block_size o)) (sym goal_is) ∙ bytes.1 in
       let size : length bytes.0 ≡ goal.size = sizes old.block_size goal.size old.cells bytes.0 k.block_size (k.cells goal goal_is) whole in
-      let same : new ≡ switched_to old (sealed goal) (Some bytes.0) = is ∙ (λ i. switched_to old (phase i) (bytes.1 i)) in
+      let same : new ≡ switched_to old (verified goal) (Some bytes.0) = is ∙ (λ i. switched_to old (phase i) (bytes.1 i)) in
       subst (λ (m : Meter). IsSafeAfter (Some m.running.name) m) (sym same)
       (switched_safe old goal bytes.0 goal_is size bytes.2 k)
 

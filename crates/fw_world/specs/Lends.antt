@@ -10,7 +10,7 @@ use Rattle.fw_world.specs.contracts.meters.Meters.{the_row as meters_row}
 use Rattle.fw_world.specs.contracts.meters.NumberedMeter.{the_row as numbered_row}
 use Rattle.fw_world.specs.contracts.world_meter.WorldMeter.{the_row as world_meter_row}
 use Rattle.fw_world.specs.Parts.{head_behind}
-use Rattle.fw_world.specs.Inside.{set_entry}
+use Rattle.fw_world.specs.Private.{set_entry}
 
 -- the head end of this number ends as it is left, under the number that its book then has
 abbrev pub lends_head : MutBor (List (ℕ × Head)) → ℕ → Option (MutBor Head) → Fml

@@ -11,5 +11,5 @@ pub mod Parts
 pub mod Done
 pub mod Laws
 -- For private clauses and models alone: no public clause cites it.
-pub mod Inside
+pub mod Private
 pub mod Lends

@@ -8,7 +8,7 @@ ghost use Rattle.std.specs.Vec.{vec_len, vec_capacity};
 ghost use Rattle.fw_head.specs.Head.{sends_to};
 ghost use Rattle.fw_head.specs.Row.{bytes_of};
 ghost use Rattle.fw_meter.specs.Handling.{AsksForResponse, MayBringData, MayWantMemory, reply_bytes};
-ghost use Rattle.fw_world.specs.Inside.{noted, replied};
+ghost use Rattle.fw_world.specs.Private.{noted, replied};
 ghost use Rattle.fw_world.specs.Refusals.{HasLiveRow, HoldsVerified};
 ghost use Rattle.fw_world.specs.State.{sent_to};
 

@@ -4,7 +4,7 @@ ghost use Rattle.std.specs.Prelude.{◌≡◌, IsTrue, nat_eq, is_some, position
 ghost use Rattle.std.specs.Borrow.{sem};
 ghost use Rattle.std.specs.Map.{lookup};
 ghost use Rattle.std.specs.Option.{option_copied, option_copied_mut};
-ghost use Rattle.fw_world.specs.Inside.{IsSound};
+ghost use Rattle.fw_world.specs.Private.{IsSound};
 
 use crate::world_meter::WorldMeter;
 use fw_meter::MeterCore;

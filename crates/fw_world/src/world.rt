@@ -49,7 +49,7 @@ impl Model for World {
     ghost use Rattle.std.specs.FinMap.{code};
     ghost use Rattle.fw_image.specs.Meter.{cells_code};
     ghost use Rattle.fw_world.specs.State.{State};
-    ghost use Rattle.fw_world.specs.Inside.{IsWorld};
+    ghost use Rattle.fw_world.specs.Private.{IsWorld};
 
     ghost Value = { State };
 
@@ -80,7 +80,7 @@ impl World {
       turn,
     };
     ghost use Rattle.fw_world.specs.View.{event_of};
-    ghost use Rattle.fw_world.specs.Inside.{IsSound, IsSentTo};
+    ghost use Rattle.fw_world.specs.Private.{IsSound, IsSentTo};
     ghost use Rattle.fw_world.specs.declared.datagram.Direction.TheVariants.{ToMeter, ToHead};
 
     /// A world of new head ends and meters: nothing was opened, sent or switched to.

@@ -12,7 +12,7 @@ ghost use Rattle.fw_store.specs.declared.error.SetupError.TheVariants as not_mad
 ghost use Rattle.fw_meter.specs.Handling.{AsksForResponse, Handles, reply_bytes};
 ghost use Rattle.fw_meter.specs.Stopping.{StopsAfter};
 ghost use Rattle.fw_world.specs.State.{restarted_within};
-ghost use Rattle.fw_world.specs.Inside.{IsSound, HasRoom, IsRunning, switched_name};
+ghost use Rattle.fw_world.specs.Private.{IsSound, HasRoom, IsRunning, switched_name};
 ghost use Rattle.fw_world.specs.Refusals.{HoldsVerified, MeterMayWant};
 
 use crate::error::SetupError;
@@ -56,7 +56,7 @@ pub(crate) struct WorldMeter {
 impl Model for WorldMeter {
     ghost use Rattle.std.specs.Coded.{codes};
     ghost use Rattle.fw_image.specs.Meter.{Meter, cells_code};
-    ghost use Rattle.fw_world.specs.Inside.{IsSeated, meter_in};
+    ghost use Rattle.fw_world.specs.Private.{IsSeated, meter_in};
 
     ghost Value = { Meter };
 

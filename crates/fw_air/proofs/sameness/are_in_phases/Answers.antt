@@ -1,7 +1,7 @@
 use Rattle.std.proofs.Common.{rules, tests}
 use Rattle.std.specs.List.{Any}
 use Rattle.std.proofs.lemmas.Iterator.{YieldsList-from_slice, cases_from_all}
-use Rattle.fw_air.specs.Inside.{IsInPhase}
+use Rattle.fw_air.specs.Private.{IsInPhase}
 use Rattle.fw_air.proofs.Alike.{all_iff}
 use Rattle.fw_air.proofs.sameness.are_in_phases.Goals as goal
 

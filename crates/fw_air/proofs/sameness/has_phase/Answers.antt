@@ -1,6 +1,6 @@
 use Rattle.std.proofs.Common.{rules, tests}
 use Rattle.std.proofs.lemmas.Iterator.{YieldsList-from_slice, cases_from_any}
-use Rattle.fw_air.specs.Inside.{IsInPhase}
+use Rattle.fw_air.specs.Private.{IsInPhase}
 use Rattle.fw_air.proofs.Alike.{any_iff}
 use Rattle.fw_air.proofs.sameness.has_phase.Goals as goal
 

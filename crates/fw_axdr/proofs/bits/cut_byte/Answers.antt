@@ -1,5 +1,5 @@
 use Rattle.std.proofs.Common.{ℕ, ◌-◌, length, set, sym, subst, arith}
-use Rattle.fw_axdr.specs.Inside.{Keeps}
+use Rattle.fw_axdr.specs.Private.{Keeps}
 use Rattle.fw_axdr.proofs.Cuts.{keeps_cut}
 use Rattle.fw_axdr.proofs.bits.cut_byte.Goals as goal
 

@@ -3,7 +3,7 @@ use Rattle.std.proofs.lemmas.Result.{err_from_is_err_and}
 use Rattle.fw_axdr.specs.View.{value_of, values_of}
 use Rattle.fw_axdr.specs.Spelling.{SomeBegins}
 use Rattle.fw_axdr.specs.Memory.{MayTakeMemory}
-use Rattle.fw_axdr.specs.Inside.{data_at, each_at, items_at, contents_at}
+use Rattle.fw_axdr.specs.Private.{data_at, each_at, items_at, contents_at}
 use Rattle.fw_axdr.proofs.Loop.{values_of-pushed, goes_on, ends, is_done, no_byte_if, too_deep, data_at_tag}
 use Rattle.fw_axdr.proofs.Wants.{IfMemory-map, IfMemory-none, counted_takes, first_there, element_takes, data_takes}
 use Rattle.fw_axdr.proofs.reading.+reading.Goals as goal

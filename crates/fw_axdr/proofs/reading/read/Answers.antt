@@ -1,6 +1,6 @@
 use Rattle.std.proofs.Common.{sym, ap, ◌∙◌}
 use Rattle.std.proofs.lemmas.Result.{err_from_is_err_and}
-use Rattle.fw_axdr.specs.Inside.{data_at}
+use Rattle.fw_axdr.specs.Private.{data_at}
 use Rattle.fw_axdr.proofs.Again.{shorter, spelled_front, none_if, fails_if}
 use Rattle.fw_axdr.proofs.reading.read.Goals as goal
 

@@ -1,5 +1,5 @@
 use Rattle.std.proofs.Common.{List, ap, ◌∙◌}
-use Rattle.fw_blocks.specs.Inside.{set_of}
+use Rattle.fw_blocks.specs.Private.{set_of}
 use Rattle.fw_blocks.specs.declared.runs.Run.{Run}
 use Rattle.fw_blocks.proofs.RunLemmas.{set_of-none}
 use Rattle.fw_blocks.proofs.block_set.none_of.Goals as goal

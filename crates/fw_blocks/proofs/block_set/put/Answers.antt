@@ -2,7 +2,7 @@ use Rattle.std.proofs.Common.{◌≡◌, ◌+◌, ◌<◌, ◌≤◌, ℕ, List,
 use Rattle.std.proofs.lemmas.Option.{slice_get_within, get_or_from_slice_get}
 use Rattle.std.specs.List.{AllWithin, slice_get, insert}
 use Rattle.std.specs.Prelude.{Some, None}
-use Rattle.fw_blocks.specs.Inside.{IsKept, Puts}
+use Rattle.fw_blocks.specs.Private.{IsKept, Puts}
 use Rattle.fw_blocks.specs.declared.runs.Run.{Run}
 use Rattle.fw_blocks.proofs.PutLemmas.{LieApart, below_all, put_alone_at_end, put_alone_before, put_before, put_there, room_for}
 use Rattle.fw_blocks.proofs.RunLemmas.{slice_get_none}

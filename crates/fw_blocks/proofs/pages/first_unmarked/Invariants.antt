@@ -1,6 +1,6 @@
 use Rattle.std.proofs.Common.{◌≡◌, ℕ, ◌-◌, ◌<◌, true}
 use Rattle.fw_blocks.specs.Cuts.{max_blocks}
-use Rattle.fw_blocks.specs.Inside.{is_marked}
+use Rattle.fw_blocks.specs.Private.{is_marked}
 use Rattle.fw_blocks.proofs.pages.first_unmarked.Given as goal
 
 abbrev pub invariant-loop-first : goal.invariant-loop-first

@@ -1,5 +1,5 @@
 use Rattle.std.proofs.Common.{ℕ, ◌<◌, ◌≤◌, get_or}
-use Rattle.fw_blocks.specs.Inside.{page_size}
+use Rattle.fw_blocks.specs.Private.{page_size}
 use Rattle.fw_blocks.proofs.pages.full_pages.Given as goal
 
 abbrev pub invariant-loop-page : goal.invariant-loop-page

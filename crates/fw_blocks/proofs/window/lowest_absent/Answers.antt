@@ -1,6 +1,6 @@
 use Rattle.std.proofs.Common.{◌≡◌, ◌+◌, ◌-◌, ◌∷◌, [], ◌++◌, get_or, drop, subst, arith}
 use Rattle.std.specs.List.{range_with_len}
-use Rattle.fw_blocks.specs.Inside.{Lists}
+use Rattle.fw_blocks.specs.Private.{Lists}
 use Rattle.std.proofs.lemmas.List.{drop_more, drop_all}
 use Rattle.fw_blocks.specs.declared.runs.Run.{Run}
 use Rattle.fw_blocks.proofs.WindowSearch.{AtRun, absent_below, at_first, at_next, at_full, at_last}

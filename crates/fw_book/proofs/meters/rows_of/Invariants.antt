@@ -1,5 +1,5 @@
 use Rattle.std.proofs.Common.{◌≡◌, ◌++◌, length}
-use Rattle.fw_book.specs.Inside.{rows_in}
+use Rattle.fw_book.specs.Private.{rows_in}
 use Rattle.fw_book.proofs.meters.rows_of.Given as goal
 
 abbrev pub invariant-loop-row : goal.invariant-loop-row

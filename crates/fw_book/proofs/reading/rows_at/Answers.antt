@@ -1,6 +1,6 @@
 use Rattle.std.proofs.Common.{◌≡◌, length, List, sym, ◌∙◌, arith}
 use Rattle.fw_book.specs.declared.row.Row.{Row}
-use Rattle.fw_book.specs.Inside.{rows_in}
+use Rattle.fw_book.specs.Private.{rows_in}
 use Rattle.fw_book.proofs.Parts.{counted_twice, counted_found}
 use Rattle.fw_book.proofs.reading.rows_at.Goals as goal
 

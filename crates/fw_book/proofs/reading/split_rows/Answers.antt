@@ -1,7 +1,7 @@
 use Rattle.std.proofs.Common.{◌≡◌, ◌-◌, ◌∷◌, ◌++◌, [], List, ℕ, length, sym, ap, subst, ◌∙◌, arith, length-append}
 use Rattle.fw_book.specs.declared.row.Row.{Row}
 use Rattle.fw_book.specs.Format.{rows_bytes}
-use Rattle.fw_book.specs.Inside.{MetersFit, rows_in}
+use Rattle.fw_book.specs.Private.{MetersFit, rows_in}
 use Rattle.fw_book.proofs.Parts.{rows_push, meters_push, rows_refused}
 use Rattle.fw_book.proofs.Walks.{rows_whole, cut_before}
 use Rattle.fw_book.proofs.reading.split_rows.Goals as goal

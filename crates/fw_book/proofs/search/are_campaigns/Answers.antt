@@ -2,7 +2,7 @@ use Rattle.std.proofs.Common.{◌≡◌, ℕ, ◌-◌, ◌||◌, ◌++◌, ◌�
 use Rattle.std.proofs.lemmas.Bool.{false≢true, or_left, or_right}
 use Rattle.fw_book.specs.Contents.{Offered, Contents, has_serial}
 use Rattle.fw_book.specs.Format.{entries_bytes}
-use Rattle.fw_book.specs.Inside.{clashes, AreEntries, entry_in}
+use Rattle.fw_book.specs.Private.{clashes, AreEntries, entry_in}
 use Rattle.fw_book.proofs.Books.{IsBook-added}
 use Rattle.fw_book.proofs.Parts.{no_entry, no_room, campaigns_refused, entries_push, tells_push}
 use Rattle.fw_book.proofs.Spellings.{entries_told}

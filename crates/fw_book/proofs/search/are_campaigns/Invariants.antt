@@ -1,7 +1,7 @@
 use Rattle.std.proofs.Common.{◌≡◌, ◌++◌, ℕ, List, length}
 use Rattle.fw_book.specs.Contents.{Offered, IsBook}
 use Rattle.fw_book.specs.Format.{entries_bytes}
-use Rattle.fw_book.specs.Inside.{TellsAll}
+use Rattle.fw_book.specs.Private.{TellsAll}
 use Rattle.fw_book.proofs.search.are_campaigns.Given as goal
 
 -- campaigns of a book stand before the rest

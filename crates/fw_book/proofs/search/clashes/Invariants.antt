@@ -1,6 +1,6 @@
 use Rattle.std.proofs.Common.{◌≡◌, ℕ, List, length}
 use Rattle.fw_book.specs.Contents.{Offered}
-use Rattle.fw_book.specs.Inside.{clashes, AreEntries, rows_in}
+use Rattle.fw_book.specs.Private.{clashes, AreEntries, rows_in}
 use Rattle.fw_book.proofs.search.clashes.Given as goal
 
 abbrev pub invariant-loop-row : goal.invariant-loop-row

@@ -1,7 +1,7 @@
 use Rattle.std.proofs.Common.{◌≡◌, ◌==◌, length}
 use Rattle.std.specs.List.{list_any}
 use Rattle.fw_book.specs.declared.row.Row.{Row}
-use Rattle.fw_book.specs.Inside.{rows_in}
+use Rattle.fw_book.specs.Private.{rows_in}
 use Rattle.fw_book.proofs.search.has_meter.Given as goal
 
 abbrev pub invariant-loop-row : goal.invariant-loop-row

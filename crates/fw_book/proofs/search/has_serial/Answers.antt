@@ -3,7 +3,7 @@ use Rattle.std.proofs.lemmas.Bool.{false_from_ne_true}
 use Rattle.std.proofs.lemmas.Bool.Decides.{Decides-eqb}
 use Rattle.std.specs.Map.{lookup}
 use Rattle.fw_book.specs.Contents.{Offered}
-use Rattle.fw_book.specs.Inside.{entry_in}
+use Rattle.fw_book.specs.Private.{entry_in}
 use Rattle.fw_book.proofs.Walks.{left_step, left_found, left_end}
 use Rattle.fw_book.proofs.search.has_serial.Goals as goal
 

@@ -1,7 +1,7 @@
 use Rattle.std.proofs.Common.{ℕ, nat_eq, is_some, List, length}
 use Rattle.std.specs.Map.{lookup}
 use Rattle.fw_book.specs.Contents.{Offered}
-use Rattle.fw_book.specs.Inside.{AreEntries}
+use Rattle.fw_book.specs.Private.{AreEntries}
 use Rattle.fw_book.proofs.Walks.{Left}
 use Rattle.fw_book.proofs.search.has_serial.Given as goal
 

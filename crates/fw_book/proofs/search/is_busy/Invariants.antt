@@ -1,6 +1,6 @@
 use Rattle.std.proofs.Common.{ℕ, List, length}
 use Rattle.fw_book.specs.Contents.{Offered, is_busy}
-use Rattle.fw_book.specs.Inside.{AreEntries}
+use Rattle.fw_book.specs.Private.{AreEntries}
 use Rattle.fw_book.proofs.Walks.{Left}
 use Rattle.fw_book.proofs.search.is_busy.Given as goal
 

@@ -1,6 +1,6 @@
 use Rattle.std.proofs.Common.{◌≡◌, length}
 use Rattle.fw_book.specs.Rows.{meters_of, repeats}
-use Rattle.fw_book.specs.Inside.{rows_in}
+use Rattle.fw_book.specs.Private.{rows_in}
 use Rattle.fw_book.proofs.search.repeats.Given as goal
 
 abbrev pub invariant-loop-row : goal.invariant-loop-row

@@ -6,7 +6,7 @@ use Rattle.fw_client.specs.Ask.{request_of, CarriesRequest}
 use Rattle.fw_client.specs.State.{invoke_byte}
 use Rattle.fw_head.specs.Phase.{block_ask}
 use Rattle.fw_head.specs.Row.{bytes_of, datagrams}
-use Rattle.fw_head.specs.Inside.{Carry}
+use Rattle.fw_head.specs.Private.{Carry}
 use Rattle.fw_head.proofs.FreeIds.{none_lately}
 use Rattle.fw_head.proofs.Sending.{sent_more, asked_more, lately_more, fewer, no_more, carry_more}
 use Rattle.fw_head.proofs.asks.ask_blocks.Goals as goal

@@ -1,7 +1,7 @@
 use Rattle.std.proofs.Common.{◌≡◌, ℕ, List, ◌+◌, ◌-◌, ◌≤◌, ◌++◌, length, map}
 use Rattle.fw_head.specs.Phase.{block_ask}
 use Rattle.fw_head.specs.Row.{bytes_of, datagrams, asking_all}
-use Rattle.fw_head.specs.Inside.{AskedLately, Carry}
+use Rattle.fw_head.specs.Private.{AskedLately, Carry}
 use Rattle.fw_head.proofs.asks.ask_blocks.Given as goal
 
 -- what was sent, and then what is still to be asked, is the whole

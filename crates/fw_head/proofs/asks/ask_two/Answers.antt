@@ -1,6 +1,6 @@
 use Rattle.std.proofs.Common.{◌+◌, arith, sym, subst}
 use Rattle.fw_client.specs.State.{State}
-use Rattle.fw_head.specs.Inside.{AskedLately}
+use Rattle.fw_head.specs.Private.{AskedLately}
 use Rattle.fw_head.proofs.FreeIds.{first_free, next_free, none_lately, one_later}
 use Rattle.fw_head.proofs.asks.ask_two.Goals as goal
 

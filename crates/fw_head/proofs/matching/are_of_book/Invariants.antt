@@ -1,6 +1,6 @@
 use Rattle.std.proofs.Common.{length}
 use Rattle.std.specs.List.{AllByRecursion}
-use Rattle.fw_head.specs.Inside.{IsOfBook}
+use Rattle.fw_head.specs.Private.{IsOfBook}
 use Rattle.fw_head.proofs.matching.are_of_book.Given as goal
 
 -- the rows that are left are all of the book exactly where all rows are

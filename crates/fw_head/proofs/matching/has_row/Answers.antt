@@ -1,7 +1,7 @@
 use Rattle.std.proofs.Common.{◌≡◌, Option, ap, ◌∙◌, rules}
 use Rattle.std.specs.Option.{option_copied}
 use Rattle.fw_head.specs.Row.{Row}
-use Rattle.fw_head.specs.Inside.{is_row_in}
+use Rattle.fw_head.specs.Private.{is_row_in}
 use Rattle.fw_head.proofs.ByMeter.{first_row}
 use Rattle.fw_head.proofs.matching.has_row.Goals as goal
 

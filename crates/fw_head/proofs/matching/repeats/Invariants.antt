@@ -1,5 +1,5 @@
 use Rattle.std.proofs.Common.{◌≡◌, length}
-use Rattle.fw_head.specs.Inside.{repeats}
+use Rattle.fw_head.specs.Private.{repeats}
 use Rattle.fw_head.proofs.matching.repeats.Given as goal
 
 abbrev pub invariant-loop-first : goal.invariant-loop-first

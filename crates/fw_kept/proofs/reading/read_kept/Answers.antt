@@ -3,7 +3,7 @@ use Rattle.std.specs.declared.alloc.Global.{Global}
 use Rattle.fw_journal.specs.declared.error.JournalError.{JournalError}
 use Rattle.fw_ledger.specs.Replay.{records_of}
 use Rattle.fw_kept.specs.Kept.{IsReadAs}
-use Rattle.fw_kept.specs.Inside.{AreReadAs, IsReadingRefusal}
+use Rattle.fw_kept.specs.Private.{AreReadAs, IsReadingRefusal}
 use Rattle.fw_kept.specs.declared.error.OpenError.{OpenError}
 use Rattle.fw_kept.proofs.Books.{bad_of}
 use Rattle.fw_kept.proofs.Heads.{if_ok}

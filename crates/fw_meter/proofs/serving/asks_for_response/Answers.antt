@@ -2,7 +2,7 @@ use Rattle.std.proofs.Common.{sym, ap, subst, ◌∙◌}
 use Rattle.fw_apdu.specs.Request.{is_confirmed}
 use Rattle.fw_apdu.specs.View.{request_content, request_invoke}
 use Rattle.fw_meter.specs.Handling.{Brings, BringsNothing}
-use Rattle.fw_meter.specs.Inside.{IsHeard}
+use Rattle.fw_meter.specs.Private.{IsHeard}
 use Rattle.fw_meter.proofs.OneAnswer.{one_brought}
 use Rattle.fw_meter.proofs.serving.asks_for_response.Goals as goal
 

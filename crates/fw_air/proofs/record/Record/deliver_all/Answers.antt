@@ -1,7 +1,7 @@
 use Rattle.std.proofs.Common.{◌≡◌, ℕ, ◌+◌, ◌<◌, [], ◌∷◌, ◌++◌, map, take, length, slice_index_or, subst, sym, ap, ◌∙◌, arith}
 use Rattle.std.proofs.lemmas.List.{take_more, get_or-map, length-map}
 use Rattle.fw_world.specs.Step.{Event, deliver}
-use Rattle.fw_air.specs.Inside.{Follows}
+use Rattle.fw_air.specs.Private.{Follows}
 use Rattle.fw_air.proofs.Present.{still_sent}
 use Rattle.fw_air.proofs.Runs.{follows_on}
 use Rattle.fw_air.proofs.record.Record.deliver_all.Goals as goal

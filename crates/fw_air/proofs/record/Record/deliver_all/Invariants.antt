@@ -1,6 +1,6 @@
 use Rattle.std.proofs.Common.{take, map}
 use Rattle.fw_world.specs.Step.{deliver}
-use Rattle.fw_air.specs.Inside.{Follows}
+use Rattle.fw_air.specs.Private.{Follows}
 use Rattle.fw_air.specs.Links.{AreSent}
 use Rattle.fw_air.proofs.record.Record.deliver_all.Given as goal
 

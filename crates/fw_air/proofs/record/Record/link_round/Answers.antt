@@ -1,7 +1,7 @@
 use Rattle.std.proofs.Common.{◌≡◌, ℕ, ◌+◌, ◌-◌, List, ◌++◌, map, subst, ap, ◌∙◌, arith}
 use Rattle.fw_world.specs.Step.{deliver}
 use Rattle.fw_air.specs.Fates.{by_fates, comes, waits}
-use Rattle.fw_air.specs.Inside.{Follows, HasBegun, HasPassed, HasTurned}
+use Rattle.fw_air.specs.Private.{Follows, HasBegun, HasPassed, HasTurned}
 use Rattle.fw_air.specs.Links.{late_of, link_of, passed_of, queue_of}
 use Rattle.fw_air.specs.Logs.{capped}
 use Rattle.fw_air.specs.Order.{IsMadeInOrder}

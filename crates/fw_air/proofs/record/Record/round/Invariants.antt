@@ -1,6 +1,6 @@
 use Rattle.std.proofs.Common.{◌≡◌, List, map, drop, take, All}
 use Rattle.fw_world.specs.Step.{Event}
-use Rattle.fw_air.specs.Inside.{Follows}
+use Rattle.fw_air.specs.Private.{Follows}
 use Rattle.fw_air.specs.Links.{IsThere, link_of, queue_of}
 use Rattle.fw_air.specs.Rounds.{IsLinkRound}
 use Rattle.fw_air.proofs.Fated.{LeadsAll}

@@ -3,7 +3,7 @@ use Rattle.std.proofs.lemmas.List.Elements.{All-nil}
 use Rattle.fw_world.specs.State.{head_at, meter_at}
 use Rattle.fw_world.specs.Step.{deliver, tick}
 use Rattle.fw_air.specs.declared.links.LinkQueue.{LinkQueue}
-use Rattle.fw_air.specs.Inside.{Recorded, Follows}
+use Rattle.fw_air.specs.Private.{Recorded, Follows}
 use Rattle.fw_air.specs.Links.{AreSent, late_of, link_of, queue_of}
 use Rattle.fw_air.specs.Queues.{beginning}
 use Rattle.fw_air.specs.Rounds.{Link}

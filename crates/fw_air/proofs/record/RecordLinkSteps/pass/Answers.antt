@@ -1,5 +1,5 @@
 use Rattle.std.proofs.Common.{◌≡◌, length, ap, ◌∙◌, arith}
-use Rattle.fw_air.specs.Inside.{Recorded}
+use Rattle.fw_air.specs.Private.{Recorded}
 use Rattle.fw_air.proofs.Present.{run_grows, same_link_there, still_there, widened}
 use Rattle.fw_air.proofs.Runs.{goes_on}
 use Rattle.fw_air.proofs.record.RecordLinkSteps.pass.Goals as goal

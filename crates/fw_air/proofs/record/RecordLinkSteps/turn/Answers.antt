@@ -1,6 +1,6 @@
 use Rattle.std.proofs.Common.{[], ◌∷◌}
 use Rattle.fw_world.specs.Step.{turn}
-use Rattle.fw_air.specs.Inside.{Follows}
+use Rattle.fw_air.specs.Private.{Follows}
 use Rattle.fw_air.proofs.Present.{still_there}
 use Rattle.fw_air.proofs.Runs.{follows_on}
 use Rattle.fw_air.proofs.record.RecordLinkSteps.turn.Goals as goal

@@ -3,7 +3,7 @@ use Rattle.std.proofs.lemmas.List.{get_or_default, take_all}
 use Rattle.std.specs.List.{All}
 use Rattle.fw_axdr.specs.Bits.{bits, packed}
 use Rattle.fw_blocks.specs.Cuts.{max_blocks}
-use Rattle.fw_blocks.specs.Inside.{page_count}
+use Rattle.fw_blocks.specs.Private.{page_count}
 use Rattle.fw_blocks.proofs.BitLemmas.{length-bits}
 use Rattle.fw_blocks.proofs.PageLemmas.{ReadTo, holds, read_none, read_next, read_all, read_marks}
 use Rattle.fw_blocks.proofs.pages.Pages.from_bytes.Goals as goal

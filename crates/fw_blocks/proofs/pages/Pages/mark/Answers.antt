@@ -1,5 +1,5 @@
 use Rattle.std.proofs.Common.{◌/◌, ◌<◌, length, get_or, set, true, sym, ap, ◌∙◌, arith}
-use Rattle.fw_blocks.specs.Inside.{page_count}
+use Rattle.fw_blocks.specs.Private.{page_count}
 use Rattle.fw_blocks.proofs.PageLemmas.{bit_from_top, are_words, holds, ones_of-le, length-marks_of, marks_more, marks_same, words_more}
 use Rattle.fw_blocks.proofs.pages.Pages.mark.Goals as goal
 

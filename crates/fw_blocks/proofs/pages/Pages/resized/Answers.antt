@@ -1,6 +1,6 @@
 use Rattle.std.proofs.Common.{◌≡◌, ℕ, ◌-◌, ◌++◌, Bool, false, List, length, take, replicate, append-nil, sym, ap, ◌∙◌, arith}
 use Rattle.std.proofs.lemmas.List.{take_all}
-use Rattle.fw_blocks.specs.Inside.{marks_of}
+use Rattle.fw_blocks.specs.Private.{marks_of}
 use Rattle.fw_blocks.specs.Members.{resized_marks}
 use Rattle.fw_blocks.proofs.PageLemmas.{are_words, holds, grown, marks_grown}
 use Rattle.fw_blocks.proofs.pages.Pages.resized.Goals as goal

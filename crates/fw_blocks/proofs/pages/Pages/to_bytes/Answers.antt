@@ -1,7 +1,7 @@
 use Rattle.std.proofs.Common.{◌≡◌, length, ap, subst, ◌∙◌, arith}
 use Rattle.fw_axdr.specs.Bits.{packed}
 use Rattle.fw_blocks.specs.Cuts.{max_blocks}
-use Rattle.fw_blocks.specs.Inside.{marks_of}
+use Rattle.fw_blocks.specs.Private.{marks_of}
 use Rattle.fw_blocks.specs.Members.{all_marks}
 use Rattle.fw_blocks.proofs.PageLemmas.{are_words, words_packed, length-all_marks, all_again}
 use Rattle.fw_blocks.proofs.pages.Pages.to_bytes.Goals as goal

@@ -5,7 +5,7 @@ use Rattle.fw_book.specs.declared.row.Row.{Row}
 use Rattle.fw_book.specs.Rows.{is_live_in}
 use Rattle.fw_book.specs.Contents.{Offered, Contents, is_busy, IsBook}
 use Rattle.fw_book.specs.Changes.{added}
-use Rattle.fw_book.specs.Inside.{Admits}
+use Rattle.fw_book.specs.Private.{Admits}
 use Rattle.fw_book.proofs.Books.{IsBook-added, none_from}
 use Rattle.fw_book.proofs.Busy.{busy_added}
 use Rattle.fw_book.proofs.book.Book.add.Goals as goal

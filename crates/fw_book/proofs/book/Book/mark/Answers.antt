@@ -7,7 +7,7 @@ use Rattle.fw_book.specs.declared.row.RowState.TheVariants.{Live}
 use Rattle.fw_book.specs.Rows.{with_state}
 use Rattle.fw_book.specs.Contents.{Offered, Contents, state_in, is_busy, IsBook}
 use Rattle.fw_book.specs.Changes.{at_serial, marked}
-use Rattle.fw_book.specs.Inside.{has_live_meter}
+use Rattle.fw_book.specs.Private.{has_live_meter}
 use Rattle.fw_book.proofs.Books.{IsBook-changed, Keeps-with_state, at_serial-none, changed_entries, same_contents}
 use Rattle.fw_book.proofs.Busy.{busy_marked}
 use Rattle.fw_book.proofs.book.Book.mark.Goals.{in-Some, in_default}

@@ -5,7 +5,7 @@ use Rattle.fw_book.specs.declared.row.Row.{Row}
 use Rattle.fw_book.specs.Contents.{Offered, Contents, IsBook}
 use Rattle.fw_book.specs.Changes.{added, ReadRefused}
 use Rattle.fw_book.specs.Format.{IsReadAs}
-use Rattle.fw_book.specs.Inside.{Admits, entry_in}
+use Rattle.fw_book.specs.Private.{Admits, entry_in}
 use Rattle.fw_book.proofs.Spellings.{same_read}
 use Rattle.fw_book.proofs.Parts.{next_admitted}
 use Rattle.fw_book.proofs.Walks.{first_left, none_left, may_run_out}

@@ -1,7 +1,7 @@
 use Rattle.std.proofs.Common.{◌++◌, ℕ, List, length}
 use Rattle.fw_book.specs.Contents.{Offered, IsBook}
 use Rattle.fw_book.specs.Format.{IsReadAs}
-use Rattle.fw_book.specs.Inside.{AreEntries}
+use Rattle.fw_book.specs.Private.{AreEntries}
 use Rattle.fw_book.proofs.book.Book.read.Given as goal
 
 -- the campaigns that were read, and those that stand in the rest, are those of the book that the bytes are read as

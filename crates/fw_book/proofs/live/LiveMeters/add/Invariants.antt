@@ -1,7 +1,7 @@
 use Rattle.std.proofs.Common.{◌≡◌, ◌||◌, ◌-◌, ◌≤◌, ℕ, take, length}
 use Rattle.std.specs.HashSet.{spare}
 use Rattle.fw_book.specs.Rows.{is_live_in}
-use Rattle.fw_book.specs.Inside.{has_live_meter}
+use Rattle.fw_book.specs.Private.{has_live_meter}
 use Rattle.fw_book.proofs.live.LiveMeters.add.Given as goal
 
 -- the meters of the rows so far are there, and there is room for the others

@@ -1,6 +1,6 @@
 use Rattle.std.proofs.Common.{◌≡◌, ◌&&◌, ℕ, not, take}
 use Rattle.fw_book.specs.Rows.{is_live_in}
-use Rattle.fw_book.specs.Inside.{has_live_meter}
+use Rattle.fw_book.specs.Private.{has_live_meter}
 use Rattle.fw_book.proofs.live.LiveMeters.remove_rows.Given as goal
 
 abbrev pub invariant-loop-row : goal.invariant-loop-row

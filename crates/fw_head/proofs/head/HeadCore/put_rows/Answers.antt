@@ -5,7 +5,7 @@ use Rattle.fw_book.specs.Contents.{Contents}
 use Rattle.fw_head.specs.Row.{Row}
 use Rattle.fw_head.specs.Head.{Head, Rows}
 use Rattle.fw_head.specs.Parts.{by_meter, still_live, with_ends}
-use Rattle.fw_head.specs.Inside.{IsOfBook}
+use Rattle.fw_head.specs.Private.{IsOfBook}
 use Rattle.fw_head.proofs.ByMeter.{rows_from, once_from}
 use Rattle.fw_head.proofs.Joined.{joined_by, values_by_meter}
 use Rattle.fw_head.proofs.head.HeadCore.put_rows.Goals as goal

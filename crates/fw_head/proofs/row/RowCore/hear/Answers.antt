@@ -1,7 +1,7 @@
 use Rattle.std.proofs.Common.{◌≡◌, ℕ, inl, inr, refl, sym, ap, ◌∙◌, subst}
 use Rattle.fw_client.specs.State.{State}
 use Rattle.fw_head.specs.Phase.{Leads, TakesMemory}
-use Rattle.fw_head.specs.Inside.{IsOwn}
+use Rattle.fw_head.specs.Private.{IsOwn}
 use Rattle.fw_head.specs.Row.{Row, RowTakes, TakesList, RowMayWant, news_in, stepped}
 use Rattle.fw_head.proofs.Heard.{strange_to, taken, taken_by, of_asked, kept_meter}
 use Rattle.fw_head.proofs.OwnClaims.{own_step, own_news}

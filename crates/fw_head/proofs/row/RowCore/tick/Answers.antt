@@ -1,7 +1,7 @@
 use Rattle.std.proofs.Common.{◌≡◌, ℕ, sym, ap, subst, ◌∙◌}
 use Rattle.fw_client.specs.State.{State, forgetting}
 use Rattle.fw_head.specs.Row.{Row, bytes_of, tick_asks}
-use Rattle.fw_head.specs.Inside.{Carry, IsOwn}
+use Rattle.fw_head.specs.Private.{Carry, IsOwn}
 use Rattle.fw_head.proofs.Permitted.{tick_permitted}
 use Rattle.fw_head.proofs.Sending.{same_meter}
 use Rattle.fw_head.proofs.row.RowCore.tick.Goals as goal

@@ -2,7 +2,7 @@ use Rattle.std.proofs.Common.{◌≡◌, ◌+◌, ◌<◌, true, None, ◌∷◌
 use Rattle.std.proofs.lemmas.List.{drop_more}
 use Rattle.fw_book.specs.Rows.{is_live}
 use Rattle.fw_head.specs.Head.{row_of}
-use Rattle.fw_head.specs.Inside.{live_meters}
+use Rattle.fw_head.specs.Private.{live_meters}
 use Rattle.fw_head.proofs.NewRows.{absent}
 use Rattle.fw_head.proofs.Reopened.{meters_live}
 use Rattle.fw_head.proofs.rows.Rows.add_live.Goals as goal

@@ -3,7 +3,7 @@ use Rattle.std.specs.List.{IsDistinct}
 use Rattle.std.specs.Map.{keys_of}
 use Rattle.fw_book.specs.Rows.{has_live}
 use Rattle.fw_head.specs.Head.{reopened_rows}
-use Rattle.fw_head.specs.Inside.{live_meters}
+use Rattle.fw_head.specs.Private.{live_meters}
 use Rattle.fw_head.proofs.rows.Rows.add_live.Given as goal
 
 -- the rows that are there and those that are still to be added are the whole

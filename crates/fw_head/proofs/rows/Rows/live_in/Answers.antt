@@ -3,7 +3,7 @@ use Rattle.std.specs.List.{IsDistinct}
 use Rattle.std.specs.Map.{keys_of}
 use Rattle.fw_book.specs.declared.row.Row as book_row
 use Rattle.fw_book.specs.Contents.{Offered}
-use Rattle.fw_head.specs.Inside.{live_meters, live_rows}
+use Rattle.fw_head.specs.Private.{live_meters, live_rows}
 use Rattle.fw_head.proofs.Reopened.{next_once}
 use Rattle.fw_head.proofs.rows.Rows.live_in.Goals as goal
 

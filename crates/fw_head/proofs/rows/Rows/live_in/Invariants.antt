@@ -3,7 +3,7 @@ use Rattle.std.specs.List.{AllByRecursion, list_any}
 use Rattle.fw_book.specs.Rows.{has_live}
 use Rattle.fw_book.specs.Contents.{Offered, IsEntry}
 use Rattle.fw_head.specs.Head.{has_live_row}
-use Rattle.fw_head.specs.Inside.{live_rows}
+use Rattle.fw_head.specs.Private.{live_rows}
 use Rattle.fw_head.proofs.rows.Rows.live_in.Given as goal
 
 -- the rows that are there and those of the campaigns that are left are all

@@ -2,7 +2,7 @@ use Rattle.std.proofs.Common.{◌≡◌, nat_eq}
 use Rattle.std.specs.List.{IsDistinct, AllByRecursion}
 use Rattle.std.specs.Map.{keys_of, values_of}
 use Rattle.fw_head.specs.Parts.{by_meter, with_ends}
-use Rattle.fw_head.specs.Inside.{IsOfBook}
+use Rattle.fw_head.specs.Private.{IsOfBook}
 use Rattle.fw_head.proofs.rows.Rows.mark_ended.Given as goal
 
 -- the rows that are left are live in the book, and their ends are all that is still to be marked

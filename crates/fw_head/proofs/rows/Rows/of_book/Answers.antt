@@ -4,7 +4,7 @@ use Rattle.std.proofs.lemmas.Bool.{false≢true}
 use Rattle.fw_head.specs.Row.{Row}
 use Rattle.fw_head.specs.Head.{Rows}
 use Rattle.fw_head.specs.Parts.{by_meter}
-use Rattle.fw_head.specs.Inside.{IsOfBook, has_each}
+use Rattle.fw_head.specs.Private.{IsOfBook, has_each}
 use Rattle.fw_head.proofs.ByMeter.{by_true, by_false, to_rows, rows_from, once_from, each_from, has_from, has_each_from}
 use Rattle.fw_head.proofs.rows.Rows.of_book.Goals as goal
 

@@ -5,7 +5,7 @@ use Rattle.fw_image.specs.Stored.{meter_of, phase_of, phase_at, seen}
 use Rattle.fw_image.specs.declared.status.TransferStatus.TheVariants.{VerificationSuccessful}
 use Rattle.fw_image.proofs.Blocks.{none_has}
 use Rattle.fw_image.proofs.Meters.{none_digested}
-use Rattle.fw_image.proofs.Moves.{leaves, makes_written, held_written, is_sealed, verified_bytes, header_switched, meter_of-switched, trusted_switched, valid_switched}
+use Rattle.fw_image.proofs.Moves.{leaves, makes_written, held_written, has_verified, verified_bytes, header_switched, meter_of-switched, trusted_switched, valid_switched}
 use Rattle.fw_image.proofs.held.Held.activate.Goals as goal
 
 pub invariant_of-self-2 : goal.invariant_of-self-2
@@ -18,7 +18,7 @@ invariant_of-self-2 g c =
     let at : status_of (phase_at c.self.inside.digesting (phase_of h.status h.goal)) ≡ VerificationSuccessful = rw (← c.self.view_is) at c.requires in
     let none_digests = none_digested (g.S.ImageStore.known c.self.inside.store) h c.self.inside.digesting c.self.invariant.digested VerificationSuccessful at (λ e. cc) in
     let status : status_of (phase_of h.status h.goal) ≡ VerificationSuccessful = rw none_digests at at in
-    let phase = is_sealed _ h wanted valid status c.in-Some.is in
+    let phase = has_verified _ h wanted valid status c.in-Some.is in
     rw (told.done, none_digests) (record {
       held = held_written (g.S.ImageStore.known c.self.inside.store) (g.S.ImageStore.known c.replace.new.store) h _ (g.met.S.ImageStore.sized c.self.inside.store) told.kept told.written c.self.invariant.held
           (valid_switched _ h c.other.result wanted c.no_marks.result none c.in-Some.is valid told.fits)
@@ -40,7 +40,7 @@ returns-clause-makes g c =
     let at : status_of (phase_at c.self.inside.digesting (phase_of h.status h.goal)) ≡ VerificationSuccessful = rw (← c.self.view_is) at c.requires in
     let none_digests = none_digested (known c.self.inside.store) h c.self.inside.digesting c.self.invariant.digested VerificationSuccessful at (λ e. cc) in
     let status : status_of (phase_of h.status h.goal) ≡ VerificationSuccessful = rw none_digests at at in
-    let phase = is_sealed _ h wanted valid status c.in-Some.is in
+    let phase = has_verified _ h wanted valid status c.in-Some.is in
     let admits = subst (λ (p : Phase). Admits m p activate) (sym phase) tt in
     rw (← c.self.view_is, told.done, none_digests) (makes_written store (known c.replace.new.store) h (header_switched h c.other.result wanted c.no_marks.result) None None activate done refl (g.met.S.ImageStore.sized c.self.inside.store) told.kept told.cause.counted told.written told.spends (c.if-not-self.false, admits)
     (λ d d' views.

@@ -1,6 +1,6 @@
 use Rattle.std.proofs.Common.{rules, ◌≡◌, ◌≢◌, refl, sym, ◌∙◌}
 use Rattle.fw_image.specs.Calls.{verified_size}
-use Rattle.fw_image.specs.Meter.{Phase, idle, receiving, verifying, sealed, spoilt, switched, status_of}
+use Rattle.fw_image.specs.Meter.{Phase, idle, receiving, verifying, verified, spoilt, switched, status_of}
 use Rattle.fw_image.specs.Stored.{seen}
 use Rattle.fw_image.specs.declared.status.TransferStatus.TheVariants.{VerificationSuccessful}
 use Rattle.fw_image.proofs.Fits.{fit_at}
@@ -12,7 +12,7 @@ none_verified : (phase : Phase) → status_of phase ≢ VerificationSuccessful �
 none_verified idle other = refl
 none_verified (receiving goal) other = refl
 none_verified (verifying goal taken) other = refl
-none_verified (sealed goal) other = absurd (other refl)
+none_verified (verified goal) other = absurd (other refl)
 none_verified (spoilt goal) other = refl
 none_verified switched other = refl
 

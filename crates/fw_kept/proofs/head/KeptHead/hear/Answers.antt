@@ -1,7 +1,7 @@
 use Rattle.std.proofs.Common.{ℕ, sym, subst}
 use Rattle.fw_book.specs.Contents.{Contents}
 use Rattle.fw_kept.specs.Kept.{Keeps}
-use Rattle.fw_kept.specs.Inside.{IsNewsOf}
+use Rattle.fw_kept.specs.Private.{IsNewsOf}
 use Rattle.fw_kept.proofs.Heads.{head_hears, heard_offers, heard_number, offers_on}
 use Rattle.fw_kept.proofs.Backs.{offers_back}
 use Rattle.fw_kept.proofs.head.KeptHead.hear.Goals as goal

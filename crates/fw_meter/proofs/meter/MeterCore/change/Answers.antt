@@ -3,7 +3,7 @@ use Rattle.fw_server.specs.Meaning.{code_number}
 use Rattle.fw_server.specs.View.{operation_meaning}
 use Rattle.fw_image.specs.Phases.{state_in}
 use Rattle.fw_image.specs.State.{State}
-use Rattle.fw_meter.specs.Inside.{state_there, Steps}
+use Rattle.fw_meter.specs.Private.{state_there, Steps}
 use Rattle.fw_meter.proofs.meter.MeterCore.change.Goals as goal
 
 pub returns-clause-steps : goal.returns-clause-steps

@@ -7,7 +7,7 @@ use Rattle.fw_store.specs.declared.fuse.Fuse.{Fuse}
 use Rattle.fw_image.specs.State.{Counts}
 use Rattle.fw_meter.specs.declared.meter.Handled.{Handled}
 use Rattle.fw_meter.specs.Handling.{Brings, BringsNothing, Handles, Responds, reply_bytes}
-use Rattle.fw_meter.specs.Inside.{IsCalled, IsHeard}
+use Rattle.fw_meter.specs.Private.{IsCalled, IsHeard}
 use Rattle.fw_meter.specs.Stopping.{CallsStore, StopsAfter}
 use Rattle.fw_meter.proofs.Calling.{handled, calls_store, stops_after, drops_calls, drops_stop}
 use Rattle.fw_meter.proofs.meter.MeterCore.handle.Goals as goal

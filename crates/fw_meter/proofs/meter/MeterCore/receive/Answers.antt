@@ -4,7 +4,7 @@ use Rattle.fw_server.specs.Meaning.{code_number}
 use Rattle.fw_image.specs.Phases.{state_in}
 use Rattle.fw_image.specs.State.{State}
 use Rattle.fw_image.specs.Step as image
-use Rattle.fw_meter.specs.Inside.{state_there, Steps}
+use Rattle.fw_meter.specs.Private.{state_there, Steps}
 use Rattle.fw_meter.proofs.Calling.{steps_made}
 use Rattle.fw_meter.proofs.meter.MeterCore.receive.Goals as goal
 

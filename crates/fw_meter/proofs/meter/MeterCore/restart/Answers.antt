@@ -5,7 +5,7 @@ use Rattle.fw_store.specs.declared.fuse.Fuse.{Fuse}
 use Rattle.fw_image.specs.Calls.{restart_calls}
 use Rattle.fw_image.specs.State.{State, stored}
 use Rattle.fw_image.specs.Stored.{Holds, Opens}
-use Rattle.fw_meter.specs.Inside.{state_there}
+use Rattle.fw_meter.specs.Private.{state_there}
 use Rattle.fw_meter.proofs.Restarts.{goes_on, found_calls}
 use Rattle.fw_meter.proofs.meter.MeterCore.restart.Goals as goal
 

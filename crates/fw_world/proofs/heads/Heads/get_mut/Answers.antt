@@ -2,7 +2,7 @@ use Rattle.std.proofs.Common.{ℕ, nat_eq, List, map, sym, ap, ◌∙◌, inl, i
 use Rattle.std.specs.Map.{lookup}
 use Rattle.fw_head.specs.Head.{Head}
 use Rattle.fw_world.specs.Parts.{head_behind}
-use Rattle.fw_world.specs.Inside.{set_entry}
+use Rattle.fw_world.specs.Private.{set_entry}
 use Rattle.fw_world.proofs.Finding.{at_place, no_place, looked_up, head_place, head_element, head_put}
 use Rattle.fw_world.proofs.heads.Heads.get_mut.Goals as goal
 

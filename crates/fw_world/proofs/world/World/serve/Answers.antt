@@ -10,7 +10,7 @@ use Rattle.fw_world.specs.declared.datagram.Direction.TheVariants.{ToMeter}
 use Rattle.fw_world.specs.World.{Datagram}
 use Rattle.fw_world.specs.Step.{deliver}
 use Rattle.fw_world.proofs.Keeping.{keeps_meter, keeps_lists}
-use Rattle.fw_world.specs.Inside.{switched_name}
+use Rattle.fw_world.specs.Private.{switched_name}
 use Rattle.fw_world.proofs.Places.{told_err, meter_found, meter_serves, meter_same, replied_is, noted_is}
 use Rattle.fw_world.proofs.Delivered.{sent_here, one_datagram, way_of, delivers_to_meter}
 use Rattle.fw_world.proofs.Refusing.{wants_memory, delivered_to_meter, meter_may_want}

@@ -5,7 +5,7 @@ use Rattle.fw_meter.specs.Stopping.{StopsAfter}
 use Rattle.fw_world.specs.declared.datagram.Direction.TheVariants.{ToMeter}
 use Rattle.fw_world.specs.World.{Datagram}
 use Rattle.fw_world.specs.Step.{stop}
-use Rattle.fw_world.specs.Inside.{switched_name}
+use Rattle.fw_world.specs.Private.{switched_name}
 use Rattle.fw_world.proofs.Places.{told_err, meter_found, meter_notes, meter_same, noted_as}
 use Rattle.fw_world.proofs.Delivered.{sent_here}
 use Rattle.fw_world.proofs.Refusing.{wants_memory, stopped_meter, stop_may_want}

@@ -6,7 +6,7 @@ use Rattle.fw_image.specs.Meter.{Meter}
 use Rattle.fw_image.specs.State.{State, Counts}
 use Rattle.fw_meter.specs.Handling.{Handles, reply_bytes}
 use Rattle.fw_meter.specs.Stopping.{StopsAfter}
-use Rattle.fw_world.specs.Inside.{IsSound, IsSeated, IsRunning, meter_in}
+use Rattle.fw_world.specs.Private.{IsSound, IsSeated, IsRunning, meter_in}
 use Rattle.fw_world.specs.Refusals.{HoldsVerified}
 use Rattle.fw_world.proofs.Room.{each_some, handled_room, handled_held, held_by, switched_runs}
 use Rattle.fw_world.proofs.world_meter.WorldMeter.cut.Goals as goal

@@ -3,7 +3,7 @@ use Rattle.fw_names.specs.Name.{Name}
 use Rattle.fw_image.specs.Meter.{Meter}
 use Rattle.fw_image.specs.State.{Counts}
 use Rattle.fw_meter.specs.Handling.{Handles, reply_bytes}
-use Rattle.fw_world.specs.Inside.{IsSound, IsSeated, IsRunning, meter_in, switched_name}
+use Rattle.fw_world.specs.Private.{IsSound, IsSeated, IsRunning, meter_in, switched_name}
 use Rattle.fw_world.specs.Refusals.{HoldsVerified}
 use Rattle.fw_world.proofs.Room.{each_some, handled_room, handled_held, held_by, replied_asks, switched_runs}
 use Rattle.fw_world.proofs.world_meter.WorldMeter.handle.Goals as goal

@@ -1,6 +1,6 @@
 use Rattle.std.proofs.Common.{inl}
 use Rattle.fw_apdu.specs.View.{response_content, response_invoke}
-use Rattle.fw_report.proofs.saying.answered.Goals as goal
+use Rattle.fw_report.proofs.message.answered.Goals as goal
 
 pub returns-in-Ok-read_response : goal.returns-in-Ok-read_response
 returns-in-Ok-read_response c =

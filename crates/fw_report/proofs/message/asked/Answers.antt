@@ -1,6 +1,6 @@
 use Rattle.std.proofs.Common.{inl}
 use Rattle.fw_apdu.specs.View.{request_content, request_invoke}
-use Rattle.fw_report.proofs.saying.asked.Goals as goal
+use Rattle.fw_report.proofs.message.asked.Goals as goal
 
 pub returns-in-Ok-read_request : goal.returns-in-Ok-read_request
 returns-in-Ok-read_request c =

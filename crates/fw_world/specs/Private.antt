@@ -3,9 +3,9 @@ use Rattle.std.specs.Prelude.{◌≡◌, ℕ, Bool, IsTrue, cond, List, [], ◌�
 use Rattle.std.specs.Option.{option_map}
 use Rattle.fw_names.specs.Name.{Name}
 use Rattle.fw_store.specs.declared.header.Goal.{Goal}
-use Rattle.fw_image.specs.Meter.{Image, Meter, sealed}
+use Rattle.fw_image.specs.Meter.{Image, Meter, verified}
 use Rattle.fw_image.specs.State.{State}
-use Rattle.fw_meter.specs.Inside.{no_state}
+use Rattle.fw_meter.specs.Private.{no_state}
 use Rattle.fw_world.specs.declared.datagram.Direction.{Direction}
 use Rattle.fw_world.specs.declared.datagram.Direction.TheVariants.{ToHead}
 use Rattle.fw_world.specs.World.{Datagram, Activation}
@@ -36,7 +36,7 @@ IsRunning (Some image) m = image ≡ m.running
 
 -- there is room for the image that an activate would switch to
 abbrev pub HasRoom : Meter → List ℕ → Type 0
-HasRoom m room = (goal : Goal) → m.phase ≡ sealed goal → length room ≡ goal.size
+HasRoom m room = (goal : Goal) → m.phase ≡ verified goal → length room ≡ goal.size
 
 -- a datagram of this number was sent, in this direction
 abbrev pub IsSentTo : List Datagram → ℕ → Direction → Type 0

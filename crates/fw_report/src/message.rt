@@ -8,7 +8,7 @@ ghost use Rattle.fw_apdu.specs.Response.{SpellsResponse};
 ghost use Rattle.fw_apdu.specs.View.{response_content};
 ghost use Rattle.fw_server.specs.Meaning.{meaning_of};
 ghost use Rattle.fw_server.specs.View.{planned_meaning, operation_meaning};
-ghost use Rattle.fw_report.specs.Saying.{Says, SaysCarried, SaysAsk, SaysAnswer, IsBrief, NamesImage};
+ghost use Rattle.fw_report.specs.Message.{Says, SaysCarried, SaysAsk, SaysAnswer, IsShownAs, NamesImage};
 
 use fw_apdu::{ApduError, GetDataResult, Response, read_request, read_response};
 use fw_axdr::Data;
@@ -27,7 +27,7 @@ pub struct Title {
 
 /// What a datagram says, in short.
 #[derive(Clone, Copy, Debug)]
-pub enum Saying {
+pub enum Message {
     /// A GET of this attribute.
     Get(Reading),
     /// A SET of image_transfer_enabled.
@@ -43,7 +43,7 @@ pub enum Saying {
     /// An image_activate.
     Activate,
     /// The answer to a GET, by a value.
-    Got(Brief),
+    Got(ShownValue),
     /// The answer to a GET, by a code.
     GotCode(u8),
     /// The answer to a SET.
@@ -56,7 +56,7 @@ pub enum Saying {
 
 /// A value that a GET is answered by, in short.
 #[derive(Clone, Copy, Debug)]
-pub enum Brief {
+pub enum ShownValue {
     Number(u32),
     Flag(bool),
     /// image_transfer_status.
@@ -74,7 +74,7 @@ pub enum Brief {
 }
 
 /// What a datagram says.
-pub fn saying_of(alloc: Global, datagram: &Datagram) -> Result<Saying, AllocError>
+pub fn message_of(alloc: Global, datagram: &Datagram) -> Result<Message, AllocError>
     ensures { IfOk result (Says datagram.now.direction datagram.now.bytes) }
 {
     match datagram.direction {
@@ -84,46 +84,46 @@ pub fn saying_of(alloc: Global, datagram: &Datagram) -> Result<Saying, AllocErro
 }
 
 /// What a datagram to a meter says.
-pub fn asked(alloc: Global, bytes: &[u8]) -> Result<Saying, AllocError>
+pub fn asked(alloc: Global, bytes: &[u8]) -> Result<Message, AllocError>
     ensures { IfOk result (SaysCarried SpellsRequest (λ content. SaysAsk (length bytes.now) (meaning_of content)) bytes.now) }
 {
     let Ok(frame) = split(bytes) else {
-        return Ok(Saying::Unread(bytes.len()));
+        return Ok(Message::Unread(bytes.len()));
     };
     match read_request(alloc, frame.apdu) {
         Ok(request) => Ok(ask_of(plan(&request), bytes.len())),
         Err(ApduError::OutOfMemory) => Err(AllocError),
-        Err(_) => Ok(Saying::Unread(bytes.len())),
+        Err(_) => Ok(Message::Unread(bytes.len())),
     }
 }
 
 /// What a request says that asks for this, in a datagram of this size in bytes.
-fn ask_of(planned: Planned<'_>, size: usize) -> Saying
+fn ask_of(planned: Planned<'_>, size: usize) -> Message
     ensures { SaysAsk size (planned_meaning planned.entry) result }
 {
     match planned {
-        Planned::Read(attribute) => Saying::Get(attribute),
+        Planned::Read(attribute) => Message::Get(attribute),
         Planned::Operate(operation) => operation_of(operation, size),
-        Planned::Block { number, value } => Saying::Block {
+        Planned::Block { number, value } => Message::Block {
             number,
             size: value.len(),
         },
-        Planned::Refused(_) => Saying::Unread(size),
+        Planned::Refused(_) => Message::Unread(size),
     }
 }
 
 /// What a request says that asks for this operation.
-fn operation_of(operation: Operation<'_>, size: usize) -> Saying
+fn operation_of(operation: Operation<'_>, size: usize) -> Message
     ensures { SaysAsk size (operation_meaning operation.entry) result }
 {
     match operation {
-        Operation::Enable(enabled) => Saying::Enable(enabled),
+        Operation::Enable(enabled) => Message::Enable(enabled),
         Operation::Initiate { identifier, size } => match title_in(identifier) {
-            Some(title) => Saying::Initiate { title, size },
-            None => Saying::InitiateUnnamed(size),
+            Some(title) => Message::Initiate { title, size },
+            None => Message::InitiateUnnamed(size),
         },
-        Operation::Verify => Saying::Verify,
-        Operation::Activate => Saying::Activate,
+        Operation::Verify => Message::Verify,
+        Operation::Activate => Message::Activate,
     }
 }
 
@@ -141,48 +141,48 @@ fn title_in(bytes: &[u8]) -> Option<Title>
 }
 
 /// What a datagram to a head end says.
-pub fn answered(alloc: Global, bytes: &[u8]) -> Result<Saying, AllocError>
+pub fn answered(alloc: Global, bytes: &[u8]) -> Result<Message, AllocError>
     ensures { IfOk result (SaysCarried SpellsResponse SaysAnswer bytes.now) }
 {
     let Ok(frame) = split(bytes) else {
-        return Ok(Saying::Unread(bytes.len()));
+        return Ok(Message::Unread(bytes.len()));
     };
     match read_response(alloc, frame.apdu) {
         Ok(response) => Ok(answer_of(&response)),
         Err(ApduError::OutOfMemory) => Err(AllocError),
-        Err(_) => Ok(Saying::Unread(bytes.len())),
+        Err(_) => Ok(Message::Unread(bytes.len())),
     }
 }
 
 /// What a response says.
-fn answer_of(response: &Response) -> Saying
+fn answer_of(response: &Response) -> Message
     ensures { SaysAnswer (response_content response.now) result }
 {
     match response {
         Response::Get {
             result: GetDataResult::Data(value),
             ..
-        } => Saying::Got(brief_of(value)),
+        } => Message::Got(shown_of(value)),
         Response::Get {
             result: GetDataResult::Code(code),
             ..
-        } => Saying::GotCode(*code),
-        Response::Set { code, .. } => Saying::SetCode(*code),
-        Response::Action { code, .. } => Saying::ActionCode(*code),
+        } => Message::GotCode(*code),
+        Response::Set { code, .. } => Message::SetCode(*code),
+        Response::Action { code, .. } => Message::ActionCode(*code),
     }
 }
 
 /// A value in short.
-fn brief_of(value: &Data) -> Brief
-    ensures { IsBrief (value_of value.now) result }
+fn shown_of(value: &Data) -> ShownValue
+    ensures { IsShownAs (value_of value.now) result }
 {
     match value {
-        Data::DoubleLongUnsigned(number) => Brief::Number(*number),
-        Data::Boolean(flag) => Brief::Flag(*flag),
-        Data::BitString(bits) => Brief::Bits(bits.len()),
-        Data::Enumerated(status) => Brief::Status(*status),
-        Data::OctetString(octets) => octets_brief(octets.as_slice()),
-        Data::Array(elements) => Brief::Images(elements.len()),
+        Data::DoubleLongUnsigned(number) => ShownValue::Number(*number),
+        Data::Boolean(flag) => ShownValue::Flag(*flag),
+        Data::BitString(bits) => ShownValue::Bits(bits.len()),
+        Data::Enumerated(status) => ShownValue::Status(*status),
+        Data::OctetString(octets) => shown_octets(octets.as_slice()),
+        Data::Array(elements) => ShownValue::Images(elements.len()),
         Data::Null
         | Data::Structure(_)
         | Data::DoubleLong(_)
@@ -192,16 +192,16 @@ fn brief_of(value: &Data) -> Brief
         | Data::Unsigned(_)
         | Data::LongUnsigned(_)
         | Data::Long64(_)
-        | Data::Long64Unsigned(_) => Brief::Other,
+        | Data::Long64Unsigned(_) => ShownValue::Other,
     }
 }
 
 /// An octet-string in short.
-fn octets_brief(bytes: &[u8]) -> Brief
-    ensures { IsBrief (octet_string bytes.now) result }
+fn shown_octets(bytes: &[u8]) -> ShownValue
+    ensures { IsShownAs (octet_string bytes.now) result }
 {
     match title_in(bytes) {
-        Some(title) => Brief::Name(title),
-        None => Brief::Octets(bytes.len()),
+        Some(title) => ShownValue::Name(title),
+        None => ShownValue::Octets(bytes.len()),
     }
 }

@@ -1,4 +1,4 @@
-use Rattle.fw_report.proofs.saying.saying_of.Goals as goal
+use Rattle.fw_report.proofs.message.message_of.Goals as goal
 
 pub returns-in-ToMeter : goal.returns-in-ToMeter
 returns-in-ToMeter c = rw (← c.datagram.view_is, c.in-ToMeter.is) (rw c.deref.ensures.value at c.asked.ensures)
