@@ -4,7 +4,7 @@ use fw_world::World;
 
 /// Who sees the rounds of a schedule. The rounds are the same whatever it does.
 pub trait Watch {
-    /// So many rounds of all links were made, and led to this world.
+    /// N rounds of all links were made, and led to this world.
     fn round_made(&self, rounds: u32, world: &World);
 }
 

@@ -128,7 +128,7 @@ fn cut_byte(bytes: &[u8], len: usize) -> u8
 /// The first `used` bits of a byte, and zeros after them.
 fn first_bits(byte: u8, used: usize) -> u8
     requires some { 1 ≤ used }
-    requires few { used < 8 }
+    requires below { used < 8 }
     ensures { result ≡ byte - byte % 2 ^ (8 - used) }
 {
     byte - byte % (1 << (8 - used))

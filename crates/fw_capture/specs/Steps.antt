@@ -11,7 +11,7 @@ abbrev pub OpensAs : List ℕ → Result Place CaptureError → Type 0
 OpensAs capture (Ok p) = (header_at capture ≡ Ok p.format) × (p.rest ≡ drop 24 capture) × (p.offset ≡ 24)
 OpensAs capture (Err e) = (header_at capture ≡ Err e.fault) × (e.offset ≡ 0)
 
--- the place so many bytes further on
+-- the place N bytes further on
 abbrev pub after : ℕ → Place → Place
 after size p = record { format = p.format; rest = drop size p.rest; offset = p.offset + size }
 

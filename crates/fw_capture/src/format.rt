@@ -34,7 +34,7 @@ impl Format {
         if self.nano { 1_000_000_000 } else { 1_000_000 }
     }
 
-    /// The nanoseconds of so many fractions.
+    /// The nanoseconds of N fractions.
     pub(crate) fn nanoseconds(self, count: u32) -> u64
         ensures value { result ≡ count * fraction_nanoseconds self }
         ensures bound { result ≤ 1000 * count }

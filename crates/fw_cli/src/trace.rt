@@ -31,7 +31,7 @@ pub fn run_trace<R: Read, W: Write>(
     reader: &mut R,
     writer: &mut W,
 ) -> Result<(), Fault>
-    // All of the capture is told, or what stands before its first fault.
+    // All of the capture is reported, or what stands before its first fault.
     ensures ok { OnOk result (WritesTrace None (R.remaining reader.old) (R.remaining reader.new)
         (W.contents writer.old) (W.contents writer.new)) }
     ensures bad_capture { (error : CaptureError) → result ≡ Err (Fault.BadCapture error)

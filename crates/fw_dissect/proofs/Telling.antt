@@ -1,4 +1,4 @@
--- What is told of a capture as far as it has been read, one record after another.
+-- What is reported of a capture as far as it has been read, one record after another.
 use Rattle.std.proofs.Common.{◌≡◌, ℕ, ◌+◌, ◌≤◌, Bool, true, false, if◌then◌else◌, List, [], ◌∷◌, ◌++◌, length, drop, Option, Result, Ok, Err, refl, sym, ap, subst, ◌∙◌, append_assoc, append-nil, arith, length-drop}
 use Rattle.std.specs.Prelude.{nat_lt, nat_le, OnErr}
 use Rattle.std.proofs.lemmas.Bool.Decides.{nat_tests}

@@ -1,4 +1,4 @@
--- Public vocabulary: what is told of a capture. Each datagram has a line: its number, the address and the port that it came from and went to,
+-- Public vocabulary: what is reported of a capture. Each datagram has a line: its number, the address and the port that it came from and went to,
 -- and what it says. Each note has one too. Other packets have none.
 use Rattle.std.specs.Prelude.{◌≡◌, ℕ, ◌+◌, ◌==◌, ◌||◌, if◌then◌else◌, Bool, false, List, [], ◌∷◌, ◌++◌, Option, Some, None, slice_get, codes, decimal}
 use Rattle.std.specs.Net.Addr.{segments_of}

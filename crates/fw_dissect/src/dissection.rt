@@ -9,7 +9,7 @@ use crate::line::append_line;
 use fw_capture::{CaptureError, Reader};
 use std::alloc::{AllocError, Global};
 
-/// What is told of a capture.
+/// What is reported of a capture.
 #[derive(Debug, Drop)]
 pub struct Dissection {
     /// A line for each datagram, and one for each note, in the order of the capture.

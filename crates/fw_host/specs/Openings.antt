@@ -13,7 +13,7 @@ use Rattle.fw_host.specs.declared.head_opening.part.Part.{Part}
 abbrev pub listed_meters : List Listed → List ℕ
 listed_meters list = map (λ (at : Listed). at.meter) list
 
--- how many campaigns so many meters need
+-- how many campaigns N meters need
 abbrev pub campaigns_for : ℕ → ℕ
 campaigns_for count = (count + (max_meters - 1)) / max_meters
 
@@ -27,7 +27,7 @@ pub record ArePartsOf (serial : ℕ) (meters : List ℕ) (parts : List Part) : T
   pub serials : map (λ (part : Part). part.serial) parts ≡ range_with_len serial (length parts)
   pub sizes : All HasMeters parts
   pub joined : flat_map (λ (part : Part). part.meters.items) parts ≡ meters
-  pub few : length parts ≡ campaigns_for (length meters)
+  pub fewest : length parts ≡ campaigns_for (length meters)
   pub some : 1 ≤ length parts
 
 -- Why there are no campaigns for these meters: the first serial number is 0, or there are not enough from it on; there is no meter; or memory

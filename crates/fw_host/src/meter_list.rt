@@ -57,11 +57,11 @@ pub fn read_list(alloc: Global, text: &[u8]) -> Result<MeterList, Fault>
             Err(error) => return Err(stopped(&error)),
         }
     }
-    // There is no memory for so many.
+    // There is no memory for that number of meters.
     Err(Fault::OutOfMemory)
 }
 
-/// Why bytes in memory aren't read further. Only want of memory stops that, since a record may have any number of fields.
+/// Why bytes in memory aren't read further. Only out of memory stops that, since a record may have any number of fields.
 fn stopped(_error: &Error) -> Fault
     requires { stops_reader (error_kind _error.now) ≡ true }
     ensures { result ≡ Fault.OutOfMemory }

@@ -16,7 +16,7 @@ use std::io::Write;
 ///
 /// # Errors
 ///
-/// `Refused` for want of memory, and nothing was written. `Output`: the writer failed. What it holds then is unspecified.
+/// `Refused` where memory ran out, and nothing was written. `Output`: the writer failed. What it holds then is unspecified.
 pub fn write_header<W: Write>(alloc: Global, writer: &mut W) -> Result<(), RecordError>
     ensures written { OnOk result (Appends (W.contents writer.old) (W.contents writer.new) file_header) }
     ensures silent { IfErr result (λ e. e ≢ RecordError.Output → Keeps (W.contents writer.old) (W.contents writer.new)) }
@@ -33,7 +33,7 @@ pub fn write_header<W: Write>(alloc: Global, writer: &mut W) -> Result<(), Recor
 ///
 /// # Errors
 ///
-/// `Refused`, by what refuses the packet, or for want of memory, and nothing was written. `Output`, only for a packet that nothing refuses: the
+/// `Refused`, by what refuses the packet, or where memory ran out, and nothing was written. `Output`, only for a packet that nothing refuses: the
 /// writer failed. What it holds then is unspecified.
 pub fn write_record<W: Write>(
     alloc: Global,

@@ -10,9 +10,9 @@ ghost use Rattle.fw_report.specs.Trace.{TellsTrace, IsTrace, line_of, note_of, e
 ghost use Rattle.fw_report.specs.declared.message.Message.{Message};
 
 use crate::course::{Course, append_course, courses_of};
+use crate::message::{Message, ShownValue, Title, message_of};
 use crate::reason::{Reason, append_reason, reason_told, reasons_of};
 use crate::report::head_number;
-use crate::message::{ShownValue, Message, Title, message_of};
 use fw_server::Reading;
 use fw_world::{Actor, Datagram, Event, Setup};
 use std::alloc::{AllocError, Global};

@@ -66,7 +66,7 @@ IsNewLink at is_live resend link = link ≡ record {
   pause = first_pause;
 }
 
--- the row was ticked, and so many datagrams were sent
+-- the row was ticked, and this number of datagrams was sent
 abbrev pub IsSent : ℕ → ℕ → Link → Link → Type 0
 IsSent now count old new =
     new ≡ record old { turn = turns.Awaited (after now old.wait); out = count; sent_at = now; is_heard = false }

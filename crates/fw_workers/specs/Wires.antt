@@ -12,7 +12,7 @@ pub record HasLinks (setup : Setup) (given : List Event) (count : ℕ) : Type 0 
   pub runs : StateRun (opening_state setup) given world
   pub count_is : length (links setup world) ≡ count
 
--- Behind these events there is another number of links.
+-- After these events there is another number of links.
 pub record HasOtherLinks (setup : Setup) (given : List Event) (count : ℕ) : Type 0 where
   pub world : State
   pub runs : StateRun (opening_state setup) given world

@@ -20,7 +20,7 @@ impl Reads for Calls {
         match words.word()? {
             "last" => last_text(alloc, words.rest()),
             "bytes" => written_text(alloc, words.rest()),
-            _ => Err("nothing of this name is told of a book".into()),
+            _ => Err("a book has nothing of this name".into()),
         }
     }
 }
@@ -82,7 +82,7 @@ pub(crate) fn meters(alloc: Global, numbers: &str) -> Result<Vec<MeterId>, Fail>
     Ok(meters)
 }
 
-/// So many meters, whose numbers begin again from 0 after `round` of them.
+/// N meters, whose numbers begin again from 0 after `round` of them.
 pub(crate) fn first_meters(alloc: Global, count: u32, round: u32) -> Result<Vec<MeterId>, Fail> {
     let mut meters = Vec::new(alloc);
     for number in 0..count {

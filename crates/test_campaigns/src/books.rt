@@ -173,7 +173,7 @@ const PREFIXES: &str = "
 ";
 
 #[test]
-fn a_book_ends_behind_a_campaign(rt: HostRuntime) -> Result<(), Fail> {
+fn a_book_ends_after_a_campaign(rt: HostRuntime) -> Result<(), Fail> {
     each_line(rt.alloc(), &mut Bytes, PREFIXES)
 }
 

@@ -1,4 +1,4 @@
-//! Where the answers of rows are told. It takes no memory.
+//! Where the answers of rows are printed. It takes no memory.
 
 use std::alloc::Global;
 use std::fmt;

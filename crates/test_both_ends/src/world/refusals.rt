@@ -74,6 +74,6 @@ const BEHIND: &str = "
 ";
 
 #[test]
-fn events_behind_a_refused_one(rt: HostRuntime) -> Result<(), Fail> {
+fn events_after_a_refused_one(rt: HostRuntime) -> Result<(), Fail> {
     each_line(rt.alloc(), &mut Script, BEHIND)
 }
