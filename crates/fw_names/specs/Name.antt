@@ -1,5 +1,5 @@
 -- Names of firmware images: a campaign, a release, and the digest of the image.
-use Rattle.std.specs.Prelude.{◌≡◌, ℕ, ◌<◌, ◌≤◌, ◌^◌, ◌⊎◌, ◌==◌, List, ◌∷◌, ◌++◌, length, cond}
+use Rattle.std.specs.Prelude.{◌≡◌, ℕ, ◌<◌, ◌≤◌, ◌^◌, ◌⊎◌, ◌==◌, nat_le, Bool, List, ◌∷◌, ◌++◌, length, cond}
 use Rattle.std.specs.Int.{w32, to_be_bytes}
 use Rattle.sha2.specs.Sha256.{sha256}
 
@@ -39,6 +39,10 @@ pub record IsRelease (campaign : Campaign) (release : ℕ) : Type 0 where
 -- does, which is no release.
 abbrev pub IsRisen : ℕ → ℕ → Type 0
 IsRisen running release = running ≤ release
+
+-- the same as a Boolean
+abbrev pub is_risen : ℕ → ℕ → Bool
+is_risen running release = nat_le running release
 
 -- a name that has a spelling: its digest has 32 bytes
 pub record IsName (name : Name) : Type 0 where

@@ -10,6 +10,7 @@ ghost use Rattle.fw_names.specs.Name.{
   IsName,
   IsRelease,
   IsRisen,
+  is_risen,
   SpellsName,
   campaign_bytes,
   factory,
@@ -114,7 +115,8 @@ impl ImageName {
 
 /// Whether an image of a release may follow one that runs: not where its release is below that one's.
 pub fn is_risen(running: u32, release: u32) -> bool
-    ensures { IsTrue result ↔ IsRisen running release }
+    ensures value { result ≡ is_risen running release }
+    ensures meaning { IsTrue result ↔ IsRisen running release }
 {
     running <= release
 }

@@ -1,6 +1,7 @@
 -- Public vocabulary: why a meter refused an initiate that a datagram answers (IEC 62056-6-2, image_transfer_initiate; own rules of which images
 -- can be initiated).
-use Rattle.std.specs.Prelude.{◌≡◌, ℕ, ◌<◌, ◌≤◌, ◌==◌, ◌⊎◌, nat_lt, if◌then◌else◌, List, [], ◌∷◌, ◌++◌, take, length, slice_get, slice_index_or, Option, Some, None, codes, decimal}
+use Rattle.std.specs.Prelude.{◌≡◌, ℕ, ◌<◌, ◌≤◌, ◌==◌, ◌⊎◌, if◌then◌else◌, List, [], ◌∷◌, ◌++◌, take, length, slice_get, slice_index_or, Option, Some, None, codes, decimal}
+use Rattle.fw_names.specs.Name.{is_risen}
 use Rattle.fw_apdu.specs.Cosem.{other_reason}
 use Rattle.fw_image.specs.Meter.{Meter}
 use Rattle.fw_world.specs.declared.datagram.Direction.{Direction}
@@ -27,7 +28,7 @@ use Rattle.fw_report.specs.Message.{Says}
 abbrev pub reason_of_title : ℕ → Title → Reason
 reason_of_title running title =
     if title.campaign.serial == 0 then reason.Unopened
-    else (if nat_lt title.release running then reason.Below title.release running else reason.Limits)
+    else (if is_risen running title.release then reason.Limits else reason.Below title.release running)
 
 -- where a meter that runs this release refuses what it is asked for
 abbrev pub reason_of : ℕ → Message → Option Reason

@@ -13,7 +13,7 @@ ghost use Rattle.fw_report.specs.Reason.{AreReasons, HasReason, HasReasonAt, rea
 
 use crate::message::{Message, Title, asked};
 use fw_apdu::cosem;
-use fw_names::MeterId;
+use fw_names::{MeterId, is_risen};
 use fw_world::{Datagram, Direction, Event, Setup, SetupError, StepError, World};
 use std::alloc::{AllocError, Global};
 
@@ -157,13 +157,13 @@ fn reason_of_title(running: u32, title: Title) -> Reason
 {
     if title.campaign.serial() == 0 {
         Reason::Unopened
-    } else if title.release < running {
+    } else if is_risen(running, title.release) {
+        Reason::Limits
+    } else {
         Reason::Below {
             release: title.release,
             running,
         }
-    } else {
-        Reason::Limits
     }
 }
 
