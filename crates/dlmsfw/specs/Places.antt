@@ -1,6 +1,6 @@
--- What a fault of a meter or of a head end is about: its address, one of its files, or the serial number of a campaign.
+-- What a fault of a meter or of a head end is about: its address, one of its files, its capacity, or the serial number of a campaign.
 use Rattle.std.specs.Prelude.{ℕ, Option, None, Some}
-use Rattle.std.specs.Option.{option_map}
+use Rattle.std.specs.Option.{option_map, option_map_or}
 use Rattle.fw_faults.specs.declared.fault.Fault.{Fault}
 use Rattle.fw_faults.specs.declared.fault.Fault.TheVariants.{StoreFault, Device, BadFile, BadHeader, BadImage, FactoryFault, Socket, NoBook, BookExists, Locked, BookFault, BadBook, BadRecord, ForeignHead, Full, ListFault, BadList, NoAddress, ImageFault, BadSetup, OpenRefused, CancelRefused, CaptureFault, ForeignCapture}
 use Rattle.fw_cli.specs.declared.meter.MeterFault.{MeterFault}
@@ -9,7 +9,7 @@ use Rattle.dlmsfw.specs.declared.cause.BookPlace.{BookPlace}
 use Rattle.dlmsfw.specs.declared.cause.BookPlace.TheVariants.{Book, HeadListen, Meters, Image, Open, Cancel, HeadCapture}
 use Rattle.dlmsfw.specs.declared.cause.MeterPlaces.{MeterPlaces}
 use Rattle.dlmsfw.specs.declared.cause.Place.{Place}
-use Rattle.dlmsfw.specs.declared.cause.Place.TheVariants.{Listen, ListenOf, Store, StoreOf, FactoryFile, Capture}
+use Rattle.dlmsfw.specs.declared.cause.Place.TheVariants.{Listen, ListenOf, Store, StoreOf, FactoryFile, Capacity, Capture}
 
 -- where a meter listens, or the one of this number
 abbrev pub listen_of : Option ℕ → MeterPlaces → Place
@@ -21,6 +21,10 @@ abbrev pub store_of : Option ℕ → MeterPlaces → Place
 store_of None places = Store places.store
 store_of (Some number) places = StoreOf places.store number
 
+-- the file of the image that a new meter runs, or its capacity, which the image that it runs without a file doesn't fit
+abbrev pub factory_of : MeterPlaces → Place
+factory_of places = option_map_or FactoryFile places.factory_file (Capacity places.capacity)
+
 abbrev pub place_in : Fault → Option ℕ → MeterPlaces → Option Place
 place_in Socket number places = Some (listen_of number places)
 place_in StoreFault number places = Some (store_of number places)
@@ -29,6 +33,7 @@ place_in BadFile number places = Some (store_of number places)
 place_in BadHeader number places = Some (store_of number places)
 place_in BadImage number places = Some (store_of number places)
 place_in FactoryFault number places = option_map FactoryFile places.factory_file
+place_in BadSetup number places = Some (factory_of places)
 place_in CaptureFault number places = option_map Capture places.capture
 place_in ForeignCapture number places = option_map Capture places.capture
 place_in fault number places = None

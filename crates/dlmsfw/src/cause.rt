@@ -49,12 +49,13 @@ fn socket_cause(one_is_bound: bool) -> Cause
 #[error("--capture {0}")]
 pub(crate) struct CapturePlace<'a>(pub(crate) &'a str);
 
-/// The address and the files that a meter is started with.
+/// The address, the files and the capacity that a meter is started with.
 #[derive(Clone, Copy, Debug)]
 pub(crate) struct MeterPlaces<'a> {
     listen: SocketAddr,
     store: &'a str,
     factory_file: Option<&'a str>,
+    capacity: u32,
     capture: Option<&'a str>,
 }
 
@@ -64,12 +65,14 @@ impl<'a> MeterPlaces<'a> {
         ensures listen { result.listen ≡ options.now.listen }
         ensures store { result.store ≡ options.now.store }
         ensures factory_file { result.factory_file ≡ options.now.fresh.factory_file }
+        ensures capacity { result.capacity ≡ options.now.fresh.capacity }
         ensures capture { result.capture ≡ options.now.capture }
     {
         MeterPlaces {
             listen: options.listen,
             store: options.store,
             factory_file: options.fresh.factory_file,
+            capacity: options.fresh.capacity,
             capture: options.capture,
         }
     }
@@ -93,6 +96,9 @@ pub(crate) enum Place<'a> {
     /// The file of its factory image.
     #[error("--factory-file {0}")]
     FactoryFile(&'a str),
+    /// Its capacity, which the image that it runs without a file doesn't fit.
+    #[error("--capacity {0}")]
+    Capacity(u32),
     /// The file of its capture.
     #[error("--capture {0}")]
     Capture(&'a str),
@@ -116,6 +122,11 @@ pub(crate) fn place_of<'a>(ended: MeterFault, places: MeterPlaces<'a>) -> Option
             Some(file) => Some(Place::FactoryFile(file)),
             None => None,
         },
+        // The factory image is empty or longer than the capacity; without a file it isn't empty.
+        Fault::BadSetup => Some(match places.factory_file {
+            Some(file) => Place::FactoryFile(file),
+            None => Place::Capacity(places.capacity),
+        }),
         Fault::CaptureFault | Fault::ForeignCapture => Some(Place::Capture(places.capture?)),
         _ => None,
     }

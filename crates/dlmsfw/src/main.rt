@@ -49,7 +49,7 @@ enum Ending<'a> {
     Fault(Fault),
     /// A fault of the capture in this file.
     Capture(&'a str),
-    /// A fault of a meter with this address and these files, or of one of several.
+    /// A fault of a meter with this address, these files and this capacity, or of one of several.
     Meter(MeterFault, MeterPlaces<'a>),
     /// A fault of a head end with this address and these files, or of the book that is read.
     Book(Fault, BookPlaces<'a>),

@@ -65,8 +65,8 @@ const ENDINGS: &str = "\
 Exit status:
   0  none: a meter has no end of its own
   1  a fault: standard error has `dlmsfw: NAME`, with one of these names, and a second line with the
-     address or the file that it is about; with --count, FILE is FILE.K of meter K, which has the fault,
-     and after the address of the first meter stands `, meter K`
+     option that it is about; with --count, FILE is FILE.K of meter K, which has the fault, and after
+     the address of the first meter stands `, meter K`
        Socket        datagrams can't be received at --listen: another program does, it is no address
                      of this machine, or this user has no right to it; no file was made. Or the socket
                      failed 1000 times in a row later
@@ -81,7 +81,8 @@ Exit status:
        BadImage      an image in FILE, which runs or is verified, hasn't the digest of its name: its
                      bytes were changed
        FactoryFault  FILE isn't there, and the file of --factory-file can't be read
-       BadSetup      FILE isn't there, and the factory image is empty or longer than the capacity
+       BadSetup      FILE isn't there, and the factory image is empty or longer than the capacity; the
+                     second line has --factory-file where it is given, and else --capacity
        CaptureFault  CAPTURE can't be made, opened or written: another process has it, there is no
                      such folder, it is a folder, this user may not read and write it, or the disk is
                      full, as it may be at a later datagram too, which is dropped
