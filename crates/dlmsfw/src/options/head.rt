@@ -47,10 +47,12 @@ the first:
                                          the SHA-256 of its image in lower-case hexadecimal
   row HEAD SERIAL METER done             the meter claimed to run the image, and the disk has that
   row HEAD SERIAL METER failed           the row was given up, and the disk has that
-  over done D failed F                   no row is live, and so many of these lines there were
+  over done D failed F                   no row is live; in this run D rows were done, and F failed
 
-Where standard error is a terminal, it shows each second how many rows are live, done and failed, and
-how many datagrams went and came.
+Where standard error is a terminal, it shows each second how many rows are live, and how many of this run
+are done and failed; how many datagrams a second went and came (datagrams/s); and how often in this run a
+row was asked again since no answer came (resends), a datagram came from elsewhere (strangers), and the
+socket failed (faults).
 
 Example, in two terminals, an image for the meter at port 4059:
 
