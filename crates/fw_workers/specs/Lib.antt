@@ -1,4 +1,5 @@
 -- Public vocabulary: the words of public clauses, for callers and readers.
+pub mod Beginnings
 pub mod Deals
 pub mod Ends
 pub mod Recorded

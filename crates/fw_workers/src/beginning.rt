@@ -5,7 +5,7 @@ ghost use Rattle.fw_air.specs.Logs.{IsCounted};
 ghost use Rattle.fw_world.specs.Runs.{events_of};
 ghost use Rattle.fw_world.specs.Setup.{IsSetup, opening_state};
 ghost use Rattle.fw_world.specs.State.{StateRun};
-ghost use Rattle.fw_workers.specs.Deals.{AreWorkers};
+ghost use Rattle.fw_workers.specs.Beginnings.{BeginsFor};
 ghost use Rattle.fw_workers.specs.Recorded.{AreEntered};
 ghost use Rattle.fw_workers.specs.Refusals.{IsOfRounds, TellsOfEvent, of_event};
 
@@ -39,12 +39,8 @@ pub fn begin(
     ensures runs { IfOk result (λ made. StateRun (opening_state setup.now) (events_of events.now) made.world) }
     ensures entries { IfOk result (λ made. map (λ entry. entry.event) made.entries.items ≡ events_of events.now) }
     ensures counts { IfOk result (λ made. AreEntered (opening_state setup.now) made.entries.items made.world) }
-    ensures workers { OnOk result (AreWorkers workers) }
     ensures setup { OnOk result (IsSetup setup.now) }
-    ensures bad_setup { IsErrOf result RehearseError.BadSetup → AreWorkers workers → ¬ IsSetup setup.now }
-    ensures count { ¬ AreWorkers workers → IsErrOf result RehearseError.BadSetup }
-    ensures event { IfErr result (TellsOfEvent setup.now events.now) }
-    ensures made { IfErr result (λ e. e ≢ RehearseError.BadSetup → IsSetup setup.now) }
+    ensures begins { BeginsFor setup.now events.now workers result }
     ensures wireless { IfErr result (λ e. e ≢ RehearseError.Socket) }
     ensures roundless { IfErr result (λ e. ¬ IsOfRounds e) }
 {

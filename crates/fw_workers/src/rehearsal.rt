@@ -1,24 +1,11 @@
 //! A rehearsal: the rounds of a schedule, made by several workers.
 
-ghost use Rattle.std.specs.Prelude.{◌≡◌, ◌≢◌, ◌≤◌, IfOk, IfErr, OnOk, IsErrOf};
-ghost use Rattle.fw_accounts.specs.Accounts.{IsAccounted};
+ghost use Rattle.std.specs.Prelude.{◌≡◌, ◌≢◌, ◌≤◌, IfOk, IfErr, IsErrOf};
 ghost use Rattle.fw_accounts.specs.Reported.{IsReported};
 ghost use Rattle.fw_air.specs.Fates.{IsFates};
-ghost use Rattle.fw_world.specs.Headline.{
-  IsFirstName,
-  InitiatesAreOffered,
-  NamesAreOwn,
-  GoalsAreOffered,
-  ActivationsAreSafe,
-  ActivationsAreEqual,
-  ReleasesNeverFall,
-};
 ghost use Rattle.fw_world.specs.Runs.{events_of};
-ghost use Rattle.fw_world.specs.Setup.{IsSetup, opening_state};
-ghost use Rattle.fw_world.specs.State.{world_of};
-ghost use Rattle.fw_workers.specs.Deals.{AreWorkers};
+ghost use Rattle.fw_workers.specs.Beginnings.{BeginsFor};
 ghost use Rattle.fw_workers.specs.Ends.{EndsUnder};
-ghost use Rattle.fw_workers.specs.Refusals.{TellsOfEvent};
 
 use crate::beginning::{Beginning, begin};
 use crate::deal::dealt;
@@ -82,19 +69,8 @@ pub fn rehearse<R: Threads + Wait + Sync, G: Gate + Sync>(
     fates: &Fates<'_>,
     gate: &G,
 ) -> Result<Report, RehearseError>
-    ensures accounted { IfOk result (λ r. IsAccounted setup.now (events_of events.now) rounds workers r.world r.board r.receipts.items) }
-    ensures initiates { IfOk result (λ r. InitiatesAreOffered (world_of r.world)) }
-    ensures names { IfOk result (λ r. NamesAreOwn (IsFirstName (world_of (opening_state setup.now))) (world_of r.world)) }
-    ensures goals { IfOk result (λ r. GoalsAreOffered (world_of r.world)) }
-    ensures activations { IfOk result (λ r. ActivationsAreSafe (world_of r.world)) }
-    ensures equal { IfOk result (λ r. ActivationsAreEqual (world_of r.world)) }
-    ensures releases { IfOk result (λ r. ReleasesNeverFall (world_of r.world)) }
-    ensures workers { OnOk result (AreWorkers workers) }
-    ensures setup { OnOk result (IsSetup setup.now) }
-    ensures bad_setup { IsErrOf result RehearseError.BadSetup → AreWorkers workers → ¬ IsSetup setup.now }
-    ensures count { ¬ AreWorkers workers → IsErrOf result RehearseError.BadSetup }
-    ensures event { IfErr result (TellsOfEvent setup.now events.now) }
-    ensures made { IfErr result (λ e. e ≢ RehearseError.BadSetup → IsSetup setup.now) }
+    ensures reported { IfOk result (λ r. IsReported setup.now (events_of events.now) rounds workers r.world r.board r.receipts.items) }
+    ensures begins { BeginsFor setup.now events.now workers result }
     ensures wireless { IfErr result (λ e. e ≢ RehearseError.Socket) }
     ensures shut { IsErrOf result RehearseError.GateShut → G.may_shut }
 {

@@ -1,23 +1,11 @@
 //! Live rollouts: the rounds of links over wires, made by several workers.
 
 ghost use Rattle.std.specs.Prelude.{◌≡◌, ◌≢◌, ◌≤◌, length, IfOk, IfErr, OnOk, IsErrOf};
-ghost use Rattle.fw_accounts.specs.Accounts.{IsAccounted};
 ghost use Rattle.fw_accounts.specs.Reported.{IsReported};
-ghost use Rattle.fw_world.specs.Headline.{
-  IsFirstName,
-  InitiatesAreOffered,
-  NamesAreOwn,
-  GoalsAreOffered,
-  ActivationsAreSafe,
-  ActivationsAreEqual,
-  ReleasesNeverFall,
-};
 ghost use Rattle.fw_world.specs.Runs.{events_of};
-ghost use Rattle.fw_world.specs.Setup.{IsSetup, opening_state};
-ghost use Rattle.fw_world.specs.State.{world_of};
-ghost use Rattle.fw_workers.specs.Deals.{AreWorkers};
+ghost use Rattle.fw_workers.specs.Beginnings.{BeginsFor};
 ghost use Rattle.fw_workers.specs.Ends.{EndsUnder};
-ghost use Rattle.fw_workers.specs.Refusals.{IsLater, IsOfRounds, TellsOfEvent};
+ghost use Rattle.fw_workers.specs.Refusals.{IsLater, IsOfRounds};
 ghost use Rattle.fw_workers.specs.Wires.{HasLinks, HasOtherLinks};
 
 use crate::beginning::{Beginning, begin};
@@ -96,19 +84,8 @@ pub fn live_over<R: Threads + Wait + Sync, G: Gate + Sync, W: Wire + Send + Drop
     gate: &G,
     wires: Vec<(W, W)>,
 ) -> Result<Report, RehearseError>
-    ensures accounted { IfOk result (λ r. IsAccounted setup.now (events_of events.now) rounds workers r.world r.board r.receipts.items) }
-    ensures initiates { IfOk result (λ r. InitiatesAreOffered (world_of r.world)) }
-    ensures names { IfOk result (λ r. NamesAreOwn (IsFirstName (world_of (opening_state setup.now))) (world_of r.world)) }
-    ensures goals { IfOk result (λ r. GoalsAreOffered (world_of r.world)) }
-    ensures activations { IfOk result (λ r. ActivationsAreSafe (world_of r.world)) }
-    ensures equal { IfOk result (λ r. ActivationsAreEqual (world_of r.world)) }
-    ensures releases { IfOk result (λ r. ReleasesNeverFall (world_of r.world)) }
-    ensures workers { OnOk result (AreWorkers workers) }
-    ensures setup { OnOk result (IsSetup setup.now) }
-    ensures bad_setup { IsErrOf result RehearseError.BadSetup → AreWorkers workers → ¬ IsSetup setup.now }
-    ensures count { ¬ AreWorkers workers → IsErrOf result RehearseError.BadSetup }
-    ensures event { IfErr result (TellsOfEvent setup.now events.now) }
-    ensures made { IfErr result (λ e. e ≢ RehearseError.BadSetup → IsSetup setup.now) }
+    ensures reported { IfOk result (λ r. IsReported setup.now (events_of events.now) rounds workers r.world r.board r.receipts.items) }
+    ensures begins { BeginsFor setup.now events.now workers result }
     ensures wires { OnOk result (HasLinks setup.now (events_of events.now) (length wires.items)) }
     ensures socket { IsErrOf result RehearseError.Socket → HasOtherLinks setup.now (events_of events.now) (length wires.items) }
     ensures rounds { IfErr result (λ e. IsOfRounds e → HasLinks setup.now (events_of events.now) (length wires.items)) }
@@ -142,19 +119,8 @@ pub fn live<R: Threads + Wait + Net + Sync, G: Gate + Sync>(
     workers: u32,
     gate: &G,
 ) -> Result<Report, RehearseError>
-    ensures accounted { IfOk result (λ r. IsAccounted setup.now (events_of events.now) rounds workers r.world r.board r.receipts.items) }
-    ensures initiates { IfOk result (λ r. InitiatesAreOffered (world_of r.world)) }
-    ensures names { IfOk result (λ r. NamesAreOwn (IsFirstName (world_of (opening_state setup.now))) (world_of r.world)) }
-    ensures goals { IfOk result (λ r. GoalsAreOffered (world_of r.world)) }
-    ensures activations { IfOk result (λ r. ActivationsAreSafe (world_of r.world)) }
-    ensures equal { IfOk result (λ r. ActivationsAreEqual (world_of r.world)) }
-    ensures releases { IfOk result (λ r. ReleasesNeverFall (world_of r.world)) }
-    ensures workers { OnOk result (AreWorkers workers) }
-    ensures setup { OnOk result (IsSetup setup.now) }
-    ensures bad_setup { IsErrOf result RehearseError.BadSetup → AreWorkers workers → ¬ IsSetup setup.now }
-    ensures count { ¬ AreWorkers workers → IsErrOf result RehearseError.BadSetup }
-    ensures event { IfErr result (TellsOfEvent setup.now events.now) }
-    ensures made { IfErr result (λ e. e ≢ RehearseError.BadSetup → IsSetup setup.now) }
+    ensures reported { IfOk result (λ r. IsReported setup.now (events_of events.now) rounds workers r.world r.board r.receipts.items) }
+    ensures begins { BeginsFor setup.now events.now workers result }
     ensures socket { IsErrOf result RehearseError.Socket → HasOtherLinks setup.now (events_of events.now) 0 }
     ensures shut { IsErrOf result RehearseError.GateShut → G.may_shut }
 {

@@ -6,4 +6,4 @@ returns-clause-ok g c =
     let options = c.args.options.now in
     let report = c.in_ok-report.report in
     tells options.trace options.rounds options.workers c.args.setup.now c.args.events.now report.world report.board report.receipts.items _
-    c.in_ok-report.ensures.accounted c.in_ok-text.ensures
+    c.in_ok-report.ensures.reported.accounted c.in_ok-text.ensures

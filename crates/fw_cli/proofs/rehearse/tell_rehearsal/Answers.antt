@@ -5,4 +5,4 @@ pub returns-clause-ok : goal.returns-clause-ok
 returns-clause-ok g c =
     let report = c.in_ok-report.report in
     tells c.args.trace c.args.air.now.rounds c.args.workers c.args.setup.now c.args.events.now report.world report.board report.receipts.items _
-    c.in_ok-report.ensures.accounted c.in_ok-text.ensures
+    c.in_ok-report.ensures.reported.accounted c.in_ok-text.ensures
