@@ -109,6 +109,8 @@ class Meter:
 
     def kill(self):
         """Kills it, at whatever it does, and returns the lines that it printed after the first. It may not have ended by itself."""
+        if self.process.stdout.closed:
+            return self.lines
         self.process.kill()
         status = self.process.wait()
         self.reader.join()
@@ -195,6 +197,15 @@ class HeadEnd:
         wants((status, said) == (0, []), f"the head end ends with {status} and {said}")
         return lines
 
+    @contextlib.contextmanager
+    def running(self):
+        """Has it run no longer than it is needed."""
+        try:
+            yield self
+        finally:
+            self.process.kill()
+            self.process.wait()
+
 
 def status_of(folder, form):
     """What `status` prints of the book in a folder."""
@@ -207,8 +218,9 @@ def status_of(folder, form):
 class Fleet:
     """Meters in processes of their own, and the list of them. Each has an address of its own, which it keeps where it is killed."""
 
-    def __init__(self, folder, count=4, host="127.0.0.1"):
-        self.folder, self.count = folder, count
+    def __init__(self, folder, count=4, host="127.0.0.1", words=("--block-size", "1024", "--capacity", "65536")):
+        folder.mkdir(exist_ok=True)
+        self.folder, self.count, self.words = folder, count, words
         self.meters = {number: self.start(number, f"{host}:0") for number in range(1, count + 1)}
         self.addresses = {number: f"{host}:{meter.address[1]}" for number, meter in self.meters.items()}
         self.list(self.addresses)
@@ -217,25 +229,21 @@ class Fleet:
         """Writes the list of the head end, with these addresses."""
         (self.folder / "meters.csv").write_text("".join(f"{number},{at}\n" for number, at in addresses.items()))
 
-    def words(self, number):
-        """The options of a new meter."""
-        return ["--block-size", "1024", "--capacity", "65536"]
-
     def start(self, number, listen, env=None):
         """Starts a meter."""
-        return Meter(self.folder / f"{number}.fw", *self.words(number), listen=listen, env=env)
+        return Meter(self.folder / f"{number}.fw", *self.words, listen=listen, env=env)
 
     def restart(self, number, env=None):
         """Kills a meter and starts it again."""
         self.meters[number].kill()
         self.meters[number] = self.start(number, self.addresses[number], env)
 
-    def replace(self, number):
+    def replace(self, number, env=None):
         """Kills a meter, and puts a new one in its place, at the same address."""
         self.meters[number].kill()
         for name in (f"{number}.fw", f"{number}.fw.journal"):
             (self.folder / name).unlink()
-        self.meters[number] = self.start(number, self.addresses[number])
+        self.restart(number, env)
 
     def running(self, number):
         """The name of the image that a meter runs, as its answer has it."""
