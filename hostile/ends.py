@@ -17,6 +17,9 @@ SMALL = ["--block-size", "2", "--capacity", "64"]
 GET_STATUS = "000100010001000dc001c1001200002c0000ff0600"
 GET_NAME = "000100010001000dc001c100010100000200ff0200"
 STATUS = "0001000100010006c401c10016%02x"
+# A SET of image_transfer_enabled to true, and the reply to it that the store failed.
+SET_ENABLED = "000100010001000fc101c1001200002c0000ff05000301"
+ANSWERS_FAULT = "0001000100010004c501c101"
 # How long a reply may take, and how long none is waited for.
 LONG, SHORT = 20, 0.3
 # The seconds between two lines of a meter about what it dropped, and some more.
@@ -142,7 +145,7 @@ def action(method, parameter):
 def transfer(image, serial=1):
     """The datagrams that bring an image in blocks of 1024 bytes, up to the last block."""
     name = f"01{7:08x}{serial:08x}{hashlib.sha256(image).hexdigest()}"
-    yield "000100010001000fc101c1001200002c0000ff05000301"
+    yield SET_ENABLED
     yield action(1, f"02020929{name}06{len(image):08x}")
     for at in range(0, len(image), 1024):
         block = image[at:at + 1024]
