@@ -194,9 +194,9 @@ class HeadEnd:
             raise Failed(f"it doesn't end, and printed {lines[-3:]}") from None
         return self.process.returncode, out.splitlines(), (said or "").splitlines()
 
-    def over(self):
+    def over(self, patience=60):
         """Waits until it ends by itself, with status 0 and nothing on standard error, and returns the lines that it printed."""
-        status, lines, said = self.end()
+        status, lines, said = self.end(patience)
         wants((status, said) == (0, []), f"the head end ends with {status} and {said}")
         return lines
 
@@ -221,9 +221,11 @@ def status_of(folder, form):
 class Fleet:
     """Meters in processes of their own, and the list of them. Each has an address of its own, which it keeps where it is killed."""
 
-    def __init__(self, folder, count=4, host="127.0.0.1", words=("--block-size", "1024", "--capacity", "65536")):
+    def __init__(self, folder, count=4, host="127.0.0.1", words=("--block-size", "1024", "--capacity", "65536"), heads=None):
         folder.mkdir(exist_ok=True)
         self.folder, self.count, self.words = folder, count, words
+        # The address that may ask each besides who asks here, where not any may.
+        self.asker, self.heads = Head(host.strip("[]")), heads or {}
         self.meters = {number: self.start(number, f"{host}:0") for number in range(1, count + 1)}
         self.addresses = {number: f"{host}:{meter.address[1]}" for number, meter in self.meters.items()}
         self.list(self.addresses)
@@ -234,7 +236,8 @@ class Fleet:
 
     def start(self, number, listen, env=None):
         """Starts a meter."""
-        return Meter(self.folder / f"{number}.fw", *self.words, listen=listen, env=env)
+        head = ["--head", self.heads[number], "--head", self.asker.address()] if number in self.heads else []
+        return Meter(self.folder / f"{number}.fw", *self.words, *head, listen=listen, env=env)
 
     def restart(self, number, env=None):
         """Kills a meter and starts it again."""
@@ -250,7 +253,7 @@ class Fleet:
 
     def running(self, number):
         """The name of the image that a meter runs, as its answer has it."""
-        return Head(self.meters[number].address[0]).ask_until(self.meters[number], GET_NAME)
+        return self.asker.ask_until(self.meters[number], GET_NAME)
 
     def run(self, image):
         """Whether each meter runs this image."""
@@ -269,6 +272,52 @@ class Fleet:
                 meter.process.kill()
             for meter in self.meters.values():
                 meter.kill()
+
+
+class Relay(threading.Thread):
+    """Stands between a head end and the meters of a fleet, and has two sockets for each of these: at the front one it is the meter, and at the
+    back one the head end. It calls what it is given with each datagram that it passed on."""
+
+    def __init__(self, count, passed):
+        super().__init__(daemon=True)
+        self.fronts, self.backs = ({number: Head().socket for number in range(1, count + 1)} for _ in range(2))
+        self.passed, self.meters, self.head, self.open = passed, {}, None, True
+
+    def heads(self):
+        """The address that asks each meter."""
+        return {number: f"127.0.0.1:{back.getsockname()[1]}" for number, back in self.backs.items()}
+
+    @contextlib.contextmanager
+    def running(self, fleet):
+        """Passes datagrams between the meters of a fleet and its head end, which gets the list of the relay's addresses."""
+        self.meters = {number: meter.address for number, meter in fleet.meters.items()}
+        fleet.list({number: f"127.0.0.1:{front.getsockname()[1]}" for number, front in self.fronts.items()})
+        self.start()
+        try:
+            yield self
+        finally:
+            self.open = False
+            self.join()
+
+    def run(self):
+        poll = select.epoll()
+        at = {}
+        for number in self.fronts:
+            for one in (self.fronts[number], self.backs[number]):
+                poll.register(one, select.EPOLLIN)
+                at[one.fileno()] = number, one
+        while self.open:
+            for file, _ in poll.poll(0.1):
+                number, one = at[file]
+                data, sender = one.recvfrom(65535)
+                is_asked = one is self.fronts[number]
+                if is_asked:
+                    self.head = sender
+                    self.backs[number].sendto(data, self.meters[number])
+                else:
+                    self.fronts[number].sendto(data, self.head)
+                self.passed(self, data, is_asked)
+        poll.close()
 
 
 def opening(folder, image, serial=1):
