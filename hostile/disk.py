@@ -108,11 +108,16 @@ def changed(content, changes):
 # ---- programs whose calls are recorded
 
 
+def library_of(folder, name):
+    """What can be preloaded to a program, of a source file here."""
+    made = folder / f"{name}.so"
+    subprocess.run(["cc", "-O2", "-shared", "-fPIC", "-o", made, HOSTILE / f"{name}.c"], check=True)
+    return made
+
+
 def recorder(folder):
     """What records the calls of a program that it is preloaded to."""
-    made = folder / "record.so"
-    subprocess.run(["cc", "-O2", "-shared", "-fPIC", "-o", made, HOSTILE / "record.c"], check=True)
-    return made
+    return library_of(folder, "record")
 
 
 def recorded(record):

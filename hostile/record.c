@@ -1,24 +1,28 @@
 /* Records the calls by which a program changes files: preloaded, it writes a line for each that was done into the file RECORD, with the
  * bytes in hexadecimal. So it does for what is to be written to standard output. Where FAIL is a number, the call with that number and
- * all later ones are refused, as on a full disk, except those to standard output. hostile/power and hostile/book compile and use it;
- * nothing of the product does. */
+ * all later ones are refused, as on a full disk, except those to standard output. Where KILL is a number, the program is killed before
+ * the call with that number, and datagrams, lines and what is taken away count as calls too. hostile/power, hostile/book and
+ * hostile/daemons compile and use it; nothing of the product does. */
 #define _GNU_SOURCE
 #include <errno.h>
 #include <fcntl.h>
+#include <signal.h>
 #include <stdarg.h>
 #include <stdio.h>
 #include <stdlib.h>
 #include <string.h>
+#include <sys/socket.h>
 #include <sys/stat.h>
 #include <sys/syscall.h>
 #include <unistd.h>
 
 static int record = -1;
-static unsigned long calls, fails;
+static unsigned long calls, fails, acts, kills;
 
 __attribute__((constructor)) static void begin(void) {
-    const char *path = getenv("RECORD"), *at = getenv("FAIL");
+    const char *path = getenv("RECORD"), *at = getenv("FAIL"), *last = getenv("KILL");
     fails = at ? strtoul(at, NULL, 10) : 0;
+    kills = last ? strtoul(last, NULL, 10) : 0;
     if (!path) return;
     int file = syscall(SYS_openat, AT_FDCWD, path, O_WRONLY | O_CREAT | O_TRUNC, 0600);
     record = fcntl(file, F_DUPFD_CLOEXEC, 100);
@@ -41,7 +45,12 @@ static void tell(const char *word, long a, long b, const void *bytes, size_t siz
     free(line);
 }
 
+static void act(void) {
+    if (++acts == kills) syscall(SYS_kill, getpid(), SIGKILL);
+}
+
 static int is_refused(void) {
+    act();
     calls++;
     if (!fails || calls < fails) return 0;
     tell("refused", calls, 0, "", 0);
@@ -101,6 +110,7 @@ int rename(const char *from, const char *to) {
 }
 /* What is taken away makes room: it is never refused. */
 int unlink(const char *path) {
+    act();
     int done = syscall(SYS_unlinkat, AT_FDCWD, path, 0);
     if (!done) tell("unlink", 0, 0, path, strlen(path));
     return done;
@@ -108,6 +118,12 @@ int unlink(const char *path) {
 
 /* (told before it is done: who reads the line may end the program at once) */
 ssize_t write(int file, const void *bytes, size_t size) {
+    act();
     if (file == 1 && size > 0) tell("print", file, 0, bytes, size);
     return syscall(SYS_write, file, bytes, size);
+}
+
+ssize_t sendto(int file, const void *bytes, size_t size, int flags, const struct sockaddr *to, socklen_t length) {
+    act();
+    return syscall(SYS_sendto, file, bytes, size, flags, to, length);
 }
