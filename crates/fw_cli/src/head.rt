@@ -171,7 +171,7 @@ fn set_up<R: Files<File = File> + Net>(
     ensures asked { IfErr result (IsAskedFor options.now) }
     ensures faults { IfErr result IsOfHeadSetup }
 {
-    let list = list_of_file(rt, alloc, options.meters)?;
+    let list = list_of_file(rt, alloc, options.meters, options.listen)?;
     let opened = match options.opening {
         None => None,
         Some(opening) => Some(opened_of(rt, alloc, opening, list.meters())?),
@@ -205,16 +205,17 @@ fn led_head<F: Files<File = File>>(
     Ok(kept)
 }
 
-/// The meters of the list in a file.
-fn list_of_file<F: Files<File = File>>(
+/// The meters of the list in a file, for a head end at this address.
+fn list_of_file<F: Files<File = File> + Net>(
     rt: &F,
     alloc: Global,
     path: &str,
+    own: SocketAddr,
 ) -> Result<MeterList, Fault>
     ensures faults { IfErr result IsOfList }
 {
     let text = bytes_of_file(rt, alloc, path, Fault::ListFault, Fault::ListFault)?;
-    read_list(alloc, &text)
+    read_list(rt, alloc, &text, own)
 }
 
 /// The campaigns of an opening for the meters of a list, with the image of its file.

@@ -1,6 +1,6 @@
 -- The meters of a list: records of comma-separated values, and their fields.
 use Rattle.std.proofs.Common.{Bor, ◌≡◌, ℕ, zero, suc, ◌<◌, Bool, true, false, List, [], ◌∷◌, ◌++◌, length, Option, Some, None, refl, sym, ap, subst, ◌∙◌, arith, inl, inr, append_assoc}
-use Rattle.std.specs.Prelude.{◌⊎◌, IsUtf8, if◌then◌else◌}
+use Rattle.std.specs.Prelude.{◌⊎◌, IsUtf8, MatchOption, if◌then◌else◌}
 use Rattle.std.specs.declared.net.socket_addr.SocketAddr.{SocketAddr}
 use Rattle.std.proofs.lemmas.Bool.{false≢true}
 use Rattle.csv.specs.Machine.{Read, ends_at_end, field_after, fields_after, is_end, next_record, step}
@@ -19,7 +19,7 @@ use Rattle.std.specs.Net.Grammar.{IsSocketText}
 use Rattle.std.specs.Str.Parse.{digits_value, without_leading_plus}
 use Rattle.std.proofs.NetLemmas.Theorems.{IsSocketText_unique}
 use Rattle.csv.specs.Records.{AllText, field_at}
-use Rattle.fw_host.specs.Lists.{IsNoList, SpellsAll, SpellsList, SpellsListed, SpellsNumber}
+use Rattle.fw_host.specs.Lists.{IsAddressOf, IsNoAddress, IsNoList, NamesHost, SpellsAll, SpellsList, SpellsListed, SpellsNumber}
 
 -- ---- records
 
@@ -90,7 +90,7 @@ all_text number address a b = (a, (b, tt))
 
 pub spells_listed : (fields : List (List ℕ)) (number address : List ℕ) (at : Listed) → length fields ≡ 2
     → (field_at fields 0 ≡ Some number) × IsUtf8 number → (field_at fields 1 ≡ Some address) × IsUtf8 address
-    → SpellsNumber number at.meter → IsSocketText address at.address → SpellsListed fields at
+    → SpellsNumber number at.meter → IsAddressOf address at.address → SpellsListed fields at
 spells_listed fields number address at two first second is_number is_address =
     let same = two_fields fields number address two first.0 second.0 in
     record {
@@ -112,7 +112,7 @@ pub record HasFields (fields : List (List ℕ)) (at : Listed) : Type 0 where
   pub number_is_text : IsUtf8 number
   pub address_is_text : IsUtf8 address
   pub is_number : SpellsNumber number at.meter
-  pub is_address : IsSocketText address at.address
+  pub is_address : IsAddressOf address at.address
 
 pub has_fields : (fields : List (List ℕ)) (at : Listed) → SpellsListed fields at → HasFields fields at
 unfolding AllText field_at
@@ -137,14 +137,44 @@ same_listed : (a b : Listed) → a.meter ≡ b.meter → a.address ≡ b.address
 unfolding listed_of
 same_listed a b meter address = ap (λ n. listed_of n a.address) meter ∙ ap (listed_of b.meter) address
 
--- a line spells one meter at most
-pub one_listed : (fields : List (List ℕ)) (a b : Listed) → SpellsListed fields a → SpellsListed fields b → a ≡ b
-one_listed fields a b x y =
+-- where a text spells an address, it gives that one alone
+one_address : (text : List ℕ) (a b : SocketAddr) → IsSocketText text a → IsAddressOf text b → a ≡ b
+one_address text a b spells (inl other) = IsSocketText_unique text a b spells other
+one_address text a b spells (inr none) = absurd (none a spells)
+
+one_listed : (fields : List (List ℕ)) (a b : Listed) (x : SpellsListed fields a) → IsSocketText x.address a.address → SpellsListed fields b → a ≡ b
+one_listed fields a b x spells y =
     let same : x.number ∷ x.address ∷ [] ≡ y.number ∷ y.address ∷ [] = sym x.two ∙ y.two in
     let numbers : x.number ≡ y.number = cc same in
     let addresses : x.address ≡ y.address = cc same in
     same_listed a b (x.is_number.value ∙ ap (λ text. digits_value 10 (without_leading_plus text)) numbers ∙ sym y.is_number.value)
-    (IsSocketText_unique y.address a.address b.address (subst (λ text. IsSocketText text a.address) addresses x.is_address) y.is_address)
+    (one_address y.address a.address b.address (subst (λ text. IsSocketText text a.address) addresses spells) y.is_address)
+
+one_or_host : (fields : List (List ℕ)) (a : Listed) (x : SpellsListed fields a) → IsAddressOf x.address a.address
+    → NamesHost fields ⊎ ((b : Listed) → SpellsListed fields b → a ≡ b)
+one_or_host fields a x (inl spells) = inr (λ b y. one_listed fields a b x spells y)
+one_or_host fields a x (inr none) = inl (record { number = x.number; address = x.address; two = x.two; named = none })
+
+-- a line spells one meter at most, or names a host
+pub one_listed_or_host : (fields : List (List ℕ)) (a : Listed) → SpellsListed fields a → NamesHost fields ⊎ ((b : Listed) → SpellsListed fields b → a ≡ b)
+one_listed_or_host fields a x = one_or_host fields a x x.is_address
+
+-- a text that spells no address, and what the system has for it
+pub looked_up : (text : List ℕ) (found : Option SocketAddr) → IsNoAddress text → MatchOption found (IsNoAddress text) (IsAddressOf text)
+looked_up text None none = none
+looked_up text (Some address) none = inr none
+
+-- no meter can be added that the line spells, if it names no host
+pub none_added : (fields : List (List ℕ)) (meters : List Listed) (a : Listed) → NamesHost fields ⊎ ((b : Listed) → SpellsListed fields b → a ≡ b)
+    → ¬ IsList (meters ++ a ∷ []) → NamesHost fields ⊎ ((at : Listed) → SpellsListed fields at → ¬ IsList (meters ++ at ∷ []))
+none_added fields meters a (inl host) twice = inl host
+none_added fields meters a (inr one) twice = inr (λ at spells is_list. twice (subst (λ (l : Listed). IsList (meters ++ l ∷ [])) (sym (one at spells)) is_list))
+
+-- a line that spells no meter
+pub none_spelled : (fields : List (List ℕ)) (meters : List Listed) → NamesHost fields ⊎ ((at : Listed) → ¬ SpellsListed fields at)
+    → NamesHost fields ⊎ ((at : Listed) → SpellsListed fields at → ¬ IsList (meters ++ at ∷ []))
+none_spelled fields meters (inl host) = inl host
+none_spelled fields meters (inr none) = inr (λ at spells is_list. none at spells)
 
 -- ---- the list so far
 
@@ -199,7 +229,7 @@ list_read text a b meters fields is read = record {
 }
 
 pub no_list : (text : List ℕ) (a b : Reader (Bor (List ℕ))) (meters : List Listed) (fields : List (List ℕ)) → IsRead text a meters
-    → ReadRecord (λ (s : Bor (List ℕ)). Some s.now) a b true fields → ((at : Listed) → SpellsListed fields at → ¬ IsList (meters ++ at ∷ [])) → IsNoList text
+    → ReadRecord (λ (s : Bor (List ℕ)). Some s.now) a b true fields → NamesHost fields ⊎ ((at : Listed) → SpellsListed fields at → ¬ IsList (meters ++ at ∷ [])) → IsNoList text
 no_list text a b meters fields is read none =
     let (left, source, reached) = rows-more (λ (s : Bor (List ℕ)). Some s.now) a b fields default_config st.StartRecord (strip_bom text) is.left is.records is.config is.source is.reached read in
     let (rest, (last, behind, more, end)) = all_records default_config b.state left in

@@ -7,7 +7,7 @@ use Rattle.fw_host.proofs.meter_list.read_list.Goals as goal
 
 pub loop-init : goal.loop-init
 unfolding Reached
-loop-init c =
+loop-init g c =
     let from = c.from_reader-reader.ensures in
     let built = c.flexible.ensures in
     let headers = c.has_headers.ensures in
@@ -25,7 +25,7 @@ loop-init c =
     }
 
 pub loop-preserved : goal.loop-preserved
-loop-preserved c =
+loop-preserved g c =
     let is = c.loop.invariant in
     let reads = c.in-Ok-true.ensures.reads is.trim is.ready in
     let read = rw c.in-Ok-true.field-0-test at reads in
@@ -33,7 +33,7 @@ loop-preserved c =
     (c.in-Ok-true.ensures.ready is.trim) c.in-Ok-true.ensures.flexible c.in_ok-take-in-Ok-true.ensures.once c.in_ok-take-in-Ok-true.ensures.taken
 
 pub returns-in_err-take-in-Ok-true-clause-bad_list : goal.returns-in_err-take-in-Ok-true-clause-bad_list
-returns-in_err-take-in-Ok-true-clause-bad_list c = λ line e.
+returns-in_err-take-in-Ok-true-clause-bad_list g c = λ line e.
     let is = c.loop.invariant in
     let reads = c.in-Ok-true.ensures.reads is.trim is.ready in
     let read = rw c.in-Ok-true.field-0-test at reads in
@@ -41,13 +41,13 @@ returns-in_err-take-in-Ok-true-clause-bad_list c = λ line e.
     no_list _ c.loop.reader c.read_byte_record.new.self c.loop.meters (fields_of c.read_byte_record.new.row) is read (c.take.ensures.bad_list line bad)
 
 pub returns-in-Ok-false-clause-ok : goal.returns-in-Ok-false-clause-ok
-returns-in-Ok-false-clause-ok c =
+returns-in-Ok-false-clause-ok g c =
     let is = c.loop.invariant in
     let reads = c.in-Ok-false.ensures.reads is.trim is.ready in
     let read = rw c.in-Ok-false.field-0-test at reads in
     list_read _ c.loop.reader c.read_byte_record.new.self c.loop.meters (fields_of c.read_byte_record.new.row) is read
 
 pub stopped-requires : goal.stopped-requires
-stopped-requires c =
+stopped-requires g c =
     let is = c.loop.invariant in
     read_stops c.loop.reader c.read_byte_record.new.self _ (c.in-Err.ensures.why is.ready) is.flexible
