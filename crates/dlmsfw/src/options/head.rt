@@ -19,8 +19,10 @@ Runs a head end that leads meters over UDP to the images that they are offered, 
 is live. It may be ended at any moment, and goes on there when it is run again.
 
 The meters are in LIST, comma-separated values without a header line: a line has the number of a meter
-and its address, as `1,127.0.0.1:4059` or `2,[::1]:4060`, each number and each address once. A datagram
-from elsewhere is dropped, and one from an address of the list is taken for that meter's.
+and its address, as `1,127.0.0.1:4059` or `2,[::1]:4060`, each number and each address once. A name may
+stand for an address, as in `3,meter.example:4061`: it is looked up once, when LIST is read, and its first
+address of the family of --listen is taken, IPv4 or IPv6. A datagram from elsewhere is dropped, and one
+from an address of the list is taken for that meter's.
 
 The book of the head end is in FILE of --book, and stays there for the next run. It is made with --new,
 and only where no such file is there: as FILE.new, which is named FILE once it is whole. So is a shorter
@@ -70,7 +72,8 @@ Exit status:
      option that it is about
        ListFault       LIST can't be opened or read
        BadList L       line L of LIST, counted from 1, has no meter's number and address, or a number
-                       or an address that an earlier line has
+                       or an address that an earlier line has, or a name that has no address of the
+                       family of --listen
        ImageFault      the file of --image can't be opened or read
        BadSetup        the campaigns need serial numbers above 4294967295
        Socket          datagrams can't be received at --listen: another program does, it is no address
