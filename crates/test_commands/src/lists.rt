@@ -8,6 +8,7 @@ use std::test::Fail;
 use test_tables::{Reads, each_line};
 
 /// Reads a list, whose bytes are as `script_of` has them: its meters, each with its address, or the fault.
+#[derive(Drop)]
 struct Lists<'a, N: Net> {
     net: &'a N,
 }
