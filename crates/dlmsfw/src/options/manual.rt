@@ -84,34 +84,34 @@ fn argument<'a>(alloc: Global, option: &'static CommandOption) -> Result<Arg<'a>
 /// The parser of an option that takes what this one does.
 fn taking<'a>(argument: Arg<'a>, option: &'static CommandOption) -> Arg<'a> {
     match option.takes {
-        Takes::Nothing => argument.long(option.name).action(ArgAction::SetTrue),
-        Takes::Text(value) => argument.long(option.name).value_name(value),
-        Takes::Texts(value) => {
-            argument
-                .long(option.name)
-                .value_name(value)
-                .action(ArgAction::Append)
-        }
+        Takes::Nothing => flag(argument, option.name),
         Takes::Argument(value) => argument.value_name(value),
-        Takes::OneOf(value, texts) => {
-            argument
-                .long(option.name)
-                .value_name(value)
-                .value_parser(texts)
-        }
-        Takes::Number(value) => {
-            let parser = clap::value_parser!(u64);
-            argument
-                .long(option.name)
-                .value_name(value)
-                .value_parser(parser)
-        }
+        Takes::Text(value) => valued(argument, option.name, value),
+        Takes::Texts(value) => valued(argument, option.name, value).action(ArgAction::Append),
+        Takes::OneOf(value, texts) => valued(argument, option.name, value).value_parser(texts),
+        Takes::Number(value) => number(valued(argument, option.name, value)),
         Takes::Within(value, least, most) => {
-            let parser = clap::value_parser!(u32).range(i64::from(least)..=i64::from(most));
-            argument
-                .long(option.name)
-                .value_name(value)
-                .value_parser(parser)
+            number_within(valued(argument, option.name, value), least, most)
         }
     }
+}
+
+/// The parser of an option of this name without a value.
+fn flag<'a>(argument: Arg<'a>, name: &'static str) -> Arg<'a> {
+    argument.long(name).action(ArgAction::SetTrue)
+}
+
+/// The parser of an option of this name, whose value has that name in the help.
+fn valued<'a>(argument: Arg<'a>, name: &'static str, value: &'static str) -> Arg<'a> {
+    argument.long(name).value_name(value)
+}
+
+/// The same, where the value is a number of at most 64 bits.
+fn number(argument: Arg<'_>) -> Arg<'_> {
+    argument.value_parser(clap::value_parser!(u64))
+}
+
+/// The same, where the value is a number from the first to the second.
+fn number_within(argument: Arg<'_>, least: u32, most: u32) -> Arg<'_> {
+    argument.value_parser(clap::value_parser!(u32).range(i64::from(least)..=i64::from(most)))
 }
