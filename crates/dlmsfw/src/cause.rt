@@ -5,18 +5,29 @@ ghost use Rattle.dlmsfw.specs.Places.{book_place_of, place_of};
 
 use fw_cli::{HeadOptions, MeterFault, MeterOptions, StatusOptions};
 use fw_faults::Fault;
+use std::fmt;
 use std::net::{Ipv4Addr, Net, SocketAddr, UdpSocket};
-use thiserror::Error;
 
 /// Why no wires could be made. It prints what the user reads after the fault's name.
-#[derive(Clone, Copy, Debug, PartialEq, Eq, Error)]
+#[derive(Clone, Copy)]
 pub(crate) enum Cause {
     /// One socket can be bound, so the system refuses the number of them.
-    #[error("too many open files: each link takes two sockets; ulimit -n prints how many open files a process may have")]
     TooManySockets,
     /// Not even one socket can be bound.
-    #[error("no socket can be bound on 127.0.0.1: this system may have no loopback address, or the user no right to it")]
     NoLoopback,
+}
+
+impl fmt::Display for Cause {
+    fn fmt<W: fmt::Write>(&self, f: &mut fmt::Formatter<W>) -> fmt::Result {
+        f.write_str(match self {
+            Cause::TooManySockets => {
+                "too many open files: each link takes two sockets; ulimit -n prints how many open files a process may have"
+            }
+            Cause::NoLoopback => {
+                "no socket can be bound on 127.0.0.1: this system may have no loopback address, or the user no right to it"
+            }
+        })
+    }
 }
 
 /// The cause of a fault, as the system shows it once the command has ended and its sockets are closed. Only `Socket` has one.
@@ -45,12 +56,17 @@ fn socket_cause(one_is_bound: bool) -> Cause
 }
 
 /// The file of a capture, as what a fault is about.
-#[derive(Clone, Copy, Debug, Error)]
-#[error("--capture {0}")]
+#[derive(Clone, Copy)]
 pub(crate) struct CapturePlace<'a>(pub(crate) &'a str);
 
+impl fmt::Display for CapturePlace<'_> {
+    fn fmt<W: fmt::Write>(&self, f: &mut fmt::Formatter<W>) -> fmt::Result {
+        write!(f, "--capture {}", self.0)
+    }
+}
+
 /// The address, the files and the capacity that a meter is started with.
-#[derive(Clone, Copy, Debug)]
+#[derive(Clone, Copy)]
 pub(crate) struct MeterPlaces<'a> {
     listen: SocketAddr,
     store: &'a str,
@@ -79,29 +95,36 @@ impl<'a> MeterPlaces<'a> {
 }
 
 /// What a fault of a meter is about.
-#[derive(Clone, Copy, Debug, Error)]
+#[derive(Clone, Copy)]
 pub(crate) enum Place<'a> {
     /// The address that it listens at.
-    #[error("--listen {0}")]
     Listen(SocketAddr),
     /// The address that the first meter listens at, and the number of the one that is meant.
-    #[error("--listen {0}, meter {1}")]
     ListenOf(SocketAddr, u32),
     /// The file that has it.
-    #[error("--store {0}")]
     Store(&'a str),
     /// The file that has the meter of this number.
-    #[error("--store {0}.{1}")]
     StoreOf(&'a str, u32),
     /// The file of its factory image.
-    #[error("--factory-file {0}")]
     FactoryFile(&'a str),
     /// Its capacity, which the image that it runs without a file doesn't fit.
-    #[error("--capacity {0}")]
     Capacity(u32),
     /// The file of its capture.
-    #[error("--capture {0}")]
     Capture(&'a str),
+}
+
+impl fmt::Display for Place<'_> {
+    fn fmt<W: fmt::Write>(&self, f: &mut fmt::Formatter<W>) -> fmt::Result {
+        match self {
+            Place::Listen(address) => write!(f, "--listen {address}"),
+            Place::ListenOf(address, number) => write!(f, "--listen {address}, meter {number}"),
+            Place::Store(file) => write!(f, "--store {file}"),
+            Place::StoreOf(file, number) => write!(f, "--store {file}.{number}"),
+            Place::FactoryFile(file) => write!(f, "--factory-file {file}"),
+            Place::Capacity(capacity) => write!(f, "--capacity {capacity}"),
+            Place::Capture(file) => write!(f, "--capture {file}"),
+        }
+    }
 }
 
 /// What the fault of a meter is about, if it is one of these.
@@ -133,7 +156,7 @@ pub(crate) fn place_of<'a>(ended: MeterFault, places: MeterPlaces<'a>) -> Option
 }
 
 /// The address, the files and the serial numbers that a head end is started with, or the file that `status` reads.
-#[derive(Clone, Copy, Debug)]
+#[derive(Clone, Copy)]
 pub(crate) struct BookPlaces<'a> {
     book: &'a str,
     listen: Option<SocketAddr>,
@@ -177,29 +200,36 @@ impl<'a> BookPlaces<'a> {
 }
 
 /// What a fault of a book is about.
-#[derive(Clone, Copy, Debug, Error)]
+#[derive(Clone, Copy)]
 pub(crate) enum BookPlace<'a> {
     /// The file that has it.
-    #[error("--book {0}")]
     Book(&'a str),
     /// The address that its head end listens at.
-    #[error("--listen {0}")]
     HeadListen(SocketAddr),
     /// The list of meters.
-    #[error("--meters {0}")]
     Meters(&'a str),
     /// The file of an image.
-    #[error("--image {0}")]
     Image(&'a str),
     /// The first campaign that is opened.
-    #[error("--open {0}")]
     Open(u32),
     /// The campaign that is cancelled.
-    #[error("--cancel {0}")]
     Cancel(u32),
     /// The file of the capture.
-    #[error("--capture {0}")]
     HeadCapture(&'a str),
+}
+
+impl fmt::Display for BookPlace<'_> {
+    fn fmt<W: fmt::Write>(&self, f: &mut fmt::Formatter<W>) -> fmt::Result {
+        match self {
+            BookPlace::Book(file) => write!(f, "--book {file}"),
+            BookPlace::HeadListen(address) => write!(f, "--listen {address}"),
+            BookPlace::Meters(file) => write!(f, "--meters {file}"),
+            BookPlace::Image(file) => write!(f, "--image {file}"),
+            BookPlace::Open(serial) => write!(f, "--open {serial}"),
+            BookPlace::Cancel(serial) => write!(f, "--cancel {serial}"),
+            BookPlace::HeadCapture(file) => write!(f, "--capture {file}"),
+        }
+    }
 }
 
 /// What a fault of a book is about, if it is one of these.

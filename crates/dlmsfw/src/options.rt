@@ -37,7 +37,7 @@ pub(crate) enum Invocation<'a> {
 }
 
 /// Where the capture of a run goes.
-#[derive(Clone, Copy, Debug)]
+#[derive(Clone, Copy)]
 pub(crate) struct CaptureOption<'a> {
     /// The path of its file, where one is asked for.
     pub(crate) path: Option<&'a str>,

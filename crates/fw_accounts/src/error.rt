@@ -6,17 +6,22 @@ ghost use Rattle.fw_accounts.specs.declared.error.AccountError.TheVariants as re
 
 use fw_air::AuditError;
 use std::alloc::{AllocError, AllocFailed};
+use std::fmt;
 use thiserror::Error;
 
 /// Why there is no report of what workers left.
 #[derive(Clone, Copy, Debug, Drop, PartialEq, Eq, Error)]
 pub enum AccountError {
     /// What the workers left isn't what their record says.
-    #[error("Mismatch")]
     Mismatch,
     /// Memory was refused.
-    #[error("OutOfMemory")]
     OutOfMemory,
+}
+
+impl fmt::Display for AccountError {
+    fn fmt<W: fmt::Write>(&self, f: &mut fmt::Formatter<W>) -> fmt::Result {
+        fmt::Debug::fmt(self, f)
+    }
 }
 
 impl From<AllocError> for AccountError {

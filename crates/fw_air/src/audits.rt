@@ -23,20 +23,24 @@ use fw_world::{
     Datagram, Event, NumberedMeter, RunError, Setup, SetupError, StepError, World, run,
 };
 use std::alloc::Global;
+use std::fmt;
 use thiserror::Error;
 
 /// Why a record was not confirmed.
 #[derive(Clone, Copy, Debug, PartialEq, Eq, Error)]
 pub enum AuditError {
     /// No world can be made with this setup.
-    #[error("BadSetup")]
     BadSetup,
     /// A part is not as the events leave it, or an event is refused for another cause than memory.
-    #[error("Mismatch")]
     Mismatch,
     /// Memory was refused.
-    #[error("OutOfMemory")]
     OutOfMemory,
+}
+
+impl fmt::Display for AuditError {
+    fn fmt<W: fmt::Write>(&self, f: &mut fmt::Formatter<W>) -> fmt::Result {
+        fmt::Debug::fmt(self, f)
+    }
 }
 
 /// Runs the events, and compares what they lead to with these parts of a world, in the order of its setup: the books of the head

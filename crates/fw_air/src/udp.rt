@@ -5,12 +5,12 @@ ghost use Rattle.fw_air.specs.declared.udp.PairError.TheVariants as refused;
 
 use crate::wire::{Wire, WireFault};
 use std::alloc::{AllocError, AllocFailed, Global};
-use std::io;
 use std::io::ErrorKind;
 use std::net::{Ipv4Addr, Net, UdpSocket};
 use std::sync::Arc;
 use std::sync::atomic::{AtomicU64, Ordering};
 use std::time::Duration;
+use std::{fmt, io};
 use thiserror::Error;
 
 /// How long a receive waits for a datagram, in milliseconds.
@@ -20,11 +20,15 @@ const RECEIVE_LIMIT: u64 = 5;
 #[derive(Clone, Copy, Debug, PartialEq, Eq, Error)]
 pub enum PairError {
     /// A socket can't be made, bound or joined to the other.
-    #[error("Socket")]
     Socket,
     /// Memory was refused.
-    #[error("OutOfMemory")]
     OutOfMemory,
+}
+
+impl fmt::Display for PairError {
+    fn fmt<W: fmt::Write>(&self, f: &mut fmt::Formatter<W>) -> fmt::Result {
+        fmt::Debug::fmt(self, f)
+    }
 }
 
 impl From<io::Error> for PairError {

@@ -2,6 +2,7 @@
 
 ghost use Rattle.std.specs.Prelude.{◌≡◌, ◌≤◌, ◌+◌, length, IfOk, IfSome, IfNone};
 
+use std::fmt;
 use thiserror::Error;
 
 /// The most bytes of a datagram that is looked up: one more than a datagram of this profile can have, so a longer one is cut to bytes
@@ -13,8 +14,13 @@ pub const MAX_PASSED: u32 = 64;
 
 /// A wire failed: what it was given to send is lost, or nothing was received.
 #[derive(Clone, Copy, Debug, PartialEq, Eq, Error)]
-#[error("WireFault")]
 pub struct WireFault;
+
+impl fmt::Display for WireFault {
+    fn fmt<W: fmt::Write>(&self, f: &mut fmt::Formatter<W>) -> fmt::Result {
+        fmt::Debug::fmt(self, f)
+    }
+}
 
 /// One end of a wire between a head end and a meter. What is sent at one end may come at the other, once, more often or never.
 pub trait Wire {

@@ -6,29 +6,33 @@ ghost use Rattle.fw_apdu.specs.Cause.{fault_from};
 
 use fw_axdr::AxdrError;
 use std::alloc::{AllocError, AllocFailed};
+use std::fmt;
 use thiserror::Error;
 
 /// The refusals of reading and writing. Of the faults of a byte string the leftmost one is given.
 #[derive(Clone, Copy, Debug, PartialEq, Eq, Error)]
 pub enum ApduError {
     /// A byte is missing.
-    #[error("Truncated")]
     Truncated,
     /// The first byte is that of no service that is read here.
-    #[error("UnknownService")]
     UnknownService,
     /// The service is not in its normal form, or asks for selective access.
-    #[error("UnsupportedForm")]
     UnsupportedForm,
     /// The Data in it is refused, or has no spelling.
-    #[error("{0}")]
     BadData(AxdrError),
     /// A byte follows the end.
-    #[error("Trailing")]
     Trailing,
     /// Memory was refused.
-    #[error("OutOfMemory")]
     OutOfMemory,
+}
+
+impl fmt::Display for ApduError {
+    fn fmt<W: fmt::Write>(&self, f: &mut fmt::Formatter<W>) -> fmt::Result {
+        match self {
+            ApduError::BadData(refusal) => fmt::Display::fmt(refusal, f),
+            other => fmt::Debug::fmt(other, f),
+        }
+    }
 }
 
 impl From<AllocError> for ApduError {

@@ -74,7 +74,7 @@ impl Ask<'_> {
 }
 
 /// The service of an ask.
-#[derive(Clone, Copy, Debug, PartialEq, Eq)]
+#[derive(Clone, Copy, PartialEq, Eq)]
 pub(crate) enum Service {
     Get,
     Set,

@@ -4,17 +4,22 @@ ghost use Rattle.std.specs.Prelude.{◌≡◌};
 ghost use Rattle.fw_client.specs.declared.error.AskError.TheVariants as ask_error;
 
 use std::alloc::{AllocError, AllocFailed};
+use std::fmt;
 use thiserror::Error;
 
 /// The refusals of `Client::ask`. Where both would apply, the first comes.
 #[derive(Clone, Copy, Debug, PartialEq, Eq, Error)]
 pub enum AskError {
     /// The next invoke-id is that of an outstanding ask.
-    #[error("AllBusy")]
     AllBusy,
     /// Memory was refused.
-    #[error("OutOfMemory")]
     OutOfMemory,
+}
+
+impl fmt::Display for AskError {
+    fn fmt<W: fmt::Write>(&self, f: &mut fmt::Formatter<W>) -> fmt::Result {
+        fmt::Debug::fmt(self, f)
+    }
 }
 
 impl From<OutOfMemory> for AskError {
@@ -27,8 +32,13 @@ impl From<OutOfMemory> for AskError {
 
 /// Memory was refused.
 #[derive(Clone, Copy, Debug, PartialEq, Eq, Error)]
-#[error("OutOfMemory")]
 pub struct OutOfMemory;
+
+impl fmt::Display for OutOfMemory {
+    fn fmt<W: fmt::Write>(&self, f: &mut fmt::Formatter<W>) -> fmt::Result {
+        fmt::Debug::fmt(self, f)
+    }
+}
 
 impl From<AllocError> for OutOfMemory {
     fn from(_error: AllocError) -> OutOfMemory {

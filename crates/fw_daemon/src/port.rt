@@ -16,6 +16,7 @@ ghost use Rattle.std.specs.Prelude.{
 };
 ghost use Rattle.fw_daemon.specs.Acts.{Act, came, quiet, sent};
 
+use std::fmt;
 use std::net::SocketAddr;
 use thiserror::Error;
 
@@ -25,8 +26,13 @@ pub const MAX_RECEIVED: usize = 2313;
 
 /// The port is closed: nothing comes any more.
 #[derive(Clone, Copy, Debug, PartialEq, Eq, Error)]
-#[error("Closed")]
 pub struct Closed;
+
+impl fmt::Display for Closed {
+    fn fmt<W: fmt::Write>(&self, f: &mut fmt::Formatter<W>) -> fmt::Result {
+        fmt::Debug::fmt(self, f)
+    }
+}
 
 /// Whether a receive waits for a datagram where none is there.
 #[derive(Clone, Copy, Debug, PartialEq, Eq)]

@@ -12,122 +12,104 @@ use fw_rollout::Stop;
 use fw_store::FileStoreError;
 use fw_workers::RehearseError;
 use std::alloc::{AllocError, AllocFailed};
+use std::fmt;
 use thiserror::Error;
 
 /// Why a command ended early. It prints its name, and of a bad line the number too, and of a bad capture its fault and the offset.
 #[derive(Clone, Copy, Debug, PartialEq, Eq, Error)]
 pub enum Fault {
     /// The fates aren't 1 to 4,096 of the letters `d`, `x`, `t` and `l`.
-    #[error("BadFates")]
     BadFates,
     /// The options describe no meter, or a script no world.
-    #[error("BadSetup")]
     BadSetup,
     /// The file of a store can't be made or opened.
-    #[error("StoreFault")]
     StoreFault,
     /// The device of a store failed while the store was opened.
-    #[error("Fault")]
     Device,
     /// The file of a store has a length that no store has, or begins with a capacity that none has.
-    #[error("BadFile")]
     BadFile,
     /// The header of a store isn't one that it can have.
-    #[error("BadHeader")]
     BadHeader,
     /// An image in a store, which runs or is verified, hasn't the digest of its name.
-    #[error("BadImage")]
     BadImage,
     /// The file of a factory image can't be opened or read.
-    #[error("FactoryFault")]
     FactoryFault,
     /// The reader failed, or came to no end within 2^32 reads.
-    #[error("Input")]
     Input,
     /// The reader had more than 64 MiB.
-    #[error("TooMuchInput")]
     TooMuchInput,
     /// The line of this number, counted from 1, is not in the form that the command reads.
-    #[error("BadLine {0}")]
     BadLine(u64),
     /// The reader had no byte, and an image has at least one.
-    #[error("EmptyImage")]
     EmptyImage,
     /// The reader had more bytes than an image can have, 16,777,216.
-    #[error("ImageTooLong")]
     ImageTooLong,
     /// The file of a capture can't be made, opened or written.
-    #[error("CaptureFault")]
     CaptureFault,
     /// A file that a daemon's capture is to go on in is none.
-    #[error("ForeignCapture")]
     ForeignCapture,
     /// The first fault of a capture, with the offset of its record.
-    #[error("BadCapture {0}")]
     BadCapture(CaptureError),
     /// An event of the script that is rehearsed was refused, for another cause than memory.
-    #[error("Event")]
     Event,
     /// What the workers of a rehearsal left isn't what their record says.
-    #[error("Mismatch")]
     Mismatch,
     /// A thread for a worker of a rehearsal could not be started.
-    #[error("ThreadRefused")]
     ThreadRefused,
     /// No socket could be bound for the wires of a live rollout, or at the address of a meter.
-    #[error("Socket")]
     Socket,
     /// A worker was not let pass. No command ends so, since the gate of a command lets every worker pass.
-    #[error("GateShut")]
     GateShut,
     /// The list of meters can't be opened or read.
-    #[error("ListFault")]
     ListFault,
     /// The line of this number, counted from 1, is none of a list of meters, or has a number or an address that an earlier one has.
-    #[error("BadList {0}")]
     BadList(u64),
     /// The file of an image can't be opened or read.
-    #[error("ImageFault")]
     ImageFault,
     /// No file of a book is there, and none is to be made.
-    #[error("NoBook")]
     NoBook,
     /// A book is to be made where a file is there.
-    #[error("BookExists")]
     BookExists,
     /// Another head end has the book.
-    #[error("Locked")]
     Locked,
     /// The file of a book can't be made, opened, read, written or synced.
-    #[error("BookFault")]
     BookFault,
     /// The bytes of a book from this offset on are none.
-    #[error("BadBook {0}")]
     BadBook(u64),
     /// The record of a book with this index, counted from 0, has no place in it.
-    #[error("BadRecord {0}")]
     BadRecord(usize),
     /// A book is another head end's.
-    #[error("ForeignHead")]
     ForeignHead,
     /// A book has 2^60 bytes or more.
-    #[error("Full")]
     Full,
     /// The meter of this number has a live row, and the list has no address of it.
-    #[error("NoAddress {0}")]
     NoAddress(u32),
     /// The book refused to open a campaign.
-    #[error("{0}")]
     OpenRefused(BookError),
     /// The book refused to cancel a campaign.
-    #[error("{0}")]
     CancelRefused(BookError),
     /// The writer failed.
-    #[error("Output")]
     Output,
     /// Memory ran out.
-    #[error("OutOfMemory")]
     OutOfMemory,
+}
+
+impl fmt::Display for Fault {
+    fn fmt<W: fmt::Write>(&self, f: &mut fmt::Formatter<W>) -> fmt::Result {
+        match self {
+            Fault::Device => f.write_str("Fault"),
+            Fault::BadLine(number) => write!(f, "BadLine {number}"),
+            Fault::BadCapture(error) => write!(f, "BadCapture {error}"),
+            Fault::BadList(number) => write!(f, "BadList {number}"),
+            Fault::BadBook(offset) => write!(f, "BadBook {offset}"),
+            Fault::BadRecord(index) => write!(f, "BadRecord {index}"),
+            Fault::NoAddress(meter) => write!(f, "NoAddress {meter}"),
+            Fault::OpenRefused(refusal) | Fault::CancelRefused(refusal) => {
+                fmt::Display::fmt(refusal, f)
+            }
+            other => fmt::Debug::fmt(other, f),
+        }
+    }
 }
 
 impl From<AllocError> for Fault {

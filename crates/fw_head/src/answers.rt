@@ -14,7 +14,7 @@ use fw_names::ImageName;
 use std::alloc::{AllocError, Global};
 
 /// Where an answer leads.
-#[derive(Debug, Drop)]
+#[derive(Drop)]
 pub(crate) enum Step {
     /// The row stays in its phase.
     Stay,

@@ -4,17 +4,22 @@ ghost use Rattle.std.specs.Prelude.{◌≡◌};
 ghost use Rattle.fw_head.specs.declared.error.PutError.TheVariants as put_error;
 
 use std::alloc::AllocError;
+use std::fmt;
 use thiserror::Error;
 
 /// Why parts were not put together. Where both would apply, the first comes.
 #[derive(Clone, Copy, Debug, PartialEq, Eq, Error)]
 pub enum PutError {
     /// The rows are not those that are live in the book, each once, for the image that their campaign offers.
-    #[error("WrongRows")]
     WrongRows,
     /// Memory was refused.
-    #[error("OutOfMemory")]
     OutOfMemory,
+}
+
+impl fmt::Display for PutError {
+    fn fmt<W: fmt::Write>(&self, f: &mut fmt::Formatter<W>) -> fmt::Result {
+        fmt::Debug::fmt(self, f)
+    }
 }
 
 impl From<AllocError> for PutError {

@@ -8,10 +8,11 @@ use crate::news::RowNews;
 use crate::phase::Phase;
 use fw_blocks::{BlockSet, Geometry};
 use fw_client::ActiveClaim;
+use std::fmt;
 
 /// A phase with what is known in it: from `Enable` on how the image is cut into blocks, in `Blocks` which of them the meter has,
 /// and once the row is done the claim that ended it.
-#[derive(Debug, Drop)]
+#[derive(Drop)]
 pub(crate) enum Stage {
     Size,
     Enable(Geometry),
@@ -26,6 +27,13 @@ pub(crate) enum Stage {
     Confirm(Geometry),
     Done(ActiveClaim),
     Failed,
+}
+
+/// Its phase stands for it.
+impl fmt::Debug for Stage {
+    fn fmt<W: fmt::Write>(&self, f: &mut fmt::Formatter<W>) -> fmt::Result {
+        fmt::Debug::fmt(&self.phase(), f)
+    }
 }
 
 impl Stage {

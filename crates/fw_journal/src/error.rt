@@ -7,17 +7,25 @@ ghost use Rattle.fw_journal.specs.declared.error.ReplaceError.TheVariants as rep
 ghost use Rattle.fw_journal.specs.Refusals.{book_error, rewrite_error};
 
 use std::alloc::{AllocError, AllocFailed};
+use std::fmt;
 use thiserror::Error;
 
 /// Why a device refused a call.
 #[derive(Clone, Copy, Debug, PartialEq, Eq, Error)]
 pub enum DeviceError {
     /// The device failed.
-    #[error("DeviceFault")]
     Fault,
     /// Memory was refused.
-    #[error("OutOfMemory")]
     OutOfMemory,
+}
+
+impl fmt::Display for DeviceError {
+    fn fmt<W: fmt::Write>(&self, f: &mut fmt::Formatter<W>) -> fmt::Result {
+        match self {
+            DeviceError::Fault => f.write_str("DeviceFault"),
+            other => fmt::Debug::fmt(other, f),
+        }
+    }
 }
 
 impl From<AllocError> for DeviceError {
@@ -40,14 +48,20 @@ impl<T: Drop> From<AllocFailed<T>> for DeviceError {
 #[derive(Clone, Copy, Debug, PartialEq, Eq, Error)]
 pub enum ReplaceError {
     /// The new bytes couldn't be made beside the old ones, which stay.
-    #[error("NotReplaced")]
     NotReplaced,
     /// The device failed. It has its old bytes, or the new ones.
-    #[error("DeviceFault")]
     Fault,
     /// Memory was refused. The device has its old bytes, or the new ones.
-    #[error("OutOfMemory")]
     OutOfMemory,
+}
+
+impl fmt::Display for ReplaceError {
+    fn fmt<W: fmt::Write>(&self, f: &mut fmt::Formatter<W>) -> fmt::Result {
+        match self {
+            ReplaceError::Fault => f.write_str("DeviceFault"),
+            other => fmt::Debug::fmt(other, f),
+        }
+    }
 }
 
 impl From<AllocError> for ReplaceError {
@@ -62,14 +76,17 @@ impl From<AllocError> for ReplaceError {
 #[derive(Clone, Copy, Debug, PartialEq, Eq, Error)]
 pub enum RewriteError {
     /// The new bytes couldn't be made beside the old ones. The journal is as it was.
-    #[error("NotReplaced")]
     NotReplaced,
     /// The device failed, in this call or in an earlier one.
-    #[error("BookFault")]
     BookFault,
     /// Memory was refused.
-    #[error("OutOfMemory")]
     OutOfMemory,
+}
+
+impl fmt::Display for RewriteError {
+    fn fmt<W: fmt::Write>(&self, f: &mut fmt::Formatter<W>) -> fmt::Result {
+        fmt::Debug::fmt(self, f)
+    }
 }
 
 impl From<ReplaceError> for RewriteError {
@@ -88,26 +105,28 @@ impl From<ReplaceError> for RewriteError {
 #[derive(Clone, Copy, Debug, PartialEq, Eq, Error)]
 pub enum JournalError {
     /// The bytes from this offset on are no whole record though the gate there is open; with offset 0, they don't begin as a journal does.
-    #[error("BadBook {offset}")]
     BadBook { offset: u64 },
     /// A new journal was to be made where there are bytes.
-    #[error("NotEmpty")]
     NotEmpty,
     /// The record has 4,294,967,296 bytes or more.
-    #[error("TooLong")]
     TooLong,
     /// The journal, or what waits, has 2^60 bytes or more.
-    #[error("Full")]
     Full,
     /// Another journal has the file open.
-    #[error("Locked")]
     Locked,
     /// The device failed, in this call or in an earlier one.
-    #[error("BookFault")]
     BookFault,
     /// Memory was refused.
-    #[error("OutOfMemory")]
     OutOfMemory,
+}
+
+impl fmt::Display for JournalError {
+    fn fmt<W: fmt::Write>(&self, f: &mut fmt::Formatter<W>) -> fmt::Result {
+        match self {
+            JournalError::BadBook { offset } => write!(f, "BadBook {offset}"),
+            other => fmt::Debug::fmt(other, f),
+        }
+    }
 }
 
 impl From<AllocError> for JournalError {

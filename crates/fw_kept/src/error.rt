@@ -6,26 +6,32 @@ ghost use Rattle.fw_kept.specs.Refusals.{kept_error, open_error};
 
 use fw_book::BookError;
 use fw_journal::JournalError;
+use std::fmt;
 use thiserror::Error;
 
 /// Why what a device holds is no book of the head end.
 #[derive(Clone, Copy, Debug, PartialEq, Eq, Error)]
 pub enum OpenError {
     /// The bytes from this offset on are no journal's.
-    #[error("BadBook {offset}")]
     BadBook { offset: u64 },
     /// The record with this index, counted from 0, has no place in the book of those before it.
-    #[error("BadRecord {index}")]
     BadRecord { index: usize },
     /// The book is another head end's.
-    #[error("ForeignHead")]
     ForeignHead,
     /// The device failed.
-    #[error("BookFault")]
     BookFault,
     /// Memory was refused.
-    #[error("OutOfMemory")]
     OutOfMemory,
+}
+
+impl fmt::Display for OpenError {
+    fn fmt<W: fmt::Write>(&self, f: &mut fmt::Formatter<W>) -> fmt::Result {
+        match self {
+            OpenError::BadBook { offset } => write!(f, "BadBook {offset}"),
+            OpenError::BadRecord { index } => write!(f, "BadRecord {index}"),
+            other => fmt::Debug::fmt(other, f),
+        }
+    }
 }
 
 /// What a refusal to open the journal is for the book.
@@ -47,17 +53,22 @@ pub(crate) fn open_error(error: JournalError) -> OpenError
 #[derive(Clone, Copy, Debug, PartialEq, Eq, Error)]
 pub enum KeptError {
     /// The book doesn't take it.
-    #[error("{0}")]
     Refused(BookError),
     /// The journal, or what waits, has 2^60 bytes or more.
-    #[error("Full")]
     Full,
     /// The device failed, in this call or in an earlier one.
-    #[error("BookFault")]
     BookFault,
     /// Memory was refused.
-    #[error("OutOfMemory")]
     OutOfMemory,
+}
+
+impl fmt::Display for KeptError {
+    fn fmt<W: fmt::Write>(&self, f: &mut fmt::Formatter<W>) -> fmt::Result {
+        match self {
+            KeptError::Refused(refusal) => fmt::Display::fmt(refusal, f),
+            other => fmt::Debug::fmt(other, f),
+        }
+    }
 }
 
 impl From<BookError> for KeptError {

@@ -4,17 +4,22 @@ ghost use Rattle.std.specs.Prelude.{◌≡◌};
 ghost use Rattle.fw_ledger.specs.declared.error.RecordError.TheVariants.{OutOfMemory};
 
 use std::alloc::{AllocError, AllocFailed};
+use std::fmt;
 use thiserror::Error;
 
 /// Why a record isn't read or written.
 #[derive(Clone, Copy, Debug, PartialEq, Eq, Error)]
 pub enum RecordError {
     /// The bytes spell no record, or the record has no spelling.
-    #[error("BadRecord")]
     BadRecord,
     /// Memory was refused.
-    #[error("OutOfMemory")]
     OutOfMemory,
+}
+
+impl fmt::Display for RecordError {
+    fn fmt<W: fmt::Write>(&self, f: &mut fmt::Formatter<W>) -> fmt::Result {
+        fmt::Debug::fmt(self, f)
+    }
 }
 
 impl From<AllocError> for RecordError {
@@ -37,9 +42,16 @@ impl<T: Drop> From<AllocFailed<T>> for RecordError {
 #[derive(Clone, Copy, Debug, PartialEq, Eq, Error)]
 pub enum ReplayError {
     /// The record with this index, counted from 0, spells none, or says what the book of those before it refuses.
-    #[error("BadRecord {index}")]
     BadRecord { index: usize },
     /// Memory was refused.
-    #[error("OutOfMemory")]
     OutOfMemory,
+}
+
+impl fmt::Display for ReplayError {
+    fn fmt<W: fmt::Write>(&self, f: &mut fmt::Formatter<W>) -> fmt::Result {
+        match self {
+            ReplayError::BadRecord { index } => write!(f, "BadRecord {index}"),
+            other => fmt::Debug::fmt(other, f),
+        }
+    }
 }

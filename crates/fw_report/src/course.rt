@@ -10,7 +10,7 @@ use fw_world::Event;
 use std::alloc::{AllocError, Global};
 
 /// What the network did with a datagram.
-#[derive(Clone, Copy, Debug)]
+#[derive(Clone, Copy)]
 pub(crate) struct Course {
     /// How often it came to its addressee: 0 where it was lost.
     pub(crate) times: usize,
@@ -21,7 +21,7 @@ pub(crate) struct Course {
 }
 
 /// That a datagram comes to its addressee.
-#[derive(Clone, Copy, Debug)]
+#[derive(Clone, Copy)]
 pub(crate) struct Coming {
     pub(crate) number: usize,
     /// Whether its meter stops in it.

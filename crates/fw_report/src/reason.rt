@@ -18,7 +18,7 @@ use fw_world::{Datagram, Direction, Event, Setup, SetupError, StepError, World};
 use std::alloc::{AllocError, Global};
 
 /// Why a meter can't be initiated with an image.
-#[derive(Clone, Copy, Debug)]
+#[derive(Clone, Copy)]
 pub(crate) enum Reason {
     /// The identifier is no name.
     Unnamed,

@@ -35,7 +35,7 @@ pub struct RowEntry {
 }
 
 /// A meter, and the image that it runs.
-#[derive(Clone, Copy, Debug)]
+#[derive(Clone, Copy)]
 pub(crate) struct MeterEntry {
     /// The meter.
     pub(crate) meter: u32,

@@ -18,7 +18,7 @@ use fw_world::{Actor, Datagram, Event, Setup};
 use std::alloc::{AllocError, Global};
 
 /// What is known of a datagram beside what it says.
-#[derive(Clone, Copy, Debug)]
+#[derive(Clone, Copy)]
 pub(crate) struct Note {
     /// Why an initiate that it answers could not be.
     pub(crate) reason: Option<Reason>,

@@ -8,23 +8,26 @@ use crate::port::Closed;
 use fw_head::OutOfMemory;
 use fw_kept::KeptError;
 use std::alloc::{AllocError, AllocFailed};
+use std::fmt;
 use thiserror::Error;
 
 /// Why a head end stops before all rows have ended.
 #[derive(Clone, Copy, Debug, PartialEq, Eq, Error)]
 pub enum Stop {
     /// The port is closed.
-    #[error("Closed")]
     Closed,
     /// The book, or what waits for it, has 2^60 bytes or more.
-    #[error("Full")]
     Full,
     /// The device of the book failed.
-    #[error("BookFault")]
     BookFault,
     /// Memory was refused.
-    #[error("OutOfMemory")]
     OutOfMemory,
+}
+
+impl fmt::Display for Stop {
+    fn fmt<W: fmt::Write>(&self, f: &mut fmt::Formatter<W>) -> fmt::Result {
+        fmt::Debug::fmt(self, f)
+    }
 }
 
 impl From<Closed> for Stop {

@@ -29,7 +29,7 @@ pub struct Listed {
 }
 
 /// Where a link is between two ticks. Times are in microseconds.
-#[derive(Clone, Copy, Debug, PartialEq, Eq)]
+#[derive(Clone, Copy, PartialEq, Eq)]
 pub(crate) enum Turn {
     /// The meter has no live row.
     Over,
@@ -44,7 +44,7 @@ pub(crate) enum Turn {
 }
 
 /// What an answer leaves of what a row asked.
-#[derive(Clone, Copy, Debug, PartialEq, Eq)]
+#[derive(Clone, Copy, PartialEq, Eq)]
 pub(crate) enum Answer {
     /// Other asks are outstanding.
     Partial,
@@ -94,7 +94,7 @@ impl Answer {
 }
 
 /// A link. All times are in microseconds.
-#[derive(Clone, Copy, Debug)]
+#[derive(Clone, Copy)]
 pub(crate) struct Link {
     /// The meter and its address.
     pub(crate) at: Listed,

@@ -17,6 +17,7 @@ ghost use Rattle.std.specs.Prelude.{
 ghost use Rattle.fw_rollout.specs.Acts.{Act, came, quiet, sent, told};
 
 use crate::ended::Ended;
+use std::fmt;
 use std::net::SocketAddr;
 use thiserror::Error;
 
@@ -26,8 +27,13 @@ pub const MAX_RECEIVED: usize = 2313;
 
 /// The port is closed: nothing comes any more.
 #[derive(Clone, Copy, Debug, PartialEq, Eq, Error)]
-#[error("Closed")]
 pub struct Closed;
+
+impl fmt::Display for Closed {
+    fn fmt<W: fmt::Write>(&self, f: &mut fmt::Formatter<W>) -> fmt::Result {
+        fmt::Debug::fmt(self, f)
+    }
+}
 
 /// Whether a receive waits for a datagram where none is there.
 #[derive(Clone, Copy, Debug, PartialEq, Eq)]

@@ -55,7 +55,7 @@ use fw_world::{Event, HeadSetup, MeterSetup};
 use std::alloc::{AllocError, Global};
 
 /// What a line says.
-#[derive(Debug, Drop)]
+#[derive(Drop)]
 pub(crate) enum Item {
     Head(HeadSetup),
     Meter(MeterSetup),

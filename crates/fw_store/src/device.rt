@@ -20,12 +20,18 @@ ghost use Rattle.std.specs.Prelude.{
 ghost use Rattle.fw_store.specs.Device.{splice};
 ghost use Rattle.fw_store.specs.Contents.{resized, TornAt, KeepsDevice};
 
+use std::fmt;
 use thiserror::Error;
 
 /// A device of bytes refused a call.
 #[derive(Clone, Copy, Debug, PartialEq, Eq, Error)]
-#[error("DeviceFault")]
 pub struct DeviceFault;
+
+impl fmt::Display for DeviceFault {
+    fn fmt<W: fmt::Write>(&self, f: &mut fmt::Formatter<W>) -> fmt::Result {
+        fmt::Debug::fmt(self, f)
+    }
+}
 
 /// Bytes that are read and written at positions, as those of a file. The contents of an honest device are known: reads give what was
 /// last written, and a write that fails leaves any bytes in its own range and nowhere else.

@@ -6,22 +6,32 @@ ghost use Rattle.fw_store.specs.declared.error.FileStoreError.TheVariants as fil
 
 use crate::device::DeviceFault;
 use std::alloc::AllocError;
+use std::fmt;
 use thiserror::Error;
 
 /// A store's device failed. The store has counted it.
 #[derive(Clone, Copy, Debug, PartialEq, Eq, Error)]
-#[error("StoreFault")]
 pub struct StoreFault;
+
+impl fmt::Display for StoreFault {
+    fn fmt<W: fmt::Write>(&self, f: &mut fmt::Formatter<W>) -> fmt::Result {
+        fmt::Debug::fmt(self, f)
+    }
+}
 
 /// The refusals of a new store in memory.
 #[derive(Clone, Copy, Debug, PartialEq, Eq, Error)]
 pub enum SetupError {
     /// A number is outside its limits, or the factory image is empty or above the capacity.
-    #[error("BadSetup")]
     BadSetup,
     /// Memory was refused.
-    #[error("OutOfMemory")]
     OutOfMemory,
+}
+
+impl fmt::Display for SetupError {
+    fn fmt<W: fmt::Write>(&self, f: &mut fmt::Formatter<W>) -> fmt::Result {
+        fmt::Debug::fmt(self, f)
+    }
 }
 
 impl From<AllocError> for SetupError {
@@ -36,17 +46,19 @@ impl From<AllocError> for SetupError {
 #[derive(Clone, Copy, Debug, PartialEq, Eq, Error)]
 pub enum FileStoreError {
     /// The device failed, or the file can't be made, opened, read or written.
-    #[error("StoreFault")]
     StoreFault,
     /// A number is outside its limits, or the factory image is empty or above the capacity.
-    #[error("BadSetup")]
     BadSetup,
     /// Memory was refused. The calls of this crate take none, and never return it.
-    #[error("OutOfMemory")]
     OutOfMemory,
     /// The bytes don't begin with a capacity of 1 to 16,777,216, or aren't as many as those of a store of that capacity.
-    #[error("BadFile")]
     BadFile,
+}
+
+impl fmt::Display for FileStoreError {
+    fn fmt<W: fmt::Write>(&self, f: &mut fmt::Formatter<W>) -> fmt::Result {
+        fmt::Debug::fmt(self, f)
+    }
 }
 
 impl From<DeviceFault> for FileStoreError {

@@ -11,32 +11,32 @@ use fw_head::PutError;
 use fw_shared::OutOfMemory;
 use fw_world::{SetupError, StepError};
 use std::alloc::{AllocError, AllocFailed};
+use std::fmt;
 use thiserror::Error;
 
 /// Why a rehearsal has no report. Of several workers' refusals the lowest worker's is given.
 #[derive(Clone, Copy, Debug, Drop, PartialEq, Eq, Error)]
 pub enum RehearseError {
     /// What the workers left isn't what their record says.
-    #[error("Mismatch")]
     Mismatch,
     /// A thread could not be started.
-    #[error("ThreadRefused")]
     ThreadRefused,
     /// The given event at this place, counted from 0, was refused, for another cause than memory.
-    #[error("Event({0})")]
     Event(usize),
     /// Memory was refused.
-    #[error("OutOfMemory")]
     OutOfMemory,
     /// There is another number of wires than of links, or no socket could be bound.
-    #[error("Socket")]
     Socket,
     /// A gate did not let a worker go on.
-    #[error("GateShut")]
     GateShut,
     /// The workers are not 1 to 8, or no world can be made with this setup.
-    #[error("BadSetup")]
     BadSetup,
+}
+
+impl fmt::Display for RehearseError {
+    fn fmt<W: fmt::Write>(&self, f: &mut fmt::Formatter<W>) -> fmt::Result {
+        fmt::Debug::fmt(self, f)
+    }
 }
 
 impl From<AllocError> for RehearseError {

@@ -7,17 +7,22 @@ ghost use Rattle.fw_world.specs.declared.error.StepError.TheVariants.{OutOfMemor
 
 use fw_book::BookError;
 use std::alloc::{AllocError, AllocFailed};
+use std::fmt;
 use thiserror::Error;
 
 /// Why a world was not made.
 #[derive(Clone, Copy, Debug, PartialEq, Eq, Error)]
 pub enum SetupError {
     /// There is no head end or no meter, or there are too many, or a number stands twice, or a meter can't be made so.
-    #[error("BadSetup")]
     BadSetup,
     /// Memory was refused.
-    #[error("OutOfMemory")]
     OutOfMemory,
+}
+
+impl fmt::Display for SetupError {
+    fn fmt<W: fmt::Write>(&self, f: &mut fmt::Formatter<W>) -> fmt::Result {
+        fmt::Debug::fmt(self, f)
+    }
 }
 
 impl From<AllocError> for SetupError {
@@ -32,17 +37,22 @@ impl From<AllocError> for SetupError {
 #[derive(Clone, Copy, Debug, Drop, PartialEq, Eq, Error)]
 pub enum StepError {
     /// No datagram of this number was sent.
-    #[error("NoSuchDatagram")]
     NoSuchDatagram,
     /// There is no such head end or no such meter, or a datagram to a head end should stop a meter.
-    #[error("NoSuchActor")]
     NoSuchActor,
     /// The head end's book refused it.
-    #[error("{0}")]
     Book(BookError),
     /// Memory was refused.
-    #[error("OutOfMemory")]
     OutOfMemory,
+}
+
+impl fmt::Display for StepError {
+    fn fmt<W: fmt::Write>(&self, f: &mut fmt::Formatter<W>) -> fmt::Result {
+        match self {
+            StepError::Book(refusal) => fmt::Display::fmt(refusal, f),
+            other => fmt::Debug::fmt(other, f),
+        }
+    }
 }
 
 impl From<AllocError> for StepError {

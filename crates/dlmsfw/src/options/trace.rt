@@ -61,7 +61,7 @@ pub(super) fn command<'a>(alloc: Global) -> Result<Command<'a>, AllocError> {
 }
 
 /// The options of the command.
-#[derive(Clone, Copy, Debug)]
+#[derive(Clone, Copy)]
 pub(crate) struct TraceOptions<'a> {
     /// The file that has the capture; where it lacks, standard input has it.
     pub(crate) capture: Option<&'a str>,
