@@ -1,9 +1,10 @@
 //! A report as JSON.
 
 ghost use Rattle.std.specs.Prelude.{◌≡◌, ◌++◌, map, codes, take, IfOk, OnOk, string_bytes};
-ghost use Rattle.serde_json.specs.View.{view};
+ghost use Rattle.serde_json.specs.Data.{array};
+ghost use Rattle.serde_json.specs.View.{items_of, view};
 ghost use Rattle.serde_json.specs.Written.{compact_text};
-ghost use Rattle.fw_report.specs.Json.{json_of, report_data, row_data, meter_data, refusal_data};
+ghost use Rattle.fw_report.specs.Json.{json_of, report_data, row_data, meter_data, active_data, refusal_data};
 
 use crate::refusal::{Refusal, cause_name};
 use crate::report::state_word;
@@ -48,17 +49,24 @@ fn report_value(
     ensures { IfOk result (λ v. view v
         ≡ report_data summary.now.rows.items summary.now.meters.items summary.now.activations refusal) }
 {
-    let mut rows = Vec::new(alloc);
-    push_rows(alloc, &mut rows, &summary.rows)?;
-    let mut meters = Vec::new(alloc);
-    push_meters(alloc, &mut meters, &summary.meters)?;
+    let rows = rows_value(alloc, &summary.rows)?;
+    let meters = meters_value(alloc, &summary.meters)?;
     let refused = refusal_value(alloc, refusal)?;
     json!(in alloc; {
         "activations": summary.activations,
-        "meters": Value::Array(meters),
+        "meters": meters,
         "refused": refused,
-        "rows": Value::Array(rows),
+        "rows": rows,
     })
+}
+
+/// The rows as an array.
+fn rows_value(alloc: Global, rows: &[RowEntry]) -> Result<Value, AllocError>
+    ensures { IfOk result (λ v. view v ≡ array (items_of (map (λ row. row_data row) rows.now))) }
+{
+    let mut values = Vec::new(alloc);
+    push_rows(alloc, &mut values, rows)?;
+    Ok(Value::Array(values))
 }
 
 /// Adds the value of each row.
@@ -87,6 +95,15 @@ fn row_value(alloc: Global, row: &RowEntry) -> Result<Value, AllocError>
     })
 }
 
+/// The meters as an array.
+fn meters_value(alloc: Global, meters: &[MeterEntry]) -> Result<Value, AllocError>
+    ensures { IfOk result (λ v. view v ≡ array (items_of (map (λ meter. meter_data meter) meters.now))) }
+{
+    let mut values = Vec::new(alloc);
+    push_meters(alloc, &mut values, meters)?;
+    Ok(Value::Array(values))
+}
+
 /// Adds the value of each meter.
 fn push_meters(
     alloc: Global,
@@ -105,13 +122,20 @@ fn push_meters(
 fn meter_value(alloc: Global, meter: &MeterEntry) -> Result<Value, AllocError>
     ensures { IfOk result (λ v. view v ≡ meter_data meter.now) }
 {
-    let active = json!(in alloc; {
+    let active = active_value(alloc, meter)?;
+    json!(in alloc; {"active": active, "meter": meter.meter, "status": meter.status.number()})
+}
+
+/// The value of the image that a meter runs.
+fn active_value(alloc: Global, meter: &MeterEntry) -> Result<Value, AllocError>
+    ensures { IfOk result (λ v. view v ≡ active_data meter.now) }
+{
+    json!(in alloc; {
         "campaign": meter.serial,
         "head": meter.head,
         "release": meter.release,
         "size": meter.size,
-    })?;
-    json!(in alloc; {"active": active, "meter": meter.meter, "status": meter.status.number()})
+    })
 }
 
 /// The value of an event that was refused, and null where none was.

@@ -42,8 +42,8 @@ pub enum RunError {
 impl fmt::Display for RunError {
     fn fmt<W: fmt::Write>(&self, f: &mut fmt::Formatter<W>) -> fmt::Result {
         match self {
-            RunError::Setup(error) => write!(f, "{error}"),
-            RunError::Event { cause, .. } => write!(f, "{cause}"),
+            RunError::Setup(error) => fmt::Display::fmt(error, f),
+            RunError::Event { cause, .. } => fmt::Display::fmt(cause, f),
         }
     }
 }
