@@ -1,17 +1,23 @@
 """The loads that the programs of bench/ measure, and how they are measured.
 
-A load is a line of `crates/test_both_ends/src/loads.rt`, whose test of the built program of tests does it. The bytes in it are spelled here as docs/FORMATS.md says.
+A load is a line of `bench/loads/src/loads.rt.txt`, whose test of the built program of tests does it. The bytes in it are spelled here as
+docs/FORMATS.md says.
 """
 
 import hashlib
 import os
 import pathlib
 import re
+import shutil
 import subprocess
 import sys
+import tempfile
 
-CRATE = pathlib.Path(__file__).resolve().parent.parent / "crates" / "test_both_ends"
-PROGRAM = CRATE / "out" / "test_both_ends_tests"
+ROOT = pathlib.Path(__file__).resolve().parent.parent
+# The crate of the loads: its line of crates.txt and its sources, each named as in the crate with `.txt` after it.
+LINE = ROOT / "bench" / "loads" / "crate.txt"
+SOURCES = ROOT / "bench" / "loads" / "src"
+PROGRAM = ROOT / "bench" / "out" / "bench_loads_tests"
 TEST = "loads::loads_of_standard_input"
 # What a test that passed prints after its own lines.
 PASSED = "\ntest result: ok\n"
@@ -64,13 +70,56 @@ def load(word, first, second, strings=()):
     return " ".join([word, str(first), str(second), *(s.hex() for s in strings)]) + "\n"
 
 
+def rt(word, folder):
+    """Runs a command of rt in a crate's folder. Where it fails, what it printed is shown, and all ends."""
+    how = {"stdin": subprocess.DEVNULL, "stdout": subprocess.PIPE, "stderr": subprocess.STDOUT}
+    done = subprocess.run(["rt", word], cwd=folder, text=True, **how)
+    if done.returncode != 0:
+        sys.exit(f"{done.stdout}bench: rt {word} of {folder.name} failed")
+
+
+def link(source, to):
+    """Gives a file a second name, or copies it where the disk can't do that."""
+    try:
+        os.link(source, to)
+    except OSError:
+        shutil.copyfile(source, to)
+
+
+def copy_crates(folder):
+    """Copies crates.txt and the crates, each with its library as it was built, and adds the crate of the loads. Gives its place."""
+    for crate in (ROOT / "crates").iterdir():
+        for part in ("src", "specs", "proofs"):
+            if (crate / part).is_dir():
+                shutil.copytree(crate / part, folder / "crates" / crate.name / part)
+        # rt makes such a file anew, and never writes into it.
+        if (crate / "out" / "rlib").is_dir():
+            shutil.copytree(crate / "out" / "rlib", folder / "crates" / crate.name / "out" / "rlib", copy_function=link)
+    loads = folder / "crates" / "bench_loads"
+    (loads / "src").mkdir(parents=True)
+    for source in SOURCES.iterdir():
+        shutil.copyfile(source, loads / "src" / source.stem)
+    (folder / "crates.txt").write_text((ROOT / "crates.txt").read_text() + LINE.read_text())
+    return loads
+
+
 def build():
-    """Proves and builds the program of tests, and runs them, where that was not done since a source changed."""
-    changed = max(source.stat().st_mtime for source in CRATE.parent.glob("*/src/**/*.rt"))
-    if PROGRAM.exists() and PROGRAM.stat().st_mtime > changed:
+    """Proves and builds the program of the loads, and does those whose counts are known, where that was not done since a source changed.
+
+    The libraries are built in the checkout, where they are kept. The crate of the loads is in a copy, since the gate takes each crate of the
+    checkout.
+    """
+    made_from = [ROOT / "crates.txt", LINE, *SOURCES.iterdir(), *ROOT.glob("crates/*/src/**/*.rt")]
+    if PROGRAM.exists() and PROGRAM.stat().st_mtime > max(source.stat().st_mtime for source in made_from):
         return
-    if subprocess.run(["rt", "test"], cwd=CRATE, stdin=subprocess.DEVNULL, capture_output=True).returncode != 0:
-        sys.exit("rt test of test_both_ends failed")
+    for name in LINE.read_text().split(":")[1].split():
+        if (ROOT / "crates" / name).is_dir():
+            rt("lib", ROOT / "crates" / name)
+    with tempfile.TemporaryDirectory() as copy:
+        loads = copy_crates(pathlib.Path(copy))
+        rt("test", loads)
+        PROGRAM.parent.mkdir(exist_ok=True)
+        shutil.copy(loads / "out" / PROGRAM.name, PROGRAM)
 
 
 # The C library copies and sets by one instruction from some 2,048 bytes on, where the processor has it, and callgrind counts that once a

@@ -1,12 +1,10 @@
-//! Tests of both ends together: worlds, hostile input, calls for which memory can be refused, and loads.
+//! Tests of both ends together: worlds, hostile input, and calls for which memory can be refused.
 //!
-//! `hostile/run` and `bench/` run a test of the built program of tests by its name, and give it standard input.
+//! `hostile/run` runs a test of the built program of tests by its name, and gives it standard input.
 #![tactic(auto)]
 
 #[cfg(test)]
 mod hostile;
-#[cfg(test)]
-mod loads;
 #[cfg(test)]
 mod rows;
 #[cfg(test)]
