@@ -14,9 +14,9 @@ import sys
 import tempfile
 
 ROOT = pathlib.Path(__file__).resolve().parent.parent
-# The crate of the loads: its line of crates.txt and its sources, each named as in the crate with `.txt` after it.
+# The crate of the loads: its line of crates.txt, and its sources, with `.txt` after the names that they have in the crate.
 LINE = ROOT / "bench" / "loads" / "crate.txt"
-SOURCES = ROOT / "bench" / "loads" / "src"
+SOURCES = sorted(ROOT.glob("bench/loads/src/*.rt.txt"))
 PROGRAM = ROOT / "bench" / "out" / "bench_loads_tests"
 TEST = "loads::loads_of_standard_input"
 # What a test that passed prints after its own lines.
@@ -97,7 +97,7 @@ def copy_crates(folder):
             shutil.copytree(crate / "out" / "rlib", folder / "crates" / crate.name / "out" / "rlib", copy_function=link)
     loads = folder / "crates" / "bench_loads"
     (loads / "src").mkdir(parents=True)
-    for source in SOURCES.iterdir():
+    for source in SOURCES:
         shutil.copyfile(source, loads / "src" / source.stem)
     (folder / "crates.txt").write_text((ROOT / "crates.txt").read_text() + LINE.read_text())
     return loads
@@ -109,7 +109,7 @@ def build():
     The libraries are built in the checkout, where they are kept. The crate of the loads is in a copy, since the gate takes each crate of the
     checkout.
     """
-    made_from = [ROOT / "crates.txt", LINE, *SOURCES.iterdir(), *ROOT.glob("crates/*/src/**/*.rt")]
+    made_from = [ROOT / "crates.txt", LINE, *SOURCES, *ROOT.glob("crates/*/src/**/*.rt")]
     if PROGRAM.exists() and PROGRAM.stat().st_mtime > max(source.stat().st_mtime for source in made_from):
         return
     for name in LINE.read_text().split(":")[1].split():
