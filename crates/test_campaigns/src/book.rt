@@ -5,7 +5,7 @@ use fw_client::{ActiveClaim, Ask, Client, Heard};
 use fw_names::{CampaignId, HeadId, MeterId};
 use std::alloc::Global;
 use std::test::Fail;
-use test_tables::{Kept, Reads, Words};
+use test_tables::{Kept, Reads, Words, present};
 
 /// What a book reports:
 ///
@@ -58,17 +58,20 @@ pub(crate) const RELEASE_ANSWER: &str =
 
 /// The head end of this number.
 pub(crate) fn head(number: u32) -> Result<HeadId, Fail> {
-    Ok(HeadId::new(number).ok_or("a head end's number begins at 1")?)
+    present(HeadId::new(number), "a head end's number begins at 1")
 }
 
 /// The meter of this number.
 pub(crate) fn meter(number: u32) -> Result<MeterId, Fail> {
-    Ok(MeterId::new(number).ok_or("every number is a meter's")?)
+    present(MeterId::new(number), "every number is a meter's")
 }
 
 /// The campaign of these numbers.
 pub(crate) fn campaign(number: u32, serial: u32) -> Result<CampaignId, Fail> {
-    Ok(CampaignId::new(head(number)?, serial).ok_or("a serial number begins at 1")?)
+    present(
+        CampaignId::new(head(number)?, serial),
+        "a serial number begins at 1",
+    )
 }
 
 /// The meters of these numbers.

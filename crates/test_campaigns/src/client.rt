@@ -10,7 +10,7 @@ use fw_client::{Ask, Client, Heard};
 use fw_names::{CampaignId, HeadId, ImageName, name_of};
 use std::alloc::Global;
 use std::test::Fail;
-use test_tables::{Reads, Words};
+use test_tables::{Reads, Words, present};
 
 /// A step of a client:
 ///
@@ -140,7 +140,7 @@ pub(crate) fn abc_name(release: u32) -> Result<ImageName, Fail> {
 
 /// The same in the campaign of this serial number.
 pub(crate) fn abc_name_in(serial: u32, release: u32) -> Result<ImageName, Fail> {
-    Ok(abc_in(serial, release).ok_or("a serial number begins at 1")?)
+    present(abc_in(serial, release), "a serial number begins at 1")
 }
 
 fn abc_in(serial: u32, release: u32) -> Option<ImageName> {

@@ -9,7 +9,7 @@ use fw_names::{CampaignId, MeterId};
 use fw_wrapper::split;
 use std::alloc::{AllocError, Global};
 use std::test::Fail;
-use test_tables::{Reads, Words};
+use test_tables::{Reads, Words, present};
 
 /// A step of a head end:
 ///
@@ -42,14 +42,14 @@ impl Reads for Subject<HeadCore> {
 
 /// A new head end with windows of this width takes the steps of these tables.
 pub(crate) fn head_session(alloc: Global, width: u8, tables: &[&str]) -> Result<(), Fail> {
-    let width = Width::new(width).ok_or("a width")?;
+    let width = present(Width::new(width), "a width")?;
     let mut head = Subject(HeadCore::new(alloc, head(7)?, width));
     takes(alloc, &mut head, tables)
 }
 
 /// Windows of four blocks.
 pub(crate) fn width() -> Result<Width, Fail> {
-    Ok(Width::new(4).ok_or("a width")?)
+    present(Width::new(4), "a width")
 }
 
 fn open(alloc: Global, head: &mut HeadCore, mut words: Words<'_>) -> Result<String, Fail> {

@@ -9,7 +9,7 @@ use crate::transfers::TO_CONFIRM;
 use fw_head::{HeadCore, HeadParts, RowCore, TakenRows};
 use std::alloc::Global;
 use std::test::Fail;
-use test_tables::{Kept, Reads, Words, each_line};
+use test_tables::{Kept, Reads, Words, each_line, present};
 
 /// What becomes of the last of the four rows, that of meter 4, before they are put back:
 ///
@@ -77,7 +77,7 @@ fn change_last(
         }
         "doubled" => rows.push(new_row(words)?)?,
         "hears" => {
-            let last = rows.last_mut().ok_or("four rows")?;
+            let last = present(rows.last_mut(), "four rows")?;
             asks_and_hears(alloc, last, words.rest())?;
         }
         _ => return Err("no change has this name".into()),

@@ -6,7 +6,7 @@ use fw_rollout::{Counts, Datagram, Deed, HeadWatch, MeterList, Stop, lead_list};
 use std::alloc::Global;
 use std::sync::Wait;
 use std::test::Fail;
-use test_tables::{Kept, Words, expect_at};
+use test_tables::{Kept, Words, expect_at, present};
 
 #[test]
 fn list_has_each_number_and_each_address_once(rt: HostRuntime) -> Result<(), Fail> {
@@ -175,7 +175,7 @@ fn push_coming(
     line: &str,
 ) -> Result<(), Fail> {
     if let Some(("comes", rest)) = line.trim().split_once(' ') {
-        let (what, _) = rest.split_once("=>").ok_or("a row without an arrow")?;
+        let (what, _) = present(rest.split_once("=>"), "a row without an arrow")?;
         let mut words = Words::new(what);
         let _now = words.number()?;
         datagrams.push(Some(coming(alloc, words)?))?;

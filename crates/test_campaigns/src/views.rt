@@ -4,7 +4,7 @@ use crate::book::{after, campaign, meter};
 use fw_book::{Book, BookError};
 use std::alloc::Global;
 use std::test::Fail;
-use test_tables::{Reads, Words, each_line, each_prints};
+use test_tables::{Reads, Words, each_line, each_prints, present};
 
 /// Two campaigns, the second of release 5: in the first, meter 1 failed, and meter 2 is live.
 const CALLS: &str = "open 7 5 0 abc 2 1; fail 7 5 1; open 7 3 5 abd 1";
@@ -59,7 +59,7 @@ fn offer_text(alloc: Global, book: &Book, head: u32, serial: u32) -> Result<Stri
 
 fn meter_text(alloc: Global, book: &Book, serial: u32, number: u32) -> Result<String, Fail> {
     let meter = meter(number)?;
-    let offer = book.offer(campaign(7, serial)?).ok_or("no such campaign")?;
+    let offer = present(book.offer(campaign(7, serial)?), "no such campaign")?;
     let (state, live) = (offer.state(meter), offer.is_live(meter));
     let busy = book.is_busy(meter);
     Ok(format!(in alloc; "{state:?} {live} {busy}")?)

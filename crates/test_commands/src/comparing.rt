@@ -3,7 +3,7 @@
 use crate::wire::same_after;
 use std::alloc::Global;
 use std::test::Fail;
-use test_tables::{Reads, each_line};
+use test_tables::{Reads, each_line, present};
 
 /// Transfers that were begun.
 const BEGUN: &str = "\
@@ -37,7 +37,7 @@ struct Compares;
 
 impl Reads for Compares {
     fn told(&mut self, alloc: Global, what: &str) -> Result<String, Fail> {
-        let (one, other) = what.split_once('|').ok_or("one session alone")?;
+        let (one, other) = present(what.split_once('|'), "one session alone")?;
         let same = same_after(alloc, BEGUN, one, other)?;
         Ok(String::from_str(alloc, if same { "the same" } else { "another" })?)
     }

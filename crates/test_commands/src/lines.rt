@@ -6,7 +6,7 @@ use crate::wire::datagram;
 use fw_cli::AnswerOptions;
 use std::alloc::Global;
 use std::test::Fail;
-use test_tables::expect_at;
+use test_tables::{expect_at, present};
 
 /// One side of a session.
 #[derive(Clone, Copy)]
@@ -19,7 +19,7 @@ pub(crate) enum Side {
 pub(crate) fn lines(alloc: Global, exchanges: &str, side: Side) -> Result<String, Fail> {
     let mut lines = String::new(alloc);
     for line in exchanges.lines() {
-        let (request, reply) = line.split_once("=>").ok_or("a request without a reply")?;
+        let (request, reply) = present(line.split_once("=>"), "a request without a reply")?;
         let words = match side {
             Side::Requests => request,
             Side::Replies => reply,

@@ -9,7 +9,7 @@ use std::net::Net;
 use std::sync::Wait;
 use std::test::Fail;
 use std::thread::Threads;
-use test_tables::{Words, expect_at};
+use test_tables::{Words, expect_at, present};
 
 /// What is written, and after it the fault. `what` has the rounds and the workers, and after `|` the script, as `script_of` has it.
 fn told<T: Threads + Wait + Net + Sync>(
@@ -18,7 +18,7 @@ fn told<T: Threads + Wait + Net + Sync>(
     what: &str,
     trace: bool,
 ) -> Result<String, Fail> {
-    let (how, script) = what.split_once('|').ok_or("no script")?;
+    let (how, script) = present(what.split_once('|'), "no script")?;
     let script = script_of(alloc, script.trim())?;
     let mut words = Words::new(how);
     let options = LiveOptions {
@@ -75,7 +75,7 @@ const BAD: &str = "\
 #[test]
 fn what_has_no_live_report(rt: HostRuntime) -> Result<(), Fail> {
     for line in BAD.lines() {
-        let (what, want) = line.split_once("=>").ok_or("a row without an arrow")?;
+        let (what, want) = present(line.split_once("=>"), "a row without an arrow")?;
         let told = told(&rt, rt.alloc(), what, false)?;
         expect_at(rt.alloc(), line, &told, want.trim())?;
     }

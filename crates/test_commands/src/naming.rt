@@ -8,12 +8,15 @@ use fw_names::{CampaignId, HeadId};
 use std::alloc::Global;
 use std::io::Read;
 use std::test::Fail;
-use test_tables::{Reads, Words, each_line, expect_at};
+use test_tables::{Reads, Words, each_line, expect_at, present};
 
 /// The options of a campaign and a release.
 fn options(head: u32, serial: u32, release: u32) -> Result<NameOptions, Fail> {
-    let head = HeadId::new(head).ok_or("a head end of number 0")?;
-    let campaign = CampaignId::new(head, serial).ok_or("a campaign of serial number 0")?;
+    let head = present(HeadId::new(head), "a head end of number 0")?;
+    let campaign = present(
+        CampaignId::new(head, serial),
+        "a campaign of serial number 0",
+    )?;
     Ok(NameOptions { campaign, release })
 }
 

@@ -10,7 +10,7 @@ use std::alloc::Global;
 use std::sync::Wait;
 use std::test::Fail;
 use std::thread::Threads;
-use test_tables::{Words, expect_at};
+use test_tables::{Words, expect_at, present};
 
 /// Each rehearsal reports what stands after its arrow. A line has the rounds and the workers of one, the fates of the datagrams, and after `|` the
 /// script, as `script_of` has it.
@@ -22,7 +22,7 @@ fn each<T: Threads + Wait + Sync>(
 ) -> Result<(), Fail> {
     for line in table.lines() {
         if !line.starts_with("//") {
-            let (what, want) = line.split_once("=>").ok_or("a row without an arrow")?;
+            let (what, want) = present(line.split_once("=>"), "a row without an arrow")?;
             let told = rehearsed(rt, alloc, what, trace)?;
             expect_at(alloc, line, &told, want.trim())?;
         }
@@ -37,7 +37,7 @@ fn rehearsed<T: Threads + Wait + Sync>(
     what: &str,
     trace: bool,
 ) -> Result<String, Fail> {
-    let (how, script) = what.split_once('|').ok_or("no script")?;
+    let (how, script) = present(what.split_once('|'), "no script")?;
     let script = script_of(alloc, script.trim())?;
     let mut words = Words::new(how);
     let (rounds, workers, fates) = (words.number()?, words.number()?, words.rest());

@@ -9,7 +9,7 @@ use fw_report::{ReportForm, Style};
 use std::alloc::{AllocError, Global};
 use std::io::{Read, Stderr};
 use std::test::Fail;
-use test_tables::{Reads, Words, each_line, expect_at, named};
+use test_tables::{Reads, Words, each_line, expect_at, named, present};
 
 /// No terminal.
 const NO_TERMINAL: Option<&'static Stderr> = None;
@@ -127,7 +127,7 @@ pub(crate) struct Replays;
 
 impl Reads for Replays {
     fn told(&mut self, alloc: Global, what: &str) -> Result<String, Fail> {
-        let (how, script) = what.split_once('|').ok_or("no script")?;
+        let (how, script) = present(what.split_once('|'), "no script")?;
         let script = script_of(alloc, script.trim())?;
         let mut words = Words::new(how);
         let form = words.word()?;
@@ -477,7 +477,7 @@ struct Written;
 
 impl Reads for Written {
     fn told(&mut self, alloc: Global, what: &str) -> Result<String, Fail> {
-        let (how, script) = what.split_once('|').ok_or("no script")?;
+        let (how, script) = present(what.split_once('|'), "no script")?;
         let script = script_of(alloc, script.trim())?;
         let mut words = Words::new(how);
         match words.word()? {

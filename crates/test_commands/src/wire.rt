@@ -8,7 +8,7 @@ use fw_names::ImageName;
 use fw_store::{Goal, MemoryStore};
 use std::alloc::{AllocError, Global};
 use std::test::Fail;
-use test_tables::{Words, expect_at};
+use test_tables::{Words, expect_at, present};
 
 /// A session with meters, one after another. It begins with a new one that runs `abc`, with blocks of two bytes and room for 64. Its steps stand
 /// between semicolons and line ends:
@@ -29,7 +29,7 @@ pub(crate) fn session(alloc: Global, sections: &str, script: &str) -> Result<(),
 /// Just those requests that are replied to ask for a response.
 pub(crate) fn asking(alloc: Global, sections: &str, parts: &str) -> Result<(), Fail> {
     for line in exchanges_of(alloc, sections, parts)?.lines() {
-        let (request, reply) = line.split_once("=>").ok_or("a request without a reply")?;
+        let (request, reply) = present(line.split_once("=>"), "a request without a reply")?;
         let datagram = hex::decode(alloc, datagram(alloc, request)?.as_str())?;
         if asks_for_response(alloc, &datagram)? == (reply.trim() == "-") {
             expect_at(alloc, line, "asks for the other", "")?;
@@ -204,7 +204,7 @@ impl Wire {
 
     /// The request of a line gets its reply.
     fn exchange(&mut self, alloc: Global, line: &str) -> Result<(), Fail> {
-        let (request, want) = line.split_once("=>").ok_or("a request without a reply")?;
+        let (request, want) = present(line.split_once("=>"), "a request without a reply")?;
         let reply = self.reply_to(alloc, request)?;
         expect_at(alloc, line, &reply, &datagram(alloc, want)?)
     }

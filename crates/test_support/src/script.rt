@@ -4,7 +4,7 @@ use fw_names::{CampaignId, HeadId, MeterId, factory_name};
 use fw_world::{Event, HeadSetup, MeterSetup, Setup};
 use std::alloc::Global;
 use std::test::Fail;
-use test_tables::{Words, named};
+use test_tables::{Words, named, present};
 
 /// What a world is made with, parts between semicolons: `head NUMBER WIDTH`, and `meter NUMBER BLOCK-SIZE CAPACITY IMAGE` with its factory image.
 pub fn setup_of(alloc: Global, given: &str) -> Result<Setup, Fail> {
@@ -157,12 +157,12 @@ fn meters(alloc: Global, words: &Words<'_>) -> Result<Vec<MeterId>, Fail> {
 
 /// The head end of this number.
 pub fn head(number: u32) -> Result<HeadId, Fail> {
-    Ok(HeadId::new(number).ok_or("a head end's number begins at 1")?)
+    present(HeadId::new(number), "a head end's number begins at 1")
 }
 
 /// The meter of this number.
 pub fn meter(number: u32) -> Result<MeterId, Fail> {
-    Ok(MeterId::new(number).ok_or("every number is a meter's")?)
+    present(MeterId::new(number), "every number is a meter's")
 }
 
 /// The campaign of these numbers; of 0 and 0, that of images which meters are made with.
@@ -170,7 +170,10 @@ fn campaign(number: u32, serial: u32) -> Result<CampaignId, Fail> {
     if (number, serial) == (0, 0) {
         return Ok(factory_name(b"x").campaign);
     }
-    Ok(CampaignId::new(head(number)?, serial).ok_or("a serial number begins at 1")?)
+    present(
+        CampaignId::new(head(number)?, serial),
+        "a serial number begins at 1",
+    )
 }
 
 /// One head end and one meter, and a campaign of two blocks.

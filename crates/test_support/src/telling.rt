@@ -6,17 +6,18 @@ use fw_names::{HeadId, MeterId};
 use fw_world::{Event, Setup, World};
 use std::alloc::{AllocError, Global};
 use std::test::Fail;
+use test_tables::present;
 
 /// The rows by head ends, campaigns and meters, each in their order, then the meters, and then how many images were switched to and
 /// how many datagrams were sent.
 pub fn report(alloc: Global, setup: &Setup, world: &World) -> Result<String, Fail> {
     let mut text = String::new(alloc);
     for head in &setup.heads {
-        let book = world.book(head.head).ok_or("a head end of the setup")?;
+        let book = present(world.book(head.head), "a head end of the setup")?;
         push_rows(alloc, &mut text, book)?;
     }
     for meter in &setup.meters {
-        let core = world.meter(meter.meter).ok_or("a meter of the setup")?;
+        let core = present(world.meter(meter.meter), "a meter of the setup")?;
         push(
             &mut text,
             meter_text(alloc, meter.meter, &core.view())?.as_str(),
@@ -79,7 +80,7 @@ pub fn push(text: &mut String, part: &str) -> Result<(), AllocError> {
 pub fn done_rows(setup: &Setup, world: &World) -> Result<u64, Fail> {
     let mut done = 0u64;
     for head in &setup.heads {
-        let book = world.book(head.head).ok_or("a head end of the setup")?;
+        let book = present(world.book(head.head), "a head end of the setup")?;
         for (_serial, offer) in book.rows() {
             let ended = offer
                 .rows()

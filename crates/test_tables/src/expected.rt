@@ -20,3 +20,11 @@ pub fn expect_at(alloc: Global, place: &str, found: &str, want: &str) -> Result<
     let told = format!(in alloc; "{place}: {found} in place of {want}")?;
     Err(Fail::from(told))
 }
+
+/// What is there, or a failure that names what is lacking.
+pub fn present<T>(option: Option<T>, lacking: &str) -> Result<T, Fail> {
+    match option {
+        Some(value) => Ok(value),
+        None => Err(lacking.into()),
+    }
+}

@@ -5,6 +5,6 @@ mod expected;
 mod kept;
 mod tables;
 
-pub use expected::{expect, expect_at};
+pub use expected::{expect, expect_at, present};
 pub use kept::Kept;
 pub use tables::{Reads, Words, each_line, each_prints, named};

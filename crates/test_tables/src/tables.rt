@@ -1,6 +1,6 @@
 //! Tables as texts: a line a row, `what => report`.
 
-use crate::expected::{expect, expect_at};
+use crate::expected::{expect, expect_at, present};
 use std::alloc::Global;
 use std::fmt::Display;
 use std::test::Fail;
@@ -27,7 +27,7 @@ fn row<R: Reads>(alloc: Global, subject: &mut R, line: &str) -> Result<bool, Fai
     if line.is_empty() || line.starts_with("//") {
         return Ok(false);
     }
-    let (what, want) = line.split_once("=>").ok_or("a row without an arrow")?;
+    let (what, want) = present(line.split_once("=>"), "a row without an arrow")?;
     let told = subject.told(alloc, what.trim())?;
     expect_at(alloc, line, told.as_str(), want.trim())?;
     Ok(true)
@@ -78,7 +78,7 @@ impl<'a> Words<'a> {
 
     /// The next word.
     pub fn word(&mut self) -> Result<&'a str, Fail> {
-        Ok(self.next().ok_or("a word is lacking")?)
+        present(self.next(), "a word is lacking")
     }
 
     /// The next word as a number.

@@ -5,7 +5,7 @@ use fw_air::{Fates, LinkQueue, links_of};
 use std::alloc::Global;
 use std::test::Fail;
 use test_support::push;
-use test_tables::{Reads, Words, each_line, expect_at};
+use test_tables::{Reads, Words, each_line, expect_at, present};
 
 /// The links of two head ends.
 fn all_links(alloc: Global) -> Result<Vec<LinkQueue>, Fail> {
@@ -66,7 +66,7 @@ fn links(rt: HostRuntime) -> Result<(), Fail> {
         "7 1; 7 2; 7 3; 7 4; 8 2; 8 4",
     )?;
     let fates = fates_of(alloc, "deliver,drop,twice,late")?;
-    let fates = Fates::new(&fates).ok_or("1 to 4,096 fates")?;
-    let link = links.first_mut().ok_or("a link")?;
+    let fates = present(Fates::new(&fates), "1 to 4,096 fates")?;
+    let link = present(links.first_mut(), "a link")?;
     each_line(alloc, &mut Passing { link, fates }, PASSED)
 }

@@ -12,7 +12,7 @@ use std::sync::Wait;
 use std::test::Fail;
 use std::thread::Threads;
 use test_support::numbered;
-use test_tables::{Words, expect, expect_at};
+use test_tables::{Words, expect, expect_at, present};
 
 /// Rehearsals of rows `SETUP SCRIPT ROUNDS WORKERS AIR GATE`: the report of the world and the board's count, or the refusal. A word after
 /// them asks for something else.
@@ -56,7 +56,7 @@ fn ended<R: Threads + Wait + Sync>(
     gate: &Rules,
 ) -> Result<Result<Report, RehearseError>, Fail> {
     let fates = fates_of(alloc, air)?;
-    let fates = Fates::new(&fates).ok_or("1 to 4,096 fates")?;
+    let fates = present(Fates::new(&fates), "1 to 4,096 fates")?;
     Ok(rehearse(
         rt,
         alloc,
@@ -93,7 +93,7 @@ fn scheduled(alloc: Global, task: &Task, air: &str, made: &Report) -> Result<Str
         return Err("not one worker".into());
     };
     let fates = fates_of(alloc, air)?;
-    let fates = Fates::new(&fates).ok_or("1 to 4,096 fates")?;
+    let fates = present(Fates::new(&fates), "1 to 4,096 fates")?;
     let Ok(events) = schedule(alloc, &task.setup, &task.given, task.rounds, &fates) else {
         return Err("an event is refused".into());
     };

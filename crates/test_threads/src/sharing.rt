@@ -14,7 +14,7 @@ use std::test::Fail;
 use std::thread;
 use std::thread::Threads;
 use test_support::{meter, numbered, push};
-use test_tables::{Reads, Words, each_line, expect_at};
+use test_tables::{Reads, Words, each_line, expect_at, present};
 
 /// Head ends and meters in the order of their setup, and the log.
 #[derive(Drop)]
@@ -331,26 +331,17 @@ fn answer<R: Wait>(
     let mut words = Words::new(call);
     match words.word()? {
         "tick" => {
-            let desk = shared
-                .desks
-                .get(words.number()? as usize)
-                .ok_or("a head end")?;
+            let desk = present(shared.desks.get(words.number()? as usize), "a head end")?;
             let meter = meter(words.number()?)?;
             answered(alloc, desk.tick(rt, alloc, log, board, seat, meter))
         }
         "serve" => {
-            let meter = shared
-                .meters
-                .get(words.number()? as usize)
-                .ok_or("a meter")?;
+            let meter = present(shared.meters.get(words.number()? as usize), "a meter")?;
             let number = words.number()? as usize;
             answered(alloc, meter.serve(rt, alloc, log, seat, number))
         }
         "hear" => {
-            let desk = shared
-                .desks
-                .get(words.number()? as usize)
-                .ok_or("a head end")?;
+            let desk = present(shared.desks.get(words.number()? as usize), "a head end")?;
             let number = words.number()? as usize;
             match hear(rt, alloc, log, board, seat, desk, number) {
                 Ok(news) => Ok(format!(in alloc; "{news:?}")?),
@@ -358,10 +349,7 @@ fn answer<R: Wait>(
             }
         }
         _ => {
-            let meter = shared
-                .meters
-                .get(words.number()? as usize)
-                .ok_or("a meter")?;
+            let meter = present(shared.meters.get(words.number()? as usize), "a meter")?;
             let turned = meter.turn(rt, alloc, log, seat)?;
             Ok(format!(in alloc; "{turned}")?)
         }

@@ -7,7 +7,7 @@ use fw_world::{Event, Setup, World, run};
 use std::alloc::{AllocError, Global};
 use std::test::Fail;
 use test_support::{done_rows, events_of, push, report, setup_of};
-use test_tables::{Words, named};
+use test_tables::{Words, named, present};
 
 /// What worlds are made with: one meter, four, four of two head ends that compete for them, one with blocks of 1,024 bytes, two such ones, and
 /// one without a head end.
@@ -112,7 +112,7 @@ pub(crate) fn fates_of(alloc: Global, air: &str) -> Result<Vec<Fate>, Fail> {
     };
     let mut fates = Vec::new(alloc);
     for word in list.split(',') {
-        fates.push(fate(word).ok_or("no fate has this name")?)?;
+        fates.push(present(fate(word), "no fate has this name")?)?;
     }
     Ok(fates)
 }
@@ -198,6 +198,6 @@ pub(crate) fn row_of(line: &str) -> Result<Option<(&str, &str)>, Fail> {
     if line.is_empty() || line.starts_with("//") {
         return Ok(None);
     }
-    let (what, want) = line.split_once("=>").ok_or("a row without an arrow")?;
+    let (what, want) = present(line.split_once("=>"), "a row without an arrow")?;
     Ok(Some((what.trim(), want.trim())))
 }

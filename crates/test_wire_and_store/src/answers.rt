@@ -11,7 +11,7 @@ use fw_names::factory_name;
 use fw_server::{Answer, ImageInfo, Outcome, answer};
 use std::alloc::Global;
 use std::test::Fail;
-use test_tables::{Reads, Words, each_line};
+use test_tables::{Reads, Words, each_line, present};
 
 #[derive(Clone, Copy)]
 enum Told {
@@ -78,9 +78,9 @@ fn got(word: &str, mut words: Words<'_>) -> Result<Answer, Fail> {
         "nothing-to-activate" => Answer::ToActivate(None),
         "to-activate" => Answer::ToActivate(Some(ImageInfo {
             size: 3,
-            name: abc_name(7, 1, words.number()?).ok_or("no name")?,
+            name: present(abc_name(7, 1, words.number()?), "no name")?,
         })),
-        "offered-name" => Answer::ActiveName(abc_name(7, 1, words.number()?).ok_or("no name")?),
+        "offered-name" => Answer::ActiveName(present(abc_name(7, 1, words.number()?), "no name")?),
         "factory-name" => Answer::ActiveName(factory_name(b"abc")),
         "digest" => Answer::ActiveDigest(factory_name(b"abc").digest),
         _ => return Err("no answer has this name".into()),

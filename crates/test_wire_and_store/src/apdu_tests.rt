@@ -8,7 +8,7 @@ use fw_apdu::{
 use fw_axdr::AxdrError;
 use std::alloc::Global;
 use std::test::Fail;
-use test_tables::{Reads, Words, each_line};
+use test_tables::{Reads, Words, each_line, present};
 
 /// What is reported of bytes in hexadecimal, or of words.
 #[derive(Clone, Copy)]
@@ -42,7 +42,7 @@ fn of_bytes(alloc: Global, way: Told, digits: &str, bytes: &[u8]) -> Result<Stri
         Told::Request => request_text(alloc, &read_request(alloc, bytes)?, digits),
         Told::Response => response_text(alloc, &read_response(alloc, bytes)?, digits),
         Told::Object => object_text(alloc, &read_request(alloc, bytes)?),
-        _ => invoke_text(alloc, Invoke(*bytes.first().ok_or("no byte")?)),
+        _ => invoke_text(alloc, Invoke(*present(bytes.first(), "no byte")?)),
     }
 }
 

@@ -4,7 +4,7 @@ use crate::support::joined;
 use fw_axdr::{AxdrError, read};
 use std::alloc::{AllocError, Global};
 use std::test::Fail;
-use test_tables::{Reads, each_line};
+use test_tables::{Reads, each_line, present};
 
 /// The fault of the parts, one after another, by the first letter of its name, or `.`; D is for the depth.
 fn letter(alloc: Global, parts: &[&[u8]]) -> Result<&'static str, AllocError> {
@@ -34,7 +34,7 @@ impl Reads for Made {
     fn told(&mut self, alloc: Global, what: &str) -> Result<String, Fail> {
         let bytes = hex::decode(alloc, what)?;
         match self {
-            Made::Tags => tags_text(alloc, *bytes.first().ok_or("no tag")?),
+            Made::Tags => tags_text(alloc, *present(bytes.first(), "no tag")?),
             Made::Fixed => fixed_text(alloc, &bytes),
             Made::Innermost => innermost_text(alloc, &bytes),
         }

@@ -4,7 +4,7 @@ use crate::support::{bits_of, marked, numbers_of};
 use fw_blocks::{BlockSet, Geometry, MARKS_SIZE, MAX_BLOCKS, Pages, Width, Window};
 use std::alloc::{AllocError, Global};
 use std::test::Fail;
-use test_tables::{Reads, Words, each_line};
+use test_tables::{Reads, Words, each_line, present};
 
 /// What is reported of numbers, lists of which have commas, or `-` where they are empty.
 #[derive(Clone, Copy)]
@@ -191,7 +191,7 @@ fn every_other_text(alloc: Global, count: u32) -> Result<String, Fail> {
 }
 
 fn every_other_told(alloc: Global, set: &BlockSet) -> Result<String, Fail> {
-    let width = Width::new(3).ok_or("a width")?;
+    let width = present(Width::new(3), "a width")?;
     let next = Window::next(set, width);
     let bits = set.to_bits(alloc)?;
     let (len, bytes) = (bits.len(), bits.as_bytes());

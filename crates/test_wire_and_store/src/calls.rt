@@ -6,7 +6,7 @@ use crate::support::slot_of;
 use fw_store::{HeaderBytes, HeaderVersion, ImageStore, StoreFault};
 use std::alloc::{AllocError, Global};
 use std::test::Fail;
-use test_tables::{Reads, Words, each_line};
+use test_tables::{Reads, Words, each_line, present};
 
 /// A store that is called.
 #[derive(Drop)]
@@ -60,8 +60,8 @@ fn head_text<S: ImageStore>(
 ) -> Result<String, Fail> {
     let begin = hex::decode(alloc, words.next().unwrap_or(""))?;
     let tail = hex::decode(alloc, words.rest())?;
-    let front = padded(version, &begin).ok_or("it is too long")?;
-    let bytes = with_patch(&front, RELEASES_AT, &tail).ok_or("it is too long")?;
+    let front = present(padded(version, &begin), "it is too long")?;
+    let bytes = present(with_patch(&front, RELEASES_AT, &tail), "it is too long")?;
     Ok(done_text(alloc, store.write_header(&bytes))?)
 }
 

@@ -5,7 +5,7 @@ use fw_capture::{Captured, Content, Note, append_packet, file_header};
 use std::alloc::Global;
 use std::net::SocketAddr;
 use std::test::Fail;
-use test_tables::{Reads, Words, each_line, expect_at};
+use test_tables::{Reads, Words, each_line, expect_at, present};
 
 /// A byte and the record of a packet after it, or the refusal and how many bytes there are then.
 fn appended(alloc: Global, captured: &Captured<'_>) -> Result<String, Fail> {
@@ -18,7 +18,7 @@ fn appended(alloc: Global, captured: &Captured<'_>) -> Result<String, Fail> {
 
 /// The address that a text spells.
 fn address(text: &str) -> Result<SocketAddr, Fail> {
-    Ok(text.parse().ok().ok_or("the text is an address")?)
+    present(text.parse().ok(), "the text is an address")
 }
 
 #[derive(Clone, Copy)]

@@ -5,7 +5,7 @@ use fw_store::{Scratch, prepare_journal, recover};
 use fw_undo::{Change, HeaderWrite, MAX_JOURNAL_SIZE, MAX_PART_SIZE};
 use std::alloc::Global;
 use std::test::Fail;
-use test_tables::{Kept, Reads, Words, each_line, expect};
+use test_tables::{Kept, Reads, Words, each_line, expect, present};
 
 /// A write of two bytes at place 511, across the end of a sector, and of some after place 513 where there were none.
 fn write() -> HeaderWrite<'static> {
@@ -26,13 +26,13 @@ const JOURNAL: &str =
 #[test]
 fn the_bytes_of_a_journal(rt: HostRuntime) -> Result<(), Fail> {
     let alloc = rt.alloc();
-    let bytes = write().to_bytes().ok_or("a journal")?;
+    let bytes = present(write().to_bytes(), "a journal")?;
     spells(alloc, 0, bytes.as_slice(), JOURNAL)?;
-    let read = HeaderWrite::from_bytes(bytes.as_slice()).ok_or("a write")?;
+    let read = present(HeaderWrite::from_bytes(bytes.as_slice()), "a write")?;
     spells(
         alloc,
         1,
-        read.to_bytes().ok_or("a journal")?.as_slice(),
+        present(read.to_bytes(), "a journal")?.as_slice(),
         JOURNAL,
     )
 }

@@ -6,7 +6,7 @@ use fw_verify::{Digesting, digest};
 use sha2::{Digest, Sha256};
 use std::alloc::Global;
 use std::test::Fail;
-use test_tables::{Kept, Reads, Words, each_line};
+use test_tables::{Kept, Reads, Words, each_line, present};
 
 #[derive(Clone, Copy)]
 enum Told {
@@ -58,7 +58,10 @@ fn digest_in(
 
 fn published_text(alloc: Global, mut words: Words<'_>) -> Result<String, Fail> {
     let slot = slot_of(words.word()?)?;
-    let found = digest_in(alloc, slot, b"abcd", words.number()?, 9)?.ok_or("a fault")?;
+    let found = present(
+        digest_in(alloc, slot, b"abcd", words.number()?, 9)?,
+        "a fault",
+    )?;
     Ok(hex::encode(alloc, found)?)
 }
 

@@ -10,7 +10,7 @@ use fw_store::{
 };
 use std::alloc::{AllocError, Global};
 use std::test::Fail;
-use test_tables::{Reads, Words, each_line};
+use test_tables::{Reads, Words, each_line, present};
 
 /// The bytes of this version with these parts, each from an offset on, and zeros elsewhere.
 fn with_parts(version: HeaderVersion, parts: &[(usize, &[u8])]) -> Option<HeaderBytes> {
@@ -80,7 +80,7 @@ impl Reads for Taken {
         let mut words = Words::new(what);
         let (version, capacity) = (version_of(words.word()?)?, words.number()?);
         let front = front_of(alloc, words.word()?)?;
-        let front = padded(version, &front).ok_or("it is too long")?;
+        let front = present(padded(version, &front), "it is too long")?;
         let once = patched(alloc, front, &mut words)?;
         let bytes = patched(alloc, once, &mut words)?;
         Ok(String::from_str(alloc, read_text(capacity, &bytes))?)
@@ -93,7 +93,10 @@ fn patched(alloc: Global, bytes: HeaderBytes, words: &mut Words<'_>) -> Result<H
         return Ok(bytes);
     };
     let patch = hex::decode(alloc, words.word()?)?;
-    Ok(with_patch(&bytes, at.parse::<usize>()?, &patch).ok_or("it is too long")?)
+    present(
+        with_patch(&bytes, at.parse::<usize>()?, &patch),
+        "it is too long",
+    )
 }
 
 fn read_text(capacity: u32, bytes: &HeaderBytes) -> &'static str {
@@ -304,8 +307,8 @@ fn written_text(alloc: Global, mut words: Words<'_>) -> Result<String, Fail> {
     let header = header_of(words.word()?);
     let front = front_of(alloc, words.word()?)?;
     let last = hex::decode(alloc, words.rest())?;
-    let front = padded(HeaderVersion::Two, &front).ok_or("it is too long")?;
-    let bytes = with_patch(&front, RELEASES_AT, &last).ok_or("it is too long")?;
+    let front = present(padded(HeaderVersion::Two, &front), "it is too long")?;
+    let bytes = present(with_patch(&front, RELEASES_AT, &last), "it is too long")?;
     Ok(compared_text(alloc, &header, &bytes)?)
 }
 
@@ -340,8 +343,8 @@ fn compared_text(
 fn written_old_text(alloc: Global, mut words: Words<'_>) -> Result<String, Fail> {
     let header = old_receiving(&numbers_of(alloc, words.word()?)?);
     let front = front_of(alloc, words.word()?)?;
-    let front = padded(HeaderVersion::One, &front).ok_or("it is too long")?;
-    let bytes = with_patch(&front, 0, b"FWH1").ok_or("it is too long")?;
+    let front = present(padded(HeaderVersion::One, &front), "it is too long")?;
+    let bytes = present(with_patch(&front, 0, b"FWH1"), "it is too long")?;
     Ok(compared_text(alloc, &header, &bytes)?)
 }
 

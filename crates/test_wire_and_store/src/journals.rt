@@ -10,7 +10,7 @@ use std::os::unix::fs::symlink;
 use std::path::{AsPath, Path, PathBuf};
 use std::test::Fail;
 use std::{env, fs};
-use test_tables::{Kept, Reads, Words, each_line, expect};
+use test_tables::{Kept, Reads, Words, each_line, expect, present};
 
 /// What opening a journal returns: its records, each with a bar after it, or the refusal.
 fn told_of<D: JournalDevice + Drop>(
@@ -341,7 +341,7 @@ const REWRITTEN: &str = "
 
 fn turned_text(alloc: Global, at: usize) -> Result<String, Fail> {
     let mut bytes = bytes_after(alloc, &[b"one", b"two"])?;
-    let byte = bytes.get_mut(at).ok_or("no such byte")?;
+    let byte = present(bytes.get_mut(at), "no such byte")?;
     *byte ^= 8;
     read_text(alloc, bytes.as_slice())
 }

@@ -5,7 +5,7 @@ use crate::support::abc_name;
 use fw_names::{CampaignId, HeadId, ImageName, MeterId, digest_of, factory_name, is_risen};
 use std::alloc::Global;
 use std::test::Fail;
-use test_tables::{Reads, Words, each_line};
+use test_tables::{Reads, Words, each_line, present};
 
 #[derive(Clone, Copy)]
 enum Told {
@@ -113,8 +113,8 @@ fn number_text(alloc: Global, mut words: Words<'_>) -> Result<String, Fail> {
 }
 
 fn campaign_text(alloc: Global, mut words: Words<'_>) -> Result<String, Fail> {
-    let head = HeadId::new(words.number()?).ok_or("no head end")?;
-    let campaign = CampaignId::new(head, words.number()?).ok_or("no campaign")?;
+    let head = present(HeadId::new(words.number()?), "no head end")?;
+    let campaign = present(CampaignId::new(head, words.number()?), "no campaign")?;
     campaign_told(alloc, campaign)
 }
 

@@ -4,7 +4,7 @@ use crate::session::{Trial, session};
 use fw_image::Refusal;
 use std::alloc::Global;
 use std::test::Fail;
-use test_tables::{Reads, each_line, each_prints, named};
+use test_tables::{Reads, each_line, each_prints, named, present};
 
 /// Of calls by their name, a colon and what comes after them:
 #[derive(Clone, Copy)]
@@ -19,7 +19,7 @@ enum Told {
 
 impl Reads for Told {
     fn told(&mut self, alloc: Global, what: &str) -> Result<String, Fail> {
-        let (calls, last) = what.split_once(':').ok_or("no colon")?;
+        let (calls, last) = present(what.split_once(':'), "no colon")?;
         let mut trial = Trial::none();
         after(alloc, &mut trial, calls)?;
         match self {

@@ -10,7 +10,7 @@ use fw_names::{CampaignId, HeadId, ImageName, factory_name, name_of};
 use fw_store::{ImageStore, MemoryStore, Slot};
 use std::alloc::{AllocError, Global};
 use std::test::Fail;
-use test_tables::{Reads, Words, each_line};
+use test_tables::{Reads, Words, each_line, present};
 
 /// A meter in one of its statuses.
 pub(crate) type Meter = Phase<MemoryStore>;
@@ -455,8 +455,8 @@ pub(crate) fn bbbb() -> Result<ImageName, Fail> {
 
 /// The name of an image of this release there.
 pub(crate) fn image_name(image: &[u8], release: u32) -> Result<ImageName, Fail> {
-    let head = HeadId::new(2).ok_or("no head end")?;
-    let campaign = CampaignId::new(head, 1).ok_or("no campaign")?;
+    let head = present(HeadId::new(2), "no head end")?;
+    let campaign = present(CampaignId::new(head, 1), "no campaign")?;
     Ok(name_of(campaign, release, image))
 }
 

@@ -5,7 +5,7 @@ use crate::session::Trial;
 use fw_image::TransferStatus;
 use std::alloc::Global;
 use std::test::Fail;
-use test_tables::{Reads, Words, each_line, named};
+use test_tables::{Reads, Words, each_line, named, present};
 
 /// All blocks of an image of 4,097 bytes are sent, and of one of 8,193.
 const CALLS: &str = "
@@ -29,7 +29,7 @@ impl Reads for Told {
         if let Told::Numbers = self {
             return numbers_text(alloc, Words::new(what));
         }
-        let calls = named(CALLS, what).ok_or("no calls have this name")?;
+        let calls = present(named(CALLS, what), "no calls have this name")?;
         let mut trial = Trial::none();
         verifying(alloc, &mut trial, calls)?;
         match self {

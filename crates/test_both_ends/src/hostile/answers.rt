@@ -9,6 +9,7 @@ use fw_wrapper::join;
 use std::alloc::Global;
 use std::test::Fail;
 use test_support::{SMALL, head, meter, setup_of};
+use test_tables::present;
 
 /// The phase of the row of the meter, and how often it returned to its start; none where it isn't live.
 fn row(core: &HeadCore) -> Result<Option<(Phase, u32)>, Fail> {
@@ -40,7 +41,7 @@ fn answered(alloc: Global, core: &mut HeadCore, answer: &[u8]) -> Result<usize, 
 
 /// A head end that sends up to `width` blocks at a time, and offers this image to the meter.
 fn opened(alloc: Global, width: u8, image: &[u8]) -> Result<HeadCore, Fail> {
-    let width = Width::new(width).ok_or("a width")?;
+    let width = present(Width::new(width), "a width")?;
     let mut core = HeadCore::new(alloc, head(7)?, width);
     core.open_campaign(alloc, 1, 0, image, &[meter(1)?])?;
     Ok(core)
@@ -58,7 +59,7 @@ fn had(
             core.tick(alloc, *meter)?;
         }
         Event::Deliver(number) => {
-            let datagram = sent.get(*number).ok_or("it was sent")?;
+            let datagram = present(sent.get(*number), "it was sent")?;
             if datagram.direction == Direction::ToHead {
                 return answered(alloc, core, &datagram.bytes);
             }

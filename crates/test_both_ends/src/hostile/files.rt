@@ -9,7 +9,7 @@ use fw_names::ImageName;
 use fw_store::{DeviceStore, FileStoreError, VERSION_TWO_SIZE};
 use std::alloc::Global;
 use std::test::Fail;
-use test_tables::{Reads, each_line};
+use test_tables::{Reads, each_line, present};
 
 /// Where the header of a file begins: after the capacity.
 const HEADER_AT: usize = 4;
@@ -32,8 +32,8 @@ fn slots_end(bytes: &[u8]) -> Result<usize, Fail> {
 
 /// The header of version 2 in the bytes of a file.
 fn header_of(bytes: &[u8]) -> Result<[u8; VERSION_TWO_SIZE], Fail> {
-    let front = bytes.get(HEADER_AT..SLOTS_AT).ok_or("a header")?;
-    let last = bytes.get(slots_end(bytes)?..).ok_or("two slots")?;
+    let front = present(bytes.get(HEADER_AT..SLOTS_AT), "a header")?;
+    let last = present(bytes.get(slots_end(bytes)?..), "two slots")?;
     if FRONT_SIZE.saturating_add(last.len()) != VERSION_TWO_SIZE {
         return Err("the header of an open meter isn't of version 2".into());
     }
@@ -181,7 +181,7 @@ fn each_length(alloc: Global, capacity: u32, size: usize, old: bool) -> Result<u
     }
     let mut tried = 0usize;
     for len in 0..=size.saturating_add(1) {
-        let cut = bytes.get(..len).ok_or("as many bytes")?;
+        let cut = present(bytes.get(..len), "as many bytes")?;
         if !is_taken_right(alloc, cut, &new, old, size)? {
             return failed(alloc, "the file isn't taken for what it is", len);
         }
@@ -253,7 +253,7 @@ fn turn_all(
     count: &mut Count,
 ) -> Result<(), Fail> {
     for at in start..end {
-        let whole = *file.get(at).ok_or("a byte of the file")?;
+        let whole = *present(file.get(at), "a byte of the file")?;
         for turn in 0..=255u8 {
             if !is_by_bits || turn.is_power_of_two() {
                 count.note(judged_with(alloc, file, at, whole ^ turn)?);

@@ -8,7 +8,7 @@ use fw_meter::MeterCore;
 use fw_store::{DeviceStore, FileStoreError};
 use std::alloc::Global;
 use std::test::Fail;
-use test_tables::Words;
+use test_tables::{Words, present};
 
 /// A campaign for a meter that runs `x`, with blocks of two bytes and room for eight; the first block comes as `zz`, and once more as `ab`,
 /// now under its old mark. A line for each operation: the request, the reply where the store failed, and the one where it is done; then
@@ -28,7 +28,7 @@ const READS: &str = "get-2 get-3 get-4 get-5 get-6 get-7 get-firmware";
 
 /// The request of the operation of this line, and its two replies.
 fn exchange(alloc: Global, line: &str) -> Result<Vec<Vec<u8>>, Fail> {
-    let (names, _) = line.split_once(':').ok_or("names and numbers")?;
+    let (names, _) = present(line.split_once(':'), "names and numbers")?;
     datagrams(alloc, names)
 }
 
@@ -91,7 +91,7 @@ struct Operation<'a> {
 
 /// The operation of this line with room for each number of bytes up to those that it writes.
 fn on_full_disks(alloc: Global, line: &str, before: &[u8], after: &[u8]) -> Result<usize, Fail> {
-    let (names, numbers) = line.split_once(':').ok_or("names and numbers")?;
+    let (names, numbers) = present(line.split_once(':'), "names and numbers")?;
     let mut words = Words::new(numbers);
     let block = (words.number()? as usize, words.number()? as usize);
     let writes = words.number()? as usize;
@@ -158,7 +158,7 @@ const OLD_SIZES: [usize; 2] = [634, 642];
 
 /// What such a file has of this one, whose goal has no block from 4,096 on. Its header begins as one of version 1.
 fn old_file(alloc: Global, file: &[u8], size: usize) -> Result<Vec<u8>, Fail> {
-    let mut old = file.get(..size).ok_or("an old file")?.to_vec(alloc)?;
+    let mut old = present(file.get(..size), "an old file")?.to_vec(alloc)?;
     if let Some(byte) = old.get_mut(7) {
         *byte = b'1';
     }
@@ -280,7 +280,7 @@ fn made_with_room(alloc: Global, file: &[u8], room: usize) -> Result<(), Fail> {
 fn a_store_on_a_full_disk(rt: HostRuntime) -> Result<(), Fail> {
     let alloc = rt.alloc();
     let files = files(alloc)?;
-    let file = files.last().ok_or("a file")?;
+    let file = present(files.last(), "a file")?;
     let mut tried = 0usize;
     for room in 0..=2_163 {
         made_with_room(alloc, file, room)?;
@@ -309,7 +309,7 @@ fn on_read_only_disk(alloc: Global, line: &str, before: &[u8]) -> Result<usize, 
 fn a_disk_that_is_only_read(rt: HostRuntime) -> Result<(), Fail> {
     let alloc = rt.alloc();
     let files = files(alloc)?;
-    let whole = files.last().ok_or("a file")?;
+    let whole = present(files.last(), "a file")?;
     let disk = Disk::with(alloc, whole)?;
     if is_made(&disk, Takes::Nothing)? || !disk.holds(whole) {
         return failed(alloc, "a store is made", 0);

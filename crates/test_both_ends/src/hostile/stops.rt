@@ -11,7 +11,7 @@ use std::alloc::Global;
 use std::ops::Range;
 use std::test::Fail;
 use test_support::{SMALL, head, meter, old_setup_of, setup_of};
-use test_tables::Words;
+use test_tables::{Words, present};
 
 /// How many events of the campaign come before a datagram to the meter, its number, and how many calls of the store it makes: of a GET
 /// none, of a SET, an initiate and an activate one, of a new block and of a verify two.
@@ -47,7 +47,7 @@ fn restarted(alloc: Global, count: usize, datagram: Option<usize>) -> Result<Sig
 }
 
 fn sight(world: &World) -> Result<Sight, Fail> {
-    let core = world.meter(meter(1)?).ok_or("the meter of the setup")?;
+    let core = present(world.meter(meter(1)?), "the meter of the setup")?;
     let view = core.view();
     let [marks, ..] = view.marked;
     let seen = (
@@ -82,7 +82,7 @@ fn is_as_wanted(
 
 /// The world where the campaign goes on after these events.
 fn gone_on(alloc: Global, setup: &Setup, given: &[Event]) -> Result<World, Fail> {
-    let fates = Fates::new(&[Fate::Deliver]).ok_or("1 to 4,096 fates")?;
+    let fates = present(Fates::new(&[Fate::Deliver]), "1 to 4,096 fates")?;
     match schedule(alloc, setup, given, 20, &fates) {
         Ok(events) => world_of(alloc, setup, &events),
         Err(_) => Err("an event of the schedule is refused".into()),
@@ -91,8 +91,8 @@ fn gone_on(alloc: Global, setup: &Setup, given: &[Event]) -> Result<World, Fail>
 
 /// Each image that was switched to is the one that the campaign offers, and the meter is done.
 fn is_done(world: &World) -> Result<bool, Fail> {
-    let book = world.book(head(7)?).ok_or("the head end of the setup")?;
-    let campaign = CampaignId::new(head(7)?, 1).ok_or("a serial number begins at 1")?;
+    let book = present(world.book(head(7)?), "the head end of the setup")?;
+    let campaign = present(CampaignId::new(head(7)?, 1), "a serial number begins at 1")?;
     let same = world.activations().iter().all(|activation| activation.bytes.as_slice()
         == b"abc".as_slice());
     Ok(same && book.state(campaign, meter(1)?) == Some(RowState::Done))

@@ -4,7 +4,7 @@ use fw_meter::MeterCore;
 use fw_store::ImageStore;
 use std::alloc::Global;
 use std::test::Fail;
-use test_tables::named;
+use test_tables::{named, present};
 
 /// Datagrams to a meter, and its replies: an enable, which sets image_transfer_enabled to true; an initiate for `abc` of campaign 1 of head
 /// end 7, and one for the same of release 5; its two blocks of two bytes, and `zz` in place of the first; GETs of attributes 2 to 7, and of
@@ -35,7 +35,7 @@ const DATAGRAMS: &str = "
 pub(crate) fn datagrams(alloc: Global, names: &str) -> Result<Vec<Vec<u8>>, Fail> {
     let mut datagrams = Vec::new(alloc);
     for name in names.split(' ') {
-        let digits = named(DATAGRAMS, name).ok_or("no datagram has this name")?;
+        let digits = present(named(DATAGRAMS, name), "no datagram has this name")?;
         datagrams.push(hex::decode(alloc, digits)?)?;
     }
     Ok(datagrams)
@@ -60,7 +60,7 @@ fn push_reply<S: ImageStore + Drop>(
     ask: &[u8],
     replies: &mut Vec<u8>,
 ) -> Result<(), Fail> {
-    let reply = meter.handle(alloc, ask)?.reply.ok_or("a reply")?;
+    let reply = present(meter.handle(alloc, ask)?.reply, "a reply")?;
     replies.extend_from_slice(&reply)?;
     Ok(())
 }

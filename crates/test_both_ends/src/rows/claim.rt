@@ -3,6 +3,7 @@
 use fw_axdr::{AxdrError, read};
 use std::io::{self, Read};
 use std::test::Fail;
+use test_tables::present;
 
 /// As many bytes are read from standard input, before memory is taken.
 const MOST: usize = 64;
@@ -12,7 +13,7 @@ const MOST: usize = 64;
 fn data_of_standard_input(rt: HostRuntime) -> Result<(), Fail> {
     let mut buffer = [0; MOST];
     let count = rt.reader().read(&mut buffer)?;
-    let bytes = buffer.get(..count).ok_or("the bytes that were read")?;
+    let bytes = present(buffer.get(..count), "the bytes that were read")?;
     judge(&rt, bytes)?;
     if bytes.is_empty() && !matches!(read(rt.alloc(), bytes), Err(AxdrError::Truncated)) {
         return Err("no bytes are read as another answer than Truncated".into());

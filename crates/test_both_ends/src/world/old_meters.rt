@@ -5,7 +5,7 @@ use fw_world::{Setup, World};
 use std::alloc::Global;
 use std::test::Fail;
 use test_support::{meter, report};
-use test_tables::{Reads, each_line};
+use test_tables::{Reads, each_line, present};
 
 /// The limit of meter 1 after all events of a script, and then the report.
 #[derive(Clone, Copy)]
@@ -20,7 +20,7 @@ impl Reads for Limits {
 }
 
 fn limited_text(alloc: Global, setup: &Setup, world: &World) -> Result<String, Fail> {
-    let core = world.meter(meter(1)?).ok_or("meter 1 of the setup")?;
+    let core = present(world.meter(meter(1)?), "meter 1 of the setup")?;
     let limit = core.view().limit;
     let report = report(alloc, setup, world)?;
     Ok(format!(in alloc; "limit {limit}; {report}")?)

@@ -6,7 +6,7 @@ use fw_world::{Event, RunError, Setup, World, run};
 use std::alloc::{AllocError, Global};
 use std::test::Fail;
 use test_support::{push, report};
-use test_tables::{Reads, Words, each_line};
+use test_tables::{Reads, Words, each_line, present};
 
 /// A script, and N rounds after it, in which datagrams have some fates: `events SETUP: EVENTS | N FATE..` tells the events of the rounds,
 /// and `report ..` the report of the world after them, and how many turns there are.
@@ -15,16 +15,16 @@ struct Schedule;
 
 impl Reads for Schedule {
     fn told(&mut self, alloc: Global, what: &str) -> Result<String, Fail> {
-        let (script, rounds) = what.split_once('|').ok_or("a script without rounds")?;
-        let (told, script) = script.split_once(' ').ok_or("a script of two words")?;
+        let (script, rounds) = present(what.split_once('|'), "a script without rounds")?;
+        let (told, script) = present(script.split_once(' '), "a script of two words")?;
         let mut words = Words::new(rounds);
         let (rounds, fates) = (words.number()?, fates_of(alloc, words.rest())?);
-        let fates = Fates::new(&fates).ok_or("1 to 4,096 fates")?;
+        let fates = present(Fates::new(&fates), "1 to 4,096 fates")?;
         let (setup, given) = script_of(alloc, script)?;
         match schedule(alloc, &setup, &given, rounds, &fates) {
             Ok(events) if told == "events" => {
                 let rounds = events.as_slice().get(given.len()..);
-                Ok(events_text(alloc, rounds.ok_or("events of rounds")?)?)
+                Ok(events_text(alloc, present(rounds, "events of rounds")?)?)
             }
             Ok(events) => told_of(alloc, &setup, &events),
             Err(error) => Ok(refused_text(alloc, &error)?),

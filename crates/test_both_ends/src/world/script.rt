@@ -5,11 +5,11 @@ use fw_world::{Event, RunError, Setup, World, run};
 use std::alloc::Global;
 use std::test::Fail;
 use test_support::{events_of, old_setup_of, report, setup_of};
-use test_tables::{Reads, named};
+use test_tables::{Reads, named, present};
 
 /// The setup and the events of a script `SETUP: EVENTS`, by the names of `SETUPS` and `PARTS`. In `old SETUP` all meters are old ones.
 pub(crate) fn script_of(alloc: Global, script: &str) -> Result<(Setup, Vec<Event>), Fail> {
-    let (setup, events) = script.split_once(':').ok_or("a script without a setup")?;
+    let (setup, events) = present(script.split_once(':'), "a script without a setup")?;
     let setup = match setup.strip_prefix("old ") {
         Some(setup) => old_setup_of(alloc, setup_named(setup)?)?,
         None => setup_of(alloc, setup_named(setup)?)?,
@@ -18,7 +18,7 @@ pub(crate) fn script_of(alloc: Global, script: &str) -> Result<(Setup, Vec<Event
 }
 
 fn setup_named(name: &str) -> Result<&'static str, Fail> {
-    Ok(named(SETUPS, name).ok_or("no setup has this name")?)
+    present(named(SETUPS, name), "no setup has this name")
 }
 
 /// The world after all events, of which none is refused.
