@@ -7,4 +7,4 @@ mod tables;
 
 pub use expected::{expect, expect_at, present};
 pub use kept::Kept;
-pub use tables::{Reads, Words, each_line, each_prints, named};
+pub use tables::{FromWords, Reads, Words, each_line, each_part, each_prints, each_table, named};
