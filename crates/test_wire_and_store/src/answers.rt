@@ -11,7 +11,7 @@ use fw_names::factory_name;
 use fw_server::{Answer, ImageInfo, Outcome, answer};
 use std::alloc::Global;
 use std::test::Fail;
-use test_tables::{Reads, Words, each_line, present};
+use test_tables::{Reads, Words, each_table, present};
 
 #[derive(Clone, Copy)]
 enum Told {
@@ -31,10 +31,7 @@ impl Reads for Told {
         match self {
             Told::Answer => answer_text(alloc, 0xc1, &outcome(alloc, words)?),
             Told::Most => most_text(alloc, words.number()? as usize),
-            Told::Repeated => {
-                let invoke = words.word()?.parse::<u8>()?;
-                answer_text(alloc, invoke, &Outcome::SetCode(0))
-            }
+            Told::Repeated => answer_text(alloc, words.read::<u8>()?, &Outcome::SetCode(0)),
             Told::Wrapped => wrapped_text(alloc, words),
         }
     }
@@ -49,16 +46,12 @@ fn answer_text(alloc: Global, invoke: u8, outcome: &Outcome) -> Result<String, F
 /// An answer by its name: a code of a service, or what is got.
 fn outcome(alloc: Global, mut words: Words<'_>) -> Result<Outcome, Fail> {
     Ok(match words.word()? {
-        "get-code" => Outcome::GetCode(byte(words)?),
-        "set-code" => Outcome::SetCode(byte(words)?),
-        "action-code" => Outcome::ActionCode(byte(words)?),
+        "get-code" => Outcome::GetCode(words.read::<u8>()?),
+        "set-code" => Outcome::SetCode(words.read::<u8>()?),
+        "action-code" => Outcome::ActionCode(words.read::<u8>()?),
         "transferred-blocks" => Outcome::Got(Answer::TransferredBlocks(blocks(alloc, words)?)),
         word => Outcome::Got(got(word, words)?),
     })
-}
-
-fn byte(mut words: Words<'_>) -> Result<u8, Fail> {
-    Ok(words.word()?.parse::<u8>()?)
 }
 
 /// N blocks, and the bytes of their bits.
@@ -74,7 +67,7 @@ fn got(word: &str, mut words: Words<'_>) -> Result<Answer, Fail> {
         "block-size" => Answer::BlockSize(words.number()?),
         "first-not-transferred" => Answer::FirstNotTransferred(words.number()?),
         "enabled" => Answer::TransferEnabled(words.rest() == "true"),
-        "status" => Answer::TransferStatus(byte(words)?),
+        "status" => Answer::TransferStatus(words.read::<u8>()?),
         "nothing-to-activate" => Answer::ToActivate(None),
         "to-activate" => Answer::ToActivate(Some(ImageInfo {
             size: 3,
@@ -163,8 +156,8 @@ const REPEATED: &str = "
 ";
 
 fn wrapped_text(alloc: Global, mut words: Words<'_>) -> Result<String, Fail> {
-    let dest = words.word()?.parse::<u16>()?;
-    let outcome = Outcome::Got(Answer::TransferStatus(byte(words)?));
+    let (dest, status): (u16, u8) = words.read()?;
+    let outcome = Outcome::Got(Answer::TransferStatus(status));
     let datagram = wrapped_answer(alloc, 1, dest, &Invoke(0xc1), &outcome);
     Ok(hex::encode(alloc, datagram.as_deref().unwrap_or(&[]))?)
 }
@@ -176,8 +169,13 @@ const WRAPPED: &str = "
 
 #[test]
 fn each_answer(rt: HostRuntime) -> Result<(), Fail> {
-    each_line(rt.alloc(), &mut Told::Answer, TOLD)?;
-    each_line(rt.alloc(), &mut Told::Most, MOST)?;
-    each_line(rt.alloc(), &mut Told::Repeated, REPEATED)?;
-    each_line(rt.alloc(), &mut Told::Wrapped, WRAPPED)
+    each_table(
+        rt.alloc(),
+        &[
+            (Told::Answer, TOLD),
+            (Told::Most, MOST),
+            (Told::Repeated, REPEATED),
+            (Told::Wrapped, WRAPPED),
+        ],
+    )
 }

@@ -5,7 +5,7 @@ use fw_axdr::AxdrError;
 use fw_wrapper::WrapError;
 use std::alloc::{AllocError, Global};
 use std::test::Fail;
-use test_tables::{Reads, each_line, each_prints};
+use test_tables::{Reads, each_prints, each_table};
 
 /// Which faults bytes in hexadecimal have.
 #[derive(Clone, Copy)]
@@ -158,10 +158,15 @@ const WRAPPER_NAMES: &[(WrapError, &str)] = &[
 
 #[test]
 fn each_fault(rt: HostRuntime) -> Result<(), Fail> {
-    each_line(rt.alloc(), &mut Faults::Request, FRONTS)?;
-    each_line(rt.alloc(), &mut Faults::Request, REQUESTS)?;
-    each_line(rt.alloc(), &mut Faults::Response, RESPONSES)?;
-    each_line(rt.alloc(), &mut Faults::Prefixes, WHOLE)?;
+    each_table(
+        rt.alloc(),
+        &[
+            (Faults::Request, FRONTS),
+            (Faults::Request, REQUESTS),
+            (Faults::Response, RESPONSES),
+            (Faults::Prefixes, WHOLE),
+        ],
+    )?;
     each_prints(rt.alloc(), NAMES)?;
     each_prints(rt.alloc(), WRAPPER_NAMES)
 }

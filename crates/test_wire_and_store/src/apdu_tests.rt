@@ -8,7 +8,7 @@ use fw_apdu::{
 use fw_axdr::AxdrError;
 use std::alloc::Global;
 use std::test::Fail;
-use test_tables::{Reads, Words, each_line, present};
+use test_tables::{Reads, Words, each_table, present};
 
 /// What is reported of bytes in hexadecimal, or of words.
 #[derive(Clone, Copy)]
@@ -99,8 +99,7 @@ const RESPONSES: &str = "
 
 fn code_text(alloc: Global, mut words: Words<'_>) -> Result<String, Fail> {
     let invoke = Invoke(0xc1);
-    let service = words.word()?;
-    let code = words.word()?.parse::<u8>()?;
+    let (service, code): (&str, u8) = words.read()?;
     Ok(match service {
         "get" => hex::encode(alloc, get_code(invoke, code))?,
         "set" => hex::encode(alloc, set_code(invoke, code))?,
@@ -178,10 +177,15 @@ const NINE: &str = "
 
 #[test]
 fn requests_and_responses(rt: HostRuntime) -> Result<(), Fail> {
-    each_line(rt.alloc(), &mut Told::Request, REQUESTS)?;
-    each_line(rt.alloc(), &mut Told::Response, RESPONSES)?;
-    each_line(rt.alloc(), &mut Told::Code, CODES)?;
-    each_line(rt.alloc(), &mut Told::Object, OBJECTS)?;
-    each_line(rt.alloc(), &mut Told::Byte, INVOKES)?;
-    each_line(rt.alloc(), &mut Told::Nine, NINE)
+    each_table(
+        rt.alloc(),
+        &[
+            (Told::Request, REQUESTS),
+            (Told::Response, RESPONSES),
+            (Told::Code, CODES),
+            (Told::Object, OBJECTS),
+            (Told::Byte, INVOKES),
+            (Told::Nine, NINE),
+        ],
+    )
 }

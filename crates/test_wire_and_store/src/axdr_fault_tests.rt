@@ -4,7 +4,7 @@ use crate::support::joined;
 use fw_axdr::{AxdrError, read};
 use std::alloc::{AllocError, Global};
 use std::test::Fail;
-use test_tables::{Reads, each_line, present};
+use test_tables::{Reads, each_table, present};
 
 /// The fault of the parts, one after another, by the first letter of its name, or `.`; D is for the depth.
 fn letter(alloc: Global, parts: &[&[u8]]) -> Result<&'static str, AllocError> {
@@ -109,7 +109,12 @@ const INNERMOST: &str = "
 
 #[test]
 fn each_tag_each_size_and_each_depth(rt: HostRuntime) -> Result<(), Fail> {
-    each_line(rt.alloc(), &mut Made::Tags, TAGS)?;
-    each_line(rt.alloc(), &mut Made::Fixed, FIXED)?;
-    each_line(rt.alloc(), &mut Made::Innermost, INNERMOST)
+    each_table(
+        rt.alloc(),
+        &[
+            (Made::Tags, TAGS),
+            (Made::Fixed, FIXED),
+            (Made::Innermost, INNERMOST),
+        ],
+    )
 }

@@ -4,7 +4,7 @@ use crate::support::{deepened, joined};
 use fw_axdr::{Data, read, unwritable, write_to};
 use std::alloc::Global;
 use std::test::Fail;
-use test_tables::{Reads, Words, each_line};
+use test_tables::{Reads, Words, each_line, each_table};
 
 /// What is reported of bytes in hexadecimal.
 #[derive(Clone, Copy)]
@@ -173,14 +173,19 @@ const FAULTS: &str = "
 
 #[test]
 fn spellings(rt: HostRuntime) -> Result<(), Fail> {
-    each_line(rt.alloc(), &mut Told::Value, SHORT)?;
-    each_line(rt.alloc(), &mut Told::Short, LENIENT)?;
-    each_line(rt.alloc(), &mut Told::Short, FAULTS)
+    each_table(
+        rt.alloc(),
+        &[
+            (Told::Value, SHORT),
+            (Told::Short, LENIENT),
+            (Told::Short, FAULTS),
+        ],
+    )
 }
 
 fn lengths_text(alloc: Global, tag: &[u8], mut words: Words<'_>) -> Result<String, Fail> {
-    let len = words.number()?;
-    let shortest = hex::decode(alloc, words.word()?)?;
+    let (len, shortest): (u32, &str) = words.read()?;
+    let shortest = hex::decode(alloc, shortest)?;
     let size = if tag.first() == Some(&0x04) {
         len.div_ceil(8)
     } else {

@@ -4,7 +4,7 @@ use crate::support::{bits_of, marked, numbers_of};
 use fw_blocks::{BlockSet, Geometry, MARKS_SIZE, MAX_BLOCKS, Pages, Width, Window};
 use std::alloc::{AllocError, Global};
 use std::test::Fail;
-use test_tables::{Reads, Words, each_line, present};
+use test_tables::{Reads, Words, each_table, present};
 
 /// What is reported of numbers, lists of which have commas, or `-` where they are empty.
 #[derive(Clone, Copy)]
@@ -55,7 +55,7 @@ impl Reads for Told {
             Told::EveryOther => every_other_text(alloc, words.number()?),
             Told::Runs => runs_text(alloc, &set_of(alloc, &mut words)?),
             Told::AllPages => all_pages_text(alloc, words.number()?),
-            Told::Marks => marks_text(alloc, marks_of(alloc, &mut words)?),
+            Told::Marks => marks_text(alloc, marks_of(alloc, what)?),
             Told::AllMarks => all_marks_text(alloc, words.number()?),
             Told::TwoPages => two_pages_text(alloc, words),
             Told::Below => below_text(alloc, words),
@@ -82,11 +82,12 @@ fn pages_told(
 }
 
 fn geometry_text(alloc: Global, mut words: Words<'_>) -> Result<String, Fail> {
-    let Some(geometry) = Geometry::new(words.number()?, words.number()?) else {
+    let [block_size, size, number]: [u32; 3] = words.read()?;
+    let Some(geometry) = Geometry::new(block_size, size) else {
         return Ok(String::from_str(alloc, "none")?);
     };
     let (block_size, size) = (geometry.block_size(), geometry.size());
-    let (count, range) = (geometry.count(), geometry.range(words.number()?));
+    let (count, range) = (geometry.count(), geometry.range(number));
     Ok(format!(in alloc; "{block_size} {size} {count} {range:?}")?)
 }
 
@@ -125,8 +126,8 @@ fn nonzero(alloc: Global, bytes: &[u8]) -> Result<String, AllocError> {
 }
 
 fn set_of(alloc: Global, words: &mut Words<'_>) -> Result<BlockSet, Fail> {
-    let count = words.number()?;
-    let numbers = numbers_of(alloc, words.word()?)?;
+    let (count, list): (u32, &str) = words.read()?;
+    let numbers = numbers_of(alloc, list)?;
     let mut set = BlockSet::empty(alloc, count)?;
     for number in numbers.iter() {
         if *number < set.count() {
@@ -160,7 +161,7 @@ const SETS: &str = "
 ";
 
 fn shown_text(alloc: Global, mut words: Words<'_>) -> Result<String, Fail> {
-    let (len, count) = (words.number()?, words.number()?);
+    let [len, count]: [u32; 2] = words.read()?;
     let bits = bits_of(alloc, &hex::decode(alloc, words.rest())?, len as usize)?;
     Ok(match BlockSet::from_bits(alloc, &bits, count)? {
         Some(set) => set_text(alloc, &set)?,
@@ -227,8 +228,8 @@ const RUNS: &str = "
 
 /// Pages of a count of which these are marked, and `None` for too many.
 fn pages_of(alloc: Global, words: &mut Words<'_>) -> Result<Option<Pages>, Fail> {
-    let count = words.number()?;
-    let numbers = numbers_of(alloc, words.word()?)?;
+    let (count, list): (u32, &str) = words.read()?;
+    let numbers = numbers_of(alloc, list)?;
     Ok(Pages::new(count).map(|pages| marked(pages, &numbers)))
 }
 
@@ -299,8 +300,9 @@ const ALL_PAGED: &str = "
     16384 => 0, 16384
 ";
 
-fn marks_of(alloc: Global, words: &mut Words<'_>) -> Result<Pages, Fail> {
-    let numbers = numbers_of(alloc, words.word()?)?;
+/// Marks with the numbers of a list.
+fn marks_of(alloc: Global, list: &str) -> Result<Pages, Fail> {
+    let numbers = numbers_of(alloc, list)?;
     Ok(marked(Pages::none(), &numbers))
 }
 
@@ -340,8 +342,8 @@ const ALL_MARKED: &str = "
 ";
 
 fn two_pages_text(alloc: Global, mut words: Words<'_>) -> Result<String, Fail> {
-    let page = words.number()? as usize;
-    let marks = marks_of(alloc, &mut words)?;
+    let (page, list): (u32, &str) = words.read()?;
+    let (page, marks) = (page as usize, marks_of(alloc, list)?);
     let mut bytes = [0xff; 16];
     if page <= 254 {
         marks.put_bytes(page, &mut bytes);
@@ -357,8 +359,8 @@ const TWO_PAGES: &str = "
 ";
 
 fn below_text(alloc: Global, mut words: Words<'_>) -> Result<String, Fail> {
-    let marks = marks_of(alloc, &mut words)?;
-    let count = words.number()?;
+    let (list, count): (&str, u32) = words.read()?;
+    let marks = marks_of(alloc, list)?;
     let bits = marks.to_bits(alloc, count)?;
     let shown = nonzero(alloc, bits.as_bytes())?;
     let (first, len) = (marks.first_missing_below(count), bits.as_bytes().len());
@@ -424,7 +426,7 @@ const RESIZED: &str = "
 ";
 
 fn window_text(alloc: Global, set: &BlockSet, mut words: Words<'_>) -> Result<String, Fail> {
-    let Some(width) = Width::new(words.word()?.parse::<u8>()?) else {
+    let Some(width) = Width::new(words.read::<u8>()?) else {
         return Ok(String::from_str(alloc, "no width")?);
     };
     let window = Window::next(set, width);
@@ -446,22 +448,32 @@ const WINDOWS: &str = "
 
 #[test]
 fn blocks_and_sets(rt: HostRuntime) -> Result<(), Fail> {
-    each_line(rt.alloc(), &mut Told::Geometry, GEOMETRIES)?;
-    each_line(rt.alloc(), &mut Told::Set, SETS)?;
-    each_line(rt.alloc(), &mut Told::Shown, SHOWN)?;
-    each_line(rt.alloc(), &mut Told::EveryOther, EVERY_OTHER)?;
-    each_line(rt.alloc(), &mut Told::Runs, RUNS)?;
-    each_line(rt.alloc(), &mut Told::Pages, PAGED)?;
-    each_line(rt.alloc(), &mut Told::AllPages, ALL_PAGED)
+    each_table(
+        rt.alloc(),
+        &[
+            (Told::Geometry, GEOMETRIES),
+            (Told::Set, SETS),
+            (Told::Shown, SHOWN),
+            (Told::EveryOther, EVERY_OTHER),
+            (Told::Runs, RUNS),
+            (Told::Pages, PAGED),
+            (Told::AllPages, ALL_PAGED),
+        ],
+    )
 }
 
 #[test]
 fn marks_and_windows(rt: HostRuntime) -> Result<(), Fail> {
-    each_line(rt.alloc(), &mut Told::Marks, MARKED)?;
-    each_line(rt.alloc(), &mut Told::AllMarks, ALL_MARKED)?;
-    each_line(rt.alloc(), &mut Told::TwoPages, TWO_PAGES)?;
-    each_line(rt.alloc(), &mut Told::Below, BELOW)?;
-    each_line(rt.alloc(), &mut Told::PagesBelow, PAGED_BELOW)?;
-    each_line(rt.alloc(), &mut Told::Resized, RESIZED)?;
-    each_line(rt.alloc(), &mut Told::Window, WINDOWS)
+    each_table(
+        rt.alloc(),
+        &[
+            (Told::Marks, MARKED),
+            (Told::AllMarks, ALL_MARKED),
+            (Told::TwoPages, TWO_PAGES),
+            (Told::Below, BELOW),
+            (Told::PagesBelow, PAGED_BELOW),
+            (Told::Resized, RESIZED),
+            (Told::Window, WINDOWS),
+        ],
+    )
 }

@@ -126,7 +126,8 @@ fn read_text<S: ImageStore>(
     store: &mut S,
     mut words: Words<'_>,
 ) -> Result<String, Fail> {
-    let (slot, at, count) = (slot_of(words.word()?)?, words.number()?, words.number()?);
+    let (slot, at, count): (&str, u32, u32) = words.read()?;
+    let slot = slot_of(slot)?;
     if u64::from(at) + u64::from(count) > u64::from(store.capacity()) {
         return Ok(String::from_str(alloc, "outside")?);
     }
@@ -142,7 +143,8 @@ fn write_text<S: ImageStore>(
     store: &mut S,
     mut words: Words<'_>,
 ) -> Result<String, Fail> {
-    let (slot, at) = (slot_of(words.word()?)?, words.number()?);
+    let (slot, at): (&str, u32) = words.read()?;
+    let slot = slot_of(slot)?;
     let bytes = words.rest().as_bytes();
     if u64::from(at) + bytes.len() as u64 > u64::from(store.capacity()) {
         return Ok(String::from_str(alloc, "outside")?);

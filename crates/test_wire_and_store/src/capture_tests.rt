@@ -5,7 +5,7 @@ use fw_capture::{Captured, Content, Note, append_packet, file_header};
 use std::alloc::Global;
 use std::net::SocketAddr;
 use std::test::Fail;
-use test_tables::{Reads, Words, each_line, expect_at, present};
+use test_tables::{Reads, Words, each_table, expect_at, present};
 
 /// A byte and the record of a packet after it, or the refusal and how many bytes there are then.
 fn appended(alloc: Global, captured: &Captured<'_>) -> Result<String, Fail> {
@@ -35,15 +35,19 @@ impl Reads for Told {
     fn told(&mut self, alloc: Global, what: &str) -> Result<String, Fail> {
         let mut words = Words::new(what);
         match self {
-            Told::Datagram => datagram_text(alloc, words.word()?.parse::<u64>()?, words),
-            Told::Size => size_text(alloc, address(words.word()?)?, words.number()? as usize),
-            Told::Note => note_text(alloc, words.word()?.parse::<u64>()?, words.rest()),
+            Told::Datagram => datagram_text(alloc, words.read::<u64>()?, words),
+            Told::Size => {
+                let (at, size): (&str, u32) = words.read()?;
+                size_text(alloc, address(at)?, size as usize)
+            }
+            Told::Note => note_text(alloc, words.read::<u64>()?, words.rest()),
         }
     }
 }
 
 fn datagram_text(alloc: Global, nanoseconds: u64, mut words: Words<'_>) -> Result<String, Fail> {
-    let (from, to) = (address(words.word()?)?, address(words.word()?)?);
+    let [from, to]: [&str; 2] = words.read()?;
+    let (from, to) = (address(from)?, address(to)?);
     let bytes = hex::decode(alloc, words.rest())?;
     let content = Content::Datagram {
         from,
@@ -123,7 +127,12 @@ fn captures_are_written(rt: HostRuntime) -> Result<(), Fail> {
     let header = hex::encode(alloc, header.as_slice())?;
     let want = "4d3cb2a1020004000000000000000000ffff000065000000";
     expect_at(alloc, "the file header", header.as_str(), want)?;
-    each_line(alloc, &mut Told::Datagram, SENT)?;
-    each_line(alloc, &mut Told::Size, SIZES)?;
-    each_line(alloc, &mut Told::Note, NOTES)
+    each_table(
+        alloc,
+        &[
+            (Told::Datagram, SENT),
+            (Told::Size, SIZES),
+            (Told::Note, NOTES),
+        ],
+    )
 }

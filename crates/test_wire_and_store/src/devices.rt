@@ -5,7 +5,7 @@ use crate::test_device::TestDevice;
 use fw_store::{ByteDevice, DeviceStore, FileStoreError, ImageStore};
 use std::alloc::{AllocError, Global};
 use std::test::Fail;
-use test_tables::{Kept, Reads, Words, each_line, each_prints};
+use test_tables::{Kept, Reads, Words, each_prints, each_table};
 
 /// A new store of 8 bytes a slot, on a device with room for as many bytes as it has.
 fn fresh(alloc: Global) -> Result<DeviceStore<TestDevice>, Fail> {
@@ -166,10 +166,15 @@ const OVER: &str = "
 
 #[test]
 fn the_bytes_of_a_store(rt: HostRuntime) -> Result<(), Fail> {
-    each_line(rt.alloc(), &mut Told::Stored, STORED)?;
-    each_line(rt.alloc(), &mut Told::Stored, OLD)?;
-    each_line(rt.alloc(), &mut Told::Stored, WITHIN)?;
-    each_line(rt.alloc(), &mut Told::Stored, OVER)
+    each_table(
+        rt.alloc(),
+        &[
+            (Told::Stored, STORED),
+            (Told::Stored, OLD),
+            (Told::Stored, WITHIN),
+            (Told::Stored, OVER),
+        ],
+    )
 }
 
 #[test]
@@ -241,9 +246,8 @@ const OPENED: &str = "
 ";
 
 fn created_text(alloc: Global, mut words: Words<'_>) -> Result<String, Fail> {
-    let (room, capacity) = (words.number()? as usize, words.number()?);
-    let block_size = words.number()?;
-    let device = TestDevice::new(alloc, room)?;
+    let [room, capacity, block_size]: [u32; 3] = words.read()?;
+    let device = TestDevice::new(alloc, room as usize)?;
     let store = DeviceStore::create_on(device, capacity, block_size, words.rest().as_bytes());
     Ok(format!(in alloc; "{:?}", store.err())?)
 }
@@ -263,20 +267,23 @@ const CREATED: &str = "
 
 #[test]
 fn which_stores_are_opened_and_made(rt: HostRuntime) -> Result<(), Fail> {
-    each_line(rt.alloc(), &mut Told::Opened, OPENED)?;
-    each_line(rt.alloc(), &mut Told::Created, CREATED)
+    each_table(
+        rt.alloc(),
+        &[(Told::Opened, OPENED), (Told::Created, CREATED)],
+    )
 }
 
 fn failing_text(alloc: Global, mut words: Words<'_>) -> Result<String, Fail> {
-    let refusal = match words.word()? {
+    let (what, calls): (&str, u64) = words.read()?;
+    let refusal = match what {
         "made" => {
             let mut device = TestDevice::new(alloc, 2178)?;
-            device.calls_left = Some(u64::from(words.number()?));
+            device.calls_left = Some(calls);
             DeviceStore::create_on(device, 8, 2, b"abc").err()
         }
         _ => {
             let mut device = fresh(alloc)?.into_device();
-            device.calls_left = Some(u64::from(words.number()?));
+            device.calls_left = Some(calls);
             DeviceStore::reopen_on(device).err()
         }
     };
@@ -331,7 +338,9 @@ const REFUSALS: &[(FileStoreError, &str)] = &[
 
 #[test]
 fn devices_that_fail(rt: HostRuntime) -> Result<(), Fail> {
-    each_line(rt.alloc(), &mut Told::Failing, FAILING)?;
-    each_line(rt.alloc(), &mut Told::Stored, LEFT)?;
+    each_table(
+        rt.alloc(),
+        &[(Told::Failing, FAILING), (Told::Stored, LEFT)],
+    )?;
     each_prints(rt.alloc(), REFUSALS)
 }

@@ -6,7 +6,7 @@ use fw_verify::{Digesting, digest};
 use sha2::{Digest, Sha256};
 use std::alloc::Global;
 use std::test::Fail;
-use test_tables::{Kept, Reads, Words, each_line, present};
+use test_tables::{Kept, Reads, Words, each_table, present};
 
 #[derive(Clone, Copy)]
 enum Told {
@@ -57,12 +57,10 @@ fn digest_in(
 }
 
 fn published_text(alloc: Global, mut words: Words<'_>) -> Result<String, Fail> {
-    let slot = slot_of(words.word()?)?;
-    let found = present(
-        digest_in(alloc, slot, b"abcd", words.number()?, 9)?,
-        "a fault",
-    )?;
-    Ok(hex::encode(alloc, found)?)
+    let (slot, size): (&str, u32) = words.read()?;
+    let found = digest_in(alloc, slot_of(slot)?, b"abcd", size, 9)?;
+    let digest = present(found, "a fault")?;
+    Ok(hex::encode(alloc, digest)?)
 }
 
 /// The SHA-256 of no bytes, and of `abc`.
@@ -104,7 +102,7 @@ const WHOLE: &str = "
 ";
 
 fn failing_text(alloc: Global, mut words: Words<'_>) -> Result<String, Fail> {
-    let (size, calls) = (words.number()?, u64::from(words.number()?));
+    let (size, calls): (u32, u64) = words.read()?;
     let found = digest_in(alloc, Slot::First, b"abc", size, calls)?.is_some();
     Ok(format!(in alloc; "{found}")?)
 }
@@ -165,8 +163,13 @@ const STEPS: &str = "
 
 #[test]
 fn digests(rt: HostRuntime) -> Result<(), Fail> {
-    each_line(rt.alloc(), &mut Told::Published, PUBLISHED)?;
-    each_line(rt.alloc(), &mut Told::Whole, WHOLE)?;
-    each_line(rt.alloc(), &mut Told::Failing, FAILING)?;
-    each_line(rt.alloc(), &mut Told::Steps, STEPS)
+    each_table(
+        rt.alloc(),
+        &[
+            (Told::Published, PUBLISHED),
+            (Told::Whole, WHOLE),
+            (Told::Failing, FAILING),
+            (Told::Steps, STEPS),
+        ],
+    )
 }

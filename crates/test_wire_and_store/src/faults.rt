@@ -1,6 +1,6 @@
 //! Transfers whose store fails.
 
-use crate::session::{TO_VERIFIED, session};
+use crate::session::{TO_VERIFIED, sessions};
 use std::test::Fail;
 
 /// The read of the image fails, or the write of the header. Then it is verified all the same.
@@ -89,11 +89,14 @@ const OTHER_HEADERS_THAT_ARE_NOT_WRITTEN: &str = "
 
 #[test]
 fn each_call_that_fails(rt: HostRuntime) -> Result<(), Fail> {
-    session(rt.alloc(), false, &[A_VERIFY_THAT_FAILS])?;
-    session(rt.alloc(), false, &[A_SPOILT_VERIFY_THAT_FAILS])?;
-    session(rt.alloc(), false, &[A_BLOCK_THAT_FAILS])?;
-    // stopped before the switch and after it
-    session(rt.alloc(), false, &[TO_VERIFIED, STOP_BEFORE])?;
-    session(rt.alloc(), false, &[TO_VERIFIED, STOP_AFTER])?;
-    session(rt.alloc(), false, &[OTHER_HEADERS_THAT_ARE_NOT_WRITTEN])
+    let failing: &[&[&str]] = &[
+        &[A_VERIFY_THAT_FAILS],
+        &[A_SPOILT_VERIFY_THAT_FAILS],
+        &[A_BLOCK_THAT_FAILS],
+        // stopped before the switch and after it
+        &[TO_VERIFIED, STOP_BEFORE],
+        &[TO_VERIFIED, STOP_AFTER],
+        &[OTHER_HEADERS_THAT_ARE_NOT_WRITTEN],
+    ];
+    sessions(rt.alloc(), false, failing)
 }

@@ -59,7 +59,10 @@ impl Place<'_> {
         mut words: Words<'_>,
     ) -> Result<&'static str, Fail> {
         match word {
-            "create" => return Ok(self.create(words.number()?, words.number()?)),
+            "create" => {
+                let [capacity, block_size]: [u32; 2] = words.read()?;
+                return Ok(self.create(capacity, block_size));
+            }
             "reopen" => return Ok(self.reopen()),
             "look" => return self.look(),
             "exists" => return self.exists(),

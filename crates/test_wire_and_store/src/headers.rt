@@ -10,7 +10,7 @@ use fw_store::{
 };
 use std::alloc::{AllocError, Global};
 use std::test::Fail;
-use test_tables::{Reads, Words, each_line, present};
+use test_tables::{Reads, Words, each_table, present};
 
 /// The bytes of this version with these parts, each from an offset on, and zeros elsewhere.
 fn with_parts(version: HeaderVersion, parts: &[(usize, &[u8])]) -> Option<HeaderBytes> {
@@ -78,9 +78,9 @@ struct Taken;
 impl Reads for Taken {
     fn told(&mut self, alloc: Global, what: &str) -> Result<String, Fail> {
         let mut words = Words::new(what);
-        let (version, capacity) = (version_of(words.word()?)?, words.number()?);
-        let front = front_of(alloc, words.word()?)?;
-        let front = present(padded(version, &front), "it is too long")?;
+        let (version, capacity, front): (&str, u32, &str) = words.read()?;
+        let front = front_of(alloc, front)?;
+        let front = present(padded(version_of(version)?, &front), "it is too long")?;
         let once = patched(alloc, front, &mut words)?;
         let bytes = patched(alloc, once, &mut words)?;
         Ok(String::from_str(alloc, read_text(capacity, &bytes))?)
@@ -269,12 +269,17 @@ pub(crate) const RELEASES_AT: usize = 614;
 
 #[test]
 fn headers_are_read_and_others_refused(rt: HostRuntime) -> Result<(), Fail> {
-    each_line(rt.alloc(), &mut Taken, HEADERS)?;
-    each_line(rt.alloc(), &mut Taken, REFUSED)?;
-    each_line(rt.alloc(), &mut Taken, RELEASES)?;
-    each_line(rt.alloc(), &mut Taken, NAMES)?;
-    each_line(rt.alloc(), &mut Taken, OLD)?;
-    each_line(rt.alloc(), &mut Taken, LARGE)
+    each_table(
+        rt.alloc(),
+        &[
+            (Taken, HEADERS),
+            (Taken, REFUSED),
+            (Taken, RELEASES),
+            (Taken, NAMES),
+            (Taken, OLD),
+            (Taken, LARGE),
+        ],
+    )
 }
 
 #[derive(Clone, Copy)]
@@ -304,8 +309,9 @@ impl Reads for Told {
 }
 
 fn written_text(alloc: Global, mut words: Words<'_>) -> Result<String, Fail> {
-    let header = header_of(words.word()?);
-    let front = front_of(alloc, words.word()?)?;
+    let [name, front]: [&str; 2] = words.read()?;
+    let header = header_of(name);
+    let front = front_of(alloc, front)?;
     let last = hex::decode(alloc, words.rest())?;
     let front = present(padded(HeaderVersion::Two, &front), "it is too long")?;
     let bytes = present(with_patch(&front, RELEASES_AT, &last), "it is too long")?;
@@ -341,8 +347,9 @@ fn compared_text(
 }
 
 fn written_old_text(alloc: Global, mut words: Words<'_>) -> Result<String, Fail> {
-    let header = old_receiving(&numbers_of(alloc, words.word()?)?);
-    let front = front_of(alloc, words.word()?)?;
+    let [marks, front]: [&str; 2] = words.read()?;
+    let header = old_receiving(&numbers_of(alloc, marks)?);
+    let front = front_of(alloc, front)?;
     let front = present(padded(HeaderVersion::One, &front), "it is too long")?;
     let bytes = present(with_patch(&front, 0, b"FWH1"), "it is too long")?;
     Ok(compared_text(alloc, &header, &bytes)?)
@@ -471,9 +478,14 @@ const SLOTS: &str = "
 
 #[test]
 fn headers_are_written(rt: HostRuntime) -> Result<(), Fail> {
-    each_line(rt.alloc(), &mut Told::Written, WRITTEN)?;
-    each_line(rt.alloc(), &mut Told::WrittenOld, WRITTEN_OLD)?;
-    each_line(rt.alloc(), &mut Told::Version, VERSIONS)?;
-    each_line(rt.alloc(), &mut Told::Status, STATUSES)?;
-    each_line(rt.alloc(), &mut Told::Other, SLOTS)
+    each_table(
+        rt.alloc(),
+        &[
+            (Told::Written, WRITTEN),
+            (Told::WrittenOld, WRITTEN_OLD),
+            (Told::Version, VERSIONS),
+            (Told::Status, STATUSES),
+            (Told::Other, SLOTS),
+        ],
+    )
 }

@@ -126,8 +126,8 @@ impl Reads for Told {
         let mut words = Words::new(what);
         match self {
             Told::Cut => {
-                let calls = u64::from(words.number()?);
-                cut_text(alloc, calls, words.word()?.parse::<u8>()?)
+                let (calls, torn): (u64, u8) = words.read()?;
+                cut_text(alloc, calls, torn)
             }
             Told::Left => fates_text(alloc, what),
             Told::Rewritten => rewritten_text(alloc, u64::from(words.number()?)),

@@ -4,7 +4,7 @@ use crate::calls::{FRESH, KEPT, OLD_FRESH, WRITES, called};
 use fw_store::{ImageStore, MemoryStore, SetupError, StoreFault};
 use std::alloc::Global;
 use std::test::Fail;
-use test_tables::{Kept, Reads, Words, each_line, each_prints};
+use test_tables::{Kept, Reads, Words, each_line, each_part, each_prints, each_table};
 
 /// A store that can be made to fail. Its drop is written out, so that each place that drops it calls that.
 struct Tried(MemoryStore);
@@ -32,8 +32,8 @@ impl Reads for Tried {
         match words.word()? {
             "new" => self.0 = MemoryStore::new(alloc, words.number()?, 2, b"abc")?,
             "fuse" => {
-                let calls = u64::from(words.number()?);
-                self.0.fuse(calls, words.word()?.parse::<u8>()?);
+                let (calls, torn): (u64, u8) = words.read()?;
+                self.0.fuse(calls, torn);
             }
             "unfuse" => self.0.unfuse(),
             "same" => return same_text(alloc, &self.0, words),
@@ -55,19 +55,18 @@ fn same_text(alloc: Global, store: &MemoryStore, mut words: Words<'_>) -> Result
 #[test]
 fn keeps_what_is_written(rt: HostRuntime) -> Result<(), Fail> {
     let mut store = fresh(rt.alloc())?;
-    each_line(rt.alloc(), &mut store, FRESH)?;
-    each_line(rt.alloc(), &mut store, WRITES)?;
-    each_line(rt.alloc(), &mut store, KEPT)
+    each_part(rt.alloc(), &mut store, &[FRESH, WRITES, KEPT])
 }
 
 /// An old store has a header of version 1, and takes one of either version.
 #[test]
 fn keeps_what_is_written_into_an_old_one(rt: HostRuntime) -> Result<(), Fail> {
     let mut store = Tried(MemoryStore::new_old(rt.alloc(), 8, 2, b"abc")?);
-    each_line(rt.alloc(), &mut store, OLD_FRESH)?;
-    each_line(rt.alloc(), &mut store, WRITES)?;
-    each_line(rt.alloc(), &mut store, KEPT)?;
-    each_line(rt.alloc(), &mut store, OLD_AGAIN)
+    each_part(
+        rt.alloc(),
+        &mut store,
+        &[OLD_FRESH, WRITES, KEPT, OLD_AGAIN],
+    )
 }
 
 const OLD_AGAIN: &str = "
@@ -86,7 +85,7 @@ enum Made {
 impl Reads for Made {
     fn told(&mut self, alloc: Global, what: &str) -> Result<String, Fail> {
         let mut words = Words::new(what);
-        let (capacity, block_size) = (words.number()?, words.number()?);
+        let [capacity, block_size]: [u32; 2] = words.read()?;
         let factory = words.rest().as_bytes();
         match self {
             Made::New => made_text(
@@ -143,8 +142,7 @@ const OLD_SETUPS: &str = "
 
 #[test]
 fn setups(rt: HostRuntime) -> Result<(), Fail> {
-    each_line(rt.alloc(), &mut Made::New, SETUPS)?;
-    each_line(rt.alloc(), &mut Made::Old, OLD_SETUPS)?;
+    each_table(rt.alloc(), &[(Made::New, SETUPS), (Made::Old, OLD_SETUPS)])?;
     each_prints(
         rt.alloc(),
         &[
@@ -285,9 +283,7 @@ const TEARS: &str = "
 #[test]
 fn fuses(rt: HostRuntime) -> Result<(), Fail> {
     let mut store = fresh(rt.alloc())?;
-    each_line(rt.alloc(), &mut store, FUSES)?;
-    each_line(rt.alloc(), &mut store, FUSES_AGAIN)?;
-    each_line(rt.alloc(), &mut store, TEARS)
+    each_part(rt.alloc(), &mut store, &[FUSES, FUSES_AGAIN, TEARS])
 }
 
 /// Two stores are the same where capacity, header and slots are; fuses and faults don't count.

@@ -5,7 +5,7 @@ use crate::support::abc_name;
 use fw_names::{CampaignId, HeadId, ImageName, MeterId, digest_of, factory_name, is_risen};
 use std::alloc::Global;
 use std::test::Fail;
-use test_tables::{Reads, Words, each_line, present};
+use test_tables::{Reads, Words, each_table, present};
 
 #[derive(Clone, Copy)]
 enum Told {
@@ -82,7 +82,10 @@ const RELEASED: &str = "
 fn name_text(alloc: Global, mut words: Words<'_>) -> Result<String, Fail> {
     let name = match words.word()? {
         "factory" => Some(factory_name(b"abc")),
-        "offered" => abc_name(words.number()?, words.number()?, words.number()?),
+        "offered" => {
+            let [head, serial, release]: [u32; 3] = words.read()?;
+            abc_name(head, serial, release)
+        }
         _ => return Ok(hex::encode(alloc, digest_of(b"abc"))?),
     };
     Ok(match name {
@@ -113,8 +116,9 @@ fn number_text(alloc: Global, mut words: Words<'_>) -> Result<String, Fail> {
 }
 
 fn campaign_text(alloc: Global, mut words: Words<'_>) -> Result<String, Fail> {
-    let head = present(HeadId::new(words.number()?), "no head end")?;
-    let campaign = present(CampaignId::new(head, words.number()?), "no campaign")?;
+    let [head, serial]: [u32; 2] = words.read()?;
+    let head = present(HeadId::new(head), "no head end")?;
+    let campaign = present(CampaignId::new(head, serial), "no campaign")?;
     campaign_told(alloc, campaign)
 }
 
@@ -133,7 +137,8 @@ const NUMBERS: &str = "
 ";
 
 fn order_text(alloc: Global, mut words: Words<'_>) -> Result<String, Fail> {
-    let risen = is_risen(words.number()?, words.number()?);
+    let [before, after]: [u32; 2] = words.read()?;
+    let risen = is_risen(before, after);
     Ok(format!(in alloc; "{risen}")?)
 }
 
@@ -147,9 +152,14 @@ const ORDER: &str = "
 
 #[test]
 fn names_and_numbers(rt: HostRuntime) -> Result<(), Fail> {
-    each_line(rt.alloc(), &mut Told::Spelling, FRONTS)?;
-    each_line(rt.alloc(), &mut Told::Spelling, RELEASED)?;
-    each_line(rt.alloc(), &mut Told::Name, NAMES)?;
-    each_line(rt.alloc(), &mut Told::Number, NUMBERS)?;
-    each_line(rt.alloc(), &mut Told::Order, ORDER)
+    each_table(
+        rt.alloc(),
+        &[
+            (Told::Spelling, FRONTS),
+            (Told::Spelling, RELEASED),
+            (Told::Name, NAMES),
+            (Told::Number, NUMBERS),
+            (Told::Order, ORDER),
+        ],
+    )
 }

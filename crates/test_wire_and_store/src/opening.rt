@@ -11,7 +11,7 @@ use fw_store::{
 };
 use std::alloc::Global;
 use std::test::Fail;
-use test_tables::{Kept, Reads, Words, each_line, each_prints};
+use test_tables::{Kept, Reads, Words, each_prints, each_table};
 
 /// The header of a meter that has both blocks of a goal under the name of `bbbb`:
 ///
@@ -114,7 +114,8 @@ fn refusal(
 /// The store, and the same once its fuse is set.
 fn made(alloc: Global, what: &str) -> Result<MemoryStore, Fail> {
     let mut words = Words::new(what);
-    let (spare, _calls) = (words.word()?.as_bytes(), words.word()?);
+    let [spare, _calls]: [&str; 2] = words.read()?;
+    let spare = spare.as_bytes();
     let header = bytes_of(words)?;
     let mut store = Kept(MemoryStore::new(alloc, 64, 2, b"abc")?);
     if spare.len() > store.0.capacity() as usize {
@@ -127,7 +128,7 @@ fn made(alloc: Global, what: &str) -> Result<MemoryStore, Fail> {
 
 fn fused(alloc: Global, what: &str) -> Result<MemoryStore, Fail> {
     let mut words = Words::new(what);
-    let (_spare, calls) = (words.word()?, words.word()?);
+    let [_spare, calls]: [&str; 2] = words.read()?;
     if calls == "-" {
         return made(alloc, what);
     }
@@ -191,7 +192,6 @@ const REFUSALS: &[(OpenError, &str)] = &[
 
 #[test]
 fn each_store(rt: HostRuntime) -> Result<(), Fail> {
-    each_line(rt.alloc(), &mut Opened::Anew, STORED)?;
-    each_line(rt.alloc(), &mut Opened::Kept, KEPT)?;
+    each_table(rt.alloc(), &[(Opened::Anew, STORED), (Opened::Kept, KEPT)])?;
     each_prints(rt.alloc(), REFUSALS)
 }

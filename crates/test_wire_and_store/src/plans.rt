@@ -4,7 +4,7 @@ use fw_apdu::{Request, read_request};
 use fw_server::{Object, ResultCode, plan};
 use std::alloc::Global;
 use std::test::Fail;
-use test_tables::{Reads, each_line};
+use test_tables::{Reads, each_table};
 
 #[derive(Clone, Copy)]
 enum Told {
@@ -106,9 +106,14 @@ const REFUSALS: &str = "
 
 #[test]
 fn requests(rt: HostRuntime) -> Result<(), Fail> {
-    each_line(rt.alloc(), &mut Told::Asked, READS)?;
-    each_line(rt.alloc(), &mut Told::Asked, OPERATIONS)?;
-    each_line(rt.alloc(), &mut Told::Asked, REFUSALS)
+    each_table(
+        rt.alloc(),
+        &[
+            (Told::Asked, READS),
+            (Told::Asked, OPERATIONS),
+            (Told::Asked, REFUSALS),
+        ],
+    )
 }
 
 fn code_of(name: &str) -> Result<ResultCode, Fail> {
@@ -153,6 +158,5 @@ const OBJECTS: &str = "
 
 #[test]
 fn codes_and_logical_names(rt: HostRuntime) -> Result<(), Fail> {
-    each_line(rt.alloc(), &mut Told::Code, CODES)?;
-    each_line(rt.alloc(), &mut Told::Object, OBJECTS)
+    each_table(rt.alloc(), &[(Told::Code, CODES), (Told::Object, OBJECTS)])
 }

@@ -4,7 +4,7 @@ use crate::session::{Trial, session};
 use fw_image::Refusal;
 use std::alloc::Global;
 use std::test::Fail;
-use test_tables::{Reads, each_line, each_prints, named, present};
+use test_tables::{Reads, each_prints, each_table, named, present};
 
 /// Of calls by their name, a colon and what comes after them:
 #[derive(Clone, Copy)]
@@ -154,9 +154,10 @@ const DISABLED_MEANWHILE: &str = "
 
 #[test]
 fn leave_all_as_it_was(rt: HostRuntime) -> Result<(), Fail> {
-    each_line(rt.alloc(), &mut Told::Vain, VAIN)?;
-    each_line(rt.alloc(), &mut Told::Same, SAME)?;
-    each_line(rt.alloc(), &mut Told::Done, DONE)?;
+    each_table(
+        rt.alloc(),
+        &[(Told::Vain, VAIN), (Told::Same, SAME), (Told::Done, DONE)],
+    )?;
     each_prints(rt.alloc(), REFUSALS)?;
     session(rt.alloc(), false, &[DISABLED_MEANWHILE])
 }

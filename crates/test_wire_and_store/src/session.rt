@@ -10,7 +10,7 @@ use fw_names::{CampaignId, HeadId, ImageName, factory_name, name_of};
 use fw_store::{ImageStore, MemoryStore, Slot};
 use std::alloc::{AllocError, Global};
 use std::test::Fail;
-use test_tables::{Reads, Words, each_line, present};
+use test_tables::{Reads, Words, each_part, present};
 
 /// A meter in one of its statuses.
 pub(crate) type Meter = Phase<MemoryStore>;
@@ -40,14 +40,22 @@ pub(crate) fn session(alloc: Global, reopens: bool, parts: &[&str]) -> Result<()
     let mut trial = Trial::none();
     trial.open(alloc, 64)?;
     trial.reopens = reopens;
-    trial.play(alloc, parts)
+    each_part(alloc, &mut trial, parts)
+}
+
+/// Sessions with new meters that have room for 64 bytes.
+pub(crate) fn sessions(alloc: Global, reopens: bool, sessions: &[&[&str]]) -> Result<(), Fail> {
+    for parts in sessions {
+        session(alloc, reopens, parts)?;
+    }
+    Ok(())
 }
 
 /// A session with a new old meter that has room for 10,000 bytes.
 pub(crate) fn old_session(alloc: Global, parts: &[&str]) -> Result<(), Fail> {
     let mut trial = Trial::none();
     trial.open_old(alloc, 10_000, 2)?;
-    trial.play(alloc, parts)
+    each_part(alloc, &mut trial, parts)
 }
 
 /// A meter that is tried. Each call takes it, and puts the one in its place that it leads to. Its drop is written out, so that each
@@ -186,13 +194,6 @@ impl Trial {
         Ok(before)
     }
 
-    fn play(&mut self, alloc: Global, parts: &[&str]) -> Result<(), Fail> {
-        for part in parts {
-            each_line(alloc, self, part)?;
-        }
-        Ok(())
-    }
-
     /// What can be seen of it.
     pub(crate) fn sight(&self, alloc: Global) -> Result<String, Fail> {
         match &self.meter {
@@ -215,8 +216,8 @@ impl Trial {
             "enable" => self.enable(words.rest() == "true"),
             "initiate" => self.initiate(bbbb()?, words.number()?),
             "initiate-release" => {
-                let name = image_name(b"bbbb", words.number()?)?;
-                self.initiate(name, words.number()?)
+                let [release, size]: [u32; 2] = words.read()?;
+                self.initiate(image_name(b"bbbb", release)?, size)
             }
             "initiate-factory" => self.initiate(factory_name(b"bbbb"), words.number()?),
             "block" => self.block(words.number()?, words.rest().as_bytes()),
@@ -224,7 +225,10 @@ impl Trial {
                 let size = words.number()?;
                 self.initiate(own_name(alloc, size)?, size)
             }
-            "block-of" => self.block_of(alloc, words.number()?, words.number()? as usize),
+            "block-of" => {
+                let [number, count]: [u32; 2] = words.read()?;
+                self.block_of(alloc, number, count as usize)
+            }
             "verify" => self.verify(),
             "activate" => self.activate(),
             look => {
@@ -435,8 +439,8 @@ pub(crate) fn opened(store: MemoryStore) -> Result<Meter, Fail> {
 fn looked(alloc: Global, meter: &mut Meter, look: &str, mut words: Words<'_>) -> Result<(), Fail> {
     match look {
         "fuse" => {
-            let calls = u64::from(words.number()?);
-            meter.fuse(calls, words.word()?.parse::<u8>()?);
+            let (calls, torn): (u64, u8) = words.read()?;
+            meter.fuse(calls, torn);
         }
         "unfuse" => meter.unfuse(),
         "runs" => return runs(alloc, meter, words.rest()),
@@ -477,7 +481,7 @@ fn runs(alloc: Global, meter: &mut Meter, wanted: &str) -> Result<(), Fail> {
 }
 
 fn blocks(alloc: Global, meter: &Meter, mut words: Words<'_>) -> Result<(), Fail> {
-    let wanted = (words.number()?, words.number()?, words.number()?);
+    let wanted: (u32, u32, u32) = words.read()?;
     let count = meter.block_count();
     let first = meter.marks().first_missing_below(count);
     let bits = meter.marks().to_bits(alloc, count)?;

@@ -5,7 +5,7 @@ use crate::session::Trial;
 use fw_image::TransferStatus;
 use std::alloc::Global;
 use std::test::Fail;
-use test_tables::{Reads, Words, each_line, named, present};
+use test_tables::{Reads, Words, each_table, named, present};
 
 /// All blocks of an image of 4,097 bytes are sent, and of one of 8,193.
 const CALLS: &str = "
@@ -86,8 +86,9 @@ const COMPARED: &str = "
 ";
 
 fn numbers_text(alloc: Global, mut words: Words<'_>) -> Result<String, Fail> {
-    let shown = transfer_status(words.word()?)?.number();
-    let kept = TransferStatus::from(status_of(words.word()?)?).number();
+    let [shown, kept]: [&str; 2] = words.read()?;
+    let shown = transfer_status(shown)?.number();
+    let kept = TransferStatus::from(status_of(kept)?).number();
     Ok(format!(in alloc; "{shown} {kept}")?)
 }
 
@@ -110,7 +111,12 @@ const NUMBERS: &str = "
 
 #[test]
 fn verifications(rt: HostRuntime) -> Result<(), Fail> {
-    each_line(rt.alloc(), &mut Told::Turned, TURNED)?;
-    each_line(rt.alloc(), &mut Told::Compared, COMPARED)?;
-    each_line(rt.alloc(), &mut Told::Numbers, NUMBERS)
+    each_table(
+        rt.alloc(),
+        &[
+            (Told::Turned, TURNED),
+            (Told::Compared, COMPARED),
+            (Told::Numbers, NUMBERS),
+        ],
+    )
 }

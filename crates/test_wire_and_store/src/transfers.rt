@@ -1,6 +1,6 @@
 //! Transfers whose store doesn't fail.
 
-use crate::session::{TO_VERIFIED, old_session, session};
+use crate::session::{TO_VERIFIED, old_session, sessions};
 use std::test::Fail;
 
 const TRANSFER: &str = "
@@ -137,7 +137,7 @@ const OLD_VERIFIED: &str = "
 
 #[test]
 fn each_transfer(rt: HostRuntime) -> Result<(), Fail> {
-    let sessions: &[&[&str]] = &[
+    let kept: &[&[&str]] = &[
         &[TRANSFER],
         &[STORED],
         &[LATE_BLOCK],
@@ -146,12 +146,9 @@ fn each_transfer(rt: HostRuntime) -> Result<(), Fail> {
         &[TO_VERIFIED, BEGUN_AGAIN],
         &[RELEASES],
     ];
-    for parts in sessions {
-        session(rt.alloc(), false, parts)?;
-    }
-    session(rt.alloc(), true, &[TRANSFER])?;
-    session(rt.alloc(), true, &[LATE_BLOCK])?;
-    session(rt.alloc(), true, &[RELEASES])?;
+    let reopened: &[&[&str]] = &[&[TRANSFER], &[LATE_BLOCK], &[RELEASES]];
+    sessions(rt.alloc(), false, kept)?;
+    sessions(rt.alloc(), true, reopened)?;
     old_session(rt.alloc(), &[OLD])?;
     old_session(rt.alloc(), &[TO_VERIFIED, OLD_VERIFIED])
 }

@@ -5,7 +5,7 @@ use crate::support::joined;
 use fw_wrapper::{Frame, join, join_in, split};
 use std::alloc::Global;
 use std::test::Fail;
-use test_tables::{Reads, Words, each_line};
+use test_tables::{Reads, Words, each_table};
 
 #[derive(Clone, Copy)]
 enum Told {
@@ -61,8 +61,8 @@ const DATAGRAMS: &str = "
 ";
 
 fn field_text(alloc: Global, mut words: Words<'_>) -> Result<String, Fail> {
-    let length = words.word()?.parse::<u16>()?;
-    let apdu = vec![in alloc; 0x00; words.number()? as usize]?;
+    let (length, count): (u16, u32) = words.read()?;
+    let apdu = vec![in alloc; 0x00; count as usize]?;
     let ports = &[0x00, 0x01, 0x00, 0x01, 0x00, 0x01];
     let datagram = joined(alloc, &[ports, &length.to_be_bytes(), &apdu])?;
     Ok(format!(in alloc; "{:?}", split(&datagram).err())?)
@@ -106,8 +106,13 @@ const LATER: &str = "
 
 #[test]
 fn splits_and_joins(rt: HostRuntime) -> Result<(), Fail> {
-    each_line(rt.alloc(), &mut Told::Datagram, DATAGRAMS)?;
-    each_line(rt.alloc(), &mut Told::Field, LENGTHS)?;
-    each_line(rt.alloc(), &mut Told::Carried, CARRIED)?;
-    each_line(rt.alloc(), &mut Told::Later, LATER)
+    each_table(
+        rt.alloc(),
+        &[
+            (Told::Datagram, DATAGRAMS),
+            (Told::Field, LENGTHS),
+            (Told::Carried, CARRIED),
+            (Told::Later, LATER),
+        ],
+    )
 }
