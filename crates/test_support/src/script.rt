@@ -32,18 +32,18 @@ fn setup_with(alloc: Global, given: &str, old: bool) -> Result<Setup, Fail> {
 }
 
 fn head_setup(words: &mut Words<'_>) -> Result<HeadSetup, Fail> {
-    Ok(HeadSetup {
-        head: head(words.number()?)?,
-        width: words.number()?,
-    })
+    let [number, width]: [u32; 2] = words.read()?;
+    let head = head(number)?;
+    Ok(HeadSetup { head, width })
 }
 
 fn meter_setup(alloc: Global, words: &mut Words<'_>, old: bool) -> Result<MeterSetup, Fail> {
+    let ([number, block_size, capacity], factory): ([u32; 3], &str) = words.read()?;
     Ok(MeterSetup {
-        meter: meter(words.number()?)?,
-        block_size: words.number()?,
-        capacity: words.number()?,
-        factory: image(alloc, words.word()?)?,
+        meter: meter(number)?,
+        block_size,
+        capacity,
+        factory: image(alloc, factory)?,
         old,
     })
 }
@@ -106,27 +106,30 @@ fn short(word: &str, words: &mut Words<'_>) -> Result<Event, Fail> {
         "turn" => Event::Turn(meter(first)?),
         "restart-head" => Event::RestartHead(head(first)?),
         "restart-meter" => Event::RestartMeter(meter(first)?),
+        word => stop(word, first, words.read::<(u64, u8)>()?)?,
+    })
+}
+
+fn stop(word: &str, first: u32, (calls, torn): (u64, u8)) -> Result<Event, Fail> {
+    Ok(match word {
         "stop" => Event::Stop {
             datagram: first as usize,
-            calls: u64::from(words.number()?),
-            torn: torn(words)?,
+            calls,
+            torn,
         },
         "stop-restart" => Event::StopRestart {
             meter: meter(first)?,
-            calls: u64::from(words.number()?),
-            torn: torn(words)?,
+            calls,
+            torn,
         },
         _ => return Err("no event has this name".into()),
     })
 }
 
-fn torn(words: &mut Words<'_>) -> Result<u8, Fail> {
-    Ok(words.word()?.parse::<u8>()?)
-}
-
 fn opening(alloc: Global, words: &mut Words<'_>, is_released: bool) -> Result<Event, Fail> {
+    let [number, serial]: [u32; 2] = words.read()?;
     Ok(Event::OpenCampaign {
-        campaign: campaign(words.number()?, words.number()?)?,
+        campaign: campaign(number, serial)?,
         release: if is_released { words.number()? } else { 0 },
         image: image(alloc, words.word()?)?,
         meters: meters(alloc, words)?,
