@@ -43,10 +43,7 @@ const STATUS: &str = "
 
 #[test]
 fn values(rt: HostRuntime) -> Result<(), Fail> {
-    let alloc = rt.alloc();
-    steps(alloc, &[NUMBERS])?;
-    steps(alloc, &[BLOCKS])?;
-    steps(alloc, &[STATUS])
+    steps(rt.alloc(), &[&[NUMBERS], &[BLOCKS], &[STATUS]])
 }
 
 /// Arrays of one image, and others.
@@ -104,7 +101,7 @@ const NAMES: &str = "
 
 #[test]
 fn names(rt: HostRuntime) -> Result<(), Fail> {
-    steps(rt.alloc(), &[INFOS, NAMES])
+    steps(rt.alloc(), &[&[INFOS, NAMES]])
 }
 
 /// A GET that is answered by a code, also by 0, which says nothing of a value.
@@ -141,7 +138,5 @@ const CHANGED: &str = "
 
 #[test]
 fn codes(rt: HostRuntime) -> Result<(), Fail> {
-    let alloc = rt.alloc();
-    steps(alloc, &[CODES])?;
-    steps(alloc, &[CHANGED])
+    steps(rt.alloc(), &[&[CODES], &[CHANGED]])
 }

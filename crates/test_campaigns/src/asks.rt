@@ -40,9 +40,5 @@ const LARGEST: &str = "
 
 #[test]
 fn the_datagram_of_each_ask(rt: HostRuntime) -> Result<(), Fail> {
-    let alloc = rt.alloc();
-    for table in [READS, CHANGES, INITIATE, LARGEST] {
-        steps(alloc, &[table])?;
-    }
-    Ok(())
+    steps(rt.alloc(), &[&[READS], &[CHANGES], &[INITIATE], &[LARGEST]])
 }

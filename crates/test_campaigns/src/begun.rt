@@ -1,7 +1,7 @@
 //! A head end that begins with a book that was kept. It is head end 7, and sends four blocks at a time.
 
 use crate::book::after;
-use crate::head::{head_session, width};
+use crate::head::{head_sessions, width};
 use crate::parts::{fresh, shown};
 use crate::subject::Subject;
 use crate::transfers::TO_CONFIRM;
@@ -73,5 +73,5 @@ const WAITS: &str = "
 
 #[test]
 fn an_ask_is_outstanding(rt: HostRuntime) -> Result<(), Fail> {
-    head_session(rt.alloc(), 4, &[WAITS])
+    head_sessions(rt.alloc(), 4, &[&[WAITS]])
 }

@@ -123,8 +123,8 @@ pub(crate) fn claim(alloc: Global, number: u32, answer: &str) -> Result<ActiveCl
 /// - `done-release HEAD SERIAL METER`, by the claim of the second answer
 fn refusal(alloc: Global, book: &mut Book, call: &str) -> Result<Option<BookError>, Fail> {
     let mut words = Words::new(call);
-    let what = words.word()?;
-    let campaign = campaign(words.number()?, words.number()?)?;
+    let (what, head, serial): (&str, u32, u32) = words.read()?;
+    let campaign = campaign(head, serial)?;
     if what == "open" {
         return opening_refusal(alloc, book, campaign, words);
     }
@@ -148,7 +148,8 @@ fn opening_refusal(
     campaign: CampaignId,
     mut words: Words<'_>,
 ) -> Result<Option<BookError>, Fail> {
-    let (release, image) = (words.number()?, image(words.word()?));
+    let (release, word): (u32, &str) = words.read()?;
+    let image = image(word);
     let meters = meters(alloc, words.rest())?;
     let opened = book.open_campaign(alloc, campaign, release, image, &meters);
     Ok(opened.err())

@@ -4,7 +4,7 @@ use crate::book::{Calls, bytes_of, campaign, first_meters, fresh};
 use fw_book::{Book, BookError};
 use std::alloc::{AllocError, Global};
 use std::test::Fail;
-use test_tables::{Kept, Reads, Words, each_line};
+use test_tables::{Kept, Reads, Words, each_line, each_part};
 
 /// Campaigns stand in the order in which they were opened, each with its release, and only live rows are cancelled.
 const WRITTEN: &str = "
@@ -137,11 +137,7 @@ const OLD_BAD: &str = "
 
 #[test]
 fn books_are_read_back(rt: HostRuntime) -> Result<(), Fail> {
-    let alloc = rt.alloc();
-    for table in [GOOD, OLD, BAD, OLD_BAD] {
-        each_line(alloc, &mut Bytes, table)?;
-    }
-    Ok(())
+    each_part(rt.alloc(), &mut Bytes, &[GOOD, OLD, BAD, OLD_BAD])
 }
 
 fn prefixes_text(alloc: Global, bytes: &str) -> Result<String, Fail> {
@@ -181,7 +177,7 @@ fn a_book_ends_after_a_campaign(rt: HostRuntime) -> Result<(), Fail> {
 const FRONT: &[u8] = &[0x46, 0x57, 0x42, 0x32, 0, 0, 0, 7, 0, 0, 0, 1, 0, 0, 0, 0];
 
 fn ended_text(alloc: Global, mut words: Words<'_>) -> Result<String, Fail> {
-    let (size, meters) = (words.number()?, words.word()?.parse::<u16>()?);
+    let (size, meters): (u32, u16) = words.read()?;
     let bytes = ended_bytes(alloc, size, meters)?;
     Ok(format!(in alloc; "{}", is_book(alloc, &bytes)?)?)
 }
@@ -207,7 +203,7 @@ const LIMITS: &str = "
 ";
 
 fn back_text(alloc: Global, mut words: Words<'_>) -> Result<String, Fail> {
-    let (size, meters) = (words.number()?, words.number()?);
+    let [size, meters]: [u32; 2] = words.read()?;
     let image = counted(alloc, size)?;
     let written = written(alloc, &image, meters)?;
     read_back_text(alloc, &written, &image)

@@ -5,12 +5,12 @@ ghost use Rattle.fw_client.specs.Ask.{Fits};
 ghost use Rattle.fw_client.specs.View.{ask_of};
 
 use crate::book::meter;
-use crate::subject::{Subject, takes};
+use crate::subject::Subject;
 use fw_client::{Ask, Client, Heard};
 use fw_names::{CampaignId, HeadId, ImageName, name_of};
 use std::alloc::Global;
 use std::test::Fail;
-use test_tables::{Reads, Words, present};
+use test_tables::{Reads, Words, each_part, present};
 
 /// A step of a client:
 ///
@@ -128,8 +128,9 @@ fn most(alloc: Global, client: &mut Client, begin: &str) -> Result<String, Fail>
 }
 
 fn answered(alloc: Global, mut words: Words<'_>) -> Result<String, Fail> {
-    let mut client = Client::new(meter(words.number()?)?);
-    let _asked = asked(alloc, &mut client, words.word()?)?;
+    let (number, what): (u32, &str) = words.read()?;
+    let mut client = Client::new(meter(number)?);
+    let _asked = asked(alloc, &mut client, what)?;
     heard(alloc, &mut client, words.rest())
 }
 
@@ -162,7 +163,10 @@ fn heard_text(alloc: Global, heard: &Heard) -> Result<String, Fail> {
     })
 }
 
-/// A new client of meter 1 takes the steps of these tables.
-pub(crate) fn steps(alloc: Global, tables: &[&str]) -> Result<(), Fail> {
-    takes(alloc, &mut Subject(Client::new(meter(1)?)), tables)
+/// A new client of meter 1 takes the steps of these tables, and so does another one in each session.
+pub(crate) fn steps(alloc: Global, sessions: &[&[&str]]) -> Result<(), Fail> {
+    for tables in sessions {
+        each_part(alloc, &mut Subject(Client::new(meter(1)?)), tables)?;
+    }
+    Ok(())
 }

@@ -3,7 +3,7 @@
 use crate::book::Calls;
 use crate::views::After;
 use std::test::Fail;
-use test_tables::each_line;
+use test_tables::{each_line, each_table};
 
 const REFUSED: &str = "
     last cancel 7 1                                 => NoSuchCampaign
@@ -60,8 +60,7 @@ const MARKED: &str = "
 #[test]
 fn a_claim_marks_its_row_done_once(rt: HostRuntime) -> Result<(), Fail> {
     let alloc = rt.alloc();
-    each_line(alloc, &mut Calls, CLAIMED)?;
-    each_line(alloc, &mut Calls, MARKED)
+    each_table(alloc, &[(Calls, CLAIMED), (Calls, MARKED)])
 }
 
 const CALLS: &str = "open 7 1 0 abc 1 2; fail 7 1 2; cancel 7 1; open 7 2 0 abd 2";

@@ -2,14 +2,14 @@
 //! carried from and to wPort 1.
 
 use crate::book::{head, meter};
-use crate::subject::{Subject, takes};
+use crate::subject::Subject;
 use fw_blocks::Width;
 use fw_head::{HeadCore, News, Phase};
 use fw_names::{CampaignId, MeterId};
 use fw_wrapper::split;
 use std::alloc::{AllocError, Global};
 use std::test::Fail;
-use test_tables::{Reads, Words, present};
+use test_tables::{Reads, Words, each_part, present};
 
 /// A step of a head end:
 ///
@@ -40,11 +40,17 @@ impl Reads for Subject<HeadCore> {
     }
 }
 
-/// A new head end with windows of this width takes the steps of these tables.
-pub(crate) fn head_session(alloc: Global, width: u8, tables: &[&str]) -> Result<(), Fail> {
-    let width = present(Width::new(width), "a width")?;
-    let mut head = Subject(HeadCore::new(alloc, head(7)?, width));
-    takes(alloc, &mut head, tables)
+/// A new head end with windows of this width takes the steps of these tables, and so does another one in each session.
+pub(crate) fn head_sessions(alloc: Global, width: u8, sessions: &[&[&str]]) -> Result<(), Fail> {
+    let (number, width) = (head(7)?, present(Width::new(width), "a width")?);
+    for tables in sessions {
+        each_part(
+            alloc,
+            &mut Subject(HeadCore::new(alloc, number, width)),
+            tables,
+        )?;
+    }
+    Ok(())
 }
 
 /// Windows of four blocks.
@@ -53,7 +59,7 @@ pub(crate) fn width() -> Result<Width, Fail> {
 }
 
 fn open(alloc: Global, head: &mut HeadCore, mut words: Words<'_>) -> Result<String, Fail> {
-    let (serial, release) = (words.number()?, words.number()?);
+    let [serial, release]: [u32; 2] = words.read()?;
     if serial == 0 {
         return Err("a serial number begins at 1".into());
     }

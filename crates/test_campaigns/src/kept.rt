@@ -59,8 +59,8 @@ fn opened_text(
     book: &mut KeptBook<MemoryDevice>,
     mut words: Words<'_>,
 ) -> Result<String, Fail> {
-    let campaign = campaign(7, words.number()?)?;
-    let (release, image) = (words.number()?, image(words.word()?));
+    let (serial, release, word): (u32, u32, &str) = words.read()?;
+    let (campaign, image) = (campaign(7, serial)?, image(word));
     let meters = meters(alloc, words.rest())?;
     match book.open_campaign(alloc, campaign, release, image, &meters) {
         Ok(_) => answer_text(alloc, Ok(())),
@@ -73,8 +73,9 @@ fn done_text(
     book: &mut KeptBook<MemoryDevice>,
     mut words: Words<'_>,
 ) -> Result<String, Fail> {
-    let campaign = campaign(7, words.number()?)?;
-    let claim = claim(alloc, words.number()?, RELEASE_ANSWER)?;
+    let [serial, number]: [u32; 2] = words.read()?;
+    let campaign = campaign(7, serial)?;
+    let claim = claim(alloc, number, RELEASE_ANSWER)?;
     answer_text(alloc, book.mark_done(alloc, campaign, claim))
 }
 
@@ -83,8 +84,8 @@ fn failed_text(
     book: &mut KeptBook<MemoryDevice>,
     mut words: Words<'_>,
 ) -> Result<String, Fail> {
-    let campaign = campaign(7, words.number()?)?;
-    let meter = meter(words.number()?)?;
+    let [serial, number]: [u32; 2] = words.read()?;
+    let (campaign, meter) = (campaign(7, serial)?, meter(number)?);
     answer_text(alloc, book.mark_failed(alloc, campaign, meter))
 }
 
@@ -213,10 +214,9 @@ struct Cuts;
 impl Reads for Cuts {
     fn told(&mut self, alloc: Global, what: &str) -> Result<String, Fail> {
         let mut words = Words::new(what);
-        let call = words.word()?;
-        let (calls, torn) = (words.number()?, words.word()?.parse::<u8>()?);
+        let (call, calls, torn): (&str, u64, u8) = words.read()?;
         let mut device = device_with_one(alloc)?;
-        device.fuse(u64::from(calls).saturating_add(3), torn);
+        device.fuse(calls.saturating_add(3), torn);
         match KeptBook::open(alloc, head(7)?, device) {
             Ok(book) => cut_text(alloc, &mut Subject(book), call),
             Err((refusal, _)) => Ok(refusal.to_string(alloc)?),

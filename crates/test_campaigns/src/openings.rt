@@ -5,7 +5,7 @@ use fw_book::{Book, BookError};
 use fw_names::MeterId;
 use std::alloc::Global;
 use std::test::Fail;
-use test_tables::{Reads, Words, each_line};
+use test_tables::{Reads, Words, each_line, each_table};
 
 /// Each refusal by itself, and before all that come after it.
 const REFUSED: &str = "
@@ -34,8 +34,7 @@ const TAKEN: &str = "
 #[test]
 fn openings_are_refused_in_order(rt: HostRuntime) -> Result<(), Fail> {
     let alloc = rt.alloc();
-    each_line(alloc, &mut Calls, REFUSED)?;
-    each_line(alloc, &mut Calls, TAKEN)
+    each_table(alloc, &[(Calls, REFUSED), (Calls, TAKEN)])
 }
 
 /// An opening of campaign 1 of head end 7:
@@ -48,8 +47,7 @@ struct Opening;
 impl Reads for Opening {
     fn told(&mut self, alloc: Global, what: &str) -> Result<String, Fail> {
         let mut words = Words::new(what);
-        let what = words.word()?;
-        let (first, second, third) = (words.number()?, words.number()?, words.number()?);
+        let (what, [first, second, third]): (&str, [u32; 3]) = words.read()?;
         match what {
             "sized" => sized_text(alloc, first, second, third),
             "named" => names_text(alloc, &mut fresh(alloc)?.0, first, (second, third)),

@@ -4,13 +4,13 @@ use crate::book::{head, meter};
 use crate::head::{apdus_text, carried, heard_text, width};
 use crate::kept::{answer_text, compact_text, device_of, read_text};
 use crate::setting::new_head;
-use crate::subject::{Subject, takes};
+use crate::subject::Subject;
 use crate::transfers::TO_CONFIRM;
 use fw_journal::{MemoryDevice, MemoryReplacer};
 use fw_kept::KeptHead;
 use std::alloc::Global;
 use std::test::Fail;
-use test_tables::{Reads, Words};
+use test_tables::{Reads, Words, each_part};
 
 /// A step of a head end, as `crate::head` has it, or a call of its journal, or a look at its device:
 ///
@@ -40,7 +40,7 @@ fn open_text(
     head: &mut KeptHead<MemoryDevice>,
     mut words: Words<'_>,
 ) -> Result<String, Fail> {
-    let (serial, release) = (words.number()?, words.number()?);
+    let [serial, release]: [u32; 2] = words.read()?;
     if serial == 0 {
         return Err("a serial number begins at 1".into());
     }
@@ -124,5 +124,5 @@ fn a_kept_head_end_outlives_a_cut(rt: HostRuntime) -> Result<(), Fail> {
     let tables = [
         TO_CONFIRM, WAITING, DONE, WAITING, COMMITTED, CANCELLED, LEFT, COMPACTED, LEFT,
     ];
-    takes(alloc, &mut Subject(new_head(alloc)?), &tables)
+    each_part(alloc, &mut Subject(new_head(alloc)?), &tables)
 }

@@ -34,10 +34,10 @@ const NOT_ASKED: &str = "
 
 #[test]
 fn each_ask_is_answered_once(rt: HostRuntime) -> Result<(), Fail> {
-    let alloc = rt.alloc();
-    steps(alloc, &[ANSWERED_ONCE])?;
-    steps(alloc, &[ANSWERED_BY_A_CODE])?;
-    steps(alloc, &[NOT_ASKED])
+    steps(
+        rt.alloc(),
+        &[&[ANSWERED_ONCE], &[ANSWERED_BY_A_CODE], &[NOT_ASKED]],
+    )
 }
 
 /// Datagrams between an ask for the active name and its answer. None of them changes the client.
@@ -70,7 +70,7 @@ const STRANGERS: &str = "
 
 #[test]
 fn strangers(rt: HostRuntime) -> Result<(), Fail> {
-    steps(rt.alloc(), &[STRANGERS])
+    steps(rt.alloc(), &[&[STRANGERS]])
 }
 
 /// Three asks have the invoke bytes c0 to c2.
@@ -125,9 +125,11 @@ const ONE_LEFT: &str = "
 
 #[test]
 fn sixteen_asks(rt: HostRuntime) -> Result<(), Fail> {
-    let alloc = rt.alloc();
-    steps(alloc, &[THREE, THIRTEEN, SEVENTEENTH])?;
-    steps(alloc, &[OUT_OF_ORDER, THIRTEEN, ONE_LEFT])
+    let sessions: &[&[&str]] = &[
+        &[THREE, THIRTEEN, SEVENTEENTH],
+        &[OUT_OF_ORDER, THIRTEEN, ONE_LEFT],
+    ];
+    steps(rt.alloc(), sessions)
 }
 
 #[test]

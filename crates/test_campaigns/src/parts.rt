@@ -92,9 +92,9 @@ fn asks_and_hears(alloc: Global, row: &mut RowCore, apdu: &str) -> Result<(), Fa
 }
 
 fn new_row(mut words: Words<'_>) -> Result<RowCore, Fail> {
-    let (serial, release) = (words.number()?, words.number()?);
+    let [serial, release, number, size]: [u32; 4] = words.read()?;
     let name = abc_name_in(serial, release)?;
-    Ok(RowCore::new(meter(words.number()?)?, name, words.number()?))
+    Ok(RowCore::new(meter(number)?, name, size))
 }
 
 /// The meters of the claims of rows that each heard the claim this many times, and what is shown of the head end then.

@@ -19,8 +19,8 @@ pub(crate) struct Journals;
 impl Reads for Journals {
     fn told(&mut self, alloc: Global, what: &str) -> Result<String, Fail> {
         let mut words = Words::new(what);
-        let how = words.word()?;
-        let bytes = match words.word()? {
+        let [how, form]: [&str; 2] = words.read()?;
+        let bytes = match form {
             "journal" => journal_bytes(alloc, words.rest())?,
             _ => hex::decode(alloc, words.rest())?,
         };

@@ -4,7 +4,7 @@ use crate::book::{bytes_of, head};
 use fw_ledger::{read_record, read_records};
 use std::alloc::Global;
 use std::test::Fail;
-use test_tables::{Reads, Words, each_line, named};
+use test_tables::{Reads, Words, each_line, each_table, named};
 
 /// What is made of bytes:
 ///
@@ -82,8 +82,7 @@ const BAD: &str = "
 #[test]
 fn records_are_read_as_they_are_written(rt: HostRuntime) -> Result<(), Fail> {
     let alloc = rt.alloc();
-    each_line(alloc, &mut Records, GOOD)?;
-    each_line(alloc, &mut Records, BAD)
+    each_table(alloc, &[(Records, GOOD), (Records, BAD)])
 }
 
 /// The opening of campaign 1 with the image `abc` and release 5, for meters 1 to 3, and that of campaign 2 with the same image, for meter 4.

@@ -4,15 +4,23 @@
 use crate::book::meter;
 use crate::client::abc_name;
 use crate::rows::TO_ENABLE;
-use crate::subject::{Subject, takes};
+use crate::subject::Subject;
 use fw_head::RowCore;
 use std::alloc::Global;
 use std::test::Fail;
+use test_tables::each_part;
 
-/// Such a row takes the steps of these tables.
-fn reopened_session(alloc: Global, tables: &[&str]) -> Result<(), Fail> {
-    let mut row = Subject(RowCore::reopened(meter(1)?, abc_name(0)?, 3));
-    takes(alloc, &mut row, tables)
+/// Such a row takes the steps of these tables, and so does another one in each session.
+fn reopened_sessions(alloc: Global, sessions: &[&[&str]]) -> Result<(), Fail> {
+    let (meter, name) = (meter(1)?, abc_name(0)?);
+    for tables in sessions {
+        each_part(
+            alloc,
+            &mut Subject(RowCore::reopened(meter, name, 3)),
+            tables,
+        )?;
+    }
+    Ok(())
 }
 
 /// Once the meter is enabled, up to the asks of what it runs and which blocks it has: a GET of the active firmware identifier and one of
@@ -98,20 +106,35 @@ const STARTS: &str = "
 
 #[test]
 fn a_reopened_row_asks_first(rt: HostRuntime) -> Result<(), Fail> {
-    let alloc = rt.alloc();
-    reopened_session(alloc, &[TO_ENABLE, TO_RUNS, RUNS_IT])?;
-    reopened_session(alloc, &[TO_ENABLE, TO_RUNS, RUNS_ANOTHER, HAS_ALL])?;
-    reopened_session(alloc, &[TO_ENABLE, TO_RUNS, RUNS_UNKNOWN, HAS_OTHERS])?;
-    reopened_session(alloc, &[TO_ENABLE, TO_RUNS, RUNS_UNNAMED, HAS_ALL])?;
-    reopened_session(alloc, &[TO_ENABLE, TO_RUNS, MADE_NEW, TO_ENABLE, STARTS])
+    let sessions: &[&[&str]] = &[
+        &[TO_ENABLE, TO_RUNS, RUNS_IT],
+        &[TO_ENABLE, TO_RUNS, RUNS_ANOTHER, HAS_ALL],
+        &[TO_ENABLE, TO_RUNS, RUNS_UNKNOWN, HAS_OTHERS],
+        &[TO_ENABLE, TO_RUNS, RUNS_UNNAMED, HAS_ALL],
+        &[TO_ENABLE, TO_RUNS, MADE_NEW, TO_ENABLE, STARTS],
+    ];
+    reopened_sessions(rt.alloc(), sessions)
 }
 
 #[test]
 fn a_reopened_row_sends_what_is_missing(rt: HostRuntime) -> Result<(), Fail> {
-    let alloc = rt.alloc();
-    for claim in [CLAIMS_IT, CLAIMS_ANOTHER] {
-        let tables = [TO_ENABLE, TO_RUNS, RUNS_ANOTHER, HAS_ONE, TO_CLAIM, claim];
-        reopened_session(alloc, &tables)?;
-    }
-    Ok(())
+    let sessions: &[&[&str]] = &[
+        &[
+            TO_ENABLE,
+            TO_RUNS,
+            RUNS_ANOTHER,
+            HAS_ONE,
+            TO_CLAIM,
+            CLAIMS_IT,
+        ],
+        &[
+            TO_ENABLE,
+            TO_RUNS,
+            RUNS_ANOTHER,
+            HAS_ONE,
+            TO_CLAIM,
+            CLAIMS_ANOTHER,
+        ],
+    ];
+    reopened_sessions(rt.alloc(), sessions)
 }

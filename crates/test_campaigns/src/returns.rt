@@ -1,6 +1,6 @@
 //! What leads a row back to `Start`, and the return that ends it.
 
-use crate::head::head_session;
+use crate::head::head_sessions;
 use std::test::Fail;
 
 /// Image `abc` of campaign (7, 1) for a meter with blocks of 3 bytes, up to the initiate.
@@ -49,7 +49,7 @@ const NOTHING_MORE: &str = "
 #[test]
 fn the_eighth_return_fails_the_row(rt: HostRuntime) -> Result<(), Fail> {
     let [first, second, third, fourth] = ROUNDS;
-    let tables = [
+    let tables: &[&str] = &[
         TO_START,
         first,
         second,
@@ -62,7 +62,7 @@ fn the_eighth_return_fails_the_row(rt: HostRuntime) -> Result<(), Fail> {
         EIGHTH,
         NOTHING_MORE,
     ];
-    head_session(rt.alloc(), 4, &tables)
+    head_sessions(rt.alloc(), 4, &[tables])
 }
 
 /// A verification that takes its time.
@@ -85,7 +85,9 @@ const POLLED_IN_VAIN: &str = "
 
 #[test]
 fn a_verification_that_takes_its_time(rt: HostRuntime) -> Result<(), Fail> {
-    let alloc = rt.alloc();
-    head_session(alloc, 4, &[TO_START, TO_POLL, POLLED])?;
-    head_session(alloc, 4, &[TO_START, TO_POLL, POLLED_IN_VAIN])
+    let sessions: &[&[&str]] = &[
+        &[TO_START, TO_POLL, POLLED],
+        &[TO_START, TO_POLL, POLLED_IN_VAIN],
+    ];
+    head_sessions(rt.alloc(), 4, sessions)
 }

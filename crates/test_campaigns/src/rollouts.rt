@@ -1,12 +1,12 @@
 //! The daemon of a head end leads two meters: as a value, and over a port in memory.
 
 use crate::setting::{coming, listed, new_daemon, number_of, push_ended};
-use crate::subject::{Subject, takes};
+use crate::subject::Subject;
 use fw_rollout::{Counts, Datagram, Deed, HeadWatch, MeterList, Stop, lead_list};
 use std::alloc::Global;
 use std::sync::Wait;
 use std::test::Fail;
-use test_tables::{Kept, Words, expect_at, present};
+use test_tables::{Kept, Words, each_part, expect_at, present};
 
 #[test]
 fn list_has_each_number_and_each_address_once(rt: HostRuntime) -> Result<(), Fail> {
@@ -127,7 +127,7 @@ const PAUSES: &str = "
 /// A new daemon with this flight takes the steps of these tables.
 fn goes_through(alloc: Global, flight: u64, tables: &[&str]) -> Result<(), Fail> {
     let mut daemon = Subject(new_daemon(alloc, flight)?.into_inner());
-    takes(alloc, &mut daemon, tables)
+    each_part(alloc, &mut daemon, tables)
 }
 
 #[test]

@@ -4,11 +4,11 @@
 use crate::book::meter;
 use crate::client::abc_name;
 use crate::head::{apdus_text, carried, width};
-use crate::subject::{Subject, takes};
+use crate::subject::Subject;
 use fw_head::{RowCore, RowNews};
 use std::alloc::Global;
 use std::test::Fail;
-use test_tables::{Reads, Words};
+use test_tables::{Reads, Words, each_part};
 
 /// A step of a row:
 ///
@@ -46,10 +46,13 @@ fn row_text(alloc: Global, news: &RowNews, row: &RowCore) -> Result<String, Fail
     })
 }
 
-/// A new row of an image of this release takes the steps of these tables.
-fn row_session(alloc: Global, release: u32, tables: &[&str]) -> Result<(), Fail> {
-    let mut row = Subject(RowCore::new(meter(1)?, abc_name(release)?, 3));
-    takes(alloc, &mut row, tables)
+/// A new row of an image of this release takes the steps of these tables, and so does another one in each session.
+fn row_sessions(alloc: Global, release: u32, sessions: &[&[&str]]) -> Result<(), Fail> {
+    let (meter, name) = (meter(1)?, abc_name(release)?);
+    for tables in sessions {
+        each_part(alloc, &mut Subject(RowCore::new(meter, name, 3)), tables)?;
+    }
+    Ok(())
 }
 
 /// Up to the ask that enables the meter.
@@ -97,8 +100,8 @@ const TO_DONE: &str = "
 
 #[test]
 fn a_row_is_done(rt: HostRuntime) -> Result<(), Fail> {
-    let tables = [TO_ENABLE, TO_BLOCKS, TO_CHECK, TO_VERIFY, TO_DONE];
-    row_session(rt.alloc(), 0, &tables)
+    let tables: &[&str] = &[TO_ENABLE, TO_BLOCKS, TO_CHECK, TO_VERIFY, TO_DONE];
+    row_sessions(rt.alloc(), 0, &[tables])
 }
 
 /// A block size of which the image would have no blocks.
@@ -124,10 +127,12 @@ const MADE_NEW: &str = "
 
 #[test]
 fn a_row_ends_or_is_made_new(rt: HostRuntime) -> Result<(), Fail> {
-    let alloc = rt.alloc();
-    row_session(alloc, 0, &[NO_SIZE])?;
-    row_session(alloc, 0, &[TO_ENABLE, NOT_ENABLED])?;
-    row_session(alloc, 0, &[TO_ENABLE, MADE_NEW])
+    let sessions: &[&[&str]] = &[
+        &[NO_SIZE],
+        &[TO_ENABLE, NOT_ENABLED],
+        &[TO_ENABLE, MADE_NEW],
+    ];
+    row_sessions(rt.alloc(), 0, sessions)
 }
 
 /// temporary-failure is a refusal of a block as any other code.
@@ -156,12 +161,13 @@ const POLLED: &str = "
 
 #[test]
 fn what_leads_a_row_back(rt: HostRuntime) -> Result<(), Fail> {
-    let alloc = rt.alloc();
-    row_session(alloc, 0, &[TO_ENABLE, TO_BLOCKS, REFUSED_BLOCK])?;
-    row_session(alloc, 0, &[TO_ENABLE, TO_BLOCKS, TO_CHECK, ABOVE])?;
-    row_session(alloc, 0, &[TO_ENABLE, TO_BLOCKS, TO_CHECK, OTHER_BITS])?;
-    let polled = [TO_ENABLE, TO_BLOCKS, TO_CHECK, TO_VERIFY, POLLED];
-    row_session(alloc, 0, &polled)
+    let sessions: &[&[&str]] = &[
+        &[TO_ENABLE, TO_BLOCKS, REFUSED_BLOCK],
+        &[TO_ENABLE, TO_BLOCKS, TO_CHECK, ABOVE],
+        &[TO_ENABLE, TO_BLOCKS, TO_CHECK, OTHER_BITS],
+        &[TO_ENABLE, TO_BLOCKS, TO_CHECK, TO_VERIFY, POLLED],
+    ];
+    row_sessions(rt.alloc(), 0, sessions)
 }
 
 /// Up to the initiate of the image of release 5.
@@ -212,11 +218,11 @@ const OTHER_CLAIM: &str = "
 
 #[test]
 fn a_row_with_a_release(rt: HostRuntime) -> Result<(), Fail> {
-    let alloc = rt.alloc();
-    row_session(alloc, 5, &[TO_ENABLE, TO_START, TOO_LOW])?;
-    row_session(alloc, 5, &[TO_ENABLE, TO_START, TO_INFO, OTHER_INFO])?;
-    for claim in [OWN_CLAIM, OTHER_CLAIM] {
-        row_session(alloc, 5, &[TO_ENABLE, TO_START, TO_INFO, TO_CLAIM, claim])?;
-    }
-    Ok(())
+    let sessions: &[&[&str]] = &[
+        &[TO_ENABLE, TO_START, TOO_LOW],
+        &[TO_ENABLE, TO_START, TO_INFO, OTHER_INFO],
+        &[TO_ENABLE, TO_START, TO_INFO, TO_CLAIM, OWN_CLAIM],
+        &[TO_ENABLE, TO_START, TO_INFO, TO_CLAIM, OTHER_CLAIM],
+    ];
+    row_sessions(rt.alloc(), 5, sessions)
 }

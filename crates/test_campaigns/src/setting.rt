@@ -120,7 +120,7 @@ pub(crate) fn number_of(address: SocketAddr) -> u16 {
 /// The datagram of `ADDRESS APDU`, which carries the APDU from the address of this number.
 pub(crate) fn coming(alloc: Global, mut words: Words<'_>) -> Result<Datagram, Fail> {
     Ok(Datagram {
-        address: address(words.word()?.parse::<u16>()?),
+        address: address(words.read::<u16>()?),
         bytes: carried(alloc, words.rest())?,
     })
 }

@@ -1,9 +1,5 @@
 //! What the rows of a table are done with.
 
-use std::alloc::Global;
-use std::test::Fail;
-use test_tables::{Reads, each_line};
-
 /// A value that takes the rows of tables, one after another. Its drop is written out: each place that drops it calls that, and isn't proved to
 /// drop what the value has.
 pub(crate) struct Subject<T: Drop>(pub(crate) T);
@@ -19,12 +15,4 @@ impl<T: Drop> Drop for Subject<T> {
     fn drop(self) {
         let Subject(_) = self;
     }
-}
-
-/// A subject takes the rows of these tables, one after another.
-pub(crate) fn takes<R: Reads>(alloc: Global, subject: &mut R, tables: &[&str]) -> Result<(), Fail> {
-    for table in tables {
-        each_line(alloc, subject, table)?;
-    }
-    Ok(())
 }

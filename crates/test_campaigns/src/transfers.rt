@@ -1,6 +1,6 @@
 //! A campaign from its opening to a done row, and what ends a row otherwise.
 
-use crate::head::head_session;
+use crate::head::head_sessions;
 use std::test::Fail;
 
 /// Image `abc` of campaign (7, 1) for a meter with blocks of 2 bytes, up to the ask of what the meter runs then.
@@ -110,12 +110,15 @@ const TOO_LOW: &str = "
 
 #[test]
 fn what_ends_a_row(rt: HostRuntime) -> Result<(), Fail> {
-    let alloc = rt.alloc();
-    for ending in [DONE, ANOTHER_SHAPE, RESTARTED, CANCELLED] {
-        head_session(alloc, 4, &[TO_CONFIRM, ending])?;
-    }
-    head_session(alloc, 4, &[TO_CONFIRM, AGAIN_TO_CONFIRM, ANOTHER_CAMPAIGN])?;
-    head_session(alloc, 4, &[TOO_LOW])
+    let sessions: &[&[&str]] = &[
+        &[TO_CONFIRM, DONE],
+        &[TO_CONFIRM, ANOTHER_SHAPE],
+        &[TO_CONFIRM, RESTARTED],
+        &[TO_CONFIRM, CANCELLED],
+        &[TO_CONFIRM, AGAIN_TO_CONFIRM, ANOTHER_CAMPAIGN],
+        &[TOO_LOW],
+    ];
+    head_sessions(rt.alloc(), 4, sessions)
 }
 
 /// Image `abcdefghijkl` of campaign (7, 1) for a meter with blocks of 2 bytes and windows of three, up to the ask which blocks the
@@ -158,9 +161,10 @@ const ALL_THERE: &str = "
 
 #[test]
 fn blocks_that_a_meter_lacks(rt: HostRuntime) -> Result<(), Fail> {
-    let alloc = rt.alloc();
-    for answer in [MISSING, ANOTHER_COUNT, ALL_THERE] {
-        head_session(alloc, 3, &[TO_GAPS, answer])?;
-    }
-    Ok(())
+    let sessions: &[&[&str]] = &[
+        &[TO_GAPS, MISSING],
+        &[TO_GAPS, ANOTHER_COUNT],
+        &[TO_GAPS, ALL_THERE],
+    ];
+    head_sessions(rt.alloc(), 3, sessions)
 }

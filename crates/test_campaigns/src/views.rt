@@ -2,6 +2,7 @@
 
 use crate::book::{after, campaign, meter};
 use fw_book::{Book, BookError};
+use fw_names::CampaignId;
 use std::alloc::Global;
 use std::test::Fail;
 use test_tables::{Reads, Words, each_line, each_prints, present};
@@ -29,10 +30,22 @@ impl Reads for After {
 fn shown_text(alloc: Global, book: &mut Book, mut words: Words<'_>) -> Result<String, Fail> {
     match words.word()? {
         "rows" => rows_text(alloc, book),
-        "offer" => offer_text(alloc, book, words.number()?, words.number()?),
-        "meter" => meter_text(alloc, book, words.number()?, words.number()?),
-        "state" => state_text(alloc, book, words.number()?, words.number()?),
         "live" => live_text(alloc, book),
+        what => numbered_text(alloc, book, what, words.read::<[u32; 2]>()?),
+    }
+}
+
+/// What is shown of a campaign, or of a meter in one.
+fn numbered_text(
+    alloc: Global,
+    book: &Book,
+    what: &str,
+    [first, second]: [u32; 2],
+) -> Result<String, Fail> {
+    match what {
+        "offer" => offer_text(alloc, book, first, second),
+        "meter" => meter_text(alloc, book, first, second),
+        "state" => state_text(alloc, book, first, second),
         _ => Err("nothing of this name is shown".into()),
     }
 }
@@ -71,15 +84,15 @@ fn state_text(alloc: Global, book: &Book, serial: u32, number: u32) -> Result<St
 }
 
 fn live_text(alloc: Global, book: &mut Book) -> Result<String, Fail> {
-    let before = has_live(book)?;
-    book.cancel(campaign(7, 5)?)?;
-    let afterwards = has_live(book)?;
+    let campaign = campaign(7, 5)?;
+    let before = has_live(book, campaign);
+    book.cancel(campaign)?;
+    let afterwards = has_live(book, campaign);
     Ok(format!(in alloc; "{before} {afterwards}")?)
 }
 
-fn has_live(book: &Book) -> Result<bool, Fail> {
-    let campaign = campaign(7, 5)?;
-    Ok(book.offer(campaign).is_some_and(|offer| offer.has_live()))
+fn has_live(book: &Book, campaign: CampaignId) -> bool {
+    book.offer(campaign).is_some_and(|offer| offer.has_live())
 }
 
 const SHOWN: &str = "
