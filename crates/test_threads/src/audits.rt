@@ -72,8 +72,7 @@ struct Audited;
 impl Reads for Audited {
     fn told(&mut self, alloc: Global, what: &str) -> Result<String, Fail> {
         let mut words = Words::new(what);
-        let (age, setup) = (words.word()?, words.word()?);
-        let (script, change) = (words.word()?, words.word()?);
+        let [age, setup, script, change]: [&str; 4] = words.read()?;
         let events = events_in(alloc, script)?;
         let setup = match age {
             "old" => old_setup_of(alloc, setup_text(setup))?,

@@ -38,8 +38,10 @@ impl<'a> Reads for Passing<'a> {
         if words.word()? == "late" {
             return Ok(format!(in alloc; "{:?}", self.link.take_late(alloc).as_slice())?);
         }
-        let (from, end) = (words.number()? as usize, words.number()? as usize);
-        let coming = self.link.pass(alloc, &self.fates, from, end)?;
+        let [from, end]: [u32; 2] = words.read()?;
+        let coming = self
+            .link
+            .pass(alloc, &self.fates, from as usize, end as usize)?;
         let late = self.link.take_late(alloc);
         Ok(format!(in alloc; "{:?} {:?}", coming.as_slice(), late.as_slice())?)
     }

@@ -123,7 +123,7 @@ fn wires<'a, R: Wait>(
 fn rolled_out<R: Threads + Wait + Sync>(rt: &R, alloc: Global, what: &str) -> Result<String, Fail> {
     let mut words = Words::new(what);
     let task = Task::of(alloc, &mut words)?;
-    let (count, air) = (words.number()?, words.word()?);
+    let (count, air): (u32, &str) = words.read()?;
     let gate = Rules::of(&mut words)?;
     let made = over_wires(rt, alloc, &task, count, air, &gate)?;
     outcome(alloc, &task.setup, made, words.next())

@@ -78,7 +78,7 @@ impl<'a, R: Wait> Reads for Logged<'a, R> {
 
 impl<'a, R: Wait> Logged<'a, R> {
     fn tick(&self, alloc: Global, words: &mut Words<'_>) -> Result<String, Fail> {
-        let first = words.word()?.parse::<u8>()?;
+        let first: u8 = words.read()?;
         let mut room = self.log.reserve(alloc)?;
         room.push(self.link.datagram(alloc, first)?);
         if let Some(second) = words.next() {

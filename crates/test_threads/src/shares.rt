@@ -121,11 +121,13 @@ fn shared_out<R: Threads + Wait + Sync>(rt: &R, alloc: Global, what: &str) -> Re
     let mut words = Words::new(what);
     match words.word()? {
         "link" => {
-            let (head, meter) = (head(words.number()?)?, meter(words.number()?)?);
+            let [number, meter_number]: [u32; 2] = words.read()?;
+            let (head, meter) = (head(number)?, meter(meter_number)?);
             led_to(rt, alloc, 1, vec![in alloc; GoodLink { head, meter }]?)
         }
         "refused" => {
-            let (first, second) = (reason(words.word()?)?, reason(words.word()?)?);
+            let [first, second]: [&str; 2] = words.read()?;
+            let (first, second) = (reason(first)?, reason(second)?);
             let shares = vec![in alloc; Refused(first), Refused(second)]?;
             led_to(rt, alloc, 2, shares)
         }

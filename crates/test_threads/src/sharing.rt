@@ -267,8 +267,7 @@ fn together<R: Threads + Wait + Sync>(
 /// left, and the board's count. With a word after them it is whether that count is the number of rows that are done.
 fn joined<R: Threads + Wait + Sync>(rt: &R, alloc: Global, what: &str) -> Result<String, Fail> {
     let mut words = Words::new(what);
-    let (setup, script, times) = (words.word()?, words.word()?, words.number()?);
-    let links = (words.word()?, words.word()?);
+    let ([setup, script], times, links): ([&str; 2], u32, (&str, &str)) = words.read()?;
     let setup = setup_in(alloc, setup)?;
     let shared = Shared::new(alloc, &setup, events_in(alloc, script)?)?;
     let count = together(rt, alloc, &shared, times, links)?;
@@ -331,19 +330,20 @@ fn answer<R: Wait>(
     let mut words = Words::new(call);
     match words.word()? {
         "tick" => {
-            let desk = present(shared.desks.get(words.number()? as usize), "a head end")?;
-            let meter = meter(words.number()?)?;
+            let [place, number]: [u32; 2] = words.read()?;
+            let desk = present(shared.desks.get(place as usize), "a head end")?;
+            let meter = meter(number)?;
             answered(alloc, desk.tick(rt, alloc, log, board, seat, meter))
         }
         "serve" => {
-            let meter = present(shared.meters.get(words.number()? as usize), "a meter")?;
-            let number = words.number()? as usize;
-            answered(alloc, meter.serve(rt, alloc, log, seat, number))
+            let [place, number]: [u32; 2] = words.read()?;
+            let meter = present(shared.meters.get(place as usize), "a meter")?;
+            answered(alloc, meter.serve(rt, alloc, log, seat, number as usize))
         }
         "hear" => {
-            let desk = present(shared.desks.get(words.number()? as usize), "a head end")?;
-            let number = words.number()? as usize;
-            match hear(rt, alloc, log, board, seat, desk, number) {
+            let [place, number]: [u32; 2] = words.read()?;
+            let desk = present(shared.desks.get(place as usize), "a head end")?;
+            match hear(rt, alloc, log, board, seat, desk, number as usize) {
                 Ok(news) => Ok(format!(in alloc; "{news:?}")?),
                 Err(stopped) => Ok(stopped.told(alloc)?),
             }

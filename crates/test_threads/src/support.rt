@@ -87,8 +87,7 @@ pub(crate) struct Task {
 impl Task {
     /// That of a row that begins with `SETUP SCRIPT ROUNDS WORKERS`.
     pub(crate) fn of(alloc: Global, words: &mut Words<'_>) -> Result<Task, Fail> {
-        let (setup, script) = (words.word()?, words.word()?);
-        let (rounds, workers) = (words.number()?, words.number()?);
+        let ([setup, script], [rounds, workers]): ([&str; 2], [u32; 2]) = words.read()?;
         let given = events_in(alloc, script)?;
         Ok(Task {
             setup: setup_in(alloc, setup)?,

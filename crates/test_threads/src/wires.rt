@@ -52,9 +52,10 @@ struct Passes;
 impl Reads for Passes {
     fn told(&mut self, alloc: Global, what: &str) -> Result<String, Fail> {
         let mut words = Words::new(what);
+        let (waiting, end): (u32, &str) = words.read()?;
         let mut wire = Stored {
-            waiting: words.number()?,
-            fails: words.word()? == "fails",
+            waiting,
+            fails: end == "fails",
         };
         let (first, second) = (passed(&mut wire), passed(&mut wire));
         Ok(format!(in alloc; "{first} {second}")?)
