@@ -93,8 +93,8 @@ struct Operation<'a> {
 fn on_full_disks(alloc: Global, line: &str, before: &[u8], after: &[u8]) -> Result<usize, Fail> {
     let (names, numbers) = present(line.split_once(':'), "names and numbers")?;
     let mut words = Words::new(numbers);
-    let block = (words.number()? as usize, words.number()? as usize);
-    let writes = words.number()? as usize;
+    let [start, end, writes]: [u32; 3] = words.read()?;
+    let (block, writes) = ((start as usize, end as usize), writes as usize);
     let reads = datagrams(alloc, READS)?;
     let old = reads_of(alloc, &reads, before)?;
     let new = reads_of(alloc, &reads, after)?;

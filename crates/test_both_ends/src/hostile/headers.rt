@@ -20,8 +20,8 @@ struct Turned(HeaderVersion);
 impl Reads for Turned {
     fn told(&mut self, alloc: Global, what: &str) -> Result<String, Fail> {
         let mut words = Words::new(what);
-        let turned = words.word()?;
-        let new = self.new_store(alloc, words.word()?)?;
+        let [turned, factory]: [&str; 2] = words.read()?;
+        let new = self.new_store(alloc, factory)?;
         let store = left_by(alloc, new, words.rest())?;
         let mut count = Count::new();
         match turned {

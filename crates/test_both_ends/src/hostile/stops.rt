@@ -101,9 +101,8 @@ fn is_done(world: &World) -> Result<bool, Fail> {
 /// A stop in a datagram at each call of its store. Before the last call is made the meter is as before.
 fn stopped(alloc: Global, setup: &Setup, line: &str) -> Result<usize, Fail> {
     let mut words = Words::new(line);
-    let count = words.number()? as usize;
-    let datagram = words.number()? as usize;
-    let all_calls = u64::from(words.number()?);
+    let ([count, datagram], all_calls): ([u32; 2], u64) = words.read()?;
+    let (count, datagram) = (count as usize, datagram as usize);
     let before = restarted(alloc, count, None)?;
     let after = restarted(alloc, count, Some(datagram))?;
     let mut tried = 0usize;

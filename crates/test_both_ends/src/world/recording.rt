@@ -36,10 +36,11 @@ fn sent_of(alloc: Global, what: &str) -> Result<Vec<Datagram>, Fail> {
 }
 
 fn datagram_of(alloc: Global, words: &mut Words<'_>) -> Result<Datagram, Fail> {
+    let (number, meter_number, direction): (u32, u32, &str) = words.read()?;
     Ok(Datagram {
-        head: head(words.number()?)?,
-        meter: meter(words.number()?)?,
-        direction: match words.word()? {
+        head: head(number)?,
+        meter: meter(meter_number)?,
+        direction: match direction {
             "to-meter" => Direction::ToMeter,
             _ => Direction::ToHead,
         },

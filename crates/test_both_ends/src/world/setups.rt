@@ -34,9 +34,10 @@ impl Reads for Made {
 
 fn many(alloc: Global, what: &str) -> Result<Setup, Fail> {
     let mut words = Words::new(what);
+    let [heads, meters]: [u32; 2] = words.read()?;
     Ok(Setup {
-        heads: first_heads(alloc, words.number()?)?,
-        meters: first_meters(alloc, words.number()?)?,
+        heads: first_heads(alloc, heads)?,
+        meters: first_meters(alloc, meters)?,
     })
 }
 
@@ -134,12 +135,12 @@ struct Store;
 impl Reads for Store {
     fn told(&mut self, alloc: Global, what: &str) -> Result<String, Fail> {
         let mut words = Words::new(what);
-        let version = match words.word()? {
+        let (age, [capacity, block_size], image): (&str, [u32; 2], &str) = words.read()?;
+        let version = match age {
             "new" => HeaderVersion::Two,
             _ => HeaderVersion::One,
         };
-        let (capacity, block_size) = (words.number()?, words.number()?);
-        let factory = match words.word()? {
+        let factory = match image {
             "-" => "",
             image => image,
         };
