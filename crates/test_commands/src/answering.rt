@@ -64,9 +64,10 @@ impl Reads for Answers {
                 Ok(report_of(alloc, REPORTS, &told)?)
             }
             "options" => {
+                let (block_size, capacity): (u64, u64) = words.read()?;
                 let options = AnswerOptions {
-                    block_size: u64::from(words.number()?),
-                    capacity: words.word()?.parse::<u64>()?,
+                    block_size,
+                    capacity,
                     factory: words.rest(),
                 };
                 answered(alloc, "x", &options)

@@ -21,9 +21,10 @@ fn told<T: Threads + Wait + Net + Sync>(
     let (how, script) = present(what.split_once('|'), "no script")?;
     let script = script_of(alloc, script.trim())?;
     let mut words = Words::new(how);
+    let [rounds, workers]: [u32; 2] = words.read()?;
     let options = LiveOptions {
-        rounds: words.number()?,
-        workers: words.number()?,
+        rounds,
+        workers,
         trace,
     };
     let mut written = Vec::new(alloc);

@@ -20,11 +20,12 @@ fn options(head: u32, serial: u32, release: u32) -> Result<NameOptions, Fail> {
     Ok(NameOptions { campaign, release })
 }
 
-/// What is written of what a reader has, and after it the fault, if there is one.
+/// What is written of what a reader has, on one line, and after it the fault, if there is one.
 fn written<R: Read>(alloc: Global, reader: &mut R, options: &NameOptions) -> Result<String, Fail> {
     let mut written = Vec::new(alloc);
     let result = run_name(alloc, reader, &mut written, options);
-    ended(alloc, written, result)
+    let told = ended(alloc, written, result)?;
+    Ok(on_one_line(alloc, &told)?)
 }
 
 /// Reads what is named:
@@ -40,17 +41,19 @@ impl Reads for Names {
         let mut words = Words::new(what);
         match words.word()? {
             "image" => {
-                let options = options(words.number()?, words.number()?, words.number()?)?;
+                let [head, serial, release]: [u32; 3] = words.read()?;
+                let options = options(head, serial, release)?;
                 let image = script_of(alloc, words.rest())?;
-                let told = written(alloc, &mut image.as_bytes(), &options)?;
-                Ok(on_one_line(alloc, &told)?)
+                written(alloc, &mut image.as_bytes(), &options)
             }
             "zeros" => {
                 let image = vec![in alloc; 0; words.number()? as usize]?;
-                let told = written(alloc, &mut image.as_slice(), &options(7, 1, 0)?)?;
-                Ok(on_one_line(alloc, &told)?)
+                written(alloc, &mut image.as_slice(), &options(7, 1, 0)?)
             }
-            _ => into_room(alloc, words.number()? as usize, words.number()?),
+            _ => {
+                let [room, release]: [u32; 2] = words.read()?;
+                into_room(alloc, room as usize, release)
+            }
         }
     }
 }

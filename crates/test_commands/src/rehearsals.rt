@@ -40,7 +40,8 @@ fn rehearsed<T: Threads + Wait + Sync>(
     let (how, script) = present(what.split_once('|'), "no script")?;
     let script = script_of(alloc, script.trim())?;
     let mut words = Words::new(how);
-    let (rounds, workers, fates) = (words.number()?, words.number()?, words.rest());
+    let [rounds, workers]: [u32; 2] = words.read()?;
+    let fates = words.rest();
     let mut written = Vec::new(alloc);
     let result = run_rehearse(
         rt,

@@ -9,7 +9,7 @@ use fw_report::{ReportForm, Style};
 use std::alloc::{AllocError, Global};
 use std::io::{Read, Stderr};
 use std::test::Fail;
-use test_tables::{Reads, Words, each_line, expect_at, named, present};
+use test_tables::{Reads, Words, each_line, each_table, expect_at, named, present};
 
 /// No terminal.
 const NO_TERMINAL: Option<&'static Stderr> = None;
@@ -375,8 +375,7 @@ lines | to-done-5 / open-release 7 2 5 616264 1 / up-to-start / => \
 
 #[test]
 fn scripts_and_their_reports(rt: HostRuntime) -> Result<(), Fail> {
-    each_line(rt.alloc(), &mut Replays, REPLAYED)?;
-    each_line(rt.alloc(), &mut Replays, CAMPAIGNS)
+    each_table(rt.alloc(), &[(Replays, REPLAYED), (Replays, CAMPAIGNS)])
 }
 
 /// Campaigns, no datagram, an event that is refused, what the network does, and initiates that a meter refuses.

@@ -35,7 +35,7 @@ impl Reads for Stores {
 }
 
 fn new(alloc: Global, mut words: Words<'_>) -> Result<String, Fail> {
-    let (block_size, capacity) = (words.number()?, words.number()?);
+    let [block_size, capacity]: [u32; 2] = words.read()?;
     let meter = opened(MemoryStore::new(alloc, capacity, block_size, b"abc")?)?;
     Ok(format!(in alloc; "{:?}", meter.status())?)
 }

@@ -9,11 +9,12 @@ use std::io::Read;
 use std::test::Fail;
 use test_tables::{Reads, Words, each_line, expect_at};
 
-/// What is written of what a reader has, and after it the fault, if there is one.
+/// What is written of what a reader has, on one line, and after it the fault, if there is one.
 fn traced<R: Read>(alloc: Global, reader: &mut R) -> Result<String, Fail> {
     let mut written = Vec::new(alloc);
     let result = run_trace(alloc, reader, &mut written);
-    ended(alloc, written, result)
+    let told = ended(alloc, written, result)?;
+    Ok(on_one_line(alloc, &told)?)
 }
 
 /// Reads `capture DIGITS`: what a capture tells; or `room N`: a note is written to a writer with room for N bytes.
@@ -26,8 +27,7 @@ impl Reads for Traces {
         match words.word()? {
             "capture" => {
                 let capture = hex::decode(alloc, words.rest().as_bytes())?;
-                let told = traced(alloc, &mut capture.as_slice())?;
-                Ok(on_one_line(alloc, &told)?)
+                traced(alloc, &mut capture.as_slice())
             }
             _ => into_room(alloc, words.number()? as usize),
         }

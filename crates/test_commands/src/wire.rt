@@ -251,13 +251,13 @@ fn fresh(alloc: Global, mut words: Words<'_>) -> Result<MeterCore<MemoryStore>, 
     if words.rest().is_empty() {
         return opened(MemoryStore::new(alloc, 64, 2, b"abc")?);
     }
-    let (block_size, capacity) = (words.number()?, words.number()?);
+    let [block_size, capacity]: [u32; 2] = words.read()?;
     opened(MemoryStore::new(alloc, capacity, block_size, words.rest().as_bytes())?)
 }
 
 /// An old one.
 fn fresh_old(alloc: Global, mut words: Words<'_>) -> Result<MeterCore<MemoryStore>, Fail> {
-    let (block_size, capacity) = (words.number()?, words.number()?);
+    let [block_size, capacity]: [u32; 2] = words.read()?;
     kept(MemoryStore::new_old(alloc, capacity, block_size, words.rest().as_bytes())?)
 }
 
