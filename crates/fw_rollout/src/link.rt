@@ -29,7 +29,7 @@ pub struct Listed {
 }
 
 /// Where a link is between two ticks. Times are in microseconds.
-#[derive(Clone, Copy, PartialEq, Eq)]
+#[derive(Clone, Copy)]
 pub(crate) enum Turn {
     /// The meter has no live row.
     Over,
@@ -44,7 +44,7 @@ pub(crate) enum Turn {
 }
 
 /// What an answer leaves of what a row asked.
-#[derive(Clone, Copy, PartialEq, Eq)]
+#[derive(Clone, Copy)]
 pub(crate) enum Answer {
     /// Other asks are outstanding.
     Partial,
@@ -136,14 +136,20 @@ impl Link {
     pub(crate) fn is_ready(&self) -> bool
         ensures { IsTrue result ↔ IsReady self.now }
     {
-        self.turn == Turn::Ready
+        match self.turn {
+            Turn::Ready => true,
+            Turn::Over | Turn::Awaited { .. } | Turn::Silent { .. } | Turn::Paused { .. } => false,
+        }
     }
 
     /// Whether the meter has a live row.
     pub(crate) fn is_live(&self) -> bool
         ensures { IsTrue result ↔ IsLiveLink self.now }
     {
-        self.turn != Turn::Over
+        match self.turn {
+            Turn::Over => false,
+            Turn::Ready | Turn::Awaited { .. } | Turn::Silent { .. } | Turn::Paused { .. } => true,
+        }
     }
 
     /// When the link is looked at next, if no answer comes.
