@@ -5,6 +5,7 @@ pub mod NewStores
 pub mod OneAnswer
 pub mod Rehearsed
 pub mod Replayed
+pub mod Scripted
 pub mod Turns
 pub mod HeadLeading
 pub mod Captured

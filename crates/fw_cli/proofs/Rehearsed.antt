@@ -1,6 +1,7 @@
 -- What a command of workers did, from what it read, reported and wrote.
-use Rattle.std.proofs.Common.{◌≡◌, ℕ, Bool, true, false, List, [], ◌++◌, inr, refl, ap, ◌∙◌, append_assoc}
-use Rattle.std.specs.Prelude.{Option}
+use Rattle.std.proofs.Common.{◌≡◌, ℕ, Bool, true, false, List, [], ◌++◌, Result, Err, inr, refl, ap, subst, sym, ◌∙◌, append_assoc}
+use Rattle.std.proofs.lemmas.Result.{IfErr-at_err}
+use Rattle.std.specs.Prelude.{IsTrue, Option, is_some, ◌⊎◌, ◌≢◌}
 use Rattle.std.specs.Io.KnownBytes.{Appends}
 use Rattle.fw_world.specs.declared.event.Event.{Event as Given}
 use Rattle.fw_world.specs.declared.setup.Setup.{Setup}
@@ -10,11 +11,22 @@ use Rattle.fw_world.specs.State.{State}
 use Rattle.fw_world.specs.Step.{Event}
 use Rattle.fw_accounts.specs.Accounts.{IsAccounted}
 use Rattle.fw_air.specs.Events.{Receipt}
-use Rattle.fw_workers.specs.Refusals.{IsBarred}
+use Rattle.fw_accounts.specs.declared.report.Report.{Report}
+use Rattle.fw_workers.specs.declared.error.RehearseError.{RehearseError}
+use Rattle.fw_workers.specs.declared.error.RehearseError.TheVariants as refused
+use Rattle.fw_workers.specs.Beginnings.{BeginsFor}
+use Rattle.fw_workers.specs.Refusals.{TellsOfEvent}
 use Rattle.fw_workers.specs.Deals.{AreWorkers}
-use Rattle.fw_cli.specs.Rehearsing.{IsBarredIn, ReadsScript, TellsOfWorkers, TellsRehearsal, TracesWorkers, WritesRehearsal}
+use Rattle.fw_cli.specs.Faults.{IsOfLiveWorkers}
+use Rattle.fw_cli.specs.Rehearsing.{ReadsScript, TellsOfWorkers, TellsRehearsal, TracesWorkers, WritesRehearsal}
 use Rattle.fw_cli.specs.Capturing.{CapturesIf}
-use Rattle.fw_cli.specs.Replaying.{MakesNone, MakesOne, MayWantFor, ReadsOne}
+use Rattle.fw_cli.specs.Replaying.{MayWantFor}
+use Rattle.fw_cli.specs.Scripts.{EndsBy, MakesNoneFor}
+use Rattle.fw_faults.specs.declared.fault.Fault.{Fault}
+use Rattle.fw_faults.specs.declared.fault.Fault.TheVariants as fault
+use Rattle.fw_faults.specs.Faults.{fault_of_rehearsal}
+use Rattle.fw_cli.specs.Private.{HasNoReport}
+use Rattle.fw_cli.proofs.Scripted as Scripted
 use Rattle.fw_report.specs.Report.{report_of, board_line}
 
 -- a script was read, and the capture and the text of its rehearsal were written
@@ -33,11 +45,6 @@ writes trace rounds workers before after uncaptured captured first last setup ev
       captures = captures;
       written = written;
     }
-
--- the script that was read makes a world
-pub made_one : (before after : Option (List ℕ)) (setup : Setup) (events : List Given) → ReadsScript before after setup events → IsSetup setup
-    → ReadsOne before after MakesOne
-made_one before after setup events read made = (read.input, read.read, (setup, events, read.spelled, made))
 
 -- a trace, and after it the report and the line of the board
 pub with_trace : (setup : Setup) (given : List Event) (world : State) (board : ℕ) (receipts : List (List Receipt)) (first traced reported text : List ℕ)
@@ -74,17 +81,43 @@ tells trace rounds workers setup events world board receipts text accounted told
       told = found.2;
     }
 
--- of the script that was read no world can be made
-pub makes_none : (workers : ℕ) (before after : Option (List ℕ)) (setup : Setup) (events : List Given) → ReadsScript before after setup events
-    → (AreWorkers workers → ¬ IsSetup setup) → ReadsOne before after (λ input. AreWorkers workers → MakesNone input)
-makes_none workers before after setup events read none = (read.input, read.read, λ are. (setup, events, read.spelled, none are))
+-- the script that was read has no report
+pub untold : {C : Type 0} (workers : ℕ) (before after : Option (List ℕ)) (capture : Option C) (first : Option (List ℕ)) (setup : Setup) (events : List Given) (f : Fault)
+    → ReadsScript before after setup events → HasNoReport workers setup events f → IsOfLiveWorkers f
+    → EndsBy (MayWantFor before after) (MakesNoneFor workers) before after capture capture first first f
+untold workers before after capture first setup events f read none is =
+    Scripted.untold (MakesNoneFor workers) before after capture first read.input f read.read
+    (λ number other. absurd (subst IsOfLiveWorkers other is))
+    (λ e are. (setup, events, read.spelled, none.bad_setup e are))
+    (λ e. let barred = none.event e in (setup, events, barred.0, read.spelled, barred.1))
+    (λ e. inr (setup, events, read.spelled, none.memory e)) (Scripted.of_run f is)
 
--- an event of the script that was read is refused
-pub is_barred : (before after : Option (List ℕ)) (setup : Setup) (events : List Given) → ReadsScript before after setup events
-    → (number : ℕ) × IsBarred setup events number → ReadsOne before after IsBarredIn
-is_barred before after setup events read barred = (read.input, read.read, (setup, events, barred.0, read.spelled, barred.1))
+-- a world can be made of the script that was read, and the capture of its run fails
+pub uncaptured : {C : Type 0} (workers : ℕ) (before after : Option (List ℕ)) (capture captured : Option C) (first : Option (List ℕ)) (setup : Setup) (events : List Given) (f : Fault)
+    → ReadsScript before after setup events → IsSetup setup → IsTrue (is_some capture) → (f ≡ fault.OutOfMemory → captured ≡ capture)
+    → (f ≡ fault.OutOfMemory) ⊎ (f ≡ fault.CaptureFault)
+    → EndsBy (MayWantFor before after) (MakesNoneFor workers) before after capture captured first first f
+uncaptured workers before after capture captured first setup events f read made asked same faults =
+    Scripted.uncaptured (MakesNoneFor workers) before after capture captured first read.input f read.read (setup, events, read.spelled, made) asked same faults
 
--- a world can be made of the script that was read
-pub may_want : (before after : Option (List ℕ)) (setup : Setup) (events : List Given) → ReadsScript before after setup events → IsSetup setup
-    → MayWantFor before after
-may_want before after setup events read made = inr (read.input, read.read, inr (setup, events, read.spelled, made))
+-- why there is no report of workers
+by_error : (workers : ℕ) (setup : Setup) (events : List Given) (e : RehearseError) → (e ≡ refused.BadSetup → AreWorkers workers → ¬ IsSetup setup)
+    → TellsOfEvent setup events e → (e ≢ refused.BadSetup → IsSetup setup) → HasNoReport workers setup events (fault_of_rehearsal e)
+by_error workers setup events refused.BadSetup none barred made = record { bad_setup = λ _. none refl; event = λ other. cc other; memory = λ other. cc other }
+by_error workers setup events (refused.Event number) none barred made = record { bad_setup = λ other. cc other; event = λ _. (number, barred); memory = λ other. cc other }
+by_error workers setup events refused.Mismatch none barred made = record { bad_setup = λ other. cc other; event = λ other. cc other; memory = λ other. cc other }
+by_error workers setup events refused.ThreadRefused none barred made = record { bad_setup = λ other. cc other; event = λ other. cc other; memory = λ other. cc other }
+by_error workers setup events refused.Socket none barred made = record { bad_setup = λ other. cc other; event = λ other. cc other; memory = λ other. cc other }
+by_error workers setup events refused.GateShut none barred made = record { bad_setup = λ other. cc other; event = λ other. cc other; memory = λ other. cc other }
+by_error workers setup events refused.OutOfMemory none barred made = record { bad_setup = λ other. cc other; event = λ other. cc other; memory = λ _. made (λ is. cc is) }
+
+pub unreported : (workers : ℕ) (setup : Setup) (events : List Given) (report : Result Report RehearseError) (e : RehearseError) (f : Fault)
+    → report ≡ Err e → BeginsFor setup events workers report → f ≡ fault_of_rehearsal e → HasNoReport workers setup events f
+unreported workers setup events report e f was begins gives =
+    subst (HasNoReport workers setup events) (sym gives)
+    (by_error workers setup events e (λ is. begins.bad_setup (was ∙ ap Err is)) (IfErr-at_err (TellsOfEvent setup events) was begins.event)
+    (IfErr-at_err (λ (e : RehearseError). e ≢ refused.BadSetup → IsSetup setup) was begins.made))
+
+-- memory is wanted for it
+pub unremembered : (workers : ℕ) (setup : Setup) (events : List Given) (f : Fault) → IsSetup setup → f ≡ fault.OutOfMemory → HasNoReport workers setup events f
+unremembered workers setup events f made e = record { bad_setup = λ other. cc (e, other); event = λ other. cc (e, other); memory = λ _. made }

@@ -8,6 +8,7 @@ pub mod Tracing
 pub mod Capturing
 pub mod Replaying
 pub mod Rehearsing
+pub mod Scripts
 pub mod Heads
 pub mod Laws
 -- For private clauses alone: no public clause cites it.

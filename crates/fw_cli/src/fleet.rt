@@ -28,10 +28,11 @@ ghost use Rattle.fw_host.specs.Captures.{IsOfCapture};
 ghost use Rattle.fw_host.specs.Meters.{IsOfSetup, default_factory, listening_line};
 ghost use Rattle.fw_cli.specs.declared.fleet.Member.{Member};
 
-use crate::meter::{MeterFault, MeterOptions, Teller, closing_fault, opened_capture};
+use crate::meter::{Listening, MeterFault, MeterOptions, Teller, closing_fault, opened_capture};
 use fw_daemon::{Dropped, MeterDaemon, Port, UdpPort, Watch, step};
 use fw_faults::{Fault, write_text};
 use fw_host::{CapturePort, listening_line, stored_meter};
+use fw_meter::MeterCore;
 use fw_names::ImageName;
 use fw_store::FileStore;
 use std::alloc::{AllocError, Global};
@@ -180,18 +181,40 @@ fn new_member<R: Files<File = File> + Net>(
         → ¬ IsSetup Two options.now.fresh.block_size options.now.fresh.capacity default_factory }
     ensures faults { IfErr result (λ f. (f ≡ Fault.Socket) ⊎ IsOfSetup f) }
 {
-    let listen = address_of(options.listen, number).ok_or(Fault::Socket)?;
-    let port = UdpPort::bind_polling(rt, listen).map_err(|_| Fault::Socket)?;
-    let at = port.address().map_err(|_| Fault::Socket)?;
-    let store = options.store;
-    let path = format!(in alloc; "{store}.{number}")?;
-    let meter = stored_meter(rt, alloc, path.as_str(), &options.fresh)?;
+    let Listening { port, at } = numbered_port(rt, options.listen, number)?;
+    let meter = numbered_meter(rt, alloc, options, number)?;
     let heads = Vec::from_slice(alloc, &options.heads)?;
     Ok(Member {
         port,
         at,
         daemon: MeterDaemon::new(meter, heads),
     })
+}
+
+/// The port of the meter of this number.
+fn numbered_port<N: Net>(net: &N, first: SocketAddr, number: u32) -> Result<Listening, Fault>
+    ensures faults { IfErr result (λ f. f ≡ Fault.Socket) }
+{
+    match address_of(first, number) {
+        Some(listen) => Listening::of(UdpPort::bind_polling(net, listen)),
+        None => Err(Fault::Socket),
+    }
+}
+
+/// The meter of this number in its file.
+fn numbered_meter<F: Files<File = File>>(
+    rt: &F,
+    alloc: Global,
+    options: &MeterOptions<'_>,
+    number: u32,
+) -> Result<MeterCore<FileStore>, Fault>
+    ensures bad_setup { options.now.fresh.factory_file ≡ None → result ≡ Err Fault.BadSetup
+        → ¬ IsSetup Two options.now.fresh.block_size options.now.fresh.capacity default_factory }
+    ensures faults { IfErr result IsOfSetup }
+{
+    let store = options.store;
+    let path = format!(in alloc; "{store}.{number}")?;
+    stored_meter(rt, alloc, path.as_str(), &options.fresh)
 }
 
 /// The address that the meter of this number receives at, if there is such a port: as many ports after that of the first meter as there are

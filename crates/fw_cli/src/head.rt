@@ -11,7 +11,7 @@ ghost use Rattle.fw_host.specs.Captures.{IsOfCapture};
 ghost use Rattle.fw_host.specs.Heads.{ComesBeforeLines, IsOfHead, IsOfHeadSetup};
 ghost use Rattle.fw_cli.specs.Heads.{IsAskedFor, IsOfCancelling, IsOfList, IsOfOpening, IsOfOpeningSetup, IsOfStop};
 
-use crate::meter::{closing_fault, opened_capture, tell_listening};
+use crate::meter::{Listening, closing_fault, opened_capture, tell_listening};
 use fw_blocks::Width;
 use fw_book::BookError;
 use fw_daemon::UdpPort;
@@ -103,8 +103,7 @@ pub fn run_head<R: Files<File = File> + Clock + Net + Wait, W: Write, E: Eprint>
     let Ready {
         port,
         at,
-        list,
-        opened,
+        asked,
         mut kept,
     } = set_up(rt, alloc, options)?;
     let capture = opened_capture(rt, alloc, options.capture)?;
@@ -112,6 +111,7 @@ pub fn run_head<R: Files<File = File> + Clock + Net + Wait, W: Write, E: Eprint>
     if let Some(serial) = options.cancel {
         cancel_one(alloc, writer, &mut kept, options.head, serial)?;
     }
+    let (list, opened) = asked.into_parts();
     if let Some(opened) = opened {
         open_all(alloc, writer, &mut kept, &opened)?;
     }
@@ -146,9 +146,32 @@ struct RecordedPort<'a> {
 struct Ready {
     port: UdpPort,
     at: SocketAddr,
+    asked: Asked,
+    kept: KeptHead<FileDevice>,
+}
+
+/// The meters of the list, and what is opened for them.
+struct Asked {
     list: MeterList,
     opened: Option<Opened>,
-    kept: KeptHead<FileDevice>,
+}
+
+// Written out: where it is let go, that is one call, and none of its parts is looked into.
+impl Drop for Asked {
+    fn drop(self) {
+        let Asked { list: _, opened: _ } = self;
+    }
+}
+
+impl Asked {
+    /// Its parts.
+    fn into_parts(self) -> (MeterList, Option<Opened>)
+        ensures list { result.0 ≡ self.list }
+        ensures opened { result.1 ≡ self.opened }
+    {
+        let Asked { list, opened } = self;
+        (list, opened)
+    }
 }
 
 /// Campaigns that are opened, of one image.
@@ -165,26 +188,41 @@ fn set_up<R: Files<File = File> + Net>(
     alloc: Global,
     options: &HeadOptions<'_>,
 ) -> Result<Ready, Fault>
-    ensures opened { IfOk result (λ ready. IsTrue (is_some ready.opened) → IsTrue (is_some options.now.opening)) }
+    ensures opened { IfOk result (λ ready. IsTrue (is_some ready.asked.opened) → IsTrue (is_some options.now.opening)) }
     ensures number { IfOk result (λ ready. (book_of ready.kept).head ≡ options.now.head) }
-    ensures addresses { IfOk result (λ ready. All (HasAddress options.now.cancel ready.list) (values_of (head_of ready.kept).rows)) }
+    ensures addresses { IfOk result (λ ready. All (HasAddress options.now.cancel ready.asked.list) (values_of (head_of ready.kept).rows)) }
+    ensures asked { IfErr result (IsAskedFor options.now) }
+    ensures faults { IfErr result IsOfHeadSetup }
+{
+    let asked = asked_of(rt, alloc, options)?;
+    let Listening { port, at } = Listening::of(UdpPort::bind_for(rt, options.listen, WAIT_LIMIT))?;
+    let kept = led_head(rt, alloc, options, asked.list.meters())?;
+    Ok(Ready {
+        port,
+        at,
+        asked,
+        kept,
+    })
+}
+
+/// Reads the list, and the image where campaigns are opened.
+fn asked_of<F: Files<File = File> + Net>(
+    rt: &F,
+    alloc: Global,
+    options: &HeadOptions<'_>,
+) -> Result<Asked, Fault>
+    ensures opened { IfOk result (λ asked. IsTrue (is_some asked.opened) → IsTrue (is_some options.now.opening)) }
     ensures asked { IfErr result (IsAskedFor options.now) }
     ensures faults { IfErr result IsOfHeadSetup }
 {
     let list = list_of_file(rt, alloc, options.meters, options.listen)?;
-    let opened = match options.opening {
-        None => None,
-        Some(opening) => Some(opened_of(rt, alloc, opening, list.meters())?),
+    let Some(opening) = options.opening else {
+        return Ok(Asked { list, opened: None });
     };
-    let port = UdpPort::bind_for(rt, options.listen, WAIT_LIMIT).map_err(|_| Fault::Socket)?;
-    let at = port.address().map_err(|_| Fault::Socket)?;
-    let kept = led_head(rt, alloc, options, list.meters())?;
-    Ok(Ready {
-        port,
-        at,
+    let opened = opened_of(rt, alloc, opening, list.meters())?;
+    Ok(Asked {
         list,
-        opened,
-        kept,
+        opened: Some(opened),
     })
 }
 

@@ -1,16 +1,14 @@
 //! The command `live`: several workers make rounds over UDP sockets after the events of a script, and the report of the world is written.
 
-ghost use Rattle.std.specs.Prelude.{◌≡◌, ◌≢◌, ℕ, IfOk, IfErr, IsTrue, OnOk, is_some, string_bytes};
-ghost use Rattle.std.specs.Io.KnownBytes.{Keeps};
+ghost use Rattle.std.specs.Prelude.{IfOk, IfErr, OnOk, string_bytes};
 ghost use Rattle.std.specs.Option.{option_map};
 ghost use Rattle.fw_world.specs.Setup.{IsSetup};
-ghost use Rattle.fw_workers.specs.Refusals.{IsBarred};
 ghost use Rattle.fw_cli.specs.Faults.{IsOfLive, IsOfLiveWorkers};
-ghost use Rattle.fw_faults.specs.Reading.{ReadsUntil};
-ghost use Rattle.fw_script.specs.Script.{IsBadLine};
-ghost use Rattle.fw_cli.specs.Replaying.{MakesNone, MakesOne, MayWantFor, ReadsOne};
+ghost use Rattle.fw_cli.specs.Private.{HasNoReport};
+ghost use Rattle.fw_cli.specs.Replaying.{MayWantFor};
 ghost use Rattle.fw_workers.specs.Deals.{AreWorkers};
-ghost use Rattle.fw_cli.specs.Rehearsing.{IsBarredIn, RunsLive, TellsRehearsal};
+ghost use Rattle.fw_cli.specs.Rehearsing.{RunsLive, TellsRehearsal};
+ghost use Rattle.fw_cli.specs.Scripts.{EndsBy, MakesNoneFor};
 
 use crate::capture::write_capture;
 use crate::progress::RowsGate;
@@ -64,26 +62,11 @@ pub fn run_live<T: Threads + Wait + Net + Sync, R: Read, W: Write, C: Write, E: 
 
     ensures workers { OnOk result (AreWorkers options.now.workers) }
 
-    // What the script is refused for.
-    ensures bad_line { (number : ℕ) → result ≡ Err (Fault.BadLine number)
-        → ReadsOne (R.remaining reader.old) (R.remaining reader.new) (λ input. IsBadLine input number) }
-    ensures bad_setup { result ≡ Err Fault.BadSetup
-        → ReadsOne (R.remaining reader.old) (R.remaining reader.new) (λ input. AreWorkers options.now.workers → MakesNone input) }
-    ensures event { result ≡ Err Fault.Event → ReadsOne (R.remaining reader.old) (R.remaining reader.new) IsBarredIn }
-
-    // What memory may be wanted for, and never for a bad line or a setup of which no world can be made.
-    ensures memory { result ≡ Err Fault.OutOfMemory → MayWantFor (R.remaining reader.old) (R.remaining reader.new) }
-
-    // A capture fails only where one is asked for, and once a script was run.
-    ensures capture_fault { result ≡ Err Fault.CaptureFault
-        → IsTrue (is_some capture.old) × ReadsOne (R.remaining reader.old) (R.remaining reader.new) MakesOne }
-
-    // How far the reading was.
-    ensures reading { IfErr result (λ f. ReadsUntil f (R.remaining reader.old) (R.remaining reader.new)) }
+    // What it is refused for, and what it did until then.
+    ensures ends { IfErr result (EndsBy (MayWantFor (R.remaining reader.old) (R.remaining reader.new)) (MakesNoneFor options.now.workers)
+        (R.remaining reader.old) (R.remaining reader.new) capture.old capture.new (W.contents writer.old) (W.contents writer.new)) }
 
     ensures faults { IfErr result IsOfLive }
-    ensures silent { IfErr result (λ f. f ≢ Fault.Output → Keeps (W.contents writer.old) (W.contents writer.new)) }
-    ensures uncaptured { IfErr result (λ f. f ≢ Fault.Output → f ≢ Fault.CaptureFault → capture.new ≡ capture.old) }
 {
     let Script { setup, events } = script_from(alloc, reader)?;
     let told = tell_live(rt, alloc, &setup, &events, terminal, options)?;
@@ -104,9 +87,7 @@ fn tell_live<T: Threads + Wait + Net + Sync, E: Eprint + Sync>(
         told.world (string_bytes told.text)) }
     ensures made { OnOk result (IsSetup setup.now) }
     ensures workers { OnOk result (AreWorkers options.now.workers) }
-    ensures bad_setup { result ≡ Err Fault.BadSetup → AreWorkers options.now.workers → ¬ IsSetup setup.now }
-    ensures event { result ≡ Err Fault.Event → (number : ℕ) × IsBarred setup.now events.now number }
-    ensures memory { result ≡ Err Fault.OutOfMemory → IsSetup setup.now }
+    ensures unreported { IfErr result (HasNoReport options.now.workers setup.now events.now) }
     ensures faults { IfErr result IsOfLiveWorkers }
 {
     let LiveOptions {

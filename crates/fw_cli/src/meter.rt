@@ -4,17 +4,18 @@ ghost use Rattle.std.specs.Prelude.{◌≡◌, ◌≢◌, ◌⊎◌, None, IfErr
 ghost use Rattle.std.specs.Io.KnownBytes.{Appends, Keeps};
 ghost use Rattle.fw_store.specs.Setup.{IsSetup};
 ghost use Rattle.fw_store.specs.declared.version.HeaderVersion.TheVariants.{Two};
-ghost use Rattle.fw_cli.specs.Faults.{IsOfMeter, NamesMeter};
+ghost use Rattle.fw_cli.specs.Faults.{IsOfMeter, IsOfServing, NamesMeter};
 ghost use Rattle.fw_host.specs.Captures.{IsOfCapture};
 ghost use Rattle.fw_host.specs.Meters.{activated_line, default_factory, dropped_line, listening_line};
 
 use crate::fleet::serve_fleet;
-use fw_daemon::{Closed, Dropped, MeterDaemon, UdpPort, Watch, serve};
+use fw_daemon::{Closed, Dropped, MeterDaemon, SocketError, UdpPort, Watch, serve};
 use fw_faults::{Fault, write_text};
 use fw_host::{
     CapturePort, NewMeter, activated_line, dropped_line, listening_line, open_capture, stored_meter,
 };
 use fw_names::ImageName;
+use fw_store::FileStore;
 use std::alloc::Global;
 use std::fs::File;
 use std::io::Write;
@@ -129,15 +130,42 @@ fn serve_one<R: Files<File = File> + Clock + Net + Wait, W: Write>(
     ensures asked { IfErr result (λ f. IsOfCapture f → IsTrue (is_some options.entry.capture)) }
     ensures faults { IfErr result IsOfMeter }
 {
-    let Listening { mut port, at } = bound(rt, options.listen)?;
+    let Listening { mut port, at } = Listening::of(UdpPort::bind(rt, options.listen))?;
     let meter = stored_meter(rt, alloc, options.store, &options.fresh)?;
-    let capture = opened_capture(rt, alloc, options.capture)?;
-    tell_listening(alloc, writer, at)?;
     let mut daemon = MeterDaemon::new(meter, options.heads);
+    serve_daemon(
+        rt,
+        alloc,
+        writer,
+        &mut port,
+        at,
+        &mut daemon,
+        options.capture,
+    )
+}
+
+/// Serves this meter, until its port is closed. Where a capture is asked for, it is the file of this path.
+fn serve_daemon<R: Files<File = File> + Clock + Wait, W: Write>(
+    rt: &R,
+    alloc: Global,
+    writer: &mut W,
+    port: &mut UdpPort,
+    at: SocketAddr,
+    daemon: &mut MeterDaemon<FileStore>,
+    capture: Option<&str>,
+) -> Result<(), Fault>
+    ensures ends { IsErr result }
+    ensures silent { IfErr result (λ f. f ≢ Fault.Socket → f ≢ Fault.Output → f ≢ Fault.CaptureFault
+        → Keeps (W.contents writer.old) (W.contents writer.new)) }
+    ensures asked { IfErr result (λ f. IsOfCapture f → IsTrue (is_some capture.entry)) }
+    ensures faults { IfErr result IsOfServing }
+{
+    let file = opened_capture(rt, alloc, capture)?;
+    tell_listening(alloc, writer, at)?;
     let mut teller = Teller::new(rt, alloc, writer);
-    let mut port = CapturePort::of_meter(rt, alloc, &mut port, at, capture);
-    let Closed = serve(rt, alloc, &mut port, &mut daemon, &mut teller);
-    Err(closing_fault(options.capture, port.has_failed()))
+    let mut port = CapturePort::of_meter(rt, alloc, port, at, file);
+    let Closed = serve(rt, alloc, &mut port, daemon, &mut teller);
+    Err(closing_fault(capture, port.has_failed()))
 }
 
 /// The file of a capture, where one is asked for.
@@ -170,19 +198,23 @@ pub(crate) fn closing_fault(capture: Option<&str>, has_failed: bool) -> Fault
 
 /// A port, with the address that it has.
 #[derive(Drop)]
-struct Listening {
-    port: UdpPort,
-    at: SocketAddr,
+pub(crate) struct Listening {
+    pub(crate) port: UdpPort,
+    pub(crate) at: SocketAddr,
 }
 
-/// A port at this address.
-fn bound<N: Net>(net: &N, listen: SocketAddr) -> Result<Listening, Fault>
-    ensures faults { IfErr result (λ f. f ≡ Fault.Socket) }
-{
-    let port = UdpPort::bind(net, listen).map_err(|_| Fault::Socket)?;
-    match port.address() {
-        Ok(at) => Ok(Listening { port, at }),
-        Err(_) => Err(Fault::Socket),
+impl Listening {
+    /// A port that was bound, with its address.
+    pub(crate) fn of(bound: Result<UdpPort, SocketError>) -> Result<Listening, Fault>
+        ensures faults { IfErr result (λ f. f ≡ Fault.Socket) }
+    {
+        let Ok(port) = bound else {
+            return Err(Fault::Socket);
+        };
+        match port.address() {
+            Ok(at) => Ok(Listening { port, at }),
+            Err(_) => Err(Fault::Socket),
+        }
     }
 }
 

@@ -1,19 +1,17 @@
 //! The command `rehearse`: several workers make rounds after the events of a script, and the report of the world is written.
 
-ghost use Rattle.std.specs.Prelude.{◌≡◌, ◌≢◌, ◌<◌, ◌≤◌, ◌⊎◌, ◌++◌, ℕ, List, length, IfOk, IfErr, IsTrue, OnOk, is_some, string_bytes};
+ghost use Rattle.std.specs.Prelude.{◌≡◌, ◌≢◌, IfOk, IfErr, OnOk, string_bytes};
 ghost use Rattle.std.specs.Io.KnownBytes.{Keeps};
 ghost use Rattle.std.specs.Option.{option_map};
 ghost use Rattle.fw_world.specs.Setup.{IsSetup};
 ghost use Rattle.fw_air.specs.Fates.{IsFates};
-ghost use Rattle.fw_workers.specs.Refusals.{IsBarred};
 ghost use Rattle.fw_script.specs.Fates.{SpellsSome};
 ghost use Rattle.fw_cli.specs.Faults.{IsOfRehearse, IsOfWorkers};
-ghost use Rattle.fw_faults.specs.Reading.{ReadsUntil, max_input};
-ghost use Rattle.fw_report.specs.Report.{report_of, board_line};
-ghost use Rattle.fw_script.specs.Script.{IsBadLine};
-ghost use Rattle.fw_cli.specs.Replaying.{MakesNone, MakesOne, MayTakeMemory, MayWantFor, ReadsOne};
+ghost use Rattle.fw_cli.specs.Private.{HasNoReport};
+ghost use Rattle.fw_cli.specs.Replaying.{MayWantFor};
 ghost use Rattle.fw_workers.specs.Deals.{AreWorkers};
-ghost use Rattle.fw_cli.specs.Rehearsing.{IsBarredIn, MayWantToRehearse, Rehearses, RehearsesScript, TellsRehearsal, WritesRehearsal};
+ghost use Rattle.fw_cli.specs.Rehearsing.{MayWantToRehearse, Rehearses, TellsRehearsal, WritesRehearsal};
+ghost use Rattle.fw_cli.specs.Scripts.{EndsBy, MakesNoneFor};
 
 use crate::capture::write_capture;
 use crate::progress::RowsGate;
@@ -84,26 +82,11 @@ pub fn run_rehearse<T: Threads + Wait + Sync, R: Read, W: Write, C: Write, E: Ep
     ensures fates_refused { ¬ SpellsSome options.now.rounds.fates.now → result ≡ Err Fault.BadFates }
     ensures fates_first { ¬ SpellsSome options.now.rounds.fates.now → Keeps (R.remaining reader.old) (R.remaining reader.new) }
 
-    // What the script is refused for.
-    ensures bad_line { (number : ℕ) → result ≡ Err (Fault.BadLine number)
-        → ReadsOne (R.remaining reader.old) (R.remaining reader.new) (λ input. IsBadLine input number) }
-    ensures bad_setup { result ≡ Err Fault.BadSetup
-        → ReadsOne (R.remaining reader.old) (R.remaining reader.new) (λ input. AreWorkers options.now.workers → MakesNone input) }
-    ensures event { result ≡ Err Fault.Event → ReadsOne (R.remaining reader.old) (R.remaining reader.new) IsBarredIn }
-
-    // What memory may be wanted for, and never for bad fates, a bad line or a setup of which no world can be made.
-    ensures memory { result ≡ Err Fault.OutOfMemory → MayWantToRehearse options.now (R.remaining reader.old) (R.remaining reader.new) }
-
-    // A capture fails only where one is asked for, and once a script was run.
-    ensures capture_fault { result ≡ Err Fault.CaptureFault
-        → IsTrue (is_some capture.old) × ReadsOne (R.remaining reader.old) (R.remaining reader.new) MakesOne }
-
-    // How far the reading was.
-    ensures reading { IfErr result (λ f. ReadsUntil f (R.remaining reader.old) (R.remaining reader.new)) }
+    // What it is refused for, and what it did until then. Memory may be wanted for good fates too.
+    ensures ends { IfErr result (EndsBy (MayWantToRehearse options.now (R.remaining reader.old) (R.remaining reader.new)) (MakesNoneFor options.now.workers)
+        (R.remaining reader.old) (R.remaining reader.new) capture.old capture.new (W.contents writer.old) (W.contents writer.new)) }
 
     ensures faults { IfErr result IsOfRehearse }
-    ensures silent { IfErr result (λ f. f ≢ Fault.Output → Keeps (W.contents writer.old) (W.contents writer.new)) }
-    ensures uncaptured { IfErr result (λ f. f ≢ Fault.Output → f ≢ Fault.CaptureFault → capture.new ≡ capture.old) }
 {
     let air = air_of(alloc, &options.rounds)?;
     rehearse_from(
@@ -136,18 +119,9 @@ fn rehearse_from<T: Threads + Wait + Sync, R: Read, W: Write, C: Write, E: Eprin
         (option_map C.contents capture.old) (option_map C.contents capture.new) (W.contents writer.old) (W.contents writer.new)) }
     ensures workers { OnOk result (AreWorkers workers) }
     ensures not_fates { result ≢ Err Fault.BadFates }
-    ensures bad_line { (number : ℕ) → result ≡ Err (Fault.BadLine number)
-        → ReadsOne (R.remaining reader.old) (R.remaining reader.new) (λ input. IsBadLine input number) }
-    ensures bad_setup { result ≡ Err Fault.BadSetup
-        → ReadsOne (R.remaining reader.old) (R.remaining reader.new) (λ input. AreWorkers workers → MakesNone input) }
-    ensures event { result ≡ Err Fault.Event → ReadsOne (R.remaining reader.old) (R.remaining reader.new) IsBarredIn }
-    ensures memory { result ≡ Err Fault.OutOfMemory → MayWantFor (R.remaining reader.old) (R.remaining reader.new) }
-    ensures capture_fault { result ≡ Err Fault.CaptureFault
-        → IsTrue (is_some capture.old) × ReadsOne (R.remaining reader.old) (R.remaining reader.new) MakesOne }
-    ensures reading { IfErr result (λ f. ReadsUntil f (R.remaining reader.old) (R.remaining reader.new)) }
+    ensures ends { IfErr result (EndsBy (MayWantFor (R.remaining reader.old) (R.remaining reader.new)) (MakesNoneFor workers)
+        (R.remaining reader.old) (R.remaining reader.new) capture.old capture.new (W.contents writer.old) (W.contents writer.new)) }
     ensures faults { IfErr result IsOfRehearse }
-    ensures silent { IfErr result (λ f. f ≢ Fault.Output → Keeps (W.contents writer.old) (W.contents writer.new)) }
-    ensures uncaptured { IfErr result (λ f. f ≢ Fault.Output → f ≢ Fault.CaptureFault → capture.new ≡ capture.old) }
 {
     let Script { setup, events } = script_from(alloc, reader)?;
     let told = tell_rehearsal(rt, alloc, &setup, &events, terminal, air, workers, trace)?;
@@ -170,9 +144,7 @@ fn tell_rehearsal<T: Threads + Wait + Sync, E: Eprint + Sync>(
     ensures ok { IfOk result (λ told. TellsRehearsal trace air.now.rounds workers setup.now events.now told.world (string_bytes told.text)) }
     ensures made { OnOk result (IsSetup setup.now) }
     ensures workers { OnOk result (AreWorkers workers) }
-    ensures bad_setup { result ≡ Err Fault.BadSetup → AreWorkers workers → ¬ IsSetup setup.now }
-    ensures event { result ≡ Err Fault.Event → (number : ℕ) × IsBarred setup.now events.now number }
-    ensures memory { result ≡ Err Fault.OutOfMemory → IsSetup setup.now }
+    ensures unreported { IfErr result (HasNoReport workers setup.now events.now) }
     ensures faults { IfErr result IsOfWorkers }
 {
     let Some(fates) = Fates::new(&air.fates) else {

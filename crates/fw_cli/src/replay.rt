@@ -27,16 +27,14 @@ ghost use Rattle.fw_air.specs.Fates.{IsFates};
 ghost use Rattle.fw_air.specs.Schedules.{IsOfWorld};
 ghost use Rattle.fw_script.specs.Fates.{SpellsFates, SpellsSome};
 ghost use Rattle.fw_cli.specs.Faults.{IsOfReplay};
-ghost use Rattle.fw_faults.specs.Reading.{ReadsUntil, max_input};
+ghost use Rattle.fw_faults.specs.Reading.{max_input};
 ghost use Rattle.fw_cli.specs.Private.{rounds_in};
 ghost use Rattle.fw_script.specs.Script.{IsBadLine};
 ghost use Rattle.fw_cli.specs.Replaying.{
   Replays,
   WritesRun,
-  ReadsOne,
   HasBadFates,
   MakesNone,
-  MakesOne,
   MayTakeMemory,
   MayWantFor,
   MayWantMemory,
@@ -47,6 +45,7 @@ ghost use Rattle.fw_cli.specs.Replaying.{
   GoesOn,
   WantsMemory,
 };
+ghost use Rattle.fw_cli.specs.Scripts.{EndsBy};
 
 use crate::capture::write_capture;
 use crate::progress::RoundsWatch;
@@ -140,24 +139,11 @@ pub fn run_replay<R: Read, W: Write, C: Write, E: Eprint>(
     ensures fates_refused { HasBadFates options.now.rounds → result ≡ Err Fault.BadFates }
     ensures fates_first { HasBadFates options.now.rounds → Keeps (R.remaining reader.old) (R.remaining reader.new) }
 
-    // What the script is refused for.
-    ensures bad_line { (number : ℕ) → result ≡ Err (Fault.BadLine number)
-        → ReadsOne (R.remaining reader.old) (R.remaining reader.new) (λ input. IsBadLine input number) }
-    ensures bad_setup { result ≡ Err Fault.BadSetup → ReadsOne (R.remaining reader.old) (R.remaining reader.new) MakesNone }
-
-    // What memory may be taken for: never for bad fates, a bad line or a setup of which no world can be made.
-    ensures memory { result ≡ Err Fault.OutOfMemory → MayWantMemory options.now (R.remaining reader.old) (R.remaining reader.new) }
-
-    // A capture fails only where one is asked for, and once a script was run.
-    ensures capture_fault { result ≡ Err Fault.CaptureFault
-        → IsTrue (is_some capture.old) × ReadsOne (R.remaining reader.old) (R.remaining reader.new) MakesOne }
-
-    // How far the reading was.
-    ensures reading { IfErr result (λ f. ReadsUntil f (R.remaining reader.old) (R.remaining reader.new)) }
+    // What it is refused for, and what it did until then. Memory may be wanted for good fates too.
+    ensures ends { IfErr result (EndsBy (MayWantMemory options.now (R.remaining reader.old) (R.remaining reader.new)) MakesNone
+        (R.remaining reader.old) (R.remaining reader.new) capture.old capture.new (W.contents writer.old) (W.contents writer.new)) }
 
     ensures faults { IfErr result IsOfReplay }
-    ensures silent { IfErr result (λ f. f ≢ Fault.Output → Keeps (W.contents writer.old) (W.contents writer.new)) }
-    ensures uncaptured { IfErr result (λ f. f ≢ Fault.Output → f ≢ Fault.CaptureFault → capture.new ≡ capture.old) }
 {
     let air = match &options.rounds {
         Some(rounds) => Some(air_of(alloc, rounds)?),
@@ -202,16 +188,9 @@ fn replay_from<R: Read, W: Write, C: Write, E: Eprint>(
     ensures ok { IfOk result (λ ended. WritesRun (rounds_in air.now) style ended (R.remaining reader.old) (R.remaining reader.new)
         (option_map C.contents capture.old) (option_map C.contents capture.new) (W.contents writer.old) (W.contents writer.new)) }
     ensures not_fates { result ≢ Err Fault.BadFates }
-    ensures bad_line { (number : ℕ) → result ≡ Err (Fault.BadLine number)
-        → ReadsOne (R.remaining reader.old) (R.remaining reader.new) (λ input. IsBadLine input number) }
-    ensures bad_setup { result ≡ Err Fault.BadSetup → ReadsOne (R.remaining reader.old) (R.remaining reader.new) MakesNone }
-    ensures memory { result ≡ Err Fault.OutOfMemory → MayWantFor (R.remaining reader.old) (R.remaining reader.new) }
-    ensures capture_fault { result ≡ Err Fault.CaptureFault
-        → IsTrue (is_some capture.old) × ReadsOne (R.remaining reader.old) (R.remaining reader.new) MakesOne }
-    ensures reading { IfErr result (λ f. ReadsUntil f (R.remaining reader.old) (R.remaining reader.new)) }
+    ensures ends { IfErr result (EndsBy (MayWantFor (R.remaining reader.old) (R.remaining reader.new)) MakesNone
+        (R.remaining reader.old) (R.remaining reader.new) capture.old capture.new (W.contents writer.old) (W.contents writer.new)) }
     ensures faults { IfErr result IsOfReplay }
-    ensures silent { IfErr result (λ f. f ≢ Fault.Output → Keeps (W.contents writer.old) (W.contents writer.new)) }
-    ensures uncaptured { IfErr result (λ f. f ≢ Fault.Output → f ≢ Fault.CaptureFault → capture.new ≡ capture.old) }
 {
     let mut reads = Reads::none();
     let input = read_input(alloc, reader, &mut reads)?;

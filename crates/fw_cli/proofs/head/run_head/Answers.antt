@@ -1,4 +1,4 @@
-use Rattle.std.proofs.Common.{◌≡◌, ap}
+use Rattle.std.proofs.Common.{◌≡◌, ◌∙◌, ap, sym}
 use Rattle.std.specs.Prelude.{IsTrue, is_some}
 use Rattle.std.proofs.lemmas.Result.{err_from_is_err_and}
 use Rattle.fw_cli.specs.Heads.{IsAskedFor, IsOfStop}
@@ -75,16 +75,16 @@ pub returns-in_err-open_all-clause-silent : goal.returns-in_err-open_all-clause-
 returns-in_err-open_all-clause-silent g c =
     let passed = err_from_is_err_and c.from_residual-in_err-open_all.result c.from_residual-in_err-open_all.ensures.1 in
     let same : passed.0 ≡ c.in_err-open_all.field-0.0 = passed.2 in
-    passed_on c.from_residual-in_err-open_all.result _ passed.0 _ passed.1 same (λ before. absurd ((opening c.args.options.now _ (c.in_ok-port.ensures.opened (ap is_some c.in-Some-opened.is)) c.in_err-open_all.ensures.faults).later before))
+    passed_on c.from_residual-in_err-open_all.result _ passed.0 _ passed.1 same (λ before. absurd ((opening c.args.options.now _ (c.in_ok-port.ensures.opened (ap is_some (sym c.into_parts-list.ensures.opened ∙ c.in-Some-opened.is))) c.in_err-open_all.ensures.faults).later before))
 
 pub returns-in_err-open_all-clause-asked : goal.returns-in_err-open_all-clause-asked
 returns-in_err-open_all-clause-asked g c =
     let passed = err_from_is_err_and c.from_residual-in_err-open_all.result c.from_residual-in_err-open_all.ensures.1 in
     let same : passed.0 ≡ c.in_err-open_all.field-0.0 = passed.2 in
-    passed_on c.from_residual-in_err-open_all.result (IsAskedFor c.args.options.now) passed.0 _ passed.1 same (opening c.args.options.now _ (c.in_ok-port.ensures.opened (ap is_some c.in-Some-opened.is)) c.in_err-open_all.ensures.faults).asked
+    passed_on c.from_residual-in_err-open_all.result (IsAskedFor c.args.options.now) passed.0 _ passed.1 same (opening c.args.options.now _ (c.in_ok-port.ensures.opened (ap is_some (sym c.into_parts-list.ensures.opened ∙ c.in-Some-opened.is))) c.in_err-open_all.ensures.faults).asked
 
 pub returns-in_err-open_all-clause-faults : goal.returns-in_err-open_all-clause-faults
 returns-in_err-open_all-clause-faults g c =
     let passed = err_from_is_err_and c.from_residual-in_err-open_all.result c.from_residual-in_err-open_all.ensures.1 in
     let same : passed.0 ≡ c.in_err-open_all.field-0.0 = passed.2 in
-    passed_on c.from_residual-in_err-open_all.result IsOfHead passed.0 _ passed.1 same (opening c.args.options.now _ (c.in_ok-port.ensures.opened (ap is_some c.in-Some-opened.is)) c.in_err-open_all.ensures.faults).of_head
+    passed_on c.from_residual-in_err-open_all.result IsOfHead passed.0 _ passed.1 same (opening c.args.options.now _ (c.in_ok-port.ensures.opened (ap is_some (sym c.into_parts-list.ensures.opened ∙ c.in-Some-opened.is))) c.in_err-open_all.ensures.faults).of_head

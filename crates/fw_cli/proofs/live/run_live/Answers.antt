@@ -1,9 +1,9 @@
-use Rattle.std.proofs.Common.{◌≡◌, ◌∙◌, ap, Err, List, subst}
-use Rattle.std.proofs.lemmas.Result.{IfOk-weaker, err_from_is_err_and}
-use Rattle.fw_world.specs.declared.event.Event.{Event as Given}
-use Rattle.fw_workers.specs.Refusals.{IsBarred}
-use Rattle.fw_faults.specs.declared.fault.Fault.TheVariants.{BadSetup, Event, OutOfMemory}
-use Rattle.fw_cli.proofs.Rehearsed.{is_barred, made_one, makes_none, may_want, writes}
+use Rattle.std.proofs.Common.{◌≡◌, ◌∙◌, ap, Err}
+use Rattle.std.proofs.lemmas.Result.{IfErr-weaker, IfOk-weaker, err_from_is_err_and}
+use Rattle.fw_cli.specs.Scripts.{MakesNoneFor}
+use Rattle.fw_cli.proofs.HeadLeading.{passed_on}
+use Rattle.fw_cli.proofs.Rehearsed.{uncaptured, untold, writes}
+use Rattle.fw_cli.proofs.Scripted.{unread, unwritten}
 use Rattle.fw_cli.proofs.live.run_live.Goals as goal
 
 pub returns-clause-ok : goal.returns-clause-ok
@@ -14,36 +14,31 @@ returns-clause-ok g c =
     c.in_ok-setup.ensures.ok (rw c.deref.ensures.value at c.in_ok-told.ensures.ok) (rw c.sent.ensures.sent at c.in_ok-write_capture.ensures.written) written)
     (rw c.as_str.ensures.value at c.write_text.ensures.written)
 
-pub returns-in_err-told-clause-bad_setup : goal.returns-in_err-told-clause-bad_setup
-returns-in_err-told-clause-bad_setup g c = λ bad.
+pub returns-clause-ends : goal.returns-clause-ends
+returns-clause-ends g c =
+    IfErr-weaker c.write_text.result _ _ (λ f output. unwritten (MakesNoneFor c.args.options.now.workers) _ _ _ _ _ _ c.in_ok-setup.ensures.ok.input f c.in_ok-setup.ensures.ok.read output) c.write_text.ensures.faults
+
+pub returns-in_err-setup-clause-ends : goal.returns-in_err-setup-clause-ends
+returns-in_err-setup-clause-ends g c =
+    let passed = err_from_is_err_and c.from_residual.result c.from_residual.ensures.1 in
+    let same : passed.0 ≡ c.in_err-setup.field-0.0 = cc passed.2 in
+    passed_on c.from_residual.result _ passed.0 _ passed.1 same
+    (unread (MakesNoneFor c.args.options.now.workers) _ _ _ _ _ (λ number e. c.script_from.ensures.bad_line number (c.in_err-setup.was ∙ ap Err e))
+    (λ e. c.script_from.ensures.memory (c.in_err-setup.was ∙ ap Err e)) c.in_err-setup.ensures.reading c.in_err-setup.ensures.faults)
+
+pub returns-in_err-told-clause-ends : goal.returns-in_err-told-clause-ends
+returns-in_err-told-clause-ends g c =
     let script = c.in_ok-setup.field-0 in
     let passed = err_from_is_err_and c.from_residual-in_err-told.result c.from_residual-in_err-told.ensures.1 in
-    let cause : c.in_err-told.field-0.0 ≡ BadSetup = cc (passed.1, passed.2, bad) in
-    makes_none c.args.options.now.workers _ _ script.setup script.events.items c.in_ok-setup.ensures.ok
-    (c.tell_live.ensures.bad_setup (c.in_err-told.was ∙ ap Err cause))
+    let same : passed.0 ≡ c.in_err-told.field-0.0 = cc passed.2 in
+    passed_on c.from_residual-in_err-told.result _ passed.0 _ passed.1 same
+    (untold c.args.options.now.workers _ _ _ _ script.setup script.events.items _ c.in_ok-setup.ensures.ok (rw c.deref.ensures.value at c.in_err-told.ensures.unreported) c.in_err-told.ensures.faults)
 
-pub returns-in_err-told-clause-event : goal.returns-in_err-told-clause-event
-returns-in_err-told-clause-event g c = λ barred.
+pub returns-in_err-write_capture-clause-ends : goal.returns-in_err-write_capture-clause-ends
+returns-in_err-write_capture-clause-ends g c =
     let script = c.in_ok-setup.field-0 in
-    let passed = err_from_is_err_and c.from_residual-in_err-told.result c.from_residual-in_err-told.ensures.1 in
-    let cause : c.in_err-told.field-0.0 ≡ Event = cc (passed.1, passed.2, barred) in
-    let found = c.tell_live.ensures.event (c.in_err-told.was ∙ ap Err cause) in
-    is_barred _ _ script.setup script.events.items c.in_ok-setup.ensures.ok
-    (found.0, subst (λ (all : List Given). IsBarred script.setup all found.0) c.deref.ensures.value found.1)
-
-pub returns-in_err-told-clause-memory : goal.returns-in_err-told-clause-memory
-returns-in_err-told-clause-memory g c = λ wanted.
-    let script = c.in_ok-setup.field-0 in
-    let passed = err_from_is_err_and c.from_residual-in_err-told.result c.from_residual-in_err-told.ensures.1 in
-    let cause : c.in_err-told.field-0.0 ≡ OutOfMemory = cc (passed.1, passed.2, wanted) in
-    may_want _ _ script.setup script.events.items c.in_ok-setup.ensures.ok (c.tell_live.ensures.memory (c.in_err-told.was ∙ ap Err cause))
-
-pub returns-in_err-write_capture-clause-memory : goal.returns-in_err-write_capture-clause-memory
-returns-in_err-write_capture-clause-memory g c = λ wanted.
-    let script = c.in_ok-setup.field-0 in
-    may_want _ _ script.setup script.events.items c.in_ok-setup.ensures.ok c.in_ok-told.ensures.made
-
-pub returns-in_err-write_capture-clause-capture_fault : goal.returns-in_err-write_capture-clause-capture_fault
-returns-in_err-write_capture-clause-capture_fault g c = λ failed.
-    let script = c.in_ok-setup.field-0 in
-    (c.in_err-write_capture.ensures.asked, made_one _ _ script.setup script.events.items c.in_ok-setup.ensures.ok c.in_ok-told.ensures.made)
+    let passed = err_from_is_err_and c.from_residual-in_err-write_capture.result c.from_residual-in_err-write_capture.ensures.1 in
+    let same : passed.0 ≡ c.in_err-write_capture.field-0.0 = cc passed.2 in
+    passed_on c.from_residual-in_err-write_capture.result _ passed.0 _ passed.1 same
+    (uncaptured c.args.options.now.workers _ _ _ _ _ script.setup script.events.items _ c.in_ok-setup.ensures.ok c.in_ok-told.ensures.made c.in_err-write_capture.ensures.asked
+    (λ e. c.write_capture.ensures.silent (c.in_err-write_capture.was ∙ ap Err e)) c.in_err-write_capture.ensures.faults)
