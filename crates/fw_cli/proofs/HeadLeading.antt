@@ -9,7 +9,7 @@ use Rattle.fw_faults.specs.declared.fault.Fault.TheVariants as fault
 use Rattle.fw_cli.specs.declared.head.HeadOptions.{HeadOptions}
 use Rattle.fw_faults.specs.Faults.{fault_of_stop}
 use Rattle.fw_host.specs.Captures.{IsOfCapture}
-use Rattle.fw_host.specs.Heads.{ComesBeforeLines, IsCancelFault, IsOfBook, IsOfHead, IsOfHeadSetup, IsOfNewBook, IsOfOldBook, IsOpenFault}
+use Rattle.fw_host.specs.Heads.{ComesBeforeLines, IsCancelFault, IsOfBook, IsOfHead, IsOfHeadSetup, IsOfLeading, IsOfNewBook, IsOfOldBook, IsOpenFault}
 use Rattle.fw_cli.specs.Heads.{IsAskedFor, IsOfCancelling, IsOfList, IsOfOpening, IsOfOpeningSetup, IsOfStop}
 use Rattle.fw_host.specs.Openings.{PartsRefused}
 
@@ -89,6 +89,20 @@ opening options fault.BookFault e is = record { of_head = tt; asked = tt; later 
 opening options fault.Full e is = record { of_head = tt; asked = tt; later = λ h. h }
 opening options fault.OutOfMemory e is = record { of_head = tt; asked = tt; later = λ h. h }
 opening options f e is = absurd is
+
+pub is_cancelling : (f : Fault) → IsOfCancelling f → IsOfLeading f
+is_cancelling (fault.CancelRefused refusal) is = (tt, λ h. h)
+is_cancelling fault.BookFault is = (tt, λ h. h)
+is_cancelling fault.Full is = (tt, λ h. h)
+is_cancelling fault.OutOfMemory is = (tt, λ h. h)
+is_cancelling f is = absurd is
+
+pub is_opening : (f : Fault) → IsOfOpening f → IsOfLeading f
+is_opening (fault.OpenRefused refusal) is = (tt, λ h. h)
+is_opening fault.BookFault is = (tt, λ h. h)
+is_opening fault.Full is = (tt, λ h. h)
+is_opening fault.OutOfMemory is = (tt, λ h. h)
+is_opening f is = absurd is
 
 pub line_lost : (options : HeadOptions) (f : Fault) → ((f ≡ fault.Output) ⊎ (f ≡ fault.OutOfMemory)) → IsLater options f
 line_lost options f (inl output) = subst (IsLater options) (sym output) (record { of_head = tt; asked = tt; later = λ h. h })

@@ -126,9 +126,15 @@ pub(crate) fn setup_of(alloc: Global, options: &AnswerOptions<'_>) -> Result<Met
     ensures bad_setup { result ≡ Err Fault.BadSetup → DescribesNone options.now }
     ensures faults { IfErr result (λ f. (f ≡ Fault.BadSetup) ⊎ (f ≡ Fault.OutOfMemory)) }
 {
-    let factory = bytes_of(alloc, options.factory.as_bytes())?.ok_or(Fault::BadSetup)?;
-    let block_size = u32::try_from(options.block_size).map_err(|_| Fault::BadSetup)?;
-    let capacity = u32::try_from(options.capacity).map_err(|_| Fault::BadSetup)?;
+    let Ok(block_size) = u32::try_from(options.block_size) else {
+        return Err(Fault::BadSetup);
+    };
+    let Ok(capacity) = u32::try_from(options.capacity) else {
+        return Err(Fault::BadSetup);
+    };
+    let Some(factory) = bytes_of(alloc, options.factory.as_bytes())? else {
+        return Err(Fault::BadSetup);
+    };
     Ok(MeterSetup {
         block_size,
         capacity,

@@ -8,7 +8,7 @@ ghost use Rattle.fw_rollout.specs.Daemon.{IsLed, IsOver};
 ghost use Rattle.fw_rollout.specs.Leading.{Leader};
 ghost use Rattle.fw_host.specs.Addresses.{HasAddress};
 ghost use Rattle.fw_host.specs.Captures.{IsOfCapture};
-ghost use Rattle.fw_host.specs.Heads.{ComesBeforeLines, IsOfHead, IsOfHeadSetup};
+ghost use Rattle.fw_host.specs.Heads.{ComesBeforeLines, IsOfHead, IsOfHeadSetup, IsOfLeading};
 ghost use Rattle.fw_cli.specs.Heads.{IsAskedFor, IsOfCancelling, IsOfList, IsOfOpening, IsOfOpeningSetup, IsOfStop};
 
 use crate::meter::{Listening, closing_fault, opened_capture, tell_listening};
@@ -103,19 +103,13 @@ pub fn run_head<R: Files<File = File> + Clock + Net + Wait, W: Write, E: Eprint>
     let Ready {
         port,
         at,
-        asked,
+        mut asked,
         mut kept,
     } = set_up(rt, alloc, options)?;
     let capture = opened_capture(rt, alloc, options.capture)?;
     tell_listening(alloc, writer, at)?;
-    if let Some(serial) = options.cancel {
-        cancel_one(alloc, writer, &mut kept, options.head, serial)?;
-    }
-    let (list, opened) = asked.into_parts();
-    if let Some(opened) = opened {
-        open_all(alloc, writer, &mut kept, &opened)?;
-    }
-    let mut daemon = HeadDaemon::new(alloc, kept, &list, options.timing)?;
+    begin(alloc, writer, &mut kept, asked.opened.take(), options)?;
+    let mut daemon = HeadDaemon::new(alloc, kept, &asked.list, options.timing)?;
     lead(
         rt,
         alloc,
@@ -160,17 +154,6 @@ struct Asked {
 impl Drop for Asked {
     fn drop(self) {
         let Asked { list: _, opened: _ } = self;
-    }
-}
-
-impl Asked {
-    /// Its parts.
-    fn into_parts(self) -> (MeterList, Option<Opened>)
-        ensures list { result.0 ≡ self.list }
-        ensures opened { result.1 ≡ self.opened }
-    {
-        let Asked { list, opened } = self;
-        (list, opened)
     }
 }
 
@@ -300,6 +283,26 @@ fn bytes_of_file<F: Files<File = File>>(
         Err(Fault::TooMuchInput) => Err(too_long),
         Err(_) => Err(fault),
     }
+}
+
+/// Cancels the campaign that is to be cancelled first, and opens those that are opened then.
+fn begin<W: Write>(
+    alloc: Global,
+    writer: &mut W,
+    kept: &mut KeptHead<FileDevice>,
+    opened: Option<Opened>,
+    options: &HeadOptions<'_>,
+) -> Result<(), Fault>
+    ensures asked { (IsTrue (is_some opened) → IsTrue (is_some options.now.opening)) → IfErr result (IsAskedFor options.now) }
+    ensures faults { IfErr result IsOfLeading }
+{
+    if let Some(serial) = options.cancel {
+        cancel_one(alloc, writer, kept, options.head, serial)?;
+    }
+    if let Some(opened) = opened {
+        open_all(alloc, writer, kept, &opened)?;
+    }
+    Ok(())
 }
 
 /// Cancels the campaign of this serial number, and writes a line.

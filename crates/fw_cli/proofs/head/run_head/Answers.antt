@@ -1,11 +1,11 @@
-use Rattle.std.proofs.Common.{◌≡◌, ◌∙◌, ap, sym}
+use Rattle.std.proofs.Common.{◌≡◌}
 use Rattle.std.specs.Prelude.{IsTrue, is_some}
 use Rattle.std.proofs.lemmas.Result.{err_from_is_err_and}
 use Rattle.fw_cli.specs.Heads.{IsAskedFor, IsOfStop}
 use Rattle.fw_host.specs.Captures.{IsOfCapture}
 use Rattle.fw_host.specs.Heads.{IsOfHead}
 use Rattle.fw_cli.proofs.Captured.{capture_is_asked, capture_of_head}
-use Rattle.fw_cli.proofs.HeadLeading.{cancelling, line_lost, on_err_both, opening, passed_on, stopped}
+use Rattle.fw_cli.proofs.HeadLeading.{line_lost, on_err_both, passed_on, stopped}
 use Rattle.fw_cli.proofs.head.run_head.Goals as goal
 
 pub returns-clause-silent : goal.returns-clause-silent
@@ -53,38 +53,21 @@ returns-in_err-tell_listening-clause-faults g c =
     let same : passed.0 ≡ c.in_err-tell_listening.field-0.0 = passed.2 in
     passed_on c.from_residual-in_err-tell_listening.result IsOfHead passed.0 _ passed.1 same (line_lost c.args.options.now _ c.in_err-tell_listening.ensures.faults).of_head
 
-pub returns-in_err-cancel_one-clause-silent : goal.returns-in_err-cancel_one-clause-silent
-returns-in_err-cancel_one-clause-silent g c =
-    let passed = err_from_is_err_and c.from_residual-in_err-cancel_one.result c.from_residual-in_err-cancel_one.ensures.1 in
-    let same : passed.0 ≡ c.in_err-cancel_one.field-0.0 = passed.2 in
-    passed_on c.from_residual-in_err-cancel_one.result _ passed.0 _ passed.1 same (λ before. absurd ((cancelling c.args.options.now c.in-Some.serial _ c.in-Some.is c.in_err-cancel_one.ensures.faults).later before))
+pub returns-in_err-begin-clause-silent : goal.returns-in_err-begin-clause-silent
+returns-in_err-begin-clause-silent g c =
+    let passed = err_from_is_err_and c.from_residual-in_err-begin.result c.from_residual-in_err-begin.ensures.1 in
+    let same : passed.0 ≡ c.in_err-begin.field-0.0 = passed.2 in
+    passed_on c.from_residual-in_err-begin.result _ passed.0 _ passed.1 same (λ before. absurd (c.in_err-begin.ensures.faults.1 before))
 
-pub returns-in_err-cancel_one-clause-asked : goal.returns-in_err-cancel_one-clause-asked
-returns-in_err-cancel_one-clause-asked g c =
-    let passed = err_from_is_err_and c.from_residual-in_err-cancel_one.result c.from_residual-in_err-cancel_one.ensures.1 in
-    let same : passed.0 ≡ c.in_err-cancel_one.field-0.0 = passed.2 in
-    passed_on c.from_residual-in_err-cancel_one.result (IsAskedFor c.args.options.now) passed.0 _ passed.1 same (cancelling c.args.options.now c.in-Some.serial _ c.in-Some.is c.in_err-cancel_one.ensures.faults).asked
+pub returns-in_err-begin-clause-asked : goal.returns-in_err-begin-clause-asked
+returns-in_err-begin-clause-asked g c =
+    let passed = err_from_is_err_and c.from_residual-in_err-begin.result c.from_residual-in_err-begin.ensures.1 in
+    let same : passed.0 ≡ c.in_err-begin.field-0.0 = passed.2 in
+    passed_on c.from_residual-in_err-begin.result (IsAskedFor c.args.options.now) passed.0 _ passed.1 same
+    (c.in_err-begin.ensures.asked (λ some. c.in_ok-port.ensures.opened (rw c.take.ensures.value at some)))
 
-pub returns-in_err-cancel_one-clause-faults : goal.returns-in_err-cancel_one-clause-faults
-returns-in_err-cancel_one-clause-faults g c =
-    let passed = err_from_is_err_and c.from_residual-in_err-cancel_one.result c.from_residual-in_err-cancel_one.ensures.1 in
-    let same : passed.0 ≡ c.in_err-cancel_one.field-0.0 = passed.2 in
-    passed_on c.from_residual-in_err-cancel_one.result IsOfHead passed.0 _ passed.1 same (cancelling c.args.options.now c.in-Some.serial _ c.in-Some.is c.in_err-cancel_one.ensures.faults).of_head
-
-pub returns-in_err-open_all-clause-silent : goal.returns-in_err-open_all-clause-silent
-returns-in_err-open_all-clause-silent g c =
-    let passed = err_from_is_err_and c.from_residual-in_err-open_all.result c.from_residual-in_err-open_all.ensures.1 in
-    let same : passed.0 ≡ c.in_err-open_all.field-0.0 = passed.2 in
-    passed_on c.from_residual-in_err-open_all.result _ passed.0 _ passed.1 same (λ before. absurd ((opening c.args.options.now _ (c.in_ok-port.ensures.opened (ap is_some (sym c.into_parts-list.ensures.opened ∙ c.in-Some-opened.is))) c.in_err-open_all.ensures.faults).later before))
-
-pub returns-in_err-open_all-clause-asked : goal.returns-in_err-open_all-clause-asked
-returns-in_err-open_all-clause-asked g c =
-    let passed = err_from_is_err_and c.from_residual-in_err-open_all.result c.from_residual-in_err-open_all.ensures.1 in
-    let same : passed.0 ≡ c.in_err-open_all.field-0.0 = passed.2 in
-    passed_on c.from_residual-in_err-open_all.result (IsAskedFor c.args.options.now) passed.0 _ passed.1 same (opening c.args.options.now _ (c.in_ok-port.ensures.opened (ap is_some (sym c.into_parts-list.ensures.opened ∙ c.in-Some-opened.is))) c.in_err-open_all.ensures.faults).asked
-
-pub returns-in_err-open_all-clause-faults : goal.returns-in_err-open_all-clause-faults
-returns-in_err-open_all-clause-faults g c =
-    let passed = err_from_is_err_and c.from_residual-in_err-open_all.result c.from_residual-in_err-open_all.ensures.1 in
-    let same : passed.0 ≡ c.in_err-open_all.field-0.0 = passed.2 in
-    passed_on c.from_residual-in_err-open_all.result IsOfHead passed.0 _ passed.1 same (opening c.args.options.now _ (c.in_ok-port.ensures.opened (ap is_some (sym c.into_parts-list.ensures.opened ∙ c.in-Some-opened.is))) c.in_err-open_all.ensures.faults).of_head
+pub returns-in_err-begin-clause-faults : goal.returns-in_err-begin-clause-faults
+returns-in_err-begin-clause-faults g c =
+    let passed = err_from_is_err_and c.from_residual-in_err-begin.result c.from_residual-in_err-begin.ensures.1 in
+    let same : passed.0 ≡ c.in_err-begin.field-0.0 = passed.2 in
+    passed_on c.from_residual-in_err-begin.result IsOfHead passed.0 _ passed.1 same c.in_err-begin.ensures.faults.0

@@ -40,3 +40,12 @@ returns-in_err-kept-clause-faults g c =
     let passed = err_from_is_err_and c.from_residual-in_err-kept.result c.from_residual-in_err-kept.ensures.1 in
     let same : passed.0 ≡ c.in_err-kept.field-0.0 = cc passed.2 in
     passed_on c.from_residual-in_err-kept.result IsOfHeadSetup passed.0 _ passed.1 same c.in_err-kept.ensures.faults
+
+pub returns-clause-opened : goal.returns-clause-opened
+returns-clause-opened g c = c.in_ok-asked.ensures.opened
+
+pub returns-clause-number : goal.returns-clause-number
+returns-clause-number g c = c.in_ok-kept.ensures.number
+
+pub returns-clause-addresses : goal.returns-clause-addresses
+returns-clause-addresses g c = rw c.meters.ensures.meters at c.in_ok-kept.ensures.addresses
