@@ -1,5 +1,7 @@
 //! What is found, and what is wanted.
 
+ghost use Rattle.std.specs.Prelude.{◌≡◌, IfOk, Some};
+
 use std::alloc::Global;
 use std::test::Fail;
 
@@ -22,7 +24,9 @@ pub fn expect_at(alloc: Global, place: &str, found: &str, want: &str) -> Result<
 }
 
 /// What is there, or a failure that names what is lacking.
-pub fn present<T>(option: Option<T>, lacking: &str) -> Result<T, Fail> {
+pub fn present<T>(option: Option<T>, lacking: &str) -> Result<T, Fail>
+    ensures { IfOk result (λ value. option ≡ Some value) }
+{
     match option {
         Some(value) => Ok(value),
         None => Err(lacking.into()),
