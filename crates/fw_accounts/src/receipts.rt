@@ -10,7 +10,7 @@ use fw_names::{HeadId, MeterId};
 use std::marker::Model;
 
 /// What one worker made, event by event.
-#[derive(Debug, Drop)]
+#[derive(Drop)]
 pub struct Receipts {
     all: Vec<Receipt>,
 }

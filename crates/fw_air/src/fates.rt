@@ -9,7 +9,7 @@ use std::marker::Model;
 pub const MAX_FATES: usize = 4096;
 
 /// What becomes of a datagram on its link.
-#[derive(Clone, Copy, Debug, PartialEq, Eq)]
+#[derive(Clone, Copy, PartialEq, Eq)]
 pub enum Fate {
     /// It comes.
     Deliver,
@@ -22,7 +22,7 @@ pub enum Fate {
 }
 
 /// The fates of the datagrams of each link, by their numbers there: a list of 1 to 4,096, which is repeated.
-#[derive(Debug, Drop)]
+#[derive(Drop)]
 pub struct Fates<'a> {
     list: &'a [Fate],
 }

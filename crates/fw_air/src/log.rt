@@ -34,7 +34,7 @@ use std::mem;
 pub const MAX_ADDED: usize = 15;
 
 /// An event, and how many datagrams it added to what was sent.
-#[derive(Debug, Drop)]
+#[derive(Drop)]
 pub struct Entry {
     /// What happened.
     pub event: Event,
@@ -52,7 +52,7 @@ impl Model for Entry {
 }
 
 /// Which event was added to a log, and which datagrams with it. A number that would be greater is 2^64 - 1.
-#[derive(Clone, Copy, Debug, PartialEq, Eq)]
+#[derive(Clone, Copy, PartialEq, Eq)]
 pub struct Sent {
     /// The number of the event, from 0 on.
     pub event: usize,

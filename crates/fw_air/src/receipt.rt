@@ -6,7 +6,7 @@ use crate::core_event::CoreEvent;
 use std::marker::Model;
 
 /// An event that a worker made, under its number in the record.
-#[derive(Debug, Drop)]
+#[derive(Drop)]
 pub struct Receipt {
     /// Its number, from 0 on.
     pub number: usize,

@@ -46,7 +46,7 @@ use std::marker::Model;
 /// It is kept as runs of numbers, so it costs what its runs cost, however many numbers they have. Marking a
 /// number, looking one up and finding the least that is missing take no memory: the room for all runs that there
 /// can be is taken before.
-#[derive(Debug, Drop)]
+#[derive(Drop)]
 pub struct BlockSet {
     /// The number of blocks.
     count: u32,

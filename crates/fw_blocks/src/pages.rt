@@ -51,7 +51,7 @@ pub const MARKS_SIZE: usize = 2048;
 ///
 /// A page has 64 marks and knows how many of them are set. So to mark a number and to look one up take the same time
 /// at every number, and a page whose marks are all set is passed at once where the least one missing is looked for.
-#[derive(Clone, Copy, Debug, PartialEq, Eq)]
+#[derive(Clone, Copy, PartialEq, Eq)]
 pub struct Pages {
     /// The marks of each page, the first one the top bit.
     words: [u64; PAGES],

@@ -17,7 +17,7 @@ pub const MAX_WIDTH: u8 = 15;
 const PLACES: usize = MAX_WIDTH as usize;
 
 /// How many numbers a window has at most: 1 to 15.
-#[derive(Clone, Copy, Debug, PartialEq, Eq, PartialOrd, Ord)]
+#[derive(Clone, Copy, PartialEq, Eq, PartialOrd, Ord)]
 pub struct Width {
     number: u8,
 }
@@ -57,7 +57,7 @@ impl Width {
 
 /// The numbers of the blocks that are sent next, lowest first. It has room for 15 in itself, and takes
 /// no memory.
-#[derive(Clone, Copy, Debug, PartialEq, Eq)]
+#[derive(Clone, Copy, PartialEq, Eq)]
 pub struct Window {
     numbers: [u32; PLACES],
     len: usize,

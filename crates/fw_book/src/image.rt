@@ -11,7 +11,7 @@ use std::marker::Model;
 use std::sync::Arc;
 
 /// An image with its digest, so that it is computed once.
-#[derive(Debug, Drop)]
+#[derive(Drop)]
 pub(crate) struct Image {
     bytes: Vec<u8>,
     digest: [u8; 32],

@@ -20,7 +20,7 @@ pub const MAX_METERS: usize = 256;
 
 /// The image of a campaign with its release, and a row for each of its meters in the order given. Campaigns of one book that offer
 /// the same image share one copy of it.
-#[derive(Debug, Drop)]
+#[derive(Drop)]
 pub struct Offer {
     release: u32,
     image: Arc<Image>,

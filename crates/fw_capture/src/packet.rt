@@ -15,7 +15,7 @@ pub enum Note {
 }
 
 /// What a packet tells.
-#[derive(Clone, Copy, Debug)]
+#[derive(Clone, Copy)]
 pub enum Content<'a> {
     /// A UDP datagram. Of the addresses only IP address and port count.
     Datagram {
@@ -28,7 +28,7 @@ pub enum Content<'a> {
 }
 
 /// A packet, and when it went over the wire.
-#[derive(Clone, Copy, Debug)]
+#[derive(Clone, Copy)]
 pub struct Captured<'a> {
     /// The time since the start of 1970, UTC.
     pub nanoseconds: u64,
@@ -36,7 +36,7 @@ pub struct Captured<'a> {
 }
 
 /// A packet of a capture.
-#[derive(Clone, Copy, Debug)]
+#[derive(Clone, Copy)]
 pub struct Packet<'a> {
     /// Where its record begins in the file.
     pub offset: usize,

@@ -20,7 +20,7 @@ use std::alloc::Global;
 use std::io::{Read, Write};
 
 /// The options of the command: the limits of the meter, and the image that it runs.
-#[derive(Clone, Copy, Debug)]
+#[derive(Clone, Copy)]
 pub struct AnswerOptions<'a> {
     /// Bytes per block of an image transfer, 1 to 1,024.
     pub block_size: u64,

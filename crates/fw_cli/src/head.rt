@@ -36,7 +36,7 @@ use std::sync::Wait;
 const WAIT_LIMIT: u64 = 5;
 
 /// The options of the command.
-#[derive(Clone, Copy, Debug)]
+#[derive(Clone, Copy)]
 pub struct HeadOptions<'a> {
     /// The head end.
     pub head: HeadId,

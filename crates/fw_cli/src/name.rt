@@ -37,7 +37,7 @@ use std::marker::Model;
 const DIGITS: usize = 2 * MAX_NAME_SIZE;
 
 /// The options of the command.
-#[derive(Clone, Copy, Debug)]
+#[derive(Clone, Copy)]
 pub struct NameOptions {
     /// The campaign that offers the image.
     pub campaign: CampaignId,

@@ -145,7 +145,7 @@ impl<'a, E: Eprint> Watch for RoundsWatch<'a, E> {
 }
 
 /// How many rows there are, and how many of them are done.
-#[derive(Clone, Copy, Debug)]
+#[derive(Clone, Copy)]
 struct Rows {
     count: u64,
     done: u64,

@@ -28,7 +28,7 @@ use std::sync::Wait;
 use std::thread::Threads;
 
 /// The options of the command.
-#[derive(Clone, Copy, Debug)]
+#[derive(Clone, Copy)]
 pub struct RehearseOptions<'a> {
     /// The rounds that the workers make after the events of the script.
     pub rounds: Rounds<'a>,

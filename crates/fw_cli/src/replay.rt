@@ -58,7 +58,7 @@ use std::alloc::{AllocError, Global};
 use std::io::{Read, Write};
 
 /// The options of the command.
-#[derive(Clone, Copy, Debug)]
+#[derive(Clone, Copy)]
 pub struct ReplayOptions<'a> {
     /// The rounds that follow the events of the script, if any do.
     pub rounds: Option<Rounds<'a>>,
@@ -67,7 +67,7 @@ pub struct ReplayOptions<'a> {
 }
 
 /// Rounds of all links: in each of them a head end sends to a meter, and each datagram has its fate.
-#[derive(Clone, Copy, Debug)]
+#[derive(Clone, Copy)]
 pub struct Rounds<'a> {
     /// How many there are of each link.
     pub rounds: u32,

@@ -25,7 +25,7 @@ use std::rt::Files;
 const CSV_HEADINGS: &str = "head,campaign,meter,state\n";
 
 /// The form of the report.
-#[derive(Clone, Copy, Debug, PartialEq, Eq)]
+#[derive(Clone, Copy, PartialEq, Eq)]
 pub enum StatusForm {
     /// A table with headings, and how many rows are in which state.
     Table,
@@ -36,7 +36,7 @@ pub enum StatusForm {
 }
 
 /// The options of the command.
-#[derive(Clone, Copy, Debug)]
+#[derive(Clone, Copy)]
 pub struct StatusOptions<'a> {
     /// The path of the file of the book.
     pub book: &'a str,

@@ -21,7 +21,7 @@ use std::io::{Read, Write};
 use std::rt::Files;
 
 /// The options of the command: where the meter is, and what a new one is made with.
-#[derive(Clone, Copy, Debug)]
+#[derive(Clone, Copy)]
 pub struct StoredOptions<'a> {
     /// The path of the file.
     pub file: &'a str,

@@ -9,7 +9,7 @@ use fw_names::ImageName;
 
 /// An ask of a meter's Image transfer object, 0-0:44.0.0.255, or of its active firmware identifier, 1-0:0.2.0.255
 /// (IEC 62056-6-2).
-#[derive(Clone, Copy, Debug, PartialEq, Eq)]
+#[derive(Clone, Copy, PartialEq, Eq)]
 pub enum Ask<'a> {
     /// GET of attribute 2, image_block_size.
     BlockSize,

@@ -29,7 +29,7 @@ const FIRST_INVOKE: u8 = 0xc0;
 
 /// A client of one meter's Image transfer object. It keeps what it asked under each invoke-id, and takes the answer to each ask
 /// once.
-#[derive(Debug, Drop)]
+#[derive(Drop)]
 pub struct Client {
     meter: MeterId,
     next: u8,

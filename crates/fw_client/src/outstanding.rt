@@ -11,7 +11,7 @@ use std::marker::Model;
 pub(crate) const IDS: u8 = 16;
 
 /// The outstanding asks, each at the place of its invoke-id.
-#[derive(Debug, Drop)]
+#[derive(Drop)]
 pub(crate) struct Outstanding {
     places: [Option<Asked>; 16],
 }

@@ -10,7 +10,7 @@ use fw_capture::{CaptureError, Reader};
 use std::alloc::{AllocError, Global};
 
 /// What is reported of a capture.
-#[derive(Debug, Drop)]
+#[derive(Drop)]
 pub struct Dissection {
     /// A line for each datagram, and one for each note, in the order of the capture.
     pub text: String,

@@ -22,7 +22,7 @@ use std::mem;
 const MAX_RETURNS: u8 = 8;
 
 /// A head end's work on one meter for one campaign.
-#[derive(Debug, Drop)]
+#[derive(Drop)]
 pub struct RowCore {
     name: ImageName,
     size: u32,

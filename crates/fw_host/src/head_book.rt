@@ -20,7 +20,7 @@ use std::fs::{File, OpenOptions};
 use std::rt::Files;
 
 /// Where the book of a head end is.
-#[derive(Clone, Copy, Debug)]
+#[derive(Clone, Copy)]
 pub struct BookOptions<'a> {
     /// The path of the file.
     pub path: &'a str,

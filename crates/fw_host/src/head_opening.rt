@@ -36,7 +36,7 @@ pub use part::Part;
 use std::alloc::{AllocError, Global};
 
 /// What is opened.
-#[derive(Clone, Copy, Debug)]
+#[derive(Clone, Copy)]
 pub struct Opening<'a> {
     /// The serial number of the first campaign, at least 1.
     pub serial: u32,

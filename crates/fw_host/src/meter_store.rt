@@ -22,7 +22,7 @@ use std::rt::Files;
 const DEFAULT_FACTORY: &[u8] = b"abc";
 
 /// What a new meter is made with.
-#[derive(Clone, Copy, Debug)]
+#[derive(Clone, Copy)]
 pub struct NewMeter<'a> {
     /// Bytes per block of an image transfer, 1 to 1,024.
     pub block_size: u32,

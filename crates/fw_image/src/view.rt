@@ -6,7 +6,7 @@ use fw_names::ImageName;
 use fw_store::Goal;
 
 /// What a meter shows of its images.
-#[derive(Clone, Copy, Debug, PartialEq, Eq)]
+#[derive(Clone, Copy, PartialEq, Eq)]
 pub struct MeterView {
     /// The most blocks that an image may have: 4,096 or 16,384.
     pub limit: u32,

@@ -8,7 +8,7 @@ use std::alloc::{AllocError, Global};
 use std::marker::Model;
 
 /// A change of bytes that isn't synced yet.
-#[derive(Clone, Copy, Debug, PartialEq, Eq)]
+#[derive(Clone, Copy, PartialEq, Eq)]
 pub enum Change {
     /// `size` bytes were written from position `at` on. A power cut leaves any bytes in that range, and some or all of those past the end.
     Write { at: u64, size: u64 },
@@ -17,7 +17,7 @@ pub enum Change {
 }
 
 /// What a device in memory holds at a moment: what reads give, what they gave at the last sync, and how that was changed since then.
-#[derive(Debug, Drop)]
+#[derive(Drop)]
 pub struct Disk {
     bytes: Vec<u8>,
     synced: Vec<u8>,

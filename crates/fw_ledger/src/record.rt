@@ -16,7 +16,7 @@ pub enum Ending {
 }
 
 /// Where an opening has its image from, so that an image which several campaigns offer is kept once.
-#[derive(Clone, Copy, Debug)]
+#[derive(Clone, Copy)]
 pub enum Image<'a> {
     /// These are its bytes.
     Whole(&'a [u8]),
@@ -25,7 +25,7 @@ pub enum Image<'a> {
 }
 
 /// What a record says.
-#[derive(Debug, Drop)]
+#[derive(Drop)]
 pub enum Record<'a> {
     /// A campaign was opened for these meters.
     Opening {

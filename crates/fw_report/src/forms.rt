@@ -12,7 +12,7 @@ use fw_world::{Setup, World};
 use std::alloc::{AllocError, Global};
 
 /// The form of a report.
-#[derive(Clone, Copy, Debug, PartialEq, Eq)]
+#[derive(Clone, Copy, PartialEq, Eq)]
 pub enum ReportForm {
     /// A line for each row, for each meter, and for how many images were switched to, made of words and numbers.
     Lines,
@@ -23,7 +23,7 @@ pub enum ReportForm {
 }
 
 /// How a run is reported.
-#[derive(Clone, Copy, Debug)]
+#[derive(Clone, Copy)]
 pub struct Style {
     /// Whether a line for each datagram that was sent stands before the report.
     pub trace: bool,

@@ -19,14 +19,14 @@ use fw_wrapper::split;
 use std::alloc::{AllocError, Global};
 
 /// What the name of an image tells: its campaign, and its release, which is 0 where it has none.
-#[derive(Clone, Copy, Debug)]
+#[derive(Clone, Copy)]
 pub struct Title {
     pub campaign: CampaignId,
     pub release: u32,
 }
 
 /// What a datagram says, in short.
-#[derive(Clone, Copy, Debug)]
+#[derive(Clone, Copy)]
 pub enum Message {
     /// A GET of this attribute.
     Get(Reading),
@@ -55,7 +55,7 @@ pub enum Message {
 }
 
 /// A value that a GET is answered by, in short.
-#[derive(Clone, Copy, Debug)]
+#[derive(Clone, Copy)]
 pub enum ShownValue {
     Number(u32),
     Flag(bool),

@@ -8,7 +8,7 @@ use fw_world::StepError;
 use std::alloc::AllocError;
 
 /// An event that was refused.
-#[derive(Clone, Copy, Debug)]
+#[derive(Clone, Copy)]
 pub struct Refusal {
     /// Its number, from 0 on.
     pub at: usize,

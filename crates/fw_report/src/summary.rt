@@ -22,7 +22,7 @@ use fw_world::{HeadSetup, MeterSetup, Setup, World};
 use std::alloc::{AllocError, Global};
 
 /// A row of a campaign.
-#[derive(Clone, Copy, Debug)]
+#[derive(Clone, Copy)]
 pub struct RowEntry {
     /// The head end.
     pub head: u32,

@@ -10,7 +10,7 @@ use std::marker::Model;
 use std::net::SocketAddr;
 
 /// The meters that a head end asks, each number and each address once. Contracts see the list of them.
-#[derive(Debug, Drop)]
+#[derive(Drop)]
 pub struct MeterList {
     list: Vec<Listed>,
     numbers: HashSet<u32>,

@@ -36,7 +36,7 @@ impl fmt::Display for Closed {
 }
 
 /// Whether a receive waits for a datagram where none is there.
-#[derive(Clone, Copy, Debug, PartialEq, Eq)]
+#[derive(Clone, Copy, PartialEq, Eq)]
 pub enum Patience {
     /// It waits, as long as the port does.
     Waits,
@@ -45,7 +45,7 @@ pub enum Patience {
 }
 
 /// A datagram that came.
-#[derive(Clone, Copy, Debug, PartialEq, Eq)]
+#[derive(Clone, Copy, PartialEq, Eq)]
 pub struct Arrival {
     /// The address that it came from.
     pub from: SocketAddr,

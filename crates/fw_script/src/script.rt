@@ -14,7 +14,7 @@ use fw_world::{Event, Setup};
 use std::alloc::{AllocError, Global};
 
 /// What a script says: what a world is made with, and what happens in it.
-#[derive(Debug, Drop)]
+#[derive(Drop)]
 pub struct Script {
     pub setup: Setup,
     pub events: Vec<Event>,

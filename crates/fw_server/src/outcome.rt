@@ -5,7 +5,7 @@ use fw_axdr::Bits;
 use fw_names::ImageName;
 
 /// An image that is verified, as image_to_activate_info shows it.
-#[derive(Clone, Copy, Debug, PartialEq, Eq)]
+#[derive(Clone, Copy, PartialEq, Eq)]
 pub struct ImageInfo {
     /// In bytes.
     pub size: u32,
@@ -13,7 +13,7 @@ pub struct ImageInfo {
 }
 
 /// What is read of a meter: a value for each `Reading`.
-#[derive(Debug, Drop)]
+#[derive(Drop)]
 pub enum Answer {
     /// An octet-string of 6 bytes.
     LogicalName(LogicalName),
@@ -38,7 +38,7 @@ pub enum Answer {
 
 /// What a request comes to: a code, or the value that a GET reads. Codes are those of a Data-Access-Result or an
 /// Action-Result, 0 for success (IEC 62056-5-3).
-#[derive(Debug, Drop)]
+#[derive(Drop)]
 pub enum Outcome {
     Got(Answer),
     GetCode(u8),

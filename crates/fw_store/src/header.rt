@@ -80,7 +80,7 @@ const GOAL_SIZE: usize = 4 + STORED_NAME_SIZE;
 
 /// How far a transfer is, as a header keeps it: these of the values of image_transfer_status (IEC 62056-6-2, Image
 /// transfer).
-#[derive(Clone, Copy, Debug, PartialEq, Eq)]
+#[derive(Clone, Copy, PartialEq, Eq)]
 pub enum StoredStatus {
     /// Nothing was initiated since the meter was made.
     NotInitiated = 0,
@@ -95,7 +95,7 @@ pub enum StoredStatus {
 }
 
 /// The image that is to be received.
-#[derive(Clone, Copy, Debug, PartialEq, Eq)]
+#[derive(Clone, Copy, PartialEq, Eq)]
 pub struct Goal {
     /// The image's name.
     pub name: ImageName,
@@ -119,7 +119,7 @@ impl Goal {
 }
 
 /// What a store keeps beside its two slots: the state of Image transfer, and which image runs.
-#[derive(Clone, Copy, Debug, PartialEq, Eq)]
+#[derive(Clone, Copy, PartialEq, Eq)]
 pub struct Header {
     /// Which of the two forms its bytes have.
     pub version: HeaderVersion,

@@ -20,7 +20,7 @@ pub const MAX_HEADER_SIZE: usize = VERSION_TWO_SIZE;
 const FIRST_LIMIT: u32 = 4096;
 
 /// The version of a header. A store with one of version 1 is an old one.
-#[derive(Clone, Copy, Debug, PartialEq, Eq)]
+#[derive(Clone, Copy, PartialEq, Eq)]
 pub enum HeaderVersion {
     /// Version 1, of 622 bytes, which has marks for 4,096 blocks.
     One,
@@ -77,7 +77,7 @@ impl HeaderVersion {
 }
 
 /// The bytes of a store's header, in either version, whether they are a header's or not. It takes no memory.
-#[derive(Clone, Copy, Debug, PartialEq, Eq)]
+#[derive(Clone, Copy, PartialEq, Eq)]
 pub enum HeaderBytes {
     /// As many as a header of version 1 has.
     One([u8; VERSION_ONE_SIZE]),

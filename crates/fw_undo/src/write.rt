@@ -18,7 +18,7 @@ use std::marker::Model;
 pub const MAX_PART_SIZE: usize = 2048;
 
 /// What a write of a store's header changes. A disk has all of a write that changes one sector or nothing, so that it needs no journal.
-#[derive(Clone, Copy, Debug, PartialEq, Eq)]
+#[derive(Clone, Copy, PartialEq, Eq)]
 pub enum Change {
     /// One sector of the first part at most. The last part stays.
     FirstPart,
@@ -29,7 +29,7 @@ pub enum Change {
 }
 
 /// A write of a store's header to two places of its file: what stood there before, and what stands there after it.
-#[derive(Debug, Drop)]
+#[derive(Drop)]
 pub struct HeaderWrite<'a> {
     /// Where the first part begins, in bytes from the start of the file.
     pub at: u64,

@@ -4,7 +4,7 @@ use fw_names::{ImageName, MeterId};
 use std::marker::Model;
 
 /// A meter switched to an image.
-#[derive(Debug, Drop)]
+#[derive(Drop)]
 pub struct Activation {
     /// Which meter.
     pub meter: MeterId,

@@ -6,21 +6,21 @@ use fw_names::{HeadId, MeterId};
 use std::marker::Model;
 
 /// A head end or a meter.
-#[derive(Clone, Copy, Debug, PartialEq, Eq)]
+#[derive(Clone, Copy, PartialEq, Eq)]
 pub enum Actor {
     Head(HeadId),
     Meter(MeterId),
 }
 
 /// The two ways on the link of a head end and a meter.
-#[derive(Clone, Copy, Debug, PartialEq, Eq)]
+#[derive(Clone, Copy, PartialEq, Eq)]
 pub enum Direction {
     ToMeter,
     ToHead,
 }
 
 /// A datagram that was sent on the link of a head end and a meter.
-#[derive(Debug, Drop)]
+#[derive(Drop)]
 pub struct Datagram {
     /// The head end of the link.
     pub head: HeadId,

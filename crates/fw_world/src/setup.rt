@@ -16,7 +16,7 @@ pub const MAX_HEADS: usize = 16;
 pub const MAX_METERS: usize = 256;
 
 /// A head end of a world.
-#[derive(Clone, Copy, Debug, Drop)]
+#[derive(Clone, Copy, Drop)]
 pub struct HeadSetup {
     /// Its number.
     pub head: HeadId,
@@ -25,7 +25,7 @@ pub struct HeadSetup {
 }
 
 /// A meter of a world.
-#[derive(Debug, Drop)]
+#[derive(Drop)]
 pub struct MeterSetup {
     /// Its number.
     pub meter: MeterId,
@@ -66,7 +66,7 @@ impl MeterSetup {
 
 /// What a world is made with: 1 to 16 head ends and 1 to 256 meters, in their order. The numbers of the head ends are distinct,
 /// and so are those of the meters.
-#[derive(Debug, Drop)]
+#[derive(Drop)]
 pub struct Setup {
     pub heads: Vec<HeadSetup>,
     pub meters: Vec<MeterSetup>,

@@ -33,7 +33,7 @@ const VERSION: u16 = 1;
 const HEADER_SIZE: usize = 8;
 
 /// What a datagram carries: an APDU, and the wPorts that it goes between.
-#[derive(Clone, Copy, Debug)]
+#[derive(Clone, Copy)]
 pub struct Frame<'a> {
     /// The wPort of the sender.
     pub source: u16,

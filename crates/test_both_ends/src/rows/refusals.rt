@@ -9,7 +9,7 @@ use std::fmt;
 use thiserror::Error;
 
 /// Memory was refused for a call.
-#[derive(Clone, Copy, Debug, Drop)]
+#[derive(Clone, Copy, Drop)]
 pub(crate) struct Refused;
 
 impl From<AllocError> for Refused {
