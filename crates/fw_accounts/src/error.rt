@@ -10,7 +10,7 @@ use std::fmt;
 use thiserror::Error;
 
 /// Why there is no report of what workers left.
-#[derive(Clone, Copy, Debug, Drop, PartialEq, Eq, Error)]
+#[derive(Clone, Copy, Debug, Drop, Error)]
 pub enum AccountError {
     /// What the workers left isn't what their record says.
     Mismatch,

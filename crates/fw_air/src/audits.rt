@@ -27,7 +27,7 @@ use std::fmt;
 use thiserror::Error;
 
 /// Why a record was not confirmed.
-#[derive(Clone, Copy, Debug, PartialEq, Eq, Error)]
+#[derive(Clone, Copy, Debug, Error)]
 pub enum AuditError {
     /// No world can be made with this setup.
     BadSetup,

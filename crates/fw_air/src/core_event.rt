@@ -9,7 +9,7 @@ use fw_world::Event;
 
 /// An event that a worker makes while others make theirs. All of it is done at one head end or at one meter. It opens or cancels no
 /// campaign, and stops nothing.
-#[derive(Clone, Copy, PartialEq, Eq)]
+#[derive(Clone, Copy)]
 pub enum CoreEvent {
     /// A head end sends to a meter what it has for it now.
     Tick(HeadId, MeterId),

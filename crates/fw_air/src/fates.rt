@@ -9,7 +9,7 @@ use std::marker::Model;
 pub const MAX_FATES: usize = 4096;
 
 /// What becomes of a datagram on its link.
-#[derive(Clone, Copy, PartialEq, Eq)]
+#[derive(Clone, Copy)]
 pub enum Fate {
     /// It comes.
     Deliver,

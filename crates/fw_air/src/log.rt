@@ -52,7 +52,7 @@ impl Model for Entry {
 }
 
 /// Which event was added to a log, and which datagrams with it. A number that would be greater is 2^64 - 1.
-#[derive(Clone, Copy, PartialEq, Eq)]
+#[derive(Clone, Copy)]
 pub struct Sent {
     /// The number of the event, from 0 on.
     pub event: usize,

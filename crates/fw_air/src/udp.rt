@@ -17,7 +17,7 @@ use thiserror::Error;
 const RECEIVE_LIMIT: u64 = 5;
 
 /// Why there is no wire of UDP sockets.
-#[derive(Clone, Copy, Debug, PartialEq, Eq, Error)]
+#[derive(Clone, Copy, Debug, Error)]
 pub enum PairError {
     /// A socket can't be made, bound or joined to the other.
     Socket,

@@ -34,7 +34,7 @@ pub trait Wire {
 }
 
 /// What is left of a pass, in which up to 64 datagrams are read from a wire.
-#[derive(Clone, Copy, PartialEq, Eq)]
+#[derive(Clone, Copy)]
 pub struct Pass {
     left: u32,
 }

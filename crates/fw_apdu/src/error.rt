@@ -10,7 +10,7 @@ use std::fmt;
 use thiserror::Error;
 
 /// The refusals of reading and writing. Of the faults of a byte string the leftmost one is given.
-#[derive(Clone, Copy, Debug, PartialEq, Eq, Error)]
+#[derive(Clone, Copy, Debug, Error)]
 pub enum ApduError {
     /// A byte is missing.
     Truncated,

@@ -5,7 +5,7 @@ ghost use Rattle.fw_apdu.specs.Request.{invoke_id, is_confirmed};
 
 /// The byte of the invoke-id and the priority (IEC 62056-5-3, Invoke-Id-And-Priority). A response
 /// repeats that of its request, so that a client can match the two.
-#[derive(Clone, Copy, Debug, PartialEq, Eq)]
+#[derive(Clone, Copy, Debug)]
 pub struct Invoke(pub u8);
 
 /// How many invoke-ids there are.

@@ -9,7 +9,7 @@ use thiserror::Error;
 
 /// Why a Data was not read or written: of several faults the leftmost one (own rules of this
 /// profile).
-#[derive(Clone, Copy, Debug, Drop, PartialEq, Eq, Error)]
+#[derive(Clone, Copy, Debug, Drop, Error)]
 pub enum AxdrError {
     /// A tag, a length or contents lack a byte.
     Truncated,

@@ -4,7 +4,7 @@ ghost use Rattle.std.specs.Prelude.{◌≡◌};
 ghost use Rattle.fw_axdr.specs.Private.{tag_at, code};
 
 /// The type that a Data's first byte stands for.
-#[derive(Clone, Copy, PartialEq, Eq)]
+#[derive(Clone, Copy)]
 pub(crate) enum Tag {
     Null = 0,
     Array = 1,

@@ -14,7 +14,7 @@ pub const MAX_BLOCKS: u32 = 16384;
 
 /// The size of an image in bytes and the size of the blocks that it is cut into, both within the
 /// limits (IEC 62056-6-2, Image transfer: image_block_size).
-#[derive(Clone, Copy, PartialEq, Eq)]
+#[derive(Clone, Copy)]
 pub struct Geometry {
     block_size: u32,
     size: u32,

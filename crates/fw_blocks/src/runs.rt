@@ -1,7 +1,7 @@
 //! Runs of block numbers.
 
 /// Block numbers that follow one another: those from the start on and below the end.
-#[derive(Clone, Copy, PartialEq, Eq)]
+#[derive(Clone, Copy)]
 pub struct Run {
     /// The first of the numbers.
     pub start: u32,

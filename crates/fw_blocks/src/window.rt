@@ -57,7 +57,7 @@ impl Width {
 
 /// The numbers of the blocks that are sent next, lowest first. It has room for 15 in itself, and takes
 /// no memory.
-#[derive(Clone, Copy, PartialEq, Eq)]
+#[derive(Clone, Copy)]
 pub struct Window {
     numbers: [u32; PLACES],
     len: usize,

@@ -4,7 +4,7 @@ ghost use Rattle.std.specs.Prelude.{◌≡◌, ◌*◌, ◌≤◌};
 ghost use Rattle.fw_capture.specs.Reading.{fractions, fraction_nanoseconds};
 
 /// What the packets of a capture begin with.
-#[derive(Clone, Copy, PartialEq, Eq)]
+#[derive(Clone, Copy)]
 pub enum Link {
     /// A header of Ethernet, which may have a tag of a virtual network.
     Ethernet,
@@ -17,7 +17,7 @@ pub enum Link {
 }
 
 /// How the records of a capture are written.
-#[derive(Clone, Copy, PartialEq, Eq)]
+#[derive(Clone, Copy)]
 pub struct Format {
     /// The lowest byte of each number is the first.
     pub little: bool,

@@ -6,7 +6,7 @@ use std::net::SocketAddr;
 pub(crate) const SECOND: u64 = 1_000_000_000;
 
 /// What a process did that no datagram tells.
-#[derive(Clone, Copy, Debug, PartialEq, Eq)]
+#[derive(Clone, Copy, Debug)]
 pub enum Note {
     /// The process started.
     Start,

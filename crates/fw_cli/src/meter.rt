@@ -45,7 +45,7 @@ pub struct MeterOptions<'a> {
 }
 
 /// Why the command ended.
-#[derive(Clone, Copy, Debug, PartialEq, Eq)]
+#[derive(Clone, Copy, Debug)]
 pub struct MeterFault {
     /// The fault.
     pub fault: Fault,

@@ -77,7 +77,7 @@ pub struct Rounds<'a> {
 }
 
 /// How the run of a script ended.
-#[derive(Clone, Copy, Debug, PartialEq, Eq)]
+#[derive(Clone, Copy, Debug)]
 pub enum Ended {
     /// With its last event.
     Whole,

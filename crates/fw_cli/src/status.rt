@@ -25,7 +25,7 @@ use std::rt::Files;
 const CSV_HEADINGS: &str = "head,campaign,meter,state\n";
 
 /// The form of the report.
-#[derive(Clone, Copy, PartialEq, Eq)]
+#[derive(Clone, Copy)]
 pub enum StatusForm {
     /// A table with headings, and how many rows are in which state.
     Table,

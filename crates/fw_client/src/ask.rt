@@ -9,7 +9,7 @@ use fw_names::ImageName;
 
 /// An ask of a meter's Image transfer object, 0-0:44.0.0.255, or of its active firmware identifier, 1-0:0.2.0.255
 /// (IEC 62056-6-2).
-#[derive(Clone, Copy, PartialEq, Eq)]
+#[derive(Clone, Copy)]
 pub enum Ask<'a> {
     /// GET of attribute 2, image_block_size.
     BlockSize,
@@ -37,7 +37,7 @@ pub enum Ask<'a> {
 }
 
 /// The kind of an ask, and of a block its number.
-#[derive(Clone, Copy, Debug, PartialEq, Eq)]
+#[derive(Clone, Copy, Debug)]
 pub enum Asked {
     BlockSize,
     FirstMissing,
@@ -74,7 +74,7 @@ impl Ask<'_> {
 }
 
 /// The service of an ask.
-#[derive(Clone, Copy, PartialEq, Eq)]
+#[derive(Clone, Copy)]
 pub(crate) enum Service {
     Get,
     Set,

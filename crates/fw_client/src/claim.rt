@@ -7,7 +7,7 @@ use std::marker::Model;
 
 /// A meter answered that it runs the image of this name. A claim is made only by `Client::hear`, from the response to a GET
 /// of the active firmware identifier.
-#[derive(Clone, Copy, Debug, PartialEq, Eq)]
+#[derive(Clone, Copy, Debug)]
 pub struct ActiveClaim {
     meter: MeterId,
     name: ImageName,

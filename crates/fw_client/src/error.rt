@@ -8,7 +8,7 @@ use std::fmt;
 use thiserror::Error;
 
 /// The refusals of `Client::ask`. Where both would apply, the first comes.
-#[derive(Clone, Copy, Debug, PartialEq, Eq, Error)]
+#[derive(Clone, Copy, Debug, Error)]
 pub enum AskError {
     /// The next invoke-id is that of an outstanding ask.
     AllBusy,
@@ -31,7 +31,7 @@ impl From<OutOfMemory> for AskError {
 }
 
 /// Memory was refused.
-#[derive(Clone, Copy, Debug, PartialEq, Eq, Error)]
+#[derive(Clone, Copy, Debug, Error)]
 pub struct OutOfMemory;
 
 impl fmt::Display for OutOfMemory {

@@ -14,7 +14,7 @@ const WAIT_LIMIT: u64 = 1_000;
 const MAX_FAULTS_IN_A_ROW: u32 = 1_000;
 
 /// A socket can't be made or bound, or doesn't say at which address it is.
-#[derive(Clone, Copy, Debug, PartialEq, Eq, Error)]
+#[derive(Clone, Copy, Debug, Error)]
 #[error("Socket")]
 pub struct SocketError;
 

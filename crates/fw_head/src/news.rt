@@ -4,7 +4,7 @@ use fw_client::ActiveClaim;
 use fw_names::{CampaignId, MeterId};
 
 /// What a datagram changes of a row.
-#[derive(Clone, Copy, Debug, PartialEq, Eq)]
+#[derive(Clone, Copy, Debug)]
 pub enum RowNews {
     /// Nothing: it answers no ask.
     Nothing,
@@ -17,7 +17,7 @@ pub enum RowNews {
 }
 
 /// What a datagram changes at a head end.
-#[derive(Clone, Copy, Debug, PartialEq, Eq)]
+#[derive(Clone, Copy, Debug)]
 pub enum News {
     /// Nothing: the sender has no live row, or the datagram answers no ask of it.
     Nothing,

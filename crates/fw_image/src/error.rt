@@ -9,7 +9,7 @@ use std::fmt;
 use thiserror::Error;
 
 /// Why an operation was refused. Of several causes the first one here is returned.
-#[derive(Clone, Copy, Debug, PartialEq, Eq, Error)]
+#[derive(Clone, Copy, Debug, Error)]
 pub enum Refusal {
     /// Image transfer is disabled.
     Disabled,
@@ -41,7 +41,7 @@ impl From<StoreFault> for Refusal {
 }
 
 /// Why a store was not opened. Of several causes the first one here is returned.
-#[derive(Clone, Copy, Debug, PartialEq, Eq, Error)]
+#[derive(Clone, Copy, Debug, Error)]
 pub enum OpenError {
     /// A call of the store failed.
     Fault,

@@ -8,7 +8,7 @@ use std::alloc::{AllocError, Global};
 use std::marker::Model;
 
 /// A change of bytes that isn't synced yet.
-#[derive(Clone, Copy, PartialEq, Eq)]
+#[derive(Clone, Copy)]
 pub enum Change {
     /// `size` bytes were written from position `at` on. A power cut leaves any bytes in that range, and some or all of those past the end.
     Write { at: u64, size: u64 },

@@ -11,7 +11,7 @@ use std::fmt;
 use thiserror::Error;
 
 /// Why a device refused a call.
-#[derive(Clone, Copy, Debug, PartialEq, Eq, Error)]
+#[derive(Clone, Copy, Debug, Error)]
 pub enum DeviceError {
     /// The device failed.
     Fault,
@@ -45,7 +45,7 @@ impl<T: Drop> From<AllocFailed<T>> for DeviceError {
 }
 
 /// Why the bytes of a device weren't replaced by others.
-#[derive(Clone, Copy, Debug, PartialEq, Eq, Error)]
+#[derive(Clone, Copy, Debug, Error)]
 pub enum ReplaceError {
     /// The new bytes couldn't be made beside the old ones, which stay.
     NotReplaced,
@@ -73,7 +73,7 @@ impl From<AllocError> for ReplaceError {
 }
 
 /// Why a journal wasn't written anew.
-#[derive(Clone, Copy, Debug, PartialEq, Eq, Error)]
+#[derive(Clone, Copy, Debug, Error)]
 pub enum RewriteError {
     /// The new bytes couldn't be made beside the old ones. The journal is as it was.
     NotReplaced,

@@ -10,7 +10,7 @@ use std::fmt;
 use thiserror::Error;
 
 /// Why what a device holds is no book of the head end.
-#[derive(Clone, Copy, Debug, PartialEq, Eq, Error)]
+#[derive(Clone, Copy, Debug, Error)]
 pub enum OpenError {
     /// The bytes from this offset on are no journal's.
     BadBook { offset: u64 },
@@ -50,7 +50,7 @@ pub(crate) fn open_error(error: JournalError) -> OpenError
 }
 
 /// Why a kept book refused a call.
-#[derive(Clone, Copy, Debug, PartialEq, Eq, Error)]
+#[derive(Clone, Copy, Debug, Error)]
 pub enum KeptError {
     /// The book doesn't take it.
     Refused(BookError),

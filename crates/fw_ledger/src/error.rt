@@ -8,7 +8,7 @@ use std::fmt;
 use thiserror::Error;
 
 /// Why a record isn't read or written.
-#[derive(Clone, Copy, Debug, PartialEq, Eq, Error)]
+#[derive(Clone, Copy, Debug, Error)]
 pub enum RecordError {
     /// The bytes spell no record, or the record has no spelling.
     BadRecord,
@@ -39,7 +39,7 @@ impl<T: Drop> From<AllocFailed<T>> for RecordError {
 }
 
 /// Why records have no book.
-#[derive(Clone, Copy, Debug, PartialEq, Eq, Error)]
+#[derive(Clone, Copy, Debug, Error)]
 pub enum ReplayError {
     /// The record with this index, counted from 0, spells none, or says what the book of those before it refuses.
     BadRecord { index: usize },

@@ -7,7 +7,7 @@ ghost use Rattle.fw_ledger.specs.Entry.{AreEndings};
 use fw_names::{CampaignId, MeterId};
 
 /// How a meter's row ended.
-#[derive(Clone, Copy, Debug, PartialEq, Eq)]
+#[derive(Clone, Copy, Debug)]
 pub enum Ending {
     /// The meter claimed to run the campaign's image.
     Done,

@@ -5,7 +5,7 @@ use std::fmt;
 use thiserror::Error;
 
 /// The refusals of `write_header` and `write_record`.
-#[derive(Clone, Copy, Debug, Drop, PartialEq, Eq, Error)]
+#[derive(Clone, Copy, Debug, Drop, Error)]
 pub enum RecordError {
     /// The packet makes no record, or memory was refused.
     Refused(AppendError),

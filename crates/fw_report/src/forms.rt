@@ -12,7 +12,7 @@ use fw_world::{Setup, World};
 use std::alloc::{AllocError, Global};
 
 /// The form of a report.
-#[derive(Clone, Copy, PartialEq, Eq)]
+#[derive(Clone, Copy)]
 pub enum ReportForm {
     /// A line for each row, for each meter, and for how many images were switched to, made of words and numbers.
     Lines,

@@ -76,7 +76,7 @@ use std::net::SocketAddr;
 const HOLD: u64 = 100_000;
 
 /// How far a head end is, since its daemon was made. Each number is 2^64 - 1 at most.
-#[derive(Clone, Copy, Debug, PartialEq, Eq)]
+#[derive(Clone, Copy, Debug)]
 pub struct Counts {
     /// The rows that are live.
     pub live: u64,
@@ -106,7 +106,7 @@ pub struct Due {
 }
 
 /// What comes of a datagram.
-#[derive(Clone, Copy, Debug, PartialEq, Eq)]
+#[derive(Clone, Copy, Debug)]
 pub enum Heard {
     /// It is dropped, since it came from an address that isn't in the list.
     Stranger,

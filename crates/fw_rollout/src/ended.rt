@@ -4,7 +4,7 @@ use fw_ledger::Ending;
 use fw_names::{CampaignId, MeterId};
 
 /// A row that ended.
-#[derive(Clone, Copy, Debug, PartialEq, Eq)]
+#[derive(Clone, Copy, Debug)]
 pub struct Ended {
     /// The campaign.
     pub campaign: CampaignId,

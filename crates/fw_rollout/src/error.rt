@@ -12,7 +12,7 @@ use std::fmt;
 use thiserror::Error;
 
 /// Why a head end stops before all rows have ended.
-#[derive(Clone, Copy, Debug, PartialEq, Eq, Error)]
+#[derive(Clone, Copy, Debug, Error)]
 pub enum Stop {
     /// The port is closed.
     Closed,

@@ -26,7 +26,7 @@ use thiserror::Error;
 pub const MAX_RECEIVED: usize = 2313;
 
 /// The port is closed: nothing comes any more.
-#[derive(Clone, Copy, Debug, PartialEq, Eq, Error)]
+#[derive(Clone, Copy, Debug, Error)]
 pub struct Closed;
 
 impl fmt::Display for Closed {
@@ -36,7 +36,7 @@ impl fmt::Display for Closed {
 }
 
 /// Whether a receive waits for a datagram where none is there.
-#[derive(Clone, Copy, PartialEq, Eq)]
+#[derive(Clone, Copy)]
 pub enum Patience {
     /// It waits, as long as the port does.
     Waits,
@@ -45,7 +45,7 @@ pub enum Patience {
 }
 
 /// A datagram that came.
-#[derive(Clone, Copy, PartialEq, Eq)]
+#[derive(Clone, Copy)]
 pub struct Arrival {
     /// The address that it came from.
     pub from: SocketAddr,

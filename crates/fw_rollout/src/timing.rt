@@ -16,7 +16,7 @@ pub const LONGEST_PAUSE: u64 = 500_000;
 pub const MAX_TICK: u64 = 15;
 
 /// How a head end waits for answers.
-#[derive(Clone, Copy, PartialEq, Eq)]
+#[derive(Clone, Copy)]
 pub struct Timing {
     /// How long the first answer of a meter is waited for, in microseconds. No later wait is shorter.
     pub resend: u64,

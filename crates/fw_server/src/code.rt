@@ -6,7 +6,7 @@ ghost use Rattle.fw_server.specs.Meaning.{code_number};
 use fw_apdu::cosem;
 
 /// A Data-Access-Result or an Action-Result that a meter gives (IEC 62056-5-3). Both have these names and numbers.
-#[derive(Clone, Copy, Debug, PartialEq, Eq)]
+#[derive(Clone, Copy, Debug)]
 pub enum ResultCode {
     Success,
     /// A call of the store failed.

@@ -6,7 +6,7 @@ ghost use Rattle.fw_server.specs.Meaning.{attribute_of, image_attribute, data_at
 use fw_apdu::{LogicalName, cosem};
 
 /// The COSEM objects of a meter.
-#[derive(Clone, Copy, Debug, PartialEq, Eq)]
+#[derive(Clone, Copy, Debug)]
 pub enum Object {
     /// Image transfer, 0-0:44.0.0.255.
     ImageTransfer,
@@ -93,7 +93,7 @@ fn data_attribute(object: Object, value: Reading, number: i8) -> Option<Reading>
 }
 
 /// What can be read of a meter: each attribute that its objects have.
-#[derive(Clone, Copy, Debug, PartialEq, Eq)]
+#[derive(Clone, Copy, Debug)]
 pub enum Reading {
     /// Attribute 1 of each object, logical_name.
     LogicalName(Object),

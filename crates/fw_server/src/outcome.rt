@@ -5,7 +5,7 @@ use fw_axdr::Bits;
 use fw_names::ImageName;
 
 /// An image that is verified, as image_to_activate_info shows it.
-#[derive(Clone, Copy, PartialEq, Eq)]
+#[derive(Clone, Copy)]
 pub struct ImageInfo {
     /// In bytes.
     pub size: u32,

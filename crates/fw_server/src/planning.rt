@@ -30,7 +30,7 @@ use fw_apdu::{Request, cosem};
 use fw_axdr::{Data, Items};
 
 /// An operation of Image transfer, except image_block_transfer, with what it borrows from its request.
-#[derive(Clone, Copy, Debug, PartialEq, Eq)]
+#[derive(Clone, Copy, Debug)]
 pub enum Operation<'a> {
     /// SET of image_transfer_enabled, attribute 5.
     Enable(bool),
@@ -43,7 +43,7 @@ pub enum Operation<'a> {
 }
 
 /// What a request asks for.
-#[derive(Clone, Copy, Debug, PartialEq, Eq)]
+#[derive(Clone, Copy, Debug)]
 pub enum Planned<'a> {
     /// GET of an attribute.
     Read(Reading),

@@ -5,7 +5,7 @@ use std::fmt;
 use thiserror::Error;
 
 /// Memory was refused.
-#[derive(Clone, Copy, Debug, PartialEq, Eq, Error)]
+#[derive(Clone, Copy, Debug, Error)]
 pub struct OutOfMemory;
 
 impl fmt::Display for OutOfMemory {

@@ -24,7 +24,7 @@ use std::fmt;
 use thiserror::Error;
 
 /// A device of bytes refused a call.
-#[derive(Clone, Copy, Debug, PartialEq, Eq, Error)]
+#[derive(Clone, Copy, Debug, Error)]
 pub struct DeviceFault;
 
 impl fmt::Display for DeviceFault {

@@ -10,7 +10,7 @@ use std::fmt;
 use thiserror::Error;
 
 /// A store's device failed. The store has counted it.
-#[derive(Clone, Copy, Debug, PartialEq, Eq, Error)]
+#[derive(Clone, Copy, Debug, Error)]
 pub struct StoreFault;
 
 impl fmt::Display for StoreFault {
@@ -20,7 +20,7 @@ impl fmt::Display for StoreFault {
 }
 
 /// The refusals of a new store in memory.
-#[derive(Clone, Copy, Debug, PartialEq, Eq, Error)]
+#[derive(Clone, Copy, Debug, Error)]
 pub enum SetupError {
     /// A number is outside its limits, or the factory image is empty or above the capacity.
     BadSetup,
@@ -43,7 +43,7 @@ impl From<AllocError> for SetupError {
 }
 
 /// The refusals of a new store, or of one that is there, on a device of bytes or in a file.
-#[derive(Clone, Copy, Debug, PartialEq, Eq, Error)]
+#[derive(Clone, Copy, Debug, Error)]
 pub enum FileStoreError {
     /// The device failed, or the file can't be made, opened, read or written.
     StoreFault,

@@ -9,7 +9,7 @@ use crate::error::StoreFault;
 
 /// What makes a store fail: `calls` calls of it succeed, and all later ones fail. A write that fails leaves the first half of its
 /// bytes, rounded down, and `torn` in the rest of its range.
-#[derive(Clone, Copy, PartialEq, Eq)]
+#[derive(Clone, Copy)]
 pub struct Fuse {
     pub calls: u64,
     pub torn: u8,

@@ -14,7 +14,7 @@ pub(crate) const SLOTS_AT: u64 = 618;
 pub(crate) const FRONT_SIZE: usize = 614;
 
 /// What stands there.
-#[derive(Clone, Copy, PartialEq, Eq)]
+#[derive(Clone, Copy)]
 pub(crate) enum Tail {
     /// Nothing. The header is one of version 1, and its releases are 0.
     Empty,

@@ -18,7 +18,7 @@ use std::marker::Model;
 pub const MAX_PART_SIZE: usize = 2048;
 
 /// What a write of a store's header changes. A disk has all of a write that changes one sector or nothing, so that it needs no journal.
-#[derive(Clone, Copy, PartialEq, Eq)]
+#[derive(Clone, Copy)]
 pub enum Change {
     /// One sector of the first part at most. The last part stays.
     FirstPart,

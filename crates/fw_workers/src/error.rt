@@ -15,7 +15,7 @@ use std::fmt;
 use thiserror::Error;
 
 /// Why a rehearsal has no report. Of several workers' refusals the lowest worker's is given.
-#[derive(Clone, Copy, Debug, Drop, PartialEq, Eq, Error)]
+#[derive(Clone, Copy, Debug, Drop, Error)]
 pub enum RehearseError {
     /// What the workers left isn't what their record says.
     Mismatch,
@@ -67,7 +67,7 @@ impl From<SetupError> for RehearseError {
 }
 
 /// Why what workers did is not accounted for. A setup, a given event or the wires are never the reason.
-#[derive(Clone, Copy, Debug, Drop, PartialEq, Eq)]
+#[derive(Clone, Copy, Debug, Drop)]
 pub enum RoundsError {
     /// What the workers left isn't what their record says.
     Mismatch,

@@ -13,7 +13,7 @@ pub enum Actor {
 }
 
 /// The two ways on the link of a head end and a meter.
-#[derive(Clone, Copy, PartialEq, Eq)]
+#[derive(Clone, Copy)]
 pub enum Direction {
     ToMeter,
     ToHead,

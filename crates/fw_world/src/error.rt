@@ -11,7 +11,7 @@ use std::fmt;
 use thiserror::Error;
 
 /// Why a world was not made.
-#[derive(Clone, Copy, Debug, PartialEq, Eq, Error)]
+#[derive(Clone, Copy, Debug, Error)]
 pub enum SetupError {
     /// There is no head end or no meter, or there are too many, or a number stands twice, or a meter can't be made so.
     BadSetup,
@@ -34,7 +34,7 @@ impl From<AllocError> for SetupError {
 }
 
 /// Why an event was refused. Of several refusals that apply, the one that stands first here is given.
-#[derive(Clone, Copy, Debug, Drop, PartialEq, Eq, Error)]
+#[derive(Clone, Copy, Debug, Drop, Error)]
 pub enum StepError {
     /// No datagram of this number was sent.
     NoSuchDatagram,
