@@ -1,6 +1,7 @@
-//! Tests of both ends together: worlds, hostile input, and calls for which memory can be refused.
+//! Tests of both ends together: worlds, hostile input, calls for which memory can be refused, and what threads make.
 //!
-//! `hostile/run` runs a test of the built program of tests by its name, and gives it standard input.
+//! `hostile/run` runs a test of the built program of tests by its name, and gives it standard input. `hostile/threads` runs each test
+//! of `threads` again and again.
 #![tactic(auto)]
 
 #[cfg(test)]
@@ -8,4 +9,8 @@ mod hostile;
 #[cfg(test)]
 mod rows;
 #[cfg(test)]
+mod threads;
+#[cfg(test)]
 mod world;
+#[cfg(test)]
+mod worlds;

@@ -2,13 +2,13 @@
 
 use crate::hostile::campaign::{ALL, events, world_of};
 use crate::hostile::support::{expect_tried, failed};
+use crate::worlds::{SMALL, head, meter, setup_of};
 use fw_blocks::Width;
 use fw_head::{HeadCore, News, Phase};
 use fw_world::{Datagram, Direction, Event};
 use fw_wrapper::join;
 use std::alloc::Global;
 use std::test::Fail;
-use test_support::{SMALL, head, meter, setup_of};
 use test_tables::present;
 
 /// The phase of the row of the meter, and how often it returned to its start; none where it isn't live.

@@ -1,10 +1,10 @@
 //! One campaign to its end: head end 7 offers `abc` in campaign 1 to meter 1, with windows of 4. The meter runs `x`, and has blocks of two
 //! bytes and room for 64.
 
+use crate::worlds::{DONE, events_of};
 use fw_world::{Event, Setup, World, run};
 use std::alloc::Global;
 use std::test::Fail;
-use test_support::{DONE, events_of};
 
 /// How many events it has.
 pub(crate) const ALL: usize = 30;

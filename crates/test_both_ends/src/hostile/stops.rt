@@ -3,6 +3,7 @@
 
 use crate::hostile::campaign::{ALL, events, world_of};
 use crate::hostile::support::{expect_tried, failed};
+use crate::worlds::{SMALL, head, meter, old_setup_of, setup_of};
 use fw_air::{Fate, Fates, schedule};
 use fw_book::RowState;
 use fw_names::CampaignId;
@@ -10,7 +11,6 @@ use fw_world::{Event, Setup, World};
 use std::alloc::Global;
 use std::ops::Range;
 use std::test::Fail;
-use test_support::{SMALL, head, meter, old_setup_of, setup_of};
 use test_tables::{Words, present};
 
 /// How many events of the campaign come before a datagram to the meter, its number, and how many calls of the store it makes: of a GET

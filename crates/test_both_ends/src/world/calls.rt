@@ -3,10 +3,10 @@
 ghost use Rattle.std.specs.Prelude.{◌≡◌};
 
 use crate::world::script::{script_of, world_after};
+use crate::worlds::{head, head_number, meter, meter_text, push, push_rows, report};
 use fw_world::{Activation, Actor, Datagram, Event, World};
 use std::alloc::{AllocError, Global};
 use std::test::Fail;
-use test_support::{head, head_number, meter, meter_text, push, push_rows, report};
 use test_tables::{Reads, Words, each_line, expect};
 
 /// A world takes the events of a script one after another, also after one that is refused: each refusal, and then the report.

@@ -1,11 +1,11 @@
 //! An image of more bytes than two bytes can count, of a release that they can't count either.
 
 use crate::world::script::step;
+use crate::worlds::{events_of, head, meter, report, setup_of};
 use fw_names::{HeadId, MeterId};
 use fw_world::{Event, World};
 use std::alloc::Global;
 use std::test::Fail;
-use test_support::{events_of, head, meter, report, setup_of};
 use test_tables::expect;
 
 /// One head end with the widest windows, and one meter with the longest blocks.

@@ -1,10 +1,10 @@
 //! Old meters, whose stores have a header of version 1 before they start again: the most blocks that an image may have, and the report.
 
 use crate::world::script::{script_of, world_after};
+use crate::worlds::{meter, report};
 use fw_world::{Setup, World};
 use std::alloc::Global;
 use std::test::Fail;
-use test_support::{meter, report};
 use test_tables::{Reads, each_line, present};
 
 /// The limit of meter 1 after all events of a script, and then the report.

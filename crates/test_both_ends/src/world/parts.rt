@@ -1,6 +1,6 @@
 //! What scripts name: what worlds are made with, and parts of what happens in them. A line `name = text` each.
 
-/// What worlds are made with, in the words of `test_support::setup_of`.
+/// What worlds are made with, in the words of `worlds::setup_of`.
 pub(crate) const SETUPS: &str = "
     // One head end, and one meter with blocks of two bytes.
     small = head 7 4; meter 1 2 64 x
@@ -20,7 +20,7 @@ pub(crate) const SETUPS: &str = "
     no-head = meter 1 2 64 x
 ";
 
-/// Parts of scripts, in the words of `test_support::events_of`.
+/// Parts of scripts, in the words of `worlds::events_of`.
 pub(crate) const PARTS: &str = "
     // Up to where the image is there: each tick and its answers, in `Size`, `Enable`, `Start` and `Blocks`.
     to-blocks = open 7 1 abc 1; tick 7 1; deliver 0 1; tick 7 1; deliver 2 3; tick 7 1; deliver 4 5; tick 7 1; deliver 6 7 8 9

@@ -1,13 +1,13 @@
 //! Captures of what was sent in a run, and records that a process writes (pcap; RFC 768, RFC 3849, RFC 8200). The bytes were made by a script over
 //! Python's `struct` and `ipaddress`, and tshark reads them.
 
+use crate::worlds::{head, meter};
 use fw_capture::{Captured, Content, Note};
 use fw_recording::{capture_of, write_header, write_record};
 use fw_world::{Datagram, Direction};
 use std::alloc::Global;
 use std::net::{Ipv4Addr, Ipv6Addr, SocketAddr};
 use std::test::Fail;
-use test_support::{head, meter};
 use test_tables::{Reads, Words, each_line, expect};
 
 /// The capture of some datagrams, each with the numbers of its head end and its meter, its way, and its bytes in hexadecimal.

@@ -1,11 +1,11 @@
 //! Link rounds: which events come of them, and what the world is then.
 
 use crate::world::script::script_of;
+use crate::worlds::{push, report};
 use fw_air::{Fate, Fates, schedule};
 use fw_world::{Event, RunError, Setup, World, run};
 use std::alloc::{AllocError, Global};
 use std::test::Fail;
-use test_support::{push, report};
 use test_tables::{Reads, Words, each_line, present};
 
 /// A script, and N rounds after it, in which datagrams have some fates: `events SETUP: EVENTS | N FATE..` tells the events of the rounds,

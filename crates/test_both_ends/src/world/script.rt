@@ -1,10 +1,10 @@
 //! Scripts: a world, what happens in it, and how it ends.
 
 use crate::world::parts::{PARTS, SETUPS};
+use crate::worlds::{events_of, old_setup_of, report, setup_of};
 use fw_world::{Event, RunError, Setup, World, run};
 use std::alloc::Global;
 use std::test::Fail;
-use test_support::{events_of, old_setup_of, report, setup_of};
 use test_tables::{Reads, named, present};
 
 /// The setup and the events of a script `SETUP: EVENTS`, by the names of `SETUPS` and `PARTS`. In `old SETUP` all meters are old ones.

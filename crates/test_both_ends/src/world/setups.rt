@@ -1,10 +1,10 @@
 //! What worlds are made with, within the limits and past them.
 
+use crate::worlds::{head, meter, old_setup_of, setup_of};
 use fw_store::{HeaderVersion, is_setup};
 use fw_world::{HeadSetup, MeterSetup, Setup, World};
 use std::alloc::Global;
 use std::test::Fail;
-use test_support::{head, meter, old_setup_of, setup_of};
 use test_tables::{Reads, Words, each_line};
 
 /// What a world is made with: `made`, or the refusal.

@@ -1,0 +1,240 @@
+//! Live rollouts over wires in memory and over sockets: what workers lead to, and what is refused.
+
+ghost use Rattle.std.specs.Prelude.{◌≤◌, length, IfOk, IfSome};
+
+use crate::threads::gates::Rules;
+use crate::threads::support::{Task, outcome, row_of, told_of};
+use crate::worlds::push;
+use crossbeam_channel::{Receiver, Sender, unbounded};
+use fw_accounts::Report;
+use fw_air::{Wire, WireFault};
+use fw_workers::{RehearseError, live, live_over};
+use std::alloc::{AllocError, Global};
+use std::net::Net;
+use std::sync::Wait;
+use std::test::Fail;
+use std::thread::Threads;
+use test_tables::{Words, expect_at};
+
+/// One end of a wire in memory: what is sent at it comes at the other, in order.
+#[derive(Drop)]
+struct MemoryWire<'a, R: Wait> {
+    rt: &'a R,
+    alloc: Global,
+    out: Sender<Vec<u8>>,
+    into: Receiver<Vec<u8>>,
+    /// Where it is bad, every third send fails, every fourth takes all except the last byte, and every fifth receive fails.
+    is_bad: bool,
+    sends: u32,
+    receives: u32,
+}
+
+impl<'a, R: Wait> MemoryWire<'a, R> {
+    /// Both ends of a wire.
+    fn pair(
+        rt: &'a R,
+        alloc: Global,
+        is_bad: bool,
+    ) -> Result<(MemoryWire<'a, R>, MemoryWire<'a, R>), AllocError> {
+        let (to_meter, from_head) = unbounded(alloc)?;
+        let (to_head, from_meter) = unbounded(alloc)?;
+        let head = MemoryWire::end(rt, alloc, to_meter, from_meter, is_bad);
+        let meter = MemoryWire::end(rt, alloc, to_head, from_head, is_bad);
+        Ok((head, meter))
+    }
+
+    /// One end, of which no call was made.
+    fn end(
+        rt: &'a R,
+        alloc: Global,
+        out: Sender<Vec<u8>>,
+        into: Receiver<Vec<u8>>,
+        is_bad: bool,
+    ) -> MemoryWire<'a, R> {
+        MemoryWire {
+            rt,
+            alloc,
+            out,
+            into,
+            is_bad,
+            sends: 0,
+            receives: 0,
+        }
+    }
+
+    /// How many bytes of a datagram are taken by the send that is counted last.
+    fn taken(&self, bytes: &[u8]) -> Option<usize> {
+        if self.is_bad && self.sends % 3 == 0 {
+            return None;
+        }
+        let lost = self.is_bad && self.sends % 4 == 0;
+        Some(bytes.len().saturating_sub(usize::from(lost)))
+    }
+}
+
+impl<'a, R: Wait> Wire for MemoryWire<'a, R> {
+    fn send(&mut self, bytes: &[u8]) -> Result<usize, WireFault> {
+        self.sends = self.sends.saturating_add(1);
+        let taken = self.taken(bytes).ok_or(WireFault)?;
+        let Some(part) = bytes.get(..taken) else {
+            return Err(WireFault);
+        };
+        let Ok(copy) = part.to_vec(self.alloc) else {
+            return Err(WireFault);
+        };
+        match self.out.send(self.rt, copy) {
+            Ok(()) => Ok(taken),
+            Err(_) => Err(WireFault),
+        }
+    }
+
+    fn receive(&mut self, buffer: &mut [u8]) -> Result<Option<usize>, WireFault> {
+        self.receives = self.receives.saturating_add(1);
+        if self.is_bad && self.receives % 5 == 0 {
+            return Err(WireFault);
+        }
+        let Ok(bytes) = self.into.try_recv(self.rt) else {
+            return Ok(None);
+        };
+        let count = bytes.len().min(buffer.len());
+        for (to, byte) in buffer.iter_mut().zip(&bytes) {
+            *to = *byte;
+        }
+        Ok(Some(count))
+    }
+}
+
+/// Both ends of wires. They are bad by this word, or good.
+fn wires<'a, R: Wait>(
+    rt: &'a R,
+    alloc: Global,
+    count: u32,
+    air: &str,
+) -> Result<Vec<(MemoryWire<'a, R>, MemoryWire<'a, R>)>, AllocError> {
+    let mut wires = Vec::new(alloc);
+    for _ in 0..count {
+        wires.push(MemoryWire::pair(rt, alloc, air == "bad")?)?;
+    }
+    Ok(wires)
+}
+
+/// Rollouts of rows `SETUP SCRIPT ROUNDS WORKERS WIRES AIR GATE`: the report of the world and the board's count, or the refusal. With a word
+/// after them it is whether the board's count is the number of rows that are done.
+fn rolled_out<R: Threads + Wait + Sync>(rt: &R, alloc: Global, what: &str) -> Result<String, Fail> {
+    let mut words = Words::new(what);
+    let task = Task::of(alloc, &mut words)?;
+    let (count, air): (u32, &str) = words.read()?;
+    let gate = Rules::of(&mut words)?;
+    let made = over_wires(rt, alloc, &task, count, air, &gate)?;
+    outcome(alloc, &task.setup, made, words.next())
+}
+
+/// Each row of rollouts reports what stands after its arrow.
+fn rollouts<R: Threads + Wait + Sync>(rt: &R, alloc: Global, table: &str) -> Result<(), Fail> {
+    for line in table.lines() {
+        if let Some((what, want)) = row_of(line)? {
+            let told = rolled_out(rt, alloc, what)?;
+            expect_at(alloc, what, told.as_str(), want)?;
+        }
+    }
+    Ok(())
+}
+
+/// How a rollout ends.
+fn over_wires<R: Threads + Wait + Sync>(
+    rt: &R,
+    alloc: Global,
+    task: &Task,
+    count: u32,
+    air: &str,
+    gate: &Rules,
+) -> Result<Result<Report, RehearseError>, AllocError> {
+    let wires = wires(rt, alloc, count, air)?;
+    Ok(live_over(
+        rt,
+        alloc,
+        &task.setup,
+        &task.given,
+        task.rounds,
+        task.workers,
+        gate,
+        wires,
+    ))
+}
+
+/// Nothing is lost: each link is done in its ninth round, when twenty datagrams were sent on it.
+const MET: &str = "
+    four opened_for_four 9 2 4 good meet => four_done
+";
+
+#[test]
+fn two_live_workers_meet(rt: HostRuntime) -> Result<(), Fail> {
+    rollouts(&rt, rt.alloc(), MET)
+}
+
+const ROLLOUTS: &str = "
+    four opened_for_four 9 1 4 good open => four_done
+    four opened_for_four 9 2 4 good open => four_done
+    // some workers have no link
+    four opened_for_four 9 8 4 good open => four_done
+    small opened 0 2 1 good open => row 7 1 1 live; meter 1 status 0 active 0 0 size 1; activations 0; sent 0; board 0
+
+    // its meter runs release 5, and refuses an image without a release
+    small older 3 1 1 good open => row 7 1 1 done; row 7 2 1 failed; meter 1 status 6 active 7 1 size 3; activations 1; sent 26; board 1
+
+    // its meter takes two turns
+    large opened_large 13 1 1 good open => row 7 1 1 done; meter 1 status 6 active 7 1 size 8193; activations 1; sent 38; board 1
+
+    // another number of wires than of links
+    four    opened_for_four 9 2 3 good open => Socket
+    four    opened_for_four 9 2 5 good open => Socket
+    small   opened          0 2 0 good open => Socket
+
+    // the setup comes first, and then the given events
+    small   opened          9 0 0 good open => BadSetup
+    small   same_serial     9 9 0 good open => BadSetup
+    no_head opened          9 1 0 good open => BadSetup
+    small   same_serial     9 1 0 good open => Event(1)
+";
+
+#[test]
+fn live_rollouts(rt: HostRuntime) -> Result<(), Fail> {
+    rollouts(&rt, rt.alloc(), ROLLOUTS)
+}
+
+/// What is lost isn't fixed, and so isn't how many rows are done.
+const OVER_BAD_WIRES: &str = "
+    four opened_for_four 40 2 4 bad open board_counts_rows => true
+";
+
+#[test]
+fn wires_that_fail(rt: HostRuntime) -> Result<(), Fail> {
+    rollouts(&rt, rt.alloc(), OVER_BAD_WIRES)
+}
+
+/// What two workers lead to over sockets in twelve rounds: whether the board's count is the number of rows that are done, and how many
+/// workers have receipts.
+fn over_sockets<R: Threads + Wait + Net + Sync>(rt: &R, alloc: Global) -> Result<String, Fail> {
+    let mut words = Words::new("four opened_for_four 12 2 open board_counts_rows");
+    let task = Task::of(alloc, &mut words)?;
+    let gate = Rules::of(&mut words)?;
+    let made = live(
+        rt,
+        alloc,
+        &task.setup,
+        &task.given,
+        task.rounds,
+        task.workers,
+        &gate,
+    )?;
+    let mut text = told_of(alloc, &task.setup, &made.world, made.board, words.next())?;
+    let workers = made.receipts.len();
+    push(&mut text, format!(in alloc; "{workers}")?.as_str())?;
+    Ok(text)
+}
+
+#[test]
+fn sockets(rt: HostRuntime) -> Result<(), Fail> {
+    let told = over_sockets(&rt, rt.alloc())?;
+    expect_at(rt.alloc(), "over sockets", told.as_str(), "true; 2")
+}

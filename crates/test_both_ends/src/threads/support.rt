@@ -1,0 +1,202 @@
+//! What rows name, and what workers lead to.
+
+use crate::worlds::{done_rows, events_of, push, report, setup_of};
+use fw_accounts::Report;
+use fw_air::{Fate, Sent};
+use fw_workers::RehearseError;
+use fw_world::{Event, Setup, World, run};
+use std::alloc::{AllocError, Global};
+use std::test::Fail;
+use test_tables::{Words, named, present};
+
+/// What worlds are made with: one meter, four, four of two head ends that compete for them, one with blocks of 1,024 bytes, two such ones, and
+/// one without a head end.
+const SETUPS: &str = "
+    small     = head 7 4; meter 1 2 64 x
+    four      = head 7 4; meter 1 2 64 x; meter 2 2 64 x; meter 3 2 64 x; meter 4 2 64 x
+    two_heads = head 7 4; head 8 4; meter 1 2 64 x; meter 2 2 64 x; meter 3 2 64 x; meter 4 2 64 x
+    large     = head 7 4; meter 1 1024 8193 x
+    two_large = head 7 4; meter 1 1024 8193 x; meter 2 1024 8193 x
+    no_head   = meter 1 2 64 x
+";
+
+/// Campaigns for them: opened, and up to the first answer and to the end; after that of an image of release 5, one of an image without a release
+/// for the same meter; images that are verified in slices, and 4,097 bytes in five blocks, by windows of four, up to where they are verified.
+/// Then a campaign that is opened twice, a meter that is live in another one, a datagram that was never sent, and restarts that stop.
+const SCRIPTS: &str = "
+    opened           = open 7 1 abc 1
+    answered         = open 7 1 abc 1; tick 7 1; deliver 0 1
+    done             = open 7 1 abc 1; tick 7 1; deliver 0 1; tick 7 1; deliver 2 3; tick 7 1; deliver 4 5; tick 7 1; \
+                       deliver 6 7 8 9; tick 7 1; deliver 10 11; tick 7 1; deliver 12 13; tick 7 1; deliver 14 15; tick 7 1; \
+                       deliver 16 17; tick 7 1; deliver 18 19
+    older            = open-release 7 1 5 abc 1; tick 7 1; deliver 0 1; tick 7 1; deliver 2 3; tick 7 1; deliver 4 5; tick 7 1; \
+                       deliver 6 7 8 9; tick 7 1; deliver 10 11; tick 7 1; deliver 12 13; tick 7 1; deliver 14 15; tick 7 1; \
+                       deliver 16 17; tick 7 1; deliver 18 19; open 7 2 abc 1
+    opened_for_four  = open 7 1 abc 1 2 3 4
+    opened_for_some  = open 7 1 abc 1 2 3 4; open 8 1 def 4 2
+    opened_by_two    = open 7 1 abc 1 2 3 4; open 8 1 def 1 2 3 4
+    released_by_two  = open-release 7 1 5 abc 1 2 3 4; open-release 8 1 4 def 1 2 3 4
+    opened_large     = open 7 1 a*8193 1
+    opened_two_large = open 7 1 a*8193 1 2
+    turned           = open 7 1 a*4097 1; tick 7 1; deliver 0 1; tick 7 1; deliver 2 3; tick 7 1; deliver 4 5; tick 7 1; \
+                       deliver 6 7 8 9 10 11 12 13; tick 7 1; deliver 14 15; tick 7 1; deliver 16 17; tick 7 1; deliver 18; turn 1
+    same_serial      = open 7 1 abc 1; open 7 1 abc 1
+    same_meter       = open 7 1 abc 1; open 7 2 abc 1
+    not_sent_yet     = open 7 1 abc 1; tick 7 1; deliver 0 2
+    stopped_after_2  = stop-restart 1 2 0
+    stopped_after_3  = stop-restart 1 3 0
+";
+
+/// Reports that have a name in rows: of four links over good air and over bad air, and of one.
+const REPORTS: &str = "
+    four_done = row 7 1 1 done; row 7 1 2 done; row 7 1 3 done; row 7 1 4 done; \
+                meter 1 status 6 active 7 1 size 3; meter 2 status 6 active 7 1 size 3; \
+                meter 3 status 6 active 7 1 size 3; meter 4 status 6 active 7 1 size 3; \
+                activations 4; sent 80; board 4
+    four_done_over_bad_air = row 7 1 1 done; row 7 1 2 done; row 7 1 3 done; row 7 1 4 done; \
+                meter 1 status 6 active 7 1 size 3; meter 2 status 6 active 7 1 size 3; \
+                meter 3 status 6 active 7 1 size 3; meter 4 status 6 active 7 1 size 3; \
+                activations 4; sent 120; board 4
+    one_done  = row 7 1 1 done; meter 1 status 6 active 7 1 size 3; activations 1; sent 20; board 1
+";
+
+/// The setup of this name.
+pub(crate) fn setup_in(alloc: Global, name: &str) -> Result<Setup, Fail> {
+    setup_of(alloc, setup_text(name))
+}
+
+/// What the setup of this name is made of, or nothing.
+pub(crate) fn setup_text(name: &str) -> &'static str {
+    named(SETUPS, name).unwrap_or("")
+}
+
+/// The events of the script of this name.
+pub(crate) fn events_in(alloc: Global, name: &str) -> Result<Vec<Event>, Fail> {
+    events_of(alloc, SCRIPTS, name)
+}
+
+/// What a world is made with, what happens in it, and how many rounds are made after that by how many workers.
+#[derive(Drop)]
+pub(crate) struct Task {
+    pub(crate) setup: Setup,
+    pub(crate) given: Vec<Event>,
+    pub(crate) rounds: u32,
+    pub(crate) workers: u32,
+}
+
+impl Task {
+    /// That of a row that begins with `SETUP SCRIPT ROUNDS WORKERS`.
+    pub(crate) fn of(alloc: Global, words: &mut Words<'_>) -> Result<Task, Fail> {
+        let ([setup, script], [rounds, workers]): ([&str; 2], [u32; 2]) = words.read()?;
+        let given = events_in(alloc, script)?;
+        Ok(Task {
+            setup: setup_in(alloc, setup)?,
+            given,
+            rounds,
+            workers,
+        })
+    }
+}
+
+/// Every third datagram of a link is lost, and every fourth comes twice.
+const BAD_AIR: &str =
+    "deliver,deliver,drop,twice,deliver,drop,deliver,twice,drop,deliver,deliver,drop";
+
+/// The fates of good air, of bad air, or those between commas.
+pub(crate) fn fates_of(alloc: Global, air: &str) -> Result<Vec<Fate>, Fail> {
+    let list = match air {
+        "good" => "deliver",
+        "bad" => BAD_AIR,
+        _ => air,
+    };
+    let mut fates = Vec::new(alloc);
+    for word in list.split(',') {
+        fates.push(present(fate(word), "no fate has this name")?)?;
+    }
+    Ok(fates)
+}
+
+fn fate(word: &str) -> Option<Fate> {
+    match word {
+        "deliver" => Some(Fate::Deliver),
+        "drop" => Some(Fate::Drop),
+        "twice" => Some(Fate::Twice),
+        "late" => Some(Fate::Late),
+        _ => None,
+    }
+}
+
+/// The world of these events.
+pub(crate) fn world_of(alloc: Global, setup: &Setup, events: &[Event]) -> Result<World, Fail> {
+    match run(alloc, setup, events) {
+        Ok(world) => Ok(world),
+        Err(_) => Err("an event is refused".into()),
+    }
+}
+
+/// The report of a world and the board's count, or its name. Where a word asks for it, it is whether that count is the number of rows that
+/// are done.
+pub(crate) fn told_of(
+    alloc: Global,
+    setup: &Setup,
+    world: &World,
+    board: u64,
+    asked: Option<&str>,
+) -> Result<String, Fail> {
+    if asked.is_some() {
+        let is_counted = board == done_rows(setup, world)?;
+        return Ok(format!(in alloc; "{is_counted}")?);
+    }
+    let mut text = report(alloc, setup, world)?;
+    push(&mut text, format!(in alloc; "board {board}")?.as_str())?;
+    Ok(match name_of(REPORTS, text.as_str()) {
+        Some(name) => name.to_string(alloc)?,
+        None => text,
+    })
+}
+
+/// The name of a report among lines `name = report`, if it has one.
+fn name_of<'a>(reports: &'a str, report: &str) -> Option<&'a str> {
+    for line in reports.lines() {
+        if let Some((name, text)) = line.split_once(" = ") {
+            if text.trim() == report {
+                return Some(name.trim());
+            }
+        }
+    }
+    None
+}
+
+/// The same of what workers lead to, or the refusal.
+pub(crate) fn outcome(
+    alloc: Global,
+    setup: &Setup,
+    made: Result<Report, RehearseError>,
+    asked: Option<&str>,
+) -> Result<String, Fail> {
+    match made {
+        Ok(made) => told_of(alloc, setup, &made.world, made.board, asked),
+        Err(refusal) => Ok(refusal.to_string(alloc)?),
+    }
+}
+
+/// The numbers of an event, of its first datagram, and how many those are.
+pub(crate) fn sent_text(alloc: Global, sent: Sent) -> Result<String, AllocError> {
+    let Sent {
+        event,
+        first,
+        count,
+    } = sent;
+    format!(in alloc; "event {event} sent {first} {count}")
+}
+
+/// What stands before the arrow of a row and what after it, where a line is a row. Such rows are read by functions and not by `Reads`, whose
+/// method can't ask that a handle of threads is shared.
+pub(crate) fn row_of(line: &str) -> Result<Option<(&str, &str)>, Fail> {
+    let line = line.trim();
+    if line.is_empty() || line.starts_with("//") {
+        return Ok(None);
+    }
+    let (what, want) = present(line.split_once("=>"), "a row without an arrow")?;
+    Ok(Some((what.trim(), want.trim())))
+}

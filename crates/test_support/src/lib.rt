@@ -1,8 +1,0 @@
-//! What tests stand on: setups and events of worlds in words, and reports of worlds. It is no part of the product.
-#![tactic(auto)]
-
-mod script;
-mod telling;
-
-pub use script::{DONE, SMALL, events_of, head, meter, old_setup_of, setup_of};
-pub use telling::{done_rows, head_number, meter_text, numbered, push, push_rows, report};

@@ -1,5 +1,0 @@
-use Rattle.std.proofs.Common.{◌≡◌}
-use Rattle.test_threads.proofs.sharing.answers.Given as goal
-
-abbrev pub invariant-calls : goal.invariant-calls
-invariant-calls g l = l.seat.board ≡ l.board.id
