@@ -46,6 +46,7 @@ use fw_journal::{Journal, JournalDevice, JournalError, Replacer, RewriteError};
 use fw_ledger::Record;
 use fw_names::{CampaignId, HeadId, ImageName, MeterId};
 use std::alloc::Global;
+use std::mem;
 
 /// A head end, with a journal of its book on a device. An opening and a cancelling are committed before they are reported, with all marks
 /// that wait; the mark of a row that ended waits for the next commit. What a tick sends is always of a campaign that is on the device.
@@ -482,6 +483,48 @@ impl<D: JournalDevice> KeptHead<D> {
         self.check_works()?;
         self.journal.commit()?;
         Ok(())
+    }
+
+    /// Puts all marks that wait on the device, as `commit`, and then returns what waited for that, the oldest first: it may be reported now.
+    /// Nothing waits then.
+    ///
+    /// # Errors
+    ///
+    /// `Full`, `BookFault` or `OutOfMemory`, as `commit`. What waits is as before then, and none of it may be reported.
+    pub fn commit_and_take<T: Drop>(
+        &mut self,
+        alloc: Global,
+        waiting: &mut Vec<T>,
+    ) -> Result<Vec<T>, KeptError>
+        ensures taken { IfOk result (λ taken. taken.items ≡ waiting.old.items) }
+        ensures emptied { OnOk result (waiting.new.items ≡ []) }
+        ensures waits { OnErr result (waiting.new ≡ waiting.old) }
+        ensures head { head_of self.new ≡ head_of self.old }
+        ensures acknowledged { (synced : Contents) → Holds D.honest D.contents D.may_leave self.old synced
+            → OnOk result (Holds D.honest D.contents D.may_leave self.new (book_of self.old)) }
+        ensures each_cut { (synced : Contents) → Holds D.honest D.contents D.may_leave self.old synced
+            → OnOk result ((left : List ℕ) → D.may_leave (device_of self.new) left
+            → HasBook (book_of self.old).head left (book_of self.old)) }
+        ensures unchanged { (synced : Contents) → Holds D.honest D.contents D.may_leave self.old synced
+            → OnErr result (Holds D.honest D.contents D.may_leave self.new synced ⊎ IsTrue (is_broken self.new)) }
+
+        // A cut at any moment of the call leaves the book of the last commit, or that with all marks.
+        ensures any_moment { (synced : Contents) → Holds D.honest D.contents D.may_leave self.old synced
+            → LeavesOnly D.moment D.left_since (device_of self.old) (device_of self.new)
+            (λ left. HasBook (book_of self.old).head left synced ⊎ HasBook (book_of self.old).head left (book_of self.old)) }
+
+        // Also where nothing is committed from now on: every cut leaves a book that offers what the one in memory does.
+        ensures backed { (synced : Contents) → Holds D.honest D.contents D.may_leave self.old synced → IsBacked D.may_leave self.new }
+        ensures stays_backed { IsTrue (is_broken self.old) → IsBacked D.may_leave self.old → IsBacked D.may_leave self.new }
+        ensures breaks { IsErrOf result KeptError.BookFault → IsTrue (is_broken self.new) }
+        ensures broken { IsTrue (is_broken self.old) → IsErrOf result KeptError.BookFault × (self.new ≡ self.old) }
+        ensures never { IsTrue (D.sound (device_of self.old)) → IsErrOf result KeptError.BookFault → IsTrue (is_broken self.old) }
+        ensures full { IsErrOf result KeptError.Full → IsFull (journal_of self.old) }
+        ensures refusals { IfErr result IsCommitRefusal }
+        ensures kept { DeviceKeeps D.honest D.sound (device_of self.old) (device_of self.new) }
+    {
+        self.commit()?;
+        Ok(mem::replace(waiting, Vec::new(alloc)))
     }
 
     /// Writes the journal anew, so that it holds just this book: of each campaign an opening, the endings of its rows, where one is done or

@@ -69,7 +69,6 @@ use fw_kept::KeptHead;
 use fw_ledger::Ending;
 use fw_names::{CampaignId, MeterId};
 use std::alloc::{AllocError, Global};
-use std::mem;
 use std::net::SocketAddr;
 
 /// How long the mark of a row that ended waits for others, in microseconds.
@@ -340,7 +339,7 @@ impl<D: JournalDevice + Drop> HeadDaemon<D> {
     ///
     /// # Errors
     ///
-    /// `Full`, `BookFault` or `OutOfMemory`, as `KeptHead::commit`. None of them may be reported then.
+    /// `Full`, `BookFault` or `OutOfMemory`, as `KeptHead::commit_and_take`. None of them may be reported then.
     pub fn saved(&mut self) -> Result<Vec<Ended>, Stop>
         ensures saves { (leader : Leader) → IsLed D.honest D.contents D.may_leave self.old leader → leader.untold ≡ []
             → IfOk result (λ ended. (next : Leader) × SavesAll leader next × IsLed D.honest D.contents D.may_leave self.new next
@@ -356,9 +355,9 @@ impl<D: JournalDevice + Drop> HeadDaemon<D> {
             → IsTrue (is_broken (kept_of self.old)) }
         ensures full { IsErrOf result Stop.Full → IsFull (journal_of (kept_of self.old)) }
     {
-        self.kept.commit()?;
-        count_ended(&mut self.counts, &self.ended);
-        Ok(mem::replace(&mut self.ended, Vec::new(self.alloc)))
+        let ended = self.kept.commit_and_take(self.alloc, &mut self.ended)?;
+        count_ended(&mut self.counts, &ended);
+        Ok(ended)
     }
 
     /// Whether no row is live, and all that ended is on the device.

@@ -15,6 +15,7 @@ use test_tables::{Reads, Words, each_part};
 /// A step of a head end, as `crate::campaigns::head` has it, or a call of its journal, or a look at its device:
 ///
 /// - `commit` and `compact`
+/// - `take TEXT`: the bytes of this text that a commit returns, where they wait for it, and how many wait after it
 /// - `left`: the bytes of the book that a power cut leaves
 /// - `begun`: the APDUs that the head end of this book sends to meter 1 at first
 impl Reads for Subject<KeptHead<MemoryDevice>> {
@@ -27,6 +28,7 @@ impl Reads for Subject<KeptHead<MemoryDevice>> {
             "hear" => hear_text(alloc, head, words.rest()),
             "cancel" => cancel_text(alloc, head, words.number()?),
             "commit" => answer_text(alloc, head.commit()),
+            "take" => taken_text(alloc, head, words.rest()),
             "compact" => compact_text(alloc, head.compact(alloc, &mut MemoryReplacer)),
             "left" => read_text(alloc, 7, head.device().disk().synced()),
             "begun" => begun_text(alloc, head.device().disk().synced()),
@@ -74,6 +76,21 @@ fn hear_text(alloc: Global, head: &mut KeptHead<MemoryDevice>, apdu: &str) -> Re
     }
 }
 
+fn taken_text(
+    alloc: Global,
+    head: &mut KeptHead<MemoryDevice>,
+    text: &str,
+) -> Result<String, Fail> {
+    let mut waiting = text.as_bytes().to_vec(alloc)?;
+    match head.commit_and_take(alloc, &mut waiting) {
+        Ok(taken) => {
+            let taken = hex::encode(alloc, taken.as_slice())?;
+            Ok(format!(in alloc; "{taken}, {}", waiting.len())?)
+        }
+        Err(refusal) => answer_text(alloc, Err(refusal)),
+    }
+}
+
 fn begun_text(alloc: Global, bytes: &[u8]) -> Result<String, Fail> {
     match KeptHead::open(alloc, head(7)?, width()?, device_of(alloc, bytes)?) {
         Ok(head) => tick_text(alloc, &mut Subject(head).0),
@@ -97,6 +114,12 @@ const COMMITTED: &str = "
 const DONE: &str = "
     hear c401c9000929010000000700000001ba7816bf8f01cfea414140de5dae2223b00361a396177a9cb410ff61f20015ad => Done 7 1 1, None
     tick                                                                                                =>
+";
+
+/// The same, where `abc` waits for that.
+const TAKEN: &str = "
+    take abc => 616263, 0
+    left     => 465742320000000700000001000000000000000361626300010000000101
 ";
 
 const CANCELLED: &str = "
@@ -124,5 +147,12 @@ fn a_kept_head_end_outlives_a_cut(rt: HostRuntime) -> Result<(), Fail> {
     let tables = [
         TO_CONFIRM, WAITING, DONE, WAITING, COMMITTED, CANCELLED, LEFT, COMPACTED, LEFT,
     ];
+    each_part(alloc, &mut Subject(new_head(alloc)?), &tables)
+}
+
+#[test]
+fn what_waits_is_taken_once_marks_are_committed(rt: HostRuntime) -> Result<(), Fail> {
+    let alloc = rt.alloc();
+    let tables = [TO_CONFIRM, DONE, WAITING, TAKEN];
     each_part(alloc, &mut Subject(new_head(alloc)?), &tables)
 }
