@@ -13,4 +13,4 @@ mod threads;
 #[cfg(test)]
 mod world;
 #[cfg(test)]
-mod worlds;
+pub mod worlds;
