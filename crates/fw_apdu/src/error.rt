@@ -1,10 +1,11 @@
 //! Why bytes are no APDU, or an APDU has no spelling.
 
 ghost use Rattle.std.specs.Prelude.{◌≡◌};
-ghost use Rattle.fw_apdu.specs.declared.error.ApduError.TheVariants.{OutOfMemory};
+ghost use Rattle.fw_apdu.specs.declared.error.ApduError.TheVariants.{OutOfMemory, Trailing};
 ghost use Rattle.fw_apdu.specs.Cause.{fault_from};
 
 use fw_axdr::AxdrError;
+use fw_reader::Trailing;
 use std::alloc::{AllocError, AllocFailed};
 use std::fmt;
 use thiserror::Error;
@@ -59,5 +60,13 @@ impl From<AxdrError> for ApduError {
             AxdrError::OutOfMemory => ApduError::OutOfMemory,
             _ => ApduError::BadData(fault),
         }
+    }
+}
+
+impl From<Trailing> for ApduError {
+    ghost from_gives = { λ _ e. e ≡ Trailing };
+
+    fn from(_error: Trailing) -> ApduError {
+        ApduError::Trailing
     }
 }

@@ -9,6 +9,7 @@ ghost use Rattle.fw_apdu.specs.Fault.{DataFails, EndFails, IfFault, IfMemory, Is
 
 use crate::error::ApduError;
 use fw_axdr::{Data, read, unwritable};
+use fw_reader::end;
 use std::alloc::Global;
 
 /// The Data that the bytes are, all of them.
@@ -28,11 +29,7 @@ pub(crate) fn end_at(bytes: &[u8]) -> Result<(), ApduError>
     ensures fault { IfErr result (λ e. EndFails bytes.now e) }
     ensures memory { IfErr result (λ e. IfMemory e ⊥) }
 {
-    if bytes.is_empty() {
-        Ok(())
-    } else {
-        Err(ApduError::Trailing)
-    }
+    Ok(end(bytes)?)
 }
 
 /// The value has a spelling. That is judged before memory is taken.

@@ -2,21 +2,23 @@
 use Rattle.std.proofs.Common.{◌≡◌, ℕ, zero, suc, ◌+◌, ◌-◌, ◌<◌, ◌≤◌, inl, inr, true, false, eqb, ltb, ◌||◌, List, [], ◌∷◌, ◌++◌, length, Result, Ok, Err, Option, Some, None, refl, sym, ap, ◌∙◌, append_assoc, arith}
 use Rattle.std.specs.Prelude.{MatchOption}
 use Rattle.std.proofs.lemmas.Bool.{lt-ltb, le-ltb, eq-eqb, ne_eqb, or_left, or_right, or_from}
+use Rattle.fw_reader.specs.Reading.{◌>>=◌}
+use Rattle.fw_reader.specs.Reading as reader
 use Rattle.fw_axdr.specs.declared.error.AxdrError.{AxdrError}
 use Rattle.fw_axdr.specs.declared.error.AxdrError.TheVariants.{UnknownTag}
 use Rattle.fw_axdr.specs.declared.tag.Tag.{Tag}
 use Rattle.fw_axdr.specs.declared.tag.Tag.TheVariants as tag
-use Rattle.fw_axdr.specs.Private.{tag_at, ◌>>=◌, length_by, length_at, bytes_at, number_at, octets_at, bits_at, each_at, items_at, contents_at, tagged_at, data_at}
+use Rattle.fw_axdr.specs.Private.{tag_at, length_at, bytes_at, number_at, octets_at, bits_at, each_at, items_at, contents_at, tagged_at, data_at}
 use Rattle.fw_axdr.specs.Bits.{bytes_for}
 use Rattle.fw_axdr.specs.Value.{Values, none, more, deepest, count}
 use Rattle.fw_axdr.specs.Spelling.{SpellEach, NoneBegins}
 use Rattle.fw_axdr.specs.Fault.{tags, contents_in, LengthFails, BytesFail, CountedFails, EachFails, ContentsFail, Fails}
-use Rattle.fw_axdr.proofs.Lengths.{length_at_front, length_again}
+use Rattle.fw_axdr.proofs.Lengths.{length_by, length_at_front, length_again}
 use Rattle.fw_axdr.proofs.Tags.{shape, contents_in-code, tag_code, tag_none}
 use Rattle.fw_axdr.proofs.Again.{data_again, none_begins}
 
 length_by_refused : (b : ℕ) (rest : List ℕ) (f : AxdrError) → LengthFails (b ∷ rest) f → length_by b rest ≡ Err f
-unfolding number_at
+unfolding reader.number_at
 length_by_refused b rest f (inl h) =
     let bad : (eqb b 128 || ltb 132 b) ≡ true = elim h.0 as (λ _. (eqb b 128 || ltb 132 b) ≡ true) [ inl e ↦ or_left _ _ (eq-eqb b 128 e) | inr lt ↦ or_right _ _ (lt-ltb 132 b lt) ] in
     let high : 128 ≤ b = elim h.0 as (λ _. 128 ≤ b) [ inl e ↦ omega arith | inr lt ↦ omega arith ] in
@@ -34,16 +36,16 @@ length_by_refused b rest f (inr h) =
     rw (long, good, short) (ap Err (sym h.5))
 
 length_refused : (s : List ℕ) (f : AxdrError) → LengthFails s f → length_at s ≡ Err f
-unfolding length_at number_at
+unfolding reader.length_at reader.number_at
 length_refused [] f h = ap Err (sym h)
 length_refused (b ∷ rest) f h = length_at_front b rest ∙ length_by_refused b rest f h
 
 number_refused : (size : ℕ) (c : List ℕ) (f : AxdrError) → BytesFail size c f → number_at size c ≡ Err f
-unfolding number_at
+unfolding reader.number_at
 number_refused size c f h = rw (lt-ltb (length c) size h.0) (ap Err (sym h.1))
 
 bytes_refused : (size : ℕ) (c : List ℕ) (f : AxdrError) → BytesFail size c f → bytes_at size c ≡ Err f
-unfolding bytes_at
+unfolding reader.bytes_at
 bytes_refused size c f h = rw (lt-ltb (length c) size h.0) (ap Err (sym h.1))
 
 -- a step that fails, also after one that doesn't

@@ -3,10 +3,12 @@ use Rattle.std.proofs.Common.{◌≡◌, ℕ, ◌+◌, ◌-◌, ◌^◌, ◌<◌
 use Rattle.std.specs.Result.{MatchResult}
 use Rattle.std.proofs.lemmas.Bool.{ltb-true, ltb-false, eqb-true, eqb-false, lt-ltb, le-ltb, ne_eqb, or_cases, or_parts, or_from, cases_lt, cond_both}
 use Rattle.std.proofs.lemmas.List.{take_at, drop_at, take-append-drop, length-take, length-append}
+use Rattle.fw_reader.specs.Reading.{◌>>=◌, number}
+use Rattle.fw_reader.specs.Reading as reader
 use Rattle.fw_axdr.specs.declared.error.AxdrError.{AxdrError}
-use Rattle.fw_axdr.specs.Spelling.{number, IsLength, short_length}
+use Rattle.fw_axdr.specs.Spelling.{IsLength, short_length}
 use Rattle.fw_axdr.specs.Fault.{LengthFails}
-use Rattle.fw_axdr.specs.Private.{◌>>=◌, number_at, length_by, length_at}
+use Rattle.fw_axdr.specs.Private.{seen, length_at}
 
 -- what holds of a step and of what follows it
 pub bind_both : {A B : Type 0} (r : Result A AxdrError) (f : A → Result B AxdrError) (P : A → Type 0) (Q : AxdrError → Type 0) (P' : B → Type 0) (Q' : AxdrError → Type 0)
@@ -33,38 +35,42 @@ long_taken b k bs is some few room =
     }
 
 -- one byte is the number that it holds
-pub one_byte : (b : ℕ) (bs : List ℕ) → number_at 1 (b ∷ bs) ≡ Ok (b, bs)
-unfolding number_at
+pub one_byte : (b : ℕ) (bs : List ℕ) → reader.number_at 1 (b ∷ bs) ≡ Ok (b, bs)
+unfolding reader.number_at
 one_byte b bs =
     let room : ltb (length (b ∷ bs)) 1 ≡ false = le-ltb (length (b ∷ bs)) 1 (omega arith) in
     let same : number (b ∷ []) ≡ b = omega arith in
     rw room (ap (λ (n : ℕ). Ok (n, bs)) same)
 
+-- a length, whose first byte is read
+abbrev pub length_by : ℕ → List ℕ → Result (ℕ × List ℕ) AxdrError
+length_by first rest = seen (reader.length_by first rest)
+
 pub length_at_front : (b : ℕ) (bs : List ℕ) → length_at (b ∷ bs) ≡ length_by b bs
-unfolding length_at
+unfolding reader.length_at
 length_at_front b bs = rw (one_byte b bs) refl
 
 length_by_sound : (b : ℕ) (bs : List ℕ) → LengthRead (b ∷ bs) (length_by b bs)
-unfolding number_at
+unfolding reader.number_at
 length_by_sound b bs =
-    cond_both (ltb b 128) _ _ (LengthRead (b ∷ bs)) (λ lt. record { len = b ∷ []; parts = refl; is = inl (ltb-true b 128 lt, refl, refl) }) (λ ge.
-    cond_both (eqb b 128 || ltb 132 b) _ _ (LengthRead (b ∷ bs))
+    cond_both (ltb b 128) _ _ (λ r. LengthRead (b ∷ bs) (seen r)) (λ lt. record { len = b ∷ []; parts = refl; is = inl (ltb-true b 128 lt, refl, refl) }) (λ ge.
+    cond_both (eqb b 128 || ltb 132 b) _ _ (λ r. LengthRead (b ∷ bs) (seen r))
     (λ bad. inl (elim (or_cases (eqb b 128) (ltb 132 b) bad) as (λ _. (b ≡ 128) ⊎ (132 < b)) [ inl x ↦ inl (eqb-true b 128 x) | inr x ↦ inr (ltb-true 132 b x) ], refl)) (λ good.
     let low : 128 ≤ b = ltb-false b 128 ge in
     let ne = eqb-false b 128 (or_parts (eqb b 128) (ltb 132 b) good).0 in
     let above : 129 ≤ b = omega (arith, ne) in
     let high : b ≤ 132 = ltb-false 132 b (or_parts (eqb b 128) (ltb 132 b) good).1 in
-    cond_both (ltb (length bs) (b - 128)) _ _ (LengthRead (b ∷ bs))
+    cond_both (ltb (length bs) (b - 128)) _ _ (λ r. LengthRead (b ∷ bs) (seen r))
     (λ lacks. inr (b - 128, omega arith, omega arith, omega arith, ltb-true (length bs) (b - 128) lacks, refl))
     (λ room. long_taken b (b - 128) bs (omega arith) (omega arith) (omega arith) (ltb-false (length bs) (b - 128) room))))
 
 pub length_sound : (s : List ℕ) → LengthRead s (length_at s)
-unfolding length_at number_at
+unfolding reader.length_at reader.number_at
 length_sound [] = refl
 length_sound (b ∷ bs) = subst (LengthRead (b ∷ bs)) (sym (length_at_front b bs)) (length_by_sound b bs)
 
 length_by_again : (b : ℕ) (bs rest : List ℕ) (n : ℕ) → IsLength (b ∷ bs) n → length_by b (bs ++ rest) ≡ Ok (n, rest)
-unfolding number_at
+unfolding reader.number_at
 length_by_again b bs rest n (inl h) =
     let lt : ltb b 128 ≡ true = lt-ltb b 128 h.0 in
     let none : bs ≡ [] = h.1 in

@@ -1,10 +1,15 @@
 -- Reading one value after another, as a loop does, and the byte at the place of a value.
 use Rattle.std.proofs.Common.{◌≡◌, ℕ, zero, suc, ◌-◌, ◌+◌, ◌≤◌, ◌<◌, List, [], ◌∷◌, ◌++◌, Option, Result, Ok, Err, refl, sym, ap, subst, ◌∙◌, arith}
+use Rattle.fw_reader.specs.declared.error.ReadError.{ReadError}
+use Rattle.fw_reader.specs.declared.error.ReadError.TheVariants as read
+use Rattle.fw_reader.specs.Reading.{◌>>=◌}
+use Rattle.fw_reader.specs.Reading as reader
+use Rattle.fw_axdr.specs.Cause.{fault_from}
 use Rattle.fw_axdr.specs.declared.error.AxdrError.{AxdrError}
 use Rattle.fw_axdr.specs.declared.error.AxdrError.TheVariants.{Truncated, UnknownTag, BadLength, TooDeep, OutOfMemory}
 use Rattle.fw_axdr.specs.declared.tag.Tag.{Tag}
 use Rattle.fw_axdr.specs.declared.data.Data.{Data}
-use Rattle.fw_axdr.specs.Private.{tag_at, ◌>>=◌, Errs, join, number_at, each_at, tagged_at, data_at}
+use Rattle.fw_axdr.specs.Private.{tag_at, Errs, seen, join, each_at, tagged_at, data_at}
 use Rattle.fw_axdr.specs.Value.{Value, Values, none, more}
 use Rattle.fw_axdr.specs.View.{value_of, values_of}
 use Rattle.fw_axdr.proofs.Lengths.{one_byte}
@@ -88,11 +93,11 @@ data_at_tagged (suc n) t c deep =
     rw e refl
 
 -- where a byte was read, or none was there
-pub front_byte : (s : List ℕ) (t : ℕ) (c : List ℕ) → number_at 1 s ≡ Ok (t, c) → s ≡ t ∷ c
-unfolding number_at
+pub front_byte : (s : List ℕ) (t : ℕ) (c : List ℕ) → reader.number_at 1 s ≡ Ok (t, c) → s ≡ t ∷ c
+unfolding reader.number_at
 front_byte [] t c h = absurd cc
 front_byte (b ∷ bs) t c h =
-    let both = ok_pair b t bs c (sym (one_byte b bs) ∙ h) in
+    let both = ok_pair b t bs c (ap seen (sym (one_byte b bs) ∙ h)) in
     cc
 
 data_at_none : (levels : ℕ) → data_at levels [] ≡ Err Truncated
@@ -100,22 +105,20 @@ unfolding data_at
 data_at_none zero = refl
 data_at_none (suc levels) = refl
 
-no_byte : (s : List ℕ) (f : AxdrError) (levels : ℕ) → number_at 1 s ≡ Err f → data_at levels s ≡ Err f
-unfolding number_at
-no_byte [] f levels h = let same : Truncated ≡ f = cc in data_at_none levels ∙ ap Err same
-no_byte (b ∷ bs) f levels h = absurd (let one = sym (one_byte b bs) ∙ h in cc)
+no_byte : (s : List ℕ) (e : ReadError) (levels : ℕ) → reader.number_at 1 s ≡ Err e → data_at levels s ≡ Err (fault_from e)
+unfolding reader.number_at
+no_byte [] read.Truncated levels h = data_at_none levels
+no_byte [] read.BadLength levels h = absurd cc
+no_byte (b ∷ bs) e levels h = absurd (let one = sym (one_byte b bs) ∙ h in cc)
 
-pub no_byte_if : (s : List ℕ) (f : AxdrError) (levels : ℕ) → Errs f (number_at 1 s) → Errs f (data_at levels s)
-no_byte_if s OutOfMemory levels h = tt
-no_byte_if s Truncated levels h = no_byte s Truncated levels h
-no_byte_if s UnknownTag levels h = no_byte s UnknownTag levels h
-no_byte_if s BadLength levels h = no_byte s BadLength levels h
-no_byte_if s TooDeep levels h = no_byte s TooDeep levels h
+pub no_byte_if : (s : List ℕ) (e : ReadError) (levels : ℕ) → reader.number_at 1 s ≡ Err e → Errs (fault_from e) (data_at levels s)
+no_byte_if s read.Truncated levels h = no_byte s read.Truncated levels h
+no_byte_if s read.BadLength levels h = no_byte s read.BadLength levels h
 
-pub too_deep : (s : List ℕ) (t : ℕ) (c : List ℕ) → number_at 1 s ≡ Ok (t, c) → data_at 0 s ≡ Err TooDeep
+pub too_deep : (s : List ℕ) (t : ℕ) (c : List ℕ) → reader.number_at 1 s ≡ Ok (t, c) → data_at 0 s ≡ Err TooDeep
 unfolding data_at
 too_deep s t c h = ap (λ (x : List ℕ). data_at 0 x) (front_byte s t c h)
 
-pub data_at_tag : (levels : ℕ) (s : List ℕ) (t : ℕ) (c : List ℕ) (o : Option Tag) → number_at 1 s ≡ Ok (t, c) → 1 ≤ levels → tag_at t ≡ o
+pub data_at_tag : (levels : ℕ) (s : List ℕ) (t : ℕ) (c : List ℕ) (o : Option Tag) → reader.number_at 1 s ≡ Ok (t, c) → 1 ≤ levels → tag_at t ≡ o
     → data_at levels s ≡ tagged_at (λ b. data_at (levels - 1) b) o c
 data_at_tag levels s t c o h deep e = ap (λ (x : List ℕ). data_at levels x) (front_byte s t c h) ∙ data_at_tagged levels t c deep ∙ rw e refl

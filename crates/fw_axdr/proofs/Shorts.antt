@@ -7,11 +7,12 @@ use Rattle.std.proofs.lemmas.Bool.{le-ltb, lt-ltb, ne_eqb, cases_lt}
 use Rattle.std.proofs.lemmas.Nat.{from_be_bytes-to_be_bytes_8}
 use Rattle.std.proofs.lemmas.Int.{to_z-of_z}
 use Rattle.std.proofs.Math.Facts.{Fits-of_z, Fits-lt-pow}
+use Rattle.fw_reader.specs.Reading.{number}
 use Rattle.fw_axdr.specs.declared.error.AxdrError.{AxdrError}
 use Rattle.fw_axdr.specs.declared.error.AxdrError.TheVariants.{BadLength}
 use Rattle.fw_axdr.specs.Bits.{bit, byte_bits, bits, bytes_for, packed_into, packed}
 use Rattle.fw_axdr.specs.Value.{Value, Values, null, array, structure, boolean, bit_string, double_long, double_long_unsigned, octet_string, visible_string, integer, long, unsigned, long_unsigned, long64, long64_unsigned, enumerated, none, more, count, deepest}
-use Rattle.fw_axdr.specs.Spelling.{number, SpellEach, IsData, short, shorts, short_length, signed_bytes}
+use Rattle.fw_axdr.specs.Spelling.{SpellEach, IsData, short, shorts, short_length, signed_bytes}
 use Rattle.fw_axdr.specs.Fault.{within, counted, unwritable, first_unwritable}
 use Rattle.fw_axdr.specs.Laws.{HasNumbers, HaveNumbers}
 use Rattle.fw_axdr.proofs.Lengths.{short_is_length}

@@ -4,14 +4,16 @@ use Rattle.std.specs.Prelude.{MatchOption}
 use Rattle.std.specs.Result.{MatchResult}
 use Rattle.std.proofs.lemmas.Bool.{ltb-true, ltb-false, le-ltb, cond_both}
 use Rattle.std.proofs.lemmas.List.{take_at, drop_at, take-append-drop, length-take, length-append}
+use Rattle.fw_reader.specs.Reading.{number}
+use Rattle.fw_reader.specs.Reading as reader
 use Rattle.fw_axdr.specs.declared.error.AxdrError.{AxdrError}
 use Rattle.fw_axdr.specs.declared.error.AxdrError.TheVariants.{UnknownTag}
 use Rattle.fw_axdr.specs.declared.tag.Tag.{Tag}
 use Rattle.fw_axdr.specs.declared.tag.Tag.TheVariants as tag
-use Rattle.fw_axdr.specs.Private.{tag_at, code, length_at, bytes_at, number_at, octets_at, bits_at, each_at, items_at, contents_at, tagged_at, data_at}
+use Rattle.fw_axdr.specs.Private.{tag_at, code, seen, length_at, bytes_at, number_at, octets_at, bits_at, each_at, items_at, contents_at, tagged_at, data_at}
 use Rattle.fw_axdr.specs.Bits.{bits, bytes_for}
 use Rattle.fw_axdr.specs.Value.{Value, Values, none, more, count, deepest}
-use Rattle.fw_axdr.specs.Spelling.{number, IsLength, SpellEach, IsData}
+use Rattle.fw_axdr.specs.Spelling.{IsLength, SpellEach, IsData}
 use Rattle.fw_axdr.specs.Fault.{tags, contents_in, LengthFails, BytesFail, CountedFails, EachFails, ContentsFail, Fails}
 use Rattle.fw_axdr.proofs.Tags.{shape, contents_in-code, tag_code, tag_none}
 use Rattle.fw_axdr.proofs.Lengths.{bind_both, LengthTaken, length_sound, length_again}
@@ -30,12 +32,12 @@ bytes_taken : (size : ℕ) (c : List ℕ) → size ≤ length c → BytesTaken s
 bytes_taken size c room = record { parts = sym (take-append-drop size c); len = omega (arith, length-take size c) }
 
 pub bytes_sound : (size : ℕ) (c : List ℕ) → BytesRead size c (bytes_at size c)
-unfolding bytes_at
+unfolding reader.bytes_at
 bytes_sound size c =
-    cond_both (ltb (length c) size) _ _ (BytesRead size c) (λ lacks. (ltb-true (length c) size lacks, refl)) (λ room. bytes_taken size c (ltb-false (length c) size room))
+    cond_both (ltb (length c) size) _ _ (λ r. BytesRead size c (seen r)) (λ lacks. (ltb-true (length c) size lacks, refl)) (λ room. bytes_taken size c (ltb-false (length c) size room))
 
 bytes_again : (o rest : List ℕ) (size : ℕ) → length o ≡ size → bytes_at size (o ++ rest) ≡ Ok (o, rest)
-unfolding bytes_at
+unfolding reader.bytes_at
 bytes_again o rest size len =
     let room : ltb (length (o ++ rest)) size ≡ false = le-ltb _ _ (omega (arith, length-append o rest)) in
     rw (room, take_at o rest size len, drop_at o rest size len) refl
@@ -53,12 +55,12 @@ number_taken : (size : ℕ) (c : List ℕ) → size ≤ length c → NumberTaken
 number_taken size c room = record { bytes = take size c; parts = sym (take-append-drop size c); len = omega (arith, length-take size c); is = refl }
 
 number_sound : (size : ℕ) (c : List ℕ) → NumberRead size c (number_at size c)
-unfolding number_at
+unfolding reader.number_at
 number_sound size c =
-    cond_both (ltb (length c) size) _ _ (NumberRead size c) (λ lacks. (ltb-true (length c) size lacks, refl)) (λ room. number_taken size c (ltb-false (length c) size room))
+    cond_both (ltb (length c) size) _ _ (λ r. NumberRead size c (seen r)) (λ lacks. (ltb-true (length c) size lacks, refl)) (λ room. number_taken size c (ltb-false (length c) size room))
 
 pub number_again : (bytes rest : List ℕ) (size n : ℕ) → length bytes ≡ size → n ≡ number bytes → number_at size (bytes ++ rest) ≡ Ok (n, rest)
-unfolding number_at
+unfolding reader.number_at
 number_again bytes rest size n len is =
     let room : ltb (length (bytes ++ rest)) size ≡ false = le-ltb _ _ (omega (arith, length-append bytes rest)) in
     rw (room, take_at bytes rest size len, drop_at bytes rest size len, is) refl

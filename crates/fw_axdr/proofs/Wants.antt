@@ -3,10 +3,14 @@ use Rattle.std.proofs.Common.{◌≡◌, ℕ, zero, suc, ◌-◌, ◌≤◌, ◌
 use Rattle.std.specs.Prelude.{IfErr}
 use Rattle.std.proofs.lemmas.List.{length-append}
 use Rattle.std.proofs.lemmas.Result.{MatchResult-at_ok}
+use Rattle.fw_reader.specs.declared.error.ReadError.{ReadError}
+use Rattle.fw_reader.specs.declared.error.ReadError.TheVariants as read
+use Rattle.fw_reader.specs.Reading as reader
+use Rattle.fw_axdr.specs.Cause.{fault_from}
 use Rattle.fw_axdr.specs.declared.error.AxdrError.{AxdrError}
 use Rattle.fw_axdr.specs.declared.error.AxdrError.TheVariants.{Truncated, UnknownTag, BadLength, TooDeep, OutOfMemory}
 use Rattle.fw_axdr.specs.declared.tag.Tag.{Tag}
-use Rattle.fw_axdr.specs.Private.{tag_at, code, number_at, bytes_at, length_at, each_at, data_at}
+use Rattle.fw_axdr.specs.Private.{tag_at, code, seen, each_at, data_at}
 use Rattle.fw_axdr.specs.Value.{Value, Values}
 use Rattle.fw_axdr.specs.Spelling.{SomeBegins}
 use Rattle.fw_axdr.specs.Fault.{LengthFails, BytesFail, IfMemory}
@@ -24,9 +28,10 @@ IfMemory-map UnknownTag P Q f h = tt
 IfMemory-map BadLength P Q f h = tt
 IfMemory-map TooDeep P Q f h = tt
 
--- what takes no memory
-pub IfMemory-none : (e : AxdrError) (Q : Type 0) → IfMemory e ⊥ → IfMemory e Q
-IfMemory-none e Q h = IfMemory-map e ⊥ Q (λ no. absurd no) h
+-- what a reader gives takes no memory
+pub IfMemory-none : (e : ReadError) (Q : Type 0) → IfMemory (fault_from e) Q
+IfMemory-none read.Truncated Q = tt
+IfMemory-none read.BadLength Q = tt
 
 -- what holds in any case
 pub IfMemory-all : (e : AxdrError) (Q : Type 0) → Q → IfMemory e Q
@@ -37,15 +42,15 @@ IfMemory-all BadLength Q h = tt
 IfMemory-all TooDeep Q h = tt
 
 -- a length that was read, and what follows it
-pub counted_takes : (Behind : ℕ → List ℕ → Type 0) (c : List ℕ) (n : ℕ) (mid : List ℕ) → length_at c ≡ Ok (n, mid) → 1 ≤ n → Behind n mid → CountedTakes Behind c
+pub counted_takes : (Behind : ℕ → List ℕ → Type 0) (c : List ℕ) (n : ℕ) (mid : List ℕ) → reader.length_at c ≡ Ok (n, mid) → 1 ≤ n → Behind n mid → CountedTakes Behind c
 counted_takes Behind c n mid e some behind =
-    let t = MatchResult-at_ok (λ x. LengthTaken c x.0 x.1) (LengthFails c) (n, mid) e (length_sound c) in
+    let t = MatchResult-at_ok (λ x. LengthTaken c x.0 x.1) (LengthFails c) (n, mid) (ap seen e) (length_sound c) in
     (t.len, mid, n, t.parts, t.is, some, behind)
 
 -- bytes that were read are there
-pub bytes_there : (n : ℕ) (s o rest : List ℕ) → bytes_at n s ≡ Ok (o, rest) → n ≤ length s
+pub bytes_there : (n : ℕ) (s o rest : List ℕ) → reader.bytes_at n s ≡ Ok (o, rest) → n ≤ length s
 bytes_there n s o rest e =
-    let t = MatchResult-at_ok (λ x. BytesTaken n s x.0 x.1) (BytesFail n s) (o, rest) e (bytes_sound n s) in
+    let t = MatchResult-at_ok (λ x. BytesTaken n s x.0 x.1) (BytesFail n s) (o, rest) (ap seen e) (bytes_sound n s) in
     omega (arith, ap length t.parts, length-append o rest, t.len)
 
 -- a Data that was read begins the bytes
@@ -78,13 +83,13 @@ takes_behind (suc n) t c deep h =
     let e : suc n - 1 ≡ n = omega arith in
     subst (λ (m : ℕ). TaggedTakes (λ s. MayTakeMemory m s ⊎ SomeBegins m s) t c) e h
 
-takes_at : (levels t : ℕ) (k : Tag) (s c : List ℕ) → number_at 1 s ≡ Ok (t, c) → 1 ≤ levels → tag_at t ≡ Some k
+takes_at : (levels t : ℕ) (k : Tag) (s c : List ℕ) → reader.number_at 1 s ≡ Ok (t, c) → 1 ≤ levels → tag_at t ≡ Some k
     → TaggedTakes (λ x. MayTakeMemory (levels - 1) x ⊎ SomeBegins (levels - 1) x) (code k) c → MayTakeMemory levels s
 takes_at levels t k s c e deep tag h =
     let at : MayTakeMemory levels (t ∷ c) = takes_behind levels t c deep (subst (λ (x : ℕ). TaggedTakes (λ y. MayTakeMemory (levels - 1) y ⊎ SomeBegins (levels - 1) y) x c) (sym (tag_code t k tag)) h) in
     subst (λ (x : List ℕ). MayTakeMemory levels x) (sym (front_byte s t c e)) at
 
-pub data_takes : {A : Type 0} (r : Result A AxdrError) (levels t : ℕ) (k : Tag) (s c : List ℕ) → number_at 1 s ≡ Ok (t, c) → 1 ≤ levels → tag_at t ≡ Some k
+pub data_takes : {A : Type 0} (r : Result A AxdrError) (levels t : ℕ) (k : Tag) (s c : List ℕ) → reader.number_at 1 s ≡ Ok (t, c) → 1 ≤ levels → tag_at t ≡ Some k
     → IfErr r (λ e. IfMemory e (TaggedTakes (λ x. MayTakeMemory (levels - 1) x ⊎ SomeBegins (levels - 1) x) (code k) c)) → IfErr r (λ e. IfMemory e (MayTakeMemory levels s))
 data_takes (Ok x) levels t k s c e deep tag h = tt
 data_takes (Err f) levels t k s c e deep tag h = IfMemory-map f _ _ (takes_at levels t k s c e deep tag) h

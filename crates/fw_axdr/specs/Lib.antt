@@ -4,6 +4,7 @@ pub mod View
 pub mod Bits
 pub mod Spelling
 pub mod Fault
+pub mod Cause
 pub mod Memory
 pub mod Laws
 -- For private clauses alone: no public clause cites it.

@@ -1,11 +1,14 @@
 -- For private clauses alone: tags, reading, writing and the clearing of unused bits, beside the relations.
-use Rattle.std.specs.Prelude.{ℕ, Option, Some, None, ◌==◌, if◌then◌else◌, ◌≡◌, zero, suc, ◌-◌, Bool, not, List, [], ◌∷◌, length, take, drop, Result, Ok, Err, nat_lt, ◌||◌}
+use Rattle.std.specs.Prelude.{ℕ, Option, Some, None, ◌==◌, if◌then◌else◌, ◌≡◌, zero, suc, Bool, not, List, [], ◌∷◌, length, take, Result, Ok, Err}
 use Rattle.std.specs.Int.{w8, w16, w32, w64, cast_signed}
+use Rattle.fw_reader.specs.declared.error.ReadError.{ReadError}
+use Rattle.fw_reader.specs.Reading.{◌>>=◌}
+use Rattle.fw_reader.specs.Reading as reader
 use Rattle.fw_axdr.specs.declared.error.AxdrError.{AxdrError}
 use Rattle.fw_axdr.specs.declared.error.AxdrError.TheVariants.{Truncated, UnknownTag, BadLength, TooDeep, OutOfMemory}
 use Rattle.fw_axdr.specs.Bits.{bits, bytes_for, packed}
 use Rattle.fw_axdr.specs.Value.{Value, Values, null, array, structure, boolean, bit_string, double_long, double_long_unsigned, octet_string, visible_string, integer, long, unsigned, long_unsigned, long64, long64_unsigned, enumerated, none, more}
-use Rattle.fw_axdr.specs.Spelling.{number}
+use Rattle.fw_axdr.specs.Cause.{fault_from}
 use Rattle.fw_axdr.specs.declared.tag.Tag.{Tag}
 use Rattle.fw_axdr.specs.declared.tag.Tag.TheVariants as tag
 
@@ -40,11 +43,6 @@ code tag.Enumerated = 22
 
 -- ---- reading from left to right, as a plain program beside the relations
 
-infixl 10 ◌>>=◌
-abbrev pub ◌>>=◌ : {A B : Type 0} → Result A AxdrError → (A → Result B AxdrError) → Result B AxdrError
-(Ok x) >>= f = f x
-(Err e) >>= f = Err e
-
 -- the error is what reading gives, unless memory ran out
 abbrev pub Errs : {Y : Type 0} → AxdrError → Result Y AxdrError → Type 0
 Errs OutOfMemory read = Unit {0}
@@ -58,20 +56,21 @@ abbrev pub Gives : {X Y : Type 0} → (X → Y) → Result X AxdrError → List 
 Gives view (Ok x) rest read = read ≡ Ok (view x, rest)
 Gives view (Err e) rest read = Errs e read
 
+-- what a reader gives, with the fault that a Data has for it
+abbrev pub seen : {A : Type 0} → Result A ReadError → Result A AxdrError
+seen (Ok x) = Ok x
+seen (Err e) = Err (fault_from e)
+
 -- `n` bytes
-unfoldable pub bytes_at : ℕ → List ℕ → Result (List ℕ × List ℕ) AxdrError
-bytes_at n bytes = if nat_lt (length bytes) n then Err Truncated else Ok (take n bytes, drop n bytes)
+abbrev pub bytes_at : ℕ → List ℕ → Result (List ℕ × List ℕ) AxdrError
+bytes_at n bytes = seen (reader.bytes_at n bytes)
 
 -- a number of `size` bytes
-unfoldable pub number_at : ℕ → List ℕ → Result (ℕ × List ℕ) AxdrError
-number_at size bytes = if nat_lt (length bytes) size then Err Truncated else Ok (number (take size bytes), drop size bytes)
+abbrev pub number_at : ℕ → List ℕ → Result (ℕ × List ℕ) AxdrError
+number_at size bytes = seen (reader.number_at size bytes)
 
--- a length, whose first byte is read
-abbrev pub length_by : ℕ → List ℕ → Result (ℕ × List ℕ) AxdrError
-length_by first rest = if nat_lt first 128 then Ok (first, rest) else (if (first == 128) || nat_lt 132 first then Err BadLength else number_at (first - 128) rest)
-
-unfoldable pub length_at : List ℕ → Result (ℕ × List ℕ) AxdrError
-length_at bytes = number_at 1 bytes >>= λ first. length_by first.0 first.1
+abbrev pub length_at : List ℕ → Result (ℕ × List ℕ) AxdrError
+length_at bytes = seen (reader.length_at bytes)
 
 unfoldable pub octets_at : List ℕ → Result (List ℕ × List ℕ) AxdrError
 octets_at bytes = do

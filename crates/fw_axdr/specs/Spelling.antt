@@ -2,14 +2,11 @@
 -- uses it; the tags are those of IEC 62056-6-2, Common data types).
 -- Own rules of this profile: a length may have a longer form than it needs, of at most four bytes after the first; any nonzero
 -- boolean byte is true; unused bits of a bit-string may be anything; elements of an array may differ in type; the depth is at most 8.
-use Rattle.std.specs.Prelude.{◌≡◌, ℕ, ◌+◌, ◌*◌, ◌^◌, ◌<◌, ◌≤◌, ◌⊎◌, ℤ, not, ◌==◌, List, [], ◌∷◌, ◌++◌, length, fold, nat_lt, if◌then◌else◌, take, drop}
+use Rattle.std.specs.Prelude.{◌≡◌, ℕ, ◌+◌, ◌^◌, ◌<◌, ◌≤◌, ◌⊎◌, ℤ, not, ◌==◌, List, [], ◌∷◌, ◌++◌, length, nat_lt, if◌then◌else◌, take, drop}
 use Rattle.std.specs.Int.{Width, w8, w16, w32, w64, to_be_bytes, cast_signed, cast_unsigned}
+use Rattle.fw_reader.specs.Reading.{number}
 use Rattle.fw_axdr.specs.Value.{Value, Values, null, array, structure, boolean, bit_string, double_long, double_long_unsigned, octet_string, visible_string, integer, long, unsigned, long_unsigned, long64, long64_unsigned, enumerated, none, more, count, depth}
 use Rattle.fw_axdr.specs.Bits.{bits, bytes_for, packed}
-
--- the number that bytes hold, the highest byte first
-abbrev pub number : List ℕ → ℕ
-number bytes = fold (λ n b. 256 * n + b) 0 bytes
 
 -- a length: one byte below 80 (hexadecimal), or 81 to 84 and the 1 to 4 bytes that hold it
 abbrev pub IsLength : List ℕ → ℕ → Type 0

@@ -2,7 +2,9 @@
 
 ghost use Rattle.std.specs.Prelude.{◌≡◌};
 ghost use Rattle.fw_axdr.specs.declared.error.AxdrError.TheVariants.{OutOfMemory};
+ghost use Rattle.fw_axdr.specs.Cause.{fault_from};
 
+use fw_reader::ReadError;
 use std::alloc::{AllocError, AllocFailed};
 use std::fmt;
 use thiserror::Error;
@@ -43,5 +45,16 @@ impl<T: Drop> From<AllocFailed<T>> for AxdrError {
 
     fn from(_e: AllocFailed<T>) -> AxdrError {
         AxdrError::OutOfMemory
+    }
+}
+
+impl From<ReadError> for AxdrError {
+    ghost from_gives = { λ fault e. e ≡ fault_from fault };
+
+    fn from(fault: ReadError) -> AxdrError {
+        match fault {
+            ReadError::Truncated => AxdrError::Truncated,
+            ReadError::BadLength => AxdrError::BadLength,
+        }
     }
 }

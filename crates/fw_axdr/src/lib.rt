@@ -15,7 +15,6 @@ mod error;
 mod judging;
 pub mod laws;
 mod octets;
-mod reader;
 mod reading;
 mod tag;
 mod writing;

@@ -1,4 +1,4 @@
-//! Tests of what goes over the wire (A-XDR Data, the wrapper, the services, image names, captures), of the blocks of an image, of the header of a
+//! Tests of what goes over the wire (numbers and lengths, A-XDR Data, the wrapper, the services, image names, captures), of the blocks of an image, of the header of a
 //! store, of stores in memory, on devices and in files, of journals, of the digest of a slot, of Image transfer over a store in memory, and of what
 //! a meter makes of requests and how it spells answers, through their public calls alone, and callers that are proved from the public
 //! contracts alone. Expected bytes are worked out by hand from the standards and the formats, and SHA-256 values are the published ones or those
@@ -25,6 +25,7 @@ mod memory;
 mod name_tests;
 mod opening;
 mod plans;
+mod reader_tests;
 mod refusals;
 mod replying;
 mod round_trip;

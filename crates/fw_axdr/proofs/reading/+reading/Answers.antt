@@ -58,7 +58,7 @@ data-returns-clause-gives t c =
 pub items-returns-in_err-count-clause-memory : goal.items-returns-in_err-count-clause-memory
 items-returns-in_err-count-clause-memory t c =
     let p = err_from_is_err_and c.from_residual.result c.from_residual.ensures.1 in
-    rw (p.1, p.2) (IfMemory-none c.in_err-count.field-0.0 _ c.in_err-count.ensures.memory)
+    rw (p.1, p.2) (IfMemory-none c.in_err-count.field-0.0 _)
 
 pub items-returns-in_err-data-clause-memory : goal.items-returns-in_err-data-clause-memory
 items-returns-in_err-data-clause-memory t c =
