@@ -1,0 +1,172 @@
+//! A client of a meter takes steps. Datagrams stand in hexadecimal.
+
+ghost use Rattle.std.specs.Prelude.{IsTrue};
+ghost use Rattle.fw_client.specs.Ask.{Fits};
+ghost use Rattle.fw_client.specs.View.{ask_of};
+
+use crate::book::meter;
+use crate::subject::Subject;
+use fw_client::{Ask, Client, Heard};
+use fw_names::{CampaignId, HeadId, ImageName, name_of};
+use std::alloc::Global;
+use std::test::Fail;
+use test_tables::{Reads, Words, each_part, present};
+
+/// A step of a client:
+///
+/// - `ask ASK`: the datagram, or the refusal
+/// - `largest NUMBER`, an ask for the block of this number to be stored, with 1,024 bytes 5a: the size of the datagram, its first 33 bytes, and
+///   the last
+/// - `hear DATAGRAM`: what is heard
+/// - `hear-most BEGIN`, a datagram that begins so, and has 2,048 bytes 5a after that: how many bits are heard, in how many bytes, and whether
+///   each of these is 5a
+/// - `forget`, which drops what is outstanding
+/// - `meter`: the number of the meter whose client it is
+/// - `answer METER ASK DATAGRAM`, for which a new client of this meter asks, and hears a datagram: what is heard
+impl Reads for Subject<Client> {
+    fn told(&mut self, alloc: Global, what: &str) -> Result<String, Fail> {
+        let client = &mut self.0;
+        let mut words = Words::new(what);
+        match words.word()? {
+            "ask" => asked(alloc, client, words.rest()),
+            "largest" => largest(alloc, client, words.number()?),
+            "hear" => heard(alloc, client, words.rest()),
+            "hear-most" => most(alloc, client, words.rest()),
+            "forget" => {
+                client.forget();
+                Ok(String::new(alloc))
+            }
+            "meter" => Ok(format!(in alloc; "{}", client.meter().number())?),
+            "answer" => answered(alloc, words),
+            _ => Err("a client takes no such step".into()),
+        }
+    }
+}
+
+/// What is asked of a meter, as `fw_client::Ask` has it: `block-size`, `first-missing`, `blocks`, `status`, `info`, `active-name`, `enable`,
+/// `initiate RELEASE SIZE` under the name of `abc`, `block NUMBER BYTES`, `verify` or `activate`.
+fn ask<'a>(what: &'a str) -> Option<Ask<'a>> {
+    let mut words = Words::new(what);
+    Some(match words.next()? {
+        "block-size" => Ask::BlockSize,
+        "first-missing" => Ask::FirstMissing,
+        "blocks" => Ask::Blocks,
+        "status" => Ask::Status,
+        "info" => Ask::Info,
+        "active-name" => Ask::ActiveName,
+        "enable" => Ask::Enable,
+        "initiate" => Ask::Initiate {
+            name: abc_in(1, number(&mut words)?)?,
+            size: number(&mut words)?,
+        },
+        "block" => Ask::Block {
+            number: number(&mut words)?,
+            value: words.rest().as_bytes(),
+        },
+        "verify" => Ask::Verify,
+        "activate" => Ask::Activate,
+        _ => return None,
+    })
+}
+
+fn number(words: &mut Words<'_>) -> Option<u32> {
+    words.next()?.parse::<u32>().ok()
+}
+
+/// Whether a client may be given the ask.
+fn fits(ask: &Ask<'_>) -> bool
+    ensures { IsTrue result → Fits (ask_of ask.now) }
+{
+    match ask {
+        Ask::Block { value, .. } => value.len() <= 1024,
+        _ => true,
+    }
+}
+
+fn asked(alloc: Global, client: &mut Client, what: &str) -> Result<String, Fail> {
+    match ask(what) {
+        Some(ask) if fits(&ask) => told_of(alloc, client, &ask),
+        _ => Err("no ask has this name, or too long a block".into()),
+    }
+}
+
+/// The datagram of an ask, or the refusal.
+fn told_of(alloc: Global, client: &mut Client, ask: &Ask<'_>) -> Result<String, Fail>
+    requires { Fits (ask_of ask.now) }
+{
+    Ok(match client.ask(alloc, ask) {
+        Ok(datagram) => hex::encode(alloc, datagram.as_slice())?,
+        Err(refusal) => refusal.to_string(alloc)?,
+    })
+}
+
+fn largest(alloc: Global, client: &mut Client, number: u32) -> Result<String, Fail> {
+    let value = &[0x5a; 1024];
+    let datagram = client.ask(alloc, &Ask::Block { number, value })?;
+    let bytes = datagram.as_slice();
+    let front = hex::encode(alloc, bytes.get(..33).unwrap_or(&[]))?;
+    let last = bytes.last().copied().unwrap_or(0);
+    Ok(format!(in alloc; "{} {front} {last:02x}", bytes.len())?)
+}
+
+fn heard(alloc: Global, client: &mut Client, datagram: &str) -> Result<String, Fail> {
+    let heard = client.hear(alloc, &hex::decode(alloc, datagram)?)?;
+    heard_text(alloc, &heard)
+}
+
+fn most(alloc: Global, client: &mut Client, begin: &str) -> Result<String, Fail> {
+    let mut datagram = hex::decode(alloc, begin)?;
+    datagram.extend_from_slice(&[0x5a; 2048])?;
+    Ok(match client.hear(alloc, &datagram)? {
+        Heard::BitSet(bits) => {
+            let bytes = bits.as_bytes();
+            let all = bytes.iter().all(|byte| *byte == 0x5a);
+            format!(in alloc; "{} bits, {} bytes, {all}", bits.len(), bytes.len())?
+        }
+        other => heard_text(alloc, &other)?,
+    })
+}
+
+fn answered(alloc: Global, mut words: Words<'_>) -> Result<String, Fail> {
+    let (number, what): (u32, &str) = words.read()?;
+    let mut client = Client::new(meter(number)?);
+    let _asked = asked(alloc, &mut client, what)?;
+    heard(alloc, &mut client, words.rest())
+}
+
+/// The name of `abc` in campaign 1 of head end 7, of this release.
+pub(crate) fn abc_name(release: u32) -> Result<ImageName, Fail> {
+    abc_name_in(1, release)
+}
+
+/// The same in the campaign of this serial number.
+pub(crate) fn abc_name_in(serial: u32, release: u32) -> Result<ImageName, Fail> {
+    present(abc_in(serial, release), "a serial number begins at 1")
+}
+
+fn abc_in(serial: u32, release: u32) -> Option<ImageName> {
+    Some(name_of(CampaignId::new(HeadId::new(7)?, serial)?, release, b"abc"))
+}
+
+/// What is heard, as `Debug` gives it, except names, which are spelled.
+fn heard_text(alloc: Global, heard: &Heard) -> Result<String, Fail> {
+    Ok(match heard {
+        Heard::Active(claim) => {
+            let name = hex::encode(alloc, claim.name().to_bytes().as_slice())?;
+            format!(in alloc; "active {} {name}", claim.meter().number())?
+        }
+        Heard::Info(Some(name)) => {
+            let name = hex::encode(alloc, name.to_bytes().as_slice())?;
+            format!(in alloc; "info {name}")?
+        }
+        other => format!(in alloc; "{other:?}")?,
+    })
+}
+
+/// A new client of meter 1 takes the steps of these tables, and so does another one in each session.
+pub(crate) fn steps(alloc: Global, sessions: &[&[&str]]) -> Result<(), Fail> {
+    for tables in sessions {
+        each_part(alloc, &mut Subject(Client::new(meter(1)?)), tables)?;
+    }
+    Ok(())
+}

@@ -1,0 +1,93 @@
+//! What leads a row back to `Start`, and the return that ends it.
+
+use crate::head::head_sessions;
+use std::test::Fail;
+
+/// Image `abc` of campaign (7, 1) for a meter with blocks of 3 bytes, up to the initiate.
+const TO_START: &str = "
+    open 1 0 abc            => 010000000700000001ba7816bf8f01cfea414140de5dae2223b00361a396177a9cb410ff61f20015ad
+    tick                    => c001c0001200002c0000ff0200
+    hear c401c0000600000003 => Moved, Some(Enable)
+    tick                    => c101c1001200002c0000ff05000301
+    hear c501c100           => Moved, Some(Start)
+";
+
+/// From `Start`, all is answered well up to the verify, and that by a code. The four asks have these invoke bytes.
+macro_rules! round {
+    ($initiate:literal, $block:literal, $check:literal, $verify:literal, $code:literal, $then:literal) => {
+        concat!(
+            "tick => c301", $initiate, "001200002c0000ff010102020929010000000700000001ba7816bf8f01cfea414140de5dae2223b00361a396177a9cb410ff61f20015ad0600000003\n",
+            "hear c701", $initiate, "0000 => Moved, Some(Blocks)\n",
+            "tick => c301", $block, "001200002c0000ff0201020206000000000903616263\n",
+            "hear c701", $block, "0000 => Moved, Some(Check)\n",
+            "tick => c001", $check, "001200002c0000ff0400\n",
+            "hear c401", $check, "000600000001 => Moved, Some(Verify)\n",
+            "tick => c301", $verify, "001200002c0000ff03010f00\n",
+            "hear c701", $verify, $code, " => ", $then, "\n",
+        )
+    };
+}
+
+/// The verify is answered by 250. Every fourth round has the same invoke bytes.
+const ROUNDS: [&str; 4] = [
+    round!("c2", "c3", "c4", "c5", "fa00", "Moved, Some(Start)"),
+    round!("c6", "c7", "c8", "c9", "fa00", "Moved, Some(Start)"),
+    round!("ca", "cb", "cc", "cd", "fa00", "Moved, Some(Start)"),
+    round!("ce", "cf", "c0", "c1", "fa00", "Moved, Some(Start)"),
+];
+
+const SEVEN: &str = "
+    returns => 7
+";
+
+const EIGHTH: &str = round!("ce", "cf", "c0", "c1", "fa00", "Failed 7 1 1, None");
+
+const NOTHING_MORE: &str = "
+    tick =>
+";
+
+#[test]
+fn the_eighth_return_fails_the_row(rt: HostRuntime) -> Result<(), Fail> {
+    let [first, second, third, fourth] = ROUNDS;
+    let tables: &[&str] = &[
+        TO_START,
+        first,
+        second,
+        third,
+        fourth,
+        first,
+        second,
+        third,
+        SEVEN,
+        EIGHTH,
+        NOTHING_MORE,
+    ];
+    head_sessions(rt.alloc(), 4, &[tables])
+}
+
+/// A verification that takes its time.
+const TO_POLL: &str = round!("c2", "c3", "c4", "c5", "0200", "Moved, Some(Poll)");
+
+const POLLED: &str = "
+    tick              => c001c6001200002c0000ff0600
+    hear c401c6001602 => Moved, Some(Poll)
+    tick              => c001c7001200002c0000ff0600
+    hear c401c7001601 => Moved, Some(Check)
+    returns           => 0
+";
+
+/// A status that no verification has is a return.
+const POLLED_IN_VAIN: &str = "
+    tick              => c001c6001200002c0000ff0600
+    hear c401c6001600 => Moved, Some(Start)
+    returns           => 1
+";
+
+#[test]
+fn a_verification_that_takes_its_time(rt: HostRuntime) -> Result<(), Fail> {
+    let sessions: &[&[&str]] = &[
+        &[TO_START, TO_POLL, POLLED],
+        &[TO_START, TO_POLL, POLLED_IN_VAIN],
+    ];
+    head_sessions(rt.alloc(), 4, sessions)
+}

@@ -1,0 +1,256 @@
+//! The daemon of a head end leads two meters: as a value, and over a port in memory.
+
+use crate::setting::{coming, listed, new_daemon, number_of, push_ended};
+use crate::subject::Subject;
+use fw_rollout::{Counts, Datagram, Deed, HeadWatch, MeterList, Stop, lead_list};
+use std::alloc::Global;
+use std::sync::Wait;
+use std::test::Fail;
+use test_tables::{Kept, Words, each_part, expect_at, present};
+
+#[test]
+fn list_has_each_number_and_each_address_once(rt: HostRuntime) -> Result<(), Fail> {
+    let mut list = Kept(MeterList::none(rt.alloc()));
+    for (number, at, is_new) in [(2, 1, true), (3, 1, false), (2, 3, false), (1, 2, true)] {
+        assert_eq!(rt; list.0.add(listed(number, at)?)?, is_new);
+    }
+    let want = [listed(2, 1)?, listed(1, 2)?];
+    assert_eq!(rt; list.0.meters(), want.as_slice());
+    Ok(())
+}
+
+/// Meter 2 says that its blocks have no bytes, so its row fails. That is put on the device a tenth of a second later.
+const FAILS: &str = "
+    due 0                           => 1 1 c001c0001200002c0000ff0200
+    due 0                           => 2 2 c001c0001200002c0000ff0200
+    due 0                           =>
+    comes 1000 9 c401c0000600000002 => Stranger
+    comes 1000 2 c401c1000600000000 => Nothing
+    save-due 200000                 => no
+    comes 2000 2 c401c0000600000000 => Ended
+    save-due 101999                 => no
+    save-due 102000                 => yes
+    saved                           => 2 Failed;
+    save-due 300000                 => no
+    over                            => no
+";
+
+/// Meter 1 takes the image in two blocks.
+const TAKES: &str = "
+    comes 103000 1 c401c0000600000002 => Moved
+    due 103000                        => 1 1 c101c1001200002c0000ff05000301
+    comes 104000 1 c501c100           => Moved
+    due 104000                        => 1 1 c301c2001200002c0000ff010102020929010000000700000001ba7816bf8f01cfea414140de5dae2223b00361a396177a9cb410ff61f20015ad0600000003
+    comes 105000 1 c701c20000         => Moved
+    due 105000                        => 1 1 c301c3001200002c0000ff02010202060000000009026162 c301c4001200002c0000ff020102020600000001090163
+    comes 106000 1 c701c40000         => Moved
+    due 106000                        =>
+    comes 107000 1 c701c30000         => Moved
+    due 107000                        => 1 1 c001c5001200002c0000ff0400
+    comes 108000 1 c401c5000600000002 => Moved
+";
+
+/// It verifies the image, and runs it then.
+const RUNS: &str = "
+    due 108000 => 1 1 c301c6001200002c0000ff03010f00
+    comes 109000 1 c701c60000 => Moved
+    due 109000 => 1 1 c001c7001200002c0000ff0700
+    comes 110000 1 c401c7000101020306000000030929010000000700000001ba7816bf8f01cfea414140de5dae2223b00361a396177a9cb410ff61f20015ad0920ba7816bf8f01cfea414140de5dae2223b00361a396177a9cb410ff61f20015ad => Moved
+    due 110000 => 1 1 c301c8001200002c0000ff04010f00
+    comes 111000 1 c701c80000 => Moved
+    due 111000 => 1 1 c001c900010100000200ff0200
+    comes 112000 1 c401c9000929010000000700000001ba7816bf8f01cfea414140de5dae2223b00361a396177a9cb410ff61f20015ad => Ended
+";
+
+/// No row is live, so this is put on the device at once, and all is over.
+const IS_OVER: &str = "
+    over            => no
+    save-due 112000 => yes
+    saved           => 1 Done;
+    over            => yes
+    due 60000000    =>
+    counts          => Counts { live: 0, done: 1, failed: 1, sent: 11, received: 12, resends: 0, strangers: 1 }
+";
+
+/// No meter answers. Each is asked again after 0.2 s, and then after a quarter more each time. An answer to what was asked before comes too
+/// late.
+const SILENCES: &str = "
+    due 0                             => 1 1 c001c0001200002c0000ff0200
+    due 0                             => 2 2 c001c0001200002c0000ff0200
+    due 199999                        =>
+    due 200000                        => 1 1 c001c1001200002c0000ff0200
+    due 200000                        => 2 2 c001c1001200002c0000ff0200
+    due 449999                        =>
+    due 450000                        => 1 1 c001c2001200002c0000ff0200
+    due 450000                        => 2 2 c001c2001200002c0000ff0200
+    comes 500000 1 c401c1000600000002 => Nothing
+    counts                            => Counts { live: 2, done: 0, failed: 0, sent: 6, received: 1, resends: 4, strangers: 0 }
+";
+
+/// Meter 1 answers after 0.1 s, and is waited for four times as long then. Meter 2 is silent still.
+const ANSWERS: &str = "
+    comes 550000 1 c401c2000600000002 => Moved
+    due 550000                        => 1 1 c101c3001200002c0000ff05000301
+    due 762499                        =>
+    due 762500                        => 2 2 c001c3001200002c0000ff0200
+    due 949999                        =>
+    due 950000                        => 1 1 c101c4001200002c0000ff05000301
+";
+
+/// One datagram is out at a time. Meter 2 is asked once meter 1 was waited for long enough.
+const ONE_OUT: &str = "
+    due 0                             => 1 1 c001c0001200002c0000ff0200
+    due 0                             =>
+    due 199999                        =>
+    due 200000                        => 2 2 c001c0001200002c0000ff0200
+    due 200000                        =>
+    comes 201000 2 c401c0000600000002 => Moved
+    due 201000                        => 1 1 c001c1001200002c0000ff0200
+    due 201000                        =>
+";
+
+/// Meter 1 isn't ready for an initiate. It is asked again after 5 ms, and then after 10 ms.
+const PAUSES: &str = "
+    comes 550000 2 c401c2000600000000 => Ended
+    comes 550000 1 c401c2000600000002 => Moved
+    due 550000                        => 1 1 c101c3001200002c0000ff05000301
+    comes 551000 1 c501c300           => Moved
+    due 551000                        => 1 1 c301c4001200002c0000ff010102020929010000000700000001ba7816bf8f01cfea414140de5dae2223b00361a396177a9cb410ff61f20015ad0600000003
+    comes 552000 1 c701c40200         => Moved
+    due 556999                        =>
+    due 557000                        => 1 1 c301c5001200002c0000ff010102020929010000000700000001ba7816bf8f01cfea414140de5dae2223b00361a396177a9cb410ff61f20015ad0600000003
+    comes 558000 1 c701c50200         => Moved
+    due 567999                        =>
+    due 568000                        => 1 1 c301c6001200002c0000ff010102020929010000000700000001ba7816bf8f01cfea414140de5dae2223b00361a396177a9cb410ff61f20015ad0600000003
+";
+
+/// A new daemon with this flight takes the steps of these tables.
+fn goes_through(alloc: Global, flight: u64, tables: &[&str]) -> Result<(), Fail> {
+    let mut daemon = Subject(new_daemon(alloc, flight)?.into_inner());
+    each_part(alloc, &mut daemon, tables)
+}
+
+#[test]
+fn daemon_leads_two_meters(rt: HostRuntime) -> Result<(), Fail> {
+    goes_through(rt.alloc(), 64, &[FAILS, TAKES, RUNS, IS_OVER])
+}
+
+#[test]
+fn daemon_waits_longer_after_each_silence(rt: HostRuntime) -> Result<(), Fail> {
+    goes_through(rt.alloc(), 64, &[SILENCES, ANSWERS])
+}
+
+#[test]
+fn daemon_asks_again_after_a_pause(rt: HostRuntime) -> Result<(), Fail> {
+    goes_through(rt.alloc(), 64, &[SILENCES, PAUSES])
+}
+
+#[test]
+fn daemon_lets_out_no_more_than_its_flight(rt: HostRuntime) -> Result<(), Fail> {
+    goes_through(rt.alloc(), 1, &[ONE_OUT])
+}
+
+/// What is done where nothing comes in time, and then what comes in `FAILS`, `TAKES` and `RUNS`: the number of the address that each datagram
+/// goes to or comes from, and the rows that are reported.
+const DEEDS: &str =
+    "to 1, to 2, quiet, from 9, from 2, from 2, from 1, to 1, from 1, to 1, from 1, to 1, to 1, from 1, from 1, to 1, \
+     from 1, to 1, from 1, to 1, from 1, to 1, from 1, to 1, from 1, 2 Failed;1 Done;None";
+
+/// Nothing in time, and then what comes in these tables.
+fn all_coming(alloc: Global, tables: &[&str]) -> Result<Vec<Option<Datagram>>, Fail> {
+    let mut datagrams = Vec::new(alloc);
+    datagrams.push(None)?;
+    for table in tables {
+        for line in table.lines() {
+            push_coming(alloc, &mut datagrams, line)?;
+        }
+    }
+    Ok(datagrams)
+}
+
+/// Appends what comes in a line, if something does.
+fn push_coming(
+    alloc: Global,
+    datagrams: &mut Vec<Option<Datagram>>,
+    line: &str,
+) -> Result<(), Fail> {
+    if let Some(("comes", rest)) = line.trim().split_once(' ') {
+        let (what, _) = present(rest.split_once("=>"), "a row without an arrow")?;
+        let mut words = Words::new(what);
+        let _now = words.number()?;
+        datagrams.push(Some(coming(alloc, words)?))?;
+    }
+    Ok(())
+}
+
+fn push_deed(text: &mut String, deed: &Deed) -> Result<(), Fail> {
+    match deed {
+        Deed::Came(datagram) => write!(text, "from {}, ", number_of(datagram.address))?,
+        Deed::Quiet => text.push_str("quiet, ")?,
+        Deed::Sent(datagram) => write!(text, "to {}, ", number_of(datagram.address))?,
+        Deed::Told(ended) => push_ended(text, ended)?,
+    }
+    Ok(())
+}
+
+/// The deeds and the stop.
+fn deeds_text(alloc: Global, deeds: &[Deed], stop: Option<Stop>) -> Result<String, Fail> {
+    let mut text = String::new(alloc);
+    for deed in deeds {
+        push_deed(&mut text, deed)?;
+    }
+    write!(text, "{stop:?}")?;
+    Ok(text)
+}
+
+/// What was seen last, and how often.
+#[derive(Drop)]
+struct Seen {
+    rounds: u32,
+    done: u64,
+    failed: u64,
+    faults: u64,
+}
+
+impl HeadWatch for Seen {
+    fn round(&mut self, _now: u64, counts: Counts, faults: u64) {
+        self.rounds = self.rounds.saturating_add(1);
+        self.done = counts.done;
+        self.failed = counts.failed;
+        self.faults = faults;
+    }
+}
+
+/// What is done where nothing comes in time, and then what comes in these tables.
+fn led_text<R: Wait>(
+    rt: &R,
+    alloc: Global,
+    tables: &[&str],
+    watch: &mut Seen,
+) -> Result<String, Fail> {
+    let mut daemon = new_daemon(alloc, 64)?;
+    let coming = all_coming(alloc, tables)?;
+    let (deeds, stop) = lead_list(rt, alloc, coming, &mut daemon.0, watch);
+    deeds_text(alloc, &deeds, stop)
+}
+
+#[test]
+fn daemon_leads_two_meters_over_a_port(rt: HostRuntime) -> Result<(), Fail> {
+    let alloc = rt.alloc();
+    let mut watch = Seen {
+        rounds: 0,
+        done: 0,
+        failed: 0,
+        faults: 0,
+    };
+    let text = led_text(&rt, alloc, &[FAILS, TAKES, RUNS], &mut watch)?;
+    expect_at(alloc, "the deeds", text.as_str(), DEEDS)?;
+    let Seen {
+        rounds,
+        done,
+        failed,
+        faults,
+    } = watch;
+    assert_eq!(rt; (rounds, done, failed, faults), (14, 1, 1, 0));
+    Ok(())
+}

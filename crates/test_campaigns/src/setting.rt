@@ -1,0 +1,177 @@
+//! A daemon of a head end in memory, what is done with it, and what comes to it. It is that of head end 7, whose campaign 1 offers `abc` to
+//! meters 1 and 2. APDUs stand in hexadecimal, and their datagrams go between wPorts 1.
+
+ghost use Rattle.std.specs.Prelude.{IfOk, true};
+ghost use Rattle.fw_book.specs.Contents.{Contents};
+ghost use Rattle.fw_journal.specs.Memory.{bytes_of, leaves};
+ghost use Rattle.fw_kept.specs.Head.{Holds};
+ghost use Rattle.fw_rollout.specs.Daemon.{IsLed, Rests};
+ghost use Rattle.fw_rollout.specs.Leading.{Leader};
+
+use crate::book::{head, meter};
+use crate::head::{carried, width};
+use crate::subject::Subject;
+use fw_journal::MemoryDevice;
+use fw_kept::KeptHead;
+use fw_rollout::{Datagram, Due, Ended, HeadDaemon, Listed, MeterList, Timing};
+use std::alloc::Global;
+use std::net::{Ipv4Addr, SocketAddr};
+use std::test::Fail;
+use test_tables::{Kept, Reads, Words};
+
+/// What is done with a daemon, or asked of it. Times are in microseconds:
+///
+/// - `due TIME`: what is sent at this time: the meter, the number of its address, and the APDUs
+/// - `comes TIME ADDRESS APDU`, from the address of this number: what comes of it
+/// - `save-due TIME`: whether the rows that ended are to be put on the device at this time
+/// - `saved`, which puts them there: which they are
+/// - `over`: whether all is over
+/// - `counts`: how far it is
+impl Reads for Subject<HeadDaemon<MemoryDevice>> {
+    fn told(&mut self, alloc: Global, what: &str) -> Result<String, Fail> {
+        let daemon = &mut self.0;
+        let mut words = Words::new(what);
+        match words.word()? {
+            "due" => due_text(alloc, daemon, u64::from(words.number()?)),
+            "comes" => heard_text(alloc, daemon, words),
+            "save-due" => answer_text(alloc, daemon.is_save_due(u64::from(words.number()?))),
+            "saved" => saved_text(alloc, daemon),
+            "over" => answer_text(alloc, daemon.is_over()),
+            "counts" => Ok(format!(in alloc; "{:?}", daemon.counts())?),
+            _ => Err("a daemon takes no such step".into()),
+        }
+    }
+}
+
+fn answer_text(alloc: Global, answer: bool) -> Result<String, Fail> {
+    Ok(String::from_str(alloc, if answer { "yes" } else { "no" })?)
+}
+
+fn due_text(
+    alloc: Global,
+    daemon: &mut HeadDaemon<MemoryDevice>,
+    now: u64,
+) -> Result<String, Fail> {
+    match daemon.due(now)? {
+        Some(due) => sent_text(alloc, &due),
+        None => Ok(String::new(alloc)),
+    }
+}
+
+fn sent_text(alloc: Global, due: &Due) -> Result<String, Fail> {
+    let (meter, at) = (due.meter.number(), number_of(due.to));
+    let mut text = format!(in alloc; "{meter} {at}")?;
+    for datagram in &due.datagrams {
+        push_apdu(alloc, &mut text, datagram)?;
+    }
+    Ok(text)
+}
+
+/// Appends the APDU of a datagram between wPorts 1, whose length is that of the APDU.
+fn push_apdu(alloc: Global, text: &mut String, datagram: &[u8]) -> Result<(), Fail> {
+    let [0, 1, 0, 1, 0, 1, high, low, apdu @ ..] = datagram else {
+        return Err("another wrapper".into());
+    };
+    if usize::from(u16::from_be_bytes([*high, *low])) != apdu.len() {
+        return Err("another length".into());
+    }
+    let digits = hex::encode(alloc, apdu)?;
+    write!(text, " {digits}")?;
+    Ok(())
+}
+
+fn heard_text(
+    alloc: Global,
+    daemon: &mut HeadDaemon<MemoryDevice>,
+    mut words: Words<'_>,
+) -> Result<String, Fail> {
+    let now = u64::from(words.number()?);
+    let Datagram { address, bytes } = coming(alloc, words)?;
+    let heard = daemon.heard(now, address, &bytes)?;
+    Ok(format!(in alloc; "{heard:?}")?)
+}
+
+fn saved_text(alloc: Global, daemon: &mut HeadDaemon<MemoryDevice>) -> Result<String, Fail> {
+    let saved = daemon.saved()?;
+    let mut text = String::new(alloc);
+    for ended in &saved {
+        push_ended(&mut text, ended)?;
+    }
+    Ok(text)
+}
+
+/// Appends a row that ended, with a semicolon after it.
+pub(crate) fn push_ended(text: &mut String, ended: &Ended) -> Result<(), Fail> {
+    let (meter, ending) = (ended.meter.number(), ended.ending);
+    write!(text, "{meter} {ending:?};")?;
+    Ok(())
+}
+
+/// The address of this number.
+pub(crate) fn address(number: u16) -> SocketAddr {
+    SocketAddr::from((Ipv4Addr::LOCALHOST, 40_000 + number % 100))
+}
+
+/// The number of an address.
+pub(crate) fn number_of(address: SocketAddr) -> u16 {
+    address.port() % 100
+}
+
+/// The datagram of `ADDRESS APDU`, which carries the APDU from the address of this number.
+pub(crate) fn coming(alloc: Global, mut words: Words<'_>) -> Result<Datagram, Fail> {
+    Ok(Datagram {
+        address: address(words.read::<u16>()?),
+        bytes: carried(alloc, words.rest())?,
+    })
+}
+
+/// The meter of this number, at the address of that one.
+pub(crate) fn listed(number: u32, at: u16) -> Result<Listed, Fail> {
+    Ok(Listed {
+        meter: meter(number)?,
+        address: address(at),
+    })
+}
+
+/// Meters 1 and 2, at their addresses.
+fn both(alloc: Global) -> Result<Kept<MeterList>, Fail> {
+    let mut list = Kept(MeterList::none(alloc));
+    for (number, at) in [(1, 1), (2, 2)] {
+        let _is_new = list.0.add(listed(number, at)?)?;
+    }
+    Ok(list)
+}
+
+/// Head end 7 without a campaign.
+pub(crate) fn new_head(alloc: Global) -> Result<KeptHead<MemoryDevice>, Fail>
+    ensures { IfOk result (λ head. (synced : Contents) × Holds (λ _. true) bytes_of leaves head synced) }
+{
+    let (number, width) = (head(7)?, width()?);
+    let device = MemoryDevice::new(alloc, Vec::new(alloc))?;
+    match KeptHead::create(alloc, number, width, device) {
+        Ok(head) => Ok(head),
+        Err(_refusal) => Err("no book was made".into()),
+    }
+}
+
+/// The same with its campaign.
+fn leading_head(alloc: Global) -> Result<KeptHead<MemoryDevice>, Fail>
+    ensures { IfOk result (λ head. (synced : Contents) × Holds (λ _. true) bytes_of leaves head synced) }
+{
+    let meters = [meter(1)?, meter(2)?];
+    let mut head = new_head(alloc)?;
+    head.open_campaign(alloc, 1, 0, b"abc", &meters)?;
+    Ok(head)
+}
+
+/// The daemon, which waits for an answer for 0.2 s at first, with this flight.
+pub(crate) fn new_daemon(alloc: Global, flight: u64) -> Result<Kept<HeadDaemon<MemoryDevice>>, Fail>
+    ensures { IfOk result (λ daemon. (start : Leader) × IsLed (λ _. true) bytes_of leaves daemon.0 start × Rests start) }
+{
+    let list = both(alloc)?;
+    let timing = Timing {
+        resend: 200_000,
+        flight,
+    };
+    Ok(Kept(HeadDaemon::new(alloc, leading_head(alloc)?, &list.0, timing)?))
+}

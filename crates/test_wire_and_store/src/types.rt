@@ -1,0 +1,138 @@
+//! Calls of a transfer whose type is its status.
+
+use crate::fresh::new_meter;
+use crate::session::{Trial, bbbb, opened, sight};
+use fw_image::{Idle, MeterView, Phase, Receiving, Refusal};
+use fw_store::MemoryStore;
+use std::alloc::Global;
+use std::test::Fail;
+use test_tables::{Reads, Words, each_line};
+
+/// The transfer of a new meter.
+fn idle(alloc: Global) -> Result<Idle<MemoryStore>, Fail> {
+    match new_meter(alloc, 64, 2, b"abc") {
+        Some(Phase::Idle(transfer)) => Ok(transfer),
+        _ => Err("it isn't new".into()),
+    }
+}
+
+/// What a call leads to. A refusal is an error.
+fn done<T: Drop, B: Drop>(answer: Result<T, (Refusal, B)>) -> Result<T, Fail> {
+    match answer {
+        Ok(next) => Ok(next),
+        Err((refusal, _back)) => Err(refusal.into()),
+    }
+}
+
+fn enabled(alloc: Global) -> Result<Idle<MemoryStore>, Fail> {
+    done(idle(alloc)?.set_enabled(true))
+}
+
+/// It receives an image of four bytes.
+fn begun(alloc: Global) -> Result<Receiving<MemoryStore>, Fail> {
+    let name = bbbb()?;
+    done(enabled(alloc)?.initiate(name, 4))
+}
+
+/// It receives the same image anew.
+fn begun_again(alloc: Global) -> Result<Receiving<MemoryStore>, Fail> {
+    let name = bbbb()?;
+    done(with_block(alloc)?.initiate(name, 4))
+}
+
+/// It has block 0.
+fn with_block(alloc: Global) -> Result<Receiving<MemoryStore>, Fail> {
+    done(begun(alloc)?.block(0, b"bb"))
+}
+
+/// A transfer whose store fails isn't disabled.
+fn not_disabled(alloc: Global) -> Result<(Refusal, MeterView), Fail> {
+    let mut transfer = enabled(alloc)?;
+    transfer.fuse(0, 0);
+    match transfer.set_enabled(false) {
+        Ok(_next) => Err("the header was written".into()),
+        Err((refusal, back)) => Ok((refusal, back.view())),
+    }
+}
+
+/// An image of this size isn't initiated.
+fn in_vain(transfer: Idle<MemoryStore>, size: u32) -> Result<(Refusal, MeterView), Fail> {
+    match transfer.initiate(bbbb()?, size) {
+        Ok(_next) => Err("it was initiated".into()),
+        Err((refusal, back)) => Ok((refusal, back.view())),
+    }
+}
+
+/// A transfer by what has come of it: the refusal of its last call, if there is one, and what is seen. `not-initiated SIZE` is while it is
+/// disabled, `not-even-then SIZE` once it is enabled, and `opened` has its store opened in the status of that transfer.
+#[derive(Clone, Copy)]
+struct Transfer;
+
+impl Reads for Transfer {
+    fn told(&mut self, alloc: Global, what: &str) -> Result<String, Fail> {
+        let mut words = Words::new(what);
+        let (refusal, view) = match words.word()? {
+            "not-disabled" => not_disabled(alloc)?,
+            "not-initiated" => in_vain(idle(alloc)?, words.number()?)?,
+            "not-even-then" => in_vain(enabled(alloc)?, words.number()?)?,
+            "compared" => return compared_text(alloc, &begun(alloc)?),
+            word => return seen_text(alloc, word),
+        };
+        refused_text(alloc, refusal, &view)
+    }
+}
+
+fn seen_text(alloc: Global, name: &str) -> Result<String, Fail> {
+    let trial = Trial::of(reached(alloc, name)?);
+    trial.sight(alloc)
+}
+
+/// The meter of a transfer whose last call is done.
+fn reached(alloc: Global, name: &str) -> Result<Phase<MemoryStore>, Fail> {
+    match name {
+        "new" => Ok(Phase::Idle(idle(alloc)?)),
+        "enabled" => Ok(Phase::Idle(enabled(alloc)?)),
+        "begun" => Ok(Phase::Receiving(begun(alloc)?)),
+        "with-block" => Ok(Phase::Receiving(with_block(alloc)?)),
+        "begun-again" => Ok(Phase::Receiving(begun_again(alloc)?)),
+        "opened" => opened(with_block(alloc)?.into_store()),
+        _ => Err("no transfer has this name".into()),
+    }
+}
+
+fn refused_text(alloc: Global, refusal: Refusal, view: &MeterView) -> Result<String, Fail> {
+    let seen = sight(alloc, view)?;
+    Ok(format!(in alloc; "{refusal:?}: {seen}")?)
+}
+
+const TRANSFERS: &str = "
+    new             => false, NotInitiated, no goal, marks, runs 3 of 0 0 ba7816bf
+    enabled         => true, NotInitiated, no goal, marks, runs 3 of 0 0 ba7816bf
+    not-disabled    => Fault: true, NotInitiated, no goal, marks, runs 3 of 0 0 ba7816bf
+    not-initiated 4 => Disabled: false, NotInitiated, no goal, marks, runs 3 of 0 0 ba7816bf
+    not-even-then 0 => BadInitiate: true, NotInitiated, no goal, marks, runs 3 of 0 0 ba7816bf
+    begun           => true, Initiated, goal 4 of 2 1 81cc5b17, marks, runs 3 of 0 0 ba7816bf
+    with-block      => true, Initiated, goal 4 of 2 1 81cc5b17, marks 0, runs 3 of 0 0 ba7816bf
+    begun-again     => true, Initiated, goal 4 of 2 1 81cc5b17, marks, runs 3 of 0 0 ba7816bf
+    opened          => true, Initiated, goal 4 of 2 1 81cc5b17, marks 0, runs 3 of 0 0 ba7816bf
+    // whether two transfers that receive the same image are the same, and whether they are once one has a block
+    compared => true false
+";
+
+fn compared_text(alloc: Global, one: &Receiving<MemoryStore>) -> Result<String, Fail> {
+    let before = is_like(one, begun(alloc))?;
+    let after = is_like(one, with_block(alloc))?;
+    Ok(format!(in alloc; "{before} {after}")?)
+}
+
+fn is_like(
+    one: &Receiving<MemoryStore>,
+    other: Result<Receiving<MemoryStore>, Fail>,
+) -> Result<bool, Fail> {
+    Ok(one.same(&other?))
+}
+
+#[test]
+fn by_its_type(rt: HostRuntime) -> Result<(), Fail> {
+    each_line(rt.alloc(), &mut Transfer, TRANSFERS)
+}
