@@ -8,16 +8,15 @@ import hashlib
 import os
 import pathlib
 import re
-import shutil
 import subprocess
 import sys
-import tempfile
 
-ROOT = pathlib.Path(__file__).resolve().parent.parent
-# The crate of the loads: its line of crates.txt, and its sources, with `.txt` after the names that they have in the crate.
-LINE = ROOT / "bench" / "loads" / "crate.txt"
-SOURCES = sorted(ROOT.glob("bench/loads/src/*.rt.txt"))
-PROGRAM = ROOT / "bench" / "out" / "bench_loads_tests"
+BENCH = pathlib.Path(__file__).resolve().parent
+sys.path.insert(0, str(BENCH.parent / "tools"))
+
+from text_crate import TextCrate  # noqa: E402
+
+LOADS = TextCrate(BENCH / "loads")
 TEST = "loads::loads_of_standard_input"
 # What a test that passed prints after its own lines.
 PASSED = "\ntest result: ok\n"
@@ -70,56 +69,9 @@ def load(word, first, second, strings=()):
     return " ".join([word, str(first), str(second), *(s.hex() for s in strings)]) + "\n"
 
 
-def rt(word, folder):
-    """Runs a command of rt in a crate's folder. Where it fails, what it printed is shown, and all ends."""
-    how = {"stdin": subprocess.DEVNULL, "stdout": subprocess.PIPE, "stderr": subprocess.STDOUT}
-    done = subprocess.run(["rt", word], cwd=folder, text=True, **how)
-    if done.returncode != 0:
-        sys.exit(f"{done.stdout}bench: rt {word} of {folder.name} failed")
-
-
-def link(source, to):
-    """Gives a file a second name, or copies it where the disk can't do that."""
-    try:
-        os.link(source, to)
-    except OSError:
-        shutil.copyfile(source, to)
-
-
-def copy_crates(folder):
-    """Copies crates.txt and the crates, each with its library as it was built, and adds the crate of the loads. Gives its place."""
-    for crate in (ROOT / "crates").iterdir():
-        for part in ("src", "specs", "proofs"):
-            if (crate / part).is_dir():
-                shutil.copytree(crate / part, folder / "crates" / crate.name / part)
-        # rt makes such a file anew, and never writes into it.
-        if (crate / "out" / "rlib").is_dir():
-            shutil.copytree(crate / "out" / "rlib", folder / "crates" / crate.name / "out" / "rlib", copy_function=link)
-    loads = folder / "crates" / "bench_loads"
-    (loads / "src").mkdir(parents=True)
-    for source in SOURCES:
-        shutil.copyfile(source, loads / "src" / source.stem)
-    (folder / "crates.txt").write_text((ROOT / "crates.txt").read_text() + LINE.read_text())
-    return loads
-
-
 def build():
-    """Proves and builds the program of the loads, and does those whose counts are known, where that was not done since a source changed.
-
-    The libraries are built in the checkout, where they are kept. The crate of the loads is in a copy, since the gate takes each crate of the
-    checkout.
-    """
-    made_from = [ROOT / "crates.txt", LINE, *SOURCES, *ROOT.glob("crates/*/src/**/*.rt")]
-    if PROGRAM.exists() and PROGRAM.stat().st_mtime > max(source.stat().st_mtime for source in made_from):
-        return
-    for name in LINE.read_text().split(":")[1].split():
-        if (ROOT / "crates" / name).is_dir():
-            rt("lib", ROOT / "crates" / name)
-    with tempfile.TemporaryDirectory() as copy:
-        loads = copy_crates(pathlib.Path(copy))
-        rt("test", loads)
-        PROGRAM.parent.mkdir(exist_ok=True)
-        shutil.copy(loads / "out" / PROGRAM.name, PROGRAM)
+    """Proves and builds the program of the loads, and does those whose counts are known, where that was not done since a source changed."""
+    LOADS.build()
 
 
 # The C library copies and sets by one instruction from some 2,048 bytes on, where the processor has it, and callgrind counts that once a
@@ -130,7 +82,7 @@ COUNTED = "glibc.cpu.x86_rep_movsb_threshold=1073741824:glibc.cpu.x86_rep_stosb_
 def run(line, folder, tool=()):
     """Runs the program on a load in a folder, and gives the lines that it printed and its standard error."""
     env = {**os.environ, "GLIBC_TUNABLES": COUNTED} if tool else None
-    done = subprocess.run([*tool, PROGRAM, TEST], cwd=folder, env=env, input=line.encode(), capture_output=True, check=True)
+    done = subprocess.run([*tool, LOADS.program, TEST], cwd=folder, env=env, input=line.encode(), capture_output=True, check=True)
     return done.stdout.decode().removesuffix(PASSED).splitlines(), done.stderr.decode()
 
 

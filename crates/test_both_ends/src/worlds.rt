@@ -4,4 +4,4 @@ mod script;
 mod telling;
 
 pub use script::{DONE, SMALL, events_of, head, meter, old_setup_of, setup_of};
-pub use telling::{done_rows, head_number, meter_text, numbered, push, push_rows, report};
+pub use telling::{done_rows, meter_text, numbered, push, push_rows, report};

@@ -97,12 +97,31 @@ const THIRTEEN: &str = "
     ask verify => 000100010001000fc301cf001200002c0000ff03010f00
 ";
 
-/// A seventeenth ask has none, until the sixteen are dropped.
+/// A seventeenth ask has none, until the sixteen are dropped. The same of sixteen other asks.
 const SEVENTEENTH: &str = "
-    ask status => AllBusy
-    ask status => AllBusy
-    forget     =>
-    ask status => 000100010001000dc001c0001200002c0000ff0600
+    ask status      => AllBusy
+    ask status      => AllBusy
+    forget          =>
+    ask active-name => 000100010001000dc001c000010100000200ff0200
+    ask active-name => 000100010001000dc001c100010100000200ff0200
+    ask active-name => 000100010001000dc001c200010100000200ff0200
+    ask active-name => 000100010001000dc001c300010100000200ff0200
+    ask active-name => 000100010001000dc001c400010100000200ff0200
+    ask active-name => 000100010001000dc001c500010100000200ff0200
+    ask active-name => 000100010001000dc001c600010100000200ff0200
+    ask active-name => 000100010001000dc001c700010100000200ff0200
+    ask active-name => 000100010001000dc001c800010100000200ff0200
+    ask active-name => 000100010001000dc001c900010100000200ff0200
+    ask active-name => 000100010001000dc001ca00010100000200ff0200
+    ask active-name => 000100010001000dc001cb00010100000200ff0200
+    ask active-name => 000100010001000dc001cc00010100000200ff0200
+    ask active-name => 000100010001000dc001cd00010100000200ff0200
+    ask active-name => 000100010001000dc001ce00010100000200ff0200
+    ask active-name => 000100010001000dc001cf00010100000200ff0200
+    ask active-name => AllBusy
+    forget          =>
+    ask active-name => 000100010001000dc001c000010100000200ff0200
+    ask status      => 000100010001000dc001c1001200002c0000ff0600
 ";
 
 /// Answers come in any order, each to the ask of its id.

@@ -143,6 +143,8 @@ const FAULTS: &str = "
     090261           => Truncated
     0a818061         => Truncated
     0409ff           => Truncated
+    // A tag of no type.
+    07               => UnknownTag
     // Of an element.
     020200           => Truncated
     02020007         => UnknownTag
@@ -169,6 +171,8 @@ const FAULTS: &str = "
     0984ffffffff     => Truncated
     0984ffffffff00   => Truncated
     0a84ffffffff     => Truncated
+    // An element at depth 9.
+    0201020102010201020102010201020100 => TooDeep
 ";
 
 #[test]

@@ -21,6 +21,8 @@ const CLAIMS: &str = "
     01010984ffffffff             => cut short
     01010184ffffffff             => cut short
     020206000000010984ffffffff61 => cut short
+    // no bytes
+                                 => cut short
 ";
 
 /// Reads a Data.

@@ -3,7 +3,7 @@
 ghost use Rattle.std.specs.Prelude.{◌≡◌};
 
 use crate::world::script::{script_of, world_after};
-use crate::worlds::{head, head_number, meter, meter_text, push, push_rows, report};
+use crate::worlds::{head, meter, meter_text, push, push_rows, report};
 use fw_world::{Activation, Actor, Datagram, Event, World};
 use std::alloc::{AllocError, Global};
 use std::test::Fail;
@@ -54,7 +54,7 @@ const DONE: &str = "small: to-blocks; to-verify; to-activate; to-done";
 ///
 /// - `meter NUMBER` and `book NUMBER`, the meter, and the rows of the head end
 /// - `sent`, the first two datagrams: who sent each, to whom, and its bytes in hexadecimal
-/// - `activations`, each meter that switched, the campaign in its image's name, and the image in hexadecimal
+/// - `activations`, each meter that switched, its image's name and the image, both in hexadecimal
 #[derive(Clone, Copy)]
 struct Shown<'a>(&'a World);
 
@@ -120,11 +120,10 @@ fn shown_activations(alloc: Global, world: &World) -> Result<String, Fail> {
 }
 
 fn activation_text(alloc: Global, activation: &Activation) -> Result<String, Fail> {
-    let campaign = activation.name.campaign;
-    let (head, serial) = (head_number(campaign.head()), campaign.serial());
     let meter = activation.meter.number();
+    let name = hex::encode(alloc, activation.name.to_bytes().as_slice())?;
     let bytes = hex::encode(alloc, activation.bytes.as_slice())?;
-    Ok(format!(in alloc; "meter {meter} {head} {serial} {bytes}")?)
+    Ok(format!(in alloc; "meter {meter} {name} {bytes}")?)
 }
 
 /// The first datagram reads image_block_size under the invoke byte c0, and the second answers 2.
@@ -134,7 +133,7 @@ const SHOWN: &str = "
     book 7      => row 7 1 1 done
     book 1      => none
     sent        => head 7 to meter 1 000100010001000dc001c0001200002c0000ff0200; meter 1 to head 7 0001000100010009c401c0000600000002
-    activations => meter 1 7 1 616263
+    activations => meter 1 010000000700000001ba7816bf8f01cfea414140de5dae2223b00361a396177a9cb410ff61f20015ad 616263
 ";
 
 #[test]

@@ -64,7 +64,7 @@ pub fn meter_text(alloc: Global, meter: MeterId, view: &MeterView) -> Result<Str
 }
 
 /// The number of a head end, or 0.
-pub fn head_number(head: Option<HeadId>) -> u32 {
+fn head_number(head: Option<HeadId>) -> u32 {
     head.map_or(0, |head| head.number())
 }
 
