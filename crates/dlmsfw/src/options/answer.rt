@@ -65,8 +65,6 @@ Exit status:
 const MANUAL: &Manual = &Manual {
     name: "answer",
     about: "Answers datagrams, one a line",
-    long_about: ABOUT,
-    endings: ENDINGS,
     options: &[
         CommandOption {
             name: "block-size",
@@ -97,7 +95,7 @@ const MANUAL: &Manual = &Manual {
 
 /// The parser of the command.
 pub(super) fn command<'a>(alloc: Global) -> Result<Command<'a>, AllocError> {
-    manual::command(alloc, MANUAL)
+    manual::command(alloc, MANUAL, ABOUT, ENDINGS)
 }
 
 /// The command with the options that were given. All except the file have a default.

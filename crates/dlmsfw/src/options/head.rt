@@ -108,8 +108,6 @@ Exit status:
 const MANUAL: &Manual = &Manual {
     name: "head",
     about: "Runs a head end that leads meters over UDP to the images that they are offered",
-    long_about: ABOUT,
-    endings: ENDINGS,
     options: &[
         CommandOption {
             name: "head",
@@ -195,7 +193,7 @@ const MANUAL: &Manual = &Manual {
 
 /// The parser of the command.
 pub(super) fn command<'a>(alloc: Global) -> Result<Command<'a>, AllocError> {
-    manual::command(alloc, MANUAL)
+    manual::command(alloc, MANUAL, ABOUT, ENDINGS)
 }
 
 /// The command with the options that were given. The parser lets only those numbers pass that a head end, a campaign or a width can have, and

@@ -65,8 +65,6 @@ Exit status:
 const MANUAL: &Manual = &Manual {
     name: "live",
     about: "Runs a script with several workers over UDP sockets, and tells how each campaign ended",
-    long_about: ABOUT,
-    endings: ENDINGS,
     options: &[
         CommandOption {
             name: "rounds",
@@ -87,7 +85,7 @@ const MANUAL: &Manual = &Manual {
 
 /// The parser of the command.
 pub(super) fn command<'a>(alloc: Global) -> Result<Command<'a>, AllocError> {
-    manual::command(alloc, MANUAL)
+    manual::command(alloc, MANUAL, ABOUT, ENDINGS)
 }
 
 /// The options that were given. The parser lets none of them lack.

@@ -9,10 +9,6 @@ pub(super) struct Manual {
     pub(super) name: &'static str,
     /// What it does, in a line.
     pub(super) about: &'static str,
-    /// What the long help begins with.
-    pub(super) long_about: &'static str,
-    /// What the long help ends with.
-    pub(super) endings: &'static str,
     pub(super) options: &'static [CommandOption],
 }
 
@@ -54,16 +50,20 @@ pub(super) enum Presence {
     Default(&'static str),
 }
 
-/// The parser of a command.
+/// The parser of a command, whose long help begins and ends with these texts.
+///
+/// The texts are no part of the manual: what is proved of a constant is said for each of its parts, and each time with all its texts.
 pub(super) fn command<'a>(
     alloc: Global,
     manual: &'static Manual,
+    long_about: &'static str,
+    endings: &'static str,
 ) -> Result<Command<'a>, AllocError> {
     let mut command = Command::new(alloc, manual.name)
         .about(manual.about)
-        .long_about(manual.long_about)
+        .long_about(long_about)
         .after_help(STATUSES)
-        .after_long_help(manual.endings);
+        .after_long_help(endings);
     for option in manual.options {
         command = command.arg(argument(alloc, option)?)?;
     }

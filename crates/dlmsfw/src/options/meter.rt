@@ -97,8 +97,6 @@ Exit status:
 const MANUAL: &Manual = &Manual {
     name: "meter",
     about: "Runs a meter that answers datagrams over UDP until it is ended",
-    long_about: ABOUT,
-    endings: ENDINGS,
     options: &[
         CommandOption {
             name: "listen",
@@ -148,7 +146,7 @@ const MANUAL: &Manual = &Manual {
 
 /// The parser of the command.
 pub(super) fn command<'a>(alloc: Global) -> Result<Command<'a>, AllocError> {
-    manual::command(alloc, MANUAL)
+    manual::command(alloc, MANUAL, ABOUT, ENDINGS)
 }
 
 /// The command with the options that were given. The parser lets none of the others lack.

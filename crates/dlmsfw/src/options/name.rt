@@ -43,8 +43,6 @@ Exit status:
 const MANUAL: &Manual = &Manual {
     name: "name",
     about: "Prints the name under which a campaign offers an image",
-    long_about: ABOUT,
-    endings: ENDINGS,
     options: &[
         CommandOption {
             name: "head",
@@ -69,7 +67,7 @@ const MANUAL: &Manual = &Manual {
 
 /// The parser of the command.
 pub(super) fn command<'a>(alloc: Global) -> Result<Command<'a>, AllocError> {
-    manual::command(alloc, MANUAL)
+    manual::command(alloc, MANUAL, ABOUT, ENDINGS)
 }
 
 /// The command with the options that were given. The parser lets only those numbers pass that a head end, a campaign or a release can

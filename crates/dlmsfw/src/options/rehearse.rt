@@ -67,8 +67,6 @@ Exit status:
 const MANUAL: &Manual = &Manual {
     name: "rehearse",
     about: "Rehearses a script with several workers, and tells how each campaign ended",
-    long_about: ABOUT,
-    endings: ENDINGS,
     options: &[
         CommandOption {
             name: "rounds",
@@ -95,7 +93,7 @@ const MANUAL: &Manual = &Manual {
 
 /// The parser of the command.
 pub(super) fn command<'a>(alloc: Global) -> Result<Command<'a>, AllocError> {
-    manual::command(alloc, MANUAL)
+    manual::command(alloc, MANUAL, ABOUT, ENDINGS)
 }
 
 /// The options that were given. The parser lets none of them lack: the fates have a default.

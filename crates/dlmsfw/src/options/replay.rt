@@ -141,8 +141,6 @@ Exit status:
 const MANUAL: &Manual = &Manual {
     name: "replay",
     about: "Replays a script of head ends and meters, and tells how each campaign ended",
-    long_about: ABOUT,
-    endings: ENDINGS,
     options: &[
         CommandOption {
             name: "rounds",
@@ -169,7 +167,7 @@ const MANUAL: &Manual = &Manual {
 
 /// The parser of the command.
 pub(super) fn command<'a>(alloc: Global) -> Result<Command<'a>, AllocError> {
-    manual::command(alloc, MANUAL)
+    manual::command(alloc, MANUAL, ABOUT, ENDINGS)
 }
 
 /// The options that were given. The parser lets neither pass without the other.

@@ -45,8 +45,6 @@ Exit status:
 const MANUAL: &Manual = &Manual {
     name: "status",
     about: "Tells how far the rows of a head end's book are",
-    long_about: ABOUT,
-    endings: ENDINGS,
     options: &[
         CommandOption {
             name: "book",
@@ -65,7 +63,7 @@ const MANUAL: &Manual = &Manual {
 
 /// The parser of the command.
 pub(super) fn command<'a>(alloc: Global) -> Result<Command<'a>, AllocError> {
-    manual::command(alloc, MANUAL)
+    manual::command(alloc, MANUAL, ABOUT, ENDINGS)
 }
 
 /// The command with the options that were given.

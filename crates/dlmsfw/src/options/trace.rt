@@ -45,8 +45,6 @@ Exit status:
 const MANUAL: &Manual = &Manual {
     name: "trace",
     about: "Tells what the datagrams of a capture say",
-    long_about: ABOUT,
-    endings: ENDINGS,
     options: &[CommandOption {
         name: "capture",
         takes: Takes::Argument("CAPTURE"),
@@ -57,7 +55,7 @@ const MANUAL: &Manual = &Manual {
 
 /// The parser of the command.
 pub(super) fn command<'a>(alloc: Global) -> Result<Command<'a>, AllocError> {
-    manual::command(alloc, MANUAL)
+    manual::command(alloc, MANUAL, ABOUT, ENDINGS)
 }
 
 /// The options of the command.
