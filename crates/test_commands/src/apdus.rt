@@ -1,5 +1,6 @@
 //! APDUs in hexadecimal (IEC 62056-5-3), put together by hand: requests to the objects of a meter, and what it replies.
-//! Each request is confirmed and of high priority, with the invoke-id 1. SHA-256 values are those of `sha256sum`.
+//! Each request is confirmed and of high priority, with the invoke-id 1. SHA-256 values are those of `sha256sum`. `runs/run` reads these names
+//! as well.
 
 use std::alloc::Global;
 use std::test::Fail;
@@ -113,33 +114,28 @@ cut-name              = c401c10009290100000007000000014d66bb78778ecaedbc4ea57818
 abc-digest            = c401c1000920 sha-abc
 ";
 
-/// The digits that words stand for, as `digits` has it, with the names of APDUs.
-pub(crate) fn apdu(alloc: Global, words: &str) -> Result<String, Fail> {
-    digits(alloc, APDUS, words)
-}
-
 /// The digits that words stand for, one after the other: names stand for words, and `DD*N` for N times the digits DD. No name has a digit in the
 /// second place.
-pub(crate) fn digits(alloc: Global, names: &str, words: &str) -> Result<String, Fail> {
+pub(crate) fn apdu(alloc: Global, words: &str) -> Result<String, Fail> {
     let mut digits = String::new(alloc);
     for word in words.trim().split(' ') {
-        for word in meant(names, word).split(' ') {
-            push_word(&mut digits, meant(names, word))?;
+        for word in meant(word).split(' ') {
+            push_word(&mut digits, meant(word))?;
         }
     }
     Ok(digits)
 }
 
 /// What a name stands for, or the word itself.
-fn meant<'a>(names: &'a str, word: &'a str) -> &'a str {
+fn meant(word: &str) -> &str {
     match word.as_bytes() {
         [_, b'0'..=b'9', ..] => word,
-        _ => named(names, word).unwrap_or(word),
+        _ => named(APDUS, word).unwrap_or(word),
     }
 }
 
 /// Appends a word, or the digits DD N times for `DD*N`.
-pub(crate) fn push_word(text: &mut String, word: &str) -> Result<(), Fail> {
+fn push_word(text: &mut String, word: &str) -> Result<(), Fail> {
     let (part, times) = word.split_once('*').unwrap_or((word, "1"));
     for _ in 0..times.parse::<u32>()? {
         text.push_str(part)?;

@@ -4,15 +4,13 @@
 #![tactic(auto)]
 
 #[cfg(test)]
-mod answering;
-#[cfg(test)]
 mod apdus;
 #[cfg(test)]
 mod captures;
 #[cfg(test)]
-mod comparing;
+mod commands;
 #[cfg(test)]
-mod ending;
+mod comparing;
 #[cfg(test)]
 mod faults;
 #[cfg(test)]
@@ -20,23 +18,11 @@ mod handling;
 #[cfg(test)]
 mod limits;
 #[cfg(test)]
-mod lines;
-#[cfg(test)]
 mod lists;
 #[cfg(test)]
 mod live;
 #[cfg(test)]
-mod naming;
-#[cfg(test)]
-mod old_files;
-#[cfg(test)]
-mod old_meters;
-#[cfg(test)]
-mod refused_scripts;
-#[cfg(test)]
 mod rehearsals;
-#[cfg(test)]
-mod replaying;
 #[cfg(test)]
 mod restarts;
 #[cfg(test)]
@@ -46,13 +32,9 @@ mod sessions;
 #[cfg(test)]
 mod slices;
 #[cfg(test)]
-mod stored;
-#[cfg(test)]
 mod stores;
 #[cfg(test)]
 mod terminals;
-#[cfg(test)]
-mod tracing;
 #[cfg(test)]
 mod transfer;
 #[cfg(test)]

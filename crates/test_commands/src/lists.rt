@@ -1,13 +1,12 @@
 //! Lists of meters, for a head end at 127.0.0.1:4058.
 
-use crate::replaying::script_of;
 use fw_host::read_list;
 use std::alloc::Global;
 use std::net::{Net, SocketAddr};
 use std::test::Fail;
 use test_tables::{Reads, each_line};
 
-/// Reads a list, whose bytes are as `script_of` has them: its meters, each with its address, or the fault.
+/// Reads a list, in which a slash stands between lines: its meters, each with its address, or the fault.
 #[derive(Drop)]
 struct Lists<'a, N: Net> {
     net: &'a N,
@@ -15,7 +14,7 @@ struct Lists<'a, N: Net> {
 
 impl<N: Net> Reads for Lists<'_, N> {
     fn told(&mut self, alloc: Global, what: &str) -> Result<String, Fail> {
-        let text = script_of(alloc, what)?;
+        let text = what.replace(alloc, "/", "\n")?;
         let own = "127.0.0.1:4058".parse::<SocketAddr>()?;
         let list = match read_list(self.net, alloc, text.as_bytes(), own) {
             Ok(list) => list,

@@ -1,4 +1,4 @@
-//! Whole sessions with a new meter: what is said to it in turn, and what it replies.
+//! Whole sessions with a new meter: what is said to it in turn, and what it replies. `runs/run` reads them as well.
 
 use std::alloc::{AllocError, Global};
 

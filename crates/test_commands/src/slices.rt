@@ -1,8 +1,6 @@
 //! Verification in slices of 4,096 bytes: the first in the call, and each of the others in a turn of the meter.
 
-use crate::lines::answers;
 use crate::wire::session;
-use fw_cli::AnswerOptions;
 use std::test::Fail;
 
 const PARTS: &str = "\
@@ -230,17 +228,4 @@ get-status => spoilt
 #[test]
 fn turns_in_other_statuses(rt: HostRuntime) -> Result<(), Fail> {
     session(rt.alloc(), PARTS, IDLE_TURNS)
-}
-
-/// An image of 4,097 bytes is sent and verified. `answer` takes no turns, so that it stays in status 2.
-const WITHOUT_TURNS: &str = "enable => set-done; initiate-4097 => done; FIVE_BLOCKS; BEGUN; BEGUN";
-
-#[test]
-fn answer_takes_no_turns(rt: HostRuntime) -> Result<(), Fail> {
-    let options = AnswerOptions {
-        block_size: 1_024,
-        capacity: 8_193,
-        factory: "78",
-    };
-    answers(rt.alloc(), PARTS, WITHOUT_TURNS, &options)
 }

@@ -1,18 +1,16 @@
 //! What commands show on a terminal, which fails: what is written elsewhere stays the same.
 
-use crate::ending::ended;
-use crate::replaying::{no_capture, script_of};
-use fw_cli::{
-    LiveOptions, RehearseOptions, ReplayOptions, Rounds, run_live, run_rehearse, run_replay,
-};
-use fw_faults::Fault;
-use fw_report::{ReportForm, Style};
+use crate::commands::Commands;
 use std::alloc::Global;
 use std::fmt::Display;
 use std::io;
 use std::io::ErrorKind;
+use std::net::Net;
+use std::sync::Wait;
 use std::sync::atomic::{AtomicU64, Ordering};
 use std::test::Fail;
+use std::thread::Threads;
+use test_tables::each_line;
 
 /// A terminal that gets some texts, in order. Each write fails.
 #[derive(Drop)]
@@ -25,35 +23,13 @@ pub(crate) struct Terminal {
     others: AtomicU64,
 }
 
-/// No terminal.
-pub(crate) const NO_TERMINAL: Option<&'static Terminal> = None;
-
 impl Terminal {
-    /// A terminal that is to get these texts.
-    fn of(alloc: Global, wanted: &'static [&'static str]) -> Terminal {
-        Terminal {
-            alloc,
-            wanted,
-            came: AtomicU64::new(0),
-            others: AtomicU64::new(0),
-        }
-    }
-
     /// Whether this text is to come as the one of this number.
     fn wants<D: Display + Drop>(&self, at: u64, value: D) -> bool {
         match (value.to_string(self.alloc), self.wanted.get(at as usize)) {
             (Ok(found), Some(wanted)) => found.as_str() == *wanted,
             _ => false,
         }
-    }
-
-    /// What was written, and the fault, if there is one; then how many texts came, and how many of them are other ones.
-    fn told(&self, written: Vec<u8>, outcome: Result<(), Fault>) -> Result<String, Fail> {
-        let mut text = ended(self.alloc, written, outcome)?;
-        let came = self.came.load(Ordering::SeqCst);
-        let others = self.others.load(Ordering::SeqCst);
-        text.push_str(format!(in self.alloc; "{came} texts, {others} others")?.as_str())?;
-        Ok(text)
     }
 }
 
@@ -71,27 +47,49 @@ impl Eprint for Terminal {
     }
 }
 
-/// What there is to report once all four rows are done, without the board's count.
-const REPORT: &str = "\
-row 7 1 1 done
-row 7 1 2 done
-row 7 1 3 done
-row 7 1 4 done
-meter 1 status 6 active 7 1 size 3
-meter 2 status 6 active 7 1 size 3
-meter 3 status 6 active 7 1 size 3
-meter 4 status 6 active 7 1 size 3
-activations 4
-";
+/// A command tells what stands in its row, and shows these texts.
+fn shows<T: Threads + Wait + Net + Sync>(
+    rt: &T,
+    alloc: Global,
+    row: &str,
+    wanted: &'static [&'static str],
+) -> Result<(), Fail> {
+    let terminal = Terminal {
+        alloc,
+        wanted,
+        came: AtomicU64::new(0),
+        others: AtomicU64::new(0),
+    };
+    let shown = Some(&terminal);
+    let mut commands = Commands {
+        rt,
+        terminal: shown,
+    };
+    each_line(alloc, &mut commands, row)?;
+    let came = terminal.came.load(Ordering::SeqCst);
+    let others = terminal.others.load(Ordering::SeqCst);
+    if came == wanted.len() as u64 && others == 0 {
+        Ok(())
+    } else {
+        Err("the terminal got other texts".into())
+    }
+}
 
 const CLEARED: &str = "\r                                                            \r";
+
+const REHEARSAL: &str = "\
+over 400 rehearse 10 1 d | four => row 7 1 1 done/row 7 1 2 done/row 7 1 3 done/row 7 1 4 done/\
+meter 1 status 6 active 7 1 size 3/meter 2 status 6 active 7 1 size 3/meter 3 status 6 active 7 1 size 3/\
+meter 4 status 6 active 7 1 size 3/activations 4/board 4/
+";
 
 /// One worker makes ten rounds in which all comes. In each of the ninth the row of its link is done.
 #[test]
 fn terminal_of_a_rehearsal(rt: HostRuntime) -> Result<(), Fail> {
-    let alloc = rt.alloc();
-    let terminal = Terminal::of(
-        alloc,
+    shows(
+        &rt,
+        rt.alloc(),
+        REHEARSAL,
         &[
             "\r0 of 4 rows done",
             "\r1 of 4 rows done",
@@ -100,68 +98,34 @@ fn terminal_of_a_rehearsal(rt: HostRuntime) -> Result<(), Fail> {
             "\r4 of 4 rows done",
             CLEARED,
         ],
-    );
-    let options = RehearseOptions {
-        rounds: Rounds {
-            rounds: 10,
-            fates: "d",
-        },
-        workers: 1,
-        trace: false,
-    };
-    let mut written = Vec::new(alloc);
-    let script = script_of(alloc, "four /")?;
-    let reader = &mut script.as_bytes();
-    let result = run_rehearse(
-        &rt,
-        alloc,
-        reader,
-        &mut written,
-        &mut no_capture(),
-        Some(&terminal),
-        &options,
-    );
-    let told = terminal.told(written, result)?;
-    assert_eq!(rt;
-        told.strip_prefix(REPORT),
-        Some("board 4\n6 texts, 0 others")
-    );
-    Ok(())
+    )
 }
 
-/// In one round no row is done.
+const LIVE: &str = "\
+over 400 live 1 2 | four => row 7 1 1 live/row 7 1 2 live/row 7 1 3 live/row 7 1 4 live/\
+meter 1 status 0 active 0 0 size 1/meter 2 status 0 active 0 0 size 1/meter 3 status 0 active 0 0 size 1/\
+meter 4 status 0 active 0 0 size 1/activations 0/board 0/
+";
+
+/// In one round the block size is asked for, and no row is done.
 #[test]
 fn terminal_of_a_live_rollout(rt: HostRuntime) -> Result<(), Fail> {
-    let alloc = rt.alloc();
-    let terminal = Terminal::of(alloc, &["\r0 of 4 rows done", CLEARED]);
-    let options = LiveOptions {
-        rounds: 1,
-        workers: 2,
-        trace: false,
-    };
-    let mut written = Vec::new(alloc);
-    let script = script_of(alloc, "four /")?;
-    let reader = &mut script.as_bytes();
-    let result = run_live(
-        &rt,
-        alloc,
-        reader,
-        &mut written,
-        &mut no_capture(),
-        Some(&terminal),
-        &options,
-    );
-    let told = terminal.told(written, result)?;
-    assert!(rt; told.ends_with("\nboard 0\n2 texts, 0 others"));
-    Ok(())
+    shows(&rt, rt.alloc(), LIVE, &["\r0 of 4 rows done", CLEARED])
 }
+
+const REPLAY: &str = "\
+over 400 replay 10 d | four => row 7 1 1 done/row 7 1 2 done/row 7 1 3 done/row 7 1 4 done/\
+meter 1 status 6 active 7 1 size 3/meter 2 status 6 active 7 1 size 3/meter 3 status 6 active 7 1 size 3/\
+meter 4 status 6 active 7 1 size 3/activations 4/
+";
 
 /// Ten rounds in which all comes. In the ninth all rows are done.
 #[test]
 fn terminal_of_a_replay(rt: HostRuntime) -> Result<(), Fail> {
-    let alloc = rt.alloc();
-    let terminal = Terminal::of(
-        alloc,
+    shows(
+        &rt,
+        rt.alloc(),
+        REPLAY,
         &[
             "\rround 1 of 10, 0 of 4 rows done",
             "\rround 2 of 10, 0 of 4 rows done",
@@ -175,32 +139,5 @@ fn terminal_of_a_replay(rt: HostRuntime) -> Result<(), Fail> {
             "\rround 10 of 10, 4 of 4 rows done",
             CLEARED,
         ],
-    );
-    let options = ReplayOptions {
-        rounds: Some(Rounds {
-            rounds: 10,
-            fates: "d",
-        }),
-        style: Style {
-            trace: false,
-            report: ReportForm::Lines,
-        },
-    };
-    let mut written = Vec::new(alloc);
-    let script = script_of(alloc, "four /")?;
-    let reader = &mut script.as_bytes();
-    let result = match run_replay(
-        alloc,
-        reader,
-        &mut written,
-        &mut no_capture(),
-        Some(&terminal),
-        &options,
-    ) {
-        Ok(_ended) => Ok(()),
-        Err(fault) => Err(fault),
-    };
-    let told = terminal.told(written, result)?;
-    assert_eq!(rt; told.strip_prefix(REPORT), Some("11 texts, 0 others"));
-    Ok(())
+    )
 }
