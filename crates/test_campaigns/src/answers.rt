@@ -29,7 +29,7 @@ const BLOCKS: &str = "
     ask blocks                                 => 000100010001000dc001c3001200002c0000ff0300
     // those of 16,384 blocks, the most; and a byte of them is missing
     hear-most 0001000100010808c401c30004824008 => Stranger
-    hear-most 0001000100010808c401c30004824000 => 16384 bits, 2048 bytes, true
+    hear-most 0001000100010808c401c30004824000 => (16384, true)
 ";
 
 const STATUS: &str = "
@@ -40,11 +40,6 @@ const STATUS: &str = "
     ask status                        => 000100010001000dc001c1001200002c0000ff0600
     hear 0001000100010006c401c10016ff => Status(255)
 ";
-
-#[test]
-fn values(rt: HostRuntime) -> Result<(), Fail> {
-    steps(rt.alloc(), &[&[NUMBERS], &[BLOCKS], &[STATUS]])
-}
 
 /// Arrays of one image, and others.
 const INFOS: &str = "
@@ -99,11 +94,6 @@ const NAMES: &str = "
     answer 4294967295 active-name 000100010001002fc401c0000929010000000700000001ba7816bf8f01cfea414140de5dae2223b00361a396177a9cb410ff61f20015ad => active 4294967295 010000000700000001ba7816bf8f01cfea414140de5dae2223b00361a396177a9cb410ff61f20015ad
 ";
 
-#[test]
-fn names(rt: HostRuntime) -> Result<(), Fail> {
-    steps(rt.alloc(), &[&[INFOS, NAMES]])
-}
-
 /// A GET that is answered by a code, also by 0, which says nothing of a value.
 const CODES: &str = "
     ask active-name                 => 000100010001000dc001c000010100000200ff0200
@@ -137,6 +127,14 @@ const CHANGED: &str = "
 ";
 
 #[test]
-fn codes(rt: HostRuntime) -> Result<(), Fail> {
-    steps(rt.alloc(), &[&[CODES], &[CHANGED]])
+fn what_is_heard(rt: HostRuntime) -> Result<(), Fail> {
+    let sessions: &[&[&str]] = &[
+        &[NUMBERS],
+        &[BLOCKS],
+        &[STATUS],
+        &[INFOS, NAMES],
+        &[CODES],
+        &[CHANGED],
+    ];
+    steps(rt.alloc(), sessions)
 }

@@ -35,7 +35,7 @@ const INITIATE: &str = "
 
 /// A block of 1,024 bytes: a header of 8, an APDU of 1,048, and a length of three bytes before the block.
 const LARGEST: &str = "
-    largest 7 => 1056 0001000100010418c301c0001200002c0000ff020102020600000007098204005a 5a
+    largest 7 => 0001000100010418c301c0001200002c0000ff020102020600000007098204005a (1056, 90)
 ";
 
 #[test]

@@ -1,9 +1,12 @@
 //! Calls of a book of head end 7 one after another, by numbers.
 
+use crate::openings::{named_text, sized_text};
+use crate::views::{meter_text, offer_text, rows_text};
 use fw_book::{Book, BookError};
 use fw_client::{ActiveClaim, Ask, Client, Heard};
 use fw_names::{CampaignId, HeadId, MeterId};
 use std::alloc::Global;
+use std::fmt::Display;
 use std::test::Fail;
 use test_tables::{Kept, Reads, Words, present};
 
@@ -11,6 +14,11 @@ use test_tables::{Kept, Reads, Words, present};
 ///
 /// - `last CALLS`, of which none but the last one is refused: `done`, or its refusal, which leaves the book as it was
 /// - `bytes CALLS`, of which none is refused: the bytes of the book after them
+/// - `rows CALLS`: the head end, and then each row in order: its campaign's serial number, its meter's number and its state
+/// - `offer HEAD SERIAL CALLS`: the image of a campaign, its release, and the name under which it is offered
+/// - `meter SERIAL METER CALLS`, in a campaign of head end 7: the state of the meter there; the same of the campaign if there is one, whether the
+///   meter is live in it, and whether any is; and whether the meter is live in any campaign
+/// - `sized SIZE METERS ROUND` and `named RELEASE HEAD SERIAL`, as `crate::openings` has them
 #[derive(Clone, Copy)]
 pub(crate) struct Calls;
 
@@ -18,20 +26,31 @@ impl Reads for Calls {
     fn told(&mut self, alloc: Global, what: &str) -> Result<String, Fail> {
         let mut words = Words::new(what);
         match words.word()? {
-            "last" => last_text(alloc, words.rest()),
-            "bytes" => written_text(alloc, words.rest()),
+            "last" => {
+                let calls = words.rest();
+                let (before, last) = calls.rsplit_once(';').unwrap_or(("", calls));
+                last_text(alloc, &mut after(alloc, before)?.0, last)
+            }
+            "bytes" => bytes_of(alloc, &after(alloc, words.rest())?.0),
+            "rows" => rows_text(alloc, &after(alloc, words.rest())?.0),
+            "offer" => {
+                let [head, serial]: [u32; 2] = words.read()?;
+                let campaign = campaign(head, serial)?;
+                offer_text(alloc, &after(alloc, words.rest())?.0, campaign)
+            }
+            "meter" => {
+                let [serial, number]: [u32; 2] = words.read()?;
+                let (campaign, meter) = (campaign(7, serial)?, meter(number)?);
+                meter_text(alloc, &after(alloc, words.rest())?.0, campaign, meter)
+            }
+            "sized" => sized_text(alloc, &mut fresh(alloc)?.0, words.read()?),
+            "named" => named_text(alloc, &mut fresh(alloc)?.0, words.read()?),
             _ => Err("a book has nothing of this name".into()),
         }
     }
 }
 
-fn last_text(alloc: Global, calls: &str) -> Result<String, Fail> {
-    let (before, last) = calls.rsplit_once(';').unwrap_or(("", calls));
-    let mut book = after(alloc, before)?;
-    tried_text(alloc, &mut book.0, last)
-}
-
-fn tried_text(alloc: Global, book: &mut Book, call: &str) -> Result<String, Fail> {
+fn last_text(alloc: Global, book: &mut Book, call: &str) -> Result<String, Fail> {
     let before = bytes_of(alloc, book)?;
     let Some(refusal) = refusal(alloc, book, call)? else {
         return Ok(String::from_str(alloc, "done")?);
@@ -43,9 +62,15 @@ fn tried_text(alloc: Global, book: &mut Book, call: &str) -> Result<String, Fail
     }
 }
 
-fn written_text(alloc: Global, calls: &str) -> Result<String, Fail> {
-    let book = after(alloc, calls)?;
-    bytes_of(alloc, &book.0)
+/// `done`, or what a call was refused for.
+pub(crate) fn answer_text<T, E: Display>(
+    alloc: Global,
+    answer: &Result<T, E>,
+) -> Result<String, Fail> {
+    Ok(match answer {
+        Ok(_) => String::from_str(alloc, "done")?,
+        Err(refusal) => format!(in alloc; "{refusal}")?,
+    })
 }
 
 /// The answer, to a client's first ask, of a meter that runs `abc` of campaign (7, 1).

@@ -4,22 +4,22 @@ ghost use Rattle.std.specs.Prelude.{IsTrue};
 ghost use Rattle.fw_client.specs.Ask.{Fits};
 ghost use Rattle.fw_client.specs.View.{ask_of};
 
-use crate::book::meter;
+use crate::book::{campaign, meter};
 use crate::subject::Subject;
 use fw_client::{Ask, Client, Heard};
 use fw_names::{CampaignId, HeadId, ImageName, name_of};
 use std::alloc::Global;
 use std::test::Fail;
-use test_tables::{Reads, Words, each_part, present};
+use test_tables::{Reads, Words, each_part};
 
 /// A step of a client:
 ///
 /// - `ask ASK`: the datagram, or the refusal
-/// - `largest NUMBER`, an ask for the block of this number to be stored, with 1,024 bytes 5a: the size of the datagram, its first 33 bytes, and
-///   the last
+/// - `largest NUMBER`, an ask for the block of this number to be stored, with 1,024 bytes 5a: the first 33 bytes of the datagram, its size, and
+///   its last byte
 /// - `hear DATAGRAM`: what is heard
-/// - `hear-most BEGIN`, a datagram that begins so, and has 2,048 bytes 5a after that: how many bits are heard, in how many bytes, and whether
-///   each of these is 5a
+/// - `hear-most BEGIN`, a datagram that begins so, and has 2,048 bytes 5a after that: the same, and of so many bits how many there are, and
+///   whether they are in these bytes
 /// - `forget`, which drops what is outstanding
 /// - `meter`: the number of the meter whose client it is
 /// - `answer METER ASK DATAGRAM`, for which a new client of this meter asks, and hears a datagram: what is heard
@@ -30,8 +30,8 @@ impl Reads for Subject<Client> {
         match words.word()? {
             "ask" => asked(alloc, client, words.rest()),
             "largest" => largest(alloc, client, words.number()?),
-            "hear" => heard(alloc, client, words.rest()),
-            "hear-most" => most(alloc, client, words.rest()),
+            "hear" => heard(alloc, client, words.rest(), &[]),
+            "hear-most" => heard(alloc, client, words.rest(), &[0x5a; 2048]),
             "forget" => {
                 client.forget();
                 Ok(String::new(alloc))
@@ -56,7 +56,11 @@ fn ask<'a>(what: &'a str) -> Option<Ask<'a>> {
         "active-name" => Ask::ActiveName,
         "enable" => Ask::Enable,
         "initiate" => Ask::Initiate {
-            name: abc_in(1, number(&mut words)?)?,
+            name: name_of(
+                CampaignId::new(HeadId::new(7)?, 1)?,
+                number(&mut words)?,
+                b"abc",
+            ),
             size: number(&mut words)?,
         },
         "block" => Ask::Block {
@@ -83,21 +87,15 @@ fn fits(ask: &Ask<'_>) -> bool
     }
 }
 
+/// The datagram of an ask, or the refusal.
 fn asked(alloc: Global, client: &mut Client, what: &str) -> Result<String, Fail> {
     match ask(what) {
-        Some(ask) if fits(&ask) => told_of(alloc, client, &ask),
+        Some(ask) if fits(&ask) => match client.ask(alloc, &ask) {
+            Ok(datagram) => Ok(hex::encode(alloc, datagram.as_slice())?),
+            Err(refusal) => Ok(refusal.to_string(alloc)?),
+        },
         _ => Err("no ask has this name, or too long a block".into()),
     }
-}
-
-/// The datagram of an ask, or the refusal.
-fn told_of(alloc: Global, client: &mut Client, ask: &Ask<'_>) -> Result<String, Fail>
-    requires { Fits (ask_of ask.now) }
-{
-    Ok(match client.ask(alloc, ask) {
-        Ok(datagram) => hex::encode(alloc, datagram.as_slice())?,
-        Err(refusal) => refusal.to_string(alloc)?,
-    })
 }
 
 fn largest(alloc: Global, client: &mut Client, number: u32) -> Result<String, Fail> {
@@ -106,49 +104,29 @@ fn largest(alloc: Global, client: &mut Client, number: u32) -> Result<String, Fa
     let bytes = datagram.as_slice();
     let front = hex::encode(alloc, bytes.get(..33).unwrap_or(&[]))?;
     let last = bytes.last().copied().unwrap_or(0);
-    Ok(format!(in alloc; "{} {front} {last:02x}", bytes.len())?)
+    Ok(format!(in alloc; "{front} {:?}", (bytes.len(), last))?)
 }
 
-fn heard(alloc: Global, client: &mut Client, datagram: &str) -> Result<String, Fail> {
-    let heard = client.hear(alloc, &hex::decode(alloc, datagram)?)?;
-    heard_text(alloc, &heard)
-}
-
-fn most(alloc: Global, client: &mut Client, begin: &str) -> Result<String, Fail> {
+/// What is heard of a datagram with this tail.
+fn heard(alloc: Global, client: &mut Client, begin: &str, tail: &[u8]) -> Result<String, Fail> {
     let mut datagram = hex::decode(alloc, begin)?;
-    datagram.extend_from_slice(&[0x5a; 2048])?;
-    Ok(match client.hear(alloc, &datagram)? {
-        Heard::BitSet(bits) => {
-            let bytes = bits.as_bytes();
-            let all = bytes.iter().all(|byte| *byte == 0x5a);
-            format!(in alloc; "{} bits, {} bytes, {all}", bits.len(), bytes.len())?
-        }
-        other => heard_text(alloc, &other)?,
-    })
+    datagram.extend_from_slice(tail)?;
+    heard_text(alloc, &client.hear(alloc, &datagram)?)
 }
 
 fn answered(alloc: Global, mut words: Words<'_>) -> Result<String, Fail> {
     let (number, what): (u32, &str) = words.read()?;
     let mut client = Client::new(meter(number)?);
     let _asked = asked(alloc, &mut client, what)?;
-    heard(alloc, &mut client, words.rest())
+    heard(alloc, &mut client, words.rest(), &[])
 }
 
-/// The name of `abc` in campaign 1 of head end 7, of this release.
-pub(crate) fn abc_name(release: u32) -> Result<ImageName, Fail> {
-    abc_name_in(1, release)
+/// The name of `abc` in the campaign of head end 7 with this serial number, of this release.
+pub(crate) fn abc_name(serial: u32, release: u32) -> Result<ImageName, Fail> {
+    Ok(name_of(campaign(7, serial)?, release, b"abc"))
 }
 
-/// The same in the campaign of this serial number.
-pub(crate) fn abc_name_in(serial: u32, release: u32) -> Result<ImageName, Fail> {
-    present(abc_in(serial, release), "a serial number begins at 1")
-}
-
-fn abc_in(serial: u32, release: u32) -> Option<ImageName> {
-    Some(name_of(CampaignId::new(HeadId::new(7)?, serial)?, release, b"abc"))
-}
-
-/// What is heard, as `Debug` gives it, except names, which are spelled.
+/// What is heard, as `Debug` gives it, except names, which are spelled, and the most bits.
 fn heard_text(alloc: Global, heard: &Heard) -> Result<String, Fail> {
     Ok(match heard {
         Heard::Active(claim) => {
@@ -158,6 +136,12 @@ fn heard_text(alloc: Global, heard: &Heard) -> Result<String, Fail> {
         Heard::Info(Some(name)) => {
             let name = hex::encode(alloc, name.to_bytes().as_slice())?;
             format!(in alloc; "info {name}")?
+        }
+        Heard::BitSet(bits) if bits.len() == 16_384 => {
+            format!(in alloc;
+                "{:?}",
+                (bits.len(), bits.as_bytes() == [0x5au8; 2048].as_slice())
+            )?
         }
         other => format!(in alloc; "{other:?}")?,
     })

@@ -1,10 +1,10 @@
 //! How rows end, and what is left of a campaign.
 
 use crate::book::Calls;
-use crate::views::After;
 use std::test::Fail;
-use test_tables::{each_line, each_table};
+use test_tables::each_part;
 
+/// What is no row, and what ended, is refused.
 const REFUSED: &str = "
     last cancel 7 1                                 => NoSuchCampaign
     last fail 7 1 1                                 => NoSuchCampaign
@@ -19,11 +19,6 @@ const REFUSED: &str = "
     last open 7 1 0 abc 1 2; cancel 7 1; cancel 7 1 => NotLive
     last open 7 1 0 abc 1 2; cancel 7 1; fail 7 1 2 => NotLive
 ";
-
-#[test]
-fn ends_are_refused_in_order(rt: HostRuntime) -> Result<(), Fail> {
-    each_line(rt.alloc(), &mut Calls, REFUSED)
-}
 
 /// A claim of `abc` in campaign (7, 1) marks its row done once, under its release. What it claims is judged after whether there is
 /// such a row, and before whether that is live.
@@ -57,24 +52,16 @@ const MARKED: &str = "
     bytes open 7 1 5 abc 1; done-release 7 1 1 => 465742320000000700000001000000050000000361626300010000000101
 ";
 
-#[test]
-fn a_claim_marks_its_row_done_once(rt: HostRuntime) -> Result<(), Fail> {
-    let alloc = rt.alloc();
-    each_table(alloc, &[(Calls, CLAIMED), (Calls, MARKED)])
-}
-
-const CALLS: &str = "open 7 1 0 abc 1 2; fail 7 1 2; cancel 7 1; open 7 2 0 abd 2";
-
-/// The states of a campaign's meter after these calls.
+/// Meter 1 of the first campaign was cancelled, and meter 2 failed before. That is live in the second campaign, and there is no third one.
 const STATES: &str = "
-    state 1 1 => Some(Cancelled)
-    state 1 2 => Some(Failed)
-    state 2 2 => Some(Live)
-    state 2 1 => None
-    state 3 1 => None
+    meter 1 1 open 7 1 0 abc 1 2; fail 7 1 2; cancel 7 1; open 7 2 0 abd 2 => (Some(Cancelled), Some((Some(Cancelled), false, false)), false)
+    meter 1 2 open 7 1 0 abc 1 2; fail 7 1 2; cancel 7 1; open 7 2 0 abd 2 => (Some(Failed), Some((Some(Failed), false, false)), true)
+    meter 2 2 open 7 1 0 abc 1 2; fail 7 1 2; cancel 7 1; open 7 2 0 abd 2 => (Some(Live), Some((Some(Live), true, true)), true)
+    meter 2 1 open 7 1 0 abc 1 2; fail 7 1 2; cancel 7 1; open 7 2 0 abd 2 => (None, Some((None, false, true)), false)
+    meter 3 1 open 7 1 0 abc 1 2; fail 7 1 2; cancel 7 1; open 7 2 0 abd 2 => (None, None, false)
 ";
 
 #[test]
-fn states_of_rows(rt: HostRuntime) -> Result<(), Fail> {
-    each_line(rt.alloc(), &mut After(CALLS), STATES)
+fn rows_end_once(rt: HostRuntime) -> Result<(), Fail> {
+    each_part(rt.alloc(), &mut Calls, &[REFUSED, CLAIMED, MARKED, STATES])
 }

@@ -1,13 +1,12 @@
 //! What a head end is made to do, step by step. It is head end 7, and works on meter 1. APDUs stand in hexadecimal, and each is
 //! carried from and to wPort 1.
 
-use crate::book::{head, meter};
+use crate::book::{answer_text, head, meter};
 use crate::subject::Subject;
 use fw_blocks::Width;
 use fw_head::{HeadCore, News, Phase};
-use fw_names::{CampaignId, MeterId};
 use fw_wrapper::split;
-use std::alloc::{AllocError, Global};
+use std::alloc::Global;
 use std::test::Fail;
 use test_tables::{Reads, Words, each_part, present};
 
@@ -18,7 +17,7 @@ use test_tables::{Reads, Words, each_part, present};
 /// - `hear APDU`, of meter 1: the news, and the phase of the row, if it is live
 /// - `restart`
 /// - `cancel SERIAL`
-/// - `returns`: how often the row of meter 1 returned to `Start`
+/// - `row`: the phase of the row of meter 1, if it is live, and how often it returned to `Start`
 /// - `waits`: whether an ask of meter 1 is outstanding
 impl Reads for Subject<HeadCore> {
     fn told(&mut self, alloc: Global, what: &str) -> Result<String, Fail> {
@@ -27,13 +26,22 @@ impl Reads for Subject<HeadCore> {
         match words.word()? {
             "open" => open(alloc, head, words),
             "tick" => apdus_text(alloc, &head.tick(alloc, meter(1)?)?),
-            "hear" => hear(alloc, head, words.rest()),
+            "hear" => {
+                let news = head.hear(alloc, meter(1)?, &carried(alloc, words.rest())?)?;
+                heard_text(alloc, head, news)
+            }
             "restart" => {
                 head.restart();
                 Ok(String::new(alloc))
             }
-            "cancel" => cancel(alloc, head, words.number()?),
-            "returns" => returns(alloc, head),
+            "cancel" => {
+                let serial = words.number()?;
+                if serial == 0 {
+                    return Err("a serial number begins at 1".into());
+                }
+                answer_text(alloc, &head.cancel(serial))
+            }
+            "row" => Ok(format!(in alloc; "{:?}", live(head)?)?),
             "waits" => Ok(format!(in alloc; "{}", head.is_waiting(meter(1)?))?),
             _ => Err("a head end takes no such step".into()),
         }
@@ -68,32 +76,20 @@ fn open(alloc: Global, head: &mut HeadCore, mut words: Words<'_>) -> Result<Stri
     Ok(hex::encode(alloc, name.to_bytes().as_slice())?)
 }
 
-fn cancel(alloc: Global, head: &mut HeadCore, serial: u32) -> Result<String, Fail> {
-    if serial == 0 {
-        return Err("a serial number begins at 1".into());
-    }
-    head.cancel(serial)?;
-    Ok(String::from_str(alloc, "done")?)
-}
-
 /// The APDUs in datagrams, with a space between two of them.
 pub(crate) fn apdus_text(alloc: Global, datagrams: &[Vec<u8>]) -> Result<String, Fail> {
     let mut text = String::new(alloc);
     for datagram in datagrams {
-        if !text.is_empty() {
-            text.push_str(" ")?;
+        let frame = split(datagram)?;
+        if (frame.source, frame.dest) != (1, 1) {
+            return Err("another wPort".into());
         }
-        text.push_str(apdu_text(alloc, datagram)?.as_str())?;
+        if !text.is_empty() {
+            text.push(' ')?;
+        }
+        text.push_str(hex::encode(alloc, frame.apdu)?.as_str())?;
     }
     Ok(text)
-}
-
-fn apdu_text(alloc: Global, datagram: &[u8]) -> Result<String, Fail> {
-    let frame = split(datagram)?;
-    if (frame.source, frame.dest) != (1, 1) {
-        return Err("another wPort".into());
-    }
-    Ok(hex::encode(alloc, frame.apdu)?)
 }
 
 /// The datagram that carries an APDU between wPorts 1.
@@ -102,56 +98,23 @@ pub(crate) fn carried(alloc: Global, apdu: &str) -> Result<Vec<u8>, Fail> {
     Ok(hex::decode(alloc, text.as_str())?)
 }
 
-fn hear(alloc: Global, head: &mut HeadCore, apdu: &str) -> Result<String, Fail> {
-    let datagram = carried(alloc, apdu)?;
-    let told = head.hear(alloc, meter(1)?, &datagram)?;
-    heard_text(alloc, head, told)
-}
-
 /// The news, and the phase of the row of meter 1 afterwards.
-pub(crate) fn heard_text(alloc: Global, head: &HeadCore, told: News) -> Result<String, Fail> {
+pub(crate) fn heard_text(alloc: Global, head: &HeadCore, news: News) -> Result<String, Fail> {
     let phase = match live(head)? {
         Some((phase, _)) => Some(phase),
         None => None,
     };
-    Ok(news_text(alloc, told, phase)?)
-}
-
-/// The news, with the numbers of the head end, the campaign and the meter, and the phase.
-fn news_text(alloc: Global, news: News, phase: Option<Phase>) -> Result<String, AllocError> {
-    match news {
-        News::Nothing => format!(in alloc; "Nothing, {phase:?}"),
-        News::Moved => format!(in alloc; "Moved, {phase:?}"),
-        News::Done(campaign, meter) => {
-            let (head, serial, meter) = numbers(campaign, meter);
-            format!(in alloc; "Done {head} {serial} {meter}, {phase:?}")
-        }
-        News::Failed(campaign, meter) => {
-            let (head, serial, meter) = numbers(campaign, meter);
-            format!(in alloc; "Failed {head} {serial} {meter}, {phase:?}")
-        }
-    }
-}
-
-fn numbers(campaign: CampaignId, meter: MeterId) -> (u32, u32, u32) {
-    let head = match campaign.head() {
-        Some(head) => head.number(),
-        None => 0,
-    };
-    (head, campaign.serial(), meter.number())
+    Ok(format!(in alloc; "{news:?}, {phase:?}")?)
 }
 
 /// The phase of the row of meter 1, if it is live, and how often it returned to `Start`.
 fn live(head: &HeadCore) -> Result<Option<(Phase, u8)>, Fail> {
     let meter = meter(1)?;
-    let mut view = head.view();
-    let row = view.rows.find(|row| row.meter() == meter);
-    Ok(row.map(|row| (row.phase(), row.returns())))
-}
-
-fn returns(alloc: Global, head: &HeadCore) -> Result<String, Fail> {
-    let Some((_, returns)) = live(head)? else {
-        return Err("the row ended".into());
-    };
-    Ok(format!(in alloc; "{returns}")?)
+    let view = head.view();
+    for row in view.rows {
+        if row.meter() == meter {
+            return Ok(Some((row.phase(), row.returns())));
+        }
+    }
+    Ok(None)
 }

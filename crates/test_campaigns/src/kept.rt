@@ -1,10 +1,12 @@
 //! Kept books: what is kept, what a power cut leaves, and what is refused.
 
-use crate::book::{RELEASE_ANSWER, bytes_of, campaign, claim, head, image, meter, meters};
-use crate::readings::Journals;
+use crate::book::{
+    RELEASE_ANSWER, answer_text, bytes_of, campaign, claim, head, image, meter, meters,
+};
+use crate::readings::records_text;
 use crate::subject::Subject;
-use fw_journal::{Disk, Journal, MemoryDevice, MemoryReplacer, RewriteError};
-use fw_kept::{KeptBook, KeptError};
+use fw_journal::{Disk, MemoryDevice, MemoryReplacer};
+use fw_kept::KeptBook;
 use std::alloc::Global;
 use std::test::Fail;
 use test_tables::{Reads, Words, each_line};
@@ -17,41 +19,32 @@ use test_tables::{Reads, Words, each_line};
 /// - `cancel SERIAL`, `commit` and `compact`
 /// - `memory`: the book in memory
 /// - `left`: the book that a power cut leaves
-/// - `records`: the records that a power cut leaves, each with a bar after it
+/// - `records`: how many bytes there are up to the end of the records that a power cut leaves, and these
 impl Reads for Subject<KeptBook<MemoryDevice>> {
     fn told(&mut self, alloc: Global, what: &str) -> Result<String, Fail> {
         let book = &mut self.0;
         let mut words = Words::new(what);
         match words.word()? {
             "open" => opened_text(alloc, book, words),
-            "done" => done_text(alloc, book, words),
-            "fail" => failed_text(alloc, book, words),
-            "cancel" => answer_text(alloc, book.cancel(alloc, campaign(7, words.number()?)?)),
-            "commit" => answer_text(alloc, book.commit()),
-            "compact" => compact_text(alloc, book.compact(alloc, &mut MemoryReplacer)),
+            "done" => {
+                let [serial, number]: [u32; 2] = words.read()?;
+                let claim = claim(alloc, number, RELEASE_ANSWER)?;
+                answer_text(alloc, &book.mark_done(alloc, campaign(7, serial)?, claim))
+            }
+            "fail" => {
+                let [serial, number]: [u32; 2] = words.read()?;
+                let (campaign, meter) = (campaign(7, serial)?, meter(number)?);
+                answer_text(alloc, &book.mark_failed(alloc, campaign, meter))
+            }
+            "cancel" => answer_text(alloc, &book.cancel(alloc, campaign(7, words.number()?)?)),
+            "commit" => answer_text(alloc, &book.commit()),
+            "compact" => answer_text(alloc, &book.compact(alloc, &mut MemoryReplacer)),
             "memory" => named_text(alloc, bytes_of(alloc, book.book())?.as_str()),
             "left" => left_text(alloc, book.device().disk().synced()),
             "records" => records_text(alloc, book.device().disk().synced()),
             _ => Err("no call of a kept book has this name".into()),
         }
     }
-}
-
-pub(crate) fn answer_text(alloc: Global, answer: Result<(), KeptError>) -> Result<String, Fail> {
-    Ok(match answer {
-        Ok(()) => String::from_str(alloc, "done")?,
-        Err(refusal) => refusal.to_string(alloc)?,
-    })
-}
-
-pub(crate) fn compact_text(
-    alloc: Global,
-    answer: Result<(), RewriteError>,
-) -> Result<String, Fail> {
-    Ok(match answer {
-        Ok(()) => String::from_str(alloc, "done")?,
-        Err(refusal) => refusal.to_string(alloc)?,
-    })
 }
 
 fn opened_text(
@@ -62,64 +55,27 @@ fn opened_text(
     let (serial, release, word): (u32, u32, &str) = words.read()?;
     let (campaign, image) = (campaign(7, serial)?, image(word));
     let meters = meters(alloc, words.rest())?;
-    match book.open_campaign(alloc, campaign, release, image, &meters) {
-        Ok(_) => answer_text(alloc, Ok(())),
-        Err(refusal) => answer_text(alloc, Err(refusal)),
-    }
-}
-
-fn done_text(
-    alloc: Global,
-    book: &mut KeptBook<MemoryDevice>,
-    mut words: Words<'_>,
-) -> Result<String, Fail> {
-    let [serial, number]: [u32; 2] = words.read()?;
-    let campaign = campaign(7, serial)?;
-    let claim = claim(alloc, number, RELEASE_ANSWER)?;
-    answer_text(alloc, book.mark_done(alloc, campaign, claim))
-}
-
-fn failed_text(
-    alloc: Global,
-    book: &mut KeptBook<MemoryDevice>,
-    mut words: Words<'_>,
-) -> Result<String, Fail> {
-    let [serial, number]: [u32; 2] = words.read()?;
-    let (campaign, meter) = (campaign(7, serial)?, meter(number)?);
-    answer_text(alloc, book.mark_failed(alloc, campaign, meter))
+    answer_text(
+        alloc,
+        &book.open_campaign(alloc, campaign, release, image, &meters),
+    )
 }
 
 pub(crate) fn device_of(alloc: Global, bytes: &[u8]) -> Result<MemoryDevice, Fail> {
     Ok(MemoryDevice::new(alloc, bytes.to_vec(alloc)?)?)
 }
 
-/// The bytes of the book of a head end that these bytes hold, or what they are refused for.
-pub(crate) fn read_text(alloc: Global, number: u32, bytes: &[u8]) -> Result<String, Fail> {
-    match KeptBook::open(alloc, head(number)?, device_of(alloc, bytes)?) {
+/// The bytes of the book of head end 7 that these bytes hold, or what they are refused for.
+pub(crate) fn read_text(alloc: Global, bytes: &[u8]) -> Result<String, Fail> {
+    match KeptBook::open(alloc, head(7)?, device_of(alloc, bytes)?) {
         Ok(book) => bytes_of(alloc, book.book()),
         Err((refusal, _)) => Ok(refusal.to_string(alloc)?),
     }
 }
 
-/// The name of the book of head end 7 that these bytes hold, or what they are refused for.
+/// The name of that book, or what the bytes are refused for.
 fn left_text(alloc: Global, bytes: &[u8]) -> Result<String, Fail> {
-    named_text(alloc, read_text(alloc, 7, bytes)?.as_str())
-}
-
-fn records_text(alloc: Global, bytes: &[u8]) -> Result<String, Fail> {
-    match Journal::open(alloc, device_of(alloc, bytes)?) {
-        Ok((_, records)) => joined_text(alloc, &records),
-        Err((refusal, _)) => Err(Fail::from(refusal.to_string(alloc)?)),
-    }
-}
-
-fn joined_text(alloc: Global, records: &[Vec<u8>]) -> Result<String, Fail> {
-    let mut text = String::new(alloc);
-    for record in records {
-        text.push_str(hex::encode(alloc, record.as_slice())?.as_str())?;
-        text.push('|')?;
-    }
-    Ok(text)
+    named_text(alloc, read_text(alloc, bytes)?.as_str())
 }
 
 /// A new book of head end 7 on a device in memory.
@@ -179,7 +135,7 @@ const KEPT: &str = "
     left               => failed
     open 2 0 abc 4     => done
     left               => two
-    records            => 010000000700000001000000050100000003616263000000010000000200000003|0200000007000000010000000202|0200000007000000010000000101|01000000070000000200000000020000000100000004|
+    records            => 235 010000000700000001000000050100000003616263000000010000000200000003 0200000007000000010000000202 0200000007000000010000000101 01000000070000000200000000020000000100000004
     done 2 4           => WrongCampaign
     cancel 1           => done
     left               => cancelled
@@ -191,7 +147,7 @@ const KEPT: &str = "
     compact            => done
     left               => ended
     memory             => ended
-    records            => 010000000700000001000000050100000003616263000000010000000200000003|040000000700000001010200|030000000700000001|01000000070000000200000000020000000100000004|04000000070000000202|0100000007000000030000000001000000017800000003|
+    records            => 335 010000000700000001000000050100000003616263000000010000000200000003 040000000700000001010200 030000000700000001 01000000070000000200000000020000000100000004 04000000070000000202 0100000007000000030000000001000000017800000003
     fail 3 3           => done
     commit             => done
     compact            => done
@@ -203,22 +159,20 @@ fn a_kept_book_outlives_a_cut(rt: HostRuntime) -> Result<(), Fail> {
     each_line(alloc, &mut new_book(alloc)?, KEPT)
 }
 
-/// What comes of a call, where meters 2 and 1 of campaign 1 were marked and wait, and the device fails after this many calls, the last one
-/// torn or not. Then the book in memory, and what is read of the device:
-///
-/// - `open CALLS TORN`, of campaign 2, for meter 4 with image `abc`
-/// - `compact CALLS TORN`
+/// `CALLS TORN BOOK CALL`: what comes of this call, where meters 2 and 1 of campaign 1 were marked and wait, and the device fails after so many
+/// calls, the last one torn or not, and what comes of a commit after it. Then the book in memory, and what is read of the device. A power
+/// cut at any moment leaves the book of campaign 1 without its marks, or `BOOK`.
 #[derive(Clone, Copy)]
 struct Cuts;
 
 impl Reads for Cuts {
     fn told(&mut self, alloc: Global, what: &str) -> Result<String, Fail> {
         let mut words = Words::new(what);
-        let (call, calls, torn): (&str, u64, u8) = words.read()?;
+        let (calls, torn, other): (u64, u8, &str) = words.read()?;
         let mut device = device_with_one(alloc)?;
         device.fuse(calls.saturating_add(3), torn);
         match KeptBook::open(alloc, head(7)?, device) {
-            Ok(book) => cut_text(alloc, &mut Subject(book), call),
+            Ok(book) => cut_text(alloc, &mut Subject(book), words.rest(), other),
             Err((refusal, _)) => Ok(refusal.to_string(alloc)?),
         }
     }
@@ -235,74 +189,40 @@ fn cut_text(
     alloc: Global,
     book: &mut Subject<KeptBook<MemoryDevice>>,
     call: &str,
+    other: &str,
 ) -> Result<String, Fail> {
-    let _failed = book.told(alloc, "fail 1 2")?;
-    let _done = book.told(alloc, "done 1 1")?;
-    match call {
-        "open" => opened_again_text(alloc, book),
-        "compact" => compacted_text(alloc, book),
-        _ => Err("no call that is cut has this name".into()),
+    for mark in ["fail 1 2", "done 1 1"] {
+        let _done = book.told(alloc, mark)?;
     }
-}
-
-/// What comes of an opening, and of a commit after that.
-fn opened_again_text(
-    alloc: Global,
-    book: &mut Subject<KeptBook<MemoryDevice>>,
-) -> Result<String, Fail> {
-    let answer = book.told(alloc, "open 2 0 abc 4")?;
+    let answer = book.told(alloc, call)?;
     let again = book.told(alloc, "commit")?;
-    judge_cuts(alloc, book.0.device())?;
-    answers_text(alloc, &book.0, (answer.as_str(), again.as_str()))
-}
-
-/// What comes of compacting a book, and of a commit after that.
-fn compacted_text(
-    alloc: Global,
-    book: &mut Subject<KeptBook<MemoryDevice>>,
-) -> Result<String, Fail> {
-    let answer = book.told(alloc, "compact")?;
-    judge_compacted(alloc, book.0.device())?;
-    let again = book.told(alloc, "commit")?;
-    answers_text(alloc, &book.0, (answer.as_str(), again.as_str()))
-}
-
-/// Both answers, the book in memory, and the one that its device has.
-fn answers_text(
-    alloc: Global,
-    book: &KeptBook<MemoryDevice>,
-    (answer, again): (&str, &str),
-) -> Result<String, Fail> {
-    let memory = named_text(alloc, bytes_of(alloc, book.book())?.as_str())?;
-    let read = left_text(alloc, book.device().bytes())?;
+    judge_cuts(alloc, book.0.device(), other)?;
+    let memory = book.told(alloc, "memory")?;
+    let read = left_text(alloc, book.0.device().bytes())?;
     Ok(format!(in alloc; "{answer} {again}: {memory} {read}")?)
 }
 
-/// Fails where a power cut at any moment leaves another book than that of one campaign without its marks, or that of both with them.
-fn judge_cuts(alloc: Global, device: &MemoryDevice) -> Result<(), Fail> {
-    judge_disk(alloc, device.disk())?;
+/// Fails where a power cut at any moment leaves another book than that of campaign 1 without its marks, or this one.
+fn judge_cuts(alloc: Global, device: &MemoryDevice, other: &str) -> Result<(), Fail> {
+    judge_disk(alloc, device.disk(), other)?;
     for past in device.past() {
-        judge_disk(alloc, past)?;
+        judge_disk(alloc, past, other)?;
     }
     Ok(())
 }
 
-fn judge_disk(alloc: Global, disk: &Disk) -> Result<(), Fail> {
+/// The same of a kill, and of a cut that leaves some bytes of the first write that waits.
+fn judge_disk(alloc: Global, disk: &Disk, other: &str) -> Result<(), Fail> {
+    judge_one(alloc, disk.bytes(), other)?;
     for byte in [0, 1, 2, 255] {
         for size in [0, 1, 51, 160] {
-            judge_cut(alloc, disk, size, byte)?;
+            let fates = vec![in alloc; vec![in alloc; byte; size]?]?;
+            judge_one(alloc, &disk.cut(alloc, &fates)?, other)?;
         }
     }
     Ok(())
 }
 
-/// The same of a cut that leaves this many bytes of the first write that waits.
-fn judge_cut(alloc: Global, disk: &Disk, size: usize, byte: u8) -> Result<(), Fail> {
-    let fates = vec![in alloc; vec![in alloc; byte; size]?]?;
-    judge_one(alloc, &disk.cut(alloc, &fates)?, "two")
-}
-
-/// Fails where bytes hold another book than that of campaign 1 without its marks, or this one.
 fn judge_one(alloc: Global, left: &[u8], other: &str) -> Result<(), Fail> {
     let told = left_text(alloc, left)?;
     if told.as_str() == "one" || told.as_str() == other {
@@ -312,60 +232,20 @@ fn judge_one(alloc: Global, left: &[u8], other: &str) -> Result<(), Fail> {
     }
 }
 
+/// An opening is there with all marks that waited, or none of it is. A book that is compacted is there as it was, or with these marks.
 const CUTS: &str = "
-    open 0 1 => BookFault BookFault: marked one
-    open 1 1 => BookFault BookFault: marked one
-    open 2 0 => BookFault BookFault: marked one
-    open 2 1 => BookFault BookFault: marked two
-    open 3 1 => BookFault BookFault: marked two
-    open 4 1 => done done: two two
+    0 1 two open 2 0 abc 4 => BookFault BookFault: marked one
+    1 1 two open 2 0 abc 4 => BookFault BookFault: marked one
+    2 0 two open 2 0 abc 4 => BookFault BookFault: marked one
+    2 1 two open 2 0 abc 4 => BookFault BookFault: marked two
+    3 1 two open 2 0 abc 4 => BookFault BookFault: marked two
+    4 1 two open 2 0 abc 4 => done done: two two
+    0 1 marked compact     => NotReplaced BookFault: marked one
+    1 1 marked compact     => BookFault BookFault: marked marked
+    2 1 marked compact     => done done: marked marked
 ";
 
-/// An opening is there with all marks that waited, or none of it is.
 #[test]
-fn a_cut_leaves_an_opening_or_nothing_of_it(rt: HostRuntime) -> Result<(), Fail> {
+fn a_cut_leaves_a_call_or_nothing_of_it(rt: HostRuntime) -> Result<(), Fail> {
     each_line(rt.alloc(), &mut Cuts, CUTS)
-}
-
-/// Fails where a power cut at any moment leaves another book than that of campaign 1, without its marks or with both.
-fn judge_compacted(alloc: Global, device: &MemoryDevice) -> Result<(), Fail> {
-    judge_either(alloc, device.disk())?;
-    for past in device.past() {
-        judge_either(alloc, past)?;
-    }
-    Ok(())
-}
-
-fn judge_either(alloc: Global, disk: &Disk) -> Result<(), Fail> {
-    judge_one(alloc, &disk.cut(alloc, &[])?, "marked")?;
-    judge_one(alloc, disk.bytes(), "marked")
-}
-
-const COMPACTED: &str = "
-    compact 0 1 => NotReplaced BookFault: marked one
-    compact 1 1 => BookFault BookFault: marked marked
-    compact 2 1 => done done: marked marked
-";
-
-/// A book that is compacted is there as it was, or with the marks that waited.
-#[test]
-fn a_cut_leaves_a_compacted_book_as_before_or_after(rt: HostRuntime) -> Result<(), Fail> {
-    each_line(rt.alloc(), &mut Cuts, COMPACTED)
-}
-
-/// Records in a journal: what comes of it where head end 7 opens it.
-const OPENED: &str = "
-    open journal => 4657423200000007
-    open journal 010000000700000001000000050100000003616263000000010000000200000003 => 46574232000000070000000100000005000000036162630003000000010000000002000000000300
-    open journal 010000000800000001000000050100000003616263000000010000000200000003 => ForeignHead
-    open journal 030000000800000001 => ForeignHead
-    open journal 030000000700000001 => BadRecord 0
-    open journal 04 => BadRecord 0
-    open journal 010000000700000001000000050100000003616263000000010000000200000003 030000000800000001 => BadRecord 1
-    open bytes 46574a32 => BadBook 0
-";
-
-#[test]
-fn a_device_is_opened_as_the_book_that_it_holds(rt: HostRuntime) -> Result<(), Fail> {
-    each_line(rt.alloc(), &mut Journals, OPENED)
 }

@@ -1,6 +1,6 @@
-//! Tests of a client of a meter, of the book of campaigns, its records and how it is kept, of the head end, and of the daemons of a meter and of a
-//! head end, through their public calls. Expected bytes are worked out by hand from the standards and the formats, and SHA-256 values are the
-//! published ones or those of `sha256sum`.
+//! Tests of a client of a meter, of the book of campaigns, its records and how it is kept, of the head end, and of the daemon of a head end,
+//! through their public calls. Expected bytes are worked out by hand from the standards and the formats, and SHA-256 values are the published
+//! ones or those of `sha256sum`.
 #![tactic(auto)]
 
 #[cfg(test)]
@@ -22,8 +22,6 @@ mod head;
 #[cfg(test)]
 mod kept;
 #[cfg(test)]
-mod loopback;
-#[cfg(test)]
 mod openings;
 #[cfg(test)]
 mod outlives;
@@ -33,8 +31,6 @@ mod outstanding;
 mod parts;
 #[cfg(test)]
 mod readings;
-#[cfg(test)]
-mod records;
 #[cfg(test)]
 mod reopened;
 #[cfg(test)]

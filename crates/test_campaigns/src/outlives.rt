@@ -1,8 +1,8 @@
 //! A head end whose book outlives a power cut. It is head end 7, and works on meter 1.
 
-use crate::book::{head, meter};
+use crate::book::{answer_text, head, meter};
 use crate::head::{apdus_text, carried, heard_text, width};
-use crate::kept::{answer_text, compact_text, device_of, read_text};
+use crate::kept::{device_of, read_text};
 use crate::setting::new_head;
 use crate::subject::Subject;
 use crate::transfers::TO_CONFIRM;
@@ -24,13 +24,22 @@ impl Reads for Subject<KeptHead<MemoryDevice>> {
         let mut words = Words::new(what);
         match words.word()? {
             "open" => open_text(alloc, head, words),
-            "tick" => tick_text(alloc, head),
-            "hear" => hear_text(alloc, head, words.rest()),
-            "cancel" => cancel_text(alloc, head, words.number()?),
-            "commit" => answer_text(alloc, head.commit()),
+            "tick" => apdus_text(alloc, &head.tick(alloc, meter(1)?)?),
+            "hear" => {
+                let news = head.hear(alloc, meter(1)?, &carried(alloc, words.rest())?)?;
+                heard_text(alloc, head.head(), news)
+            }
+            "cancel" => {
+                let serial = words.number()?;
+                if serial == 0 {
+                    return Err("a serial number begins at 1".into());
+                }
+                answer_text(alloc, &head.cancel(alloc, serial))
+            }
+            "commit" => answer_text(alloc, &head.commit()),
             "take" => taken_text(alloc, head, words.rest()),
-            "compact" => compact_text(alloc, head.compact(alloc, &mut MemoryReplacer)),
-            "left" => read_text(alloc, 7, head.device().disk().synced()),
+            "compact" => answer_text(alloc, &head.compact(alloc, &mut MemoryReplacer)),
+            "left" => read_text(alloc, head.device().disk().synced()),
             "begun" => begun_text(alloc, head.device().disk().synced()),
             _ => Err("a kept head end takes no such step".into()),
         }
@@ -49,30 +58,7 @@ fn open_text(
     let image = words.rest().as_bytes();
     match head.open_campaign(alloc, serial, release, image, &[meter(1)?]) {
         Ok(name) => Ok(hex::encode(alloc, name.to_bytes().as_slice())?),
-        Err(refusal) => answer_text(alloc, Err(refusal)),
-    }
-}
-
-fn tick_text(alloc: Global, head: &mut KeptHead<MemoryDevice>) -> Result<String, Fail> {
-    apdus_text(alloc, &head.tick(alloc, meter(1)?)?)
-}
-
-fn cancel_text(
-    alloc: Global,
-    head: &mut KeptHead<MemoryDevice>,
-    serial: u32,
-) -> Result<String, Fail> {
-    if serial == 0 {
-        return Err("a serial number begins at 1".into());
-    }
-    answer_text(alloc, head.cancel(alloc, serial))
-}
-
-fn hear_text(alloc: Global, head: &mut KeptHead<MemoryDevice>, apdu: &str) -> Result<String, Fail> {
-    let datagram = carried(alloc, apdu)?;
-    match head.hear(alloc, meter(1)?, &datagram) {
-        Ok(told) => heard_text(alloc, head.head(), told),
-        Err(refusal) => answer_text(alloc, Err(refusal)),
+        Err(refusal) => Ok(refusal.to_string(alloc)?),
     }
 }
 
@@ -82,18 +68,16 @@ fn taken_text(
     text: &str,
 ) -> Result<String, Fail> {
     let mut waiting = text.as_bytes().to_vec(alloc)?;
-    match head.commit_and_take(alloc, &mut waiting) {
-        Ok(taken) => {
-            let taken = hex::encode(alloc, taken.as_slice())?;
-            Ok(format!(in alloc; "{taken}, {}", waiting.len())?)
-        }
-        Err(refusal) => answer_text(alloc, Err(refusal)),
-    }
+    let taken = head.commit_and_take(alloc, &mut waiting)?;
+    Ok(format!(in alloc; "{:?}", (taken.as_slice(), waiting.len()))?)
 }
 
 fn begun_text(alloc: Global, bytes: &[u8]) -> Result<String, Fail> {
     match KeptHead::open(alloc, head(7)?, width()?, device_of(alloc, bytes)?) {
-        Ok(head) => tick_text(alloc, &mut Subject(head).0),
+        Ok(head) => {
+            let mut head = Subject(head);
+            apdus_text(alloc, &head.0.tick(alloc, meter(1)?)?)
+        }
         Err((refusal, _)) => Err(Fail::from(refusal.to_string(alloc)?)),
     }
 }
@@ -112,13 +96,13 @@ const COMMITTED: &str = "
 ";
 
 const DONE: &str = "
-    hear c401c9000929010000000700000001ba7816bf8f01cfea414140de5dae2223b00361a396177a9cb410ff61f20015ad => Done 7 1 1, None
+    hear c401c9000929010000000700000001ba7816bf8f01cfea414140de5dae2223b00361a396177a9cb410ff61f20015ad => Done(CampaignId { head: 7, serial: 1 }, MeterId { number: 1 }), None
     tick                                                                                                =>
 ";
 
 /// The same, where `abc` waits for that.
 const TAKEN: &str = "
-    take abc => 616263, 0
+    take abc => ([97, 98, 99], 0)
     left     => 465742320000000700000001000000000000000361626300010000000101
 ";
 
@@ -147,12 +131,7 @@ fn a_kept_head_end_outlives_a_cut(rt: HostRuntime) -> Result<(), Fail> {
     let tables = [
         TO_CONFIRM, WAITING, DONE, WAITING, COMMITTED, CANCELLED, LEFT, COMPACTED, LEFT,
     ];
-    each_part(alloc, &mut Subject(new_head(alloc)?), &tables)
-}
-
-#[test]
-fn what_waits_is_taken_once_marks_are_committed(rt: HostRuntime) -> Result<(), Fail> {
-    let alloc = rt.alloc();
+    each_part(alloc, &mut Subject(new_head(alloc)?), &tables)?;
     let tables = [TO_CONFIRM, DONE, WAITING, TAKEN];
     each_part(alloc, &mut Subject(new_head(alloc)?), &tables)
 }

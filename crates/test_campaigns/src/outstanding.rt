@@ -1,6 +1,7 @@
 //! Which asks are outstanding, and which datagrams are strangers'.
 
 use crate::client::steps;
+use fw_book::BookError;
 use fw_client::{AskError, OutOfMemory};
 use std::test::Fail;
 use test_tables::each_prints;
@@ -32,14 +33,6 @@ const NOT_ASKED: &str = "
     hear 0001000100010006c401c1001603 => Status(3)
 ";
 
-#[test]
-fn each_ask_is_answered_once(rt: HostRuntime) -> Result<(), Fail> {
-    steps(
-        rt.alloc(),
-        &[&[ANSWERED_ONCE], &[ANSWERED_BY_A_CODE], &[NOT_ASKED]],
-    )
-}
-
 /// Datagrams between an ask for the active name and its answer. None of them changes the client.
 const STRANGERS: &str = "
     ask active-name => 000100010001000dc001c000010100000200ff0200
@@ -67,11 +60,6 @@ const STRANGERS: &str = "
     // the answer
     hear 000100010001002fc401c0000929010000000700000001ba7816bf8f01cfea414140de5dae2223b00361a396177a9cb410ff61f20015ad => active 1 010000000700000001ba7816bf8f01cfea414140de5dae2223b00361a396177a9cb410ff61f20015ad
 ";
-
-#[test]
-fn strangers(rt: HostRuntime) -> Result<(), Fail> {
-    steps(rt.alloc(), &[&[STRANGERS]])
-}
 
 /// Three asks have the invoke bytes c0 to c2.
 const THREE: &str = "
@@ -143,22 +131,23 @@ const ONE_LEFT: &str = "
 ";
 
 #[test]
-fn sixteen_asks(rt: HostRuntime) -> Result<(), Fail> {
+fn which_asks_are_outstanding(rt: HostRuntime) -> Result<(), Fail> {
     let sessions: &[&[&str]] = &[
+        &[ANSWERED_ONCE],
+        &[ANSWERED_BY_A_CODE],
+        &[NOT_ASKED],
+        &[STRANGERS],
         &[THREE, THIRTEEN, SEVENTEENTH],
         &[OUT_OF_ORDER, THIRTEEN, ONE_LEFT],
     ];
     steps(rt.alloc(), sessions)
 }
 
+/// The other refusals are printed in tables.
 #[test]
-fn printed_names(rt: HostRuntime) -> Result<(), Fail> {
-    each_prints(
-        rt.alloc(),
-        &[
-            (AskError::AllBusy, "AllBusy"),
-            (AskError::OutOfMemory, "OutOfMemory"),
-        ],
-    )?;
-    each_prints(rt.alloc(), &[(OutOfMemory, "OutOfMemory")])
+fn want_of_memory_is_printed(rt: HostRuntime) -> Result<(), Fail> {
+    let alloc = rt.alloc();
+    each_prints(alloc, &[(AskError::OutOfMemory, "OutOfMemory")])?;
+    each_prints(alloc, &[(OutOfMemory, "OutOfMemory")])?;
+    each_prints(alloc, &[(BookError::OutOfMemory, "OutOfMemory")])
 }

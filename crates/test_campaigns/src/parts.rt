@@ -1,15 +1,15 @@
 //! A head end that is parted, and put together of rows again. It is head end 7, which offers `abc` in campaign (7, 1), at first to
 //! meters 1 to 4.
 
-use crate::book::{head, meter, meters};
-use crate::client::abc_name_in;
+use crate::book::{after, head, meter, meters};
+use crate::client::abc_name;
 use crate::head::{carried, width};
 use crate::subject::Subject;
 use crate::transfers::TO_CONFIRM;
 use fw_head::{HeadCore, HeadParts, RowCore, TakenRows};
 use std::alloc::Global;
 use std::test::Fail;
-use test_tables::{Kept, Reads, Words, each_line, present};
+use test_tables::{Kept, Reads, Words, each_line, each_part, present};
 
 /// What becomes of the last of the four rows, that of meter 4, before they are put back:
 ///
@@ -20,7 +20,10 @@ use test_tables::{Kept, Reads, Words, each_line, present};
 /// - `doubled SERIAL RELEASE METER SIZE`: such a row stands beside it
 /// - `hears APDU`: its meter answers the first ask by this
 ///
-/// Of another head end, `claims N`: the only row, that of meter 1, waits for the name of the image that runs, and hears it N times.
+/// Of another head end, `claims N`: the only row, that of meter 1, waits for the name of the image that runs, and hears it N times. The meter of
+/// its claim comes first then.
+///
+/// Of a head end that begins with a book, `book CALLS`: the book is that after these calls, as `crate::book` has them.
 #[derive(Clone, Copy)]
 struct Parted;
 
@@ -29,33 +32,35 @@ impl Reads for Parted {
         let mut words = Words::new(what);
         match words.word()? {
             "claims" => claimed_text(alloc, words.number()?),
+            "book" => {
+                let book = after(alloc, words.rest())?.into_inner();
+                shown(alloc, Subject(HeadCore::of_book(alloc, book, width()?)?))
+            }
             change => put_text(alloc, change, words),
         }
     }
 }
 
+/// What is shown of the head end after its opening, once its rows are changed and put back.
 fn put_text(alloc: Global, change: &str, words: Words<'_>) -> Result<String, Fail> {
-    let HeadParts { book, width, rows } = opened(alloc)?.into_inner().take_rows();
+    let meters = meters(alloc, "1 2 3 4")?;
+    let mut head = fresh(alloc)?;
+    let _name = head.0.open_campaign(alloc, 1, 0, b"abc", &meters)?;
+    let HeadParts { book, width, rows } = head.into_inner().take_rows();
     let book = Kept(book);
-    let given = changed(alloc, rows, change, words)?;
-    match HeadCore::put_rows(alloc, book.into_inner(), width, given) {
+    let mut rows = all_rows(alloc, rows)?;
+    change_last(alloc, &mut rows, change, words)?;
+    match HeadCore::put_rows(alloc, book.into_inner(), width, rows) {
         Ok(head) => shown(alloc, Subject(head)),
         Err(refused) => Ok(format!(in alloc; "{refused}")?),
     }
 }
 
-/// The rows, of which the last one is changed.
-fn changed(
-    alloc: Global,
-    taken: TakenRows,
-    change: &str,
-    words: Words<'_>,
-) -> Result<Vec<RowCore>, Fail> {
+fn all_rows(alloc: Global, taken: TakenRows) -> Result<Vec<RowCore>, Fail> {
     let mut rows = Vec::new(alloc);
     for row in taken {
         rows.push(row)?;
     }
-    change_last(alloc, &mut rows, change, words)?;
     Ok(rows)
 }
 
@@ -78,64 +83,46 @@ fn change_last(
         "doubled" => rows.push(new_row(words)?)?,
         "hears" => {
             let last = present(rows.last_mut(), "four rows")?;
-            asks_and_hears(alloc, last, words.rest())?;
+            let _asked = last.tick(alloc, b"abc", width()?)?;
+            let _news = last.hear(alloc, &carried(alloc, words.rest())?)?;
         }
         _ => return Err("no change has this name".into()),
     }
     Ok(())
 }
 
-fn asks_and_hears(alloc: Global, row: &mut RowCore, apdu: &str) -> Result<(), Fail> {
-    let _asked = row.tick(alloc, b"abc", width()?)?;
-    let _news = row.hear(alloc, &carried(alloc, apdu)?)?;
-    Ok(())
-}
-
 fn new_row(mut words: Words<'_>) -> Result<RowCore, Fail> {
     let [serial, release, number, size]: [u32; 4] = words.read()?;
-    let name = abc_name_in(serial, release)?;
-    Ok(RowCore::new(meter(number)?, name, size))
+    Ok(RowCore::new(meter(number)?, abc_name(serial, release)?, size))
 }
 
-/// The meters of the claims of rows that each heard the claim this many times, and what is shown of the head end then.
+/// The meter of the claim of a row that heard it this many times, and what is shown of the head end then.
 fn claimed_text(alloc: Global, times: u32) -> Result<String, Fail> {
     let mut head = fresh(alloc)?;
     each_line(alloc, &mut head, TO_CONFIRM)?;
     let HeadParts { book, width, rows } = head.into_inner().take_rows();
     let book = Kept(book);
-    let mut claims = Vec::new(alloc);
-    let given = heard_rows(alloc, rows, times, &mut claims)?;
-    let head = Subject(HeadCore::put_rows(alloc, book.into_inner(), width, given)?);
-    let shown = shown(alloc, head)?;
-    Ok(format!(in alloc; "{:?} {shown}", claims.as_slice())?)
-}
-
-/// The rows after each heard the claim this many times. The meters of their claims go to `claims`.
-fn heard_rows(
-    alloc: Global,
-    taken: TakenRows,
-    times: u32,
-    claims: &mut Vec<Option<u32>>,
-) -> Result<Vec<RowCore>, Fail> {
-    let mut rows = Vec::new(alloc);
-    for row in taken {
-        let mut row = Kept(row);
-        hear_claims(alloc, &mut row.0, times)?;
-        claims.push(row.0.claim().map(|claim| claim.meter().number()))?;
-        rows.push(row.into_inner())?;
-    }
-    Ok(rows)
+    let mut rows = all_rows(alloc, rows)?;
+    let claim = claim_of(alloc, &mut rows, times)?;
+    let head = HeadCore::put_rows(alloc, book.into_inner(), width, rows)?;
+    let shown = shown(alloc, Subject(head))?;
+    Ok(format!(in alloc; "{claim:?} {shown}")?)
 }
 
 /// The answer that the meter runs `abc` of campaign (7, 1).
 const CLAIM: &str =
     "c401c9000929010000000700000001ba7816bf8f01cfea414140de5dae2223b00361a396177a9cb410ff61f20015ad";
 
-fn hear_claims(alloc: Global, row: &mut RowCore, times: u32) -> Result<(), Fail> {
+/// The meter of the claim of the only row, once it heard the answer this many times.
+fn claim_of(alloc: Global, rows: &mut Vec<RowCore>, times: u32) -> Result<Option<u32>, Fail> {
+    let row = present(rows.last_mut(), "a row")?;
     for _ in 0..times {
         let _news = row.hear(alloc, &carried(alloc, CLAIM)?)?;
     }
-    Ok(())
+    Ok(match row.claim() {
+        Some(claim) => Some(claim.meter().number()),
+        None => None,
+    })
 }
 
 /// The head end with no campaign.
@@ -143,16 +130,8 @@ pub(crate) fn fresh(alloc: Global) -> Result<Subject<HeadCore>, Fail> {
     Ok(Subject(HeadCore::new(alloc, head(7)?, width()?)))
 }
 
-/// The head end after its opening.
-fn opened(alloc: Global) -> Result<Subject<HeadCore>, Fail> {
-    let mut head = fresh(alloc)?;
-    let meters = meters(alloc, "1 2 3 4")?;
-    let _name = head.0.open_campaign(alloc, 1, 0, b"abc", &meters)?;
-    Ok(head)
-}
-
 /// The bytes of the book, and each live row with its phase.
-pub(crate) fn shown(alloc: Global, head: Subject<HeadCore>) -> Result<String, Fail> {
+fn shown(alloc: Global, head: Subject<HeadCore>) -> Result<String, Fail> {
     let view = head.0.view();
     let book = hex::encode(alloc, &view.book.write(alloc)?)?;
     let mut rows = Vec::new(alloc);
@@ -182,20 +161,22 @@ const PUT: &str = "
     hears c401c00103         => 465742320000000700000001000000000000000361626300040000000100000000020000000003000000000402 [(1, Size), (2, Size), (3, Size)]
 ";
 
-#[test]
-fn parts_are_put_together(rt: HostRuntime) -> Result<(), Fail> {
-    each_line(rt.alloc(), &mut Parted, PUT)
-}
-
 /// A row that is done, or is not yet.
 const CONFIRMED: &str = "
-    claims 0 => [None] 465742320000000700000001000000000000000361626300010000000100 [(1, Confirm)]
-    claims 1 => [Some(1)] 465742320000000700000001000000000000000361626300010000000101 []
+    claims 0 => None 465742320000000700000001000000000000000361626300010000000100 [(1, Confirm)]
+    claims 1 => Some(1) 465742320000000700000001000000000000000361626300010000000101 []
     // an ended row hears nothing more
-    claims 2 => [Some(1)] 465742320000000700000001000000000000000361626300010000000101 []
+    claims 2 => Some(1) 465742320000000700000001000000000000000361626300010000000101 []
+";
+
+/// Rows that ended stay ended, and each meter that is live has a new row. The first book has no campaign.
+const BEGUN: &str = "
+    book => 4657423200000007 []
+    book open 7 1 0 abc 1 2; fail 7 1 1; open 7 5 0 abd 1 => 465742320000000700000001000000000000000361626300020000000102000000020000000005000000000000000361626400010000000100 [(2, Size), (1, Size)]
+    book open 7 1 0 abc 1 2; fail 7 1 1; cancel 7 1 => 4657423200000007000000010000000000000003616263000200000001020000000203 []
 ";
 
 #[test]
-fn a_row_is_done_in_the_meantime(rt: HostRuntime) -> Result<(), Fail> {
-    each_line(rt.alloc(), &mut Parted, CONFIRMED)
+fn parts_are_put_together(rt: HostRuntime) -> Result<(), Fail> {
+    each_part(rt.alloc(), &mut Parted, &[PUT, CONFIRMED, BEGUN])
 }

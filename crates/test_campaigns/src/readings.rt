@@ -1,22 +1,25 @@
-//! What the bytes of journals are read as: their records, and the book of the head end of the first one.
+//! What bytes are read as: a record of a kept book, a journal with its records, and the book that these make.
 
-use crate::book::bytes_of;
+use crate::book::{bytes_of, head};
 use crate::kept::{device_of, read_text};
-use fw_journal::{Journal, MemoryDevice, read_book};
+use fw_journal::{Journal, read_book};
 use fw_kept::read_kept;
+use fw_ledger::{read_record, read_records};
 use std::alloc::Global;
 use std::test::Fail;
-use test_tables::{Kept, Reads, Words, each_line};
+use test_tables::{Kept, Reads, Words, each_part, named};
 
-/// What is made of `journal RECORD..`, a journal of these records, all committed, or of `bytes BYTES`:
+/// What is made of `journal RECORD..`, a journal of these records, all committed, each in hexadecimal or by its name, or of `bytes BYTES`:
 ///
-/// - `list`: the records and how many bytes there are up to their end, or what the bytes are refused for
-/// - `hold`: the bytes of the book that they hold, or what they are refused for
+/// - `list`: how many bytes there are up to the end of the records, and these, or what the bytes are refused for
+/// - `make`: the bytes of the book of head end 7 that the records make, or what they are refused for
+/// - `hold`: the bytes of the book that a journal holds, or what it is refused for
 /// - `open`: the bytes of the book that head end 7 opens, or what they are refused for
+/// - `record`: the bytes of the record that they are read as, or what they are refused for
 #[derive(Clone, Copy)]
-pub(crate) struct Journals;
+struct Readings;
 
-impl Reads for Journals {
+impl Reads for Readings {
     fn told(&mut self, alloc: Global, what: &str) -> Result<String, Fail> {
         let mut words = Words::new(what);
         let [how, form]: [&str; 2] = words.read()?;
@@ -26,18 +29,24 @@ impl Reads for Journals {
         };
         match how {
             "list" => records_text(alloc, &bytes),
-            "hold" => book_text(alloc, &bytes),
-            "open" => read_text(alloc, 7, &bytes),
-            _ => Err("nothing of this name is made of a journal".into()),
+            "make" => made_text(alloc, &bytes),
+            "hold" => held_text(alloc, &bytes),
+            "open" => read_text(alloc, &bytes),
+            "record" => record_text(alloc, &bytes),
+            _ => Err("nothing of this name is made of bytes".into()),
         }
     }
 }
 
 /// The bytes of a journal of these records, all committed.
 fn journal_bytes(alloc: Global, records: &str) -> Result<Vec<u8>, Fail> {
-    let mut journal = new_journal(alloc)?;
-    for record in records.split(' ') {
-        if !record.is_empty() {
+    let mut journal = match Journal::create(alloc, device_of(alloc, &[])?) {
+        Ok(journal) => Kept(journal),
+        Err((refusal, _)) => return Err(Fail::from(refusal.to_string(alloc)?)),
+    };
+    for word in records.split(' ') {
+        if !word.is_empty() {
+            let record = named(OPENINGS, word).unwrap_or(word);
             journal.0.append(alloc, &hex::decode(alloc, record)?)?;
         }
     }
@@ -45,14 +54,7 @@ fn journal_bytes(alloc: Global, records: &str) -> Result<Vec<u8>, Fail> {
     Ok(journal.0.device().bytes().to_vec(alloc)?)
 }
 
-fn new_journal(alloc: Global) -> Result<Kept<Journal<MemoryDevice>>, Fail> {
-    match Journal::create(alloc, device_of(alloc, &[])?) {
-        Ok(journal) => Ok(Kept(journal)),
-        Err((refusal, _)) => Err(Fail::from(refusal.to_string(alloc)?)),
-    }
-}
-
-fn records_text(alloc: Global, bytes: &[u8]) -> Result<String, Fail> {
+pub(crate) fn records_text(alloc: Global, bytes: &[u8]) -> Result<String, Fail> {
     match read_book(alloc, bytes) {
         Ok((records, end)) => listed_text(alloc, &records, end),
         Err(refusal) => Ok(refusal.to_string(alloc)?),
@@ -68,25 +70,35 @@ fn listed_text(alloc: Global, records: &[Vec<u8>], end: u64) -> Result<String, F
     Ok(text)
 }
 
-const LISTED: &str = "
-    list journal                       => 4
-    list journal 04                    => 42 04
-    list journal 030000000700000001 04 => 88 030000000700000001 04
-    list bytes 46574a310100 => BadBook 4
-";
-
-#[test]
-fn the_bytes_of_a_journal_are_read_as_its_records(rt: HostRuntime) -> Result<(), Fail> {
-    each_line(rt.alloc(), &mut Journals, LISTED)
+fn made_text(alloc: Global, bytes: &[u8]) -> Result<String, Fail> {
+    let (records, _end) = read_book(alloc, bytes)?;
+    match read_records(alloc, head(7)?, &records) {
+        Ok(book) => bytes_of(alloc, &book),
+        Err(refusal) => Ok(refusal.to_string(alloc)?),
+    }
 }
 
-fn book_text(alloc: Global, bytes: &[u8]) -> Result<String, Fail> {
+fn held_text(alloc: Global, bytes: &[u8]) -> Result<String, Fail> {
     match read_kept(alloc, bytes) {
         Ok(Some(book)) => bytes_of(alloc, &book),
         Ok(None) => Ok(String::from_str(alloc, "none")?),
         Err(refusal) => Ok(refusal.to_string(alloc)?),
     }
 }
+
+fn record_text(alloc: Global, bytes: &[u8]) -> Result<String, Fail> {
+    match read_record(alloc, bytes) {
+        Ok(record) => Ok(hex::encode(alloc, &record.to_bytes(alloc)?)?),
+        Err(refusal) => Ok(refusal.to_string(alloc)?),
+    }
+}
+
+const LISTED: &str = "
+    list journal                       => 4
+    list journal 04                    => 42 04
+    list journal 030000000700000001 04 => 88 030000000700000001 04
+    list bytes 46574a310100 => BadBook 4
+";
 
 /// The first record is an opening of campaign 1 of head end 7 or 8, of release 5 and image `abc`, for meters 1 to 3.
 const HELD: &str = "
@@ -99,7 +111,79 @@ const HELD: &str = "
     hold bytes 46574a32 => BadBook 0
 ";
 
+/// Records in a journal: what comes of it where head end 7 opens it.
+const OPENED: &str = "
+    open journal => 4657423200000007
+    open journal 010000000700000001000000050100000003616263000000010000000200000003 => 46574232000000070000000100000005000000036162630003000000010000000002000000000300
+    open journal 010000000800000001000000050100000003616263000000010000000200000003 => ForeignHead
+    open journal 030000000800000001 => ForeignHead
+    open journal 030000000700000001 => BadRecord 0
+    open journal 04 => BadRecord 0
+    open journal 010000000700000001000000050100000003616263000000010000000200000003 030000000800000001 => BadRecord 1
+    open bytes 46574a32 => BadBook 0
+";
+
 #[test]
-fn bytes_are_read_as_the_book_of_their_head_end(rt: HostRuntime) -> Result<(), Fail> {
-    each_line(rt.alloc(), &mut Journals, HELD)
+fn journals_are_read_as_the_book_that_they_hold(rt: HostRuntime) -> Result<(), Fail> {
+    each_part(rt.alloc(), &mut Readings, &[LISTED, HELD, OPENED])
+}
+
+/// An opening with an image and two meters, one with the image of an earlier campaign, both marks, a cancelling and endings.
+const GOOD: &str = "
+    record bytes 0100000007000000030000000501000000036162630000000100000102 => 0100000007000000030000000501000000036162630000000100000102
+    record bytes 010000000700000004000000000200000003ffffffff => 010000000700000004000000000200000003ffffffff
+    record bytes 0200000007000000030000010201 => 0200000007000000030000010201
+    record bytes 0200000007000000030000010202 => 0200000007000000030000010202
+    record bytes 030000000700000003 => 030000000700000003
+    record bytes 040000000700000003010002 => 040000000700000003010002
+";
+
+/// Another kind, head end 0, serial number 0, another source, an image that is cut short, half a meter, another ending, a byte too few, and
+/// one too many. Endings of no row, of rows of which none ended, and of one that ended otherwise.
+const BAD: &str = "
+    record bytes                                          => BadRecord
+    record bytes 050000000700000003                       => BadRecord
+    record bytes 030000000000000003                       => BadRecord
+    record bytes 030000000700000000                       => BadRecord
+    record bytes 010000000700000004000000000300000003     => BadRecord
+    record bytes 0100000007000000030000000501000000046162 => BadRecord
+    record bytes 010000000700000004000000000200000003ffff => BadRecord
+    record bytes 0200000007000000030000010203             => BadRecord
+    record bytes 02000000070000000300000102               => BadRecord
+    record bytes 0300000007000000                         => BadRecord
+    record bytes 03000000070000000300                     => BadRecord
+    record bytes 040000000700000003                       => BadRecord
+    record bytes 0400000007000000030000                   => BadRecord
+    record bytes 0400000007000000030103                   => BadRecord
+";
+
+/// The opening of campaign 1 with the image `abc` and release 5, for meters 1 to 3, and that of campaign 2 with the same image, for meter 4.
+const OPENINGS: &str = "
+    first = 010000000700000001000000050100000003616263000000010000000200000003
+    second = 01000000070000000200000000020000000100000004
+";
+
+const MADE: &str = "
+    make journal => 4657423200000007
+    make journal first => 46574232000000070000000100000005000000036162630003000000010000000002000000000300
+    make journal first second => 4657423200000007000000010000000500000003616263000300000001000000000200000000030000000002000000000000000361626300010000000400
+    make journal first 0200000007000000010000000101 0200000007000000010000000202 => 46574232000000070000000100000005000000036162630003000000010100000002020000000300
+    make journal first 0200000007000000010000000101 030000000700000001 => 46574232000000070000000100000005000000036162630003000000010100000002030000000303
+    make journal first 040000000700000001010200 => 46574232000000070000000100000005000000036162630003000000010100000002020000000300
+    make journal first 0200000007000000010000000202 040000000700000001010000 => 46574232000000070000000100000005000000036162630003000000010100000002020000000300
+    make journal first 0400000007000000010102 => BadRecord 1
+    make journal first 04000000070000000101020000 => BadRecord 1
+    make journal first 0200000007000000010000000202 040000000700000001010100 => BadRecord 2
+    make journal first 040000000700000002010200 => BadRecord 1
+    make journal 040000000700000001010200 => BadRecord 0
+    make journal second => BadRecord 0
+    make journal first first => BadRecord 1
+    make journal first 0200000007000000010000000401 => BadRecord 1
+    make journal first second 0300000007000000 => BadRecord 2
+    make journal 0200000008000000010000000101 => BadRecord 0
+";
+
+#[test]
+fn records_are_read_and_make_a_book(rt: HostRuntime) -> Result<(), Fail> {
+    each_part(rt.alloc(), &mut Readings, &[GOOD, BAD, MADE])
 }

@@ -37,33 +37,21 @@ const ROUNDS: [&str; 4] = [
 ];
 
 const SEVEN: &str = "
-    returns => 7
+    row => Some((Start, 7))
 ";
 
-const EIGHTH: &str = round!("ce", "cf", "c0", "c1", "fa00", "Failed 7 1 1, None");
+const EIGHTH: &str = round!(
+    "ce",
+    "cf",
+    "c0",
+    "c1",
+    "fa00",
+    "Failed(CampaignId { head: 7, serial: 1 }, MeterId { number: 1 }), None"
+);
 
 const NOTHING_MORE: &str = "
     tick =>
 ";
-
-#[test]
-fn the_eighth_return_fails_the_row(rt: HostRuntime) -> Result<(), Fail> {
-    let [first, second, third, fourth] = ROUNDS;
-    let tables: &[&str] = &[
-        TO_START,
-        first,
-        second,
-        third,
-        fourth,
-        first,
-        second,
-        third,
-        SEVEN,
-        EIGHTH,
-        NOTHING_MORE,
-    ];
-    head_sessions(rt.alloc(), 4, &[tables])
-}
 
 /// A verification that takes its time.
 const TO_POLL: &str = round!("c2", "c3", "c4", "c5", "0200", "Moved, Some(Poll)");
@@ -73,19 +61,33 @@ const POLLED: &str = "
     hear c401c6001602 => Moved, Some(Poll)
     tick              => c001c7001200002c0000ff0600
     hear c401c7001601 => Moved, Some(Check)
-    returns           => 0
+    row               => Some((Check, 0))
 ";
 
 /// A status that no verification has is a return.
 const POLLED_IN_VAIN: &str = "
     tick              => c001c6001200002c0000ff0600
     hear c401c6001600 => Moved, Some(Start)
-    returns           => 1
+    row               => Some((Start, 1))
 ";
 
 #[test]
-fn a_verification_that_takes_its_time(rt: HostRuntime) -> Result<(), Fail> {
+fn what_leads_a_row_back(rt: HostRuntime) -> Result<(), Fail> {
+    let [first, second, third, fourth] = ROUNDS;
     let sessions: &[&[&str]] = &[
+        &[
+            TO_START,
+            first,
+            second,
+            third,
+            fourth,
+            first,
+            second,
+            third,
+            SEVEN,
+            EIGHTH,
+            NOTHING_MORE,
+        ],
         &[TO_START, TO_POLL, POLLED],
         &[TO_START, TO_POLL, POLLED_IN_VAIN],
     ];

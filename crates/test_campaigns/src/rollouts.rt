@@ -2,9 +2,12 @@
 
 use crate::setting::{coming, listed, new_daemon, number_of, push_ended};
 use crate::subject::Subject;
-use fw_rollout::{Counts, Datagram, Deed, HeadWatch, MeterList, Stop, lead_list};
+use fw_rollout::{
+    Arrival, Closed, Counts, Datagram, Deed, Ended, HeadPort, HeadWatch, MeterList, Patience, Stop,
+    lead_list, step_head,
+};
 use std::alloc::Global;
-use std::sync::Wait;
+use std::net::SocketAddr;
 use std::test::Fail;
 use test_tables::{Kept, Words, each_part, expect_at, present};
 
@@ -21,8 +24,8 @@ fn list_has_each_number_and_each_address_once(rt: HostRuntime) -> Result<(), Fai
 
 /// Meter 2 says that its blocks have no bytes, so its row fails. That is put on the device a tenth of a second later.
 const FAILS: &str = "
-    due 0                           => 1 1 c001c0001200002c0000ff0200
-    due 0                           => 2 2 c001c0001200002c0000ff0200
+    due 0                           => (1, 1) c001c0001200002c0000ff0200
+    due 0                           => (2, 2) c001c0001200002c0000ff0200
     due 0                           =>
     comes 1000 9 c401c0000600000002 => Stranger
     comes 1000 2 c401c1000600000000 => Nothing
@@ -38,27 +41,27 @@ const FAILS: &str = "
 /// Meter 1 takes the image in two blocks.
 const TAKES: &str = "
     comes 103000 1 c401c0000600000002 => Moved
-    due 103000                        => 1 1 c101c1001200002c0000ff05000301
+    due 103000                        => (1, 1) c101c1001200002c0000ff05000301
     comes 104000 1 c501c100           => Moved
-    due 104000                        => 1 1 c301c2001200002c0000ff010102020929010000000700000001ba7816bf8f01cfea414140de5dae2223b00361a396177a9cb410ff61f20015ad0600000003
+    due 104000                        => (1, 1) c301c2001200002c0000ff010102020929010000000700000001ba7816bf8f01cfea414140de5dae2223b00361a396177a9cb410ff61f20015ad0600000003
     comes 105000 1 c701c20000         => Moved
-    due 105000                        => 1 1 c301c3001200002c0000ff02010202060000000009026162 c301c4001200002c0000ff020102020600000001090163
+    due 105000                        => (1, 1) c301c3001200002c0000ff02010202060000000009026162 c301c4001200002c0000ff020102020600000001090163
     comes 106000 1 c701c40000         => Moved
     due 106000                        =>
     comes 107000 1 c701c30000         => Moved
-    due 107000                        => 1 1 c001c5001200002c0000ff0400
+    due 107000                        => (1, 1) c001c5001200002c0000ff0400
     comes 108000 1 c401c5000600000002 => Moved
 ";
 
 /// It verifies the image, and runs it then.
 const RUNS: &str = "
-    due 108000 => 1 1 c301c6001200002c0000ff03010f00
+    due 108000 => (1, 1) c301c6001200002c0000ff03010f00
     comes 109000 1 c701c60000 => Moved
-    due 109000 => 1 1 c001c7001200002c0000ff0700
+    due 109000 => (1, 1) c001c7001200002c0000ff0700
     comes 110000 1 c401c7000101020306000000030929010000000700000001ba7816bf8f01cfea414140de5dae2223b00361a396177a9cb410ff61f20015ad0920ba7816bf8f01cfea414140de5dae2223b00361a396177a9cb410ff61f20015ad => Moved
-    due 110000 => 1 1 c301c8001200002c0000ff04010f00
+    due 110000 => (1, 1) c301c8001200002c0000ff04010f00
     comes 111000 1 c701c80000 => Moved
-    due 111000 => 1 1 c001c900010100000200ff0200
+    due 111000 => (1, 1) c001c900010100000200ff0200
     comes 112000 1 c401c9000929010000000700000001ba7816bf8f01cfea414140de5dae2223b00361a396177a9cb410ff61f20015ad => Ended
 ";
 
@@ -75,14 +78,14 @@ const IS_OVER: &str = "
 /// No meter answers. Each is asked again after 0.2 s, and then after a quarter more each time. An answer to what was asked before comes too
 /// late.
 const SILENCES: &str = "
-    due 0                             => 1 1 c001c0001200002c0000ff0200
-    due 0                             => 2 2 c001c0001200002c0000ff0200
+    due 0                             => (1, 1) c001c0001200002c0000ff0200
+    due 0                             => (2, 2) c001c0001200002c0000ff0200
     due 199999                        =>
-    due 200000                        => 1 1 c001c1001200002c0000ff0200
-    due 200000                        => 2 2 c001c1001200002c0000ff0200
+    due 200000                        => (1, 1) c001c1001200002c0000ff0200
+    due 200000                        => (2, 2) c001c1001200002c0000ff0200
     due 449999                        =>
-    due 450000                        => 1 1 c001c2001200002c0000ff0200
-    due 450000                        => 2 2 c001c2001200002c0000ff0200
+    due 450000                        => (1, 1) c001c2001200002c0000ff0200
+    due 450000                        => (2, 2) c001c2001200002c0000ff0200
     comes 500000 1 c401c1000600000002 => Nothing
     counts                            => Counts { live: 2, done: 0, failed: 0, sent: 6, received: 1, resends: 4, strangers: 0 }
 ";
@@ -90,22 +93,22 @@ const SILENCES: &str = "
 /// Meter 1 answers after 0.1 s, and is waited for four times as long then. Meter 2 is silent still.
 const ANSWERS: &str = "
     comes 550000 1 c401c2000600000002 => Moved
-    due 550000                        => 1 1 c101c3001200002c0000ff05000301
+    due 550000                        => (1, 1) c101c3001200002c0000ff05000301
     due 762499                        =>
-    due 762500                        => 2 2 c001c3001200002c0000ff0200
+    due 762500                        => (2, 2) c001c3001200002c0000ff0200
     due 949999                        =>
-    due 950000                        => 1 1 c101c4001200002c0000ff05000301
+    due 950000                        => (1, 1) c101c4001200002c0000ff05000301
 ";
 
 /// One datagram is out at a time. Meter 2 is asked once meter 1 was waited for long enough.
 const ONE_OUT: &str = "
-    due 0                             => 1 1 c001c0001200002c0000ff0200
+    due 0                             => (1, 1) c001c0001200002c0000ff0200
     due 0                             =>
     due 199999                        =>
-    due 200000                        => 2 2 c001c0001200002c0000ff0200
+    due 200000                        => (2, 2) c001c0001200002c0000ff0200
     due 200000                        =>
     comes 201000 2 c401c0000600000002 => Moved
-    due 201000                        => 1 1 c001c1001200002c0000ff0200
+    due 201000                        => (1, 1) c001c1001200002c0000ff0200
     due 201000                        =>
 ";
 
@@ -113,41 +116,79 @@ const ONE_OUT: &str = "
 const PAUSES: &str = "
     comes 550000 2 c401c2000600000000 => Ended
     comes 550000 1 c401c2000600000002 => Moved
-    due 550000                        => 1 1 c101c3001200002c0000ff05000301
+    due 550000                        => (1, 1) c101c3001200002c0000ff05000301
     comes 551000 1 c501c300           => Moved
-    due 551000                        => 1 1 c301c4001200002c0000ff010102020929010000000700000001ba7816bf8f01cfea414140de5dae2223b00361a396177a9cb410ff61f20015ad0600000003
+    due 551000                        => (1, 1) c301c4001200002c0000ff010102020929010000000700000001ba7816bf8f01cfea414140de5dae2223b00361a396177a9cb410ff61f20015ad0600000003
     comes 552000 1 c701c40200         => Moved
     due 556999                        =>
-    due 557000                        => 1 1 c301c5001200002c0000ff010102020929010000000700000001ba7816bf8f01cfea414140de5dae2223b00361a396177a9cb410ff61f20015ad0600000003
+    due 557000                        => (1, 1) c301c5001200002c0000ff010102020929010000000700000001ba7816bf8f01cfea414140de5dae2223b00361a396177a9cb410ff61f20015ad0600000003
     comes 558000 1 c701c50200         => Moved
     due 567999                        =>
-    due 568000                        => 1 1 c301c6001200002c0000ff010102020929010000000700000001ba7816bf8f01cfea414140de5dae2223b00361a396177a9cb410ff61f20015ad0600000003
+    due 568000                        => (1, 1) c301c6001200002c0000ff010102020929010000000700000001ba7816bf8f01cfea414140de5dae2223b00361a396177a9cb410ff61f20015ad0600000003
 ";
-
-/// A new daemon with this flight takes the steps of these tables.
-fn goes_through(alloc: Global, flight: u64, tables: &[&str]) -> Result<(), Fail> {
-    let mut daemon = Subject(new_daemon(alloc, flight)?.into_inner());
-    each_part(alloc, &mut daemon, tables)
-}
 
 #[test]
 fn daemon_leads_two_meters(rt: HostRuntime) -> Result<(), Fail> {
-    goes_through(rt.alloc(), 64, &[FAILS, TAKES, RUNS, IS_OVER])
+    let alloc = rt.alloc();
+    // Each with the most datagrams that may be out.
+    let sessions: &[(u64, &[&str])] = &[
+        (64, &[FAILS, TAKES, RUNS, IS_OVER]),
+        (64, &[SILENCES, ANSWERS]),
+        (64, &[SILENCES, PAUSES]),
+        (1, &[ONE_OUT]),
+    ];
+    for (flight, tables) in sessions {
+        let mut daemon = Subject(new_daemon(alloc, *flight)?.into_inner());
+        each_part(alloc, &mut daemon, tables)?;
+    }
+    Ok(())
+}
+
+/// A port to which nothing comes. It counts what is sent.
+#[derive(Drop)]
+struct Quiet {
+    sent: u64,
+}
+
+impl HeadPort for Quiet {
+    ghost use Rattle.std.specs.Prelude.{false, [], ⊤};
+
+    ghost honest = { λ _. false };
+
+    ghost acts = { λ _. [] };
+
+    ghost legal = { λ _ _. ⊤ };
+
+    fn now(&self) -> u64 {
+        0
+    }
+
+    fn receive(
+        &mut self,
+        _patience: Patience,
+        _buffer: &mut [u8],
+    ) -> Result<Option<Arrival>, Closed> {
+        Ok(None)
+    }
+
+    fn faults(&self) -> u64 {
+        0
+    }
+
+    fn send(&mut self, _to: SocketAddr, _bytes: &[u8]) {
+        self.sent = self.sent.saturating_add(1);
+    }
+
+    fn tell(&mut self, _ended: Ended) {}
 }
 
 #[test]
-fn daemon_waits_longer_after_each_silence(rt: HostRuntime) -> Result<(), Fail> {
-    goes_through(rt.alloc(), 64, &[SILENCES, ANSWERS])
-}
-
-#[test]
-fn daemon_asks_again_after_a_pause(rt: HostRuntime) -> Result<(), Fail> {
-    goes_through(rt.alloc(), 64, &[SILENCES, PAUSES])
-}
-
-#[test]
-fn daemon_lets_out_no_more_than_its_flight(rt: HostRuntime) -> Result<(), Fail> {
-    goes_through(rt.alloc(), 1, &[ONE_OUT])
+fn a_round_asks_each_meter(rt: HostRuntime) -> Result<(), Fail> {
+    let mut daemon = new_daemon(rt.alloc(), 64)?;
+    let mut port = Quiet { sent: 0 };
+    step_head(&mut port, &mut daemon.0)?;
+    assert_eq!(rt; (port.sent, daemon.0.counts().sent), (2, 2));
+    Ok(())
 }
 
 /// What is done where nothing comes in time, and then what comes in `FAILS`, `TAKES` and `RUNS`: the number of the address that each datagram
@@ -156,82 +197,50 @@ const DEEDS: &str =
     "to 1, to 2, quiet, from 9, from 2, from 2, from 1, to 1, from 1, to 1, from 1, to 1, to 1, from 1, from 1, to 1, \
      from 1, to 1, from 1, to 1, from 1, to 1, from 1, to 1, from 1, 2 Failed;1 Done;None";
 
-/// Nothing in time, and then what comes in these tables.
-fn all_coming(alloc: Global, tables: &[&str]) -> Result<Vec<Option<Datagram>>, Fail> {
+/// Nothing in time, and then what comes in `FAILS`, `TAKES` and `RUNS`.
+fn all_coming(alloc: Global) -> Result<Vec<Option<Datagram>>, Fail> {
     let mut datagrams = Vec::new(alloc);
     datagrams.push(None)?;
-    for table in tables {
+    for table in [FAILS, TAKES, RUNS] {
         for line in table.lines() {
-            push_coming(alloc, &mut datagrams, line)?;
+            if let Some(("comes", rest)) = line.trim().split_once(' ') {
+                let (what, _) = present(rest.split_once("=>"), "a row without an arrow")?;
+                let mut words = Words::new(what);
+                let _now = words.number()?;
+                datagrams.push(Some(coming(alloc, words)?))?;
+            }
         }
     }
     Ok(datagrams)
-}
-
-/// Appends what comes in a line, if something does.
-fn push_coming(
-    alloc: Global,
-    datagrams: &mut Vec<Option<Datagram>>,
-    line: &str,
-) -> Result<(), Fail> {
-    if let Some(("comes", rest)) = line.trim().split_once(' ') {
-        let (what, _) = present(rest.split_once("=>"), "a row without an arrow")?;
-        let mut words = Words::new(what);
-        let _now = words.number()?;
-        datagrams.push(Some(coming(alloc, words)?))?;
-    }
-    Ok(())
-}
-
-fn push_deed(text: &mut String, deed: &Deed) -> Result<(), Fail> {
-    match deed {
-        Deed::Came(datagram) => write!(text, "from {}, ", number_of(datagram.address))?,
-        Deed::Quiet => text.push_str("quiet, ")?,
-        Deed::Sent(datagram) => write!(text, "to {}, ", number_of(datagram.address))?,
-        Deed::Told(ended) => push_ended(text, ended)?,
-    }
-    Ok(())
 }
 
 /// The deeds and the stop.
 fn deeds_text(alloc: Global, deeds: &[Deed], stop: Option<Stop>) -> Result<String, Fail> {
     let mut text = String::new(alloc);
     for deed in deeds {
-        push_deed(&mut text, deed)?;
+        match deed {
+            Deed::Came(datagram) => write!(text, "from {}, ", number_of(datagram.address))?,
+            Deed::Quiet => text.push_str("quiet, ")?,
+            Deed::Sent(datagram) => write!(text, "to {}, ", number_of(datagram.address))?,
+            Deed::Told(ended) => push_ended(&mut text, ended)?,
+        }
     }
     write!(text, "{stop:?}")?;
     Ok(text)
 }
 
-/// What was seen last, and how often.
+/// How many rounds were seen, and at the last one how many rows were done, how many failed, and how often the port failed.
 #[derive(Drop)]
 struct Seen {
     rounds: u32,
-    done: u64,
-    failed: u64,
-    faults: u64,
+    last: (u64, u64, u64),
 }
 
 impl HeadWatch for Seen {
     fn round(&mut self, _now: u64, counts: Counts, faults: u64) {
         self.rounds = self.rounds.saturating_add(1);
-        self.done = counts.done;
-        self.failed = counts.failed;
-        self.faults = faults;
+        self.last = (counts.done, counts.failed, faults);
     }
-}
-
-/// What is done where nothing comes in time, and then what comes in these tables.
-fn led_text<R: Wait>(
-    rt: &R,
-    alloc: Global,
-    tables: &[&str],
-    watch: &mut Seen,
-) -> Result<String, Fail> {
-    let mut daemon = new_daemon(alloc, 64)?;
-    let coming = all_coming(alloc, tables)?;
-    let (deeds, stop) = lead_list(rt, alloc, coming, &mut daemon.0, watch);
-    deeds_text(alloc, &deeds, stop)
 }
 
 #[test]
@@ -239,18 +248,13 @@ fn daemon_leads_two_meters_over_a_port(rt: HostRuntime) -> Result<(), Fail> {
     let alloc = rt.alloc();
     let mut watch = Seen {
         rounds: 0,
-        done: 0,
-        failed: 0,
-        faults: 0,
+        last: (0, 0, 0),
     };
-    let text = led_text(&rt, alloc, &[FAILS, TAKES, RUNS], &mut watch)?;
+    let coming = all_coming(alloc)?;
+    let mut daemon = new_daemon(alloc, 64)?;
+    let (deeds, stop) = lead_list(&rt, alloc, coming, &mut daemon.0, &mut watch);
+    let text = deeds_text(alloc, &deeds, stop)?;
     expect_at(alloc, "the deeds", text.as_str(), DEEDS)?;
-    let Seen {
-        rounds,
-        done,
-        failed,
-        faults,
-    } = watch;
-    assert_eq!(rt; (rounds, done, failed, faults), (14, 1, 1, 0));
+    assert_eq!(rt; (watch.rounds, watch.last), (14, (1, 1, 0)));
     Ok(())
 }

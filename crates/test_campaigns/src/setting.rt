@@ -9,11 +9,11 @@ ghost use Rattle.fw_rollout.specs.Daemon.{IsLed, Rests};
 ghost use Rattle.fw_rollout.specs.Leading.{Leader};
 
 use crate::book::{head, meter};
-use crate::head::{carried, width};
+use crate::head::{apdus_text, carried, width};
 use crate::subject::Subject;
 use fw_journal::MemoryDevice;
 use fw_kept::KeptHead;
-use fw_rollout::{Datagram, Due, Ended, HeadDaemon, Listed, MeterList, Timing};
+use fw_rollout::{Datagram, Ended, HeadDaemon, Listed, MeterList, Timing};
 use std::alloc::Global;
 use std::net::{Ipv4Addr, SocketAddr};
 use std::test::Fail;
@@ -52,32 +52,11 @@ fn due_text(
     daemon: &mut HeadDaemon<MemoryDevice>,
     now: u64,
 ) -> Result<String, Fail> {
-    match daemon.due(now)? {
-        Some(due) => sent_text(alloc, &due),
-        None => Ok(String::new(alloc)),
-    }
-}
-
-fn sent_text(alloc: Global, due: &Due) -> Result<String, Fail> {
-    let (meter, at) = (due.meter.number(), number_of(due.to));
-    let mut text = format!(in alloc; "{meter} {at}")?;
-    for datagram in &due.datagrams {
-        push_apdu(alloc, &mut text, datagram)?;
-    }
-    Ok(text)
-}
-
-/// Appends the APDU of a datagram between wPorts 1, whose length is that of the APDU.
-fn push_apdu(alloc: Global, text: &mut String, datagram: &[u8]) -> Result<(), Fail> {
-    let [0, 1, 0, 1, 0, 1, high, low, apdu @ ..] = datagram else {
-        return Err("another wrapper".into());
+    let Some(due) = daemon.due(now)? else {
+        return Ok(String::new(alloc));
     };
-    if usize::from(u16::from_be_bytes([*high, *low])) != apdu.len() {
-        return Err("another length".into());
-    }
-    let digits = hex::encode(alloc, apdu)?;
-    write!(text, " {digits}")?;
-    Ok(())
+    let apdus = apdus_text(alloc, &due.datagrams)?;
+    Ok(format!(in alloc; "{:?} {apdus}", (due.meter.number(), number_of(due.to)))?)
 }
 
 fn heard_text(

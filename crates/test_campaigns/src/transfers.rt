@@ -28,7 +28,7 @@ pub(crate) const TO_CONFIRM: &str = "
 
 /// Image `abc` of campaign (7, 1) that is done, and then of campaign (7, 2), up to the same ask of it.
 const AGAIN_TO_CONFIRM: &str = "
-    hear c401c9000929010000000700000001ba7816bf8f01cfea414140de5dae2223b00361a396177a9cb410ff61f20015ad => Done 7 1 1, None
+    hear c401c9000929010000000700000001ba7816bf8f01cfea414140de5dae2223b00361a396177a9cb410ff61f20015ad => Done(CampaignId { head: 7, serial: 1 }, MeterId { number: 1 }), None
     open 2 0 abc => 010000000700000002ba7816bf8f01cfea414140de5dae2223b00361a396177a9cb410ff61f20015ad
     tick => c001c0001200002c0000ff0200
     hear c401c0000600000002 => Moved, Some(Enable)
@@ -52,7 +52,7 @@ const AGAIN_TO_CONFIRM: &str = "
 
 /// It hears that the meter runs `abc` of campaign (7, 1).
 const DONE: &str = "
-    hear c401c9000929010000000700000001ba7816bf8f01cfea414140de5dae2223b00361a396177a9cb410ff61f20015ad => Done 7 1 1, None
+    hear c401c9000929010000000700000001ba7816bf8f01cfea414140de5dae2223b00361a396177a9cb410ff61f20015ad => Done(CampaignId { head: 7, serial: 1 }, MeterId { number: 1 }), None
     tick                                                                                                =>
 ";
 
@@ -75,7 +75,7 @@ const ANOTHER_SHAPE: &str = "
     tick => c001c800010100000200ff0200
     tick => c001c900010100000200ff0200
     hear c401c900090600002c0000ff => Nothing, Some(Confirm)
-    hear c401c9000929010000000700000001ba7816bf8f01cfea414140de5dae2223b00361a396177a9cb410ff61f20015ad => Done 7 1 1, None
+    hear c401c9000929010000000700000001ba7816bf8f01cfea414140de5dae2223b00361a396177a9cb410ff61f20015ad => Done(CampaignId { head: 7, serial: 1 }, MeterId { number: 1 }), None
 ";
 
 const RESTARTED: &str = "
@@ -93,7 +93,7 @@ const CANCELLED: &str = "
 /// A claim of another campaign that offers the same bytes.
 const ANOTHER_CAMPAIGN: &str = "
     hear c401c9000929010000000700000001ba7816bf8f01cfea414140de5dae2223b00361a396177a9cb410ff61f20015ad => Moved, Some(Start)
-    returns                                                                                             => 1
+    row                                                                                                 => Some((Start, 1))
 ";
 
 /// An image with a release, of which the meter runs a higher one.
@@ -104,22 +104,9 @@ const TOO_LOW: &str = "
     tick                    => c101c1001200002c0000ff05000301
     hear c501c100           => Moved, Some(Start)
     tick                    => c301c2001200002c0000ff01010202092d02000000070000000100000005ba7816bf8f01cfea414140de5dae2223b00361a396177a9cb410ff61f20015ad0600000003
-    hear c701c2fa00         => Failed 7 1 1, None
+    hear c701c2fa00         => Failed(CampaignId { head: 7, serial: 1 }, MeterId { number: 1 }), None
     tick                    =>
 ";
-
-#[test]
-fn what_ends_a_row(rt: HostRuntime) -> Result<(), Fail> {
-    let sessions: &[&[&str]] = &[
-        &[TO_CONFIRM, DONE],
-        &[TO_CONFIRM, ANOTHER_SHAPE],
-        &[TO_CONFIRM, RESTARTED],
-        &[TO_CONFIRM, CANCELLED],
-        &[TO_CONFIRM, AGAIN_TO_CONFIRM, ANOTHER_CAMPAIGN],
-        &[TOO_LOW],
-    ];
-    head_sessions(rt.alloc(), 4, sessions)
-}
 
 /// Image `abcdefghijkl` of campaign (7, 1) for a meter with blocks of 2 bytes and windows of three, up to the ask which blocks the
 /// meter has.
@@ -146,21 +133,48 @@ const TO_GAPS: &str = "
 
 const MISSING: &str = "
     hear c401ca000406a8 => Moved, Some(Blocks)
-    returns             => 0
+    row                 => Some((Blocks, 0))
     tick                => c301cb001200002c0000ff02010202060000000109026364 c301cc001200002c0000ff02010202060000000309026768 c301cd001200002c0000ff02010202060000000509026b6c
 ";
 
 const ANOTHER_COUNT: &str = "
     hear c401ca000405a8 => Moved, Some(Start)
-    returns             => 1
+    row                 => Some((Start, 1))
 ";
 
 const ALL_THERE: &str = "
     hear c401ca000406fc => Moved, Some(Check)
 ";
 
+/// An ask is outstanding from the tick that makes it until its answer comes, or the head end starts again. An answer to no ask changes
+/// nothing.
+const WAITS: &str = "
+    waits                   => false
+    open 1 0 abc            => 010000000700000001ba7816bf8f01cfea414140de5dae2223b00361a396177a9cb410ff61f20015ad
+    waits                   => false
+    tick                    => c001c0001200002c0000ff0200
+    waits                   => true
+    hear c401c1000600000002 => Nothing, Some(Size)
+    waits                   => true
+    hear c401c0000600000002 => Moved, Some(Enable)
+    waits                   => false
+    tick                    => c101c1001200002c0000ff05000301
+    restart                 =>
+    waits                   => false
+";
+
 #[test]
-fn blocks_that_a_meter_lacks(rt: HostRuntime) -> Result<(), Fail> {
+fn what_becomes_of_a_row(rt: HostRuntime) -> Result<(), Fail> {
+    let sessions: &[&[&str]] = &[
+        &[TO_CONFIRM, DONE],
+        &[TO_CONFIRM, ANOTHER_SHAPE],
+        &[TO_CONFIRM, RESTARTED],
+        &[TO_CONFIRM, CANCELLED],
+        &[TO_CONFIRM, AGAIN_TO_CONFIRM, ANOTHER_CAMPAIGN],
+        &[TOO_LOW],
+        &[WAITS],
+    ];
+    head_sessions(rt.alloc(), 4, sessions)?;
     let sessions: &[&[&str]] = &[
         &[TO_GAPS, MISSING],
         &[TO_GAPS, ANOTHER_COUNT],

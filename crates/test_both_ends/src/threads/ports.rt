@@ -85,3 +85,16 @@ fn a_meter_replies_over_udp(rt: HostRuntime) -> Result<(), Fail> {
     let mut daemon = daemon_for(rt.alloc(), head.local_addr()?)?;
     replies(rt.alloc(), &stranger, &head, &mut port, &mut daemon)
 }
+
+/// Nothing comes to a port that doesn't wait, so the meter takes a turn. It runs what it was made with.
+#[test]
+fn a_meter_polls(rt: HostRuntime) -> Result<(), Fail> {
+    let (alloc, at) = (rt.alloc(), SocketAddr::from((Ipv4Addr::LOCALHOST, 0)));
+    let mut port = UdpPort::bind_polling(&rt, at)?;
+    let mut daemon = daemon_for(alloc, at)?;
+    let activated = step(alloc, &mut port, &mut daemon)?;
+    assert!(rt; activated.is_none());
+    let digest = hex::encode(alloc, daemon.into_meter().active().digest)?;
+    assert!(rt; FACTORY_NAME.ends_with(digest.as_str()));
+    Ok(())
+}
