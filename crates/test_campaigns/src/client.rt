@@ -4,13 +4,13 @@ ghost use Rattle.std.specs.Prelude.{IsTrue};
 ghost use Rattle.fw_client.specs.Ask.{Fits};
 ghost use Rattle.fw_client.specs.View.{ask_of};
 
-use crate::book::{campaign, meter};
+use crate::book::{head, meter};
 use crate::subject::Subject;
 use fw_client::{Ask, Client, Heard};
 use fw_names::{CampaignId, HeadId, ImageName, name_of};
 use std::alloc::Global;
 use std::test::Fail;
-use test_tables::{Reads, Words, each_part};
+use test_tables::{Reads, Words, each_part, present};
 
 /// A step of a client:
 ///
@@ -123,7 +123,11 @@ fn answered(alloc: Global, mut words: Words<'_>) -> Result<String, Fail> {
 
 /// The name of `abc` in the campaign of head end 7 with this serial number, of this release.
 pub(crate) fn abc_name(serial: u32, release: u32) -> Result<ImageName, Fail> {
-    Ok(name_of(campaign(7, serial)?, release, b"abc"))
+    let campaign = present(
+        CampaignId::new(head(7)?, serial),
+        "a serial number begins at 1",
+    )?;
+    Ok(name_of(campaign, release, b"abc"))
 }
 
 /// What is heard, as `Debug` gives it, except names, which are spelled, and the most bits.
