@@ -4,10 +4,10 @@ ghost use Rattle.std.specs.Prelude.{◌≤◌, IfOk};
 ghost use Rattle.fw_server.specs.Answer.{bits_in};
 
 use crate::replying::wrapped_answer;
-use crate::support::{abc_name, bits_of};
+use crate::support::{bits_of, campaign_name, digits, shown};
 use fw_apdu::{Invoke, LogicalName};
 use fw_axdr::Bits;
-use fw_names::factory_name;
+use fw_names::{ImageName, factory_name};
 use fw_server::{Answer, ImageInfo, Outcome, answer};
 use std::alloc::Global;
 use std::test::Fail;
@@ -39,8 +39,7 @@ impl Reads for Told {
 
 /// The answer of a request with this invoke byte, in hexadecimal.
 fn answer_text(alloc: Global, invoke: u8, outcome: &Outcome) -> Result<String, Fail> {
-    let apdu = answer(alloc, &Invoke(invoke), outcome)?;
-    Ok(hex::encode(alloc, apdu.as_slice())?)
+    digits(alloc, &answer(alloc, &Invoke(invoke), outcome)?)
 }
 
 /// An answer by its name: a code of a service, or what is got.
@@ -71,13 +70,17 @@ fn got(word: &str, mut words: Words<'_>) -> Result<Answer, Fail> {
         "nothing-to-activate" => Answer::ToActivate(None),
         "to-activate" => Answer::ToActivate(Some(ImageInfo {
             size: 3,
-            name: present(abc_name(7, 1, words.number()?), "no name")?,
+            name: abc_name(words.number()?)?,
         })),
-        "offered-name" => Answer::ActiveName(present(abc_name(7, 1, words.number()?), "no name")?),
+        "offered-name" => Answer::ActiveName(abc_name(words.number()?)?),
         "factory-name" => Answer::ActiveName(factory_name(b"abc")),
         "digest" => Answer::ActiveDigest(factory_name(b"abc").digest),
         _ => return Err("no answer has this name".into()),
     })
+}
+
+fn abc_name(release: u32) -> Result<ImageName, Fail> {
+    present(campaign_name(7, 1, release, b"abc"), "no name")
 }
 
 fn logical_name(name: &str) -> Result<LogicalName, Fail> {
@@ -123,14 +126,13 @@ const TOLD: &str = "
 
 fn most_text(alloc: Global, len: usize) -> Result<String, Fail> {
     let outcome = Outcome::Got(Answer::TransferredBlocks(first_of(alloc, len)?));
-    let apdu = answer(alloc, &Invoke(0xc1), &outcome)?;
-    front_text(alloc, apdu.as_slice())
+    front_text(alloc, &answer(alloc, &Invoke(0xc1), &outcome)?)
 }
 
-const MOST: &str = "
-    4096  => 520 c401c100048210008000
-    16384 => 2056 c401c100048240008000
-";
+const MOST: &str = r#"
+    4096  => (520, "c401c100048210008000")
+    16384 => (2056, "c401c100048240008000")
+"#;
 
 /// `len` bits, of which the first is set.
 fn first_of(alloc: Global, len: usize) -> Result<Bits, Fail> {
@@ -142,8 +144,8 @@ fn first_of(alloc: Global, len: usize) -> Result<Bits, Fail> {
 }
 
 fn front_text(alloc: Global, apdu: &[u8]) -> Result<String, Fail> {
-    let front = hex::encode(alloc, apdu.get(..10).unwrap_or(&[]))?;
-    Ok(format!(in alloc; "{} {front}", apdu.len())?)
+    let front = digits(alloc, apdu.get(..10).unwrap_or(&[]))?;
+    shown(alloc, &(apdu.len(), front.as_str()))
 }
 
 /// The bytes are 00, 4f, 7f, b0 and ff.
@@ -159,7 +161,7 @@ fn wrapped_text(alloc: Global, mut words: Words<'_>) -> Result<String, Fail> {
     let (dest, status): (u16, u8) = words.read()?;
     let outcome = Outcome::Got(Answer::TransferStatus(status));
     let datagram = wrapped_answer(alloc, 1, dest, &Invoke(0xc1), &outcome);
-    Ok(hex::encode(alloc, datagram.as_deref().unwrap_or(&[]))?)
+    digits(alloc, datagram.as_deref().unwrap_or(&[]))
 }
 
 /// To wPort 1234 in hexadecimal.

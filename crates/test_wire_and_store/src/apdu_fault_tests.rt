@@ -1,9 +1,10 @@
 //! Faults of byte strings that are no request or no response: which one, and that the leftmost one decides.
 
+use crate::support::shown;
 use fw_apdu::{ApduError, read_request, read_response};
 use fw_axdr::AxdrError;
 use fw_wrapper::WrapError;
-use std::alloc::{AllocError, Global};
+use std::alloc::Global;
 use std::test::Fail;
 use test_tables::{Reads, each_prints, each_table};
 
@@ -22,79 +23,71 @@ impl Reads for Faults {
     fn told(&mut self, alloc: Global, what: &str) -> Result<String, Fail> {
         let bytes = hex::decode(alloc, what)?;
         match self {
-            Faults::Request => Ok(fault_text(alloc, read_request(alloc, &bytes).err())?),
-            Faults::Response => Ok(fault_text(alloc, read_response(alloc, &bytes).err())?),
+            Faults::Request => shown(alloc, &read_request(alloc, &bytes).err()),
+            Faults::Response => shown(alloc, &read_response(alloc, &bytes).err()),
             Faults::Prefixes => prefixes_text(alloc, &bytes),
         }
     }
 }
 
-/// The fault, as `Debug` gives it.
-fn fault_text(alloc: Global, fault: Option<ApduError>) -> Result<String, AllocError> {
-    match fault {
-        Some(fault) => format!(in alloc; "{fault:?}"),
-        None => String::from_str(alloc, "none"),
-    }
-}
-
 /// First bytes of no request. The first are none.
 const FRONTS: &str = "
-           => Truncated
-    c0     => Truncated
-    00     => UnknownService
-    bf01   => UnknownService
-    c202   => UnknownService
-    c401   => UnknownService
-    c5     => UnknownService
-    c7     => UnknownService
-    ff     => UnknownService
-    c000   => UnsupportedForm
-    c102c1 => UnsupportedForm
-    c3ff   => UnsupportedForm
+           => Some(Truncated)
+    c0     => Some(Truncated)
+    00     => Some(UnknownService)
+    bf01   => Some(UnknownService)
+    c202   => Some(UnknownService)
+    c401   => Some(UnknownService)
+    c5     => Some(UnknownService)
+    c7     => Some(UnknownService)
+    ff     => Some(UnknownService)
+    c000   => Some(UnsupportedForm)
+    c102c1 => Some(UnsupportedForm)
+    c3ff   => Some(UnsupportedForm)
 ";
 
 /// A GET, SETs and ACTIONs of an attribute or a method 5 of class 18, 0-0:44.0.0.255.
 const REQUESTS: &str = "
-    c001c1001200002c0000ff0500                                   => none
-    c001c1001200002c0000ff050000                                 => Trailing
-    c001c1001200002c0000ff0501                                   => UnsupportedForm
-    c001c1001200002c0000ff05ff00                                 => UnsupportedForm
-    c101c1001200002c0000ff05000301                               => none
-    c101c1001200002c0000ff0500030100                             => Trailing
-    c101c1001200002c0000ff05010301                               => UnsupportedForm
-    c101c1001200002c0000ff050007                                 => BadData(UnknownTag)
-    c101c1001200002c0000ff0500098007                             => BadData(BadLength)
-    c101c1001200002c0000ff05000600                               => BadData(Truncated)
-    c101c1001200002c0000ff05000201020102010201020102010201020100 => BadData(TooDeep)
-    c301c1001200002c0000ff0500                                   => none
-    c301c1001200002c0000ff050000                                 => Trailing
-    c301c1001200002c0000ff05010f00                               => none
-    c301c1001200002c0000ff05010f0000                             => Trailing
-    c301c1001200002c0000ff05010700                               => BadData(UnknownTag)
-    c301c1001200002c0000ff05ff0980                               => BadData(BadLength)
-    c301c1001200002c0000ff05010600                               => BadData(Truncated)
-    c301c1001200002c0000ff05010101010101010101010101010101010100 => BadData(TooDeep)
+    c001c1001200002c0000ff0500                                   => None
+    c001c1001200002c0000ff050000                                 => Some(Trailing)
+    c001c1001200002c0000ff0501                                   => Some(UnsupportedForm)
+    c001c1001200002c0000ff05ff00                                 => Some(UnsupportedForm)
+    c101c1001200002c0000ff05000301                               => None
+    c101c1001200002c0000ff0500030100                             => Some(Trailing)
+    c101c1001200002c0000ff05010301                               => Some(UnsupportedForm)
+    c101c1001200002c0000ff050007                                 => Some(BadData(UnknownTag))
+    c101c1001200002c0000ff0500098007                             => Some(BadData(BadLength))
+    c101c1001200002c0000ff05000600                               => Some(BadData(Truncated))
+    c101c1001200002c0000ff05000201020102010201020102010201020100 => Some(BadData(TooDeep))
+    c301c1001200002c0000ff0500                                   => None
+    c301c1001200002c0000ff050000                                 => Some(Trailing)
+    c301c1001200002c0000ff05010f00                               => None
+    c301c1001200002c0000ff05010f0000                             => Some(Trailing)
+    c301c1001200002c0000ff05010700                               => Some(BadData(UnknownTag))
+    c301c1001200002c0000ff05ff0980                               => Some(BadData(BadLength))
+    c301c1001200002c0000ff05010600                               => Some(BadData(Truncated))
+    c301c1001200002c0000ff05010101010101010101010101010101010100 => Some(BadData(TooDeep))
 ";
 
 /// Responses and their faults.
 const RESPONSES: &str = "
-                                               => Truncated
-    c001                                       => UnknownService
-    c602                                       => UnknownService
-    c402c1                                     => UnsupportedForm
-    c500                                       => UnsupportedForm
-    c702                                       => UnsupportedForm
-    c401c102                                   => UnsupportedForm
-    c701c10001ff                               => UnsupportedForm
-    c401c1000700                               => BadData(UnknownTag)
-    c701c10001000980                           => BadData(BadLength)
-    c401c1000201020102010201020102010201020100 => BadData(TooDeep)
-    c401c1000000                               => Trailing
-    c401c1010400                               => Trailing
-    c501c10000                                 => Trailing
-    c701c1000000                               => Trailing
-    c701c10001000000                           => Trailing
-    c701c10001010400                           => Trailing
+                                               => Some(Truncated)
+    c001                                       => Some(UnknownService)
+    c602                                       => Some(UnknownService)
+    c402c1                                     => Some(UnsupportedForm)
+    c500                                       => Some(UnsupportedForm)
+    c702                                       => Some(UnsupportedForm)
+    c401c102                                   => Some(UnsupportedForm)
+    c701c10001ff                               => Some(UnsupportedForm)
+    c401c1000700                               => Some(BadData(UnknownTag))
+    c701c10001000980                           => Some(BadData(BadLength))
+    c401c1000201020102010201020102010201020100 => Some(BadData(TooDeep))
+    c401c1000000                               => Some(Trailing)
+    c401c1010400                               => Some(Trailing)
+    c501c10000                                 => Some(Trailing)
+    c701c1000000                               => Some(Trailing)
+    c701c10001000000                           => Some(Trailing)
+    c701c10001010400                           => Some(Trailing)
 ";
 
 fn prefixes_text(alloc: Global, bytes: &[u8]) -> Result<String, Fail> {

@@ -1,6 +1,6 @@
 //! The services GET, SET and ACTION in their normal forms (IEC 62056-5-3).
 
-use crate::support::deepened;
+use crate::support::{deepened, shown};
 use fw_apdu::{
     ApduError, GetDataResult, Invoke, LogicalName, Request, Response, action_code, get_code,
     read_request, read_response, set_code, write_request, write_response,
@@ -41,21 +41,28 @@ fn of_bytes(alloc: Global, way: Told, digits: &str, bytes: &[u8]) -> Result<Stri
     match way {
         Told::Request => request_text(alloc, &read_request(alloc, bytes)?, digits),
         Told::Response => response_text(alloc, &read_response(alloc, bytes)?, digits),
-        Told::Object => object_text(alloc, &read_request(alloc, bytes)?),
-        _ => invoke_text(alloc, Invoke(*present(bytes.first(), "no byte")?)),
+        Told::Object => {
+            let request = read_request(alloc, bytes)?;
+            shown(
+                alloc,
+                &(request.invoke(), request.class(), request.instance()),
+            )
+        }
+        _ => {
+            let invoke = Invoke(*present(bytes.first(), "no byte")?);
+            shown(alloc, &(invoke.id(), invoke.confirmed()))
+        }
     }
 }
 
 fn request_text(alloc: Global, request: &Request, digits: &str) -> Result<String, Fail> {
     let written = write_request(alloc, request)?;
-    let shown = format!(in alloc; "{request:?}")?;
-    written_text(alloc, shown, &written, digits)
+    written_text(alloc, shown(alloc, request)?, &written, digits)
 }
 
 fn response_text(alloc: Global, response: &Response, digits: &str) -> Result<String, Fail> {
     let written = write_response(alloc, response)?;
-    let shown = format!(in alloc; "{response:?}")?;
-    written_text(alloc, shown, &written, digits)
+    written_text(alloc, shown(alloc, response)?, &written, digits)
 }
 
 /// What is shown of bytes, and how that is written, if that is otherwise.
@@ -113,42 +120,31 @@ const CODES: &str = "
     action 250 => c701c1fa00
 ";
 
-fn object_text(alloc: Global, request: &Request) -> Result<String, Fail> {
-    let (invoke, class) = (request.invoke(), request.class());
-    let instance = request.instance();
-    Ok(format!(in alloc; "{invoke:?} {class} {instance:?}")?)
-}
-
 const OBJECTS: &str = "
-    c001c100010100000200ff0200     => Invoke(193) 1 LogicalName([1, 0, 0, 2, 0, 255])
-    c101c1001200002c0000ff05000301 => Invoke(193) 18 LogicalName([0, 0, 44, 0, 0, 255])
-    c301c1001200002c0000ff03010f00 => Invoke(193) 18 LogicalName([0, 0, 44, 0, 0, 255])
+    c001c100010100000200ff0200     => (Invoke(193), 1, LogicalName([1, 0, 0, 2, 0, 255]))
+    c101c1001200002c0000ff05000301 => (Invoke(193), 18, LogicalName([0, 0, 44, 0, 0, 255]))
+    c301c1001200002c0000ff03010f00 => (Invoke(193), 18, LogicalName([0, 0, 44, 0, 0, 255]))
 ";
-
-fn invoke_text(alloc: Global, invoke: Invoke) -> Result<String, Fail> {
-    Ok(format!(in alloc; "{} {}", invoke.id(), invoke.confirmed())?)
-}
 
 /// Bits 4 and 5 are ignored, and bit 7 is the priority.
 const INVOKES: &str = "
-    00 => 0 false
-    01 => 1 false
-    4f => 15 true
-    81 => 1 false
-    b0 => 0 false
-    c1 => 1 true
-    ff => 15 true
+    00 => (0, false)
+    01 => (1, false)
+    4f => (15, true)
+    81 => (1, false)
+    b0 => (0, false)
+    c1 => (1, true)
+    ff => (15, true)
 ";
 
 /// Eight levels, which are nine as an element.
 const EIGHT_LEVELS: &[u8] = &[2, 1, 2, 1, 2, 1, 2, 1, 2, 1, 2, 1, 2, 1, 0];
 
 fn nine_text(alloc: Global, what: &str) -> Result<String, Fail> {
-    let answer = match what {
-        "parameter" => refused_request(alloc)?,
-        _ => refused_response(alloc)?,
-    };
-    Ok(format!(in alloc; "{answer:?}")?)
+    match what {
+        "parameter" => shown(alloc, &refused_request(alloc)?),
+        _ => shown(alloc, &refused_response(alloc)?),
+    }
 }
 
 fn refused_request(alloc: Global) -> Result<Option<ApduError>, AxdrError> {

@@ -1,10 +1,10 @@
 //! Each type of Data, read and written. The tags are those of IEC 62056-6-2, Common data types, the contents A-XDR's.
 
-use crate::support::{deepened, joined};
+use crate::support::{deepened, digits, joined, shown};
 use fw_axdr::{Data, read, unwritable, write_to};
 use std::alloc::Global;
 use std::test::Fail;
-use test_tables::{Reads, Words, each_line, each_table};
+use test_tables::{Reads, Words, each_table};
 
 /// What is reported of bytes in hexadecimal.
 #[derive(Clone, Copy)]
@@ -36,7 +36,7 @@ impl Reads for Told {
 fn value_text(alloc: Global, bytes: &[u8], digits: &str) -> Result<String, Fail> {
     let (value, _) = read(alloc, bytes)?;
     if written(alloc, &value)?.as_str() == digits {
-        Ok(format!(in alloc; "{value:?}")?)
+        shown(alloc, &value)
     } else {
         Err("it is written otherwise".into())
     }
@@ -54,7 +54,7 @@ fn short_text(alloc: Global, bytes: &[u8]) -> Result<String, Fail> {
 fn written(alloc: Global, value: &Data) -> Result<String, Fail> {
     let mut out = Vec::new(alloc);
     write_to(value, &mut out)?;
-    Ok(hex::encode(alloc, out.as_slice())?)
+    digits(alloc, out.as_slice())
 }
 
 /// The short spellings of values of each type, and the values.
@@ -175,18 +175,6 @@ const FAULTS: &str = "
     0201020102010201020102010201020100 => TooDeep
 ";
 
-#[test]
-fn spellings(rt: HostRuntime) -> Result<(), Fail> {
-    each_table(
-        rt.alloc(),
-        &[
-            (Told::Value, SHORT),
-            (Told::Short, LENIENT),
-            (Told::Short, FAULTS),
-        ],
-    )
-}
-
 fn lengths_text(alloc: Global, tag: &[u8], mut words: Words<'_>) -> Result<String, Fail> {
     let (len, shortest): (u32, &str) = words.read()?;
     let shortest = hex::decode(alloc, shortest)?;
@@ -207,7 +195,7 @@ fn are_short_text(alloc: Global, short: &[u8], longest: &[u8]) -> Result<String,
     let one = short_text(alloc, short)?;
     let other = short_text(alloc, longest)?;
     let both = one.as_str() == digits.as_str() && other.as_str() == digits.as_str();
-    Ok(format!(in alloc; "{both}")?)
+    shown(alloc, &both)
 }
 
 /// Lengths on both sides of each change of the shortest form.
@@ -247,26 +235,30 @@ const LENGTHS: &str = "
     04 16777216 8401000000 => true
 ";
 
-#[test]
-fn each_form_of_a_length(rt: HostRuntime) -> Result<(), Fail> {
-    each_line(rt.alloc(), &mut Told::Lengths, LENGTHS)
-}
-
 fn deepened_text(alloc: Global, value: &Data) -> Result<String, Fail> {
     let mut out = [0xee].to_vec(alloc)?;
     let answers = (unwritable(value), write_to(value, &mut out));
-    let written = hex::encode(alloc, out.as_slice())?;
-    Ok(format!(in alloc; "{answers:?}, {written}")?)
+    let written = digits(alloc, out.as_slice())?;
+    shown(alloc, &(answers, written.as_str()))
 }
 
-/// Values of seven levels and of eight.
-const SECONDS: &str = "
-    02010101020101010201010100     => (None, Ok(())), ee0202110702010101020101010201010100
-    010101010101010101010101010100 => (Some(TooDeep), Err(TooDeep)), ee
-    020102010201020102010201020100 => (Some(TooDeep), Err(TooDeep)), ee
-";
+/// Values of seven levels and of eight. Nothing is written of nine.
+const SECONDS: &str = r#"
+    02010101020101010201010100     => ((None, Ok(())), "ee0202110702010101020101010201010100")
+    010101010101010101010101010100 => ((Some(TooDeep), Err(TooDeep)), "ee")
+    020102010201020102010201020100 => ((Some(TooDeep), Err(TooDeep)), "ee")
+"#;
 
 #[test]
-fn nothing_is_written_of_nine_levels(rt: HostRuntime) -> Result<(), Fail> {
-    each_line(rt.alloc(), &mut Told::Deepened, SECONDS)
+fn spellings(rt: HostRuntime) -> Result<(), Fail> {
+    each_table(
+        rt.alloc(),
+        &[
+            (Told::Value, SHORT),
+            (Told::Short, LENIENT),
+            (Told::Short, FAULTS),
+            (Told::Lengths, LENGTHS),
+            (Told::Deepened, SECONDS),
+        ],
+    )
 }

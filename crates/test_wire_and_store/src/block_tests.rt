@@ -1,6 +1,6 @@
 //! The blocks of an image, sets of their numbers, marks and windows.
 
-use crate::support::{bits_of, marked, numbers_of};
+use crate::support::{bits_of, marked, numbers_of, shown, text};
 use fw_blocks::{BlockSet, Geometry, MARKS_SIZE, MAX_BLOCKS, Pages, Width, Window};
 use std::alloc::{AllocError, Global};
 use std::test::Fail;
@@ -50,7 +50,7 @@ impl Reads for Told {
         let mut words = Words::new(what);
         match self {
             Told::Geometry => geometry_text(alloc, words),
-            Told::Set => Ok(set_text(alloc, &set_of(alloc, &mut words)?)?),
+            Told::Set => set_text(alloc, &set_of(alloc, &mut words)?),
             Told::Shown => shown_text(alloc, words),
             Told::EveryOther => every_other_text(alloc, words.number()?),
             Told::Runs => runs_text(alloc, &set_of(alloc, &mut words)?),
@@ -62,7 +62,7 @@ impl Reads for Told {
             Told::Window => window_text(alloc, &set_of(alloc, &mut words)?, words),
             way => match pages_of(alloc, &mut words)? {
                 Some(pages) => pages_told(alloc, *way, pages, words),
-                None => Ok(String::from_str(alloc, "none")?),
+                None => text(alloc, "none"),
             },
         }
     }
@@ -84,27 +84,27 @@ fn pages_told(
 fn geometry_text(alloc: Global, mut words: Words<'_>) -> Result<String, Fail> {
     let [block_size, size, number]: [u32; 3] = words.read()?;
     let Some(geometry) = Geometry::new(block_size, size) else {
-        return Ok(String::from_str(alloc, "none")?);
+        return text(alloc, "none");
     };
     let (block_size, size) = (geometry.block_size(), geometry.size());
     let (count, range) = (geometry.count(), geometry.range(number));
-    Ok(format!(in alloc; "{block_size} {size} {count} {range:?}")?)
+    shown(alloc, &(block_size, size, count, range))
 }
 
 const GEOMETRIES: &str = "
     // three bytes in blocks of two
-    2 3 0               => 2 3 2 Some((0, 2))
-    2 3 1               => 2 3 2 Some((2, 3))
-    2 3 2               => 2 3 2 None
-    2 3 4294967295      => 2 3 2 None
+    2 3 0               => (2, 3, 2, Some((0, 2)))
+    2 3 1               => (2, 3, 2, Some((2, 3)))
+    2 3 2               => (2, 3, 2, None)
+    2 3 4294967295      => (2, 3, 2, None)
     // a block that is longer than the image
-    1024 1 0            => 1024 1 1 Some((0, 1))
+    1024 1 0            => (1024, 1, 1, Some((0, 1)))
     // the longest image
-    1024 16777216 16383 => 1024 16777216 16384 Some((16776192, 16777216))
-    1024 16777216 16384 => 1024 16777216 16384 None
+    1024 16777216 16383 => (1024, 16777216, 16384, Some((16776192, 16777216)))
+    1024 16777216 16384 => (1024, 16777216, 16384, None)
     // more blocks than 4,096, and the most
-    1 4097 4096         => 1 4097 4097 Some((4096, 4097))
-    1 16384 16383       => 1 16384 16384 Some((16383, 16384))
+    1 4097 4096         => (1, 4097, 4097, Some((4096, 4097)))
+    1 16384 16383       => (1, 16384, 16384, Some((16383, 16384)))
     // outside the limits
     0 5 0               => none
     5 0 0               => none
@@ -114,15 +114,14 @@ const GEOMETRIES: &str = "
 ";
 
 /// The bytes that aren't zero, each after its place.
-fn nonzero(alloc: Global, bytes: &[u8]) -> Result<String, AllocError> {
-    let mut text = String::new(alloc);
+fn nonzero(alloc: Global, bytes: &[u8]) -> Result<Vec<(usize, u8)>, AllocError> {
+    let mut found = Vec::new(alloc);
     for (at, byte) in bytes.iter().enumerate() {
         if *byte != 0 {
-            let shown = format!(in alloc; " {at}:{byte:02x}")?;
-            text.push_str(shown.as_str())?;
+            found.push((at, *byte))?;
         }
     }
-    Ok(text)
+    Ok(found)
 }
 
 fn set_of(alloc: Global, words: &mut Words<'_>) -> Result<BlockSet, Fail> {
@@ -138,48 +137,51 @@ fn set_of(alloc: Global, words: &mut Words<'_>) -> Result<BlockSet, Fail> {
 }
 
 /// The count, the first number that is missing, those below eight that are there, how many bits show them, and which bytes.
-fn set_text(alloc: Global, set: &BlockSet) -> Result<String, AllocError> {
+fn set_text(alloc: Global, set: &BlockSet) -> Result<String, Fail> {
     let bits = set.to_bits(alloc)?;
     let mut there = String::new(alloc);
     for number in 0..8 {
         there.push_str(if set.has(number) { "x" } else { "." })?;
     }
-    let shown = nonzero(alloc, bits.as_bytes())?;
+    let bytes = nonzero(alloc, bits.as_bytes())?;
     let (count, first) = (set.count(), set.first_missing());
-    format!(in alloc; "{count} {first} {there}, {} bits,{shown}", bits.len())
+    shown(
+        alloc,
+        &(count, first, there.as_str(), bits.len(), bytes.as_slice()),
+    )
 }
 
 /// Number i is bit i, and the first bit is the top bit of the first byte.
-const SETS: &str = "
-    6 -           => 6 0 ........, 6 bits,
-    6 1,2         => 6 0 .xx....., 6 bits, 0:60
-    6 0,2         => 6 1 x.x....., 6 bits, 0:a0
-    6 0,2,1       => 6 3 xxx....., 6 bits, 0:e0
-    6 0,0,0       => 6 1 x......., 6 bits, 0:80
-    6 5,4,3,2,1,0 => 6 6 xxxxxx.., 6 bits, 0:fc
-    0 -           => 0 0 ........, 0 bits,
-";
+const SETS: &str = r#"
+    6 -           => (6, 0, "........", 6, [])
+    6 1,2         => (6, 0, ".xx.....", 6, [(0, 96)])
+    6 0,2         => (6, 1, "x.x.....", 6, [(0, 160)])
+    6 0,2,1       => (6, 3, "xxx.....", 6, [(0, 224)])
+    6 0,0,0       => (6, 1, "x.......", 6, [(0, 128)])
+    6 5,4,3,2,1,0 => (6, 6, "xxxxxx..", 6, [(0, 252)])
+    0 -           => (0, 0, "........", 0, [])
+"#;
 
 fn shown_text(alloc: Global, mut words: Words<'_>) -> Result<String, Fail> {
     let [len, count]: [u32; 2] = words.read()?;
     let bits = bits_of(alloc, &hex::decode(alloc, words.rest())?, len as usize)?;
-    Ok(match BlockSet::from_bits(alloc, &bits, count)? {
-        Some(set) => set_text(alloc, &set)?,
-        None => String::from_str(alloc, "none")?,
-    })
+    match BlockSet::from_bits(alloc, &bits, count)? {
+        Some(set) => set_text(alloc, &set),
+        None => text(alloc, "none"),
+    }
 }
 
-const SHOWN: &str = "
-    6 6 a0 => 6 1 x.x....., 6 bits, 0:a0
+const SHOWN: &str = r#"
+    6 6 a0 => (6, 1, "x.x.....", 6, [(0, 160)])
     // of another length
     6 0 a0 => none
     6 5 a0 => none
     6 7 a0 => none
     6 8 a0 => none
     // no blocks
-    0 0    => 0 0 ........, 0 bits,
+    0 0    => (0, 0, "........", 0, [])
     0 1    => none
-";
+"#;
 
 fn every_other_text(alloc: Global, count: u32) -> Result<String, Fail> {
     let mut set = BlockSet::empty(alloc, count)?;
@@ -198,32 +200,30 @@ fn every_other_told(alloc: Global, set: &BlockSet) -> Result<String, Fail> {
     let (len, bytes) = (bits.len(), bits.as_bytes());
     let all = bytes.iter().all(|byte| *byte == 0xaa);
     let (first, runs) = (set.first_missing(), set.runs().len());
-    Ok(format!(in alloc;
-        "{len} bits, {} bytes, {all}, {first} {:?}, {runs} runs",
-        bytes.len(),
-        next.as_slice()
-    )?)
+    shown(
+        alloc,
+        &(len, bytes.len(), all, first, next.as_slice(), runs),
+    )
 }
 
 const EVERY_OTHER: &str = "
-    4096  => 4096 bits, 512 bytes, true, 1 [1, 3, 5], 2048 runs
-    16384 => 16384 bits, 2048 bytes, true, 1 [1, 3, 5], 8192 runs
+    4096  => (4096, 512, true, 1, [1, 3, 5], 2048)
+    16384 => (16384, 2048, true, 1, [1, 3, 5], 8192)
 ";
 
 fn runs_text(alloc: Global, set: &BlockSet) -> Result<String, Fail> {
-    let mut text = String::new(alloc);
+    let mut runs = Vec::new(alloc);
     for run in set.runs() {
-        let shown = format!(in alloc; "({}, {})", run.start, run.end)?;
-        text.push_str(shown.as_str())?;
+        runs.push((run.start, run.end))?;
     }
-    Ok(text)
+    shown(alloc, &runs)
 }
 
 const RUNS: &str = "
-    6 -       =>
-    6 0,2,1   => (0, 3)
-    6 0,2     => (0, 1)(2, 3)
-    6 5,3,4,0 => (0, 1)(3, 6)
+    6 -       => []
+    6 0,2,1   => [(0, 3)]
+    6 0,2     => [(0, 1), (2, 3)]
+    6 5,3,4,0 => [(0, 1), (3, 6)]
 ";
 
 /// Pages of a count of which these are marked, and `None` for too many.
@@ -238,7 +238,7 @@ fn pages_text(alloc: Global, mut pages: Pages) -> Result<String, Fail> {
     let there = there_text(alloc, &pages)?;
     pages.clear();
     let cleared = (pages.count(), pages.first_missing(), pages.has(0));
-    Ok(format!(in alloc; "{count} {first} {there} {cleared:?}")?)
+    shown(alloc, &(count, first, there.as_str(), cleared))
 }
 
 /// Numbers around the ends of bytes and of all marks.
@@ -267,19 +267,19 @@ fn there_text(alloc: Global, pages: &Pages) -> Result<String, AllocError> {
     Ok(there)
 }
 
-const PAGED: &str = "
-    6 -             => 6 0 ............. (6, 0, false)
-    6 0,2           => 6 1 x.x.......... (6, 0, false)
-    6 0,2,1         => 6 3 xxx.......... (6, 0, false)
-    6 5,4,3,2,1,0,0 => 6 6 xxxx......... (6, 0, false)
-    0 -             => 0 0 ............. (0, 0, false)
-    16384 16383,0   => 16384 1 x.........x.. (16384, 0, false)
+const PAGED: &str = r#"
+    6 -             => (6, 0, ".............", (6, 0, false))
+    6 0,2           => (6, 1, "x.x..........", (6, 0, false))
+    6 0,2,1         => (6, 3, "xxx..........", (6, 0, false))
+    6 5,4,3,2,1,0,0 => (6, 6, "xxxx.........", (6, 0, false))
+    0 -             => (0, 0, ".............", (0, 0, false))
+    16384 16383,0   => (16384, 1, "x.........x..", (16384, 0, false))
     16385 -         => none
-";
+"#;
 
 fn all_pages_text(alloc: Global, count: u32) -> Result<String, Fail> {
     let Some(mut pages) = Pages::new(count) else {
-        return Ok(String::from_str(alloc, "none")?);
+        return text(alloc, "none");
     };
     for number in (1..count).rev() {
         if number < pages.count() {
@@ -290,14 +290,14 @@ fn all_pages_text(alloc: Global, count: u32) -> Result<String, Fail> {
     if 0 < pages.count() {
         pages.mark(0);
     }
-    Ok(format!(in alloc; "{before}, {}", pages.first_missing())?)
+    shown(alloc, &(before, pages.first_missing()))
 }
 
 const ALL_PAGED: &str = "
-    63    => 0, 63
-    64    => 0, 64
-    65    => 0, 65
-    16384 => 0, 16384
+    63    => (0, 63)
+    64    => (0, 64)
+    65    => (0, 65)
+    16384 => (0, 16384)
 ";
 
 /// Marks with the numbers of a list.
@@ -311,21 +311,24 @@ fn marks_text(alloc: Global, marks: Pages) -> Result<String, Fail> {
         return Err("they are read otherwise".into());
     }
     let there = there_text(alloc, &marks)?;
-    let shown = nonzero(alloc, marks.to_bytes().as_slice())?;
-    Ok(format!(in alloc; "{} {there},{shown}", marks.first_missing())?)
+    let bytes = nonzero(alloc, marks.to_bytes().as_slice())?;
+    shown(
+        alloc,
+        &(marks.first_missing(), there.as_str(), bytes.as_slice()),
+    )
 }
 
-const MARKED: &str = "
-    -                 => 0 .............,
-    1,2               => 0 .xx.........., 0:60
-    0,2               => 1 x.x.........., 0:a0
-    0,2,1             => 3 xxx.........., 0:e0
-    0,0,0             => 1 x............, 0:80
-    8,7,6,5,4,3,2,1,0 => 9 xxxxxx......., 0:ff 1:80
-    4095,4096         => 0 ............., 511:01 512:80
-    16383             => 0 ..........x.., 2047:01
-    16383,8,7,1,1     => 0 .x..xx....x.., 0:41 1:80 2047:01
-";
+const MARKED: &str = r#"
+    -                 => (0, ".............", [])
+    1,2               => (0, ".xx..........", [(0, 96)])
+    0,2               => (1, "x.x..........", [(0, 160)])
+    0,2,1             => (3, "xxx..........", [(0, 224)])
+    0,0,0             => (1, "x............", [(0, 128)])
+    8,7,6,5,4,3,2,1,0 => (9, "xxxxxx.......", [(0, 255), (1, 128)])
+    4095,4096         => (0, ".............", [(511, 1), (512, 128)])
+    16383             => (0, "..........x..", [(2047, 1)])
+    16383,8,7,1,1     => (0, ".x..xx....x..", [(0, 65), (1, 128), (2047, 1)])
+"#;
 
 fn all_marks_text(alloc: Global, again: u32) -> Result<String, Fail> {
     let mut marks = Pages::from_bytes(&[0xff; MARKS_SIZE]);
@@ -334,11 +337,11 @@ fn all_marks_text(alloc: Global, again: u32) -> Result<String, Fail> {
         marks.mark(again);
     }
     let all = marks.to_bytes() == [0xff; MARKS_SIZE];
-    Ok(format!(in alloc; "{told:?} {all}")?)
+    shown(alloc, &(told, all))
 }
 
 const ALL_MARKED: &str = "
-    17 => (16384, true, false) true
+    17 => ((16384, true, false), true)
 ";
 
 fn two_pages_text(alloc: Global, mut words: Words<'_>) -> Result<String, Fail> {
@@ -348,57 +351,59 @@ fn two_pages_text(alloc: Global, mut words: Words<'_>) -> Result<String, Fail> {
     if page <= 254 {
         marks.put_bytes(page, &mut bytes);
     }
-    let shown = nonzero(alloc, &bytes)?;
-    Ok(String::from_str(alloc, shown.trim())?)
+    shown(alloc, &nonzero(alloc, &bytes)?)
 }
 
 const TWO_PAGES: &str = "
-    0 0,63,64,128         => 0:80 7:01 8:80
-    1 0,63,64,191,192     => 0:80 15:01
-    254 16255,16256,16383 => 0:80 15:01
+    0 0,63,64,128         => [(0, 128), (7, 1), (8, 128)]
+    1 0,63,64,191,192     => [(0, 128), (15, 1)]
+    254 16255,16256,16383 => [(0, 128), (15, 1)]
 ";
 
 fn below_text(alloc: Global, mut words: Words<'_>) -> Result<String, Fail> {
     let (list, count): (&str, u32) = words.read()?;
     let marks = marks_of(alloc, list)?;
     let bits = marks.to_bits(alloc, count)?;
-    let shown = nonzero(alloc, bits.as_bytes())?;
-    let (first, len) = (marks.first_missing_below(count), bits.as_bytes().len());
-    Ok(format!(in alloc; "{first}, {} bits, {len} bytes,{shown}", bits.len())?)
+    let bytes = nonzero(alloc, bits.as_bytes())?;
+    let (first, size) = (marks.first_missing_below(count), bits.as_bytes().len());
+    shown(alloc, &(first, bits.len(), size, bytes.as_slice()))
 }
 
 const BELOW: &str = "
-    0,2 6         => 1, 6 bits, 1 bytes, 0:a0
-    0,2 0         => 0, 0 bits, 0 bytes,
-    - 6           => 0, 6 bits, 1 bytes,
+    0,2 6         => (1, 6, 1, [(0, 160)])
+    0,2 0         => (0, 0, 0, [])
+    - 6           => (0, 6, 1, [])
     // all below the count are marked, and others above it, which aren't shown
-    0,1,2 3       => 3, 3 bits, 1 bytes, 0:e0
-    0,1,2,3,4,5 3 => 3, 3 bits, 1 bytes, 0:e0
-    0,1,2,5 4     => 3, 4 bits, 1 bytes, 0:e0
+    0,1,2 3       => (3, 3, 1, [(0, 224)])
+    0,1,2,3,4,5 3 => (3, 3, 1, [(0, 224)])
+    0,1,2,5 4     => (3, 4, 1, [(0, 224)])
     // around the end of a byte
-    7,8 7         => 0, 7 bits, 1 bytes,
-    7,8 8         => 0, 8 bits, 1 bytes, 0:01
-    0,7,8 9       => 1, 9 bits, 2 bytes, 0:81 1:80
+    7,8 7         => (0, 7, 1, [])
+    7,8 8         => (0, 8, 1, [(0, 1)])
+    0,7,8 9       => (1, 9, 2, [(0, 129), (1, 128)])
     // the highest number of all, below the greatest count and below the one before it
-    0,16383 16384 => 1, 16384 bits, 2048 bytes, 0:80 2047:01
-    0,16383 16383 => 1, 16383 bits, 2048 bytes, 0:80
+    0,16383 16384 => (1, 16384, 2048, [(0, 128), (2047, 1)])
+    0,16383 16383 => (1, 16383, 2048, [(0, 128)])
 ";
 
 fn pages_below_text(alloc: Global, pages: Pages, count: u32) -> Result<String, Fail> {
     let bits = pages.to_bits(alloc, count)?;
-    let shown = nonzero(alloc, bits.as_bytes())?;
+    let below = nonzero(alloc, bits.as_bytes())?;
     let all = nonzero(alloc, pages.to_bytes().as_slice())?;
     let again = Pages::from_bytes(&pages.to_bytes()).count();
     let (first, len) = (pages.first_missing_below(count), bits.len());
-    Ok(format!(in alloc; "{first}, {len} bits,{shown};{all} {again}")?)
+    shown(
+        alloc,
+        &(first, len, below.as_slice(), all.as_slice(), again),
+    )
 }
 
 const PAGED_BELOW: &str = "
-    6 0,2 4              => 1, 4 bits, 0:a0; 0:a0 16384
+    6 0,2 4              => (1, 4, [(0, 160)], [(0, 160)], 16384)
     // no number at or above the pages' own count is shown
-    6 0,1,2,3,4,5 10     => 6, 6 bits, 0:fc; 0:fc 16384
-    100 64,99 4294967295 => 0, 100 bits, 8:80 12:10; 8:80 12:10 16384
-    0 - 8                => 0, 0 bits,; 16384
+    6 0,1,2,3,4,5 10     => (6, 6, [(0, 252)], [(0, 252)], 16384)
+    100 64,99 4294967295 => (0, 100, [(8, 128), (12, 16)], [(8, 128), (12, 16)], 16384)
+    0 - 8                => (0, 0, [], [], 16384)
 ";
 
 fn resized_text(alloc: Global, pages: Pages, count: u32) -> Result<String, Fail> {
@@ -406,48 +411,50 @@ fn resized_text(alloc: Global, pages: Pages, count: u32) -> Result<String, Fail>
         return Err("too great a count".into());
     }
     let resized = pages.resized(count);
-    let shown = nonzero(alloc, resized.to_bytes().as_slice())?;
-    let (count, first) = (resized.count(), resized.first_missing());
-    Ok(format!(in alloc; "{count} {first},{shown}")?)
+    let bytes = nonzero(alloc, resized.to_bytes().as_slice())?;
+    shown(
+        alloc,
+        &(resized.count(), resized.first_missing(), bytes.as_slice()),
+    )
 }
 
 const RESIZED: &str = "
     // the same count
-    6 0,2 6                      => 6 1, 0:a0
-    0 - 0                        => 0 0,
+    6 0,2 6                      => (6, 1, [(0, 160)])
+    0 - 0                        => (0, 0, [])
     // a greater one: no number is there that wasn't before
-    3 0,1,2 6                    => 6 3, 0:e0
-    4096 0,4095 16384            => 16384 1, 0:80 511:01
+    3 0,1,2 6                    => (6, 3, [(0, 224)])
+    4096 0,4095 16384            => (16384, 1, [(0, 128), (511, 1)])
     // a lower one, and what is above it is lost
-    6 0,1,3,5 4                  => 4 2, 0:d0
-    6 0,1,2,5 3                  => 3 3, 0:e0
-    16384 0,4095,4096,16383 4096 => 4096 1, 0:80 511:01
-    6 0,5 0                      => 0 0,
+    6 0,1,3,5 4                  => (4, 2, [(0, 208)])
+    6 0,1,2,5 3                  => (3, 3, [(0, 224)])
+    16384 0,4095,4096,16383 4096 => (4096, 1, [(0, 128), (511, 1)])
+    6 0,5 0                      => (0, 0, [])
 ";
 
 fn window_text(alloc: Global, set: &BlockSet, mut words: Words<'_>) -> Result<String, Fail> {
     let Some(width) = Width::new(words.read::<u8>()?) else {
-        return Ok(String::from_str(alloc, "no width")?);
+        return text(alloc, "no width");
     };
     let window = Window::next(set, width);
-    Ok(format!(in alloc; "{}: {:?}", width.number(), window.as_slice())?)
+    shown(alloc, &(width.number(), window.as_slice()))
 }
 
 const WINDOWS: &str = "
-    6 0,2 3          => 3: [1, 3, 4]
-    6 0,2,1 3        => 3: [3, 4, 5]
-    6 - 1            => 1: [0]
-    6 - 15           => 15: [0, 1, 2, 3, 4, 5]
-    6 0,1,2,4,5 3    => 3: [3]
-    6 0,1,2,3,4,5 15 => 15: []
+    6 0,2 3          => (3, [1, 3, 4])
+    6 0,2,1 3        => (3, [3, 4, 5])
+    6 - 1            => (1, [0])
+    6 - 15           => (15, [0, 1, 2, 3, 4, 5])
+    6 0,1,2,4,5 3    => (3, [3])
+    6 0,1,2,3,4,5 15 => (15, [])
     // the widest, and none
-    16384 0,3 15     => 15: [1, 2, 4, 5, 6, 7, 8, 9, 10, 11, 12, 13, 14, 15, 16]
+    16384 0,3 15     => (15, [1, 2, 4, 5, 6, 7, 8, 9, 10, 11, 12, 13, 14, 15, 16])
     6 - 0            => no width
     6 - 16           => no width
 ";
 
 #[test]
-fn blocks_and_sets(rt: HostRuntime) -> Result<(), Fail> {
+fn blocks_sets_and_marks(rt: HostRuntime) -> Result<(), Fail> {
     each_table(
         rt.alloc(),
         &[
@@ -458,15 +465,6 @@ fn blocks_and_sets(rt: HostRuntime) -> Result<(), Fail> {
             (Told::Runs, RUNS),
             (Told::Pages, PAGED),
             (Told::AllPages, ALL_PAGED),
-        ],
-    )
-}
-
-#[test]
-fn marks_and_windows(rt: HostRuntime) -> Result<(), Fail> {
-    each_table(
-        rt.alloc(),
-        &[
             (Told::Marks, MARKED),
             (Told::AllMarks, ALL_MARKED),
             (Told::TwoPages, TWO_PAGES),

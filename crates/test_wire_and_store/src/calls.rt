@@ -1,12 +1,12 @@
 //! Calls of a store, one after another. Expected bytes are worked out by hand from the format, and the SHA-256 of `abc` is the
 //! published one.
 
-use crate::headers::{RELEASES_AT, padded, with_patch};
-use crate::support::slot_of;
+use crate::headers::{RELEASES_AT, header_bytes};
+use crate::support::{digits, shown, slot_of, text};
 use fw_store::{HeaderBytes, HeaderVersion, ImageStore, StoreFault};
 use std::alloc::{AllocError, Global};
 use std::test::Fail;
-use test_tables::{Reads, Words, each_line, present};
+use test_tables::{Reads, Words, each_line};
 
 /// A store that is called.
 #[derive(Drop)]
@@ -42,14 +42,10 @@ pub(crate) fn called<S: ImageStore>(
         "write-old-header" => head_text(alloc, store, HeaderVersion::One, words),
         "read" => read_text(alloc, store, words),
         "write" => write_text(alloc, store, words),
-        "capacity" => Ok(number_text(alloc, u64::from(store.capacity()))?),
-        "faults" => Ok(number_text(alloc, store.faults())?),
+        "capacity" => shown(alloc, &store.capacity()),
+        "faults" => shown(alloc, &store.faults()),
         _ => Err("no call has this name".into()),
     }
-}
-
-fn number_text(alloc: Global, number: u64) -> Result<String, AllocError> {
-    format!(in alloc; "{number}")
 }
 
 fn head_text<S: ImageStore>(
@@ -60,25 +56,21 @@ fn head_text<S: ImageStore>(
 ) -> Result<String, Fail> {
     let begin = hex::decode(alloc, words.next().unwrap_or(""))?;
     let tail = hex::decode(alloc, words.rest())?;
-    let front = present(padded(version, &begin), "it is too long")?;
-    let bytes = present(with_patch(&front, RELEASES_AT, &tail), "it is too long")?;
-    Ok(done_text(alloc, store.write_header(&bytes))?)
-}
-
-fn header_text(alloc: Global, header: Result<HeaderBytes, StoreFault>) -> Result<String, Fail> {
-    match header {
-        Ok(bytes) => versioned_text(alloc, &bytes),
-        Err(fault) => Ok(fault.to_string(alloc)?),
-    }
+    let bytes = header_bytes(version, &begin, RELEASES_AT, &tail)?;
+    done_text(alloc, store.write_header(&bytes))
 }
 
 /// The bytes of a header, and of which version they are where that isn't 2.
-fn versioned_text(alloc: Global, bytes: &HeaderBytes) -> Result<String, Fail> {
-    let text = bytes_text(alloc, bytes)?;
-    Ok(match bytes.version() {
-        HeaderVersion::One => format!(in alloc; "{text} (version 1)")?,
-        HeaderVersion::Two => text,
-    })
+fn header_text(alloc: Global, header: Result<HeaderBytes, StoreFault>) -> Result<String, Fail> {
+    let bytes = match header {
+        Ok(bytes) => bytes,
+        Err(fault) => return shown(alloc, &fault),
+    };
+    let mut text = bytes_text(alloc, &bytes)?;
+    if bytes.version() == HeaderVersion::One {
+        text.push_str(" (version 1)")?;
+    }
+    Ok(text)
 }
 
 /// The bytes of a header as far as they aren't zeros, and the releases and the marks after them where they aren't zeros alone.
@@ -114,10 +106,10 @@ pub(crate) fn trimmed_text(alloc: Global, bytes: &[u8]) -> Result<String, AllocE
     hex::encode(alloc, bytes.get(..len).unwrap_or(&[]))
 }
 
-fn done_text(alloc: Global, answer: Result<(), StoreFault>) -> Result<String, AllocError> {
+fn done_text(alloc: Global, answer: Result<(), StoreFault>) -> Result<String, Fail> {
     match answer {
-        Ok(()) => String::from_str(alloc, "done"),
-        Err(fault) => fault.to_string(alloc),
+        Ok(()) => text(alloc, "done"),
+        Err(fault) => shown(alloc, &fault),
     }
 }
 
@@ -129,13 +121,13 @@ fn read_text<S: ImageStore>(
     let (slot, at, count): (&str, u32, u32) = words.read()?;
     let slot = slot_of(slot)?;
     if u64::from(at) + u64::from(count) > u64::from(store.capacity()) {
-        return Ok(String::from_str(alloc, "outside")?);
+        return text(alloc, "outside");
     }
     let mut bytes = vec![in alloc; 0; count as usize]?;
-    Ok(match store.read(slot, at, &mut bytes) {
-        Ok(()) => hex::encode(alloc, bytes.as_slice())?,
-        Err(fault) => fault.to_string(alloc)?,
-    })
+    match store.read(slot, at, &mut bytes) {
+        Ok(()) => digits(alloc, bytes.as_slice()),
+        Err(fault) => shown(alloc, &fault),
+    }
 }
 
 fn write_text<S: ImageStore>(
@@ -147,9 +139,9 @@ fn write_text<S: ImageStore>(
     let slot = slot_of(slot)?;
     let bytes = words.rest().as_bytes();
     if u64::from(at) + bytes.len() as u64 > u64::from(store.capacity()) {
-        return Ok(String::from_str(alloc, "outside")?);
+        return text(alloc, "outside");
     }
-    Ok(done_text(alloc, store.write(slot, at, bytes))?)
+    done_text(alloc, store.write(slot, at, bytes))
 }
 
 /// Of a new store with blocks of 2 bytes, the factory image `abc`, and 8 bytes a slot.
@@ -195,14 +187,11 @@ pub(crate) const OLD_FRESH: &str = "
 pub(crate) fn stored_text(alloc: Global, bytes: &[u8]) -> Result<String, Fail> {
     let len = bytes.len();
     if len != 634 && len != 642 && len != 2178 {
-        return Ok(format!(in alloc; "{len} bytes")?);
+        return shown(alloc, &len);
     }
-    let capacity = hex::encode(alloc, &bytes[..4])?;
     let header = trimmed_text(alloc, &bytes[4..618])?;
-    let slots = hex::encode(alloc, &bytes[618..634])?;
-    if len == 634 {
-        return Ok(format!(in alloc; "{len} bytes: {capacity} {header} {slots}")?);
-    }
+    let slots = digits(alloc, &bytes[618..634])?;
     let tail = tail_text(alloc, &bytes[634..])?;
-    Ok(format!(in alloc; "{len} bytes: {capacity} {header} {slots} {tail}")?)
+    let (header, slots, tail) = (header.as_str(), slots.as_str(), tail.as_str());
+    shown(alloc, &(len, &bytes[..4], header, slots, tail))
 }

@@ -1,6 +1,7 @@
 //! Captures (pcap; RFC 768, RFC 791, RFC 1071, RFC 8200). The bytes were made by a script over Python's `struct` and `ipaddress`, and
 //! tshark reads them: each checksum is good.
 
+use crate::support::shown;
 use fw_capture::{Captured, Content, Note, append_packet, file_header};
 use std::alloc::Global;
 use std::net::SocketAddr;
@@ -87,18 +88,18 @@ fn size_text(alloc: Global, at: SocketAddr, size: usize) -> Result<String, Fail>
         nanoseconds: 0,
         content,
     };
-    Ok(match append_packet(&mut capture, &captured) {
-        Ok(()) => format!(in alloc; "{}", capture.len())?,
-        Err(refusal) => format!(in alloc; "{refusal} {}", capture.len())?,
-    })
+    match append_packet(&mut capture, &captured) {
+        Ok(()) => shown(alloc, &capture.len()),
+        Err(refusal) => shown(alloc, &(refusal, capture.len())),
+    }
 }
 
 /// The longest datagrams of both families, and those of a byte more.
 const SIZES: &str = "
     127.0.0.1:1 65507 => 65551
-    127.0.0.1:1 65508 => TooLong 0
+    127.0.0.1:1 65508 => (TooLong, 0)
     [::1]:1 65487     => 65551
-    [::1]:1 65488     => TooLong 0
+    [::1]:1 65488     => (TooLong, 0)
 ";
 
 fn note_text(alloc: Global, nanoseconds: u64, name: &str) -> Result<String, Fail> {

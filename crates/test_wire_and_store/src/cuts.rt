@@ -1,5 +1,6 @@
 //! The journal of a header write, what is taken for a cut of one, and what is made of it. The digest is that of `sha256sum`.
 
+use crate::support::text;
 use crate::test_device::TestDevice;
 use fw_store::{Scratch, prepare_journal, recover};
 use fw_undo::{Change, HeaderWrite, MAX_JOURNAL_SIZE, MAX_PART_SIZE};
@@ -52,7 +53,7 @@ impl Reads for Found {
         let mut words = Words::new(what);
         let first = hex::decode(alloc, words.word()?)?;
         let last = hex::decode(alloc, words.rest())?;
-        Ok(String::from_str(alloc, torn_text(&first, &last)?)?)
+        text(alloc, torn_text(&first, &last)?)
     }
 }
 

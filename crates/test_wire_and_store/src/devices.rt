@@ -1,6 +1,7 @@
 //! Stores on a device in memory, whose bytes are compared with the format.
 
 use crate::calls::{FRESH, KEPT, OLD_FRESH, OLD_FRONT, WRITES, calls, stored_text};
+use crate::support::shown;
 use crate::test_device::TestDevice;
 use fw_store::{ByteDevice, DeviceStore, FileStoreError, ImageStore};
 use std::alloc::{AllocError, Global};
@@ -42,7 +43,7 @@ impl Reads for Told {
 /// - `old LEN CALLS`: of an old one of LEN bytes, with releases or without
 /// - `within ROOM CALLS`: of an old one of 642 bytes on a device that has room for ROOM bytes
 /// - `over LEN`: of a new store on a device that had other bytes, which are no part of it
-/// - `failing CALLS`: whether the device, which fails as soon as the store is opened, fails then, and its bytes
+/// - `failing CALLS`: of a store whose device fails as soon as it is opened, and still does after the calls
 fn stored(alloc: Global, mut words: Words<'_>) -> Result<String, Fail> {
     match words.word()? {
         "new" => left_by(alloc, fresh(alloc)?, words),
@@ -101,14 +102,14 @@ fn table_of(name: &str) -> Result<&'static str, Fail> {
     })
 }
 
-const STORED: &str = "
-    new fresh => 2178 bytes: 00000008 46574832000000000000000200000003010000000000000000ba7816bf8f01cfea414140de5dae2223b00361a396177a9cb410ff61f20015ad 61626300000000000000000000000000 0000000000000000
-    new writes   => 2178 bytes: 00000008 0102030405 61787900000000000000000000707172 0000000000000000
-    new tail     => 2178 bytes: 00000008 07 61626300000000000000000000000000 0000000500000006 80
+const STORED: &str = r#"
+    new fresh => (2178, [0, 0, 0, 8], "46574832000000000000000200000003010000000000000000ba7816bf8f01cfea414140de5dae2223b00361a396177a9cb410ff61f20015ad", "61626300000000000000000000000000", "0000000000000000")
+    new writes   => (2178, [0, 0, 0, 8], "0102030405", "61787900000000000000000000707172", "0000000000000000")
+    new tail     => (2178, [0, 0, 0, 8], "07", "61626300000000000000000000000000", "0000000500000006 80")
     // an old header makes it shorter, and a new one longer again, with nothing left of what stood there
-    new old-tail => 642 bytes: 00000008 08 61626300000000000000000000000000 0000000300000004
-    new both     => 2178 bytes: 00000008 09 61626300000000000000000000000000 0000000000000000
-";
+    new old-tail => (642, [0, 0, 0, 8], "08", "61626300000000000000000000000000", "0000000300000004")
+    new both     => (2178, [0, 0, 0, 8], "09", "61626300000000000000000000000000", "0000000000000000")
+"#;
 
 /// The last bytes of a header stand after the second slot: two releases, and a mark of block 4,096.
 const TAIL: &str = "
@@ -136,16 +137,16 @@ const LAST: &str = "
 
 /// Releases that aren't there are 0. The next write of its header gives it the length of the version that is written, and no other call
 /// changes its length.
-const OLD: &str = "
-    old 634 old-fresh => 634 bytes: 00000008 46574831000000000000000200000003010000000000000000ba7816bf8f01cfea414140de5dae2223b00361a396177a9cb410ff61f20015ad 61626300000000000000000000000000
-    old 642 old-fresh => 642 bytes: 00000008 46574831000000000000000200000003010000000000000000ba7816bf8f01cfea414140de5dae2223b00361a396177a9cb410ff61f20015ad 61626300000000000000000000000000 0000000000000000
-    old 634 last => 634 bytes: 00000008 46574831000000000000000200000003010000000000000000ba7816bf8f01cfea414140de5dae2223b00361a396177a9cb410ff61f20015ad 61626300000000000000000000707172
-    old 634 writes   => 2178 bytes: 00000008 0102030405 61787900000000000000000000707172 0000000000000000
-    old 642 writes   => 2178 bytes: 00000008 0102030405 61787900000000000000000000707172 0000000000000000
-    old 634 tail     => 2178 bytes: 00000008 07 61626300000000000000000000000000 0000000500000006 80
-    old 634 old-tail => 642 bytes: 00000008 08 61626300000000000000000000000000 0000000300000004
-    old 642 old-tail => 642 bytes: 00000008 08 61626300000000000000000000000000 0000000300000004
-";
+const OLD: &str = r#"
+    old 634 old-fresh => (634, [0, 0, 0, 8], "46574831000000000000000200000003010000000000000000ba7816bf8f01cfea414140de5dae2223b00361a396177a9cb410ff61f20015ad", "61626300000000000000000000000000", "")
+    old 642 old-fresh => (642, [0, 0, 0, 8], "46574831000000000000000200000003010000000000000000ba7816bf8f01cfea414140de5dae2223b00361a396177a9cb410ff61f20015ad", "61626300000000000000000000000000", "0000000000000000")
+    old 634 last => (634, [0, 0, 0, 8], "46574831000000000000000200000003010000000000000000ba7816bf8f01cfea414140de5dae2223b00361a396177a9cb410ff61f20015ad", "61626300000000000000000000707172", "")
+    old 634 writes   => (2178, [0, 0, 0, 8], "0102030405", "61787900000000000000000000707172", "0000000000000000")
+    old 642 writes   => (2178, [0, 0, 0, 8], "0102030405", "61787900000000000000000000707172", "0000000000000000")
+    old 634 tail     => (2178, [0, 0, 0, 8], "07", "61626300000000000000000000000000", "0000000500000006 80")
+    old 634 old-tail => (642, [0, 0, 0, 8], "08", "61626300000000000000000000000000", "0000000300000004")
+    old 642 old-tail => (642, [0, 0, 0, 8], "08", "61626300000000000000000000000000", "0000000300000004")
+"#;
 
 const NO_ROOM: &str = "
     write-header 07 => StoreFault
@@ -153,29 +154,16 @@ const NO_ROOM: &str = "
 ";
 
 /// A header for which there is no room isn't written: the old one stands.
-const WITHIN: &str = "
-    within 2177 no-room => 642 bytes: 00000008 46574831000000000000000200000003010000000000000000ba7816bf8f01cfea414140de5dae2223b00361a396177a9cb410ff61f20015ad 61626300000000000000000000000000 0000000000000000
-    within 642 old-tail => 642 bytes: 00000008 08 61626300000000000000000000000000 0000000300000004
-    within 2178 tail    => 2178 bytes: 00000008 07 61626300000000000000000000000000 0000000500000006 80
-";
+const WITHIN: &str = r#"
+    within 2177 no-room => (642, [0, 0, 0, 8], "46574831000000000000000200000003010000000000000000ba7816bf8f01cfea414140de5dae2223b00361a396177a9cb410ff61f20015ad", "61626300000000000000000000000000", "0000000000000000")
+    within 642 old-tail => (642, [0, 0, 0, 8], "08", "61626300000000000000000000000000", "0000000300000004")
+    within 2178 tail    => (2178, [0, 0, 0, 8], "07", "61626300000000000000000000000000", "0000000500000006 80")
+"#;
 
 /// A device that had 3,000 bytes has those of a new store.
-const OVER: &str = "
-    over 3000 => 2178 bytes: 00000008 46574832000000000000000200000003010000000000000000ba7816bf8f01cfea414140de5dae2223b00361a396177a9cb410ff61f20015ad 61626300000000000000000000000000 0000000000000000
-";
-
-#[test]
-fn the_bytes_of_a_store(rt: HostRuntime) -> Result<(), Fail> {
-    each_table(
-        rt.alloc(),
-        &[
-            (Told::Stored, STORED),
-            (Told::Stored, OLD),
-            (Told::Stored, WITHIN),
-            (Told::Stored, OVER),
-        ],
-    )
-}
+const OVER: &str = r#"
+    over 3000 => (2178, [0, 0, 0, 8], "46574832000000000000000200000003010000000000000000ba7816bf8f01cfea414140de5dae2223b00361a396177a9cb410ff61f20015ad", "61626300000000000000000000000000", "0000000000000000")
+"#;
 
 #[test]
 fn keeps_what_is_written(rt: HostRuntime) -> Result<(), Fail> {
@@ -191,10 +179,10 @@ fn keeps_what_is_written(rt: HostRuntime) -> Result<(), Fail> {
 fn opened_text(alloc: Global, mut words: Words<'_>) -> Result<String, Fail> {
     let len = words.number()? as usize;
     let device = device_of(alloc, len, &hex::decode(alloc, words.rest())?)?;
-    Ok(match DeviceStore::reopen_on(device) {
-        Ok(store) => format!(in alloc; "{}", store.capacity())?,
-        Err(refusal) => refusal.to_string(alloc)?,
-    })
+    match DeviceStore::reopen_on(device) {
+        Ok(store) => shown(alloc, &store.capacity()),
+        Err(refusal) => shown(alloc, &refusal),
+    }
 }
 
 fn device_of(alloc: Global, len: usize, begin: &[u8]) -> Result<TestDevice, AllocError> {
@@ -249,7 +237,7 @@ fn created_text(alloc: Global, mut words: Words<'_>) -> Result<String, Fail> {
     let [room, capacity, block_size]: [u32; 3] = words.read()?;
     let device = TestDevice::new(alloc, room as usize)?;
     let store = DeviceStore::create_on(device, capacity, block_size, words.rest().as_bytes());
-    Ok(format!(in alloc; "{:?}", store.err())?)
+    shown(alloc, &store.err())
 }
 
 const CREATED: &str = "
@@ -265,14 +253,6 @@ const CREATED: &str = "
     2289 64 2 abc         => Some(StoreFault)
 ";
 
-#[test]
-fn which_stores_are_opened_and_made(rt: HostRuntime) -> Result<(), Fail> {
-    each_table(
-        rt.alloc(),
-        &[(Told::Opened, OPENED), (Told::Created, CREATED)],
-    )
-}
-
 fn failing_text(alloc: Global, mut words: Words<'_>) -> Result<String, Fail> {
     let (what, calls): (&str, u64) = words.read()?;
     let refusal = match what {
@@ -287,7 +267,7 @@ fn failing_text(alloc: Global, mut words: Words<'_>) -> Result<String, Fail> {
             DeviceStore::reopen_on(device).err()
         }
     };
-    Ok(format!(in alloc; "{refusal:?}")?)
+    shown(alloc, &refusal)
 }
 
 /// A store is made by six calls of its device, and opened by two.
@@ -319,15 +299,16 @@ fn failing(alloc: Global, words: Words<'_>) -> Result<String, Fail> {
     let mut store = Kept(DeviceStore::reopen_on(device)?);
     calls(alloc, &mut store.0, table_of(words.rest())?)?;
     let mut device = store.into_inner().into_device();
-    let fails = device.len().is_err();
-    let bytes = stored_text(alloc, device.bytes.as_slice())?;
-    Ok(format!(in alloc; "{fails} {bytes}")?)
+    if device.len().is_ok() {
+        return Err("the device doesn't fail".into());
+    }
+    stored_text(alloc, device.bytes.as_slice())
 }
 
 /// They leave the old header, and other bytes in the range of a write.
-const LEFT: &str = "
-    failing faults => true 2178 bytes: 00000008 46574832000000000000000200000003010000000000000000ba7816bf8f01cfea414140de5dae2223b00361a396177a9cb410ff61f20015ad eeeeeeee000000000000000000000000 0000000000000000
-";
+const LEFT: &str = r#"
+    failing faults => (2178, [0, 0, 0, 8], "46574832000000000000000200000003010000000000000000ba7816bf8f01cfea414140de5dae2223b00361a396177a9cb410ff61f20015ad", "eeeeeeee000000000000000000000000", "0000000000000000")
+"#;
 
 const REFUSALS: &[(FileStoreError, &str)] = &[
     (FileStoreError::StoreFault, "StoreFault"),
@@ -337,10 +318,19 @@ const REFUSALS: &[(FileStoreError, &str)] = &[
 ];
 
 #[test]
-fn devices_that_fail(rt: HostRuntime) -> Result<(), Fail> {
+fn the_bytes_of_a_store(rt: HostRuntime) -> Result<(), Fail> {
     each_table(
         rt.alloc(),
-        &[(Told::Failing, FAILING), (Told::Stored, LEFT)],
+        &[
+            (Told::Stored, STORED),
+            (Told::Stored, OLD),
+            (Told::Stored, WITHIN),
+            (Told::Stored, OVER),
+            (Told::Opened, OPENED),
+            (Told::Created, CREATED),
+            (Told::Failing, FAILING),
+            (Told::Stored, LEFT),
+        ],
     )?;
     each_prints(rt.alloc(), REFUSALS)
 }

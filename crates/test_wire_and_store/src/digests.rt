@@ -1,6 +1,6 @@
 //! Digests of slots (FIPS 180-4).
 
-use crate::support::slot_of;
+use crate::support::{digits, shown, slot_of};
 use fw_store::{ImageStore, MemoryStore, Slot};
 use fw_verify::{Digesting, digest};
 use sha2::{Digest, Sha256};
@@ -60,7 +60,7 @@ fn published_text(alloc: Global, mut words: Words<'_>) -> Result<String, Fail> {
     let (slot, size): (&str, u32) = words.read()?;
     let found = digest_in(alloc, slot_of(slot)?, b"abcd", size, 9)?;
     let digest = present(found, "a fault")?;
-    Ok(hex::encode(alloc, digest)?)
+    digits(alloc, &digest)
 }
 
 /// The SHA-256 of no bytes, and of `abc`.
@@ -74,8 +74,7 @@ const PUBLISHED: &str = "
 fn whole_text(alloc: Global, size: u32) -> Result<String, Fail> {
     let whole = Sha256::digest(counted(alloc, size)?.as_slice());
     let found = digest_in(alloc, Slot::Second, &counted(alloc, 8_200)?, size, 9)?;
-    let same = found == Some(whole);
-    Ok(format!(in alloc; "{same}")?)
+    shown(alloc, &(found == Some(whole)))
 }
 
 fn counted(alloc: Global, size: u32) -> Result<Vec<u8>, Fail> {
@@ -103,8 +102,8 @@ const WHOLE: &str = "
 
 fn failing_text(alloc: Global, mut words: Words<'_>) -> Result<String, Fail> {
     let (size, calls): (u32, u64) = words.read()?;
-    let found = digest_in(alloc, Slot::First, b"abc", size, calls)?.is_some();
-    Ok(format!(in alloc; "{found}")?)
+    let found = digest_in(alloc, Slot::First, b"abc", size, calls)?;
+    shown(alloc, &found.is_some())
 }
 
 /// 4,096 bytes are read at once, and after a fault the store isn't asked again.
@@ -137,28 +136,27 @@ fn steps_told(
     }
     store.write(Slot::Second, 0, bytes)?;
     let mut digesting = Digesting::begin(Slot::Second, size);
-    let first = digesting.step(store)?;
-    let one = digesting.taken();
-    let second = digesting.step(store)?;
-    let two = digesting.taken();
+    let first = (digesting.step(store)?, digesting.taken());
+    let second = (digesting.step(store)?, digesting.taken());
     store.fuse(0, 0);
     let fails = digesting.step(store).is_err();
     store.unfuse();
-    let third = digesting.step(store)?;
-    let three = digesting.taken();
+    let third = (digesting.step(store)?, digesting.taken());
     store.fuse(0, 0);
     if !digesting.step(store)? {
         return Err("some bytes are left".into());
     }
-    let same = digesting.finish() == *whole;
-    Ok(format!(in alloc; "{one} {first}, {two} {second}, fails {fails}, {three} {third}, {same}")?)
+    shown(
+        alloc,
+        &(first, second, fails, third, digesting.finish() == *whole),
+    )
 }
 
 const STEPS: &str = "
-    0    => 0 true, 0 true, fails false, 0 true, true
-    4096 => 4096 true, 4096 true, fails false, 4096 true, true
-    4097 => 4096 false, 4097 true, fails false, 4097 true, true
-    8193 => 4096 false, 8192 false, fails true, 8193 true, true
+    0    => ((true, 0), (true, 0), false, (true, 0), true)
+    4096 => ((true, 4096), (true, 4096), false, (true, 4096), true)
+    4097 => ((false, 4096), (true, 4097), false, (true, 4097), true)
+    8193 => ((false, 4096), (false, 8192), true, (true, 8193), true)
 ";
 
 #[test]

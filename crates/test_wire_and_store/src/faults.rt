@@ -4,88 +4,88 @@ use crate::session::{TO_VERIFIED, sessions};
 use std::test::Fail;
 
 /// The read of the image fails, or the write of the header. Then it is verified all the same.
-const A_VERIFY_THAT_FAILS: &str = "
-    enable true => true, NotInitiated, no goal, marks, runs 3 of 0 0 ba7816bf
-    initiate 4  => true, Initiated, goal 4 of 2 1 81cc5b17, marks, runs 3 of 0 0 ba7816bf
-    block 0 bb  => true, Initiated, goal 4 of 2 1 81cc5b17, marks 0, runs 3 of 0 0 ba7816bf
-    block 1 bb  => true, Initiated, goal 4 of 2 1 81cc5b17, marks 0 1, runs 3 of 0 0 ba7816bf
-    fuse 0 0    => true, Initiated, goal 4 of 2 1 81cc5b17, marks 0 1, runs 3 of 0 0 ba7816bf
-    verify      => Fault: true, Initiated, goal 4 of 2 1 81cc5b17, marks 0 1, runs 3 of 0 0 ba7816bf
-    fuse 1 0    => true, Initiated, goal 4 of 2 1 81cc5b17, marks 0 1, runs 3 of 0 0 ba7816bf
-    verify      => Fault: true, Initiated, goal 4 of 2 1 81cc5b17, marks 0 1, runs 3 of 0 0 ba7816bf
-    unfuse      => true, Initiated, goal 4 of 2 1 81cc5b17, marks 0 1, runs 3 of 0 0 ba7816bf
-    reopen      => true, Initiated, goal 4 of 2 1 81cc5b17, marks 0 1, runs 3 of 0 0 ba7816bf
-    fuse 2 0    => true, Initiated, goal 4 of 2 1 81cc5b17, marks 0 1, runs 3 of 0 0 ba7816bf
-    verify      => true, VerificationSuccessful, goal 4 of 2 1 81cc5b17, marks 0 1, runs 3 of 0 0 ba7816bf
-    unfuse      => true, VerificationSuccessful, goal 4 of 2 1 81cc5b17, marks 0 1, runs 3 of 0 0 ba7816bf
-    reopen      => true, VerificationSuccessful, goal 4 of 2 1 81cc5b17, marks 0 1, runs 3 of 0 0 ba7816bf
-";
+const A_VERIFY_THAT_FAILS: &str = r#"
+    enable true => (None, true, NotInitiated, None, [], (3, None, 0, 0, "abc"))
+    initiate 4  => (None, true, Initiated, Some((4, Some(2), 1, 0, "bbbb")), [], (3, None, 0, 0, "abc"))
+    block 0 bb  => (None, true, Initiated, Some((4, Some(2), 1, 0, "bbbb")), [0], (3, None, 0, 0, "abc"))
+    block 1 bb  => (None, true, Initiated, Some((4, Some(2), 1, 0, "bbbb")), [0, 1], (3, None, 0, 0, "abc"))
+    fuse 0 0    => (None, true, Initiated, Some((4, Some(2), 1, 0, "bbbb")), [0, 1], (3, None, 0, 0, "abc"))
+    verify      => (Some(Fault), true, Initiated, Some((4, Some(2), 1, 0, "bbbb")), [0, 1], (3, None, 0, 0, "abc"))
+    fuse 1 0    => (None, true, Initiated, Some((4, Some(2), 1, 0, "bbbb")), [0, 1], (3, None, 0, 0, "abc"))
+    verify      => (Some(Fault), true, Initiated, Some((4, Some(2), 1, 0, "bbbb")), [0, 1], (3, None, 0, 0, "abc"))
+    unfuse      => (None, true, Initiated, Some((4, Some(2), 1, 0, "bbbb")), [0, 1], (3, None, 0, 0, "abc"))
+    reopen      => (None, true, Initiated, Some((4, Some(2), 1, 0, "bbbb")), [0, 1], (3, None, 0, 0, "abc"))
+    fuse 2 0    => (None, true, Initiated, Some((4, Some(2), 1, 0, "bbbb")), [0, 1], (3, None, 0, 0, "abc"))
+    verify      => (None, true, VerificationSuccessful, Some((4, Some(2), 1, 0, "bbbb")), [0, 1], (3, None, 0, 0, "abc"))
+    unfuse      => (None, true, VerificationSuccessful, Some((4, Some(2), 1, 0, "bbbb")), [0, 1], (3, None, 0, 0, "abc"))
+    reopen      => (None, true, VerificationSuccessful, Some((4, Some(2), 1, 0, "bbbb")), [0, 1], (3, None, 0, 0, "abc"))
+"#;
 
 /// The same of an image whose digest differs, which is not known before the header is written.
-const A_SPOILT_VERIFY_THAT_FAILS: &str = "
-    enable true => true, NotInitiated, no goal, marks, runs 3 of 0 0 ba7816bf
-    initiate 4  => true, Initiated, goal 4 of 2 1 81cc5b17, marks, runs 3 of 0 0 ba7816bf
-    block 0 bb  => true, Initiated, goal 4 of 2 1 81cc5b17, marks 0, runs 3 of 0 0 ba7816bf
-    block 1 aa  => true, Initiated, goal 4 of 2 1 81cc5b17, marks 0 1, runs 3 of 0 0 ba7816bf
-    fuse 0 0    => true, Initiated, goal 4 of 2 1 81cc5b17, marks 0 1, runs 3 of 0 0 ba7816bf
-    verify      => Fault: true, Initiated, goal 4 of 2 1 81cc5b17, marks 0 1, runs 3 of 0 0 ba7816bf
-    fuse 1 0    => true, Initiated, goal 4 of 2 1 81cc5b17, marks 0 1, runs 3 of 0 0 ba7816bf
-    verify      => Fault: true, Initiated, goal 4 of 2 1 81cc5b17, marks 0 1, runs 3 of 0 0 ba7816bf
-    fuse 2 0    => true, Initiated, goal 4 of 2 1 81cc5b17, marks 0 1, runs 3 of 0 0 ba7816bf
-    verify      => Differs: true, VerificationFailed, goal 4 of 2 1 81cc5b17, marks 0 1, runs 3 of 0 0 ba7816bf
-    unfuse      => true, VerificationFailed, goal 4 of 2 1 81cc5b17, marks 0 1, runs 3 of 0 0 ba7816bf
-    reopen      => true, VerificationFailed, goal 4 of 2 1 81cc5b17, marks 0 1, runs 3 of 0 0 ba7816bf
-";
+const A_SPOILT_VERIFY_THAT_FAILS: &str = r#"
+    enable true => (None, true, NotInitiated, None, [], (3, None, 0, 0, "abc"))
+    initiate 4  => (None, true, Initiated, Some((4, Some(2), 1, 0, "bbbb")), [], (3, None, 0, 0, "abc"))
+    block 0 bb  => (None, true, Initiated, Some((4, Some(2), 1, 0, "bbbb")), [0], (3, None, 0, 0, "abc"))
+    block 1 aa  => (None, true, Initiated, Some((4, Some(2), 1, 0, "bbbb")), [0, 1], (3, None, 0, 0, "abc"))
+    fuse 0 0    => (None, true, Initiated, Some((4, Some(2), 1, 0, "bbbb")), [0, 1], (3, None, 0, 0, "abc"))
+    verify      => (Some(Fault), true, Initiated, Some((4, Some(2), 1, 0, "bbbb")), [0, 1], (3, None, 0, 0, "abc"))
+    fuse 1 0    => (None, true, Initiated, Some((4, Some(2), 1, 0, "bbbb")), [0, 1], (3, None, 0, 0, "abc"))
+    verify      => (Some(Fault), true, Initiated, Some((4, Some(2), 1, 0, "bbbb")), [0, 1], (3, None, 0, 0, "abc"))
+    fuse 2 0    => (None, true, Initiated, Some((4, Some(2), 1, 0, "bbbb")), [0, 1], (3, None, 0, 0, "abc"))
+    verify      => (Some(Differs), true, VerificationFailed, Some((4, Some(2), 1, 0, "bbbb")), [0, 1], (3, None, 0, 0, "abc"))
+    unfuse      => (None, true, VerificationFailed, Some((4, Some(2), 1, 0, "bbbb")), [0, 1], (3, None, 0, 0, "abc"))
+    reopen      => (None, true, VerificationFailed, Some((4, Some(2), 1, 0, "bbbb")), [0, 1], (3, None, 0, 0, "abc"))
+"#;
 
 /// The write of the block fails and leaves its first half, or the block is there and its mark isn't.
-const A_BLOCK_THAT_FAILS: &str = "
-    enable true           => true, NotInitiated, no goal, marks, runs 3 of 0 0 ba7816bf
-    initiate 4            => true, Initiated, goal 4 of 2 1 81cc5b17, marks, runs 3 of 0 0 ba7816bf
-    fuse 0 238            => true, Initiated, goal 4 of 2 1 81cc5b17, marks, runs 3 of 0 0 ba7816bf
-    block 0 ab            => Fault: true, Initiated, goal 4 of 2 1 81cc5b17, marks, runs 3 of 0 0 ba7816bf
-    unfuse                => true, Initiated, goal 4 of 2 1 81cc5b17, marks, runs 3 of 0 0 ba7816bf
-    holds second 61ee0000 => true, Initiated, goal 4 of 2 1 81cc5b17, marks, runs 3 of 0 0 ba7816bf
-    fuse 1 238            => true, Initiated, goal 4 of 2 1 81cc5b17, marks, runs 3 of 0 0 ba7816bf
-    block 0 ab            => Fault: true, Initiated, goal 4 of 2 1 81cc5b17, marks, runs 3 of 0 0 ba7816bf
-    unfuse                => true, Initiated, goal 4 of 2 1 81cc5b17, marks, runs 3 of 0 0 ba7816bf
-    holds second 61620000 => true, Initiated, goal 4 of 2 1 81cc5b17, marks, runs 3 of 0 0 ba7816bf
-    fuse 2 238            => true, Initiated, goal 4 of 2 1 81cc5b17, marks, runs 3 of 0 0 ba7816bf
-    block 0 ab            => true, Initiated, goal 4 of 2 1 81cc5b17, marks 0, runs 3 of 0 0 ba7816bf
-    unfuse                => true, Initiated, goal 4 of 2 1 81cc5b17, marks 0, runs 3 of 0 0 ba7816bf
+const A_BLOCK_THAT_FAILS: &str = r#"
+    enable true           => (None, true, NotInitiated, None, [], (3, None, 0, 0, "abc"))
+    initiate 4            => (None, true, Initiated, Some((4, Some(2), 1, 0, "bbbb")), [], (3, None, 0, 0, "abc"))
+    fuse 0 238            => (None, true, Initiated, Some((4, Some(2), 1, 0, "bbbb")), [], (3, None, 0, 0, "abc"))
+    block 0 ab            => (Some(Fault), true, Initiated, Some((4, Some(2), 1, 0, "bbbb")), [], (3, None, 0, 0, "abc"))
+    unfuse                => (None, true, Initiated, Some((4, Some(2), 1, 0, "bbbb")), [], (3, None, 0, 0, "abc"))
+    holds second 61ee0000 => (None, true, Initiated, Some((4, Some(2), 1, 0, "bbbb")), [], (3, None, 0, 0, "abc"))
+    fuse 1 238            => (None, true, Initiated, Some((4, Some(2), 1, 0, "bbbb")), [], (3, None, 0, 0, "abc"))
+    block 0 ab            => (Some(Fault), true, Initiated, Some((4, Some(2), 1, 0, "bbbb")), [], (3, None, 0, 0, "abc"))
+    unfuse                => (None, true, Initiated, Some((4, Some(2), 1, 0, "bbbb")), [], (3, None, 0, 0, "abc"))
+    holds second 61620000 => (None, true, Initiated, Some((4, Some(2), 1, 0, "bbbb")), [], (3, None, 0, 0, "abc"))
+    fuse 2 238            => (None, true, Initiated, Some((4, Some(2), 1, 0, "bbbb")), [], (3, None, 0, 0, "abc"))
+    block 0 ab            => (None, true, Initiated, Some((4, Some(2), 1, 0, "bbbb")), [0], (3, None, 0, 0, "abc"))
+    unfuse                => (None, true, Initiated, Some((4, Some(2), 1, 0, "bbbb")), [0], (3, None, 0, 0, "abc"))
     // its mark is there, so one call is enough, and a failure leaves the mark
-    fuse 1 238            => true, Initiated, goal 4 of 2 1 81cc5b17, marks 0, runs 3 of 0 0 ba7816bf
-    block 0 cd            => true, Initiated, goal 4 of 2 1 81cc5b17, marks 0, runs 3 of 0 0 ba7816bf
-    block 0 ef            => Fault: true, Initiated, goal 4 of 2 1 81cc5b17, marks 0, runs 3 of 0 0 ba7816bf
-    unfuse                => true, Initiated, goal 4 of 2 1 81cc5b17, marks 0, runs 3 of 0 0 ba7816bf
-    holds second 65ee0000 => true, Initiated, goal 4 of 2 1 81cc5b17, marks 0, runs 3 of 0 0 ba7816bf
-";
+    fuse 1 238            => (None, true, Initiated, Some((4, Some(2), 1, 0, "bbbb")), [0], (3, None, 0, 0, "abc"))
+    block 0 cd            => (None, true, Initiated, Some((4, Some(2), 1, 0, "bbbb")), [0], (3, None, 0, 0, "abc"))
+    block 0 ef            => (Some(Fault), true, Initiated, Some((4, Some(2), 1, 0, "bbbb")), [0], (3, None, 0, 0, "abc"))
+    unfuse                => (None, true, Initiated, Some((4, Some(2), 1, 0, "bbbb")), [0], (3, None, 0, 0, "abc"))
+    holds second 65ee0000 => (None, true, Initiated, Some((4, Some(2), 1, 0, "bbbb")), [0], (3, None, 0, 0, "abc"))
+"#;
 
 /// The meter stops before the write of the header.
-const STOP_BEFORE: &str = "
-    fuse 0 0 => true, VerificationSuccessful, goal 4 of 2 1 81cc5b17, marks 0 1, runs 3 of 0 0 ba7816bf
-    activate => Fault: true, VerificationSuccessful, goal 4 of 2 1 81cc5b17, marks 0 1, runs 3 of 0 0 ba7816bf
-    unfuse   => true, VerificationSuccessful, goal 4 of 2 1 81cc5b17, marks 0 1, runs 3 of 0 0 ba7816bf
-    reopen   => true, VerificationSuccessful, goal 4 of 2 1 81cc5b17, marks 0 1, runs 3 of 0 0 ba7816bf
-    runs abc => true, VerificationSuccessful, goal 4 of 2 1 81cc5b17, marks 0 1, runs 3 of 0 0 ba7816bf
-";
+const STOP_BEFORE: &str = r#"
+    fuse 0 0 => (None, true, VerificationSuccessful, Some((4, Some(2), 1, 0, "bbbb")), [0, 1], (3, None, 0, 0, "abc"))
+    activate => (Some(Fault), true, VerificationSuccessful, Some((4, Some(2), 1, 0, "bbbb")), [0, 1], (3, None, 0, 0, "abc"))
+    unfuse   => (None, true, VerificationSuccessful, Some((4, Some(2), 1, 0, "bbbb")), [0, 1], (3, None, 0, 0, "abc"))
+    reopen   => (None, true, VerificationSuccessful, Some((4, Some(2), 1, 0, "bbbb")), [0, 1], (3, None, 0, 0, "abc"))
+    runs abc => (None, true, VerificationSuccessful, Some((4, Some(2), 1, 0, "bbbb")), [0, 1], (3, None, 0, 0, "abc"))
+"#;
 
 /// It stops after that.
-const STOP_AFTER: &str = "
-    fuse 1 0  => true, VerificationSuccessful, goal 4 of 2 1 81cc5b17, marks 0 1, runs 3 of 0 0 ba7816bf
-    activate  => true, ActivationSuccessful, no goal, marks, runs 4 of 2 1 81cc5b17
-    unfuse    => true, ActivationSuccessful, no goal, marks, runs 4 of 2 1 81cc5b17
-    reopen    => true, ActivationSuccessful, no goal, marks, runs 4 of 2 1 81cc5b17
-    runs bbbb => true, ActivationSuccessful, no goal, marks, runs 4 of 2 1 81cc5b17
-";
+const STOP_AFTER: &str = r#"
+    fuse 1 0  => (None, true, VerificationSuccessful, Some((4, Some(2), 1, 0, "bbbb")), [0, 1], (3, None, 0, 0, "abc"))
+    activate  => (None, true, ActivationSuccessful, None, [], (4, Some(2), 1, 0, "bbbb"))
+    unfuse    => (None, true, ActivationSuccessful, None, [], (4, Some(2), 1, 0, "bbbb"))
+    reopen    => (None, true, ActivationSuccessful, None, [], (4, Some(2), 1, 0, "bbbb"))
+    runs bbbb => (None, true, ActivationSuccessful, None, [], (4, Some(2), 1, 0, "bbbb"))
+"#;
 
-const OTHER_HEADERS_THAT_ARE_NOT_WRITTEN: &str = "
-    enable true  => true, NotInitiated, no goal, marks, runs 3 of 0 0 ba7816bf
-    fuse 0 0     => true, NotInitiated, no goal, marks, runs 3 of 0 0 ba7816bf
-    enable false => Fault: true, NotInitiated, no goal, marks, runs 3 of 0 0 ba7816bf
-    initiate 4   => Fault: true, NotInitiated, no goal, marks, runs 3 of 0 0 ba7816bf
-    unfuse       => true, NotInitiated, no goal, marks, runs 3 of 0 0 ba7816bf
-    reopen       => true, NotInitiated, no goal, marks, runs 3 of 0 0 ba7816bf
-";
+const OTHER_HEADERS_THAT_ARE_NOT_WRITTEN: &str = r#"
+    enable true  => (None, true, NotInitiated, None, [], (3, None, 0, 0, "abc"))
+    fuse 0 0     => (None, true, NotInitiated, None, [], (3, None, 0, 0, "abc"))
+    enable false => (Some(Fault), true, NotInitiated, None, [], (3, None, 0, 0, "abc"))
+    initiate 4   => (Some(Fault), true, NotInitiated, None, [], (3, None, 0, 0, "abc"))
+    unfuse       => (None, true, NotInitiated, None, [], (3, None, 0, 0, "abc"))
+    reopen       => (None, true, NotInitiated, None, [], (3, None, 0, 0, "abc"))
+"#;
 
 #[test]
 fn each_call_that_fails(rt: HostRuntime) -> Result<(), Fail> {

@@ -1,12 +1,13 @@
 //! Stores in files.
 
 use crate::calls::{FRESH, KEPT, OLD_FRESH, OLD_FRONT, WRITES, called, calls, stored_text};
+use crate::support::{digits, shown};
 use fw_store::{FileStore, FileStoreError};
 use std::alloc::Global;
 use std::path::PathBuf;
 use std::test::Fail;
 use std::{env, fs};
-use test_tables::{Reads, Words, each_line};
+use test_tables::{Reads, Words, each_part};
 
 /// A path of a test's own, and the store there that is held, if there is one. Its drop is written out, so that each place that drops it
 /// calls that, and isn't proved to drop what it has.
@@ -29,7 +30,7 @@ impl Drop for Place<'_> {
 /// A step is a call of the store that was made or opened last, which is held until another one is, or until it is dropped; or
 ///
 /// - `create CAPACITY BLOCK-SIZE`: a store with the factory image `abc` is made; `reopen`: it is opened; `look`: the same, which leaves
-///   the file as it was: what is answered
+///   the file as it was: the refusal, if there is one
 /// - `calls TABLE`: its calls
 /// - `drop`: it is dropped
 /// - `stored`, `bytes`: the bytes of the file, as those of a store, and as they are; `exists`: whether there is a file
@@ -41,84 +42,56 @@ impl Reads for Place<'_> {
         let mut words = Words::new(what);
         match words.word()? {
             "stored" => stored_text(alloc, &fs::read(self.rt, self.path.as_path())?),
-            "bytes" => self.bytes(alloc),
+            "bytes" => digits(alloc, &fs::read(self.rt, self.path.as_path())?),
+            "exists" => shown(alloc, &fs::exists(self.rt, self.path.as_path())?),
+            "create" => {
+                let [capacity, block_size]: [u32; 2] = words.read()?;
+                shown(alloc, &self.create(capacity, block_size))
+            }
+            "reopen" => shown(alloc, &self.reopen()),
+            "look" => shown(alloc, &self.look()?),
             "header" | "read" | "write" | "write-header" | "write-old-header" | "faults" => {
                 self.called(alloc, what)
             }
-            word => Ok(String::from_str(alloc, self.answer(alloc, word, words)?)?),
+            word => {
+                self.change(alloc, word, words)?;
+                Ok(String::new(alloc))
+            }
         }
     }
 }
 
 impl Place<'_> {
-    /// What is answered to a step, and nothing where nothing is.
-    fn answer(
-        &mut self,
-        alloc: Global,
-        word: &str,
-        mut words: Words<'_>,
-    ) -> Result<&'static str, Fail> {
-        match word {
-            "create" => {
-                let [capacity, block_size]: [u32; 2] = words.read()?;
-                return Ok(self.create(capacity, block_size));
-            }
-            "reopen" => return Ok(self.reopen()),
-            "look" => return self.look(),
-            "exists" => return self.exists(),
-            "calls" => self.calls(alloc, words.rest())?,
-            "drop" => self.store = None,
-            "absent" => self.path.push("store")?,
-            word => self.change_file(alloc, word, words)?,
-        }
-        Ok("")
-    }
-
-    fn create(&mut self, capacity: u32, block_size: u32) -> &'static str {
+    fn create(&mut self, capacity: u32, block_size: u32) -> Option<FileStoreError> {
         let path = self.path.as_path();
         let made = FileStore::create(self.rt, path, capacity, block_size, b"abc");
         self.hold(made)
     }
 
-    fn reopen(&mut self) -> &'static str {
+    fn reopen(&mut self) -> Option<FileStoreError> {
         let opened = FileStore::reopen(self.rt, self.path.as_path());
         self.hold(opened)
     }
 
-    fn hold(&mut self, answer: Result<FileStore, FileStoreError>) -> &'static str {
+    /// Holds the store, if there is one, and returns the refusal otherwise.
+    fn hold(&mut self, answer: Result<FileStore, FileStoreError>) -> Option<FileStoreError> {
         match answer {
             Ok(store) => {
                 self.store = Some(store);
-                "a store"
+                None
             }
-            Err(FileStoreError::StoreFault) => "StoreFault",
-            Err(FileStoreError::BadSetup) => "BadSetup",
-            Err(FileStoreError::BadFile) => "BadFile",
-            Err(FileStoreError::OutOfMemory) => "OutOfMemory",
+            Err(refusal) => Some(refusal),
         }
     }
 
-    fn look(&mut self) -> Result<&'static str, Fail> {
+    fn look(&mut self) -> Result<Option<FileStoreError>, Fail> {
         let before = fs::read(self.rt, self.path.as_path())?;
-        let told = self.reopen();
+        let refusal = self.reopen();
         if fs::read(self.rt, self.path.as_path())? == before {
-            Ok(told)
+            Ok(refusal)
         } else {
             Err("the file was changed".into())
         }
-    }
-
-    fn exists(&self) -> Result<&'static str, Fail> {
-        if fs::exists(self.rt, self.path.as_path())? {
-            Ok("a file")
-        } else {
-            Ok("no file")
-        }
-    }
-
-    fn bytes(&self, alloc: Global) -> Result<String, Fail> {
-        let bytes = fs::read(self.rt, self.path.as_path())?;
-        Ok(hex::encode(alloc, bytes.as_slice())?)
     }
 
     fn called(&mut self, alloc: Global, call: &str) -> Result<String, Fail> {
@@ -135,11 +108,24 @@ impl Place<'_> {
         }
     }
 
-    fn change_file(&self, alloc: Global, word: &str, mut words: Words<'_>) -> Result<(), Fail> {
+    /// A step that answers nothing.
+    fn change(&mut self, alloc: Global, word: &str, mut words: Words<'_>) -> Result<(), Fail> {
+        match word {
+            "calls" => self.calls(alloc, words.rest()),
+            "drop" => {
+                self.store = None;
+                Ok(())
+            }
+            "absent" => Ok(self.path.push("store")?),
+            "set-len" => self.set_len(words.read()?),
+            word => self.change_file(alloc, word, words.rest()),
+        }
+    }
+
+    fn change_file(&self, alloc: Global, word: &str, rest: &str) -> Result<(), Fail> {
         let path = self.path.as_path();
         match word {
-            "put" => fs::write(self.rt, path, &hex::decode(alloc, words.rest())?)?,
-            "set-len" => return self.set_len(u64::from(words.number()?)),
+            "put" => fs::write(self.rt, path, &hex::decode(alloc, rest)?)?,
             "remove" => fs::remove_file(self.rt, path)?,
             "create-dir" => fs::create_dir(self.rt, path)?,
             "remove-dir" => fs::remove_dir(self.rt, path)?,
@@ -166,14 +152,14 @@ fn table_of(name: &str) -> Result<&'static str, Fail> {
     })
 }
 
-/// Takes the steps at a path in the folder of temporary files, where there is no file at first.
-fn steps(rt: &HostRuntime, name: &str, table: &str) -> Result<(), Fail> {
+/// Takes the steps at a path in the folder of temporary files, where there is no file before each table.
+fn steps(rt: &HostRuntime, name: &str, tables: &[&str]) -> Result<(), Fail> {
     let mut place = Place {
         rt,
         path: path_of(rt, name)?,
         store: None,
     };
-    each_line(rt.alloc(), &mut place, table)
+    each_part(rt.alloc(), &mut place, tables)
 }
 
 fn path_of(rt: &HostRuntime, name: &str) -> Result<PathBuf, Fail> {
@@ -186,216 +172,211 @@ fn path_of(rt: &HostRuntime, name: &str) -> Result<PathBuf, Fail> {
 }
 
 /// The bytes of the file of a new store, and after calls.
-const STORED: &str = "
-    create 8 2          => a store
+const STORED: &str = r#"
+    create 8 2          => None
     calls fresh         =>
     drop                =>
-    stored => 2178 bytes: 00000008 46574832000000000000000200000003010000000000000000ba7816bf8f01cfea414140de5dae2223b00361a396177a9cb410ff61f20015ad 61626300000000000000000000000000 0000000000000000
+    stored => (2178, [0, 0, 0, 8], "46574832000000000000000200000003010000000000000000ba7816bf8f01cfea414140de5dae2223b00361a396177a9cb410ff61f20015ad", "61626300000000000000000000000000", "0000000000000000")
     remove              =>
-    create 8 2          => a store
+    create 8 2          => None
     write-header 0707   => done
     drop                =>
-    stored              => 2178 bytes: 00000008 0707 61626300000000000000000000000000 0000000000000000
+    stored              => (2178, [0, 0, 0, 8], "0707", "61626300000000000000000000000000", "0000000000000000")
     remove              =>
-    create 8 2          => a store
+    create 8 2          => None
     write first 3 defgh => done
     drop                =>
-    stored => 2178 bytes: 00000008 46574832000000000000000200000003010000000000000000ba7816bf8f01cfea414140de5dae2223b00361a396177a9cb410ff61f20015ad 61626364656667680000000000000000 0000000000000000
+    stored => (2178, [0, 0, 0, 8], "46574832000000000000000200000003010000000000000000ba7816bf8f01cfea414140de5dae2223b00361a396177a9cb410ff61f20015ad", "61626364656667680000000000000000", "0000000000000000")
     remove              =>
-    create 8 2          => a store
+    create 8 2          => None
     write-header 0707   => done
     write first 3 defgh => done
     write second 0 ij   => done
     drop                =>
-    stored              => 2178 bytes: 00000008 0707 6162636465666768696a000000000000 0000000000000000
+    stored              => (2178, [0, 0, 0, 8], "0707", "6162636465666768696a000000000000", "0000000000000000")
     remove              =>
-";
+"#;
 
 /// What is written is there when the store is reopened.
 const REOPENED: &str = "
-    create 8 2   => a store
+    create 8 2   => None
     calls writes =>
     calls kept   =>
     drop         =>
-    reopen       => a store
+    reopen       => None
     calls kept   =>
+    drop         =>
     remove       =>
 ";
 
 /// A file with a header of version 1 is 1,536 bytes shorter. A look at it leaves it. A header of version 2 makes it longer, and one of
 /// version 1 shorter again.
-const OLD: &str = "
-    create 8 2                           => a store
+const OLD: &str = r#"
+    create 8 2                           => None
     calls old-front                      =>
     drop                                 =>
-    stored => 642 bytes: 00000008 46574831000000000000000200000003010000000000000000ba7816bf8f01cfea414140de5dae2223b00361a396177a9cb410ff61f20015ad 61626300000000000000000000000000 0000000000000000
-    look                                 => a store
+    stored => (642, [0, 0, 0, 8], "46574831000000000000000200000003010000000000000000ba7816bf8f01cfea414140de5dae2223b00361a396177a9cb410ff61f20015ad", "61626300000000000000000000000000", "0000000000000000")
+    look                                 => None
     calls old-fresh                      =>
     write-header 07 000000050000000680   => done
     header                               => 07 0000000500000006 80
     read first 0 8                       => 6162630000000000
     drop                                 =>
-    stored                               => 2178 bytes: 00000008 07 61626300000000000000000000000000 0000000500000006 80
-    reopen                               => a store
+    stored                               => (2178, [0, 0, 0, 8], "07", "61626300000000000000000000000000", "0000000500000006 80")
+    reopen                               => None
     header                               => 07 0000000500000006 80
     write-old-header 08 0000000300000004 => done
     header                               => 08 0000000300000004 (version 1)
     drop                                 =>
-    stored                               => 642 bytes: 00000008 08 61626300000000000000000000000000 0000000300000004
-    reopen                               => a store
+    stored                               => (642, [0, 0, 0, 8], "08", "61626300000000000000000000000000", "0000000300000004")
+    reopen                               => None
     header                               => 08 0000000300000004 (version 1)
+    drop                                 =>
     remove                               =>
-";
+"#;
 
 /// A file as it was before names had releases, 8 bytes shorter still. A look at it leaves it, and so does a write to a slot. What is
 /// written of the header adds the releases, and in version 2 the marks.
-const WITHOUT_RELEASES: &str = "
-    create 8 2                           => a store
+const WITHOUT_RELEASES: &str = r#"
+    create 8 2                           => None
     calls old-front                      =>
     drop                                 =>
     set-len 634                          =>
-    look                                 => a store
+    look                                 => None
     calls old-fresh                      =>
     write first 3 defgh                  => done
     drop                                 =>
-    stored => 634 bytes: 00000008 46574831000000000000000200000003010000000000000000ba7816bf8f01cfea414140de5dae2223b00361a396177a9cb410ff61f20015ad 61626364656667680000000000000000
-    reopen                               => a store
+    stored => (634, [0, 0, 0, 8], "46574831000000000000000200000003010000000000000000ba7816bf8f01cfea414140de5dae2223b00361a396177a9cb410ff61f20015ad", "61626364656667680000000000000000", "")
+    reopen                               => None
     write-old-header 07 0000000500000006 => done
     header                               => 07 0000000500000006 (version 1)
     read first 0 8                       => 6162636465666768
     drop                                 =>
-    stored                               => 642 bytes: 00000008 07 61626364656667680000000000000000 0000000500000006
+    stored                               => (642, [0, 0, 0, 8], "07", "61626364656667680000000000000000", "0000000500000006")
     set-len 634                          =>
-    reopen                               => a store
+    reopen                               => None
     write-header 09                      => done
     drop                                 =>
-    stored                               => 2178 bytes: 00000008 09 61626364656667680000000000000000 0000000000000000
-    reopen                               => a store
+    stored                               => (2178, [0, 0, 0, 8], "09", "61626364656667680000000000000000", "0000000000000000")
+    reopen                               => None
     header                               => 09
+    drop                                 =>
     remove                               =>
-";
+"#;
 
 #[test]
 fn the_bytes_of_the_file(rt: HostRuntime) -> Result<(), Fail> {
-    steps(&rt, "fw_store_bytes", STORED)?;
-    steps(&rt, "fw_store_reopened", REOPENED)?;
-    steps(&rt, "fw_store_old", OLD)?;
-    steps(&rt, "fw_store_without_releases", WITHOUT_RELEASES)
+    let tables = &[STORED, REOPENED, OLD, WITHOUT_RELEASES];
+    steps(&rt, "fw_store_bytes", tables)
 }
 
 /// A file that is there is never overwritten.
 const THERE: &str = "
     put 6f74686572206279746573 =>
-    create 8 2                 => StoreFault
+    create 8 2                 => Some(StoreFault)
     bytes                      => 6f74686572206279746573
     remove                     =>
 ";
 
 /// Options that are bad make no file, and leave one that is there.
 const BAD_SETUP: &str = "
-    create 2 2 => BadSetup
-    exists     => no file
+    create 2 2 => Some(BadSetup)
+    exists     => false
     put 616263 =>
-    create 8 0 => BadSetup
+    create 8 0 => Some(BadSetup)
     bytes      => 616263
     remove     =>
 ";
 
 /// A store that was made holds its file until it is dropped, and so does one that was reopened, also after a header write.
 const HELD: &str = "
-    create 8 2        => a store
-    reopen            => StoreFault
+    create 8 2        => None
+    reopen            => Some(StoreFault)
     drop              =>
-    reopen            => a store
-    reopen            => StoreFault
+    reopen            => None
+    reopen            => Some(StoreFault)
     write-header 0707 => done
     header            => 0707
     faults            => 0
-    reopen            => StoreFault
+    reopen            => Some(StoreFault)
     drop              =>
-    reopen            => a store
+    reopen            => None
+    drop              =>
     remove            =>
 ";
-
-#[test]
-fn a_file_that_is_there_is_left(rt: HostRuntime) -> Result<(), Fail> {
-    steps(&rt, "fw_store_there", THERE)?;
-    steps(&rt, "fw_store_setup", BAD_SETUP)?;
-    steps(&rt, "fw_store_held", HELD)
-}
 
 /// Files that begin as that of a new store and have another length, and others: no bytes a slot, and 16,777,217, which are one too many.
 /// The lengths of old stores are those of one, too.
 const NO_STORES: &str = "
-    create 8 2       => a store
+    create 8 2       => None
     drop             =>
     set-len 2179     =>
-    look             => BadFile
+    look             => Some(BadFile)
     set-len 2178     =>
-    look             => a store
+    look             => None
     drop             =>
     set-len 2177     =>
-    look             => BadFile
+    look             => Some(BadFile)
     set-len 643      =>
-    look             => BadFile
+    look             => Some(BadFile)
     set-len 642      =>
-    look             => a store
+    look             => None
     drop             =>
     set-len 641      =>
-    look             => BadFile
+    look             => Some(BadFile)
     set-len 635      =>
-    look             => BadFile
+    look             => Some(BadFile)
     set-len 634      =>
-    look             => a store
+    look             => None
     drop             =>
     set-len 633      =>
-    look             => BadFile
+    look             => Some(BadFile)
     set-len 3        =>
-    look             => BadFile
+    look             => Some(BadFile)
     set-len 0        =>
-    look             => BadFile
+    look             => Some(BadFile)
     put 00000000     =>
     set-len 2162     =>
-    look             => BadFile
+    look             => Some(BadFile)
     set-len 626      =>
-    look             => BadFile
+    look             => Some(BadFile)
     set-len 618      =>
-    look             => BadFile
+    look             => Some(BadFile)
     put 01000001     =>
     set-len 33556596 =>
-    reopen           => BadFile
+    reopen           => Some(BadFile)
     set-len 33555060 =>
-    reopen           => BadFile
+    reopen           => Some(BadFile)
     set-len 33555052 =>
-    reopen           => BadFile
+    reopen           => Some(BadFile)
     remove           =>
 ";
 
 /// There is no file, a folder is in its place, and there is no folder to make it in.
 const NONE: &str = "
-    reopen     => StoreFault
+    reopen     => Some(StoreFault)
     create-dir =>
-    create 8 2 => StoreFault
-    reopen     => StoreFault
+    create 8 2 => Some(StoreFault)
+    reopen     => Some(StoreFault)
     remove-dir =>
     absent     =>
-    create 8 2 => StoreFault
-    reopen     => StoreFault
+    create 8 2 => Some(StoreFault)
+    reopen     => Some(StoreFault)
 ";
 
 /// A file that is cut under an open store can't be read any more, and that is counted.
 const CUT: &str = "
-    create 8 2      => a store
+    create 8 2      => None
     set-len 617     =>
     header          => StoreFault
     read second 0 1 => StoreFault
     faults          => 2
+    drop            =>
     remove          =>
 ";
 
 #[test]
-fn refuses_what_is_no_store(rt: HostRuntime) -> Result<(), Fail> {
-    steps(&rt, "fw_store_refused", NO_STORES)?;
-    steps(&rt, "fw_store_absent", NONE)?;
-    steps(&rt, "fw_store_cut", CUT)
+fn refuses_what_is_there_and_what_is_no_store(rt: HostRuntime) -> Result<(), Fail> {
+    let tables = &[THERE, BAD_SETUP, HELD, NO_STORES, CUT, NONE];
+    steps(&rt, "fw_store_refused", tables)
 }

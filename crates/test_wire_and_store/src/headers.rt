@@ -1,14 +1,14 @@
 //! The bytes of a store's header, which are worked out by hand from the format: how headers are written, and which bytes are one's,
 //! each condition once, met and not met.
 
-use crate::support::{abc_name, header_digits, marked, numbers_of, slot_of};
+use crate::support::{campaign_name, header_digits, marked, numbers_of, shown, slot_of, text};
 use fw_blocks::Pages;
 use fw_names::factory_name;
 use fw_store::{
     Goal, Header, HeaderBytes, HeaderVersion, Slot, StoredStatus, VERSION_ONE_SIZE,
     VERSION_TWO_SIZE,
 };
-use std::alloc::{AllocError, Global};
+use std::alloc::Global;
 use std::test::Fail;
 use test_tables::{Reads, Words, each_table, present};
 
@@ -36,14 +36,17 @@ fn put(bytes: &mut [u8], parts: &[(usize, &[u8])]) -> Option<()> {
     Some(())
 }
 
-/// The bytes with others from an offset on.
-pub(crate) fn with_patch(bytes: &HeaderBytes, at: usize, patch: &[u8]) -> Option<HeaderBytes> {
-    with_parts(bytes.version(), &[(0, bytes.as_slice()), (at, patch)])
-}
-
-/// The bytes of this version that begin with these, and zeros after them.
-pub(crate) fn padded(version: HeaderVersion, begin: &[u8]) -> Option<HeaderBytes> {
-    with_parts(version, &[(0, begin)])
+/// The bytes of this version that begin with these, have others from an offset on, and zeros elsewhere.
+pub(crate) fn header_bytes(
+    version: HeaderVersion,
+    front: &[u8],
+    at: usize,
+    patch: &[u8],
+) -> Result<HeaderBytes, Fail> {
+    present(
+        with_parts(version, &[(0, front), (at, patch)]),
+        "it is too long",
+    )
 }
 
 /// The fronts of headers, of version 2: the form, whether transfer is enabled, the slot that runs, the status, whether there is a goal,
@@ -80,10 +83,10 @@ impl Reads for Taken {
         let mut words = Words::new(what);
         let (version, capacity, front): (&str, u32, &str) = words.read()?;
         let front = front_of(alloc, front)?;
-        let front = present(padded(version_of(version)?, &front), "it is too long")?;
+        let front = header_bytes(version_of(version)?, &front, 0, &[])?;
         let once = patched(alloc, front, &mut words)?;
         let bytes = patched(alloc, once, &mut words)?;
-        Ok(String::from_str(alloc, read_text(capacity, &bytes))?)
+        text(alloc, read_text(capacity, &bytes))
     }
 }
 
@@ -93,9 +96,11 @@ fn patched(alloc: Global, bytes: HeaderBytes, words: &mut Words<'_>) -> Result<H
         return Ok(bytes);
     };
     let patch = hex::decode(alloc, words.word()?)?;
-    present(
-        with_patch(&bytes, at.parse::<usize>()?, &patch),
-        "it is too long",
+    header_bytes(
+        bytes.version(),
+        bytes.as_slice(),
+        at.parse::<usize>()?,
+        &patch,
     )
 }
 
@@ -288,7 +293,7 @@ enum Told {
     Written,
     /// The same of one of version 1 that receives, with these marks, and the front that follows its form.
     WrittenOld,
-    /// What a version has room for.
+    /// How many blocks a version has room for, and how many bytes and marks it has.
     Version,
     /// The number of a status.
     Status,
@@ -301,9 +306,13 @@ impl Reads for Told {
         match self {
             Told::Written => written_text(alloc, Words::new(what)),
             Told::WrittenOld => written_old_text(alloc, Words::new(what)),
-            Told::Version => version_text(alloc, version_of(what)?),
-            Told::Status => Ok(format!(in alloc; "{}", status_of(what)?.number())?),
-            Told::Other => Ok(format!(in alloc; "{:?}", slot_of(what)?.other())?),
+            Told::Version => {
+                let version = version_of(what)?;
+                let marks = version.no_marks().count();
+                shown(alloc, &(version.block_limit(), version.size(), marks))
+            }
+            Told::Status => shown(alloc, &status_of(what)?.number()),
+            Told::Other => shown(alloc, &slot_of(what)?.other()),
         }
     }
 }
@@ -313,9 +322,8 @@ fn written_text(alloc: Global, mut words: Words<'_>) -> Result<String, Fail> {
     let header = header_of(name);
     let front = front_of(alloc, front)?;
     let last = hex::decode(alloc, words.rest())?;
-    let front = present(padded(HeaderVersion::Two, &front), "it is too long")?;
-    let bytes = present(with_patch(&front, RELEASES_AT, &last), "it is too long")?;
-    Ok(compared_text(alloc, &header, &bytes)?)
+    let bytes = header_bytes(HeaderVersion::Two, &front, RELEASES_AT, &last)?;
+    compared_text(alloc, &header, &bytes)
 }
 
 /// A header by its name.
@@ -340,40 +348,33 @@ fn compared_text(
     alloc: Global,
     header: &Option<Header>,
     bytes: &HeaderBytes,
-) -> Result<String, AllocError> {
+) -> Result<String, Fail> {
     let written = header.as_ref().map(|header| header.to_bytes()) == Some(*bytes);
     let read = header.is_some() && Header::from_bytes(64, bytes) == *header;
-    format!(in alloc; "{written} {read}")
+    shown(alloc, &(written, read))
 }
 
 fn written_old_text(alloc: Global, mut words: Words<'_>) -> Result<String, Fail> {
     let [marks, front]: [&str; 2] = words.read()?;
     let header = old_receiving(&numbers_of(alloc, marks)?);
     let front = front_of(alloc, front)?;
-    let front = present(padded(HeaderVersion::One, &front), "it is too long")?;
-    let bytes = present(with_patch(&front, 0, b"FWH1"), "it is too long")?;
-    Ok(compared_text(alloc, &header, &bytes)?)
+    let bytes = header_bytes(HeaderVersion::One, &front, 0, b"FWH1")?;
+    compared_text(alloc, &header, &bytes)
 }
 
 /// A mark that version 1 has none for isn't written.
 const WRITTEN_OLD: &str = "
-    1 receiving      => true true
-    1,4096 receiving => true false
+    1 receiving      => (true, true)
+    1,4096 receiving => (true, false)
 ";
 
-fn version_text(alloc: Global, version: HeaderVersion) -> Result<String, Fail> {
-    let (limit, size) = (version.block_limit(), version.size());
-    let marks = version.no_marks().count();
-    Ok(format!(in alloc; "{limit} blocks, {size} bytes, {marks} marks")?)
-}
-
 const VERSIONS: &str = "
-    one => 4096 blocks, 622 bytes, 4096 marks
-    two => 16384 blocks, 2158 bytes, 16384 marks
+    one => (4096, 622, 4096)
+    two => (16384, 2158, 16384)
 ";
 
 fn receiving() -> Option<Header> {
-    let name = abc_name(7, 1, 0)?;
+    let name = campaign_name(7, 1, 0, b"abc")?;
     Some(Header {
         version: HeaderVersion::Two,
         enabled: true,
@@ -417,9 +418,9 @@ fn renewed() -> Option<Header> {
         status: StoredStatus::Initiated,
         block_size: 2,
         running_size: 3,
-        running_name: abc_name(7, 1, 5)?,
+        running_name: campaign_name(7, 1, 5, b"abc")?,
         goal: Some(Goal {
-            name: abc_name(7, 2, 6)?,
+            name: campaign_name(7, 2, 6, b"abc")?,
             size: 3,
         }),
         marks: Pages::none(),
@@ -440,13 +441,13 @@ fn switched(before: Header) -> Option<Header> {
 }
 
 const WRITTEN: &str = "
-    new new                                                                                                                     => true true
-    receiving receiving                                                                                                         => true true
-    counting-fewer receiving                                                                                                    => true false
-    switched 46574832010106000000000200000003010000000700000001ba7816bf8f01cfea414140de5dae2223b00361a396177a9cb410ff61f20015ad => true true
-    renewed renewed 0000000500000006                                                                                            => true true
-    switched-again 46574832010106000000000200000003010000000700000002ba7816bf8f01cfea414140de5dae2223b00361a396177a9cb410ff61f20015ad 0000000600000000 => true true
-    migrated receiving                                                                                                          => true true
+    new new                                                                                                                     => (true, true)
+    receiving receiving                                                                                                         => (true, true)
+    counting-fewer receiving                                                                                                    => (true, false)
+    switched 46574832010106000000000200000003010000000700000001ba7816bf8f01cfea414140de5dae2223b00361a396177a9cb410ff61f20015ad => (true, true)
+    renewed renewed 0000000500000006                                                                                            => (true, true)
+    switched-again 46574832010106000000000200000003010000000700000002ba7816bf8f01cfea414140de5dae2223b00361a396177a9cb410ff61f20015ad 0000000600000000 => (true, true)
+    migrated receiving                                                                                                          => (true, true)
 ";
 
 /// The status of this name.

@@ -1,6 +1,7 @@
 //! Journals: what is kept, what a power cut leaves at each call of the device, and what is refused. A block of a record of three bytes
 //! has 40 bytes, and a journal begins with 4.
 
+use crate::support::{digits, shown, text};
 use fw_journal::{
     Disk, FileDevice, FileJournal, FileReplacer, Journal, JournalDevice, JournalError,
     MemoryDevice, MemoryReplacer, RewriteError,
@@ -10,7 +11,10 @@ use std::os::unix::fs::symlink;
 use std::path::{AsPath, Path, PathBuf};
 use std::test::Fail;
 use std::{env, fs};
-use test_tables::{Kept, Reads, Words, each_line, expect, present};
+use test_tables::{Kept, Reads, Words, each_part, present};
+
+/// What opening a journal on a device in memory returns.
+type Opened = Result<(Journal<MemoryDevice>, Vec<Vec<u8>>), (JournalError, MemoryDevice)>;
 
 /// What opening a journal returns: its records, each with a bar after it, or the refusal.
 fn told_of<D: JournalDevice + Drop>(
@@ -47,26 +51,41 @@ impl Drop for Stepped {
     }
 }
 
-/// A step with a journal: `append RECORD`, `commit`; `size`: how many bytes it has up to its shut gate; `bytes`: all bytes of its device;
-/// `again`: what is read where the device is opened again.
+/// A step with a journal:
+///
+/// - `append RECORD`, `commit`, or `new`: another new journal takes its place
+/// - `size`: how many bytes it has up to its shut gate; `bytes`: all bytes of its device; `again`: what is read where that is opened again
+/// - `turned AT`: what is read of its bytes where one is turned
+/// - `cut CALLS TORN`: on a device with its bytes that fails after CALLS calls, and leaves this byte: what opening it returns, and two
+///   commits of `two` and `three`. Then what is left, as it is read, and as it was at the last sync
+/// - `anew CALLS TORN`: on such a device, once `lost` waits there: what writing it anew with `two` and `three` returns, what is left,
+///   the same of a commit after that, and what is read at last
+///
+/// and without it:
+///
+/// - `left FATES`: what a power cut leaves of a device with the bytes 00 11 22 33, after a write of four bytes at 2 and a shortening to
+///   five, where both changes have these fates, and none of `-`
+/// - `opened BYTES`: what opening these bytes returns, and what the device then has; `created BYTES`: the same of a new journal on them
 impl Reads for Stepped {
     fn told(&mut self, alloc: Global, what: &str) -> Result<String, Fail> {
         let mut words = Words::new(what);
         match words.word()? {
-            "append" => answer_text(alloc, self.0.append(alloc, words.rest().as_bytes())),
-            "commit" => answer_text(alloc, self.0.commit()),
-            "size" => Ok(format!(in alloc; "{}", self.0.size())?),
-            "bytes" => Ok(hex::encode(alloc, self.0.device().bytes())?),
-            _ => read_text(alloc, self.0.device().bytes()),
+            "new" => {
+                *self = new_journal(alloc)?;
+                Ok(String::new(alloc))
+            }
+            "append" => shown(alloc, &self.0.append(alloc, words.rest().as_bytes())),
+            "commit" => shown(alloc, &self.0.commit()),
+            "size" => shown(alloc, &self.0.size()),
+            "bytes" => digits(alloc, self.0.device().bytes()),
+            "again" => read_text(alloc, self.0.device().bytes()),
+            "turned" => turned_text(alloc, self.0.device().bytes(), words.number()? as usize),
+            "left" => fates_text(alloc, words.rest()),
+            "opened" => opened_text(alloc, &hex::decode(alloc, words.rest())?),
+            "created" => created_text(alloc, &hex::decode(alloc, words.rest())?),
+            word => failing_text(alloc, word, self.0.device().bytes(), words),
         }
     }
-}
-
-fn answer_text(alloc: Global, answer: Result<(), JournalError>) -> Result<String, Fail> {
-    Ok(match answer {
-        Ok(()) => String::from_str(alloc, "done")?,
-        Err(refusal) => refusal.to_string(alloc)?,
-    })
 }
 
 /// A new journal on a device in memory.
@@ -74,153 +93,100 @@ fn new_journal(alloc: Global) -> Result<Stepped, Fail> {
     let device = MemoryDevice::new(alloc, Vec::new(alloc))?;
     match Journal::create(alloc, device) {
         Ok(journal) => Ok(Stepped(journal)),
-        Err((refusal, _)) => Err(Fail::from(refusal.to_string(alloc)?)),
+        Err((refusal, _)) => Err(refusal.into()),
     }
-}
-
-#[test]
-fn keeps_what_is_committed(rt: HostRuntime) -> Result<(), Fail> {
-    each_line(rt.alloc(), &mut new_journal(rt.alloc())?, KEPT)
 }
 
 const KEPT: &str = "
     bytes       => 46574a3100
     size        => 4
-    commit      => done
+    commit      => Ok(())
     bytes       => 46574a3100
-    append one  => done
+    append one  => Ok(())
     bytes       => 46574a3100
     again       =>
-    commit      => done
+    commit      => Ok(())
     size        => 44
     bytes       => 46574a3101000000036f6e657692c3ad3540bb803c020b3aee66cd8887123234ea0c6e7143c0add73ff431ed00
-    append two  => done
-    append      => done
-    commit      => done
+    append two  => Ok(())
+    append      => Ok(())
+    commit      => Ok(())
     size        => 121
-    append lost => done
+    append lost => Ok(())
     again       => one|two||
 ";
 
-#[derive(Clone, Copy)]
-enum Told {
-    /// Of a device with the journal of `one` that fails after N calls, and leaves this byte: what opening it returns, and a commit of `two` and
-    /// `three`. Then what is left, as it is read, and as it was at the last sync.
-    Cut,
-    /// What a power cut leaves of a device with the bytes 00 11 22 33, after a write of four bytes at 2 and a shortening to five, where both
-    /// changes have these fates, and none of `-`.
-    Left,
-    /// Of a journal of `one` in which `lost` waits, on a device that fails after N calls: what writing it anew with `two` and `three` returns, and
-    /// a commit after that. Then what is left, as it is read, and as it was at the last sync.
-    Rewritten,
-    /// What is read of a journal of `one` and `two` in which a byte is turned.
-    Turned,
-    /// Of bytes that are opened what that returns, and what the device then has.
-    Opened,
-    /// The same of a new journal on these bytes.
-    Created,
+/// A turned gate ends the journal; any other byte is refused, with the offset of its record's gate.
+const TURNED: &str = "
+    new        =>
+    append one => Ok(())
+    append two => Ok(())
+    commit     => Ok(())
+    turned 0   => BadBook 0
+    turned 3   => BadBook 0
+    turned 4   =>
+    turned 5   => BadBook 4
+    turned 8   => BadBook 4
+    turned 9   => BadBook 4
+    turned 11  => BadBook 4
+    turned 12  => BadBook 4
+    turned 43  => BadBook 4
+    turned 44  => one|
+    turned 45  => BadBook 44
+    turned 83  => BadBook 44
+    turned 84  => one|two|
+";
+
+/// What stands from a shut gate on is cut off. What is no journal is left as it is.
+const OPENED: &str = r#"
+    opened                    => ("BadBook 0", "")
+    opened 46574a             => ("BadBook 0", "46574a")
+    opened 68656c6c6f         => ("BadBook 0", "68656c6c6f")
+    opened 46574a31           => ("", "46574a3100")
+    opened 46574a3100         => ("", "46574a3100")
+    opened 46574a3101         => ("", "46574a3100")
+    opened 46574a310001000000 => ("", "46574a3100")
+    opened 46574a310101       => ("BadBook 4", "46574a310101")
+"#;
+
+/// A journal is made where no byte is.
+const CREATED: &str = r#"
+    created            => ("", "46574a3100")
+    created 00         => ("NotEmpty", "00")
+    created 46574a3100 => ("NotEmpty", "46574a3100")
+"#;
+
+fn turned_text(alloc: Global, bytes: &[u8], at: usize) -> Result<String, Fail> {
+    let mut bytes = bytes.to_vec(alloc)?;
+    *present(bytes.get_mut(at), "no such byte")? ^= 8;
+    read_text(alloc, bytes.as_slice())
 }
 
-impl Reads for Told {
-    fn told(&mut self, alloc: Global, what: &str) -> Result<String, Fail> {
-        let mut words = Words::new(what);
-        match self {
-            Told::Cut => {
-                let (calls, torn): (u64, u8) = words.read()?;
-                cut_text(alloc, calls, torn)
-            }
-            Told::Left => fates_text(alloc, what),
-            Told::Rewritten => rewritten_text(alloc, u64::from(words.number()?)),
-            Told::Turned => turned_text(alloc, words.number()? as usize),
-            Told::Opened => opened_bytes_text(alloc, what),
-            Told::Created => created_text(alloc, what),
-        }
+fn opened_text(alloc: Global, bytes: &[u8]) -> Result<String, Fail> {
+    let device = MemoryDevice::new(alloc, bytes.to_vec(alloc)?)?;
+    device_text(alloc, &Journal::open(alloc, device))
+}
+
+fn created_text(alloc: Global, bytes: &[u8]) -> Result<String, Fail> {
+    let device = MemoryDevice::new(alloc, bytes.to_vec(alloc)?)?;
+    match Journal::create(alloc, device) {
+        Ok(journal) => device_text(alloc, &Ok((journal, Vec::new(alloc)))),
+        Err(refused) => device_text(alloc, &Err(refused)),
     }
 }
 
-/// A device with the journal of `one`, which has no past.
-fn device_of_one(alloc: Global) -> Result<MemoryDevice, Fail> {
-    let bytes = bytes_after(alloc, &[b"one"])?;
-    Ok(MemoryDevice::new(alloc, bytes)?)
+/// What is returned, and the bytes of the device then.
+fn device_text(alloc: Global, opened: &Opened) -> Result<String, Fail> {
+    let device = match opened {
+        Ok((journal, _)) => journal.device(),
+        Err((_, device)) => device,
+    };
+    let told = told_of(alloc, opened)?;
+    let bytes = digits(alloc, device.bytes())?;
+    shown(alloc, &(told.as_str(), bytes.as_str()))
 }
 
-/// The bytes of the journal of these records.
-fn bytes_after(alloc: Global, records: &[&[u8]]) -> Result<Vec<u8>, Fail> {
-    let mut journal = new_journal(alloc)?;
-    for record in records {
-        journal.0.append(alloc, record)?;
-    }
-    journal.0.commit()?;
-    Ok(journal.0.device().bytes().to_vec(alloc)?)
-}
-
-fn cut_text(alloc: Global, calls: u64, torn: u8) -> Result<String, Fail> {
-    let mut device = device_of_one(alloc)?;
-    device.fuse(calls, torn);
-    match Journal::open(alloc, device) {
-        Ok((journal, records)) => committed(alloc, &mut Kept(journal).0, &records),
-        Err((refusal, device)) => refused(alloc, refusal, &Kept(device).0),
-    }
-}
-
-fn refused(alloc: Global, refusal: JournalError, device: &MemoryDevice) -> Result<String, Fail> {
-    let told = refusal.to_string(alloc)?;
-    left_text(alloc, told.as_str(), device)
-}
-
-fn committed(
-    alloc: Global,
-    journal: &mut Journal<MemoryDevice>,
-    records: &[Vec<u8>],
-) -> Result<String, Fail> {
-    let opened = records_text(alloc, records)?;
-    journal.append(alloc, b"two")?;
-    journal.append(alloc, b"three")?;
-    let answer = answer_text(alloc, journal.commit())?;
-    let again = answer_text(alloc, journal.commit())?;
-    let told = format!(in alloc; "{opened} {answer} {again}")?;
-    left_text(alloc, told.as_str(), journal.device())
-}
-
-fn left_text(alloc: Global, told: &str, device: &MemoryDevice) -> Result<String, Fail> {
-    let read = read_text(alloc, device.bytes())?;
-    let synced = read_text(alloc, device.disk().synced())?;
-    judge_cuts(alloc, device.disk())?;
-    for past in device.past() {
-        judge_cuts(alloc, past)?;
-    }
-    Ok(format!(in alloc; "{told}: {read} {synced}")?)
-}
-
-/// Fails where a power cut may leave anything except the journal of `one` or that of all three records. Each change has a fate of as many
-/// bytes, all the same.
-fn judge_cuts(alloc: Global, disk: &Disk) -> Result<(), Fail> {
-    for byte in [0, 1, 2, 255] {
-        for size in [0, 1, 4, 43, 85] {
-            judge_cut(alloc, disk, size, byte)?;
-        }
-    }
-    Ok(())
-}
-
-fn judge_cut(alloc: Global, disk: &Disk, size: usize, byte: u8) -> Result<(), Fail> {
-    let left = disk.cut(alloc, &same_fates(alloc, disk.changes().len(), size, byte)?)?;
-    let told = read_text(alloc, &left)?;
-    if told.as_str() == "one|" || told.as_str() == "one|two|three|" {
-        Ok(())
-    } else {
-        Err(Fail::from(told))
-    }
-}
-
-fn same_fates(alloc: Global, changes: usize, size: usize, byte: u8) -> Result<Vec<Vec<u8>>, Fail> {
-    let mut fates = Vec::new(alloc);
-    for _ in 0..changes {
-        fates.push(vec![in alloc; byte; size]?)?;
-    }
-    Ok(fates)
-}
-
+/// What a power cut leaves where both changes have these fates, and none of `-`.
 fn fates_text(alloc: Global, what: &str) -> Result<String, Fail> {
     let mut fates = Vec::new(alloc);
     if what != "-" {
@@ -228,363 +194,413 @@ fn fates_text(alloc: Global, what: &str) -> Result<String, Fail> {
             fates.push(hex::decode(alloc, fate)?)?;
         }
     }
-    let left = left_by(alloc, &fates)?;
-    Ok(hex::encode(alloc, &left)?)
+    left_by(alloc, &fates)
 }
 
-fn left_by(alloc: Global, fates: &[Vec<u8>]) -> Result<Vec<u8>, Fail> {
-    let mut device = Kept(MemoryDevice::new(alloc, hex::decode(alloc, "00112233")?)?);
+fn left_by(alloc: Global, fates: &[Vec<u8>]) -> Result<String, Fail> {
+    let bytes = [0x00, 0x11, 0x22, 0x33].to_vec(alloc)?;
+    let mut device = Kept(MemoryDevice::new(alloc, bytes)?);
     device.0.write_at(2, &[0xAA, 0xBB, 0xCC, 0xDD])?;
     device.0.shorten(5)?;
-    Ok(device.0.disk().cut(alloc, fates)?)
+    digits(alloc, &device.0.disk().cut(alloc, fates)?)
 }
 
 /// Any bytes stand in the range of a write that isn't synced, some or all of those past the old end.
-#[test]
-fn a_cut_leaves_any_bytes_of_what_is_not_synced(rt: HostRuntime) -> Result<(), Fail> {
-    each_line(rt.alloc(), &mut Told::Left, LEFT)
-}
-
 const LEFT: &str = "
-    -               => 00112233
-    ff              => 0011ff33
-    ffee            => 0011ffee
-    ffeedd          => 0011ffeedd
-    ffeeddcc        => 0011ffeedd
-    ffeeddcc 00     => 0011ffeeddcc
-    ffeeddccbb 0000 => 0011ffeeddcc
+    left -               => 00112233
+    left ff              => 0011ff33
+    left ffee            => 0011ffee
+    left ffeedd          => 0011ffeedd
+    left ffeeddcc        => 0011ffeedd
+    left ffeeddcc 00     => 0011ffeeddcc
+    left ffeeddccbb 0000 => 0011ffeeddcc
 ";
+
+/// The journal of `one`.
+const ONE: &str = "
+    new        =>
+    append one => Ok(())
+    commit     => Ok(())
+";
+
+/// A cut leaves all of a group or nothing.
+const CUTS: &str = r#"
+    cut 0 1 => ("BookFault", ("one|", "one|"))
+    cut 1 1 => ("BookFault", ("one|", "one|"))
+    cut 2 1 => ("BookFault", ("one|", "one|"))
+    cut 3 1 => ("one|", Err(BookFault), Err(BookFault), ("one|", "one|"))
+    cut 4 1 => ("one|", Err(BookFault), Err(BookFault), ("one|", "one|"))
+    cut 5 0 => ("one|", Err(BookFault), Err(BookFault), ("one|", "one|"))
+    cut 5 2 => ("one|", Err(BookFault), Err(BookFault), ("one|", "one|"))
+    cut 5 1 => ("one|", Err(BookFault), Err(BookFault), ("one|two|three|", "one|"))
+    cut 6 1 => ("one|", Err(BookFault), Err(BookFault), ("one|two|three|", "one|"))
+    cut 7 1 => ("one|", Ok(()), Ok(()), ("one|two|three|", "one|two|three|"))
+"#;
+
+/// The old records, or the new ones. The first three calls open it.
+const ANEW: &str = r#"
+    anew 3 1 => ("NotReplaced", ("one|", "one|"), Err(BookFault), "one|")
+    anew 4 1 => ("BookFault", ("two|three|", "one|"), Err(BookFault), "two|three|")
+    anew 5 1 => ("done", ("two|three|", "two|three|"), Ok(()), "two|three|")
+"#;
 
 #[test]
-fn a_cut_leaves_all_of_a_group_or_nothing(rt: HostRuntime) -> Result<(), Fail> {
-    each_line(rt.alloc(), &mut Told::Cut, CUTS)
+fn keeps_what_is_committed(rt: HostRuntime) -> Result<(), Fail> {
+    each_part(
+        rt.alloc(),
+        &mut new_journal(rt.alloc())?,
+        &[KEPT, TURNED, OPENED, CREATED, LEFT, ONE, CUTS, ANEW],
+    )
 }
 
-const CUTS: &str = "
-    0 1 => BookFault: one| one|
-    1 1 => BookFault: one| one|
-    2 1 => BookFault: one| one|
-    3 1 => one| BookFault BookFault: one| one|
-    4 1 => one| BookFault BookFault: one| one|
-    5 0 => one| BookFault BookFault: one| one|
-    5 2 => one| BookFault BookFault: one| one|
-    5 1 => one| BookFault BookFault: one|two|three| one|
-    6 1 => one| BookFault BookFault: one|two|three| one|
-    7 1 => one| done done: one|two|three| one|two|three|
-";
-
-fn rewritten_text(alloc: Global, calls: u64) -> Result<String, Fail> {
-    let mut device = device_of_one(alloc)?;
-    device.fuse(calls.saturating_add(3), 1);
-    match Journal::open(alloc, device) {
-        Ok((journal, _)) => written_anew(alloc, &mut Kept(journal).0),
-        Err((refusal, device)) => refused(alloc, refusal, &Kept(device).0),
+/// What comes of these bytes on a device that fails after some calls, and leaves this byte.
+fn failing_text(
+    alloc: Global,
+    word: &str,
+    bytes: &[u8],
+    mut words: Words<'_>,
+) -> Result<String, Fail> {
+    let (calls, torn): (u64, u8) = words.read()?;
+    let mut device = MemoryDevice::new(alloc, bytes.to_vec(alloc)?)?;
+    device.fuse(calls, torn);
+    match word {
+        "cut" => cut_text(alloc, &mut Journal::open(alloc, device)),
+        "anew" => anew_text(alloc, &mut Journal::open(alloc, device)),
+        _ => Err("no step has this name".into()),
     }
 }
 
-fn written_anew(alloc: Global, journal: &mut Journal<MemoryDevice>) -> Result<String, Fail> {
-    journal.append(alloc, b"lost")?;
-    let mut records = Vec::new(alloc);
-    records.push(b"two".to_vec(alloc)?)?;
-    records.push(b"three".to_vec(alloc)?)?;
-    let answer = journal.rewrite(alloc, &mut MemoryReplacer, &records);
-    let told = rewrite_text(alloc, answer)?;
-    let left = left_anew(alloc, journal.device())?;
-    let again = answer_text(alloc, journal.commit())?;
-    let later = read_text(alloc, journal.device().bytes())?;
-    Ok(format!(in alloc; "{told}: {left} {again} {later}")?)
+fn cut_text(alloc: Global, opened: &mut Opened) -> Result<String, Fail> {
+    let told = told_of(alloc, opened)?;
+    match opened {
+        Ok((journal, _)) => committed(alloc, told.as_str(), journal),
+        Err((_, device)) => shown(alloc, &(told.as_str(), left(alloc, device)?)),
+    }
 }
 
-fn left_anew(alloc: Global, device: &MemoryDevice) -> Result<String, Fail> {
-    for disk in device.past() {
-        judge_rewritten(alloc, disk)?;
+fn committed(
+    alloc: Global,
+    told: &str,
+    journal: &mut Journal<MemoryDevice>,
+) -> Result<String, Fail> {
+    journal.append(alloc, b"two")?;
+    journal.append(alloc, b"three")?;
+    let (answer, again) = (journal.commit(), journal.commit());
+    let left = left(alloc, journal.device())?;
+    shown(alloc, &(told, answer, again, left))
+}
+
+/// What is left, as it is read, and as it was at the last sync.
+fn left(alloc: Global, device: &MemoryDevice) -> Result<(String, String), Fail> {
+    judge_cuts(alloc, device.disk())?;
+    for past in device.past() {
+        judge_cuts(alloc, past)?;
     }
-    judge_rewritten(alloc, device.disk())?;
+    read_and_synced(alloc, device)
+}
+
+fn read_and_synced(alloc: Global, device: &MemoryDevice) -> Result<(String, String), Fail> {
     let read = read_text(alloc, device.bytes())?;
-    let synced = read_text(alloc, device.disk().synced())?;
-    Ok(format!(in alloc; "{read} {synced}")?)
+    Ok((read, read_text(alloc, device.disk().synced())?))
 }
 
-fn rewrite_text(alloc: Global, answer: Result<(), RewriteError>) -> Result<String, Fail> {
-    Ok(match answer {
-        Ok(()) => String::from_str(alloc, "done")?,
-        Err(refusal) => refusal.to_string(alloc)?,
-    })
+/// Fails where a power cut may leave anything except the journal of `one` or that of all three records. Each change has a fate of as many
+/// bytes, all the same.
+fn judge_cuts(alloc: Global, disk: &Disk) -> Result<(), Fail> {
+    for byte in [0, 1, 2, 255] {
+        for size in [0, 1, 4, 43, 85] {
+            let left = cut(alloc, disk, size, byte)?;
+            judge(alloc, &left, "one|two|three|")?;
+        }
+    }
+    Ok(())
 }
 
-/// Fails where a power cut may leave anything except the journal of `one` or that of `two` and `three`.
-fn judge_rewritten(alloc: Global, disk: &Disk) -> Result<(), Fail> {
-    let old = disk.cut(alloc, &[])?;
-    judge_left(alloc, &old)?;
-    judge_left(alloc, disk.bytes())
+/// What a cut leaves where each change has a fate of `size` bytes.
+fn cut(alloc: Global, disk: &Disk, size: usize, byte: u8) -> Result<Vec<u8>, Fail> {
+    let mut fates = Vec::new(alloc);
+    for _ in 0..disk.changes().len() {
+        fates.push(vec![in alloc; byte; size]?)?;
+    }
+    Ok(disk.cut(alloc, &fates)?)
 }
 
-fn judge_left(alloc: Global, left: &[u8]) -> Result<(), Fail> {
+/// Fails where this is neither the journal of `one` nor that of the new records.
+fn judge(alloc: Global, left: &[u8], new: &str) -> Result<(), Fail> {
     let told = read_text(alloc, left)?;
-    if told.as_str() == "one|" || told.as_str() == "two|three|" {
+    if told.as_str() == "one|" || told.as_str() == new {
         Ok(())
     } else {
         Err(Fail::from(told))
     }
 }
 
-#[test]
-fn a_cut_leaves_the_old_records_or_the_new_ones(rt: HostRuntime) -> Result<(), Fail> {
-    each_line(rt.alloc(), &mut Told::Rewritten, REWRITTEN)
+fn anew_text(alloc: Global, opened: &mut Opened) -> Result<String, Fail> {
+    let Ok((journal, _)) = opened else {
+        return Err("it isn't opened".into());
+    };
+    journal.append(alloc, b"lost")?;
+    let told = written_anew(alloc, journal)?;
+    let left = left_anew(alloc, journal.device())?;
+    let again = journal.commit();
+    let later = read_text(alloc, journal.device().bytes())?;
+    shown(alloc, &(told, left, again, later.as_str()))
 }
 
-const REWRITTEN: &str = "
-    0 => NotReplaced: one| one| BookFault one|
-    1 => BookFault: two|three| one| BookFault two|three|
-    2 => done: two|three| two|three| done two|three|
-";
-
-fn turned_text(alloc: Global, at: usize) -> Result<String, Fail> {
-    let mut bytes = bytes_after(alloc, &[b"one", b"two"])?;
-    let byte = present(bytes.get_mut(at), "no such byte")?;
-    *byte ^= 8;
-    read_text(alloc, bytes.as_slice())
+fn written_anew(alloc: Global, journal: &mut Journal<MemoryDevice>) -> Result<String, Fail> {
+    let mut records = Vec::new(alloc);
+    records.push(b"two".to_vec(alloc)?)?;
+    records.push(b"three".to_vec(alloc)?)?;
+    let answer = journal.rewrite(alloc, &mut MemoryReplacer, &records);
+    rewrite_text(alloc, answer)
 }
 
-/// A turned gate ends the journal; any other byte is refused, with the offset of its record's gate.
-#[test]
-fn a_turned_byte_is_refused_or_ends_the_journal(rt: HostRuntime) -> Result<(), Fail> {
-    each_line(rt.alloc(), &mut Told::Turned, TURNED)
-}
-
-const TURNED: &str = "
-    0  => BadBook 0
-    3  => BadBook 0
-    4  =>
-    5  => BadBook 4
-    8  => BadBook 4
-    9  => BadBook 4
-    11 => BadBook 4
-    12 => BadBook 4
-    43 => BadBook 4
-    44 => one|
-    45 => BadBook 44
-    83 => BadBook 44
-    84 => one|two|
-";
-
-fn opened_bytes_text(alloc: Global, digits: &str) -> Result<String, Fail> {
-    let device = MemoryDevice::new(alloc, hex::decode(alloc, digits)?)?;
-    match Journal::open(alloc, device) {
-        Ok((journal, records)) => opened_text(alloc, &Kept(journal).0, &records),
-        Err((refusal, device)) => refused_text(alloc, refusal, &Kept(device).0),
+fn rewrite_text(alloc: Global, answer: Result<(), RewriteError>) -> Result<String, Fail> {
+    match answer {
+        Ok(()) => text(alloc, "done"),
+        Err(refusal) => Ok(refusal.to_string(alloc)?),
     }
 }
 
-fn opened_text(
-    alloc: Global,
-    journal: &Journal<MemoryDevice>,
-    records: &[Vec<u8>],
-) -> Result<String, Fail> {
-    let told = records_text(alloc, records)?;
-    device_text(alloc, told.as_str(), journal.device())
-}
-
-fn refused_text(
-    alloc: Global,
-    refusal: JournalError,
-    device: &MemoryDevice,
-) -> Result<String, Fail> {
-    let told = refusal.to_string(alloc)?;
-    device_text(alloc, told.as_str(), device)
-}
-
-fn device_text(alloc: Global, told: &str, device: &MemoryDevice) -> Result<String, Fail> {
-    let bytes = hex::encode(alloc, device.bytes())?;
-    if bytes.is_empty() {
-        return Ok(format!(in alloc; "{told}:")?);
+/// The same as `left` of a journal that is written anew.
+fn left_anew(alloc: Global, device: &MemoryDevice) -> Result<(String, String), Fail> {
+    judge_anew(alloc, device.disk())?;
+    for past in device.past() {
+        judge_anew(alloc, past)?;
     }
-    Ok(format!(in alloc; "{told}: {bytes}")?)
+    read_and_synced(alloc, device)
 }
 
-/// What stands from a shut gate on is cut off. What is no journal is left as it is.
-#[test]
-fn opens_journals_alone(rt: HostRuntime) -> Result<(), Fail> {
-    each_line(rt.alloc(), &mut Told::Opened, OPENED)
+/// Fails where a power cut may leave anything except the journal of `one` or that of `two` and `three`.
+fn judge_anew(alloc: Global, disk: &Disk) -> Result<(), Fail> {
+    let old = disk.cut(alloc, &[])?;
+    judge(alloc, &old, "two|three|")?;
+    judge(alloc, disk.bytes(), "two|three|")
 }
 
-const OPENED: &str = "
-                       => BadBook 0:
-    46574a             => BadBook 0: 46574a
-    68656c6c6f         => BadBook 0: 68656c6c6f
-    46574a31           => : 46574a3100
-    46574a3100         => : 46574a3100
-    46574a3101         => : 46574a3100
-    46574a310001000000 => : 46574a3100
-    46574a310101       => BadBook 4: 46574a310101
-";
+/// The journal that is held in a file. Its drop is written out, so that each place that drops it calls that.
+struct Filed<'a> {
+    rt: &'a HostRuntime,
+    journal: Option<FileJournal>,
+}
 
-fn created_text(alloc: Global, digits: &str) -> Result<String, Fail> {
-    let device = MemoryDevice::new(alloc, hex::decode(alloc, digits)?)?;
-    match Journal::create(alloc, device) {
-        Ok(journal) => device_text(alloc, "made", Kept(journal).0.device()),
-        Err((refusal, device)) => refused_text(alloc, refusal, &Kept(device).0),
+impl Drop for Filed<'_> {
+    fn drop(self) {
+        let Filed { rt: _, journal: _ } = self;
     }
 }
 
-#[test]
-fn makes_a_journal_where_no_byte_is(rt: HostRuntime) -> Result<(), Fail> {
-    each_line(rt.alloc(), &mut Told::Created, CREATED)
+/// A step with it, or with the file of a name in the folder of temporary files:
+///
+/// - `append RECORD`, `commit`, `close`
+/// - `create NAME`: a journal is made there, and held; `open NAME`: what is read there
+/// - `anew NAME`: what its writing anew with `two` returns, under this name
+/// - `put NAME TEXT`, `text NAME`, `exists NAME`, `remove NAME`; `link NAME OLD`: another name of it
+impl Reads for Filed<'_> {
+    fn told(&mut self, alloc: Global, what: &str) -> Result<String, Fail> {
+        let mut words = Words::new(what);
+        match words.word()? {
+            "close" => {
+                self.journal = None;
+                Ok(String::new(alloc))
+            }
+            "append" => self.kept(alloc, Some(words.rest())),
+            "commit" => self.kept(alloc, None),
+            word => {
+                let path = path_of(self.rt, words.word()?)?;
+                self.at(alloc, word, path.as_path(), words.rest())
+            }
+        }
+    }
 }
 
-const CREATED: &str = "
-               => made: 46574a3100
-    00         => NotEmpty: 00
-    46574a3100 => NotEmpty: 46574a3100
-";
-
-/// A path of a test's own, and no file there.
-fn new_path(rt: &HostRuntime, name: &str) -> Result<PathBuf, Fail> {
+fn path_of(rt: &HostRuntime, name: &str) -> Result<PathBuf, Fail> {
     let mut path = env::temp_dir(rt)?;
     path.push(name)?;
-    let _ = fs::remove_file(rt, path.as_path());
     Ok(path)
 }
 
-fn file_text(opened: Result<FileDevice, JournalError>) -> &'static str {
-    match opened {
-        Ok(_) => "a file",
-        Err(JournalError::Locked) => "Locked",
-        Err(JournalError::BookFault) => "BookFault",
-        Err(_) => "another refusal",
+impl Filed<'_> {
+    /// The journal takes this record, or commits.
+    fn kept(&mut self, alloc: Global, record: Option<&str>) -> Result<String, Fail> {
+        match (&mut self.journal, record) {
+            (Some(journal), Some(record)) => {
+                shown(alloc, &journal.append(alloc, record.as_bytes()))
+            }
+            (Some(journal), None) => shown(alloc, &journal.commit()),
+            _ => Err("no journal is held".into()),
+        }
     }
+
+    /// A step with the file there.
+    fn at(&mut self, alloc: Global, word: &str, path: Path, rest: &str) -> Result<String, Fail> {
+        match word {
+            "create" => return shown(alloc, &self.create(alloc, path)),
+            "open" => return self.open(alloc, path),
+            "anew" => return self.anew(alloc, path),
+            "text" => return Ok(fs::read_to_string(self.rt, path)?),
+            "exists" => return shown(alloc, &fs::exists(self.rt, path)?),
+            "put" => fs::write(self.rt, path, rest.as_bytes())?,
+            "link" => symlink(self.rt, path_of(self.rt, rest)?.as_path(), path)?,
+            "remove" => fs::remove_file(self.rt, path)?,
+            _ => return Err("no step has this name".into()),
+        }
+        Ok(String::new(alloc))
+    }
+
+    fn create(&mut self, alloc: Global, path: Path) -> Result<(), JournalError> {
+        match Journal::create(alloc, FileDevice::create(self.rt, path)?) {
+            Ok(journal) => {
+                self.journal = Some(journal);
+                Ok(())
+            }
+            Err((refusal, _)) => Err(refusal),
+        }
+    }
+
+    fn open(&self, alloc: Global, path: Path) -> Result<String, Fail> {
+        match FileDevice::open(self.rt, path) {
+            Ok(device) => told_of(alloc, &Journal::open(alloc, device)),
+            Err(refusal) => shown(alloc, &refusal),
+        }
+    }
+
+    fn anew(&mut self, alloc: Global, path: Path) -> Result<String, Fail> {
+        let Some(journal) = &mut self.journal else {
+            return Err("no journal is held".into());
+        };
+        let mut replacer = FileReplacer::new(self.rt, alloc, path.path_text())?;
+        let mut records = Vec::new(alloc);
+        records.push(b"two".to_vec(alloc)?)?;
+        rewrite_text(alloc, journal.rewrite(alloc, &mut replacer, &records))
+    }
+}
+
+/// Takes steps where the files of these names aren't there at first.
+fn steps(rt: &HostRuntime, names: &[&str], tables: &[&str]) -> Result<(), Fail> {
+    for name in names {
+        let _ = fs::remove_file(rt, path_of(rt, name)?.as_path());
+    }
+    each_part(rt.alloc(), &mut Filed { rt, journal: None }, tables)
 }
 
 /// A file takes one journal at a time, and isn't made twice.
+const IN_A_FILE: &str = "
+    create journals.fwj => Ok(())
+    create journals.fwj => Err(BookFault)
+    open journals.fwj   => Locked
+    append one          => Ok(())
+    commit              => Ok(())
+    close               =>
+    open journals.fwj   => one|
+    remove journals.fwj =>
+";
+
 #[test]
 fn keeps_what_is_committed_in_a_file(rt: HostRuntime) -> Result<(), Fail> {
-    let path = new_path(&rt, "journals.fwj")?;
-    keeps_in(&rt, rt.alloc(), path.as_path())
+    steps(&rt, &["journals.fwj"], &[IN_A_FILE])
 }
 
-fn keeps_in(rt: &HostRuntime, alloc: Global, path: Path) -> Result<(), Fail> {
-    match Journal::create(alloc, FileDevice::create(rt, path)?) {
-        Ok(journal) => commit_one(rt, alloc, path, &mut Kept(journal).0)?,
-        Err(_) => return Err("not made".into()),
-    }
-    let opened = Journal::open(alloc, FileDevice::open(rt, path)?);
-    let told = told_of(alloc, &opened)?;
-    fs::remove_file(rt, path)?;
-    expect(alloc, 2, told.as_str(), "one|")
-}
+/// A file that is written anew is locked before and after. What a making that was cut may leave under the other name is written over: five
+/// bytes at most, or a file that begins as a journal does.
+const REPLACED: &str = "
+    put rewritten.fwj.new      =>
+    create rewritten.fwj       => Ok(())
+    append one                 => Ok(())
+    commit                     => Ok(())
+    anew rewritten.fwj         => done
+    open rewritten.fwj         => Locked
+    append three               => Ok(())
+    commit                     => Ok(())
+    close                      =>
+    open rewritten.fwj         => two|three|
+    remove rewritten.fwj       =>
+    exists rewritten.fwj.new   => false
+    put rewritten.fwj.new FW   =>
+    create rewritten.fwj       => Ok(())
+    append one                 => Ok(())
+    commit                     => Ok(())
+    anew rewritten.fwj         => done
+    open rewritten.fwj         => Locked
+    append three               => Ok(())
+    commit                     => Ok(())
+    close                      =>
+    open rewritten.fwj         => two|three|
+    remove rewritten.fwj       =>
+    exists rewritten.fwj.new   => false
+    put rewritten.fwj.new 12345 =>
+    create rewritten.fwj       => Ok(())
+    append one                 => Ok(())
+    commit                     => Ok(())
+    anew rewritten.fwj         => done
+    open rewritten.fwj         => Locked
+    append three               => Ok(())
+    commit                     => Ok(())
+    close                      =>
+    open rewritten.fwj         => two|three|
+    remove rewritten.fwj       =>
+    exists rewritten.fwj.new   => false
+    put rewritten.fwj.new FWJ1 and what a killed process left there, longer than all records =>
+    create rewritten.fwj       => Ok(())
+    append one                 => Ok(())
+    commit                     => Ok(())
+    anew rewritten.fwj         => done
+    open rewritten.fwj         => Locked
+    append three               => Ok(())
+    commit                     => Ok(())
+    close                      =>
+    open rewritten.fwj         => two|three|
+    remove rewritten.fwj       =>
+    exists rewritten.fwj.new   => false
+";
 
-fn commit_one(
-    rt: &HostRuntime,
-    alloc: Global,
-    path: Path,
-    journal: &mut FileJournal,
-) -> Result<(), Fail> {
-    expect(
-        alloc,
-        0,
-        file_text(FileDevice::create(rt, path)),
-        "BookFault",
-    )?;
-    expect(alloc, 1, file_text(FileDevice::open(rt, path)), "Locked")?;
-    journal.append(alloc, b"one")?;
-    Ok(journal.commit()?)
-}
-
-/// What stands under the other name when a file is written anew; and what comes of that, with the records of the file then and what has
-/// the other name. What a making that was cut may leave there is written over: five bytes at most, or a file that begins as a journal does.
-const BESIDE: &[(&str, &str)] = &[
-    ("", "done: two|three|"),
-    ("FW", "done: two|three|"),
-    ("12345", "done: two|three|"),
-    (
-        "FWJ1 and what a killed process left there, longer than all records",
-        "done: two|three|",
-    ),
-    ("123456", "NotReplaced: one|three|123456"),
-    (
-        "FWJ0 is another program's",
-        "NotReplaced: one|three|FWJ0 is another program's",
-    ),
-];
-
-/// A file that is written anew is locked before and after. Where a file that is no journal has its other name, both stay.
-#[test]
-fn writes_a_file_anew(rt: HostRuntime) -> Result<(), Fail> {
-    let path = new_path(&rt, "rewritten.fwj")?;
-    let new = new_path(&rt, "rewritten.fwj.new")?;
-    for (number, (beside, told)) in BESIDE.iter().enumerate() {
-        fs::write(&rt, new.as_path(), beside.as_bytes())?;
-        let found = rewritten_beside(&rt, rt.alloc(), path.as_path(), new.as_path())?;
-        expect(rt.alloc(), number, found.as_str(), told)?;
-    }
-    Ok(())
-}
-
-fn rewritten_beside(
-    rt: &HostRuntime,
-    alloc: Global,
-    path: Path,
-    new: Path,
-) -> Result<String, Fail> {
-    let mut told = match Journal::create(alloc, FileDevice::create(rt, path)?) {
-        Ok(journal) => rewrite_one(rt, alloc, path, &mut Kept(journal).0)?,
-        Err(_) => return Err("not made".into()),
-    };
-    let opened = Journal::open(alloc, FileDevice::open(rt, path)?);
-    told.push_str(told_of(alloc, &opened)?.as_str())?;
-    fs::remove_file(rt, path)?;
-    if fs::exists(rt, new)? {
-        told.push_str(fs::read_to_string(rt, new)?.as_str())?;
-        fs::remove_file(rt, new)?;
-    }
-    Ok(told)
-}
-
-/// What writing it anew returns, with a record that is committed before and one after it.
-fn rewrite_one(
-    rt: &HostRuntime,
-    alloc: Global,
-    path: Path,
-    journal: &mut FileJournal,
-) -> Result<String, Fail> {
-    journal.append(alloc, b"one")?;
-    journal.commit()?;
-    let mut records = Vec::new(alloc);
-    records.push(b"two".to_vec(alloc)?)?;
-    let mut replacer = FileReplacer::new(rt, alloc, path.path_text())?;
-    let told = rewrite_text(alloc, journal.rewrite(alloc, &mut replacer, &records))?;
-    expect(alloc, 0, file_text(FileDevice::open(rt, path)), "Locked")?;
-    journal.append(alloc, b"three")?;
-    journal.commit()?;
-    Ok(format!(in alloc; "{told}: ")?)
-}
+/// Where a file that is no journal has its other name, both stay.
+const NOT_REPLACED: &str = "
+    put rewritten.fwj.new 123456 =>
+    create rewritten.fwj       => Ok(())
+    append one                 => Ok(())
+    commit                     => Ok(())
+    anew rewritten.fwj         => NotReplaced
+    open rewritten.fwj         => Locked
+    append three               => Ok(())
+    commit                     => Ok(())
+    close                      =>
+    open rewritten.fwj         => one|three|
+    remove rewritten.fwj       =>
+    text rewritten.fwj.new     => 123456
+    remove rewritten.fwj.new   =>
+    put rewritten.fwj.new FWJ0 is another program's =>
+    create rewritten.fwj       => Ok(())
+    append one                 => Ok(())
+    commit                     => Ok(())
+    anew rewritten.fwj         => NotReplaced
+    open rewritten.fwj         => Locked
+    append three               => Ok(())
+    commit                     => Ok(())
+    close                      =>
+    open rewritten.fwj         => one|three|
+    remove rewritten.fwj       =>
+    text rewritten.fwj.new     => FWJ0 is another program's
+    remove rewritten.fwj.new   =>
+";
 
 /// A file isn't replaced by a link to it, under whose name it would be left unlocked.
+const LINKED: &str = "
+    create named.fwj           => Ok(())
+    link linked.fwj named.fwj  =>
+    anew linked.fwj            => NotReplaced
+    close                      =>
+    remove linked.fwj          =>
+    remove named.fwj           =>
+";
+
 #[test]
-fn leaves_a_file_that_has_another_name(rt: HostRuntime) -> Result<(), Fail> {
-    let path = new_path(&rt, "named.fwj")?;
-    let link = new_path(&rt, "linked.fwj")?;
-    symlink(&rt, path.as_path(), link.as_path())?;
-    let told = rewritten_by(&rt, rt.alloc(), path.as_path(), link.as_path())?;
-    fs::remove_file(&rt, link.as_path())?;
-    fs::remove_file(&rt, path.as_path())?;
-    expect(rt.alloc(), 0, told.as_str(), "NotReplaced")
-}
-
-/// What writing the journal of a new file anew returns, by another name of it.
-fn rewritten_by(rt: &HostRuntime, alloc: Global, path: Path, name: Path) -> Result<String, Fail> {
-    match Journal::create(alloc, FileDevice::create(rt, path)?) {
-        Ok(journal) => rewritten_at(rt, alloc, name, &mut Kept(journal).0),
-        Err(_) => Err("not made".into()),
-    }
-}
-
-fn rewritten_at(
-    rt: &HostRuntime,
-    alloc: Global,
-    name: Path,
-    journal: &mut FileJournal,
-) -> Result<String, Fail> {
-    let mut replacer = FileReplacer::new(rt, alloc, name.path_text())?;
-    rewrite_text(alloc, journal.rewrite(alloc, &mut replacer, &[]))
+fn writes_a_file_anew(rt: HostRuntime) -> Result<(), Fail> {
+    let names = &[
+        "rewritten.fwj",
+        "rewritten.fwj.new",
+        "named.fwj",
+        "linked.fwj",
+    ];
+    steps(&rt, names, &[REPLACED, NOT_REPLACED, LINKED])
 }

@@ -1,10 +1,11 @@
 //! Stores in memory, and their fuse.
 
 use crate::calls::{FRESH, KEPT, OLD_FRESH, WRITES, called};
+use crate::support::shown;
 use fw_store::{ImageStore, MemoryStore, SetupError, StoreFault};
 use std::alloc::Global;
 use std::test::Fail;
-use test_tables::{Kept, Reads, Words, each_line, each_part, each_prints, each_table};
+use test_tables::{Kept, Reads, Words, each_part, each_prints, each_table};
 
 /// A store that can be made to fail. Its drop is written out, so that each place that drops it calls that.
 struct Tried(MemoryStore);
@@ -48,14 +49,7 @@ fn same_text(alloc: Global, store: &MemoryStore, mut words: Words<'_>) -> Result
     if !words.rest().is_empty() {
         let _told = called(alloc, &mut other.0, words.rest())?;
     }
-    let same = store.same(&other.0);
-    Ok(format!(in alloc; "{same}")?)
-}
-
-#[test]
-fn keeps_what_is_written(rt: HostRuntime) -> Result<(), Fail> {
-    let mut store = fresh(rt.alloc())?;
-    each_part(rt.alloc(), &mut store, &[FRESH, WRITES, KEPT])
+    shown(alloc, &store.same(&other.0))
 }
 
 /// An old store has a header of version 1, and takes one of either version.
@@ -103,10 +97,10 @@ impl Reads for Made {
 }
 
 fn made_text(alloc: Global, made: Result<MemoryStore, SetupError>) -> Result<String, Fail> {
-    Ok(match made {
-        Ok(store) => format!(in alloc; "{}", store.capacity())?,
-        Err(refusal) => refusal.to_string(alloc)?,
-    })
+    match made {
+        Ok(store) => shown(alloc, &store.capacity()),
+        Err(refusal) => shown(alloc, &refusal),
+    }
 }
 
 /// The fourth has one byte above the limit of an old one, and the fifth as many as a store may have. Without a word at its end a row has no
@@ -280,12 +274,6 @@ const TEARS: &str = "
     read first 0 14               => 6162630000000000000000000000
 ";
 
-#[test]
-fn fuses(rt: HostRuntime) -> Result<(), Fail> {
-    let mut store = fresh(rt.alloc())?;
-    each_part(rt.alloc(), &mut store, &[FUSES, FUSES_AGAIN, TEARS])
-}
-
 /// Two stores are the same where capacity, header and slots are; fuses and faults don't count.
 const SAME: &str = "
     new 8                                                                                                                                      =>
@@ -312,6 +300,10 @@ const SAME: &str = "
 ";
 
 #[test]
-fn same_stores(rt: HostRuntime) -> Result<(), Fail> {
-    each_line(rt.alloc(), &mut fresh(rt.alloc())?, SAME)
+fn keeps_what_is_written(rt: HostRuntime) -> Result<(), Fail> {
+    each_part(
+        rt.alloc(),
+        &mut fresh(rt.alloc())?,
+        &[FRESH, WRITES, KEPT, FUSES, FUSES_AGAIN, TEARS, SAME],
+    )
 }

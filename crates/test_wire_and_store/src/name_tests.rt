@@ -1,7 +1,7 @@
 //! Names of images: 01, the head end's number, the campaign's serial number, and the SHA-256 (FIPS 180-4) of the image; with a
 //! release 02 in place of 01, and the release before the SHA-256.
 
-use crate::support::abc_name;
+use crate::support::{campaign_name, digits, shown, text};
 use fw_names::{CampaignId, HeadId, ImageName, MeterId, digest_of, factory_name, is_risen};
 use std::alloc::Global;
 use std::test::Fail;
@@ -22,21 +22,23 @@ enum Told {
 impl Reads for Told {
     fn told(&mut self, alloc: Global, what: &str) -> Result<String, Fail> {
         match self {
-            Told::Spelling => spelling_text(alloc, what),
+            Told::Spelling => spelling_text(alloc, &hex::decode(alloc, what)?),
             Told::Name => name_text(alloc, Words::new(what)),
             Told::Number => number_text(alloc, Words::new(what)),
-            Told::Order => order_text(alloc, Words::new(what)),
+            Told::Order => {
+                let [before, after]: [u32; 2] = Words::new(what).read()?;
+                shown(alloc, &is_risen(before, after))
+            }
         }
     }
 }
 
-fn spelling_text(alloc: Global, digits: &str) -> Result<String, Fail> {
-    let bytes = hex::decode(alloc, digits)?;
-    let same = match ImageName::from_bytes(&bytes) {
-        Some(name) => hex::encode(alloc, name.to_bytes().as_slice())?.as_str() == digits,
+fn spelling_text(alloc: Global, bytes: &[u8]) -> Result<String, Fail> {
+    let same = match ImageName::from_bytes(bytes) {
+        Some(name) => name.to_bytes().as_slice() == bytes,
         None => false,
     };
-    Ok(format!(in alloc; "{same}")?)
+    shown(alloc, &same)
 }
 
 /// After the first bytes stands the SHA-256 of `abc`, from the examples of FIPS 180-4.
@@ -84,14 +86,14 @@ fn name_text(alloc: Global, mut words: Words<'_>) -> Result<String, Fail> {
         "factory" => Some(factory_name(b"abc")),
         "offered" => {
             let [head, serial, release]: [u32; 3] = words.read()?;
-            abc_name(head, serial, release)
+            campaign_name(head, serial, release, b"abc")
         }
-        _ => return Ok(hex::encode(alloc, digest_of(b"abc"))?),
+        _ => return digits(alloc, &digest_of(b"abc")),
     };
-    Ok(match name {
-        Some(name) => hex::encode(alloc, name.to_bytes().as_slice())?,
-        None => String::from_str(alloc, "none")?,
-    })
+    match name {
+        Some(name) => digits(alloc, name.to_bytes().as_slice()),
+        None => text(alloc, "none"),
+    }
 }
 
 /// Numbers of head ends and serial numbers begin at 1.
@@ -106,41 +108,26 @@ const NAMES: &str = "
 ";
 
 fn number_text(alloc: Global, mut words: Words<'_>) -> Result<String, Fail> {
-    let told = match words.word()? {
-        "head" => HeadId::new(words.number()?).map(HeadId::number),
-        "meter" => MeterId::new(words.number()?).map(MeterId::number),
-        "campaign" => return campaign_text(alloc, words),
-        _ => return campaign_told(alloc, CampaignId::FACTORY),
+    let campaign = match words.word()? {
+        "head" => return shown(alloc, &HeadId::new(words.number()?).map(HeadId::number)),
+        "meter" => return shown(alloc, &MeterId::new(words.number()?).map(MeterId::number)),
+        "campaign" => {
+            let [head, serial]: [u32; 2] = words.read()?;
+            present(campaign_name(head, serial, 0, b"abc"), "no campaign")?.campaign
+        }
+        _ => CampaignId::FACTORY,
     };
-    Ok(format!(in alloc; "{told:?}")?)
-}
-
-fn campaign_text(alloc: Global, mut words: Words<'_>) -> Result<String, Fail> {
-    let [head, serial]: [u32; 2] = words.read()?;
-    let head = present(HeadId::new(head), "no head end")?;
-    let campaign = present(CampaignId::new(head, serial), "no campaign")?;
-    campaign_told(alloc, campaign)
-}
-
-fn campaign_told(alloc: Global, campaign: CampaignId) -> Result<String, Fail> {
     let head = campaign.head().map(HeadId::number);
-    let (serial, factory) = (campaign.serial(), campaign.is_factory());
-    Ok(format!(in alloc; "{head:?} {serial} {factory}")?)
+    shown(alloc, &(head, campaign.serial(), campaign.is_factory()))
 }
 
 const NUMBERS: &str = "
     head 1                => Some(1)
     // a meter's begins at 0
     meter 0               => Some(0)
-    campaign 4294967295 9 => Some(4294967295) 9 false
-    factory               => None 0 true
+    campaign 4294967295 9 => (Some(4294967295), 9, false)
+    factory               => (None, 0, true)
 ";
-
-fn order_text(alloc: Global, mut words: Words<'_>) -> Result<String, Fail> {
-    let [before, after]: [u32; 2] = words.read()?;
-    let risen = is_risen(before, after);
-    Ok(format!(in alloc; "{risen}")?)
-}
 
 const ORDER: &str = "
     0 0          => true

@@ -1,8 +1,8 @@
 //! Which stores are opened: each condition once, met and not met.
 
 use crate::headers::status_of;
-use crate::session::{bbbb, image_name};
-use crate::support::marked;
+use crate::session::image_name;
+use crate::support::{marked, shown};
 use fw_image::{OpenError, Phase, open_kept, open_store};
 use fw_names::{ImageName, factory_name};
 use fw_store::{
@@ -21,29 +21,27 @@ use test_tables::{Kept, Reads, Words, each_prints, each_table};
 /// - `other-form`: the form's first byte is another
 /// - `zeros`: it has zeros alone
 fn bytes_of(mut words: Words<'_>) -> Result<HeaderBytes, Fail> {
-    let abc = factory_name(b"abc");
+    let (abc, bbbb) = (factory_name(b"abc"), image_name(b"bbbb", 0)?);
+    let (one, two) = (HeaderVersion::One, HeaderVersion::Two);
     match words.word()? {
-        "old" => {
-            let status = status_of(words.word()?)?;
-            Ok(header_of(HeaderVersion::One, status, abc, bbbb()?).to_bytes())
-        }
+        "old" => Ok(stored(one, status_of(words.word()?)?, abc, bbbb)),
         "runs" => {
             let running = factory_name(words.rest().as_bytes());
-            Ok(header(StoredStatus::Initiated, running, bbbb()?).to_bytes())
+            Ok(stored(two, StoredStatus::Initiated, running, bbbb))
         }
         "aims" => {
             let goal = image_name(b"bbbb", words.number()?)?;
-            Ok(header(StoredStatus::Initiated, image_name(b"abc", 5)?, goal).to_bytes())
+            Ok(stored(two, StoredStatus::Initiated, image_name(b"abc", 5)?, goal))
         }
-        "other-form" => other_form(header(StoredStatus::VerificationSuccessful, abc, bbbb()?)),
+        "other-form" => { other_form(stored(two, StoredStatus::VerificationSuccessful, abc, bbbb)) }
         "zeros" => Ok(HeaderBytes::Two([0; VERSION_TWO_SIZE])),
-        status => Ok(header(status_of(status)?, abc, bbbb()?).to_bytes()),
+        status => Ok(stored(two, status_of(status)?, abc, bbbb)),
     }
 }
 
 /// The bytes of a header of version 2 with another first byte.
-fn other_form(header: Header) -> Result<HeaderBytes, Fail> {
-    match header.to_bytes() {
+fn other_form(bytes: HeaderBytes) -> Result<HeaderBytes, Fail> {
+    match bytes {
         HeaderBytes::Two(mut bytes) => {
             bytes[0] = 0x47;
             Ok(HeaderBytes::Two(bytes))
@@ -52,17 +50,13 @@ fn other_form(header: Header) -> Result<HeaderBytes, Fail> {
     }
 }
 
-fn header(status: StoredStatus, running: ImageName, goal: ImageName) -> Header {
-    header_of(HeaderVersion::Two, status, running, goal)
-}
-
-fn header_of(
+fn stored(
     version: HeaderVersion,
     status: StoredStatus,
     running: ImageName,
     goal: ImageName,
-) -> Header {
-    Header {
+) -> HeaderBytes {
+    let header = Header {
         version,
         enabled: true,
         running_slot: Slot::First,
@@ -75,7 +69,8 @@ fn header_of(
             size: 4,
         }),
         marks: marked(version.no_marks(), &[0, 1]),
-    }
+    };
+    header.to_bytes()
 }
 
 /// Of a store by the bytes in its second slot, after how many calls it fails, or `-`, and its header: why it isn't opened. It is returned as it
@@ -95,7 +90,7 @@ impl Reads for Opened {
             Opened::Anew => refusal(open_store(store), &other)?,
             Opened::Kept => refusal(open_kept(store), &other)?,
         };
-        Ok(format!(in alloc; "{refusal:?}")?)
+        shown(alloc, &refusal)
     }
 }
 

@@ -1,6 +1,7 @@
 //! What requests ask, before any meter is looked at.
 
-use fw_apdu::{Request, read_request};
+use crate::support::shown;
+use fw_apdu::read_request;
 use fw_server::{Object, ResultCode, plan};
 use std::alloc::Global;
 use std::test::Fail;
@@ -20,19 +21,15 @@ impl Reads for Told {
     fn told(&mut self, alloc: Global, what: &str) -> Result<String, Fail> {
         match self {
             Told::Asked => asked_text(alloc, &hex::decode(alloc, what)?),
-            Told::Code => Ok(format!(in alloc; "{}", code_of(what)?.number())?),
-            Told::Object => Ok(format!(in alloc; "{:?}", object_of(what)?.logical_name())?),
+            Told::Code => shown(alloc, &code_of(what)?.number()),
+            Told::Object => shown(alloc, &object_of(what)?.logical_name()),
         }
     }
 }
 
 fn asked_text(alloc: Global, bytes: &[u8]) -> Result<String, Fail> {
-    planned_text(alloc, &read_request(alloc, bytes)?)
-}
-
-fn planned_text(alloc: Global, request: &Request) -> Result<String, Fail> {
-    let planned = plan(request);
-    Ok(format!(in alloc; "{planned:?}")?)
+    let request = read_request(alloc, bytes)?;
+    shown(alloc, &plan(&request))
 }
 
 /// GET of each attribute of each object, with its class: 18 for Image transfer, 0-0:44.0.0.255, and 1 for the active firmware
@@ -104,18 +101,6 @@ const REFUSALS: &str = "
     c301c1001200002c0000ff04011100                   => Refused(TypeUnmatched)
 ";
 
-#[test]
-fn requests(rt: HostRuntime) -> Result<(), Fail> {
-    each_table(
-        rt.alloc(),
-        &[
-            (Told::Asked, READS),
-            (Told::Asked, OPERATIONS),
-            (Told::Asked, REFUSALS),
-        ],
-    )
-}
-
 fn code_of(name: &str) -> Result<ResultCode, Fail> {
     Ok(match name {
         "Success" => ResultCode::Success,
@@ -157,6 +142,15 @@ const OBJECTS: &str = "
 ";
 
 #[test]
-fn codes_and_logical_names(rt: HostRuntime) -> Result<(), Fail> {
-    each_table(rt.alloc(), &[(Told::Code, CODES), (Told::Object, OBJECTS)])
+fn requests_codes_and_logical_names(rt: HostRuntime) -> Result<(), Fail> {
+    each_table(
+        rt.alloc(),
+        &[
+            (Told::Asked, READS),
+            (Told::Asked, OPERATIONS),
+            (Told::Asked, REFUSALS),
+            (Told::Code, CODES),
+            (Told::Object, OBJECTS),
+        ],
+    )
 }

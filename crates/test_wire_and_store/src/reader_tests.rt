@@ -1,5 +1,6 @@
 //! Numbers and lengths at the front of bytes (A-XDR, IEC 61334-6), and their end.
 
+use crate::support::{shown, text};
 use fw_reader::{Reader, end};
 use std::alloc::Global;
 use std::test::Fail;
@@ -31,7 +32,7 @@ impl Reads for Told {
                 bytes_text(alloc, count as usize, &hex::decode(alloc, words.word()?)?)
             }
             Told::End => match end(&hex::decode(alloc, what)?) {
-                Ok(()) => Ok(format!(in alloc; "the end")?),
+                Ok(()) => text(alloc, "the end"),
                 Err(fault) => Ok(fault.to_string(alloc)?),
             },
         }
@@ -41,7 +42,7 @@ impl Reads for Told {
 fn length_text(alloc: Global, bytes: &[u8]) -> Result<String, Fail> {
     let mut reader = Reader::new(bytes);
     match reader.length() {
-        Ok(length) => Ok(format!(in alloc; "{length}, {} left", reader.len())?),
+        Ok(length) => shown(alloc, &(length, reader.len())),
         Err(fault) => Ok(fault.to_string(alloc)?),
     }
 }
@@ -55,7 +56,7 @@ fn number_text(alloc: Global, size: u32, bytes: &[u8]) -> Result<String, Fail> {
         _ => reader.u64(),
     };
     match number {
-        Ok(number) => Ok(format!(in alloc; "{number:x}, {} left", reader.len())?),
+        Ok(number) => shown(alloc, &(number, reader.len())),
         Err(fault) => Ok(fault.to_string(alloc)?),
     }
 }
@@ -63,23 +64,20 @@ fn number_text(alloc: Global, size: u32, bytes: &[u8]) -> Result<String, Fail> {
 fn bytes_text(alloc: Global, count: usize, bytes: &[u8]) -> Result<String, Fail> {
     let mut reader = Reader::new(bytes);
     match reader.bytes(count) {
-        Ok(front) => {
-            let front = hex::encode(alloc, front)?;
-            Ok(format!(in alloc; "{front}, {} left", reader.len())?)
-        }
+        Ok(front) => shown(alloc, &(front, reader.len())),
         Err(fault) => Ok(fault.to_string(alloc)?),
     }
 }
 
 /// The five forms of a length, first bytes that are refused, and missing bytes.
 const LENGTHS: &str = "
-    00         => 0, 0 left
-    7f07       => 127, 1 left
-    818007     => 128, 1 left
-    82010207   => 258, 1 left
-    8301020307 => 66051, 1 left
-    8401020304 => 16909060, 0 left
-    8101       => 1, 0 left
+    00         => (0, 0)
+    7f07       => (127, 1)
+    818007     => (128, 1)
+    82010207   => (258, 1)
+    8301020307 => (66051, 1)
+    8401020304 => (16909060, 0)
+    8101       => (1, 0)
     80         => BadLength
     85         => BadLength
     ff         => BadLength
@@ -89,17 +87,17 @@ const LENGTHS: &str = "
 ";
 
 const NUMBERS: &str = "
-    1 0102             => 1, 1 left
-    2 010203           => 102, 1 left
-    4 01020304         => 1020304, 0 left
-    8 010203040506070809 => 102030405060708, 1 left
+    1 0102             => (1, 1)
+    2 010203           => (258, 1)
+    4 01020304         => (16909060, 0)
+    8 010203040506070809 => (72623859790382856, 1)
     2 01               => Truncated
     8 01020304050607   => Truncated
 ";
 
 const BYTES: &str = "
-    2 010203 => 0102, 1 left
-    3 010203 => 010203, 0 left
+    2 010203 => ([1, 2], 1)
+    3 010203 => ([1, 2, 3], 0)
     4 010203 => Truncated
 ";
 

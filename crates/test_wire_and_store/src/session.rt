@@ -2,12 +2,12 @@
 
 use crate::calls::bytes_text;
 use crate::fresh::{new_meter, old_meter};
-use crate::support::{header_digits, slot_of};
+use crate::support::{campaign_name, header_digits, shown, slot_of};
 use fw_image::{
     MeterView, NotVerified, Phase, Receiving, Refusal, TransferStatus, open_kept, open_store,
 };
-use fw_names::{CampaignId, HeadId, ImageName, factory_name, name_of};
-use fw_store::{ImageStore, MemoryStore, Slot};
+use fw_names::{HeadId, ImageName, factory_name};
+use fw_store::{ImageStore, MemoryStore};
 use std::alloc::{AllocError, Global};
 use std::test::Fail;
 use test_tables::{Reads, Words, each_part, present};
@@ -16,13 +16,13 @@ use test_tables::{Reads, Words, each_part, present};
 pub(crate) type Meter = Phase<MemoryStore>;
 
 /// A new meter that receives `bbbb` and verifies it.
-pub(crate) const TO_VERIFIED: &str = "
-    enable true => true, NotInitiated, no goal, marks, runs 3 of 0 0 ba7816bf
-    initiate 4  => true, Initiated, goal 4 of 2 1 81cc5b17, marks, runs 3 of 0 0 ba7816bf
-    block 0 bb  => true, Initiated, goal 4 of 2 1 81cc5b17, marks 0, runs 3 of 0 0 ba7816bf
-    block 1 bb  => true, Initiated, goal 4 of 2 1 81cc5b17, marks 0 1, runs 3 of 0 0 ba7816bf
-    verify      => true, VerificationSuccessful, goal 4 of 2 1 81cc5b17, marks 0 1, runs 3 of 0 0 ba7816bf
-";
+pub(crate) const TO_VERIFIED: &str = r#"
+    enable true => (None, true, NotInitiated, None, [], (3, None, 0, 0, "abc"))
+    initiate 4  => (None, true, Initiated, Some((4, Some(2), 1, 0, "bbbb")), [], (3, None, 0, 0, "abc"))
+    block 0 bb  => (None, true, Initiated, Some((4, Some(2), 1, 0, "bbbb")), [0], (3, None, 0, 0, "abc"))
+    block 1 bb  => (None, true, Initiated, Some((4, Some(2), 1, 0, "bbbb")), [0, 1], (3, None, 0, 0, "abc"))
+    verify      => (None, true, VerificationSuccessful, Some((4, Some(2), 1, 0, "bbbb")), [0, 1], (3, None, 0, 0, "abc"))
+"#;
 
 /// Fronts of headers: the form, the flags and the status, the block size, the size and the name of what runs, the goal's, and its marks,
 /// and then the releases.
@@ -35,26 +35,19 @@ const HEADERS: &str = "
     old            = 46574831 01 00 00 00 00000002 00000003 010000000000000000 abc
 ";
 
-/// A session with a new meter that has room for 64 bytes. Its store is taken and opened again after each call, or isn't.
-pub(crate) fn session(alloc: Global, reopens: bool, parts: &[&str]) -> Result<(), Fail> {
-    let mut trial = Trial::none();
-    trial.open(alloc, 64)?;
-    trial.reopens = reopens;
-    each_part(alloc, &mut trial, parts)
-}
-
-/// Sessions with new meters that have room for 64 bytes.
+/// Sessions with new meters that have room for 64 bytes. Their stores are taken and opened again after each call, or aren't.
 pub(crate) fn sessions(alloc: Global, reopens: bool, sessions: &[&[&str]]) -> Result<(), Fail> {
     for parts in sessions {
-        session(alloc, reopens, parts)?;
+        let mut trial = Trial::of(new_meter(alloc, 64, 2, b"abc"));
+        trial.reopens = reopens;
+        each_part(alloc, &mut trial, parts)?;
     }
     Ok(())
 }
 
 /// A session with a new old meter that has room for 10,000 bytes.
 pub(crate) fn old_session(alloc: Global, parts: &[&str]) -> Result<(), Fail> {
-    let mut trial = Trial::none();
-    trial.open_old(alloc, 10_000, 2)?;
+    let mut trial = Trial::of(old_meter(alloc, 10_000, 2, b"abc"));
     each_part(alloc, &mut trial, parts)
 }
 
@@ -75,71 +68,23 @@ impl Drop for Trial {
     }
 }
 
-/// A call or a look, and then what can be seen, as `sight` gives it, after the refusal, if there is one.
+/// A call or a look, and then its refusal, if there is one, and what can be seen, as `sight` gives it.
 impl Reads for Trial {
     fn told(&mut self, alloc: Global, what: &str) -> Result<String, Fail> {
         let refusal = self.make(alloc, what)?;
-        let seen = self.sight(alloc)?;
         if self.reopens {
             self.reopen()?;
-            if self.sight(alloc)? != seen {
-                return Err("it is opened otherwise".into());
-            }
         }
-        match refusal {
-            None => Ok(seen),
-            Some(refusal) => Ok(format!(in alloc; "{refusal:?}: {seen}")?),
-        }
+        self.sight(alloc, refusal)
     }
 }
 
 impl Trial {
-    /// There is no meter yet.
-    pub(crate) fn none() -> Trial {
+    /// Tries this meter, if there is one.
+    pub(crate) fn of(meter: Option<Meter>) -> Trial {
         Trial {
-            meter: None,
+            meter,
             reopens: false,
-        }
-    }
-
-    /// Tries this meter.
-    pub(crate) fn of(meter: Meter) -> Trial {
-        Trial {
-            meter: Some(meter),
-            reopens: false,
-        }
-    }
-
-    /// Begins with a new meter that runs `abc`, with blocks of two bytes and slots of `capacity` bytes.
-    pub(crate) fn open(&mut self, alloc: Global, capacity: u32) -> Result<(), Fail> {
-        self.open_with(alloc, capacity, 2)
-    }
-
-    /// The same with blocks of `block_size` bytes.
-    pub(crate) fn open_with(
-        &mut self,
-        alloc: Global,
-        capacity: u32,
-        block_size: u32,
-    ) -> Result<(), Fail> {
-        self.meter = new_meter(alloc, capacity, block_size, b"abc");
-        match self.meter {
-            Some(_) => Ok(()),
-            None => Err("it isn't opened".into()),
-        }
-    }
-
-    /// Begins with a new old meter, whose header has version 1.
-    pub(crate) fn open_old(
-        &mut self,
-        alloc: Global,
-        capacity: u32,
-        block_size: u32,
-    ) -> Result<(), Fail> {
-        self.meter = old_meter(alloc, capacity, block_size, b"abc");
-        match self.meter {
-            Some(_) => Ok(()),
-            None => Err("it isn't opened".into()),
         }
     }
 
@@ -151,55 +96,52 @@ impl Trial {
         Ok(())
     }
 
-    /// Whether the two meters are the same, and look the same.
-    pub(crate) fn is_same(&self, other: &Trial) -> bool {
+    /// Whether the two meters are the same, and whether they look the same.
+    pub(crate) fn compared(&self, other: &Trial) -> (bool, bool) {
         match (&self.meter, &other.meter) {
-            (Some(one), Some(other)) => one.same(other) && one.view() == other.view(),
-            _ => false,
-        }
-    }
-
-    /// Whether the two meters are the same.
-    pub(crate) fn is_like(&self, other: &Trial) -> bool {
-        match (&self.meter, &other.meter) {
-            (Some(one), Some(other)) => one.same(other),
-            _ => false,
+            (Some(one), Some(other)) => (one.same(other), one.view() == other.view()),
+            _ => (false, false),
         }
     }
 
     /// The status that is shown.
-    pub(crate) fn status(&self) -> Result<TransferStatus, Fail> {
+    pub(crate) fn status(&self) -> Option<TransferStatus> {
         match &self.meter {
-            Some(meter) => Ok(meter.status()),
-            None => Err("there is no meter".into()),
+            Some(meter) => Some(meter.status()),
+            None => None,
         }
     }
 
     /// The meter takes a turn.
-    pub(crate) fn turn(&mut self) -> Result<(), Fail> {
-        let Some(meter) = self.meter.take() else {
-            return Err("there is no meter".into());
-        };
-        self.meter = Some(meter.turn());
-        Ok(())
+    pub(crate) fn turn(&mut self) {
+        if let Some(meter) = self.meter.take() {
+            self.meter = Some(meter.turn());
+        }
     }
 
     /// A transfer that verifies takes a turn. Returns the status that it showed before.
-    pub(crate) fn turn_verifying(&mut self) -> Result<TransferStatus, Fail> {
+    pub(crate) fn turn_verifying(&mut self) -> Option<TransferStatus> {
         let Some(Phase::Verifying(transfer)) = self.meter.take() else {
-            return Err("it doesn't verify".into());
+            return None;
         };
         let before = transfer.view().status;
         self.meter = Some(transfer.turn());
-        Ok(before)
+        Some(before)
     }
 
-    /// What can be seen of it.
-    pub(crate) fn sight(&self, alloc: Global) -> Result<String, Fail> {
-        match &self.meter {
-            Some(meter) => Ok(sight(alloc, &seen(meter))?),
-            None => Err("there is no meter".into()),
-        }
+    /// The refusal, and what can be seen of it, where its calls of one field have each theirs.
+    pub(crate) fn sight(&self, alloc: Global, refusal: Option<Refusal>) -> Result<String, Fail> {
+        let Some(meter) = &self.meter else {
+            return Err("there is no meter".into());
+        };
+        let seen = MeterView {
+            enabled: meter.enabled(),
+            status: meter.status(),
+            active: meter.active(),
+            goal: meter.goal(),
+            ..meter.view()
+        };
+        sight(alloc, refusal, &seen)
     }
 
     /// Makes a call: what it is refused with. A meter that doesn't have it in its status, or another look than is wanted, is an error.
@@ -214,7 +156,7 @@ impl Trial {
         let mut words = Words::new(call);
         match words.word()? {
             "enable" => self.enable(words.rest() == "true"),
-            "initiate" => self.initiate(bbbb()?, words.number()?),
+            "initiate" => self.initiate(image_name(b"bbbb", 0)?, words.number()?),
             "initiate-release" => {
                 let [release, size]: [u32; 2] = words.read()?;
                 self.initiate(image_name(b"bbbb", release)?, size)
@@ -223,11 +165,12 @@ impl Trial {
             "block" => self.block(words.number()?, words.rest().as_bytes()),
             "initiate-own" => {
                 let size = words.number()?;
-                self.initiate(own_name(alloc, size)?, size)
+                let image = vec![in alloc; b'a'; size as usize]?;
+                self.initiate(image_name(&image, 0)?, size)
             }
             "block-of" => {
                 let [number, count]: [u32; 2] = words.read()?;
-                self.block_of(alloc, number, count as usize)
+                self.block(number, &vec![in alloc; b'a'; count as usize]?)
             }
             "verify" => self.verify(),
             "activate" => self.activate(),
@@ -280,16 +223,6 @@ impl Trial {
         }
     }
 
-    fn block_of(
-        &mut self,
-        alloc: Global,
-        number: u32,
-        count: usize,
-    ) -> Result<Option<Refusal>, Fail> {
-        let value = vec![in alloc; b'a'; count]?;
-        self.block(number, &value)
-    }
-
     fn verify(&mut self) -> Result<Option<Refusal>, Fail> {
         let transfer = self.receiving()?;
         match transfer.verify() {
@@ -324,11 +257,7 @@ impl Trial {
         match look {
             "reopen" => self.reopen(),
             "stop-in-reopen" => self.stop_in_reopen(u64::from(words.number()?)),
-            "holds" => {
-                let slot = slot_of(words.word()?)?;
-                self.holds(alloc, slot, words.rest())
-            }
-            "headed" => self.headed(alloc, &header_digits(alloc, HEADERS, words.rest())?),
+            "holds" | "headed" => self.looked_into(alloc, look, words),
             look => match &mut self.meter {
                 Some(meter) => looked(alloc, meter, look, words),
                 None => Err("there is no meter".into()),
@@ -338,15 +267,16 @@ impl Trial {
 
     /// Opens the store of the meter again.
     pub(crate) fn reopen(&mut self) -> Result<(), Fail> {
-        match self.meter.take() {
-            Some(meter) => self.open_store(meter.into_store()),
-            None => Err("there is no meter".into()),
+        let Some(meter) = self.meter.take() else {
+            return Err("there is no meter".into());
+        };
+        match open_store(meter.into_store()) {
+            Ok(meter) => {
+                self.meter = Some(meter);
+                Ok(())
+            }
+            Err((error, _store)) => Err(error.into()),
         }
-    }
-
-    fn open_store(&mut self, store: MemoryStore) -> Result<(), Fail> {
-        self.meter = Some(opened(store)?);
-        Ok(())
     }
 
     /// Opens a store, whose header stays as it is.
@@ -379,53 +309,42 @@ impl Trial {
         }
     }
 
-    fn holds(&mut self, alloc: Global, slot: Slot, wanted: &str) -> Result<(), Fail> {
+    /// A look at its store, which is opened then as it is.
+    fn looked_into(&mut self, alloc: Global, look: &str, words: Words<'_>) -> Result<(), Fail> {
         let Some(meter) = self.meter.take() else {
             return Err("there is no meter".into());
         };
         let mut store = meter.into_store();
-        has_bytes(alloc, &mut store, slot, wanted)?;
-        self.open_kept(store)
-    }
-
-    fn headed(&mut self, alloc: Global, digits: &str) -> Result<(), Fail> {
-        let Some(meter) = self.meter.take() else {
-            return Err("there is no meter".into());
+        let looked = match look {
+            "holds" => has_bytes(alloc, &mut store, words),
+            _ => has_header(alloc, &mut store, words.rest()),
         };
-        let mut store = meter.into_store();
-        has_header(alloc, &mut store, digits)?;
+        looked?;
         self.open_kept(store)
     }
 }
 
-fn has_bytes(alloc: Global, store: &mut MemoryStore, slot: Slot, digits: &str) -> Result<(), Fail> {
-    let size = digits.len() / 2;
+fn has_bytes(alloc: Global, store: &mut MemoryStore, mut words: Words<'_>) -> Result<(), Fail> {
+    let slot = slot_of(words.word()?)?;
+    let size = words.rest().len() / 2;
     if size > store.capacity() as usize {
         return Err("the slot has fewer bytes".into());
     }
     let mut bytes = vec![in alloc; 0; size]?;
     store.read(slot, 0, &mut bytes)?;
-    if hex::encode(alloc, bytes.as_slice())?.as_str() == digits {
+    if hex::encode(alloc, bytes.as_slice())?.as_str() == words.rest() {
         Ok(())
     } else {
         Err("the slot has other bytes".into())
     }
 }
 
-fn has_header(alloc: Global, store: &mut MemoryStore, digits: &str) -> Result<(), Fail> {
+fn has_header(alloc: Global, store: &mut MemoryStore, name: &str) -> Result<(), Fail> {
     let header = bytes_text(alloc, &store.header()?)?;
-    if header.as_str() == digits {
+    if header == header_digits(alloc, HEADERS, name)? {
         Ok(())
     } else {
         Err("the header has other bytes".into())
-    }
-}
-
-/// Opens a store.
-pub(crate) fn opened(store: MemoryStore) -> Result<Meter, Fail> {
-    match open_store(store) {
-        Ok(meter) => Ok(meter),
-        Err((error, _store)) => Err(error.into()),
     }
 }
 
@@ -437,133 +356,87 @@ pub(crate) fn opened(store: MemoryStore) -> Result<Meter, Fail> {
 /// - `verified SIZE`: how many bytes the image has that was verified
 /// - `limited LIMIT`: how many blocks an image may have at most
 fn looked(alloc: Global, meter: &mut Meter, look: &str, mut words: Words<'_>) -> Result<(), Fail> {
-    match look {
+    let holds = match look {
         "fuse" => {
             let (calls, torn): (u64, u8) = words.read()?;
             meter.fuse(calls, torn);
+            true
         }
-        "unfuse" => meter.unfuse(),
-        "runs" => return runs(alloc, meter, words.rest()),
-        "blocks" => return blocks(alloc, meter, words),
-        "verified" => return verified(meter, words.number()?),
-        "limited" => return limited(meter, words.number()?),
+        "unfuse" => {
+            meter.unfuse();
+            true
+        }
+        "runs" => runs(alloc, meter, words.rest())?,
+        "blocks" => has_blocks(alloc, meter, words)?,
+        "verified" => meter.verified_size() == words.number()?,
+        "limited" => meter.view().limit == words.number()?,
         _ => return Err("no look has this name".into()),
-    }
-    Ok(())
-}
-
-/// The name of `bbbb` in campaign 1 of head end 2.
-pub(crate) fn bbbb() -> Result<ImageName, Fail> {
-    image_name(b"bbbb", 0)
-}
-
-/// The name of an image of this release there.
-pub(crate) fn image_name(image: &[u8], release: u32) -> Result<ImageName, Fail> {
-    let head = present(HeadId::new(2), "no head end")?;
-    let campaign = present(CampaignId::new(head, 1), "no campaign")?;
-    Ok(name_of(campaign, release, image))
-}
-
-/// That of `size` bytes `a`.
-fn own_name(alloc: Global, size: u32) -> Result<ImageName, Fail> {
-    let image = vec![in alloc; b'a'; size as usize]?;
-    image_name(&image, 0)
-}
-
-fn runs(alloc: Global, meter: &mut Meter, wanted: &str) -> Result<(), Fail> {
-    let mut image = vec![in alloc; 0; meter.view().active_size as usize]?;
-    meter.read_running(&mut image)?;
-    if str::from_utf8(image.as_slice())? == wanted {
+    };
+    if holds {
         Ok(())
     } else {
-        Err("another image runs".into())
+        Err("it looks otherwise".into())
     }
 }
 
-fn blocks(alloc: Global, meter: &Meter, mut words: Words<'_>) -> Result<(), Fail> {
+/// The name of an image of this release in campaign 1 of head end 2.
+pub(crate) fn image_name(image: &[u8], release: u32) -> Result<ImageName, Fail> {
+    present(campaign_name(2, 1, release, image), "no name")
+}
+
+fn runs(alloc: Global, meter: &mut Meter, wanted: &str) -> Result<bool, Fail> {
+    let mut image = vec![in alloc; 0; meter.view().active_size as usize]?;
+    meter.read_running(&mut image)?;
+    Ok(image.as_slice() == wanted.as_bytes())
+}
+
+fn has_blocks(alloc: Global, meter: &Meter, mut words: Words<'_>) -> Result<bool, Fail> {
     let wanted: (u32, u32, u32) = words.read()?;
     let count = meter.block_count();
     let first = meter.marks().first_missing_below(count);
     let bits = meter.marks().to_bits(alloc, count)?;
     let digits = hex::encode(alloc, bits.as_bytes())?;
-    if (meter.block_size(), count, first) == wanted && digits.as_str() == words.rest() {
-        Ok(())
-    } else {
-        Err("it has other blocks".into())
-    }
+    Ok((meter.block_size(), count, first) == wanted && digits.as_str() == words.rest())
 }
 
-fn verified(meter: &Meter, wanted: u32) -> Result<(), Fail> {
-    if meter.verified_size() == wanted {
-        Ok(())
-    } else {
-        Err("another size was verified".into())
-    }
-}
-
-fn limited(meter: &Meter, wanted: u32) -> Result<(), Fail> {
-    if meter.view().limit == wanted {
-        Ok(())
-    } else {
-        Err("it has another limit".into())
-    }
-}
-
-/// What a meter shows, where its calls of one field have each theirs.
-fn seen(meter: &Phase<MemoryStore>) -> MeterView {
-    MeterView {
-        enabled: meter.enabled(),
-        status: meter.status(),
-        active: meter.active(),
-        goal: meter.goal(),
-        ..meter.view()
-    }
-}
-
-/// What can be seen: whether transfer is enabled, the status, the goal's size and name, the blocks that are marked, and the
-/// size and the name of the image that runs.
-pub(crate) fn sight(alloc: Global, view: &MeterView) -> Result<String, AllocError> {
+/// A refusal, if there is one, and what can be seen: whether transfer is enabled, the status, the goal, the numbers of the blocks that are
+/// marked, and the image that runs.
+pub(crate) fn sight(
+    alloc: Global,
+    refusal: Option<Refusal>,
+    view: &MeterView,
+) -> Result<String, Fail> {
     let goal = match view.goal {
-        None => String::from_str(alloc, "no goal")?,
-        Some(goal) => {
-            let name = name_text(alloc, goal.name)?;
-            let size = goal.size;
-            format!(in alloc; "goal {size} of {name}")?
-        }
+        Some(goal) => Some(image(goal.size, goal.name)),
+        None => None,
     };
-    let marks = marks_text(alloc, view)?;
-    let active = name_text(alloc, view.active)?;
-    let MeterView {
-        enabled,
-        status,
-        active_size,
-        ..
-    } = view;
-    format!(in alloc; "{enabled}, {status:?}, {goal}, marks{marks}, runs {active_size} of {active}")
+    let marks = marks_of(alloc, view)?;
+    let active = image(view.active_size, view.active);
+    let (enabled, status) = (view.enabled, view.status);
+    shown(
+        alloc,
+        &(refusal, enabled, status, goal, marks.as_slice(), active),
+    )
 }
 
-/// The numbers of the head end and the campaign, the release, if there is one, and the first four bytes of the digest.
-fn name_text(alloc: Global, name: ImageName) -> Result<String, AllocError> {
-    let head = match name.campaign.head() {
-        Some(head) => head.number(),
-        None => 0,
+/// The size of an image, the numbers of the head end and the campaign, the release, and which image it is by the first four bytes of its
+/// digest.
+fn image(size: u32, name: ImageName) -> (u32, Option<u32>, u32, u32, &'static str) {
+    let image = match name.digest {
+        [0xba, 0x78, 0x16, 0xbf, ..] => "abc",
+        [0x81, 0xcc, 0x5b, 0x17, ..] => "bbbb",
+        _ => "another",
     };
-    let serial = name.campaign.serial();
-    let [a, b, c, d, ..] = name.digest;
-    let digest = u32::from_be_bytes([a, b, c, d]);
-    match name.release {
-        0 => format!(in alloc; "{head} {serial} {digest:08x}"),
-        release => format!(in alloc; "{head} {serial} release {release} {digest:08x}"),
-    }
+    let head = name.campaign.head().map(HeadId::number);
+    (size, head, name.campaign.serial(), name.release, image)
 }
 
 /// The numbers of the blocks that are marked: block i by bit i, the first bit the top bit of the first byte.
-fn marks_text(alloc: Global, view: &MeterView) -> Result<String, AllocError> {
-    let mut marks = String::new(alloc);
+fn marks_of(alloc: Global, view: &MeterView) -> Result<Vec<usize>, AllocError> {
+    let mut marks = Vec::new(alloc);
     for number in 0..16384usize {
         if view.marked[number / 8] & (0x80u8 >> (number % 8)) != 0 {
-            let mark = format!(in alloc; " {number}")?;
-            marks.push_str(&mark)?;
+            marks.push(number)?;
         }
     }
     Ok(marks)

@@ -1,7 +1,9 @@
 //! A verification in slices, by the types of its statuses.
 
+use crate::fresh::new_meter;
 use crate::headers::status_of;
 use crate::session::Trial;
+use crate::support::shown;
 use fw_image::TransferStatus;
 use std::alloc::Global;
 use std::test::Fail;
@@ -30,7 +32,7 @@ impl Reads for Told {
             return numbers_text(alloc, Words::new(what));
         }
         let calls = present(named(CALLS, what), "no calls have this name")?;
-        let mut trial = Trial::none();
+        let mut trial = Trial::of(None);
         verifying(alloc, &mut trial, calls)?;
         match self {
             Told::Turned => turned_text(alloc, &mut trial, calls),
@@ -41,7 +43,7 @@ impl Reads for Told {
 
 /// Tries a new meter with room for 8,193 bytes, up to after these calls.
 fn received(alloc: Global, trial: &mut Trial, calls: &str) -> Result<(), Fail> {
-    trial.open_with(alloc, 8_193, 1_024)?;
+    *trial = Trial::of(new_meter(alloc, 8_193, 1_024, b"abc"));
     trial.make_all(alloc, calls)
 }
 
@@ -52,44 +54,44 @@ fn verifying(alloc: Global, trial: &mut Trial, calls: &str) -> Result<(), Fail> 
 }
 
 fn turned_text(alloc: Global, trial: &mut Trial, calls: &str) -> Result<String, Fail> {
-    let mut phase = Trial::none();
+    let mut phase = Trial::of(None);
     verifying(alloc, &mut phase, calls)?;
-    let before = trial.turn_verifying()?;
-    let after = trial.status()?;
-    phase.turn()?;
-    let same = phase.is_like(trial);
-    phase.turn()?;
-    let more = phase.status()?;
+    let (before, after) = (trial.turn_verifying(), trial.status());
+    phase.turn();
+    let (same, _) = phase.compared(trial);
+    phase.turn();
     trial.reopen()?;
-    let kept = trial.status()?;
-    Ok(format!(in alloc; "{before:?}, {after:?}, {same}, {more:?}, opened {kept:?}")?)
+    shown(
+        alloc,
+        &(before, after, same, phase.status(), trial.status()),
+    )
 }
 
 const TURNED: &str = "
-    two-slices   => VerificationInitiated, VerificationSuccessful, true, VerificationSuccessful, opened VerificationSuccessful
-    three-slices => VerificationInitiated, VerificationInitiated, true, VerificationSuccessful, opened Initiated
+    two-slices   => (Some(VerificationInitiated), Some(VerificationSuccessful), true, Some(VerificationSuccessful), Some(VerificationSuccessful))
+    three-slices => (Some(VerificationInitiated), Some(VerificationInitiated), true, Some(VerificationSuccessful), Some(Initiated))
 ";
 
 fn compared_text(alloc: Global, one: &Trial, calls: &str) -> Result<String, Fail> {
-    let mut other = Trial::none();
+    let mut other = Trial::of(None);
     verifying(alloc, &mut other, calls)?;
-    let both = one.is_like(&other);
-    other.turn()?;
-    let further = one.is_like(&other);
+    let (both, _) = one.compared(&other);
+    other.turn();
+    let (further, _) = one.compared(&other);
     received(alloc, &mut other, calls)?;
-    let receiving = one.is_like(&other);
-    Ok(format!(in alloc; "{both} {further} {receiving}")?)
+    let (receiving, _) = one.compared(&other);
+    shown(alloc, &(both, further, receiving))
 }
 
 const COMPARED: &str = "
-    three-slices => true false false
+    three-slices => (true, false, false)
 ";
 
 fn numbers_text(alloc: Global, mut words: Words<'_>) -> Result<String, Fail> {
-    let [shown, kept]: [&str; 2] = words.read()?;
-    let shown = transfer_status(shown)?.number();
+    let [status, kept]: [&str; 2] = words.read()?;
+    let number = transfer_status(status)?.number();
     let kept = TransferStatus::from(status_of(kept)?).number();
-    Ok(format!(in alloc; "{shown} {kept}")?)
+    shown(alloc, &(number, kept))
 }
 
 fn transfer_status(name: &str) -> Result<TransferStatus, Fail> {
@@ -103,10 +105,10 @@ fn transfer_status(name: &str) -> Result<TransferStatus, Fail> {
 }
 
 const NUMBERS: &str = "
-    not-initiated not-initiated => 0 0
-    verifying initiated         => 2 1
-    verified spoilt             => 3 4
-    activated activated         => 6 6
+    not-initiated not-initiated => (0, 0)
+    verifying initiated         => (2, 1)
+    verified spoilt             => (3, 4)
+    activated activated         => (6, 6)
 ";
 
 #[test]

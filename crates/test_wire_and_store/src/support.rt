@@ -5,8 +5,23 @@ use fw_blocks::Pages;
 use fw_names::{CampaignId, HeadId, ImageName, name_of};
 use fw_store::Slot;
 use std::alloc::{AllocError, Global};
+use std::fmt::Debug;
 use std::test::Fail;
 use test_tables::named;
+
+/// A value, as `Debug` gives it.
+pub(crate) fn shown<T: Debug>(alloc: Global, value: &T) -> Result<String, Fail> {
+    Ok(format!(in alloc; "{value:?}")?)
+}
+
+/// Bytes in hexadecimal.
+pub(crate) fn digits(alloc: Global, bytes: &[u8]) -> Result<String, Fail> {
+    Ok(hex::encode(alloc, bytes)?)
+}
+
+pub(crate) fn text(alloc: Global, text: &str) -> Result<String, Fail> {
+    Ok(String::from_str(alloc, text)?)
+}
 
 /// The parts, one after another.
 pub(crate) fn joined(alloc: Global, parts: &[&[u8]]) -> Result<Vec<u8>, AllocError> {
@@ -77,8 +92,13 @@ pub(crate) fn slot_of(name: &str) -> Result<Slot, Fail> {
     }
 }
 
-/// The name under which a head end's campaign offers `abc` of this release.
-pub(crate) fn abc_name(head: u32, serial: u32, release: u32) -> Option<ImageName> {
+/// The name under which a head end's campaign offers an image of this release.
+pub(crate) fn campaign_name(
+    head: u32,
+    serial: u32,
+    release: u32,
+    image: &[u8],
+) -> Option<ImageName> {
     let campaign = CampaignId::new(HeadId::new(head)?, serial)?;
-    Some(name_of(campaign, release, b"abc"))
+    Some(name_of(campaign, release, image))
 }

@@ -1,7 +1,8 @@
 //! Calls of a transfer whose type is its status.
 
 use crate::fresh::new_meter;
-use crate::session::{Trial, bbbb, opened, sight};
+use crate::session::{Trial, image_name, sight};
+use crate::support::shown;
 use fw_image::{Idle, MeterView, Phase, Receiving, Refusal};
 use fw_store::MemoryStore;
 use std::alloc::Global;
@@ -30,13 +31,13 @@ fn enabled(alloc: Global) -> Result<Idle<MemoryStore>, Fail> {
 
 /// It receives an image of four bytes.
 fn begun(alloc: Global) -> Result<Receiving<MemoryStore>, Fail> {
-    let name = bbbb()?;
+    let name = image_name(b"bbbb", 0)?;
     done(enabled(alloc)?.initiate(name, 4))
 }
 
 /// It receives the same image anew.
 fn begun_again(alloc: Global) -> Result<Receiving<MemoryStore>, Fail> {
-    let name = bbbb()?;
+    let name = image_name(b"bbbb", 0)?;
     done(with_block(alloc)?.initiate(name, 4))
 }
 
@@ -57,7 +58,7 @@ fn not_disabled(alloc: Global) -> Result<(Refusal, MeterView), Fail> {
 
 /// An image of this size isn't initiated.
 fn in_vain(transfer: Idle<MemoryStore>, size: u32) -> Result<(Refusal, MeterView), Fail> {
-    match transfer.initiate(bbbb()?, size) {
+    match transfer.initiate(image_name(b"bbbb", 0)?, size) {
         Ok(_next) => Err("it was initiated".into()),
         Err((refusal, back)) => Ok((refusal, back.view())),
     }
@@ -78,13 +79,16 @@ impl Reads for Transfer {
             "compared" => return compared_text(alloc, &begun(alloc)?),
             word => return seen_text(alloc, word),
         };
-        refused_text(alloc, refusal, &view)
+        sight(alloc, Some(refusal), &view)
     }
 }
 
 fn seen_text(alloc: Global, name: &str) -> Result<String, Fail> {
-    let trial = Trial::of(reached(alloc, name)?);
-    trial.sight(alloc)
+    let mut trial = Trial::of(Some(reached(alloc, name)?));
+    if name == "opened" {
+        trial.reopen()?;
+    }
+    trial.sight(alloc, None)
 }
 
 /// The meter of a transfer whose last call is done.
@@ -93,43 +97,30 @@ fn reached(alloc: Global, name: &str) -> Result<Phase<MemoryStore>, Fail> {
         "new" => Ok(Phase::Idle(idle(alloc)?)),
         "enabled" => Ok(Phase::Idle(enabled(alloc)?)),
         "begun" => Ok(Phase::Receiving(begun(alloc)?)),
-        "with-block" => Ok(Phase::Receiving(with_block(alloc)?)),
+        "with-block" | "opened" => Ok(Phase::Receiving(with_block(alloc)?)),
         "begun-again" => Ok(Phase::Receiving(begun_again(alloc)?)),
-        "opened" => opened(with_block(alloc)?.into_store()),
         _ => Err("no transfer has this name".into()),
     }
 }
 
-fn refused_text(alloc: Global, refusal: Refusal, view: &MeterView) -> Result<String, Fail> {
-    let seen = sight(alloc, view)?;
-    Ok(format!(in alloc; "{refusal:?}: {seen}")?)
-}
-
-const TRANSFERS: &str = "
-    new             => false, NotInitiated, no goal, marks, runs 3 of 0 0 ba7816bf
-    enabled         => true, NotInitiated, no goal, marks, runs 3 of 0 0 ba7816bf
-    not-disabled    => Fault: true, NotInitiated, no goal, marks, runs 3 of 0 0 ba7816bf
-    not-initiated 4 => Disabled: false, NotInitiated, no goal, marks, runs 3 of 0 0 ba7816bf
-    not-even-then 0 => BadInitiate: true, NotInitiated, no goal, marks, runs 3 of 0 0 ba7816bf
-    begun           => true, Initiated, goal 4 of 2 1 81cc5b17, marks, runs 3 of 0 0 ba7816bf
-    with-block      => true, Initiated, goal 4 of 2 1 81cc5b17, marks 0, runs 3 of 0 0 ba7816bf
-    begun-again     => true, Initiated, goal 4 of 2 1 81cc5b17, marks, runs 3 of 0 0 ba7816bf
-    opened          => true, Initiated, goal 4 of 2 1 81cc5b17, marks 0, runs 3 of 0 0 ba7816bf
+const TRANSFERS: &str = r#"
+    new             => (None, false, NotInitiated, None, [], (3, None, 0, 0, "abc"))
+    enabled         => (None, true, NotInitiated, None, [], (3, None, 0, 0, "abc"))
+    not-disabled    => (Some(Fault), true, NotInitiated, None, [], (3, None, 0, 0, "abc"))
+    not-initiated 4 => (Some(Disabled), false, NotInitiated, None, [], (3, None, 0, 0, "abc"))
+    not-even-then 0 => (Some(BadInitiate), true, NotInitiated, None, [], (3, None, 0, 0, "abc"))
+    begun           => (None, true, Initiated, Some((4, Some(2), 1, 0, "bbbb")), [], (3, None, 0, 0, "abc"))
+    with-block      => (None, true, Initiated, Some((4, Some(2), 1, 0, "bbbb")), [0], (3, None, 0, 0, "abc"))
+    begun-again     => (None, true, Initiated, Some((4, Some(2), 1, 0, "bbbb")), [], (3, None, 0, 0, "abc"))
+    opened          => (None, true, Initiated, Some((4, Some(2), 1, 0, "bbbb")), [0], (3, None, 0, 0, "abc"))
     // whether two transfers that receive the same image are the same, and whether they are once one has a block
-    compared => true false
-";
+    compared        => (true, false)
+"#;
 
 fn compared_text(alloc: Global, one: &Receiving<MemoryStore>) -> Result<String, Fail> {
-    let before = is_like(one, begun(alloc))?;
-    let after = is_like(one, with_block(alloc))?;
-    Ok(format!(in alloc; "{before} {after}")?)
-}
-
-fn is_like(
-    one: &Receiving<MemoryStore>,
-    other: Result<Receiving<MemoryStore>, Fail>,
-) -> Result<bool, Fail> {
-    Ok(one.same(&other?))
+    let before = one.same(&begun(alloc)?);
+    let after = one.same(&with_block(alloc)?);
+    shown(alloc, &(before, after))
 }
 
 #[test]

@@ -1,7 +1,7 @@
 //! Datagrams of the wrapper over UDP (IEC 62056-4-7).
 
 use crate::split_back;
-use crate::support::joined;
+use crate::support::{digits, joined, shown};
 use fw_wrapper::{Frame, join, join_in, split};
 use std::alloc::Global;
 use std::test::Fail;
@@ -32,21 +32,17 @@ impl Reads for Told {
 
 fn datagram_text(alloc: Global, bytes: &[u8]) -> Result<String, Fail> {
     match split(bytes) {
-        Ok(frame) => frame_text(alloc, &frame),
-        Err(refusal) => Ok(refusal.to_string(alloc)?),
+        Ok(Frame { source, dest, apdu }) => {
+            let again = digits(alloc, &join(alloc, source, dest, apdu)?)?;
+            shown(alloc, &(source, dest, apdu, again.as_str()))
+        }
+        Err(refusal) => shown(alloc, &refusal),
     }
 }
 
-fn frame_text(alloc: Global, frame: &Frame<'_>) -> Result<String, Fail> {
-    let again = join(alloc, frame.source, frame.dest, frame.apdu)?;
-    let again = hex::encode(alloc, again.as_slice())?;
-    let apdu = hex::encode(alloc, frame.apdu)?;
-    Ok(format!(in alloc; "{:04x} {:04x} {apdu}, {again}", frame.source, frame.dest)?)
-}
-
-/// From wPort 0102 to wPort 0304, the APDU c001c1, and then datagrams with the first refusal that applies. The second has no byte.
-const DATAGRAMS: &str = "
-    0001010203040003c001c1 => 0102 0304 c001c1, 0001010203040003c001c1
+/// From wPort 0102 (258) to wPort 0304 (772), the APDU c001c1, and then datagrams with the first refusal that applies. The second has no byte.
+const DATAGRAMS: &str = r#"
+    0001010203040003c001c1 => (258, 772, [192, 1, 193], "0001010203040003c001c1")
                            => Short
     00010001000100         => Short
     00020001000100         => Short
@@ -58,14 +54,14 @@ const DATAGRAMS: &str = "
     0001000100010001       => Length
     000100010001000007     => Length
     000100010001010007     => Length
-";
+"#;
 
 fn field_text(alloc: Global, mut words: Words<'_>) -> Result<String, Fail> {
     let (length, count): (u16, u32) = words.read()?;
     let apdu = vec![in alloc; 0x00; count as usize]?;
     let ports = &[0x00, 0x01, 0x00, 0x01, 0x00, 0x01];
     let datagram = joined(alloc, &[ports, &length.to_be_bytes(), &apdu])?;
-    Ok(format!(in alloc; "{:?}", split(&datagram).err())?)
+    shown(alloc, &split(&datagram).err())
 }
 
 const LENGTHS: &str = "
@@ -79,17 +75,14 @@ const LENGTHS: &str = "
 
 fn carried_text(alloc: Global, size: usize) -> Result<String, Fail> {
     let apdu = vec![in alloc; 0x00; size]?;
-    Ok(match split_back(alloc, 0xfffe, 0x0100, &apdu) {
-        Ok((source, dest, found)) => {
-            let same = found == apdu;
-            format!(in alloc; "{source:04x} {dest:04x} {same}")?
-        }
-        Err(refusal) => format!(in alloc; "{refusal:?}")?,
-    })
+    match split_back(alloc, 0xfffe, 0x0100, &apdu) {
+        Ok((source, dest, found)) => shown(alloc, &(source, dest, found == apdu)),
+        Err(refusal) => shown(alloc, &refusal),
+    }
 }
 
 const CARRIED: &str = "
-    2304 => fffe 0100 true
+    2304 => (65534, 256, true)
     2305 => TooLong
 ";
 
@@ -97,7 +90,7 @@ fn later_text(alloc: Global, before: u8) -> Result<String, Fail> {
     let mut room = Vec::with_capacity(alloc, 12)?;
     room.push_reserved(before);
     join_in(&mut room, 0x0102, 0x0304, &[0xc0, 0x01, 0xc1]);
-    Ok(hex::encode(alloc, room)?)
+    digits(alloc, &room)
 }
 
 const LATER: &str = "
