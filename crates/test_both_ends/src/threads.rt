@@ -10,6 +10,7 @@ mod live;
 mod log;
 mod ports;
 mod rehearsing;
+mod rows;
 mod shares;
 mod sharing;
 mod support;

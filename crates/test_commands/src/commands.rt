@@ -192,15 +192,10 @@ fn no_capture() -> Option<Vec<u8>> {
 
 /// The options of `name` for campaign 1 of head end 7 and this release.
 fn name_options(mut words: Words<'_>) -> Result<NameOptions, Fail> {
-    Ok(NameOptions {
-        campaign: present(campaign(), "no campaign")?,
-        release: words.number()?,
-    })
-}
-
-/// Campaign 1 of head end 7.
-fn campaign() -> Option<CampaignId> {
-    CampaignId::new(HeadId::new(7)?, 1)
+    let head = present(HeadId::new(7), "a head end's number begins at 1")?;
+    let campaign = present(CampaignId::new(head, 1), "a serial number begins at 1")?;
+    let release = words.number()?;
+    Ok(NameOptions { campaign, release })
 }
 
 /// The rounds and their fates, if words are left.

@@ -1,8 +1,8 @@
 //! Answers to a head end, each cut short at each byte. It hears nothing in them, and each is still awaited after them.
 
-use crate::hostile::campaign::{ALL, events, world_of};
+use crate::hostile::campaign::{ALL, events};
 use crate::hostile::support::{expect_tried, failed};
-use crate::worlds::{SMALL, head, meter, setup_of};
+use crate::worlds::{SMALL, head, meter, setup_of, world_of};
 use fw_blocks::Width;
 use fw_head::{HeadCore, News, Phase};
 use fw_world::{Datagram, Direction, Event};

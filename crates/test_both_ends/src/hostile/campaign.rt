@@ -2,7 +2,7 @@
 //! bytes and room for 64.
 
 use crate::worlds::{DONE, events_of};
-use fw_world::{Event, Setup, World, run};
+use fw_world::Event;
 use std::alloc::Global;
 use std::test::Fail;
 
@@ -14,12 +14,4 @@ pub(crate) fn events(alloc: Global, count: usize) -> Result<Vec<Event>, Fail> {
     let mut events = events_of(alloc, "", DONE)?;
     events.truncate(count);
     Ok(events)
-}
-
-/// The world that these events make.
-pub(crate) fn world_of(alloc: Global, setup: &Setup, events: &[Event]) -> Result<World, Fail> {
-    match run(alloc, setup, events) {
-        Ok(world) => Ok(world),
-        Err(_) => Err("an event is refused".into()),
-    }
 }

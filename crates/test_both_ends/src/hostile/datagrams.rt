@@ -38,17 +38,6 @@ fn turned(alloc: Global, enable: &[Vec<u8>], datagram: &[u8]) -> Result<usize, F
     Ok(tried)
 }
 
-#[test]
-fn each_byte_turned(rt: HostRuntime) -> Result<(), Fail> {
-    let alloc = rt.alloc();
-    let enable = datagrams(alloc, "enable")?;
-    let mut tried = 0usize;
-    for datagram in &datagrams(alloc, TRIED)? {
-        tried = tried.saturating_add(turned(alloc, &enable, datagram)?);
-    }
-    expect_tried(alloc, tried, 297 * 256)
-}
-
 /// A new meter replies nothing to this.
 fn is_silent(alloc: Global, enable: &[Vec<u8>], datagram: &[u8]) -> Result<(), Fail> {
     let handled = handled(alloc, enable, datagram)?;
@@ -71,12 +60,14 @@ fn cut(alloc: Global, enable: &[Vec<u8>], datagram: &[u8]) -> Result<usize, Fail
 }
 
 #[test]
-fn each_beginning(rt: HostRuntime) -> Result<(), Fail> {
+fn each_byte_turned_and_each_beginning(rt: HostRuntime) -> Result<(), Fail> {
     let alloc = rt.alloc();
     let enable = datagrams(alloc, "enable")?;
-    let mut tried = 0usize;
+    let (mut turns, mut beginnings) = (0usize, 0usize);
     for datagram in &datagrams(alloc, TRIED)? {
-        tried = tried.saturating_add(cut(alloc, &enable, datagram)?);
+        turns = turns.saturating_add(turned(alloc, &enable, datagram)?);
+        beginnings = beginnings.saturating_add(cut(alloc, &enable, datagram)?);
     }
-    expect_tried(alloc, tried, 297 + 233)
+    expect_tried(alloc, turns, 297 * 256)?;
+    expect_tried(alloc, beginnings, 297 + 233)
 }

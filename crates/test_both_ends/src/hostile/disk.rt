@@ -8,52 +8,31 @@ use std::cell::RefCell;
 use std::rc::Rc;
 use std::test::Fail;
 
-/// What a disk takes.
-#[derive(Clone, Copy)]
-pub(crate) enum Takes {
-    /// All that is written.
-    All,
-    /// N bytes more. A write of more than these is cut there, and fails. A length takes none.
-    Only(usize),
-    /// Nothing, and no length either.
-    Nothing,
-}
+/// How many bytes a disk still takes. A write of more than these is cut there, and fails; a length takes none. One that is only read takes none of
+/// either, and is `None`.
+pub(crate) type Room = Option<usize>;
 
-/// A file, and what its disk takes.
+/// A file, and what its disk still takes.
 #[derive(Drop)]
 struct File {
     bytes: Vec<u8>,
-    takes: Takes,
+    room: Room,
 }
 
 impl File {
-    /// How many of `count` bytes its disk still takes, which are taken then.
-    fn take(&mut self, count: usize) -> usize {
-        match self.takes {
-            Takes::All => count,
-            Takes::Nothing => 0,
-            Takes::Only(left) => {
-                let taken = left.min(count);
-                self.takes = Takes::Only(left.saturating_sub(taken));
-                taken
-            }
-        }
-    }
-
     /// Whether its disk still takes `count` bytes.
     fn has_room(&self, count: usize) -> bool {
-        match self.takes {
-            Takes::All => true,
-            Takes::Nothing => false,
-            Takes::Only(left) => count <= left,
+        match self.room {
+            Some(room) => count <= room,
+            None => false,
         }
     }
 
     fn set_len(&mut self, len: u64) -> Result<(), DeviceFault> {
-        match self.takes {
-            Takes::Nothing => Err(DeviceFault),
-            _ => self.bytes.resize(len as usize, 0).map_err(|_| DeviceFault),
+        if self.room.is_none() || self.bytes.resize(len as usize, 0).is_err() {
+            return Err(DeviceFault);
         }
+        Ok(())
     }
 
     fn get(&self, at: u64, out: &mut [u8]) -> Result<(), DeviceFault> {
@@ -86,7 +65,9 @@ impl File {
     /// Writes as many of these bytes over those from `at` on as the disk takes, and fails where they aren't all.
     fn put(&mut self, at: u64, bytes: &[u8]) -> Result<(), DeviceFault> {
         let start = at as usize;
-        let taken = self.take(bytes.len());
+        let room = self.room.ok_or(DeviceFault)?;
+        let taken = room.min(bytes.len());
+        self.room = Some(room.saturating_sub(taken));
         for (at, byte) in (start..start.saturating_add(taken)).zip(bytes) {
             *self.bytes.get_mut(at).ok_or(DeviceFault)? = *byte;
         }
@@ -108,24 +89,24 @@ impl Disk {
     pub(crate) fn with(alloc: Global, bytes: &[u8]) -> Result<Disk, AllocError> {
         let file = File {
             bytes: bytes.to_vec(alloc)?,
-            takes: Takes::All,
+            room: Some(usize::MAX),
         };
         Ok(Disk {
             file: Rc::new(alloc, RefCell::new(file))?,
         })
     }
 
-    /// The file as a store has it.
-    pub(crate) fn open(&self) -> Result<OpenFile, AllocError> {
-        Ok(OpenFile {
+    /// The same disk once more, for a store on it.
+    pub(crate) fn open(&self) -> Result<Disk, AllocError> {
+        Ok(Disk {
             file: self.file.clone()?,
         })
     }
 
-    /// From now on the disk takes what `takes` says.
-    pub(crate) fn takes(&self, takes: Takes) {
+    /// From now on the disk has this room.
+    pub(crate) fn set_room(&self, room: Room) {
         if let Ok(mut file) = self.file.try_borrow_mut() {
-            file.takes = takes;
+            file.room = room;
         }
     }
 
@@ -134,15 +115,6 @@ impl Disk {
         match self.file.try_borrow() {
             Ok(file) => Ok(file.bytes.to_vec(alloc)?),
             Err(_) => Err("the file is being written".into()),
-        }
-    }
-
-    /// Sets a byte of the file.
-    pub(crate) fn set(&self, at: usize, value: u8) {
-        if let Ok(mut file) = self.file.try_borrow_mut()
-            && let Some(byte) = file.bytes.get_mut(at)
-        {
-            *byte = value;
         }
     }
 
@@ -155,13 +127,8 @@ impl Disk {
     }
 }
 
-/// A file that is open. What it holds is known by tests alone.
-#[derive(Drop)]
-pub(crate) struct OpenFile {
-    file: Rc<RefCell<File>>,
-}
-
-impl ByteDevice for OpenFile {
+// What it holds is known by tests alone.
+impl ByteDevice for Disk {
     ghost honest = { λ _. false };
 
     ghost sound = { λ _. false };

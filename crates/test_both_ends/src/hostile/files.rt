@@ -2,7 +2,9 @@
 //! value: such a file is refused by a name, or the meter is opened as its header says, which is one of version 2 then.
 
 use crate::hostile::disk::Disk;
-use crate::hostile::support::{Count, Outcome, datagrams, expect_tried, failed, opened, replies};
+use crate::hostile::support::{
+    Count, Outcome, datagrams, expect_tried, failed, note, opened, replies,
+};
 use fw_image::{MeterView, OpenError};
 use fw_meter::MeterCore;
 use fw_names::ImageName;
@@ -203,27 +205,21 @@ fn cut_at_each_length(rt: HostRuntime) -> Result<(), Fail> {
     Ok(())
 }
 
-/// The file of a meter that runs `x` and receives `abc`, of which the second block is there, with eight bytes a slot. A row says what is
-/// turned: each byte that stands before the slots or is of a release, to each value, or each bit of the further marks of version 2.
+/// The file of a meter that runs `x` and receives `abc`, of which the second block is there, with eight bytes a slot. A row says whether it is made
+/// one with a header of version 1, `old`, and what is turned: each byte that stands before the slots or is of a release, to each value, or each
+/// bit of the further marks of version 2.
 #[derive(Clone, Copy)]
-struct Turned {
-    /// Whether the file is made one with a header of version 1 before.
-    is_old: bool,
-}
+struct Turned;
 
 impl Reads for Turned {
     fn told(&mut self, alloc: Global, what: &str) -> Result<String, Fail> {
-        let file = receiving(alloc, self.is_old)?;
-        let mut count = Count::new();
+        let mut file = receiving(alloc, what == "old bytes")?;
+        let mut count = [0; 4];
         match what {
-            "bytes" => {
-                turn_all(alloc, &file, 0, SLOTS_AT, false, &mut count)?;
-                turn_all(alloc, &file, 634, 642, false, &mut count)?;
-            }
-            "marks" => turn_all(alloc, &file, 642, file.len(), true, &mut count)?,
-            _ => return Err("bytes or marks are turned".into()),
+            "new marks" => turn_all(alloc, &mut file, 642, 2_178, true, &mut count)?,
+            _ => turn_bytes(alloc, &mut file, &mut count)?,
         }
-        count.told(alloc)
+        Ok(format!(in alloc; "{:?}", count)?)
     }
 }
 
@@ -243,31 +239,38 @@ fn receiving(alloc: Global, is_old: bool) -> Result<Vec<u8>, Fail> {
     Ok(file)
 }
 
+/// Turns the bytes of a file that stand before the slots, and those that are releases.
+fn turn_bytes(alloc: Global, file: &mut [u8], count: &mut Count) -> Result<(), Fail> {
+    turn_all(alloc, file, 0, SLOTS_AT, false, count)?;
+    turn_all(alloc, file, 634, 642, false, count)
+}
+
 /// Turns the bytes of a file from `start` on up to `end`, one at a time: each to each value, or each of their bits.
 fn turn_all(
     alloc: Global,
-    file: &[u8],
+    file: &mut [u8],
     start: usize,
     end: usize,
     is_by_bits: bool,
     count: &mut Count,
 ) -> Result<(), Fail> {
     for at in start..end {
-        let whole = *present(file.get(at), "a byte of the file")?;
         for turn in 0..=255u8 {
             if !is_by_bits || turn.is_power_of_two() {
-                count.note(judged_with(alloc, file, at, whole ^ turn)?);
+                turn_byte(file, at, turn);
+                note(count, judged(alloc, &Disk::with(alloc, file)?)?);
+                turn_byte(file, at, turn);
             }
         }
     }
     Ok(())
 }
 
-/// What comes of a file with this byte at this place.
-fn judged_with(alloc: Global, file: &[u8], at: usize, value: u8) -> Result<Outcome, Fail> {
-    let disk = Disk::with(alloc, file)?;
-    disk.set(at, value);
-    judged(alloc, &disk)
+/// Turns these bits of a byte.
+fn turn_byte(file: &mut [u8], at: usize, turn: u8) {
+    if let Some(byte) = file.get_mut(at) {
+        *byte = *byte ^ turn;
+    }
 }
 
 /// Of each of the 626 bytes that stand before the slots or are releases the value that it has opens the meter. Beside these a store can
@@ -275,39 +278,17 @@ fn judged_with(alloc: Global, file: &[u8], at: usize, value: u8) -> Result<Outco
 /// numbers are any except 0, with another digest, of any release, and with each other choice of its two marks. The image that runs isn't
 /// the name's in the other slot, with 2 to 8 bytes, or under another digest. With another capacity the file has another length than its
 /// store; with 776 bytes a slot it has that of one of version 1, as which it doesn't begin.
-const BYTES: &str = "
+const TURNED: &str = "
     // Opened: 626 + 1 + 1 + 5 + 2 * (3 * 255 + 254) + 32 * 255 + 4 * 255 + 3. Bad files: 4 * 255 - 1. Bad images: 1 + 7 + 32 * 255.
     // Of all 626 * 256 the others are bad headers.
-    bytes => opened 11854, bad file 1019, bad header 139215, bad image 8168
+    new bytes => [11854, 1019, 139215, 8168]
+    // The same file with a header of version 1. With twelve bytes a slot it is one without releases. Opened: one more than above.
+    old bytes => [11855, 1019, 139214, 8168]
+    // The 1,536 bytes after the releases are marks of blocks that the goal hasn't. Bad headers: 1,536 * 8.
+    new marks => [0, 0, 12288, 0]
 ";
 
 #[test]
-fn each_byte_turned(rt: HostRuntime) -> Result<(), Fail> {
-    each_line(rt.alloc(), &mut Turned { is_old: false }, BYTES)
-}
-
-/// The 1,536 bytes after the releases are marks of blocks that the goal hasn't.
-const MARKS: &str = "
-    // Bad headers: 1,536 * 8.
-    marks => opened 0, bad file 0, bad header 12288, bad image 0
-";
-
-#[test]
-fn each_bit_of_the_further_marks_turned(rt: HostRuntime) -> Result<(), Fail> {
-    each_line(rt.alloc(), &mut Turned { is_old: false }, MARKS)
-}
-
-/// The same file with a header of version 1, as the first one here. With twelve bytes a slot it is one without releases.
-const BYTES_OF_AN_OLD_FILE: &str = "
-    // Opened: one more than above.
-    bytes => opened 11855, bad file 1019, bad header 139214, bad image 8168
-";
-
-#[test]
-fn each_byte_of_an_old_file_turned(rt: HostRuntime) -> Result<(), Fail> {
-    each_line(
-        rt.alloc(),
-        &mut Turned { is_old: true },
-        BYTES_OF_AN_OLD_FILE,
-    )
+fn each_byte_and_each_bit_of_the_further_marks_turned(rt: HostRuntime) -> Result<(), Fail> {
+    each_line(rt.alloc(), &mut Turned, TURNED)
 }

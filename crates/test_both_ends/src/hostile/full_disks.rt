@@ -1,7 +1,7 @@
 //! Stores on disks that are full after N bytes, and on disks that are only read, in each operation of a campaign. The operation answers
 //! code 1, hardware-fault, and the meter is as before it, except for bytes of the block that is being written; or the operation is done.
 
-use crate::hostile::disk::{Disk, Takes};
+use crate::hostile::disk::{Disk, Room};
 use crate::hostile::support::{self, datagrams, expect_tried, failed, opened};
 use fw_image::OpenError;
 use fw_meter::MeterCore;
@@ -26,21 +26,16 @@ activate fault done: 0 0 2158";
 /// GETs of attributes 2 to 7, and of the active firmware identifier.
 const READS: &str = "get-2 get-3 get-4 get-5 get-6 get-7 get-firmware";
 
-/// The request of the operation of this line, and its two replies.
-fn exchange(alloc: Global, line: &str) -> Result<Vec<Vec<u8>>, Fail> {
-    let (names, _) = present(line.split_once(':'), "names and numbers")?;
-    datagrams(alloc, names)
-}
-
 /// The replies of the meter in the file on a disk to these requests, one after the other.
 fn replies(alloc: Global, disk: &Disk, asks: &[Vec<u8>]) -> Result<Vec<u8>, Fail> {
     let mut meter = opened(DeviceStore::reopen_on(disk.open()?)?)?;
     support::replies(alloc, &mut meter, asks)
 }
 
-/// Whether an operation is done on a disk. It has no other replies than its two.
-fn is_done(alloc: Global, disk: &Disk, exchange: &[Vec<u8>]) -> Result<bool, Fail> {
-    let [ask @ .., fault, done] = exchange else {
+/// Whether an operation is done on a disk, by the names of its request and its two replies. It has no others.
+fn is_done(alloc: Global, disk: &Disk, names: &str) -> Result<bool, Fail> {
+    let exchange = datagrams(alloc, names)?;
+    let [ask @ .., fault, done] = exchange.as_slice() else {
         return Err("a request and two replies".into());
     };
     let reply = replies(alloc, disk, ask)?;
@@ -57,7 +52,8 @@ fn files(alloc: Global) -> Result<Vec<Vec<u8>>, Fail> {
     let mut files = Vec::new(alloc);
     files.push(disk.bytes(alloc)?)?;
     for line in CAMPAIGN.lines() {
-        if !is_done(alloc, &disk, &exchange(alloc, line)?)? {
+        let (names, _) = present(line.split_once(':'), "names and numbers")?;
+        if !is_done(alloc, &disk, names)? {
             return failed(alloc, "the operation isn't done", files.len());
         }
         files.push(disk.bytes(alloc)?)?;
@@ -80,77 +76,118 @@ fn reads_of(alloc: Global, reads: &[Vec<u8>], file: &[u8]) -> Result<Vec<u8>, Fa
     replies(alloc, &disk, reads)
 }
 
-/// What is known of an operation: its request and its two replies, and the file and the answers to the reads before it and after it.
+/// What is known of an operation: the names of its request and its two replies, and the files before it and after it.
 #[derive(Clone, Copy)]
 struct Operation<'a> {
-    exchange: &'a [Vec<u8>],
-    reads: &'a [Vec<u8>],
-    files: (&'a [u8], &'a [u8]),
-    answers: (&'a [u8], &'a [u8]),
+    names: &'a str,
+    before: &'a [u8],
+    after: &'a [u8],
 }
 
-/// The operation of this line with room for each number of bytes up to those that it writes.
-fn on_full_disks(alloc: Global, line: &str, before: &[u8], after: &[u8]) -> Result<usize, Fail> {
+/// The operation of this line with room for each number of bytes up to those that it writes, and on a disk that is only read.
+fn on_disks(
+    alloc: Global,
+    line: &str,
+    before: &[u8],
+    after: &[u8],
+) -> Result<(usize, usize), Fail> {
     let (names, numbers) = present(line.split_once(':'), "names and numbers")?;
     let mut words = Words::new(numbers);
     let [start, end, writes]: [u32; 3] = words.read()?;
-    let (block, writes) = ((start as usize, end as usize), writes as usize);
-    let reads = datagrams(alloc, READS)?;
-    let old = reads_of(alloc, &reads, before)?;
-    let new = reads_of(alloc, &reads, after)?;
-    let exchange = datagrams(alloc, names)?;
     let operation = Operation {
-        exchange: &exchange,
-        reads: &reads,
-        files: (before, after),
-        answers: (&old, &new),
+        names,
+        before,
+        after,
     };
+    let reads = datagrams(alloc, READS)?;
+    let block = (start as usize, end as usize);
+    let full = on_full_disks(alloc, operation, &reads, block, writes as usize)?;
+    let only_read = on_read_only_disk(alloc, operation, &reads)?;
+    Ok((full, only_read))
+}
+
+fn on_full_disks(
+    alloc: Global,
+    operation: Operation<'_>,
+    reads: &[Vec<u8>],
+    block: (usize, usize),
+    writes: usize,
+) -> Result<usize, Fail> {
+    let old = reads_of(alloc, reads, operation.before)?;
+    let new = reads_of(alloc, reads, operation.after)?;
     for room in 0..=writes {
-        is_right(alloc, operation, block, room, room == writes)?;
+        let found = left_by(alloc, operation, block, room, room == writes)?;
+        let want = if room == writes { &new } else { &old };
+        if reads_of(alloc, reads, &found)? != *want {
+            return failed(alloc, "another meter", room);
+        }
     }
     Ok(writes.saturating_add(1))
 }
 
-/// An operation with so much room, which suffices or not. Where it doesn't, it has the reply of a fault, the file is as before, except in
-/// the block that it writes, and the reads are answered as before.
-fn is_right(
+/// The file after an operation with so much room, which suffices or not. Where it doesn't, it has the reply of a fault, and the file is as before,
+/// except in the block that it writes.
+fn left_by(
     alloc: Global,
     operation: Operation<'_>,
     (start, end): (usize, usize),
     room: usize,
     suffices: bool,
-) -> Result<(), Fail> {
-    let (before, after) = operation.files;
+) -> Result<Vec<u8>, Fail> {
+    let Operation {
+        names,
+        before,
+        after,
+    } = operation;
     let disk = Disk::with(alloc, before)?;
-    disk.takes(Takes::Only(room));
-    if is_done(alloc, &disk, operation.exchange)? != suffices {
+    disk.set_room(Some(room));
+    if is_done(alloc, &disk, names)? != suffices {
         return failed(alloc, "another reply", room);
     }
     let found = disk.bytes(alloc)?;
-    let is_file = if suffices {
+    let is_right = if suffices {
         found.as_slice() == after
     } else {
         is_between(&found, before, after, start, end)
     };
-    let (old, new) = operation.answers;
-    let want = if suffices { new } else { old };
-    if !is_file || reads_of(alloc, operation.reads, &found)?.as_slice() != want {
-        return failed(alloc, "another file, or another meter", room);
+    if !is_right {
+        return failed(alloc, "another file", room);
     }
-    Ok(())
+    Ok(found)
+}
+
+/// An operation on a disk that is only read, and then the reads: these are answered as on any other disk.
+fn on_read_only_disk(
+    alloc: Global,
+    operation: Operation<'_>,
+    reads: &[Vec<u8>],
+) -> Result<usize, Fail> {
+    let disk = Disk::with(alloc, operation.before)?;
+    let want = replies(alloc, &disk, reads)?;
+    disk.set_room(None);
+    if is_done(alloc, &disk, operation.names)? {
+        return failed(alloc, "the operation is done", 0);
+    }
+    if replies(alloc, &disk, reads)? != want || !disk.holds(operation.before) {
+        return failed(alloc, "it isn't as before", 0);
+    }
+    Ok(reads.len().saturating_add(1))
 }
 
 /// The operations write 2,158, 2,158, 2,160, 2, 2,159, 2,158 and 2,158 bytes, 12,953 in all. Each is tried with room for none and so on up
-/// to all.
+/// to all, and with seven reads where nothing is written.
 #[test]
-fn a_disk_that_is_full(rt: HostRuntime) -> Result<(), Fail> {
+fn operations_on_a_disk_that_is_full_or_only_read(rt: HostRuntime) -> Result<(), Fail> {
     let alloc = rt.alloc();
     let files = files(alloc)?;
-    let mut tried = 0usize;
+    let (mut full, mut only_read) = (0usize, 0usize);
     for (line, (before, after)) in CAMPAIGN.lines().zip(files.iter().zip(files.iter().skip(1))) {
-        tried = tried.saturating_add(on_full_disks(alloc, line, before, after)?);
+        let tried = on_disks(alloc, line, before, after)?;
+        full = full.saturating_add(tried.0);
+        only_read = only_read.saturating_add(tried.1);
     }
-    expect_tried(alloc, tried, 12_953 + 7)
+    expect_tried(alloc, full, 12_953 + 7)?;
+    expect_tried(alloc, only_read, 7 * (1 + 7))
 }
 
 /// How many bytes the file of the same store has with a header of version 1: without releases, and with them.
@@ -165,10 +202,10 @@ fn old_file(alloc: Global, file: &[u8], size: usize) -> Result<Vec<u8>, Fail> {
     Ok(old)
 }
 
-/// Whether the meter in the file is opened on a disk that takes what `takes` says.
-fn is_opened(disk: &Disk, takes: Takes) -> Result<bool, Fail> {
+/// Whether the meter in the file is opened on a disk with this room.
+fn is_opened(disk: &Disk, room: Room) -> Result<bool, Fail> {
     let store = DeviceStore::reopen_on(disk.open()?)?;
-    disk.takes(takes);
+    disk.set_room(room);
     match MeterCore::open_store(store) {
         Ok(_meter) => Ok(true),
         Err((OpenError::Fault, _store)) => Ok(false),
@@ -182,7 +219,7 @@ fn opened_on_full_disks(alloc: Global, old: &[u8], new: &[u8]) -> Result<usize, 
     let mut tried = 0usize;
     for room in 0..=2_158 {
         let disk = Disk::with(alloc, old)?;
-        let is_opened = is_opened(&disk, Takes::Only(room))?;
+        let is_opened = is_opened(&disk, Some(room))?;
         let want = if room == 2_158 { new } else { old };
         if is_opened != (room == 2_158) || !disk.holds(want) {
             return failed(alloc, "another file", room);
@@ -192,66 +229,56 @@ fn opened_on_full_disks(alloc: Global, old: &[u8], new: &[u8]) -> Result<usize, 
     Ok(tried)
 }
 
-/// The file of a new meter, and the one after each operation, with a header of version 1. All releases are 0.
-#[test]
-fn an_old_store_on_a_full_disk(rt: HostRuntime) -> Result<(), Fail> {
-    let alloc = rt.alloc();
-    let mut tried = 0usize;
-    for new in &files(alloc)? {
-        for size in OLD_SIZES {
-            let old = old_file(alloc, new, size)?;
-            tried = tried.saturating_add(opened_on_full_disks(alloc, &old, new)?);
-        }
-    }
-    expect_tried(alloc, tried, 8 * 2 * 2_159)
-}
-
 /// The meter in an old file on a disk that is only read: it isn't opened, and the file stays as it is. Where its header is kept it is, and
-/// answers the reads so.
-fn on_read_only_disk_as_old(alloc: Global, old: &[u8], want: &[u8]) -> Result<(), Fail> {
+/// answers the reads as the one in the new file.
+fn on_read_only_disk_as_old(alloc: Global, old: &[u8], new: &[u8]) -> Result<(), Fail> {
+    let reads = datagrams(alloc, READS)?;
+    let want = reads_of(alloc, &reads, new)?;
     let disk = Disk::with(alloc, old)?;
-    if is_opened(&disk, Takes::Nothing)? {
+    if is_opened(&disk, None)? {
         return failed(alloc, "it is opened", old.len());
     }
-    if kept_reads(alloc, &disk)?.as_slice() != want || !disk.holds(old) {
+    if kept_reads(alloc, &disk, &reads)? != want || !disk.holds(old) {
         return failed(alloc, "another meter", old.len());
     }
     Ok(())
 }
 
-/// The meter in the old file answers the reads as the one in the new file.
+/// The file of a new meter, and the one after each operation, with a header of version 1. All releases are 0. The meter in the old file answers
+/// the reads as the one in the new file.
 #[test]
-fn an_old_store_on_a_disk_that_is_only_read(rt: HostRuntime) -> Result<(), Fail> {
+fn an_old_store_on_a_disk_that_is_full_or_only_read(rt: HostRuntime) -> Result<(), Fail> {
     let alloc = rt.alloc();
-    let mut tried = 0usize;
+    let (mut full, mut only_read) = (0usize, 0usize);
     for new in &files(alloc)? {
-        let want = reads_of(alloc, &datagrams(alloc, READS)?, new)?;
         for size in OLD_SIZES {
-            on_read_only_disk_as_old(alloc, &old_file(alloc, new, size)?, &want)?;
-            tried = tried.saturating_add(1);
+            let old = old_file(alloc, new, size)?;
+            full = full.saturating_add(opened_on_full_disks(alloc, &old, new)?);
+            on_read_only_disk_as_old(alloc, &old, new)?;
+            only_read = only_read.saturating_add(1);
         }
     }
-    expect_tried(alloc, tried, 8 * 2)
+    expect_tried(alloc, full, 8 * 2 * 2_159)?;
+    expect_tried(alloc, only_read, 8 * 2)
 }
 
 /// The replies to the reads of the meter in the file on a disk, whose header is kept.
-fn kept_reads(alloc: Global, disk: &Disk) -> Result<Vec<u8>, Fail> {
-    let reads = datagrams(alloc, READS)?;
+fn kept_reads(alloc: Global, disk: &Disk, reads: &[Vec<u8>]) -> Result<Vec<u8>, Fail> {
     match MeterCore::open_kept(DeviceStore::reopen_on(disk.open()?)?) {
-        Ok(mut meter) => support::replies(alloc, &mut meter, &reads),
+        Ok(mut meter) => support::replies(alloc, &mut meter, reads),
         Err((error, _store)) => Err(error.into()),
     }
 }
 
-/// Whether a store is made, over the file of another one, on a disk that takes what `takes` says.
-fn is_made(disk: &Disk, takes: Takes) -> Result<bool, Fail> {
-    disk.takes(takes);
+/// Whether a store is made, over the file of another one, on a disk with this room.
+fn is_made(disk: &Disk, room: Room) -> Result<bool, Fail> {
+    disk.set_room(room);
     let made = match DeviceStore::create_on(disk.open()?, 8, 2, b"x") {
         Ok(_store) => true,
         Err(FileStoreError::StoreFault) => false,
         Err(refusal) => return Err(refusal.into()),
     };
-    disk.takes(Takes::All);
+    disk.set_room(Some(usize::MAX));
     Ok(made)
 }
 
@@ -267,7 +294,7 @@ fn holds_a_store(disk: &Disk) -> Result<bool, Fail> {
 /// A store is made with so much room over this file: it is there where it was made, which it is with room for all.
 fn made_with_room(alloc: Global, file: &[u8], room: usize) -> Result<(), Fail> {
     let disk = Disk::with(alloc, file)?;
-    let made = is_made(&disk, Takes::Only(room))?;
+    let made = is_made(&disk, Some(room))?;
     if made != (room == 2_163) || holds_a_store(&disk)? != made {
         return failed(alloc, "a store that isn't whole", room);
     }
@@ -275,9 +302,9 @@ fn made_with_room(alloc: Global, file: &[u8], room: usize) -> Result<(), Fail> {
 }
 
 /// What is made in part is no store: the capacity, which is written last, isn't there. The image has one byte, the header 2,158 and the
-/// capacity 4.
+/// capacity 4. On a disk that is only read the file stays.
 #[test]
-fn a_store_on_a_full_disk(rt: HostRuntime) -> Result<(), Fail> {
+fn a_store_on_a_disk_that_is_full_or_only_read(rt: HostRuntime) -> Result<(), Fail> {
     let alloc = rt.alloc();
     let files = files(alloc)?;
     let file = present(files.last(), "a file")?;
@@ -286,37 +313,10 @@ fn a_store_on_a_full_disk(rt: HostRuntime) -> Result<(), Fail> {
         made_with_room(alloc, file, room)?;
         tried = tried.saturating_add(1);
     }
-    expect_tried(alloc, tried, 2_164)
-}
-
-/// An operation on a disk that is only read, and then the reads: these are answered as on any other disk.
-fn on_read_only_disk(alloc: Global, line: &str, before: &[u8]) -> Result<usize, Fail> {
-    let disk = Disk::with(alloc, before)?;
-    let reads = datagrams(alloc, READS)?;
-    let want = replies(alloc, &disk, &reads)?;
-    disk.takes(Takes::Nothing);
-    if is_done(alloc, &disk, &exchange(alloc, line)?)? {
-        return failed(alloc, "the operation is done", 0);
-    }
-    if replies(alloc, &disk, &reads)? != want || !disk.holds(before) {
-        return failed(alloc, "it isn't as before", 0);
-    }
-    Ok(reads.len().saturating_add(1))
-}
-
-/// The making of a store, and seven operations, each of them with seven reads.
-#[test]
-fn a_disk_that_is_only_read(rt: HostRuntime) -> Result<(), Fail> {
-    let alloc = rt.alloc();
-    let files = files(alloc)?;
-    let whole = present(files.last(), "a file")?;
-    let disk = Disk::with(alloc, whole)?;
-    if is_made(&disk, Takes::Nothing)? || !disk.holds(whole) {
+    expect_tried(alloc, tried, 2_164)?;
+    let disk = Disk::with(alloc, file)?;
+    if is_made(&disk, None)? || !disk.holds(file) {
         return failed(alloc, "a store is made", 0);
     }
-    let mut tried = 1usize;
-    for (line, before) in CAMPAIGN.lines().zip(&files) {
-        tried = tried.saturating_add(on_read_only_disk(alloc, line, before)?);
-    }
-    expect_tried(alloc, tried, 1 + 7 * (1 + 7))
+    Ok(())
 }

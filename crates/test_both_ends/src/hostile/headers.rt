@@ -1,45 +1,36 @@
 //! Stores whose header, of either version, has one byte turned. It is one that a store can have and the meter is opened as it says, or it is
 //! refused.
 
-use crate::hostile::support::{Count, Outcome, datagrams, replies};
+use crate::hostile::support::{Count, Outcome, datagrams, note, replies};
 use fw_image::OpenError;
 use fw_meter::MeterCore;
-use fw_store::{
-    HeaderBytes, HeaderVersion, ImageStore, MemoryStore, VERSION_ONE_SIZE, VERSION_TWO_SIZE,
-};
+use fw_store::{HeaderBytes, ImageStore, MemoryStore, VERSION_ONE_SIZE, VERSION_TWO_SIZE};
 use std::alloc::Global;
 use std::test::Fail;
 use test_tables::{Reads, Words, each_line};
 
-/// Stores with a header of this version, of 64 bytes a slot and with blocks of two bytes. A row says what is turned: each of the 622 bytes
-/// that a header of either version has, to each value, or each bit of the further marks of version 2. After that it has the image that the
-/// store runs when it is new, and the datagrams that come to its meter then, if there are any.
+/// Stores of 64 bytes a slot and with blocks of two bytes. A row says whether their header is one of version 2, `new`, or of version 1, and what is
+/// turned: each of the 622 bytes that a header of either version has, to each value, or each bit of the further marks of version 2. After that
+/// it has the image that the store runs when it is new, and the datagrams that come to its meter then, if there are any.
 #[derive(Clone, Copy)]
-struct Turned(HeaderVersion);
+struct Turned;
 
 impl Reads for Turned {
     fn told(&mut self, alloc: Global, what: &str) -> Result<String, Fail> {
         let mut words = Words::new(what);
-        let [turned, factory]: [&str; 2] = words.read()?;
-        let new = self.new_store(alloc, factory)?;
+        let [age, turned, factory]: [&str; 3] = words.read()?;
+        let factory = factory.as_bytes();
+        let new = match age {
+            "new" => MemoryStore::new(alloc, 64, 2, factory)?,
+            _ => MemoryStore::new_old(alloc, 64, 2, factory)?,
+        };
         let store = left_by(alloc, new, words.rest())?;
-        let mut count = Count::new();
+        let mut count = [0; 4];
         match turned {
             "bytes" => turn_all(store, 0, VERSION_ONE_SIZE, false, &mut count)?,
-            "marks" => turn_all(store, VERSION_ONE_SIZE, VERSION_TWO_SIZE, true, &mut count)?,
-            _ => return Err("bytes or marks are turned".into()),
+            _ => turn_all(store, VERSION_ONE_SIZE, VERSION_TWO_SIZE, true, &mut count)?,
         }
-        count.told(alloc)
-    }
-}
-
-impl Turned {
-    fn new_store(&self, alloc: Global, factory: &str) -> Result<MemoryStore, Fail> {
-        let factory = factory.as_bytes();
-        Ok(match self.0 {
-            HeaderVersion::One => MemoryStore::new_old(alloc, 64, 2, factory)?,
-            HeaderVersion::Two => MemoryStore::new(alloc, 64, 2, factory)?,
-        })
+        Ok(format!(in alloc; "{:?}", count)?)
     }
 }
 
@@ -84,7 +75,7 @@ fn turn_all(
             if !is_by_bits || turn.is_power_of_two() {
                 let (outcome, left) = judged(store, &with_turned(whole, at, turn))?;
                 store = left;
-                count.note(outcome);
+                note(count, outcome);
             }
         }
     }
@@ -133,82 +124,42 @@ fn shows(meter: &MeterCore<MemoryStore>, header: &HeaderBytes) -> bool {
 /// 64, or the name another digest.
 const OF_A_NEW_STORE: &str = "
     // Opened: 622 + 1 + 1 + 3 + 254. Bad images: 1 + 63 + 32 * 255. Of all 622 * 256 the others are bad headers.
-    bytes abc => opened 881, bad file 0, bad header 150127, bad image 8224
+    new bytes abc => [881, 0, 150127, 8224]
+    old bytes abc => [881, 0, 150127, 8224]
 ";
-
-#[test]
-fn of_a_new_store(rt: HostRuntime) -> Result<(), Fail> {
-    each_line(rt.alloc(), &mut Turned(HeaderVersion::Two), OF_A_NEW_STORE)
-}
-
-#[test]
-fn of_an_old_store(rt: HostRuntime) -> Result<(), Fail> {
-    each_line(rt.alloc(), &mut Turned(HeaderVersion::One), OF_A_NEW_STORE)
-}
 
 /// Of a store that runs `x`, in which `abc` was verified. Beside its own header it can have these: not enabled; statuses 1 and 4; a name of
 /// another campaign, whose numbers are any except 0, or of any release. The image that runs isn't its name's in the other slot, with
-/// another size, or under another digest, and the verified one isn't with four bytes, or under another digest.
+/// another size, or under another digest, and the verified one isn't with four bytes, or under another digest. The two blocks of the image
+/// are marked, and no other block is one of it.
 const OF_A_VERIFIED_IMAGE: &str = "
     // Opened: 622 + 1 + 2 + 2 * (3 * 255 + 254) + 4 * 255. Bad images: 1 + 63 + 32 * 255 + 1 + 32 * 255.
-    bytes x enable initiate block-0 block-1 verify => opened 3683, bad file 0, bad header 139164, bad image 16385
-";
-
-#[test]
-fn of_a_verified_image(rt: HostRuntime) -> Result<(), Fail> {
-    each_line(
-        rt.alloc(),
-        &mut Turned(HeaderVersion::Two),
-        OF_A_VERIFIED_IMAGE,
-    )
-}
-
-#[test]
-fn of_a_verified_image_in_an_old_store(rt: HostRuntime) -> Result<(), Fail> {
-    each_line(
-        rt.alloc(),
-        &mut Turned(HeaderVersion::One),
-        OF_A_VERIFIED_IMAGE,
-    )
-}
-
-/// The two blocks of the image are marked, and no other block is one of it.
-const OF_FURTHER_MARKS: &str = "
+    new bytes x enable initiate block-0 block-1 verify => [3683, 0, 139164, 16385]
+    old bytes x enable initiate block-0 block-1 verify => [3683, 0, 139164, 16385]
     // Bad headers: 1,536 * 8.
-    marks x enable initiate block-0 block-1 verify => opened 0, bad file 0, bad header 12288, bad image 0
+    new marks x enable initiate block-0 block-1 verify => [0, 0, 12288, 0]
 ";
-
-#[test]
-fn of_a_verified_image_with_further_marks(rt: HostRuntime) -> Result<(), Fail> {
-    each_line(
-        rt.alloc(),
-        &mut Turned(HeaderVersion::Two),
-        OF_FURTHER_MARKS,
-    )
-}
 
 /// Of a store that runs `abc` of release 5. Beside its own header it can have these: not enabled; status 0; each other block size as above;
 /// a name of another campaign, whose numbers are any except 0, or of any release. The image isn't the name's in the other slot, with
 /// another size, or under another digest.
 const OF_AN_IMAGE_WITH_A_RELEASE: &str = "
     // Opened: 622 + 1 + 1 + 3 + 254 + 2 * (3 * 255 + 254) + 4 * 255. Bad images: 1 + 63 + 32 * 255.
-    bytes x enable initiate-5 block-0 block-1 verify activate => opened 3939, bad file 0, bad header 147069, bad image 8224
+    new bytes x enable initiate-5 block-0 block-1 verify activate => [3939, 0, 147069, 8224]
+    old bytes x enable initiate-5 block-0 block-1 verify activate => [3939, 0, 147069, 8224]
 ";
 
 #[test]
-fn of_an_image_with_a_release(rt: HostRuntime) -> Result<(), Fail> {
-    each_line(
-        rt.alloc(),
-        &mut Turned(HeaderVersion::Two),
-        OF_AN_IMAGE_WITH_A_RELEASE,
-    )
+fn of_a_new_store(rt: HostRuntime) -> Result<(), Fail> {
+    each_line(rt.alloc(), &mut Turned, OF_A_NEW_STORE)
 }
 
 #[test]
-fn of_an_image_with_a_release_in_an_old_store(rt: HostRuntime) -> Result<(), Fail> {
-    each_line(
-        rt.alloc(),
-        &mut Turned(HeaderVersion::One),
-        OF_AN_IMAGE_WITH_A_RELEASE,
-    )
+fn of_a_verified_image(rt: HostRuntime) -> Result<(), Fail> {
+    each_line(rt.alloc(), &mut Turned, OF_A_VERIFIED_IMAGE)
+}
+
+#[test]
+fn of_an_image_with_a_release(rt: HostRuntime) -> Result<(), Fail> {
+    each_line(rt.alloc(), &mut Turned, OF_AN_IMAGE_WITH_A_RELEASE)
 }

@@ -1,9 +1,9 @@
 //! Stops of the meter in each datagram of a campaign, at each call of its store. The meter is then as before the datagram or as after it,
 //! and the campaign goes on to its end. So it does after a stop in each restart of an old meter.
 
-use crate::hostile::campaign::{ALL, events, world_of};
+use crate::hostile::campaign::{ALL, events};
 use crate::hostile::support::{expect_tried, failed};
-use crate::worlds::{SMALL, head, meter, old_setup_of, setup_of};
+use crate::worlds::{OLD_SMALL, SMALL, head, meter, setup_of, world_of};
 use fw_air::{Fate, Fates, schedule};
 use fw_book::RowState;
 use fw_names::CampaignId;
@@ -153,7 +153,7 @@ fn restart_stopped(alloc: Global, setup: &Setup, count: usize, calls: u64) -> Re
 #[test]
 fn each_call_of_each_restart(rt: HostRuntime) -> Result<(), Fail> {
     let alloc = rt.alloc();
-    let setup = old_setup_of(alloc, SMALL)?;
+    let setup = setup_of(alloc, OLD_SMALL)?;
     let mut tried = 0usize;
     for count in 1..=ALL {
         for calls in 0..=4 {

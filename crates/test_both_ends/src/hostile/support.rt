@@ -97,44 +97,15 @@ pub(crate) enum Outcome {
     BadImage,
 }
 
-/// From how many stores a meter was opened, and how many were refused.
-#[derive(Clone, Copy)]
-pub(crate) struct Count {
-    opened: usize,
-    bad_file: usize,
-    bad_header: usize,
-    bad_image: usize,
-}
+/// From how many stores a meter was opened, and how many were refused as a bad file, for a bad header and for a bad image.
+pub(crate) type Count = [usize; 4];
 
-impl Count {
-    pub(crate) fn new() -> Count {
-        Count {
-            opened: 0,
-            bad_file: 0,
-            bad_header: 0,
-            bad_image: 0,
-        }
-    }
-
-    pub(crate) fn note(&mut self, outcome: Outcome) {
-        let number = match outcome {
-            Outcome::Opened => &mut self.opened,
-            Outcome::BadFile => &mut self.bad_file,
-            Outcome::BadHeader => &mut self.bad_header,
-            Outcome::BadImage => &mut self.bad_image,
-        };
-        *number = number.saturating_add(1);
-    }
-
-    pub(crate) fn told(self, alloc: Global) -> Result<String, Fail> {
-        let Count {
-            opened,
-            bad_file,
-            bad_header,
-            bad_image,
-        } = self;
-        Ok(format!(in alloc;
-            "opened {opened}, bad file {bad_file}, bad header {bad_header}, bad image {bad_image}"
-        )?)
+/// Counts what comes of a store.
+pub(crate) fn note(count: &mut Count, outcome: Outcome) {
+    match outcome {
+        Outcome::Opened => count[0] = count[0].saturating_add(1),
+        Outcome::BadFile => count[1] = count[1].saturating_add(1),
+        Outcome::BadHeader => count[2] = count[2].saturating_add(1),
+        Outcome::BadImage => count[3] = count[3].saturating_add(1),
     }
 }

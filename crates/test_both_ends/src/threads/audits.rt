@@ -1,7 +1,7 @@
 //! Audits of the parts of runs.
 
-use crate::threads::support::{events_in, setup_in, setup_text, world_of};
-use crate::worlds::{old_setup_of, report};
+use crate::threads::support::{events_in, setup_in};
+use crate::worlds::{report, world_of};
 use fw_air::audit;
 use fw_world::{Event, Parts, Setup};
 use std::alloc::Global;
@@ -17,16 +17,6 @@ struct Made {
 }
 
 impl Made {
-    /// The run of some events.
-    fn new(alloc: Global, setup: Setup, events: Vec<Event>) -> Result<Made, Fail> {
-        let parts = world_of(alloc, &setup, &events)?.into_parts();
-        Ok(Made {
-            setup,
-            events,
-            parts,
-        })
-    }
-
     /// Changes what is given of it: all, or all except what is named.
     fn change(&mut self, alloc: Global, told: &str) -> Result<(), Fail> {
         match told {
@@ -65,20 +55,22 @@ impl Made {
     }
 }
 
-/// Audits of the parts of runs, of rows `AGE SETUP SCRIPT CHANGE`, in which all meters of the setup are new ones or old ones.
+/// Audits of the parts of runs, of rows `SETUP SCRIPT CHANGE`.
 #[derive(Clone, Copy)]
 struct Audited;
 
 impl Reads for Audited {
     fn told(&mut self, alloc: Global, what: &str) -> Result<String, Fail> {
         let mut words = Words::new(what);
-        let [age, setup, script, change]: [&str; 4] = words.read()?;
+        let [setup, script, change]: [&str; 3] = words.read()?;
+        let setup = setup_in(alloc, setup)?;
         let events = events_in(alloc, script)?;
-        let setup = match age {
-            "old" => old_setup_of(alloc, setup_text(setup))?,
-            _ => setup_in(alloc, setup)?,
+        let parts = world_of(alloc, &setup, &events)?.into_parts();
+        let mut made = Made {
+            setup,
+            events,
+            parts,
         };
-        let mut made = Made::new(alloc, setup, events)?;
         made.change(alloc, change)?;
         made.audited(alloc)
     }
@@ -87,23 +79,23 @@ impl Reads for Audited {
 /// Of the campaign that ends, the last event makes the row done. The first answer moves the row to another phase. The turn changes the
 /// meter alone. With one event more, that one is refused.
 const AUDITS: &str = "
-    new small done     all => row 7 1 1 done; meter 1 status 6 active 7 1 size 3; activations 1; sent 20
-    new small done     without_last_event    => Mismatch
-    new small done     with_refused          => Mismatch
-    new small done     without_last_datagram => Mismatch
-    new small done     without_head          => Mismatch
-    new small done     without_meter         => Mismatch
-    new small done     over_no_head          => BadSetup
-    new small answered all => row 7 1 1 live; meter 1 status 0 active 0 0 size 1; activations 0; sent 2
-    new small answered without_last_event    => Mismatch
-    new large turned   all => row 7 1 1 live; meter 1 status 3 active 0 0 size 1; activations 0; sent 20
-    new large turned   without_last_event    => Mismatch
+    small done     all                           => ([(7, 1, 1, Done)], [(1, 6, 7, 1, 3)], 1, 20)
+    small done     without_last_event            => Mismatch
+    small done     with_refused                  => Mismatch
+    small done     without_last_datagram         => Mismatch
+    small done     without_head                  => Mismatch
+    small done     without_meter                 => Mismatch
+    small done     over_no_head                  => BadSetup
+    small answered all                           => ([(7, 1, 1, Live)], [(1, 0, 0, 0, 1)], 0, 2)
+    small answered without_last_event            => Mismatch
+    large turned   all                           => ([(7, 1, 1, Live)], [(1, 3, 0, 0, 1)], 0, 20)
+    large turned   without_last_event            => Mismatch
 
     // A restart that stops before the meter's header is written in version 2 changes nothing, and one that stops after that does.
-    old small stopped_after_2 all                => meter 1 status 0 active 0 0 size 1; activations 0; sent 0
-    old small stopped_after_2 without_last_event => meter 1 status 0 active 0 0 size 1; activations 0; sent 0
-    old small stopped_after_3 all                => meter 1 status 0 active 0 0 size 1; activations 0; sent 0
-    old small stopped_after_3 without_last_event => Mismatch
+    old_small stopped_after_2 all                => ([], [(1, 0, 0, 0, 1)], 0, 0)
+    old_small stopped_after_2 without_last_event => ([], [(1, 0, 0, 0, 1)], 0, 0)
+    old_small stopped_after_3 all                => ([], [(1, 0, 0, 0, 1)], 0, 0)
+    old_small stopped_after_3 without_last_event => Mismatch
 ";
 
 #[test]

@@ -1,7 +1,7 @@
 //! The links of a world, and what waits on one.
 
-use crate::threads::support::{events_in, fates_of, setup_in, world_of};
-use crate::worlds::push;
+use crate::threads::support::{events_in, setup_in};
+use crate::worlds::{fates_of, world_of};
 use fw_air::{Fates, LinkQueue, links_of};
 use std::alloc::Global;
 use std::test::Fail;
@@ -16,16 +16,15 @@ fn all_links(alloc: Global) -> Result<Vec<LinkQueue>, Fail> {
 
 /// The numbers of their ends.
 fn ends(alloc: Global, links: &[LinkQueue]) -> Result<String, Fail> {
-    let mut text = String::new(alloc);
+    let mut ends = Vec::new(alloc);
     for link in links {
-        let (head, meter) = (link.head().number(), link.meter().number());
-        push(&mut text, format!(in alloc; "{head} {meter}")?.as_str())?;
+        ends.push((link.head().number(), link.meter().number()))?;
     }
-    Ok(text)
+    Ok(format!(in alloc; "{:?}", ends.as_slice())?)
 }
 
 /// A link and the fates of its datagrams. A row has the numbers of datagrams, from the first to after the last: it tells those of them that
-/// come, and those that are late. Without numbers it tells those that are late now.
+/// come, and those that are late.
 #[derive(Drop)]
 struct Passing<'a> {
     link: &'a mut LinkQueue,
@@ -35,24 +34,22 @@ struct Passing<'a> {
 impl<'a> Reads for Passing<'a> {
     fn told(&mut self, alloc: Global, what: &str) -> Result<String, Fail> {
         let mut words = Words::new(what);
-        if words.word()? == "late" {
-            return Ok(format!(in alloc; "{:?}", self.link.take_late(alloc).as_slice())?);
-        }
         let [from, end]: [u32; 2] = words.read()?;
         let coming = self
             .link
             .pass(alloc, &self.fates, from as usize, end as usize)?;
         let late = self.link.take_late(alloc);
-        Ok(format!(in alloc; "{:?} {:?}", coming.as_slice(), late.as_slice())?)
+        Ok(format!(in alloc; "{:?}", (coming.as_slice(), late.as_slice()))?)
     }
 }
 
 const PASSED: &str = "
-    pass 10 13 => [10, 12, 12] []
-    pass 13 13 => [] []
-    pass 13 16 => [14] [13]
-    pass 17 18 => [17, 17] []
-    late       => []
+    10 13 => ([10, 12, 12], [])
+    13 13 => ([], [])
+    13 16 => ([14], [13])
+    17 18 => ([17, 17], [])
+    // what was late was taken
+    18 18 => ([], [])
 ";
 
 #[test]
@@ -65,7 +62,7 @@ fn links(rt: HostRuntime) -> Result<(), Fail> {
         alloc,
         "links",
         told.as_str(),
-        "7 1; 7 2; 7 3; 7 4; 8 2; 8 4",
+        "[(7, 1), (7, 2), (7, 3), (7, 4), (8, 2), (8, 4)]",
     )?;
     let fates = fates_of(alloc, "deliver,drop,twice,late")?;
     let fates = present(Fates::new(&fates), "1 to 4,096 fates")?;

@@ -1,7 +1,6 @@
 //! The log: in one thread, and added to by two.
 
-use crate::threads::support::sent_text;
-use crate::worlds::{head, meter, numbered, push};
+use crate::worlds::{head, in_numbers, meter};
 use fw_air::{CoreEvent, Entry, Sent, SharedLog};
 use fw_names::{HeadId, MeterId};
 use fw_world::{Actor, Datagram, Direction, Event};
@@ -111,16 +110,15 @@ impl<'a, R: Wait> Logged<'a, R> {
         let (head, meter) = (Actor::Head(self.link.head), Actor::Meter(self.link.meter));
         let there = self.log.find(self.rt, head, meter, &bytes);
         let back = self.log.find(self.rt, meter, head, &bytes);
-        Ok(format!(in alloc; "{there:?} {back:?}")?)
+        Ok(format!(in alloc; "{:?}", (there, back))?)
     }
 }
 
-/// What is returned where an event is added, and what its stub says.
+/// What is returned where an event is added, `(EVENT, FIRST, COUNT)`, and what its stub says: the number of the event, and what it is.
 fn added(alloc: Global, sent: Sent, stub: (usize, CoreEvent)) -> Result<String, Fail> {
     let (number, event) = stub;
-    let mut text = sent_text(alloc, sent)?;
-    push(&mut text, numbered(alloc, number, &event.event())?.as_str())?;
-    Ok(text)
+    let told = (sent.event, sent.first, sent.count);
+    Ok(format!(in alloc; "{:?}", (told, number, in_numbers(&event.event())))?)
 }
 
 /// Whether these are the datagrams 10, 11 and 12, and the events that sent one, two and none of them, the last one a delivery.
@@ -139,8 +137,8 @@ fn are_grown(sent: &[Datagram], entries: &[Entry]) -> bool {
 }
 
 const GROWS: &str = "
-    tick 11 12 => event 1 sent 1 2; 1 tick 7 1
-    deliver 2  => event 2 sent 3 0; 2 deliver 2
+    tick 11 12 => ((1, 1, 2), 1, ('t', 7, 1))
+    deliver 2  => ((2, 3, 0), 2, ('d', 2, 0))
     get 0      => Some(10)
     get 1      => Some(11)
     get 2      => Some(12)
@@ -160,14 +158,14 @@ fn log_grows_at_its_ends(rt: HostRuntime) -> Result<(), Fail> {
 
 /// The bytes of a datagram, and the greatest number of a datagram with them.
 const FOUND: &str = "
-    tick 12 => event 1 sent 2 1; 1 tick 7 1
-    tick 12 => event 2 sent 3 1; 2 tick 7 1
-    tick 10 => event 3 sent 4 1; 3 tick 7 1
-    find 10 => Some(4) None
-    find 11 => Some(1) None
-    find 12 => Some(3) None
-    find 13 => None None
-    find    => None None
+    tick 12 => ((1, 2, 1), 1, ('t', 7, 1))
+    tick 12 => ((2, 3, 1), 2, ('t', 7, 1))
+    tick 10 => ((3, 4, 1), 3, ('t', 7, 1))
+    find 10 => (Some(4), None)
+    find 11 => (Some(1), None)
+    find 12 => (Some(3), None)
+    find 13 => (None, None)
+    find    => (None, None)
 ";
 
 #[test]

@@ -73,8 +73,8 @@ fn replies(
         reply(alloc, head)?.as_str(),
         want.as_str(),
     )?;
-    let seen = format!(in alloc; "{:?}, {} faults", daemon.dropped(), port.faults())?;
-    let want = "Dropped { strangers: 1, unserved: 0 }, 0 faults";
+    let seen = format!(in alloc; "{:?}", (daemon.dropped(), port.faults()))?;
+    let want = "(Dropped { strangers: 1, unserved: 0 }, 0)";
     expect_at(alloc, "dropped", seen.as_str(), want)
 }
 

@@ -4,8 +4,9 @@
 ghost use Rattle.std.specs.Prelude.{◌≡◌, MatchOption, Ok, Err};
 
 use crate::threads::gates::Rules;
-use crate::threads::support::{events_in, outcome, row_of, setup_in};
-use crate::worlds::{head, meter, push};
+use crate::threads::rows::each_row;
+use crate::threads::support::{events_in, outcome, setup_in};
+use crate::worlds::{head, meter};
 use fw_air::Sent;
 use fw_names::{HeadId, MeterId};
 use fw_workers::{
@@ -15,7 +16,7 @@ use std::alloc::Global;
 use std::sync::Wait;
 use std::test::Fail;
 use std::thread::Threads;
-use test_tables::{Words, expect_at};
+use test_tables::Words;
 
 /// A link on which all that is sent comes at once, in order.
 #[derive(Drop)]
@@ -115,35 +116,31 @@ fn led_to<R: Threads + Wait + Sync, H: Share + Send + Drop>(
     outcome(alloc, &setup, made, None)
 }
 
-/// Rows give a worker the `link` of a head end and a meter, or have workers `refused` for reasons, from the lowest worker on: what they lead
-/// to. Or they say which links are `dealt` to a number of workers: which of them each has.
-fn shared_out<R: Threads + Wait + Sync>(rt: &R, alloc: Global, what: &str) -> Result<String, Fail> {
-    let mut words = Words::new(what);
-    match words.word()? {
-        "link" => {
-            let [number, meter_number]: [u32; 2] = words.read()?;
-            let (head, meter) = (head(number)?, meter(meter_number)?);
-            led_to(rt, alloc, 1, vec![in alloc; GoodLink { head, meter }]?)
-        }
-        "refused" => {
-            let [first, second]: [&str; 2] = words.read()?;
-            let (first, second) = (reason(first)?, reason(second)?);
-            let shares = vec![in alloc; Refused(first), Refused(second)]?;
-            led_to(rt, alloc, 2, shares)
-        }
-        _ => dealt_to(alloc, words.number()?, words.rest()),
-    }
+/// What a worker leads to that has the link of a head end and a meter, by their numbers.
+pub(crate) fn linked<R: Threads + Wait + Sync>(
+    rt: &R,
+    alloc: Global,
+    mut words: Words<'_>,
+) -> Result<String, Fail> {
+    let [number, meter_number]: [u32; 2] = words.read()?;
+    let (head, meter) = (head(number)?, meter(meter_number)?);
+    led_to(rt, alloc, 1, vec![in alloc; GoodLink { head, meter }]?)
 }
 
-/// Each row of shares reports what stands after its arrow.
-fn shares_out<R: Threads + Wait + Sync>(rt: &R, alloc: Global, table: &str) -> Result<(), Fail> {
-    for line in table.lines() {
-        if let Some((what, want)) = row_of(line)? {
-            let told = shared_out(rt, alloc, what)?;
-            expect_at(alloc, what, told.as_str(), want)?;
-        }
-    }
-    Ok(())
+/// What two workers lead to that are refused for these reasons, the lowest worker's first.
+pub(crate) fn both_refused<R: Threads + Wait + Sync>(
+    rt: &R,
+    alloc: Global,
+    mut words: Words<'_>,
+) -> Result<String, Fail> {
+    let first = reason(words.word()?)?;
+    let second = reason(words.word()?)?;
+    led_to(
+        rt,
+        alloc,
+        2,
+        vec![in alloc; Refused(first), Refused(second)]?,
+    )
 }
 
 /// Why a worker is refused, if it is.
@@ -156,23 +153,18 @@ fn reason(word: &str) -> Result<Option<RoundsError>, Fail> {
     })
 }
 
-/// Which of these links each of `workers` workers is dealt.
-fn dealt_to(alloc: Global, workers: u32, numbers: &str) -> Result<String, Fail> {
+/// A number of workers and some links: which of them each worker is dealt.
+pub(crate) fn dealt_to(alloc: Global, mut words: Words<'_>) -> Result<String, Fail> {
+    let workers = words.number()?;
     if workers == 0 {
         return Err("no workers".into());
     }
     let mut links = Vec::new(alloc);
-    for number in numbers.split_whitespace() {
+    for number in words.rest().split_whitespace() {
         links.push(number.parse::<u32>()?)?;
     }
-    let mut text = String::new(alloc);
-    for share in dealt(alloc, links, workers)? {
-        push(
-            &mut text,
-            format!(in alloc; "{:?}", share.as_slice())?.as_str(),
-        )?;
-    }
-    Ok(text)
+    let shares = dealt(alloc, links, workers)?;
+    Ok(format!(in alloc; "{:?}", shares.as_slice())?)
 }
 
 /// The campaign's own link, and two of which one end isn't there.
@@ -184,7 +176,7 @@ const SHARES: &str = "
 
 #[test]
 fn shares_of_its_own(rt: HostRuntime) -> Result<(), Fail> {
-    shares_out(&rt, rt.alloc(), SHARES)
+    each_row(&rt, rt.alloc(), SHARES)
 }
 
 /// The lowest worker's refusal is returned. Where none is refused, the rounds that they didn't make are missed.
@@ -198,18 +190,18 @@ const REFUSALS: &str = "
 
 #[test]
 fn the_lowest_workers_refusal_is_told(rt: HostRuntime) -> Result<(), Fail> {
-    shares_out(&rt, rt.alloc(), REFUSALS)
+    each_row(&rt, rt.alloc(), REFUSALS)
 }
 
 /// The number of workers and links, and what each worker is dealt.
 const DEALT: &str = "
-    dealt 2 7 8 9 7 6 => [7, 9, 6]; [8, 7]
-    dealt 3 7 8       => [7]; [8]; []
-    dealt 1 7 8       => [7, 8]
-    dealt 2           => []; []
+    dealt 2 7 8 9 7 6 => [[7, 9, 6], [8, 7]]
+    dealt 3 7 8       => [[7], [8], []]
+    dealt 1 7 8       => [[7, 8]]
+    dealt 2           => [[], []]
 ";
 
 #[test]
 fn links_are_dealt_in_turn(rt: HostRuntime) -> Result<(), Fail> {
-    shares_out(&rt, rt.alloc(), DEALT)
+    each_row(&rt, rt.alloc(), DEALT)
 }

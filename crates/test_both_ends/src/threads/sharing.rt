@@ -2,8 +2,9 @@
 
 ghost use Rattle.std.specs.Prelude.{◌≡◌, ◌<◌};
 
-use crate::threads::support::{events_in, row_of, sent_text, setup_in, told_of, world_of};
-use crate::worlds::{meter, numbered, push};
+use crate::threads::rows::each_row;
+use crate::threads::support::{events_in, setup_in, told_of};
+use crate::worlds::{in_numbers, meter, push, world_of};
 use fw_air::{Entry, Receipt, Sent, SharedLog, audit};
 use fw_head::{HeadCore, News};
 use fw_shared::{Board, Desk, Seat, SharedMeter};
@@ -103,33 +104,6 @@ fn log_of(alloc: Global, openings: Vec<Event>) -> Result<SharedLog, AllocError> 
     Ok(SharedLog::new(Vec::new(alloc), entries))
 }
 
-/// Why a thread ended before all of its rounds were made.
-#[derive(Clone, Copy)]
-enum Stopped {
-    /// An event was refused.
-    Refused(StepError),
-    /// No mark was left to its seat.
-    NoMarks,
-    /// There is no such link.
-    NoLink,
-}
-
-impl Stopped {
-    fn told(self, alloc: Global) -> Result<String, AllocError> {
-        match self {
-            Stopped::Refused(error) => error.to_string(alloc),
-            Stopped::NoMarks => "NoMarks".to_string(alloc),
-            Stopped::NoLink => "NoLink".to_string(alloc),
-        }
-    }
-}
-
-impl From<StepError> for Stopped {
-    fn from(error: StepError) -> Stopped {
-        Stopped::Refused(error)
-    }
-}
-
 /// `rounds` rounds of these links, between commas. All that is sent comes.
 fn rounds<R: Wait>(
     rt: &R,
@@ -139,14 +113,14 @@ fn rounds<R: Wait>(
     seat: &mut Seat,
     rounds: u32,
     links: &str,
-) -> Result<(), Stopped>
+) -> Result<(), StepError>
     requires { seat.old.board ≡ board.now.id }
     ensures { seat.new.board ≡ board.now.id }
 {
     'rounds: for _ in 0..rounds {
         'links: for link in links.split(',') {
             let Some((desk, meter)) = shared.ends(link) else {
-                return Err(Stopped::NoLink);
+                return Err(StepError::NoSuchActor);
             };
             link_round(rt, alloc, &shared.log, board, seat, desk, meter)?;
         }
@@ -163,7 +137,7 @@ fn link_round<R: Wait>(
     seat: &mut Seat,
     desk: &Desk,
     meter: &SharedMeter<MemoryStore>,
-) -> Result<(), Stopped>
+) -> Result<(), StepError>
     requires { seat.old.board ≡ board.now.id }
     ensures { seat.new.board ≡ board.now.id }
 {
@@ -186,7 +160,7 @@ fn hear_all<R: Wait>(
     seat: &mut Seat,
     desk: &Desk,
     sent: &Sent,
-) -> Result<(), Stopped>
+) -> Result<(), StepError>
     requires { seat.old.board ≡ board.now.id }
     ensures { seat.new.board ≡ board.now.id }
 {
@@ -197,7 +171,7 @@ fn hear_all<R: Wait>(
     Ok(())
 }
 
-/// A head end hears a datagram.
+/// A head end hears a datagram, or nothing where no mark is left to the seat.
 fn hear<R: Wait>(
     rt: &R,
     alloc: Global,
@@ -206,14 +180,14 @@ fn hear<R: Wait>(
     seat: &mut Seat,
     desk: &Desk,
     number: usize,
-) -> Result<News, Stopped>
+) -> Result<News, StepError>
     requires { seat.old.board ≡ board.now.id }
     ensures { seat.new.board ≡ board.now.id }
 {
     if seat.allowance() == 0 {
-        return Err(Stopped::NoMarks);
+        return Ok(News::Nothing);
     }
-    Ok(desk.hear(rt, alloc, log, board, seat, number)?)
+    desk.hear(rt, alloc, log, board, seat, number)
 }
 
 /// The seat of a thread after `times` rounds of its links, and how they ended.
@@ -225,7 +199,7 @@ fn seated<R: Wait>(
     mut seat: Seat,
     times: u32,
     links: &str,
-) -> (Seat, Result<(), Stopped>)
+) -> (Seat, Result<(), StepError>)
     requires { seat.board ≡ board.now.id }
     ensures { result.0.board ≡ board.now.id }
 {
@@ -246,27 +220,29 @@ fn together<R: Threads + Wait + Sync>(
     let at = &board;
     let ((mut first, one), (second, other)) = thread::join(
         rt,
-        move || -> (Seat, Result<(), Stopped>)
+        move || -> (Seat, Result<(), StepError>)
             requires { first.board ≡ at.now.id }
             ensures { result.0.board ≡ at.entry.now.id }
         { seated(rt, alloc, shared, at, first, times, links.0) },
-        move || -> (Seat, Result<(), Stopped>)
+        move || -> (Seat, Result<(), StepError>)
             requires { second.board ≡ at.now.id }
             ensures { result.0.board ≡ at.entry.now.id }
         { seated(rt, alloc, shared, at, second, times, links.1) },
     );
     let _receipts = board.join(&mut first, second);
     let (count, _receipts) = board.close(first);
-    match (one, other) {
-        (Ok(()), Ok(())) => Ok(count),
-        (Err(stopped), _) | (_, Err(stopped)) => Err(Fail::from(stopped.told(alloc)?)),
-    }
+    one?;
+    other?;
+    Ok(count)
 }
 
-/// Rounds that two threads make together, of rows `SETUP SCRIPT ROUNDS LINKS LINKS`: the report of the world by an audit of what the threads
+/// Rounds that two threads make together, of rows `join SETUP SCRIPT ROUNDS LINKS LINKS`: the report of the world by an audit of what the threads
 /// left, and the board's count. With a word after them it is whether that count is the number of rows that are done.
-fn joined<R: Threads + Wait + Sync>(rt: &R, alloc: Global, what: &str) -> Result<String, Fail> {
-    let mut words = Words::new(what);
+pub(crate) fn joined<R: Threads + Wait + Sync>(
+    rt: &R,
+    alloc: Global,
+    mut words: Words<'_>,
+) -> Result<String, Fail> {
     let ([setup, script], times, links): ([&str; 2], u32, (&str, &str)) = words.read()?;
     let setup = setup_in(alloc, setup)?;
     let shared = Shared::new(alloc, &setup, events_in(alloc, script)?)?;
@@ -275,41 +251,29 @@ fn joined<R: Threads + Wait + Sync>(rt: &R, alloc: Global, what: &str) -> Result
     told_of(alloc, &setup, &world, count, words.next())
 }
 
-/// Each row of two threads reports what stands after its arrow.
-fn joined_rows<R: Threads + Wait + Sync>(rt: &R, alloc: Global, table: &str) -> Result<(), Fail> {
-    for line in table.lines() {
-        if let Some((what, want)) = row_of(line)? {
-            let told = joined(rt, alloc, what)?;
-            expect_at(alloc, what, told.as_str(), want)?;
-        }
-    }
-    Ok(())
-}
-
 /// Each thread has two links of four, or one of two whose meters take two turns. Links are named by the places of their head ends and meters.
 const JOINED: &str = "
-    four opened_for_four 9 0:0,0:2 0:1,0:3 => four_done
-    two_large opened_two_large 13 0:0 0:1  => row 7 1 1 done; row 7 1 2 done; meter 1 status 6 active 7 1 size 8193; \
-                                              meter 2 status 6 active 7 1 size 8193; activations 2; sent 76; board 2
+    join four opened_for_four 9 0:0,0:2 0:1,0:3 => four_done
+    join two_large opened_two_large 13 0:0 0:1  => ([(7, 1, 1, Done), (7, 1, 2, Done)], [(1, 6, 7, 1, 8193), (2, 6, 7, 1, 8193)], 2, 76); board 2
 ";
 
 #[test]
 fn joined_state(rt: HostRuntime) -> Result<(), Fail> {
-    joined_rows(&rt, rt.alloc(), JOINED)
+    each_row(&rt, rt.alloc(), JOINED)
 }
 
 /// Two head ends compete for each meter, and both threads work at each head end and at each meter.
 const CROSSED: &str = "
-    two_heads opened_by_two 40 0:0,1:1,0:2,1:3 1:0,0:1,1:2,0:3 board_counts_rows => true
+    join two_heads opened_by_two 40 0:0,1:1,0:2,1:3 1:0,0:1,1:2,0:3 board_counts_rows => true
 ";
 
 #[test]
 fn joined_state_of_two_heads(rt: HostRuntime) -> Result<(), Fail> {
-    joined_rows(&rt, rt.alloc(), CROSSED)
+    each_row(&rt, rt.alloc(), CROSSED)
 }
 
-/// What a call on the shared parts returns: the numbers of an event, of its first datagram, and how many those are; what a head end hears;
-/// whether a turn was taken; or the refusal. It is one of these, in which head ends and meters are named by their places:
+/// What a call on the shared parts returns: `(EVENT, FIRST, COUNT)`, the numbers of an event and of its first datagram, and how many those are; what
+/// a head end hears; whether a turn was taken; or the refusal. It is one of these, in which head ends and meters are named by their places:
 ///
 /// - `tick HEAD METER`, a head end ticks the meter of this number
 /// - `serve METER DATAGRAM`, a meter is given this datagram
@@ -345,7 +309,7 @@ fn answer<R: Wait>(
             let desk = present(shared.desks.get(place as usize), "a head end")?;
             match hear(rt, alloc, log, board, seat, desk, number as usize) {
                 Ok(news) => Ok(format!(in alloc; "{news:?}")?),
-                Err(stopped) => Ok(stopped.told(alloc)?),
+                Err(refusal) => Ok(refusal.to_string(alloc)?),
             }
         }
         _ => {
@@ -358,7 +322,7 @@ fn answer<R: Wait>(
 
 fn answered(alloc: Global, answer: Result<Sent, StepError>) -> Result<String, Fail> {
     match answer {
-        Ok(sent) => Ok(sent_text(alloc, sent)?),
+        Ok(sent) => Ok(format!(in alloc; "{:?}", (sent.event, sent.first, sent.count))?),
         Err(refusal) => Ok(refusal.to_string(alloc)?),
     }
 }
@@ -397,7 +361,7 @@ fn answers<R: Wait>(
 }
 
 /// Calls on the shared parts of two head ends, of which the second offers nothing to meter 1: their answers, and then how many events and
-/// datagrams are in the log, and how many receipts at the seat.
+/// datagrams are in the log, and how many receipts at the seat, as `[EVENTS, SENT, RECEIPTS]`.
 #[derive(Drop)]
 struct Called<'a, R: Wait>(&'a R);
 
@@ -408,33 +372,30 @@ impl<'a, R: Wait> Reads for Called<'a, R> {
         let mut text = String::new(alloc);
         let (_count, receipts) = make(self.0, alloc, &shared, what, &mut text)?;
         let (sent, entries) = shared.log.into_inner(alloc)?;
-        let (events, sent, receipts) = (entries.len(), sent.len(), receipts.len());
-        push(
-            &mut text,
-            format!(in alloc; "events {events} sent {sent} receipts {receipts}")?.as_str(),
-        )?;
+        let counts = [entries.len(), sent.len(), receipts.len()];
+        push(&mut text, format!(in alloc; "{:?}", counts)?.as_str())?;
         Ok(text)
     }
 }
 
 /// Head end 7 asks meter 1, by datagram 0, and it replies, by datagram 1.
 const CALLS: &str = "
-    tick 0 1; serve 0 0; hear 0 1; tick 0 1; tick 1 4; hear 0 1 => event 2 sent 0 1; event 3 sent 1 1; Moved; \
-        event 5 sent 2 1; event 6 sent 3 1; Nothing; events 8 sent 4 receipts 6
+    tick 0 1; serve 0 0; hear 0 1; tick 0 1; tick 1 4; hear 0 1 => (2, 0, 1); (3, 1, 1); Moved; \
+        (5, 2, 1); (6, 3, 1); Nothing; [8, 4, 6]
 
     // a meter that stands in no campaign of the book, and one that isn't there
-    tick 1 1; tick 0 9 => NoSuchActor; NoSuchActor; events 2 sent 0 receipts 0
+    tick 1 1; tick 0 9 => NoSuchActor; NoSuchActor; [2, 0, 0]
 
     // a datagram that wasn't sent, one to another meter, and one to a head end
-    tick 0 1; serve 0 1; serve 1 0; serve 0 0; serve 0 1 => event 2 sent 0 1; NoSuchDatagram; NoSuchActor; \
-        event 3 sent 1 1; NoSuchActor; events 4 sent 2 receipts 2
+    tick 0 1; serve 0 1; serve 1 0; serve 0 0; serve 0 1 => (2, 0, 1); NoSuchDatagram; NoSuchActor; \
+        (3, 1, 1); NoSuchActor; [4, 2, 2]
 
     // a datagram that wasn't sent, one to a meter, and one to another head end
-    tick 0 1; hear 0 1; hear 0 0; serve 0 0; hear 1 1 => event 2 sent 0 1; NoSuchDatagram; NoSuchActor; \
-        event 3 sent 1 1; NoSuchActor; events 4 sent 2 receipts 2
+    tick 0 1; hear 0 1; hear 0 0; serve 0 0; hear 1 1 => (2, 0, 1); NoSuchDatagram; NoSuchActor; \
+        (3, 1, 1); NoSuchActor; [4, 2, 2]
 
     // a meter that doesn't verify
-    turn 0 => false; events 2 sent 0 receipts 0
+    turn 0 => false; [2, 0, 0]
 ";
 
 #[test]
@@ -442,22 +403,21 @@ fn shared_calls_made_one_by_one(rt: HostRuntime) -> Result<(), Fail> {
     each_line(rt.alloc(), &mut Called(&rt), CALLS)
 }
 
-/// What a seat keeps of the first events of a campaign, and the count of its board.
+/// The count of a board after the first events of a campaign, and what its seat keeps of them: the number of each, and what it is.
 fn kept<R: Wait>(rt: &R, alloc: Global, calls: &str) -> Result<String, Fail> {
     let setup = setup_in(alloc, "small")?;
     let shared = Shared::new(alloc, &setup, events_in(alloc, "opened")?)?;
     let (count, receipts) = make(rt, alloc, &shared, calls, &mut String::new(alloc))?;
-    let mut text = format!(in alloc; "board {count}")?;
-    for receipt in receipts {
-        let event = receipt.event.event();
-        push(&mut text, numbered(alloc, receipt.number, &event)?.as_str())?;
+    let mut kept = Vec::new(alloc);
+    for receipt in &receipts {
+        kept.push((receipt.number, in_numbers(&receipt.event.event())))?;
     }
-    Ok(text)
+    Ok(format!(in alloc; "{:?}", (count, kept.as_slice()))?)
 }
 
 #[test]
 fn receipts_and_parts(rt: HostRuntime) -> Result<(), Fail> {
     let told = kept(&rt, rt.alloc(), "tick 0 1; serve 0 0; hear 0 1")?;
-    let want = "board 0; 1 tick 7 1; 2 deliver 0; 3 deliver 1";
+    let want = "(0, [(1, ('t', 7, 1)), (2, ('d', 0, 0)), (3, ('d', 1, 0))])";
     expect_at(rt.alloc(), "receipts", told.as_str(), want)
 }

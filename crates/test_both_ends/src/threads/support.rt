@@ -1,16 +1,15 @@
 //! What rows name, and what workers lead to.
 
-use crate::worlds::{done_rows, events_of, push, report, setup_of};
+use crate::worlds::{done_rows, events_of, report, setup_of};
 use fw_accounts::Report;
-use fw_air::{Fate, Sent};
 use fw_workers::RehearseError;
-use fw_world::{Event, Setup, World, run};
-use std::alloc::{AllocError, Global};
+use fw_world::{Event, Setup, World};
+use std::alloc::Global;
 use std::test::Fail;
-use test_tables::{Words, named, present};
+use test_tables::{Words, named};
 
-/// What worlds are made with: one meter, four, four of two head ends that compete for them, one with blocks of 1,024 bytes, two such ones, and
-/// one without a head end.
+/// What worlds are made with: one meter, four, four of two head ends that compete for them, one with blocks of 1,024 bytes, two such ones,
+/// one without a head end, and an old one.
 const SETUPS: &str = "
     small     = head 7 4; meter 1 2 64 x
     four      = head 7 4; meter 1 2 64 x; meter 2 2 64 x; meter 3 2 64 x; meter 4 2 64 x
@@ -18,6 +17,7 @@ const SETUPS: &str = "
     large     = head 7 4; meter 1 1024 8193 x
     two_large = head 7 4; meter 1 1024 8193 x; meter 2 1024 8193 x
     no_head   = meter 1 2 64 x
+    old_small = head 7 4; old 1 2 64 x
 ";
 
 /// Campaigns for them: opened, and up to the first answer and to the end; after that of an image of release 5, one of an image without a release
@@ -48,26 +48,17 @@ const SCRIPTS: &str = "
 ";
 
 /// Reports that have a name in rows: of four links over good air and over bad air, and of one.
-const REPORTS: &str = "
-    four_done = row 7 1 1 done; row 7 1 2 done; row 7 1 3 done; row 7 1 4 done; \
-                meter 1 status 6 active 7 1 size 3; meter 2 status 6 active 7 1 size 3; \
-                meter 3 status 6 active 7 1 size 3; meter 4 status 6 active 7 1 size 3; \
-                activations 4; sent 80; board 4
-    four_done_over_bad_air = row 7 1 1 done; row 7 1 2 done; row 7 1 3 done; row 7 1 4 done; \
-                meter 1 status 6 active 7 1 size 3; meter 2 status 6 active 7 1 size 3; \
-                meter 3 status 6 active 7 1 size 3; meter 4 status 6 active 7 1 size 3; \
-                activations 4; sent 120; board 4
-    one_done  = row 7 1 1 done; meter 1 status 6 active 7 1 size 3; activations 1; sent 20; board 1
+pub(crate) const REPORTS: &str = "
+    four_done = ([(7, 1, 1, Done), (7, 1, 2, Done), (7, 1, 3, Done), (7, 1, 4, Done)], \
+        [(1, 6, 7, 1, 3), (2, 6, 7, 1, 3), (3, 6, 7, 1, 3), (4, 6, 7, 1, 3)], 4, 80); board 4
+    four_done_over_bad_air = ([(7, 1, 1, Done), (7, 1, 2, Done), (7, 1, 3, Done), (7, 1, 4, Done)], \
+        [(1, 6, 7, 1, 3), (2, 6, 7, 1, 3), (3, 6, 7, 1, 3), (4, 6, 7, 1, 3)], 4, 120); board 4
+    one_done  = ([(7, 1, 1, Done)], [(1, 6, 7, 1, 3)], 1, 20); board 1
 ";
 
 /// The setup of this name.
 pub(crate) fn setup_in(alloc: Global, name: &str) -> Result<Setup, Fail> {
-    setup_of(alloc, setup_text(name))
-}
-
-/// What the setup of this name is made of, or nothing.
-pub(crate) fn setup_text(name: &str) -> &'static str {
-    named(SETUPS, name).unwrap_or("")
+    setup_of(alloc, named(SETUPS, name).unwrap_or(""))
 }
 
 /// The events of the script of this name.
@@ -98,44 +89,7 @@ impl Task {
     }
 }
 
-/// Every third datagram of a link is lost, and every fourth comes twice.
-const BAD_AIR: &str =
-    "deliver,deliver,drop,twice,deliver,drop,deliver,twice,drop,deliver,deliver,drop";
-
-/// The fates of good air, of bad air, or those between commas.
-pub(crate) fn fates_of(alloc: Global, air: &str) -> Result<Vec<Fate>, Fail> {
-    let list = match air {
-        "good" => "deliver",
-        "bad" => BAD_AIR,
-        _ => air,
-    };
-    let mut fates = Vec::new(alloc);
-    for word in list.split(',') {
-        fates.push(present(fate(word), "no fate has this name")?)?;
-    }
-    Ok(fates)
-}
-
-fn fate(word: &str) -> Option<Fate> {
-    match word {
-        "deliver" => Some(Fate::Deliver),
-        "drop" => Some(Fate::Drop),
-        "twice" => Some(Fate::Twice),
-        "late" => Some(Fate::Late),
-        _ => None,
-    }
-}
-
-/// The world of these events.
-pub(crate) fn world_of(alloc: Global, setup: &Setup, events: &[Event]) -> Result<World, Fail> {
-    match run(alloc, setup, events) {
-        Ok(world) => Ok(world),
-        Err(_) => Err("an event is refused".into()),
-    }
-}
-
-/// The report of a world and the board's count, or its name. Where a word asks for it, it is whether that count is the number of rows that
-/// are done.
+/// The report of a world and the board's count. Where a word asks for it, it is whether that count is the number of rows that are done.
 pub(crate) fn told_of(
     alloc: Global,
     setup: &Setup,
@@ -144,27 +98,11 @@ pub(crate) fn told_of(
     asked: Option<&str>,
 ) -> Result<String, Fail> {
     if asked.is_some() {
-        let is_counted = board == done_rows(setup, world)?;
+        let is_counted = board == done_rows(alloc, setup, world)?;
         return Ok(format!(in alloc; "{is_counted}")?);
     }
-    let mut text = report(alloc, setup, world)?;
-    push(&mut text, format!(in alloc; "board {board}")?.as_str())?;
-    Ok(match name_of(REPORTS, text.as_str()) {
-        Some(name) => name.to_string(alloc)?,
-        None => text,
-    })
-}
-
-/// The name of a report among lines `name = report`, if it has one.
-fn name_of<'a>(reports: &'a str, report: &str) -> Option<&'a str> {
-    for line in reports.lines() {
-        if let Some((name, text)) = line.split_once(" = ") {
-            if text.trim() == report {
-                return Some(name.trim());
-            }
-        }
-    }
-    None
+    let report = report(alloc, setup, world)?;
+    Ok(format!(in alloc; "{report}; board {board}")?)
 }
 
 /// The same of what workers lead to, or the refusal.
@@ -178,25 +116,4 @@ pub(crate) fn outcome(
         Ok(made) => told_of(alloc, setup, &made.world, made.board, asked),
         Err(refusal) => Ok(refusal.to_string(alloc)?),
     }
-}
-
-/// The numbers of an event, of its first datagram, and how many those are.
-pub(crate) fn sent_text(alloc: Global, sent: Sent) -> Result<String, AllocError> {
-    let Sent {
-        event,
-        first,
-        count,
-    } = sent;
-    format!(in alloc; "event {event} sent {first} {count}")
-}
-
-/// What stands before the arrow of a row and what after it, where a line is a row. Such rows are read by functions and not by `Reads`, whose
-/// method can't ask that a handle of threads is shared.
-pub(crate) fn row_of(line: &str) -> Result<Option<(&str, &str)>, Fail> {
-    let line = line.trim();
-    if line.is_empty() || line.starts_with("//") {
-        return Ok(None);
-    }
-    let (what, want) = present(line.split_once("=>"), "a row without an arrow")?;
-    Ok(Some((what.trim(), want.trim())))
 }

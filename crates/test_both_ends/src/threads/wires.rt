@@ -58,17 +58,17 @@ impl Reads for Passes {
             fails: end == "fails",
         };
         let (first, second) = (passed(&mut wire), passed(&mut wire));
-        Ok(format!(in alloc; "{first} {second}")?)
+        Ok(format!(in alloc; "{:?}", (first, second))?)
     }
 }
 
 const PASSES: &str = "
-    0   silent => 0 0
-    3   silent => 3 0
-    3   fails  => 3 0
-    64  silent => 64 0
-    65  silent => 64 1
-    200 fails  => 64 64
+    0   silent => (0, 0)
+    3   silent => (3, 0)
+    3   fails  => (3, 0)
+    64  silent => (64, 0)
+    65  silent => (64, 1)
+    200 fails  => (64, 64)
 ";
 
 #[test]
@@ -104,7 +104,7 @@ impl Sockets {
     fn passed(&mut self, alloc: Global, size: usize) -> Result<String, Fail> {
         let sent = self.head.send(&vec![in alloc; b'a'; size]?);
         let came = Pass::new().next(&mut self.meter, &mut [0; MAX_RECEIVED]);
-        Ok(format!(in alloc; "{sent:?} {came:?}")?)
+        Ok(format!(in alloc; "{:?}", (sent, came))?)
     }
 }
 
@@ -134,12 +134,12 @@ fn udp_wires(rt: HostRuntime) -> Result<(), Fail> {
 
 /// A datagram that is longer than any of this profile is cut.
 const SIZES: &str = "
-    size 1    => Ok(1) Some(1)
-    size 1289 => Ok(1289) Some(1289)
-    size 2312 => Ok(2312) Some(2312)
-    size 2313 => Ok(2313) Some(2313)
-    size 2314 => Ok(2314) Some(2313)
-    size 4096 => Ok(4096) Some(2313)
+    size 1    => (Ok(1), Some(1))
+    size 1289 => (Ok(1289), Some(1289))
+    size 2312 => (Ok(2312), Some(2312))
+    size 2313 => (Ok(2313), Some(2313))
+    size 2314 => (Ok(2314), Some(2313))
+    size 4096 => (Ok(4096), Some(2313))
 ";
 
 #[test]

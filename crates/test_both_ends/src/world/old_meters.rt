@@ -1,11 +1,11 @@
 //! Old meters, whose stores have a header of version 1 before they start again: the most blocks that an image may have, and the report.
 
-use crate::world::script::{script_of, world_after};
-use crate::worlds::{meter, report};
+use crate::world::script::script_of;
+use crate::worlds::{meter, report, world_of};
 use fw_world::{Setup, World};
 use std::alloc::Global;
 use std::test::Fail;
-use test_tables::{Reads, each_line, present};
+use test_tables::{Reads, each_part, present};
 
 /// The limit of meter 1 after all events of a script, and then the report.
 #[derive(Clone, Copy)]
@@ -14,7 +14,7 @@ struct Limits;
 impl Reads for Limits {
     fn told(&mut self, alloc: Global, what: &str) -> Result<String, Fail> {
         let (setup, events) = script_of(alloc, what)?;
-        let world = world_after(alloc, &setup, &events)?;
+        let world = world_of(alloc, &setup, &events)?;
         limited_text(alloc, &setup, &world)
     }
 }
@@ -28,86 +28,67 @@ fn limited_text(alloc: Global, setup: &Setup, world: &World) -> Result<String, F
 
 /// In status 3 an opening has three calls: the header, the image that runs, and the one that is verified. The write of the header is the
 /// fourth.
-const VERIFIED_IMAGES: &str = "
-    old small: to-blocks; to-verify; to-verified => limit 4096; row 7 1 1 live; meter 1 status 3 active 0 0 size 1; activations 0; sent 14
-    old small: to-blocks; to-verify; to-verified; stop-restart 1 0 0 \
-        => limit 4096; row 7 1 1 live; meter 1 status 3 active 0 0 size 1; activations 0; sent 14
-    old small: to-blocks; to-verify; to-verified; stop-restart 1 1 0; stop-restart 1 2 255 \
-        => limit 4096; row 7 1 1 live; meter 1 status 3 active 0 0 size 1; activations 0; sent 14
-    old small: to-blocks; to-verify; to-verified; stop-restart 1 3 0 \
-        => limit 4096; row 7 1 1 live; meter 1 status 3 active 0 0 size 1; activations 0; sent 14
-    old small: to-blocks; to-verify; to-verified; stop-restart 1 4 0 \
-        => limit 16384; row 7 1 1 live; meter 1 status 3 active 0 0 size 1; activations 0; sent 14
+const OF_A_VERIFIED_IMAGE: &str = "
+    old-small: to-blocks; to-verify; to-verified                                           => limit 4096; ([(7, 1, 1, Live)], [(1, 3, 0, 0, 1)], 0, 14)
+    old-small: to-blocks; to-verify; to-verified; stop-restart 1 0 0                       => limit 4096; ([(7, 1, 1, Live)], [(1, 3, 0, 0, 1)], 0, 14)
+    old-small: to-blocks; to-verify; to-verified; stop-restart 1 1 0; stop-restart 1 2 255 => limit 4096; ([(7, 1, 1, Live)], [(1, 3, 0, 0, 1)], 0, 14)
+    old-small: to-blocks; to-verify; to-verified; stop-restart 1 3 0                       => limit 4096; ([(7, 1, 1, Live)], [(1, 3, 0, 0, 1)], 0, 14)
+    old-small: to-blocks; to-verify; to-verified; stop-restart 1 4 0                       => limit 16384; ([(7, 1, 1, Live)], [(1, 3, 0, 0, 1)], 0, 14)
     // the campaign goes on either way
-    old small: to-blocks; to-verify; to-verified; stop-restart 1 3 0; to-the-end \
-        => limit 4096; row 7 1 1 done; meter 1 status 6 active 7 1 size 3; activations 1; sent 20
-    old small: to-blocks; to-verify; to-verified; stop-restart 1 4 0; to-the-end \
-        => limit 16384; row 7 1 1 done; meter 1 status 6 active 7 1 size 3; activations 1; sent 20
+    old-small: to-blocks; to-verify; to-verified; stop-restart 1 3 0; to-the-end           => limit 4096; ([(7, 1, 1, Done)], [(1, 6, 7, 1, 3)], 1, 20)
+    old-small: to-blocks; to-verify; to-verified; stop-restart 1 4 0; to-the-end           => limit 16384; ([(7, 1, 1, Done)], [(1, 6, 7, 1, 3)], 1, 20)
     // the header is of version 2 once it was written, whatever stops after that
-    old small: to-blocks; to-verify; to-verified; stop-restart 1 4 0; stop-restart 1 3 0 \
-        => limit 16384; row 7 1 1 live; meter 1 status 3 active 0 0 size 1; activations 0; sent 14
+    old-small: to-blocks; to-verify; to-verified; stop-restart 1 4 0; stop-restart 1 3 0   => limit 16384; ([(7, 1, 1, Live)], [(1, 3, 0, 0, 1)], 0, 14)
 ";
-
-#[test]
-fn of_a_verified_image(rt: HostRuntime) -> Result<(), Fail> {
-    each_line(rt.alloc(), &mut Limits, VERIFIED_IMAGES)
-}
 
 /// Where nothing is verified an opening has two calls, and the write is the third. A restart makes it, and so does the one after a stop.
 const WITHOUT_ONE: &str = "
-    old small:                               => limit 4096; meter 1 status 0 active 0 0 size 1; activations 0; sent 0
-    old small: stop-restart 1 2 0            => limit 4096; meter 1 status 0 active 0 0 size 1; activations 0; sent 0
-    old small: stop-restart 1 3 0            => limit 16384; meter 1 status 0 active 0 0 size 1; activations 0; sent 0
-    old small: restart-meter 1               => limit 16384; meter 1 status 0 active 0 0 size 1; activations 0; sent 0
-    old small: to-blocks; stop-restart 1 2 0 => limit 4096; row 7 1 1 live; meter 1 status 1 active 0 0 size 1; activations 0; sent 10
-    old small: to-blocks; restart-meter 1    => limit 16384; row 7 1 1 live; meter 1 status 1 active 0 0 size 1; activations 0; sent 10
-    old small: to-blocks; stop 6 0 98        => limit 16384; row 7 1 1 live; meter 1 status 1 active 0 0 size 1; activations 0; sent 10
+    old-small:                               => limit 4096; ([], [(1, 0, 0, 0, 1)], 0, 0)
+    old-small: stop-restart 1 2 0            => limit 4096; ([], [(1, 0, 0, 0, 1)], 0, 0)
+    old-small: stop-restart 1 3 0            => limit 16384; ([], [(1, 0, 0, 0, 1)], 0, 0)
+    old-small: restart-meter 1               => limit 16384; ([], [(1, 0, 0, 0, 1)], 0, 0)
+    old-small: to-blocks; stop-restart 1 2 0 => limit 4096; ([(7, 1, 1, Live)], [(1, 1, 0, 0, 1)], 0, 10)
+    old-small: to-blocks; restart-meter 1    => limit 16384; ([(7, 1, 1, Live)], [(1, 1, 0, 0, 1)], 0, 10)
+    old-small: to-blocks; stop 6 0 98        => limit 16384; ([(7, 1, 1, Live)], [(1, 1, 0, 0, 1)], 0, 10)
 ";
-
-#[test]
-fn of_no_verified_image(rt: HostRuntime) -> Result<(), Fail> {
-    each_line(rt.alloc(), &mut Limits, WITHOUT_ONE)
-}
 
 /// A new meter has the larger limit whatever happens. A restart of one has no write.
-const NEW_ONES: &str = "
-    small:                    => limit 16384; meter 1 status 0 active 0 0 size 1; activations 0; sent 0
-    small: stop-restart 1 0 0 => limit 16384; meter 1 status 0 active 0 0 size 1; activations 0; sent 0
-    small: to-blocks; to-verify; to-verified; stop-restart 1 2 0; stop-restart 1 3 0; to-the-end \
-        => limit 16384; row 7 1 1 done; meter 1 status 6 active 7 1 size 3; activations 1; sent 20
+const OF_A_NEW_METER: &str = "
+    small:                                                                                       => limit 16384; ([], [(1, 0, 0, 0, 1)], 0, 0)
+    small: stop-restart 1 0 0                                                                    => limit 16384; ([], [(1, 0, 0, 0, 1)], 0, 0)
+    small: to-blocks; to-verify; to-verified; stop-restart 1 2 0; stop-restart 1 3 0; to-the-end => limit 16384; ([(7, 1, 1, Done)], [(1, 6, 7, 1, 3)], 1, 20)
 ";
-
-#[test]
-fn of_a_new_meter(rt: HostRuntime) -> Result<(), Fail> {
-    each_line(rt.alloc(), &mut Limits, NEW_ONES)
-}
 
 /// A verification that goes on is given up by a restart, wherever that stops.
 const IN_A_VERIFICATION: &str = "
-    old large: nine; verifying; stop-restart 1 0 0 => limit 4096; row 7 1 1 live; meter 1 status 1 active 0 0 size 1; activations 0; sent 28
-    old large: nine; verifying; stop-restart 1 2 0 => limit 4096; row 7 1 1 live; meter 1 status 1 active 0 0 size 1; activations 0; sent 28
-    old large: nine; verifying; stop-restart 1 3 0 => limit 16384; row 7 1 1 live; meter 1 status 1 active 0 0 size 1; activations 0; sent 28
-    old large: nine; verifying; stop-restart 1 2 0; verified-anew \
-        => limit 4096; row 7 1 1 done; meter 1 status 6 active 7 1 size 8193; activations 1; sent 42
+    old-large: nine; verifying; stop-restart 1 0 0                => limit 4096; ([(7, 1, 1, Live)], [(1, 1, 0, 0, 1)], 0, 28)
+    old-large: nine; verifying; stop-restart 1 2 0                => limit 4096; ([(7, 1, 1, Live)], [(1, 1, 0, 0, 1)], 0, 28)
+    old-large: nine; verifying; stop-restart 1 3 0                => limit 16384; ([(7, 1, 1, Live)], [(1, 1, 0, 0, 1)], 0, 28)
+    old-large: nine; verifying; stop-restart 1 2 0; verified-anew => limit 4096; ([(7, 1, 1, Done)], [(1, 6, 7, 1, 8193)], 1, 42)
 ";
-
-#[test]
-fn of_an_image_that_is_being_verified(rt: HostRuntime) -> Result<(), Fail> {
-    each_line(rt.alloc(), &mut Limits, IN_A_VERIFICATION)
-}
 
 /// An old meter refuses the longer one with 250, before it starts again.
-const LONG_IMAGES: &str = "
-    old narrow: fits; initiate                         => limit 4096; row 7 1 1 live; meter 1 status 1 active 0 0 size 1; activations 0; sent 6
-    old narrow: too-long; initiate                     => limit 4096; row 7 1 1 failed; meter 1 status 0 active 0 0 size 1; activations 0; sent 6
-    old narrow: too-long; stop-restart 1 2 0; initiate => limit 4096; row 7 1 1 failed; meter 1 status 0 active 0 0 size 1; activations 0; sent 6
-    old narrow: too-long; stop-restart 1 3 0; initiate => limit 16384; row 7 1 1 live; meter 1 status 1 active 0 0 size 1; activations 0; sent 6
-    old narrow: too-long; restart-meter 1; initiate    => limit 16384; row 7 1 1 live; meter 1 status 1 active 0 0 size 1; activations 0; sent 6
+const OF_A_LONG_IMAGE: &str = "
+    old-narrow: fits; initiate                         => limit 4096; ([(7, 1, 1, Live)], [(1, 1, 0, 0, 1)], 0, 6)
+    old-narrow: too-long; initiate                     => limit 4096; ([(7, 1, 1, Failed)], [(1, 0, 0, 0, 1)], 0, 6)
+    old-narrow: too-long; stop-restart 1 2 0; initiate => limit 4096; ([(7, 1, 1, Failed)], [(1, 0, 0, 0, 1)], 0, 6)
+    old-narrow: too-long; stop-restart 1 3 0; initiate => limit 16384; ([(7, 1, 1, Live)], [(1, 1, 0, 0, 1)], 0, 6)
+    old-narrow: too-long; restart-meter 1; initiate    => limit 16384; ([(7, 1, 1, Live)], [(1, 1, 0, 0, 1)], 0, 6)
     // it starts again after a stop in what it refuses
-    old narrow: too-long; stop 4 0 0                   => limit 16384; row 7 1 1 live; meter 1 status 0 active 0 0 size 1; activations 0; sent 5
+    old-narrow: too-long; stop 4 0 0                   => limit 16384; ([(7, 1, 1, Live)], [(1, 0, 0, 0, 1)], 0, 5)
 ";
 
 #[test]
-fn of_a_long_image(rt: HostRuntime) -> Result<(), Fail> {
-    each_line(rt.alloc(), &mut Limits, LONG_IMAGES)
+fn of_old_and_new_meters(rt: HostRuntime) -> Result<(), Fail> {
+    each_part(
+        rt.alloc(),
+        &mut Limits,
+        &[
+            OF_A_VERIFIED_IMAGE,
+            WITHOUT_ONE,
+            OF_A_NEW_METER,
+            IN_A_VERIFICATION,
+            OF_A_LONG_IMAGE,
+        ],
+    )
 }

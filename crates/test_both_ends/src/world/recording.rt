@@ -88,10 +88,10 @@ fn records_are_written(rt: HostRuntime) -> Result<(), Fail> {
     let first = write_record(alloc, &mut written, &turn);
     let second = write_record(alloc, &mut written, &torn);
     let bytes = hex::encode(alloc, written.as_slice())?;
-    let told = format!(in alloc; "{header:?} {first:?} {second:?} {bytes}")?;
+    let told = format!(in alloc; "{:?} {bytes}", (header, first, second))?;
     expect(alloc, 0, told.as_str(), WRITTEN)
 }
 
 /// The results of writing the header and both records, and then what was written.
-const WRITTEN: &str = "Ok(()) Ok(()) Err(Refused(TwoFamilies)) \
+const WRITTEN: &str = "(Ok(()), Ok(()), Err(Refused(TwoFamilies))) \
     4d3cb2a1020004000000000000000000ffff0000650000000024276915cd5b071f0000001f0000004500001f0000400040fd3be07f0000017f000001646c6d736677207475726e";

@@ -1,143 +1,102 @@
 //! Link rounds: which events come of them, and what the world is then.
 
 use crate::world::script::script_of;
-use crate::worlds::{push, report};
-use fw_air::{Fate, Fates, schedule};
-use fw_world::{Event, RunError, Setup, World, run};
-use std::alloc::{AllocError, Global};
+use crate::worlds::{events_of, fates_of, in_numbers, report, world_of};
+use fw_air::{Fates, schedule};
+use fw_world::{Event, Setup};
+use std::alloc::Global;
 use std::test::Fail;
 use test_tables::{Reads, Words, each_line, present};
 
-/// A script, and N rounds after it, in which datagrams have some fates: `events SETUP: EVENTS | N FATE..` tells the events of the rounds,
-/// and `report ..` the report of the world after them, and how many turns there are.
+/// A script, and N rounds after it, in which datagrams have some fates: `SETUP: EVENTS | N FATES` tells the report of the world after them, and how
+/// many turns there are, and `SETUP: EVENTS | N FATES | EVENTS` whether these are the events of the rounds.
 #[derive(Clone, Copy)]
-struct Schedule;
+pub(crate) struct Schedule;
 
 impl Reads for Schedule {
     fn told(&mut self, alloc: Global, what: &str) -> Result<String, Fail> {
         let (script, rounds) = present(what.split_once('|'), "a script without rounds")?;
-        let (told, script) = present(script.split_once(' '), "a script of two words")?;
-        let mut words = Words::new(rounds);
-        let (rounds, fates) = (words.number()?, fates_of(alloc, words.rest())?);
-        let fates = present(Fates::new(&fates), "1 to 4,096 fates")?;
+        let (rounds, want) = rounds.split_once('|').unwrap_or((rounds, ""));
         let (setup, given) = script_of(alloc, script)?;
-        match schedule(alloc, &setup, &given, rounds, &fates) {
-            Ok(events) if told == "events" => {
-                let rounds = events.as_slice().get(given.len()..);
-                Ok(events_text(alloc, present(rounds, "events of rounds")?)?)
-            }
-            Ok(events) => told_of(alloc, &setup, &events),
-            Err(error) => Ok(refused_text(alloc, &error)?),
+        scheduled(alloc, &setup, &given, rounds, want)
+    }
+}
+
+fn scheduled(
+    alloc: Global,
+    setup: &Setup,
+    given: &[Event],
+    rounds: &str,
+    want: &str,
+) -> Result<String, Fail> {
+    let mut words = Words::new(rounds);
+    let (rounds, air): (u32, &str) = words.read()?;
+    let fates = fates_of(alloc, air)?;
+    let fates = present(Fates::new(&fates), "1 to 4,096 fates")?;
+    match schedule(alloc, setup, given, rounds, &fates) {
+        Ok(events) if want.is_empty() => told_of(alloc, setup, &events),
+        Ok(events) => {
+            let made = present(events.as_slice().get(given.len()..), "events of rounds")?;
+            let is_wanted = are_same(made, &events_of(alloc, "", want)?);
+            Ok(format!(in alloc; "{is_wanted}")?)
         }
+        Err(error) => Ok(error.to_string(alloc)?),
     }
 }
 
-fn fates_of(alloc: Global, words: &str) -> Result<Vec<Fate>, Fail> {
-    let mut fates = Vec::new(alloc);
-    for word in words.split(' ') {
-        fates.push(fate(word)?)?;
+/// Whether these are the same ticks, deliveries and turns.
+fn are_same(made: &[Event], want: &[Event]) -> bool {
+    let mut same = made.len() == want.len();
+    for (made, want) in made.iter().zip(want) {
+        same = same && in_numbers(made) == in_numbers(want);
     }
-    Ok(fates)
+    same
 }
 
-fn fate(word: &str) -> Result<Fate, Fail> {
-    Ok(match word {
-        "deliver" => Fate::Deliver,
-        "drop" => Fate::Drop,
-        "twice" => Fate::Twice,
-        "late" => Fate::Late,
-        _ => return Err("no fate has this name".into()),
-    })
-}
-
-fn refused_text(alloc: Global, error: &RunError) -> Result<String, AllocError> {
-    match error {
-        RunError::Setup(error) => error.to_string(alloc),
-        RunError::Event { at, cause, .. } => format!(in alloc; "refused {at} {cause}"),
-    }
-}
-
-/// Events of rounds as a script has them.
-fn events_text(alloc: Global, events: &[Event]) -> Result<String, AllocError> {
-    let mut text = String::new(alloc);
-    for event in events {
-        push(&mut text, event_text(alloc, event)?.as_str())?;
-    }
-    Ok(text)
-}
-
-fn event_text(alloc: Global, event: &Event) -> Result<String, AllocError> {
-    match event {
-        Event::Tick(head, meter) => {
-            let (head, meter) = (head.number(), meter.number());
-            format!(in alloc; "tick {head} {meter}")
-        }
-        Event::Deliver(datagram) => format!(in alloc; "deliver {datagram}"),
-        Event::Turn(meter) => {
-            let meter = meter.number();
-            format!(in alloc; "turn {meter}")
-        }
-        _ => String::from_str(alloc, "another"),
-    }
-}
-
+/// The report of the world after these events, and how many turns there are among them.
 fn told_of(alloc: Global, setup: &Setup, events: &[Event]) -> Result<String, Fail> {
-    match run(alloc, setup, events) {
-        Ok(world) => turned_text(alloc, setup, &world, turns(events)),
-        Err(_) => Err("a schedule is refused at no event".into()),
-    }
-}
-
-fn turns(events: &[Event]) -> u32 {
     let mut turns = 0u32;
     for event in events {
-        if let Event::Turn(_) = event {
+        if matches!(event, Event::Turn(_)) {
             turns = turns.saturating_add(1);
         }
     }
-    turns
-}
-
-fn turned_text(alloc: Global, setup: &Setup, world: &World, turns: u32) -> Result<String, Fail> {
-    let report = report(alloc, setup, world)?;
+    let world = world_of(alloc, setup, events)?;
+    let report = report(alloc, setup, &world)?;
     Ok(format!(in alloc; "{report}; turns {turns}")?)
 }
 
-/// The fates of the last row but one: every third datagram of a link is lost, and every fourth comes twice.
+/// Over bad air every third datagram of a link is lost, and every fourth comes twice.
 const SCHEDULES: &str = "
-    report no-head: | 1 deliver => BadSetup
+    no-head: | 1 good => BadSetup
     // the events of the printed campaign
-    events small: open 7 1 abc 1 | 9 deliver \
-        => tick 7 1; deliver 0; deliver 1; tick 7 1; deliver 2; deliver 3; tick 7 1; deliver 4; deliver 5; tick 7 1; deliver 6; deliver 7; \
-            deliver 8; deliver 9; tick 7 1; deliver 10; deliver 11; tick 7 1; deliver 12; deliver 13; tick 7 1; deliver 14; deliver 15; tick 7 1; \
-            deliver 16; deliver 17; tick 7 1; deliver 18; deliver 19
+    small: open 7 1 abc 1 | 9 good | \
+        tick 7 1; deliver 0 1; tick 7 1; deliver 2 3; tick 7 1; deliver 4 5; tick 7 1; deliver 6 7 8 9; tick 7 1; deliver 10 11; tick 7 1; \
+        deliver 12 13; tick 7 1; deliver 14 15; tick 7 1; deliver 16 17; tick 7 1; deliver 18 19 => true
     // Each request comes a round late: it is answered before the tick, which forgets its ask, so that the answer moves nothing.
-    events small: open 7 1 abc 1 | 3 late deliver => tick 7 1; deliver 0; tick 7 1; deliver 1; deliver 2; tick 7 1; deliver 3
+    small: open 7 1 abc 1 | 3 late,deliver | \
+        tick 7 1; deliver 0; tick 7 1; deliver 1 2; tick 7 1; deliver 3 => true
     // Each answer to a tick is late, and comes before the next tick, which would forget its ask. Of the two blocks, 6 and 7, one is
     // late too: it is answered by 9 before the tick, which asks for it again by 10. So 9 has the number before 10, and is late: it
     // waits a round more, and comes before 11, the late answer to 10, which alone still has its ask.
-    events small: open 7 1 abc 1 | 11 deliver late \
-        => tick 7 1; deliver 0; deliver 1; tick 7 1; deliver 2; deliver 3; tick 7 1; deliver 4; deliver 5; tick 7 1; deliver 6; deliver 8; \
-            deliver 7; tick 7 1; deliver 10; deliver 9; deliver 11; tick 7 1; deliver 12; deliver 13; tick 7 1; deliver 14; deliver 15; tick 7 1; \
-            deliver 16; deliver 17; tick 7 1; deliver 18; deliver 19; tick 7 1; deliver 20; deliver 21; tick 7 1
+    small: open 7 1 abc 1 | 11 deliver,late | \
+        tick 7 1; deliver 0 1; tick 7 1; deliver 2 3; tick 7 1; deliver 4 5; tick 7 1; deliver 6 8 7; tick 7 1; deliver 10 9 11; tick 7 1; \
+        deliver 12 13; tick 7 1; deliver 14 15; tick 7 1; deliver 16 17; tick 7 1; deliver 18 19; tick 7 1; deliver 20 21; tick 7 1 => true
     // Request 0 is late, and so is its answer 1, but 2 of the next tick comes. Its answer 3 is late, and comes after 1. Then request 4
     // is late, and its answer 5 comes at once, before 6 of the next tick, which is late.
-    events small: open 7 1 abc 1 | 6 late late deliver \
-        => tick 7 1; deliver 0; tick 7 1; deliver 2; deliver 1; deliver 3; tick 7 1; deliver 4; tick 7 1; deliver 5; deliver 6; tick 7 1; \
-            deliver 8; deliver 7; deliver 9; tick 7 1
+    small: open 7 1 abc 1 | 6 late,late,deliver | \
+        tick 7 1; deliver 0; tick 7 1; deliver 2 1 3; tick 7 1; deliver 4; tick 7 1; deliver 5 6; tick 7 1; deliver 8 7 9; tick 7 1 => true
     // Each request that comes comes twice at once, and of its two answers one is late and one is lost, except in the round of the
     // blocks: 9 comes twice, 10 is late, and of the answers to 9 the first, 11, is lost and the second, 12, comes twice.
-    events small: open 7 1 abc 1 | 7 twice late drop \
-        => tick 7 1; deliver 0; deliver 0; deliver 1; tick 7 1; deliver 3; deliver 3; deliver 4; tick 7 1; deliver 6; deliver 6; deliver 7; \
-            tick 7 1; deliver 9; deliver 9; deliver 12; deliver 12; deliver 10; tick 7 1; deliver 13; tick 7 1; deliver 15; deliver 15; deliver 16; \
-            tick 7 1; deliver 18; deliver 18
+    small: open 7 1 abc 1 | 7 twice,late,drop | \
+        tick 7 1; deliver 0 0 1; tick 7 1; deliver 3 3 4; tick 7 1; deliver 6 6 7; tick 7 1; deliver 9 9 12 12 10; tick 7 1; deliver 13; tick 7 1; \
+        deliver 15 15 16; tick 7 1; deliver 18 18 => true
     // Each link has its own numbers from 0 on: on both the first request comes, its answer is late, and the second request is lost.
-    events two: open 7 1 abc 1 2 | 3 deliver late drop \
-        => tick 7 1; deliver 0; tick 7 2; deliver 2; deliver 1; tick 7 1; deliver 3; tick 7 2; tick 7 1; deliver 6; tick 7 2; deliver 8
-    report four: open 7 1 abc 1 2 3 4 | 40 deliver deliver drop twice deliver drop deliver twice drop deliver deliver drop \
-        => row 7 1 1 done; row 7 1 2 done; row 7 1 3 done; row 7 1 4 done; meter 1 status 6 active 7 1 size 3; meter 2 status 6 active 7 1 size 3; \
-            meter 3 status 6 active 7 1 size 3; meter 4 status 6 active 7 1 size 3; activations 4; sent 120; turns 0
-    report large-narrow: open 7 1 a*8193 1 | 13 deliver => row 7 1 1 done; meter 1 status 6 active 7 1 size 8193; activations 1; sent 38; turns 2
+    two: open 7 1 abc 1 2 | 3 deliver,late,drop | \
+        tick 7 1; deliver 0; tick 7 2; deliver 2 1; tick 7 1; deliver 3; tick 7 2; tick 7 1; deliver 6; tick 7 2; deliver 8 => true
+    four: open 7 1 abc 1 2 3 4 | 40 bad \
+        => ([(7, 1, 1, Done), (7, 1, 2, Done), (7, 1, 3, Done), (7, 1, 4, Done)], [(1, 6, 7, 1, 3), (2, 6, 7, 1, 3), (3, 6, 7, 1, 3), (4, 6, 7, 1, 3)], 4, 120); turns 0
+    large-narrow: open 7 1 a*8193 1 | 13 good => ([(7, 1, 1, Done)], [(1, 6, 7, 1, 8193)], 1, 38); turns 2
 ";
 
 #[test]

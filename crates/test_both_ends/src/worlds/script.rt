@@ -1,57 +1,50 @@
 //! What worlds are made with, and what happens in them, in words.
 
+use fw_air::Fate;
 use fw_names::{CampaignId, HeadId, MeterId, factory_name};
-use fw_world::{Event, HeadSetup, MeterSetup, Setup};
+use fw_world::{Event, HeadSetup, MeterSetup, Setup, World, run};
 use std::alloc::Global;
 use std::test::Fail;
 use test_tables::{Words, named, present};
 
-/// What a world is made with, parts between semicolons: `head NUMBER WIDTH`, and `meter NUMBER BLOCK-SIZE CAPACITY IMAGE` with its factory image.
+/// What a world is made with, parts between semicolons: `head NUMBER WIDTH`, and `meter NUMBER BLOCK-SIZE CAPACITY IMAGE` with its factory image,
+/// or `old` in place of `meter` for an old one.
 pub fn setup_of(alloc: Global, given: &str) -> Result<Setup, Fail> {
-    setup_with(alloc, given, false)
-}
-
-/// The same with old meters.
-pub fn old_setup_of(alloc: Global, given: &str) -> Result<Setup, Fail> {
-    setup_with(alloc, given, true)
-}
-
-fn setup_with(alloc: Global, given: &str, old: bool) -> Result<Setup, Fail> {
     let mut setup = Setup {
         heads: Vec::new(alloc),
         meters: Vec::new(alloc),
     };
     for part in given.split(';') {
-        let mut words = Words::new(part);
-        match words.word()? {
-            "head" => setup.heads.push(head_setup(&mut words)?)?,
-            _ => setup.meters.push(meter_setup(alloc, &mut words, old)?)?,
-        }
+        push_actor(alloc, &mut setup, part)?;
     }
     Ok(setup)
 }
 
-fn head_setup(words: &mut Words<'_>) -> Result<HeadSetup, Fail> {
-    let [number, width]: [u32; 2] = words.read()?;
-    let head = head(number)?;
-    Ok(HeadSetup { head, width })
-}
-
-fn meter_setup(alloc: Global, words: &mut Words<'_>, old: bool) -> Result<MeterSetup, Fail> {
+fn push_actor(alloc: Global, setup: &mut Setup, part: &str) -> Result<(), Fail> {
+    let mut words = Words::new(part);
+    let kind = words.word()?;
+    if kind == "head" {
+        let [number, width]: [u32; 2] = words.read()?;
+        let head = head(number)?;
+        setup.heads.push(HeadSetup { head, width })?;
+        return Ok(());
+    }
     let ([number, block_size, capacity], factory): ([u32; 3], &str) = words.read()?;
-    Ok(MeterSetup {
-        meter: meter(number)?,
+    let meter = meter(number)?;
+    setup.meters.push(MeterSetup {
+        meter,
         block_size,
         capacity,
         factory: image(alloc, factory)?,
-        old,
-    })
+        old: kind == "old",
+    })?;
+    Ok(())
 }
 
 /// The events of a script, between semicolons. Datagrams are named by their places among all that were sent, and an image by its bytes, by
 /// `a*N` for N bytes `a`, or by `-` for none:
 ///
-/// - `open HEAD SERIAL IMAGE METER..` and `open-release HEAD SERIAL RELEASE IMAGE METER..`, where `METER*N` is a meter that is named N times
+/// - `open HEAD SERIAL IMAGE METER..` and `open-release HEAD SERIAL RELEASE IMAGE METER..`
 /// - `cancel HEAD SERIAL`, `tick HEAD METER`, `turn METER`, `restart-head HEAD`, `restart-meter METER`
 /// - `deliver DATAGRAM..`, one after another
 /// - `stop DATAGRAM CALLS TORN` and `stop-restart METER CALLS TORN`, which stop after N calls of the store
@@ -60,45 +53,31 @@ fn meter_setup(alloc: Global, words: &mut Words<'_>, old: bool) -> Result<MeterS
 pub fn events_of(alloc: Global, names: &str, script: &str) -> Result<Vec<Event>, Fail> {
     let mut events = Vec::new(alloc);
     for part in script.split(';') {
-        match named(names, part.trim()) {
-            Some(text) => push_events(alloc, &mut events, text)?,
-            None => push_event(alloc, &mut events, part)?,
+        for part in named(names, part.trim()).unwrap_or(part).split(';') {
+            push_event(alloc, &mut events, part)?;
         }
     }
     Ok(events)
 }
 
-fn push_events(alloc: Global, events: &mut Vec<Event>, script: &str) -> Result<(), Fail> {
-    for part in script.split(';') {
-        push_event(alloc, events, part)?;
-    }
-    Ok(())
-}
-
 fn push_event(alloc: Global, events: &mut Vec<Event>, part: &str) -> Result<(), Fail> {
     let mut words = Words::new(part);
-    let Some(word) = words.next() else {
-        return Ok(());
-    };
-    let event = match word {
-        "open" => opening(alloc, &mut words, false)?,
-        "open-release" => opening(alloc, &mut words, true)?,
-        "deliver" => return push_deliveries(events, &words),
-        word => short(word, &mut words)?,
-    };
-    events.push(event)?;
-    Ok(())
-}
-
-fn push_deliveries(events: &mut Vec<Event>, words: &Words<'_>) -> Result<(), Fail> {
-    for word in words.rest().split_whitespace() {
-        events.push(Event::Deliver(word.parse::<usize>()?))?;
+    match words.next() {
+        None => {}
+        Some("open") => events.push(opening(alloc, words, false)?)?,
+        Some("open-release") => events.push(opening(alloc, words, true)?)?,
+        Some("deliver") => {
+            for word in words.rest().split_whitespace() {
+                events.push(Event::Deliver(word.parse::<usize>()?))?;
+            }
+        }
+        Some(word) => events.push(event(word, words)?)?,
     }
     Ok(())
 }
 
 /// An event that has numbers alone.
-fn short(word: &str, words: &mut Words<'_>) -> Result<Event, Fail> {
+fn event(word: &str, mut words: Words<'_>) -> Result<Event, Fail> {
     let first = words.number()?;
     Ok(match word {
         "cancel" => Event::CancelCampaign(campaign(first, words.number()?)?),
@@ -106,33 +85,33 @@ fn short(word: &str, words: &mut Words<'_>) -> Result<Event, Fail> {
         "turn" => Event::Turn(meter(first)?),
         "restart-head" => Event::RestartHead(head(first)?),
         "restart-meter" => Event::RestartMeter(meter(first)?),
-        word => stop(word, first, words.read::<(u64, u8)>()?)?,
-    })
-}
-
-fn stop(word: &str, first: u32, (calls, torn): (u64, u8)) -> Result<Event, Fail> {
-    Ok(match word {
-        "stop" => Event::Stop {
-            datagram: first as usize,
-            calls,
-            torn,
-        },
-        "stop-restart" => Event::StopRestart {
-            meter: meter(first)?,
-            calls,
-            torn,
-        },
+        "stop" => {
+            let (calls, torn): (u64, u8) = words.read()?;
+            Event::Stop {
+                datagram: first as usize,
+                calls,
+                torn,
+            }
+        }
+        "stop-restart" => {
+            let (calls, torn): (u64, u8) = words.read()?;
+            Event::StopRestart {
+                meter: meter(first)?,
+                calls,
+                torn,
+            }
+        }
         _ => return Err("no event has this name".into()),
     })
 }
 
-fn opening(alloc: Global, words: &mut Words<'_>, is_released: bool) -> Result<Event, Fail> {
+fn opening(alloc: Global, mut words: Words<'_>, is_released: bool) -> Result<Event, Fail> {
     let [number, serial]: [u32; 2] = words.read()?;
     Ok(Event::OpenCampaign {
         campaign: campaign(number, serial)?,
         release: if is_released { words.number()? } else { 0 },
         image: image(alloc, words.word()?)?,
-        meters: meters(alloc, words)?,
+        meters: meters(alloc, words.rest())?,
     })
 }
 
@@ -146,14 +125,10 @@ fn image(alloc: Global, word: &str) -> Result<Vec<u8>, Fail> {
     }
 }
 
-fn meters(alloc: Global, words: &Words<'_>) -> Result<Vec<MeterId>, Fail> {
+fn meters(alloc: Global, numbers: &str) -> Result<Vec<MeterId>, Fail> {
     let mut meters = Vec::new(alloc);
-    for word in words.rest().split_whitespace() {
-        let (number, times) = word.split_once('*').unwrap_or((word, "1"));
-        let named = meter(number.parse::<u32>()?)?;
-        for _ in 0..times.parse::<u32>()? {
-            meters.push(named)?;
-        }
+    for number in numbers.split_whitespace() {
+        meters.push(meter(number.parse::<u32>()?)?)?;
     }
     Ok(meters)
 }
@@ -179,8 +154,43 @@ fn campaign(number: u32, serial: u32) -> Result<CampaignId, Fail> {
     )
 }
 
+/// The world of these events, of which none is refused.
+pub fn world_of(alloc: Global, setup: &Setup, events: &[Event]) -> Result<World, Fail> {
+    match run(alloc, setup, events) {
+        Ok(world) => Ok(world),
+        Err(_) => Err("an event is refused".into()),
+    }
+}
+
+/// Every third datagram of a link is lost, and every fourth comes twice.
+const BAD_AIR: &str =
+    "deliver,deliver,drop,twice,deliver,drop,deliver,twice,drop,deliver,deliver,drop";
+
+/// The fates of good air, of bad air, or those between commas.
+pub fn fates_of(alloc: Global, air: &str) -> Result<Vec<Fate>, Fail> {
+    let list = match air {
+        "good" => "deliver",
+        "bad" => BAD_AIR,
+        _ => air,
+    };
+    let mut fates = Vec::new(alloc);
+    for word in list.split(',') {
+        fates.push(match word {
+            "deliver" => Fate::Deliver,
+            "drop" => Fate::Drop,
+            "twice" => Fate::Twice,
+            "late" => Fate::Late,
+            _ => return Err("no fate has this name".into()),
+        })?;
+    }
+    Ok(fates)
+}
+
 /// One head end and one meter, and a campaign of two blocks.
 pub const SMALL: &str = "head 7 4; meter 1 2 64 x";
+
+/// The same with an old meter.
+pub const OLD_SMALL: &str = "head 7 4; old 1 2 64 x";
 
 /// That campaign up to its end, in which all is delivered.
 pub const DONE: &str =
