@@ -18,7 +18,7 @@ use std::sync::Wait;
 use std::test::Fail;
 use std::thread::Threads;
 use std::{env, fs, io, str};
-use test_tables::{Reads, Words, each_line, each_prints, named, present};
+use test_tables::{Words, each_prints, expect_at, named, present};
 
 const DEFAULTS: AnswerOptions<'static> = AnswerOptions {
     block_size: 2,
@@ -31,7 +31,24 @@ const LINES: Style = Style {
     report: ReportForm::Lines,
 };
 
-/// The commands, and the terminal that they show their progress on, if there is one. It reads a row `END ROOM COMMAND | INPUT`:
+/// Each row tells what stands after its arrow.
+pub(crate) fn each<T: Threads + Wait + Net + Sync>(
+    rt: &T,
+    alloc: Global,
+    terminal: Option<&Terminal>,
+    table: &str,
+) -> Result<(), Fail> {
+    for line in table.lines() {
+        if !line.starts_with("//") {
+            let (what, want) = present(line.split_once("=>"), "a row without an arrow")?;
+            let told = told(rt, alloc, terminal, what)?;
+            expect_at(alloc, line, &told, want.trim())?;
+        }
+    }
+    Ok(())
+}
+
+/// What a row `END ROOM COMMAND | INPUT` tells:
 ///
 /// - how the input ends: it is `over`, it `breaks` or it is `endless`; where it is `interrupted`, which comes a million times first, it is over
 ///   then, and how often it was read is told after all else
@@ -40,143 +57,131 @@ const LINES: Style = Style {
 ///   room for so many bytes, `rehearse ROUNDS WORKERS FATES`, `live ROUNDS WORKERS` or `live ROUNDS WORKERS trace`
 /// - the input, in which a slash stands for each line end, or its name
 ///
-/// What is written is told in that form, and after it the fault, or that an event was refused.
-#[derive(Drop)]
-pub(crate) struct Commands<'a, T: Threads + Wait + Net + Sync> {
-    pub(crate) rt: &'a T,
-    pub(crate) terminal: Option<&'a Terminal>,
+/// What is written is told in that form, and after it the fault, or that an event was refused. The terminal, if there is one, shows the progress.
+pub(crate) fn told<T: Threads + Wait + Net + Sync>(
+    rt: &T,
+    alloc: Global,
+    terminal: Option<&Terminal>,
+    what: &str,
+) -> Result<String, Fail> {
+    let (how, input) = present(what.split_once('|'), "no input")?;
+    if input.trim() == "note" {
+        return told_of(rt, alloc, terminal, Words::new(how), NOTE);
+    }
+    let text = input_text(alloc, input.trim())?;
+    told_of(rt, alloc, terminal, Words::new(how), text.as_bytes())
 }
 
-impl<T: Threads + Wait + Net + Sync> Reads for Commands<'_, T> {
-    fn told(&mut self, alloc: Global, what: &str) -> Result<String, Fail> {
-        let (how, input) = present(what.split_once('|'), "no input")?;
-        if input.trim() == "note" {
-            return self.told_of(alloc, Words::new(how), NOTE);
+/// What a row tells of this input.
+fn told_of<T: Threads + Wait + Net + Sync>(
+    rt: &T,
+    alloc: Global,
+    terminal: Option<&Terminal>,
+    mut words: Words<'_>,
+    octets: &[u8],
+) -> Result<String, Fail> {
+    let (end, room): (&str, u32) = words.read()?;
+    let mut output = vec![in alloc; 0; room as usize]?;
+    let mut input = Input::of(octets, end);
+    let mut left = output.as_mut_slice();
+    let ended = run(rt, alloc, terminal, words, &mut input, &mut left)?;
+    let size = (room as usize).saturating_sub(left.len());
+    let written = present(output.get(..size), "more was written than fits")?;
+    ended_text(alloc, str::from_utf8(written)?, ended, &input)
+}
+
+/// Runs a command.
+fn run<T: Threads + Wait + Net + Sync, R: Read, W: Write>(
+    rt: &T,
+    alloc: Global,
+    terminal: Option<&Terminal>,
+    mut words: Words<'_>,
+    reader: &mut R,
+    writer: &mut W,
+) -> Result<Result<Ended, Fault>, Fail> {
+    match words.word()? {
+        "answer" => Ok(whole(run_answer(alloc, reader, writer, &DEFAULTS))),
+        "name" => {
+            let options = name_options(words)?;
+            Ok(whole(run_name(alloc, reader, writer, &options)))
         }
-        let text = input_text(alloc, input.trim())?;
-        self.told_of(alloc, Words::new(how), text.as_bytes())
+        "trace" => Ok(whole(run_trace(alloc, reader, writer))),
+        "replay" => replay(alloc, terminal, words, reader, writer),
+        "replay-captured" => replay_captured(alloc, terminal, words, reader, writer),
+        "rehearse" => rehearse(rt, alloc, terminal, words, reader, writer),
+        _ => live(rt, alloc, terminal, words, reader, writer),
     }
 }
 
-impl<'a, T: Threads + Wait + Net + Sync> Commands<'a, T> {
-    /// The commands without a terminal.
-    pub(crate) fn alone(rt: &'a T) -> Commands<'a, T> {
-        Commands { rt, terminal: None }
-    }
+fn replay<R: Read, W: Write>(
+    alloc: Global,
+    terminal: Option<&Terminal>,
+    words: Words<'_>,
+    reader: &mut R,
+    writer: &mut W,
+) -> Result<Result<Ended, Fault>, Fail> {
+    let rounds = rounds_of(words)?;
+    let options = ReplayOptions {
+        rounds,
+        style: LINES,
+    };
+    let capture = &mut no_capture();
+    Ok(run_replay(alloc, reader, writer, capture, terminal, &options))
+}
 
-    /// What a row tells of this input.
-    fn told_of(&self, alloc: Global, mut words: Words<'_>, octets: &[u8]) -> Result<String, Fail> {
-        let (end, room): (&str, u32) = words.read()?;
-        let mut output = vec![in alloc; 0; room as usize]?;
-        self.told_in(alloc, words, &mut Input::of(octets, end), &mut output)
-    }
+fn replay_captured<R: Read, W: Write>(
+    alloc: Global,
+    terminal: Option<&Terminal>,
+    mut words: Words<'_>,
+    reader: &mut R,
+    writer: &mut W,
+) -> Result<Result<Ended, Fault>, Fail> {
+    let mut room = vec![in alloc; 0; words.number()? as usize]?;
+    let options = ReplayOptions {
+        rounds: None,
+        style: LINES,
+    };
+    let capture = &mut Some(room.as_mut_slice());
+    Ok(run_replay(alloc, reader, writer, capture, terminal, &options))
+}
 
-    /// What a command tells with this input, and with this room for its output.
-    fn told_in(
-        &self,
-        alloc: Global,
-        words: Words<'_>,
-        input: &mut Input<'_>,
-        output: &mut [u8],
-    ) -> Result<String, Fail> {
-        let room = output.len();
-        let mut left = &mut *output;
-        let ended = self.run(alloc, words, input, &mut left)?;
-        let size = room.saturating_sub(left.len());
-        let written = present(output.get(..size), "more was written than fits")?;
-        told(alloc, str::from_utf8(written)?, ended, input)
-    }
+fn rehearse<T: Threads + Wait + Sync, R: Read, W: Write>(
+    rt: &T,
+    alloc: Global,
+    terminal: Option<&Terminal>,
+    mut words: Words<'_>,
+    reader: &mut R,
+    writer: &mut W,
+) -> Result<Result<Ended, Fault>, Fail> {
+    let [rounds, workers]: [u32; 2] = words.read()?;
+    let fates = words.rest();
+    let options = RehearseOptions {
+        rounds: Rounds { rounds, fates },
+        workers,
+        trace: false,
+    };
+    let capture = &mut no_capture();
+    let ended = run_rehearse(rt, alloc, reader, writer, capture, terminal, &options);
+    Ok(whole(ended))
+}
 
-    /// Runs a command.
-    fn run<R: Read, W: Write>(
-        &self,
-        alloc: Global,
-        mut words: Words<'_>,
-        reader: &mut R,
-        writer: &mut W,
-    ) -> Result<Result<Ended, Fault>, Fail> {
-        match words.word()? {
-            "answer" => Ok(whole(run_answer(alloc, reader, writer, &DEFAULTS))),
-            "name" => {
-                let options = name_options(words)?;
-                Ok(whole(run_name(alloc, reader, writer, &options)))
-            }
-            "trace" => Ok(whole(run_trace(alloc, reader, writer))),
-            "replay" => self.replay(alloc, words, reader, writer),
-            "replay-captured" => self.replay_captured(alloc, words, reader, writer),
-            "rehearse" => self.rehearse(alloc, words, reader, writer),
-            _ => self.live(alloc, words, reader, writer),
-        }
-    }
-
-    fn replay<R: Read, W: Write>(
-        &self,
-        alloc: Global,
-        words: Words<'_>,
-        reader: &mut R,
-        writer: &mut W,
-    ) -> Result<Result<Ended, Fault>, Fail> {
-        let rounds = rounds_of(words)?;
-        let options = ReplayOptions {
-            rounds,
-            style: LINES,
-        };
-        let capture = &mut no_capture();
-        Ok(run_replay(alloc, reader, writer, capture, self.terminal, &options))
-    }
-
-    fn replay_captured<R: Read, W: Write>(
-        &self,
-        alloc: Global,
-        mut words: Words<'_>,
-        reader: &mut R,
-        writer: &mut W,
-    ) -> Result<Result<Ended, Fault>, Fail> {
-        let mut room = vec![in alloc; 0; words.number()? as usize]?;
-        let options = ReplayOptions {
-            rounds: None,
-            style: LINES,
-        };
-        let capture = &mut Some(room.as_mut_slice());
-        Ok(run_replay(alloc, reader, writer, capture, self.terminal, &options))
-    }
-
-    fn rehearse<R: Read, W: Write>(
-        &self,
-        alloc: Global,
-        mut words: Words<'_>,
-        reader: &mut R,
-        writer: &mut W,
-    ) -> Result<Result<Ended, Fault>, Fail> {
-        let [rounds, workers]: [u32; 2] = words.read()?;
-        let fates = words.rest();
-        let options = RehearseOptions {
-            rounds: Rounds { rounds, fates },
-            workers,
-            trace: false,
-        };
-        let (rt, capture) = (self.rt, &mut no_capture());
-        let ended = run_rehearse(rt, alloc, reader, writer, capture, self.terminal, &options);
-        Ok(whole(ended))
-    }
-
-    fn live<R: Read, W: Write>(
-        &self,
-        alloc: Global,
-        mut words: Words<'_>,
-        reader: &mut R,
-        writer: &mut W,
-    ) -> Result<Result<Ended, Fault>, Fail> {
-        let [rounds, workers]: [u32; 2] = words.read()?;
-        let options = LiveOptions {
-            rounds,
-            workers,
-            trace: words.rest() == "trace",
-        };
-        let (rt, capture) = (self.rt, &mut no_capture());
-        let ended = run_live(rt, alloc, reader, writer, capture, self.terminal, &options);
-        Ok(whole(ended))
-    }
+fn live<T: Threads + Wait + Net + Sync, R: Read, W: Write>(
+    rt: &T,
+    alloc: Global,
+    terminal: Option<&Terminal>,
+    mut words: Words<'_>,
+    reader: &mut R,
+    writer: &mut W,
+) -> Result<Result<Ended, Fault>, Fail> {
+    let [rounds, workers]: [u32; 2] = words.read()?;
+    let options = LiveOptions {
+        rounds,
+        workers,
+        trace: words.rest() == "trace",
+    };
+    let capture = &mut no_capture();
+    let ended = run_live(rt, alloc, reader, writer, capture, terminal, &options);
+    Ok(whole(ended))
 }
 
 /// The input of this name, or itself, with a line end for each slash.
@@ -218,7 +223,7 @@ fn whole(outcome: Result<(), Fault>) -> Result<Ended, Fault> {
 }
 
 /// What a command tells. What is written where the output fails isn't told.
-fn told(
+fn ended_text(
     alloc: Global,
     written: &str,
     ended: Result<Ended, Fault>,
@@ -313,7 +318,7 @@ over 200 replay 9 d | open => row 7 1 1 done/meter 1 status 6 active 7 1 size 3/
 
 #[test]
 fn commands_over_ample_streams(rt: HostRuntime) -> Result<(), Fail> {
-    each_line(rt.alloc(), &mut Commands::alone(&rt), WHOLE)
+    each(&rt, rt.alloc(), None, WHOLE)
 }
 
 /// A meter in a file, which is made in the folder of temporary files, answers as well.
@@ -354,7 +359,7 @@ interrupted 200 answer | get => \
 
 #[test]
 fn readers_that_fail(rt: HostRuntime) -> Result<(), Fail> {
-    each_line(rt.alloc(), &mut Commands::alone(&rt), READERS)
+    each(&rt, rt.alloc(), None, READERS)
 }
 
 /// Writers without room for all, also where an event is refused, and captures, whose bytes are 109.
@@ -378,7 +383,7 @@ over 200 replay-captured 109 | sent => row 7 1 1 live/meter 1 status 0 active 0 
 
 #[test]
 fn writers_that_fail(rt: HostRuntime) -> Result<(), Fail> {
-    each_line(rt.alloc(), &mut Commands::alone(&rt), WRITERS)
+    each(&rt, rt.alloc(), None, WRITERS)
 }
 
 /// Of workers there are 1 to 8. Bad fates and a bad line come first.
@@ -395,7 +400,7 @@ over 200 live 1 9           | four => BadSetup
 
 #[test]
 fn no_workers_and_too_many(rt: HostRuntime) -> Result<(), Fail> {
-    each_line(rt.alloc(), &mut Commands::alone(&rt), WORKERS)
+    each(&rt, rt.alloc(), None, WORKERS)
 }
 
 const FAULTS: &[(Fault, &str)] = &[

@@ -1,15 +1,13 @@
 //! The command `live`, over a reader and a writer in memory and sockets on this machine.
 
-use crate::commands::Commands;
+use crate::commands::told;
 use std::test::Fail;
-use test_tables::Reads;
 
 /// What sockets lose isn't fixed, and so isn't how many rows are done: the board says how many.
 #[test]
 fn live_report_and_its_board(rt: HostRuntime) -> Result<(), Fail> {
     let alloc = rt.alloc();
-    let mut commands = Commands::alone(&rt);
-    let text = commands.told(alloc, "over 400 live 60 2 | four")?;
+    let text = told(&rt, alloc, None, "over 400 live 60 2 | four")?;
     let done = text
         .split('/')
         .filter(|line| line.starts_with("row ") && line.ends_with(" done"))
@@ -23,8 +21,7 @@ fn live_report_and_its_board(rt: HostRuntime) -> Result<(), Fail> {
 /// The first datagram that is sent asks for the block size, whatever becomes of it, and the report stands after the trace.
 #[test]
 fn live_trace(rt: HostRuntime) -> Result<(), Fail> {
-    let mut commands = Commands::alone(&rt);
-    let text = commands.told(rt.alloc(), "over 4000 live 1 1 trace | four")?;
+    let text = told(&rt, rt.alloc(), None, "over 4000 live 1 1 trace | four")?;
     assert!(rt; text.starts_with("0 head 7 -> meter 1  get block size"));
     assert!(rt; text.contains("/row 7 1 1 "));
     Ok(())

@@ -1,9 +1,8 @@
 //! The command `rehearse`, over readers and writers in memory. Scripts and reports are worked out by hand from the head end's and the
 //! meter's documents. More rehearsals are in `runs/rehearse.table`.
 
-use crate::commands::Commands;
+use crate::commands::each;
 use std::test::Fail;
-use test_tables::each_line;
 
 const REHEARSALS: &str = "\
 // of each link every third datagram is lost, and every fourth comes twice
@@ -27,5 +26,5 @@ over 70 rehearse 1 1 d  | four => Output
 
 #[test]
 fn rehearsals_and_their_reports(rt: HostRuntime) -> Result<(), Fail> {
-    each_line(rt.alloc(), &mut Commands::alone(&rt), REHEARSALS)
+    each(&rt, rt.alloc(), None, REHEARSALS)
 }

@@ -1,6 +1,6 @@
 //! What commands show on a terminal, which fails: what is written elsewhere stays the same.
 
-use crate::commands::Commands;
+use crate::commands::each;
 use std::alloc::Global;
 use std::fmt::Display;
 use std::io;
@@ -10,7 +10,6 @@ use std::sync::Wait;
 use std::sync::atomic::{AtomicU64, Ordering};
 use std::test::Fail;
 use std::thread::Threads;
-use test_tables::each_line;
 
 /// A terminal that gets some texts, in order. Each write fails.
 #[derive(Drop)]
@@ -60,12 +59,7 @@ fn shows<T: Threads + Wait + Net + Sync>(
         came: AtomicU64::new(0),
         others: AtomicU64::new(0),
     };
-    let shown = Some(&terminal);
-    let mut commands = Commands {
-        rt,
-        terminal: shown,
-    };
-    each_line(alloc, &mut commands, row)?;
+    each(rt, alloc, Some(&terminal), row)?;
     let came = terminal.came.load(Ordering::SeqCst);
     let others = terminal.others.load(Ordering::SeqCst);
     if came == wanted.len() as u64 && others == 0 {
