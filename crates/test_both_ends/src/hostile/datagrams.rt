@@ -1,7 +1,7 @@
 //! Datagrams to a meter, each with every byte turned to every value, and each cut short.
 
 use crate::hostile::support::{datagrams, expect_tried, failed, opened, replies};
-use fw_meter::{Handled, MeterCore};
+use fw_meter::Handled;
 use fw_store::MemoryStore;
 use fw_wrapper::{join, split};
 use std::alloc::Global;
