@@ -26,13 +26,15 @@ from an address of the list is taken for that meter's.
 
 The book of the head end is in FILE of --book, and stays there for the next run. It is made with --new,
 and only where no such file is there: as FILE.new, which is named FILE once it is whole. So is a shorter
-FILE of the same book, which a run may begin with. Any other file that is named FILE.new stays as it is.
+FILE of the same book, which a run may begin with. A file that is named FILE.new is written over if it has
+five bytes at most or begins as a book does; any other stays as it is.
 One process at a time has a FILE. A head end whose book is lost goes on under another number, never
 under the same.
 
 With --open the image in the file of --image is offered to all meters of LIST, in campaigns of 256
-meters at most, with serial numbers from SERIAL on. A campaign that the book has already, for that image
-and those meters, is gone on with. With --cancel the live rows of that campaign are cancelled first.
+meters at most, with serial numbers from SERIAL on. A campaign that the book has already, of that release
+and image and for those meters in that order, is gone on with. With --cancel the live rows of that
+campaign are cancelled first.
 
 A row is asked when nothing of it is outstanding, or after four times its last round trip, which is
 --resend at first and at least; a quarter longer after each time in which nothing at all came from
@@ -91,7 +93,8 @@ Exit status:
        Full            FILE has no room for more
        NoAddress N     meter N has a live row in the book that isn't cancelled, and isn't in LIST
        NoMeters        --open: LIST has no meter
-       SerialUsed      --open: the book has this campaign, for another image or other meters
+       SerialUsed      --open: the book has this campaign, of another release or image, for other meters,
+                       or for these in another order
        EmptyImage      --open: the image has no byte
        ImageTooLong    --open: the image has more than 16777216 bytes
        MeterBusy       --open: a meter of LIST is live in another campaign

@@ -27,7 +27,8 @@ from elsewhere is dropped. An address is IPv4 or IPv6, as 127.0.0.1:4059 or [::1
 
 With --count N there are N meters in one process, a fleet to try a head end on: meter K receives at PORT
 and K - 1 more, and is in FILE.K. What was dropped is that of all. Each needs three open files, which the
-system may limit (`ulimit -n`).
+system may limit (`ulimit -n`). They are set up one after the other: where one can't be, none serves, and
+the files of those before it were opened or made, and stay.
 
 With --capture CAPTURE all that is received and sent is appended to CAPTURE as pcap, which Wireshark and
 `trace` read: each datagram before it is handled or sent, and so its reply isn't sent where CAPTURE can't
@@ -68,8 +69,8 @@ Exit status:
      option that it is about; with --count, FILE is FILE.K of meter K, which has the fault, and after
      the address of the first meter stands `, meter K`
        Socket        datagrams can't be received at --listen: another program does, it is no address
-                     of this machine, or this user has no right to it; no file was made. Or the socket
-                     failed 1000 times in a row later
+                     of this machine, or this user has no right to it; its file was not made. Or the
+                     socket failed 1000 times in a row later
        StoreFault    FILE can't be opened or made: another program has it locked, there is no such
                      folder, FILE is a folder, this user may not read and write it, the disk is full,
                      or FILE.journal can't be made beside it
