@@ -6,8 +6,8 @@
 -- The fields of a datagram are the wrapper's (IEC 62056-4-7), the service's (IEC 62056-5-3), those of class 18 (IEC 62056-6-2), and the
 -- parts of an image name. What it says, in the column Info and in the field dlmsfw.says, is what `dlmsfw trace` says of it.
 --
--- Datagrams of port 4059 are taken, and on every port those whose wrapper is right. For meters on other ports:
--- -d udp.port==PORT,dlmsfw.
+-- Datagrams of port 4059 are taken, and on every port that no other dissector takes those whose wrapper is right. Where one takes it,
+-- as CoAP takes 5683: -o udp.try_heuristic_first:TRUE, or for a single port -d udp.port==PORT,dlmsfw.
 
 local dlmsfw = Proto("dlmsfw", "DLMS/COSEM image transfer")
 local note = Proto("dlmsfw_note", "dlmsfw note")
