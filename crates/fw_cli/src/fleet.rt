@@ -29,11 +29,12 @@ ghost use Rattle.fw_host.specs.Meters.{IsOfSetup, default_factory, listening_lin
 ghost use Rattle.fw_cli.specs.declared.fleet.Member.{Member};
 
 use crate::meter::{Listening, MeterFault, MeterOptions, Teller, closing_fault, opened_capture};
-use fw_daemon::{Dropped, MeterDaemon, Port, UdpPort, Watch, step};
+use fw_daemon::{Dropped, MeterDaemon, Watch, step};
 use fw_faults::{Fault, write_text};
 use fw_host::{CapturePort, listening_line, stored_meter};
 use fw_meter::MeterCore;
 use fw_names::ImageName;
+use fw_port::{Port, UdpPort};
 use fw_store::FileStore;
 use std::alloc::{AllocError, Global};
 use std::fs::File;

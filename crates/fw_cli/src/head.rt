@@ -14,7 +14,6 @@ ghost use Rattle.fw_cli.specs.Heads.{IsAskedFor, IsOfCancelling, IsOfList, IsOfO
 use crate::meter::{Listening, closing_fault, opened_capture, tell_listening};
 use fw_blocks::Width;
 use fw_book::BookError;
-use fw_daemon::UdpPort;
 use fw_faults::{Fault, Reads, read_input, write_text};
 use fw_host::{
     BookOptions, CapturePort, HeadProgress, Opening, Part, UdpHeadPort, cancel, cancelled_line,
@@ -24,6 +23,7 @@ use fw_host::{
 use fw_journal::{FileDevice, JournalDevice};
 use fw_kept::KeptHead;
 use fw_names::{CampaignId, HeadId};
+use fw_port::UdpPort;
 use fw_rollout::{HeadDaemon, Listed, MeterList, Stop, Timing, serve_head};
 use std::alloc::Global;
 use std::fs::File;

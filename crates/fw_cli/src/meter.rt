@@ -9,12 +9,13 @@ ghost use Rattle.fw_host.specs.Captures.{IsOfCapture};
 ghost use Rattle.fw_host.specs.Meters.{activated_line, default_factory, dropped_line, listening_line};
 
 use crate::fleet::serve_fleet;
-use fw_daemon::{Closed, Dropped, MeterDaemon, SocketError, UdpPort, Watch, serve};
+use fw_daemon::{Dropped, MeterDaemon, Watch, serve};
 use fw_faults::{Fault, write_text};
 use fw_host::{
     CapturePort, NewMeter, activated_line, dropped_line, listening_line, open_capture, stored_meter,
 };
 use fw_names::ImageName;
+use fw_port::{Closed, SocketError, UdpPort};
 use fw_store::FileStore;
 use std::alloc::Global;
 use std::fs::File;

@@ -2,7 +2,8 @@
 use Rattle.std.proofs.Common.{◌≡◌, ◌++◌, List, [], ◌∷◌, inl, inr, refl, sym, ap, subst, ◌∙◌}
 use Rattle.std.specs.declared.net.socket_addr.SocketAddr.{SocketAddr}
 use Rattle.std.specs.Prelude.{ℕ, Option, Some, None}
-use Rattle.fw_daemon.specs.Acts.{Act, came, quiet, sent}
+use Rattle.fw_port.specs.Acts.{came, quiet, sent}
+use Rattle.fw_daemon.specs.Acts.{Act}
 use Rattle.fw_daemon.specs.Daemon.{Daemon, TakesTurn}
 use Rattle.fw_daemon.specs.Laws.{GoesOn}
 use Rattle.fw_daemon.specs.Serving.{Serving, Takes}
@@ -11,11 +12,9 @@ pub goes_on : GoesOn
 goes_on start middle now first [] s e = subst (λ (d : Daemon). Serving start first d) (sym e) s
 goes_on start middle now first (quiet ∷ done) s (before, t, turn) = (before, goes_on start middle before first done s t, turn)
 goes_on start middle now first (came from datagram ∷ done) s (before, t, takes) = (before, goes_on start middle before first done s t, takes)
-goes_on start middle now first (sent to bytes ∷ []) s t = absurd t
-goes_on start middle now first (sent to bytes ∷ quiet ∷ done) s t = absurd t
-goes_on start middle now first (sent to bytes ∷ sent other more ∷ done) s t = absurd t
 goes_on start middle now first (sent to bytes ∷ came from datagram ∷ done) s (before, t, same, takes) =
     (before, goes_on start middle before first done s t, same, takes)
+goes_on start middle now first (act ∷ done) s t = absurd t
 
 -- ---- the addresses that may ask
 
@@ -31,8 +30,6 @@ pub heads_stay : (start now : Daemon) (done : List Act) → Serving start done n
 heads_stay start now [] e = ap (λ (d : Daemon). d.heads) e
 heads_stay start now (quiet ∷ done) (before, t, turn) = turn_keeps before now turn ∙ heads_stay start before done t
 heads_stay start now (came from datagram ∷ done) (before, t, takes) = take_keeps before now from datagram None takes ∙ heads_stay start before done t
-heads_stay start now (sent to bytes ∷ []) t = absurd t
-heads_stay start now (sent to bytes ∷ quiet ∷ done) t = absurd t
-heads_stay start now (sent to bytes ∷ sent other more ∷ done) t = absurd t
 heads_stay start now (sent to bytes ∷ came from datagram ∷ done) (before, t, same, takes) =
     take_keeps before now from datagram (Some bytes) takes ∙ heads_stay start before done t
+heads_stay start now (act ∷ done) t = absurd t

@@ -2,7 +2,8 @@
 use Rattle.std.proofs.Common.{◌≡◌, ◌⊎◌, ◌++◌, List, [], ◌∷◌, inl, inr, refl, sym, ap, subst, ◌∙◌}
 use Rattle.std.specs.declared.net.socket_addr.SocketAddr.{SocketAddr}
 use Rattle.std.specs.Prelude.{ℕ, Option, Some, None}
-use Rattle.fw_daemon.specs.Acts.{Act, came, quiet, sent}
+use Rattle.fw_port.specs.Acts.{came, quiet, sent}
+use Rattle.fw_daemon.specs.Acts.{Act}
 use Rattle.fw_daemon.specs.Daemon.{Daemon, MayAsk, TakesTurn, one_more}
 use Rattle.fw_daemon.specs.Laws.{Hushes, IgnoresStrangers, IsStrangers}
 use Rattle.fw_daemon.specs.Serving.{Serving, Takes}
@@ -89,9 +90,7 @@ both_are start now act other second third others same same2 g =
 pub ignores_strangers : IgnoresStrangers
 ignores_strangers start now [] [] s h = (now.strangers, s)
 ignores_strangers start now [] (other ∷ others) s h = absurd h
-ignores_strangers start now (quiet ∷ done) [] s h = absurd h
-ignores_strangers start now (came from datagram ∷ done) [] s h = absurd h
-ignores_strangers start now (sent to bytes ∷ done) [] s h = absurd h
+ignores_strangers start now (act ∷ done) [] s h = absurd h
 ignores_strangers start now (quiet ∷ done) (other ∷ others) (before, s, turn) (inl same, h) =
     first_is start now quiet other others same (quiet_then start before now others turn (ignores_strangers start before done others s h))
 ignores_strangers start now (quiet ∷ done) (other ∷ others) (before, s, turn) (inr (bad, same), h) = absurd bad
@@ -100,9 +99,6 @@ ignores_strangers start now (came from datagram ∷ done) (other ∷ others) (be
 ignores_strangers start now (came from datagram ∷ done) (other ∷ others) (before, s, takes) (inr (not, same), h) =
     first_is start now quiet other others same
     (hushed_then start before now from datagram others (not_here start before from done s not) takes (ignores_strangers start before done others s h))
-ignores_strangers start now (sent to bytes ∷ []) (other ∷ others) s h = absurd s
-ignores_strangers start now (sent to bytes ∷ quiet ∷ done) (other ∷ others) s h = absurd s
-ignores_strangers start now (sent to bytes ∷ sent third more ∷ done) (other ∷ others) s h = absurd s
 ignores_strangers start now (sent to bytes ∷ came from datagram ∷ done) (other ∷ []) s (first, h) = absurd h
 ignores_strangers start now (sent to bytes ∷ came from datagram ∷ done) (other ∷ third ∷ others) (before, s, to_it, takes) (inr (bad, same), h) = absurd bad
 ignores_strangers start now (sent to bytes ∷ came from datagram ∷ done) (other ∷ third ∷ others) (before, s, to_it, takes) (inl same, (inl same2, h)) =
@@ -110,3 +106,4 @@ ignores_strangers start now (sent to bytes ∷ came from datagram ∷ done) (oth
     (sent_then start before now to from bytes datagram others to_it takes (ignores_strangers start before done others s h))
 ignores_strangers start now (sent to bytes ∷ came from datagram ∷ done) (other ∷ third ∷ others) (before, s, to_it, takes) (inl same, (inr (not, quiet2), h)) =
     absurd (not_here start before from done s not (answered before now from datagram bytes takes).may_ask)
+ignores_strangers start now (act ∷ done) (other ∷ others) s h = absurd s

@@ -2,7 +2,8 @@
 use Rattle.std.proofs.Common.{◌≡◌, ◌++◌, List, [], ◌∷◌, inl, inr, refl, sym, ap, subst, ◌∙◌}
 use Rattle.std.specs.declared.net.socket_addr.SocketAddr.{SocketAddr}
 use Rattle.std.specs.Prelude.{ℕ, Option, Some, None}
-use Rattle.fw_daemon.specs.Acts.{Act, came, quiet, sent}
+use Rattle.fw_port.specs.Acts.{came, quiet, sent}
+use Rattle.fw_daemon.specs.Acts.{Act}
 use Rattle.fw_daemon.specs.Daemon.{Daemon, MayAsk}
 use Rattle.fw_daemon.specs.Laws.{IsReply, RepliesOnly}
 use Rattle.fw_daemon.specs.Serving.{IsAnswered, Serving, Takes}
@@ -31,16 +32,12 @@ is_reply start before now to datagram bytes done s takes =
     }
 
 pub replies_only : RepliesOnly
-replies_only start now [] [] to bytes s = absurd s
-replies_only start now [] (quiet ∷ done) to bytes s = absurd s
-replies_only start now [] (sent other more ∷ done) to bytes s = absurd s
 replies_only start now [] (came from datagram ∷ done) to bytes (before, s, same, takes) =
     subst (λ (a : SocketAddr). IsReply start to bytes (came a datagram ∷ done)) same
     (is_reply start before now to datagram bytes done s (subst (λ (a : SocketAddr). Takes before a datagram (Some bytes) now) (sym same) takes))
+replies_only start now [] earlier to bytes s = absurd s
 replies_only start now (quiet ∷ later) earlier to bytes (before, s, turn) = replies_only start before later earlier to bytes s
 replies_only start now (came from datagram ∷ later) earlier to bytes (before, s, takes) = replies_only start before later earlier to bytes s
-replies_only start now (sent other more ∷ []) earlier to bytes s = absurd s
-replies_only start now (sent other more ∷ quiet ∷ later) earlier to bytes s = absurd s
-replies_only start now (sent other more ∷ sent third those ∷ later) earlier to bytes s = absurd s
 replies_only start now (sent other more ∷ came from datagram ∷ later) earlier to bytes (before, s, same, takes) =
     replies_only start before later earlier to bytes s
+replies_only start now (act ∷ later) earlier to bytes s = absurd s

@@ -4,7 +4,8 @@ use Rattle.std.specs.declared.net.socket_addr.SocketAddr.{SocketAddr}
 use Rattle.std.specs.Prelude.{ℕ, Option, Some, None}
 use Rattle.fw_meter.specs.declared.meter.Handled.{Handled}
 use Rattle.fw_meter.specs.Handling.{reply_bytes}
-use Rattle.fw_daemon.specs.Acts.{Act, came, sent}
+use Rattle.fw_port.specs.Acts.{came, sent}
+use Rattle.fw_daemon.specs.Acts.{Act}
 use Rattle.fw_daemon.specs.Daemon.{Daemon, Hears}
 use Rattle.fw_daemon.specs.Rounds.{IsRound, with_reply}
 use Rattle.fw_daemon.specs.declared.daemon.Heard.TheVariants as heard

@@ -5,7 +5,8 @@ use Rattle.std.specs.Prelude.{ℕ, Bool, IsTrue, Option, Some, None}
 use Rattle.fw_names.specs.Name.{Name}
 use Rattle.fw_meter.specs.declared.meter.Handled.{Handled}
 use Rattle.fw_meter.specs.Handling.{reply_bytes}
-use Rattle.fw_daemon.specs.Acts.{Act, came, quiet, sent}
+use Rattle.fw_port.specs.Acts.{came, quiet, sent}
+use Rattle.fw_daemon.specs.Acts.{Act}
 use Rattle.fw_daemon.specs.Daemon.{Daemon, Hears, IsServed, TakesTurn}
 use Rattle.fw_daemon.specs.Serving.{Serving, Serves, Takes}
 use Rattle.fw_daemon.specs.declared.daemon.Heard.TheVariants as heard

@@ -1,11 +1,6 @@
--- Public vocabulary: what a daemon does to the outside, and what comes from there.
-use Rattle.std.specs.Prelude.{ℕ, List}
-use Rattle.std.specs.declared.net.socket_addr.SocketAddr.{SocketAddr}
+-- Public vocabulary: what the daemon of a meter does to the outside, and what comes from there. It makes no reports.
+use Rattle.fw_port.specs.Acts as port
+use Rattle.fw_port.specs.declared.port.NoReport.{NoReport}
 
-pub data Act : Type 0 where
-  -- these bytes came from an address
-  came : SocketAddr → List ℕ → Act
-  -- nothing came in time
-  quiet : Act
-  -- these bytes were sent to an address
-  sent : SocketAddr → List ℕ → Act
+abbrev pub Act : Type 0
+Act = port.Act NoReport

@@ -2,7 +2,8 @@
 use Rattle.std.specs.Prelude.{◌≡◌, ◌⊎◌, ◌++◌, ℕ, List, [], ◌∷◌, Option, Some, ⊤}
 use Rattle.std.specs.declared.net.socket_addr.SocketAddr.{SocketAddr}
 use Rattle.fw_names.specs.Name.{Name}
-use Rattle.fw_daemon.specs.Acts.{Act, came, quiet, sent}
+use Rattle.fw_port.specs.Acts.{came, quiet, sent}
+use Rattle.fw_daemon.specs.Acts.{Act}
 use Rattle.fw_daemon.specs.Daemon.{Answers, Daemon, MayAsk}
 use Rattle.fw_daemon.specs.Serving.{Serving}
 

@@ -3,7 +3,8 @@ use Rattle.std.specs.Prelude.{◌≡◌, ◌⊎◌, ℕ, List, ◌∷◌, Option
 use Rattle.std.specs.declared.net.socket_addr.SocketAddr.{SocketAddr}
 use Rattle.fw_names.specs.Name.{Name}
 use Rattle.fw_meter.specs.Handling.{reply_bytes}
-use Rattle.fw_daemon.specs.Acts.{Act, came, quiet, sent}
+use Rattle.fw_port.specs.Acts.{came, quiet, sent}
+use Rattle.fw_daemon.specs.Acts.{Act}
 use Rattle.fw_daemon.specs.Daemon.{Daemon, Hears, TakesTurn}
 use Rattle.fw_daemon.specs.declared.daemon.Heard.{Heard}
 use Rattle.fw_daemon.specs.declared.daemon.Heard.TheVariants as heard

@@ -3,7 +3,8 @@ use Rattle.std.specs.Prelude.{◌≡◌, ◌⊎◌, ◌++◌, ℕ, List, [], ◌
 use Rattle.std.specs.declared.net.socket_addr.SocketAddr.{SocketAddr}
 use Rattle.fw_names.specs.Name.{Name}
 use Rattle.fw_meter.specs.Handling.{MayWantMemory}
-use Rattle.fw_daemon.specs.Acts.{Act, came, quiet, sent}
+use Rattle.fw_port.specs.Acts.{came, quiet, sent}
+use Rattle.fw_daemon.specs.Acts.{Act}
 use Rattle.fw_daemon.specs.Daemon.{Daemon, IsServed, MayAsk, TakesTurn, one_more}
 
 -- a datagram from an address that may ask is handled, with this reply or none
@@ -32,16 +33,14 @@ Takes old from datagram reply new =
 
 -- What was done, the newest first, is what a daemon does that was as start and is as now. A datagram that it sent is its reply to the
 -- one that came just before, and goes to where that came from. One after which none was sent has no reply. Where nothing came, the meter
--- took a turn.
+-- took a turn. It does nothing else.
 abbrev pub Serving : Daemon → List Act → Daemon → Type 0
 Serving start [] now = now ≡ start
 Serving start (quiet ∷ done) now = (before : Daemon) × Serving start done before × TakesTurn before now
 Serving start (came from datagram ∷ done) now = (before : Daemon) × Serving start done before × Takes before from datagram None now
-Serving start (sent to bytes ∷ []) now = ⊥
-Serving start (sent to bytes ∷ quiet ∷ done) now = ⊥
-Serving start (sent to bytes ∷ sent other more ∷ done) now = ⊥
 Serving start (sent to bytes ∷ came from datagram ∷ done) now =
     (before : Daemon) × Serving start done before × (to ≡ from) × Takes before from datagram (Some bytes) now
+Serving start (act ∷ done) now = ⊥
 
 -- after what was done before, a daemon did this, and is as now
 pub record Serves (start : Daemon) (before after : List Act) (now : Daemon) : Type 0 where

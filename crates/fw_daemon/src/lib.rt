@@ -4,12 +4,8 @@
 mod daemon;
 pub mod laws;
 mod list;
-mod port;
 mod serving;
-mod udp;
 
 pub use daemon::{Dropped, Heard, MeterDaemon};
-pub use list::{Datagram, Deed, ListPort, serve_list};
-pub use port::{Arrival, Closed, MAX_RECEIVED, Patience, Port};
+pub use list::serve_list;
 pub use serving::{Watch, serve, step};
-pub use udp::{SocketError, UdpPort};

@@ -7,9 +7,9 @@ ghost use Rattle.fw_daemon.specs.Rounds.{IsRound};
 ghost use Rattle.fw_daemon.specs.Serving.{Serving, Serves};
 
 use crate::daemon::{Dropped, Heard, MeterDaemon};
-use crate::port::{Closed, MAX_RECEIVED, Patience, Port};
 use fw_meter::Handled;
 use fw_names::ImageName;
+use fw_port::{Closed, MAX_RECEIVED, NoReport, Patience, Port};
 use fw_store::ImageStore;
 use std::alloc::Global;
 use std::sync::Wait;
@@ -27,7 +27,7 @@ pub trait Watch {
 /// # Errors
 ///
 /// `Closed` where the port is closed. Nothing was done then.
-pub fn step<P: Port, S: ImageStore + Drop>(
+pub fn step<P: Port<NoReport>, S: ImageStore + Drop>(
     alloc: Global,
     port: &mut P,
     daemon: &mut MeterDaemon<S>,
@@ -73,7 +73,7 @@ pub fn step<P: Port, S: ImageStore + Drop>(
 }
 
 /// Serves until the port is closed.
-pub fn serve<R: Wait, P: Port, S: ImageStore + Drop, W: Watch>(
+pub fn serve<R: Wait, P: Port<NoReport>, S: ImageStore + Drop, W: Watch>(
     rt: &R,
     alloc: Global,
     port: &mut P,

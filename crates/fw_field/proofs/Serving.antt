@@ -5,7 +5,8 @@ use Rattle.std.proofs.lemmas.List.Elements.{Contains-append_left, Contains-appen
 use Rattle.std.specs.declared.net.socket_addr.SocketAddr.{SocketAddr}
 use Rattle.fw_names.specs.Name.{Name}
 use Rattle.fw_meter.specs.Handling.{reply_bytes}
-use Rattle.fw_daemon.specs.Acts.{Act, came, quiet, sent}
+use Rattle.fw_port.specs.Acts.{came, quiet, sent}
+use Rattle.fw_daemon.specs.Acts.{Act}
 use Rattle.fw_daemon.specs.Daemon.{Daemon, Hears, MayAsk, TakesTurn}
 use Rattle.fw_daemon.specs.Rounds.{GoesOnAfter, activated_by, reply_of}
 use Rattle.fw_daemon.specs.Serving.{Serving, Takes}
@@ -133,13 +134,11 @@ module _ (address : ℕ → SocketAddr) (f : Field) (number : ℕ) (start : Daem
   serves there now (came from datagram ∷ done) (before, s, takes) from_it =
       taken before now from datagram None (serves there before done s (λ other bytes has. from_it other bytes (later (came from datagram) (came other bytes) done has))) takes
       (from_it from datagram (first_is (came from datagram) done))
-  serves there now (sent to bytes ∷ []) s from_it = absurd s
-  serves there now (sent to bytes ∷ quiet ∷ done) s from_it = absurd s
-  serves there now (sent to bytes ∷ sent other more ∷ done) s from_it = absurd s
   serves there now (sent to bytes ∷ came from datagram ∷ done) (before, s, same, takes) from_it =
       taken before now from datagram (Some bytes)
       (serves there before done s (λ other more has. from_it other more (later (sent to bytes) (came other more) (came from datagram ∷ done) (later (came from datagram) (came other more) done has)))) takes
       (from_it from datagram (later (sent to bytes) (came from datagram) (came from datagram ∷ done) (first_is (came from datagram) done)))
+  serves there now (act ∷ done) s from_it = absurd s
 
 pub serving_is_moves : ServingIsMoves
 serving_is_moves address f number start now acts there s from_it =

@@ -3,7 +3,8 @@ use Rattle.std.specs.Prelude.{◌≡◌, ◌⊎◌, ℕ, List, [], ◌∷◌, tr
 use Rattle.std.specs.declared.net.socket_addr.SocketAddr.{SocketAddr}
 use Rattle.fw_names.specs.Name.{Name}
 use Rattle.fw_ledger.specs.declared.record.Ending.TheVariants.{Done}
-use Rattle.fw_daemon.specs.Acts.{Act, came, quiet}
+use Rattle.fw_port.specs.Acts.{came, quiet}
+use Rattle.fw_daemon.specs.Acts.{Act}
 use Rattle.fw_daemon.specs.Daemon.{Daemon, MayAsk, TakesTurn}
 use Rattle.fw_daemon.specs.Rounds.{IsRound, with_reply}
 use Rattle.fw_daemon.specs.Serving.{Serving}

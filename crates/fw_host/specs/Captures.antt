@@ -5,9 +5,9 @@ use Rattle.fw_capture.specs.Spelling.{file_header, packet_bytes}
 use Rattle.std.specs.declared.net.socket_addr.SocketAddr.{SocketAddr}
 use Rattle.fw_capture.specs.declared.packet.Note.TheVariants.{Start, Turn}
 use Rattle.fw_capture.specs.View.{Told, datagram, endpoint_of, note}
-use Rattle.fw_daemon.specs.declared.port.Arrival.{Arrival}
-use Rattle.fw_daemon.specs.declared.port.Patience.{Patience}
-use Rattle.fw_daemon.specs.declared.port.Patience.TheVariants.{Waits, Polls}
+use Rattle.fw_port.specs.declared.port.Arrival.{Arrival}
+use Rattle.fw_port.specs.declared.port.Patience.{Patience}
+use Rattle.fw_port.specs.declared.port.Patience.TheVariants.{Waits, Polls}
 use Rattle.fw_faults.specs.declared.fault.Fault.{Fault}
 use Rattle.fw_faults.specs.declared.fault.Fault.TheVariants.{CaptureFault, ForeignCapture}
 

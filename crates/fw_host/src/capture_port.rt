@@ -7,7 +7,7 @@ ghost use Rattle.fw_host.specs.Captures.{Captures, CapturesSome, arrival_told};
 
 use crate::capture_file::{now, put_record};
 use fw_capture::{Content, Note};
-use fw_daemon::{Arrival, Closed, Patience, Port, UdpPort};
+use fw_port::{Arrival, Closed, NoReport, Patience, Port, UdpPort};
 use std::alloc::Global;
 use std::io::Write;
 use std::net::SocketAddr;
@@ -160,7 +160,7 @@ impl<'a, C: Clock, W: Write + Drop> CapturePort<'a, C, W> {
     }
 }
 
-impl<'a, C: Clock, W: Write + Drop> Port for CapturePort<'a, C, W> {
+impl<'a, C: Clock, W: Write + Drop> Port<NoReport> for CapturePort<'a, C, W> {
     ghost use Rattle.std.specs.Prelude.{false, [], ⊤};
 
     ghost honest = { λ _. false };

@@ -5,7 +5,8 @@ ghost use Rattle.std.specs.Prelude.{◌≡◌};
 use crate::capture_port::CapturePort;
 use crate::head_lines::ended_line;
 use fw_faults::write_text;
-use fw_rollout::{Arrival, Closed, Ended, HeadPort, Patience};
+use fw_port::{Arrival, Closed, Patience, Port};
+use fw_rollout::{Ended, HeadPort};
 use std::alloc::Global;
 use std::io::Write;
 use std::net::SocketAddr;
@@ -51,7 +52,7 @@ impl<'a, C: Clock, W: Write, V: Write + Drop> UdpHeadPort<'a, C, W, V> {
     }
 }
 
-impl<'a, C: Clock, W: Write, V: Write + Drop> HeadPort for UdpHeadPort<'a, C, W, V> {
+impl<'a, C: Clock, W: Write, V: Write + Drop> Port<Ended> for UdpHeadPort<'a, C, W, V> {
     ghost use Rattle.std.specs.Prelude.{false, [], ⊤};
 
     ghost honest = { λ _. false };
@@ -60,6 +61,24 @@ impl<'a, C: Clock, W: Write, V: Write + Drop> HeadPort for UdpHeadPort<'a, C, W,
 
     ghost legal = { λ _ _. ⊤ };
 
+    fn receive(
+        &mut self,
+        patience: Patience,
+        buffer: &mut [u8],
+    ) -> Result<Option<Arrival>, Closed> {
+        self.port.receive(patience, buffer)
+    }
+
+    fn faults(&self) -> u64 {
+        self.port.faults()
+    }
+
+    fn send(&mut self, to: SocketAddr, bytes: &[u8]) {
+        self.port.send(to, bytes);
+    }
+}
+
+impl<'a, C: Clock, W: Write, V: Write + Drop> HeadPort for UdpHeadPort<'a, C, W, V> {
     /// The microseconds since the port was made, and 0 where the system has no time.
     fn now(&self) -> u64 {
         let (Some(began), Ok(now)) = (self.began, Instant::now(self.rt)) else {
@@ -67,33 +86,6 @@ impl<'a, C: Clock, W: Write, V: Write + Drop> HeadPort for UdpHeadPort<'a, C, W,
         };
         let since = now.saturating_duration_since(began).as_micros();
         u64::try_from(since).unwrap_or(u64::MAX)
-    }
-
-    fn receive(
-        &mut self,
-        patience: Patience,
-        buffer: &mut [u8],
-    ) -> Result<Option<Arrival>, Closed> {
-        let patience = match patience {
-            Patience::Waits => fw_daemon::Patience::Waits,
-            Patience::Polls => fw_daemon::Patience::Polls,
-        };
-        match fw_daemon::Port::receive(&mut self.port, patience, buffer) {
-            Ok(Some(arrival)) => Ok(Some(Arrival {
-                from: arrival.from,
-                count: arrival.count,
-            })),
-            Ok(None) => Ok(None),
-            Err(fw_daemon::Closed) => Err(Closed),
-        }
-    }
-
-    fn faults(&self) -> u64 {
-        fw_daemon::Port::faults(&self.port)
-    }
-
-    fn send(&mut self, to: SocketAddr, bytes: &[u8]) {
-        fw_daemon::Port::send(&mut self.port, to, bytes);
     }
 
     /// Writes the line of the row. One that can't be written is lost.

@@ -4,7 +4,8 @@ use Rattle.std.specs.declared.net.socket_addr.SocketAddr.{SocketAddr}
 use Rattle.std.specs.Prelude.{ℕ, Bool, OnErr, Result, Ok, Err}
 use Rattle.fw_rollout.specs.declared.daemon.HeadDaemon.{HeadDaemon}
 use Rattle.fw_rollout.specs.declared.daemon.Heard.{Heard}
-use Rattle.fw_rollout.specs.Acts.{Act, came, quiet}
+use Rattle.fw_port.specs.Acts.{came, quiet}
+use Rattle.fw_rollout.specs.Acts.{Act}
 use Rattle.fw_rollout.specs.Leading.{HasLed, HearsAs, IsListed, Leader, Leads, SavesAll, Steps, TicksMeter, hears, idles, saves, ticks}
 use Rattle.fw_rollout.specs.Daemon.{Begins, GoesOn, IsLed, Rests}
 use Rattle.fw_rollout.proofs.Steps.{leads_by, leads_none, leads_on, may_on}

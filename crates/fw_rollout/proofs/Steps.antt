@@ -5,7 +5,8 @@ use Rattle.std.specs.Prelude.{ℕ}
 use Rattle.std.proofs.lemmas.List.Elements.{All-head}
 use Rattle.fw_head.specs.Head.{IsOfferedIn}
 use Rattle.fw_rollout.specs.declared.ended.Ended.{Ended}
-use Rattle.fw_rollout.specs.Acts.{Act, came, quiet, sent, told}
+use Rattle.fw_port.specs.Acts.{came, quiet, sent, told}
+use Rattle.fw_rollout.specs.Acts.{Act}
 use Rattle.fw_rollout.specs.Leading.{IsAboutToSend, IsAboutToTell, IsNotedIn, Leader, Leading, Leads, MayLead, SavesAll, Step, Steps, TicksMeter, acts_of, hears, idles, saves, sends, tells, ticks}
 
 -- ---- lists of steps

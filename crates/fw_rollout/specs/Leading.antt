@@ -13,7 +13,8 @@ use Rattle.fw_rollout.specs.declared.daemon.Heard.{Heard}
 use Rattle.fw_rollout.specs.declared.daemon.Heard.TheVariants as returned
 use Rattle.fw_rollout.specs.declared.ended.Ended.{Ended}
 use Rattle.fw_rollout.specs.declared.link.Listed.{Listed}
-use Rattle.fw_rollout.specs.Acts.{Act, came, quiet, sent, told}
+use Rattle.fw_port.specs.Acts.{came, quiet, sent, told}
+use Rattle.fw_rollout.specs.Acts.{Act}
 
 -- a head end, its book on the device, and what it is about to do
 pub record Leader : Type 0 where

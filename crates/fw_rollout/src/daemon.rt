@@ -378,21 +378,6 @@ impl<D: JournalDevice + Drop> HeadDaemon<D> {
             ..self.counts
         }
     }
-
-    /// The head end, without its daemon. Marks that wait are not on the device.
-    pub fn into_kept(self) -> KeptHead<D>
-        ensures { result ≡ kept_of self }
-    {
-        let HeadDaemon {
-            alloc: _,
-            kept,
-            schedule: _,
-            ended: _,
-            held_since: _,
-            counts: _,
-        } = self;
-        kept
-    }
 }
 
 /// The schedule of a head end that asks these meters, of which none was asked yet.

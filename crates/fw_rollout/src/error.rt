@@ -4,9 +4,9 @@ ghost use Rattle.std.specs.Prelude.{◌≡◌};
 ghost use Rattle.fw_rollout.specs.Stopping.{stop_of};
 ghost use Rattle.fw_rollout.specs.declared.error.Stop.TheVariants as stop;
 
-use crate::port::Closed;
 use fw_head::OutOfMemory;
 use fw_kept::KeptError;
+use fw_port::Closed;
 use std::alloc::{AllocError, AllocFailed};
 use std::fmt;
 use thiserror::Error;

@@ -10,8 +10,9 @@ ghost use Rattle.fw_rollout.specs.Daemon.{Begins, GoesOn, IsLed, IsOver, Rests};
 use crate::daemon::{Counts, HeadDaemon};
 use crate::ended::Ended;
 use crate::error::Stop;
-use crate::port::{HeadPort, MAX_RECEIVED, Patience};
+use crate::port::HeadPort;
 use fw_journal::JournalDevice;
+use fw_port::{MAX_RECEIVED, Patience};
 use std::net::SocketAddr;
 use std::sync::Wait;
 

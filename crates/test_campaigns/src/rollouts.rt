@@ -2,10 +2,8 @@
 
 use crate::setting::{coming, listed, new_daemon, number_of, push_ended};
 use crate::subject::Subject;
-use fw_rollout::{
-    Arrival, Closed, Counts, Datagram, Deed, Ended, HeadPort, HeadWatch, MeterList, Patience, Stop,
-    lead_list, step_head,
-};
+use fw_port::{Arrival, Closed, Datagram, Deed, Patience, Port};
+use fw_rollout::{Counts, Ended, HeadPort, HeadWatch, MeterList, Stop, lead_list, step_head};
 use std::alloc::Global;
 use std::net::SocketAddr;
 use std::test::Fail;
@@ -150,7 +148,7 @@ struct Quiet {
     sent: u64,
 }
 
-impl HeadPort for Quiet {
+impl Port<Ended> for Quiet {
     ghost use Rattle.std.specs.Prelude.{false, [], ⊤};
 
     ghost honest = { λ _. false };
@@ -158,10 +156,6 @@ impl HeadPort for Quiet {
     ghost acts = { λ _. [] };
 
     ghost legal = { λ _ _. ⊤ };
-
-    fn now(&self) -> u64 {
-        0
-    }
 
     fn receive(
         &mut self,
@@ -177,6 +171,12 @@ impl HeadPort for Quiet {
 
     fn send(&mut self, _to: SocketAddr, _bytes: &[u8]) {
         self.sent = self.sent.saturating_add(1);
+    }
+}
+
+impl HeadPort for Quiet {
+    fn now(&self) -> u64 {
+        0
     }
 
     fn tell(&mut self, _ended: Ended) {}
@@ -215,7 +215,7 @@ fn all_coming(alloc: Global) -> Result<Vec<Option<Datagram>>, Fail> {
 }
 
 /// The deeds and the stop.
-fn deeds_text(alloc: Global, deeds: &[Deed], stop: Option<Stop>) -> Result<String, Fail> {
+fn deeds_text(alloc: Global, deeds: &[Deed<Ended>], stop: Option<Stop>) -> Result<String, Fail> {
     let mut text = String::new(alloc);
     for deed in deeds {
         match deed {

@@ -1,8 +1,8 @@
 //! What a port with a capture records, over UDP on this machine: what comes, what is sent, and a turn of a meter. `dissect` tells it.
 
-use fw_daemon::{Closed, Patience, Port, UdpPort};
 use fw_dissect::dissect;
 use fw_host::CapturePort;
+use fw_port::{Closed, Patience, Port, UdpPort};
 use fw_recording::write_header;
 use std::alloc::Global;
 use std::io::Write;

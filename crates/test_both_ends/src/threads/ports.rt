@@ -1,7 +1,8 @@
 //! The daemon of a meter over a UDP socket on this machine.
 
-use fw_daemon::{MeterDaemon, Port, UdpPort, step};
+use fw_daemon::{MeterDaemon, step};
 use fw_meter::MeterCore;
+use fw_port::{Port, UdpPort};
 use fw_store::MemoryStore;
 use std::alloc::Global;
 use std::net::{Ipv4Addr, Net, SocketAddr, UdpSocket};

@@ -1,6 +1,7 @@
 use Rattle.std.proofs.Common.{rules, ◌≡◌, ◌∷◌, List, [], Some, None, Bool, IsTrue, take, sym, subst, refl, inl, inr}
 use Rattle.fw_meter.specs.Handling.{reply_bytes}
-use Rattle.fw_daemon.specs.Acts.{Act, came, quiet, sent}
+use Rattle.fw_port.specs.Acts.{came, quiet, sent}
+use Rattle.fw_daemon.specs.Acts.{Act}
 use Rattle.fw_daemon.specs.Daemon.{daemon_of}
 use Rattle.fw_daemon.proofs.Rounds.{replied, silent}
 use Rattle.fw_daemon.specs.declared.daemon.Heard.TheVariants as heard

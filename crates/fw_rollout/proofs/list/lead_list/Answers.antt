@@ -2,8 +2,9 @@ use Rattle.std.proofs.Common.{◌++◌, ◌∙◌, List, [], sym, ap, subst, ref
 use Rattle.std.proofs.lemmas.List.{append-nil}
 use Rattle.std.specs.Global.{Vec}
 use Rattle.fw_rollout.specs.Leading as leading
-use Rattle.fw_rollout.specs.Lists.{acts_of}
-use Rattle.fw_rollout.specs.declared.list.Deed.{Deed}
+use Rattle.fw_port.specs.Lists.{acts_of}
+use Rattle.fw_port.specs.declared.list.Deed.{Deed}
+use Rattle.fw_rollout.specs.declared.ended.Ended.{Ended}
 use Rattle.fw_rollout.proofs.list.lead_list.Goals as goal
 
 pub serve_head-requires : goal.serve_head-requires
@@ -13,7 +14,7 @@ serve_head-requires g c = record {
     led = c.requires.1;
     rests = c.requires.2;
     may = λ steps now led.
-        (c.requires.0, steps, now, led, ap (λ (deeds : List Deed). leading.acts_of steps ++ acts_of deeds) c.new-port.ensures ∙ append-nil (leading.acts_of steps));
+        (c.requires.0, steps, now, led, ap (λ (deeds : List (Deed Ended)). leading.acts_of steps ++ acts_of deeds) c.new-port.ensures ∙ append-nil (leading.acts_of steps));
   };
 }
 
@@ -21,5 +22,5 @@ pub returns-clause-leads : goal.returns-clause-leads
 returns-clause-leads g c = λ start led rests.
     let after = acts_of c.serve_head.new.port.deeds.items in
     let done : leading.HasLed start (acts_of c.new-port.result.deeds.items) after = c.serve_head.ensures.leads refl start led rests in
-    let begun : leading.HasLed start [] after = subst (λ (deeds : List Deed). leading.HasLed start (acts_of deeds) after) c.new-port.ensures done in
-    subst (λ (deeds : Vec Deed). leading.HasLed start [] (acts_of deeds.items)) (sym c.into_deeds.ensures) begun
+    let begun : leading.HasLed start [] after = subst (λ (deeds : List (Deed Ended)). leading.HasLed start (acts_of deeds) after) c.new-port.ensures done in
+    subst (λ (deeds : Vec (Deed Ended)). leading.HasLed start [] (acts_of deeds.items)) (sym c.into_deeds.ensures) begun

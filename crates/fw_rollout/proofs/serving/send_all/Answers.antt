@@ -19,13 +19,13 @@ next_bytes datagrams i datagram bytes inside at is =
 
 pub send-requires : goal.send-requires
 send-requires g c = λ h.
-    let honest : IsTrue (g.P.HeadPort.honest c.args.port.now) = subst (λ (b : Bool). IsTrue b) c.loop-datagram.invariant.1 h in
+    let honest : IsTrue (g.P.Port.honest c.args.port.now) = subst (λ (b : Bool). IsTrue b) c.loop-datagram.invariant.1 h in
     let begins = c.requires honest in
     let i = c.loop-datagram.datagram-index in
     let all = bytes_of c.args.datagrams.now in
     let left = next_bytes c.args.datagrams.now i c.datagram-item.result c.deref.result.now (omega arith) c.datagram-item.is c.deref.ensures.value in
-    may_send (g.P.HeadPort.legal c.args.port.now) (g.P.HeadPort.legal c.loop-datagram.port) begins.0 c.args.to c.deref.result.now (drop i all) (drop (i + 1) all)
-    (g.P.HeadPort.acts c.args.port.now) (g.P.HeadPort.acts c.loop-datagram.port) c.loop-datagram.invariant.2 left
+    may_send (g.P.Port.legal c.args.port.now) (g.P.Port.legal c.loop-datagram.port) begins.0 c.args.to c.deref.result.now (drop i all) (drop (i + 1) all)
+    (g.P.Port.acts c.args.port.now) (g.P.Port.acts c.loop-datagram.port) c.loop-datagram.invariant.2 left
     (All-drop (IsOfferedIn begins.0.synced) i all begins.1.offered) begins.2 (c.loop-datagram.invariant.0 honest begins.0 begins.1)
 
 pub loop-datagram-preserved : goal.loop-datagram-preserved
@@ -35,8 +35,8 @@ loop-datagram-preserved g c =
     let left = next_bytes c.args.datagrams.now i c.datagram-item.result c.deref.result.now (omega arith) c.datagram-item.is c.deref.ensures.value in (
       λ honest start about.
           let is = subst (λ (b : Bool). IsTrue b) (sym c.loop-datagram.invariant.1) honest in
-          sends_on start c.args.to c.deref.result.now (drop i all) (drop (i + 1) all) (g.P.HeadPort.acts c.args.port.now) (g.P.HeadPort.acts c.loop-datagram.port)
-          (g.P.HeadPort.acts c.send.new.self) left (All-drop (IsOfferedIn start.synced) i all about.offered) (c.loop-datagram.invariant.0 honest start about) (c.send.ensures.sent is),
+          sends_on start c.args.to c.deref.result.now (drop i all) (drop (i + 1) all) (g.P.Port.acts c.args.port.now) (g.P.Port.acts c.loop-datagram.port)
+          (g.P.Port.acts c.send.new.self) left (All-drop (IsOfferedIn start.synced) i all about.offered) (c.loop-datagram.invariant.0 honest start about) (c.send.ensures.sent is),
       c.send.ensures.honesty ∙ c.loop-datagram.invariant.1,
       λ done legal. c.send.ensures.law done (c.loop-datagram.invariant.2 done legal),
     )
@@ -46,5 +46,5 @@ returns-clause-sends g c = λ honest start about.
     let items : Vec ℕ → List ℕ = λ (d : Vec ℕ). d.items in
     let all = map items c.args.datagrams.now in
     let none : drop c.loop-datagram.datagram-index all ≡ [] = drop_all c.loop-datagram.datagram-index all (omega (arith, length-map c.args.datagrams.now items)) in
-    subst (λ (l : List (List ℕ)). Leads start (g.P.HeadPort.acts c.args.port.now) (g.P.HeadPort.acts c.loop-datagram.port) (sending start c.args.to l)) none
+    subst (λ (l : List (List ℕ)). Leads start (g.P.Port.acts c.args.port.now) (g.P.Port.acts c.loop-datagram.port) (sending start c.args.to l)) none
     (c.loop-datagram.invariant.0 honest start about)

@@ -8,7 +8,7 @@ use Rattle.fw_rollout.proofs.serving.send_all.Given as goal
 -- the datagrams so far were sent, the others are about to be, and the port goes on to let through what is legal
 abbrev pub invariant-loop-datagram : goal.invariant-loop-datagram
 invariant-loop-datagram g l =
-    (IsTrue (g.P.HeadPort.honest l.fn.port) → (start : Leader) → IsAboutToSend start l.to (bytes_of l.datagrams)
-    → Leads start (g.P.HeadPort.acts l.fn.port) (g.P.HeadPort.acts l.port) (sending start l.to (drop l.datagram-index (bytes_of l.datagrams))))
-    × (g.P.HeadPort.honest l.port ≡ g.P.HeadPort.honest l.fn.port)
-    × ((done : List Act) → g.P.HeadPort.legal l.fn.port done → g.P.HeadPort.legal l.port done)
+    (IsTrue (g.P.Port.honest l.fn.port) → (start : Leader) → IsAboutToSend start l.to (bytes_of l.datagrams)
+    → Leads start (g.P.Port.acts l.fn.port) (g.P.Port.acts l.port) (sending start l.to (drop l.datagram-index (bytes_of l.datagrams))))
+    × (g.P.Port.honest l.port ≡ g.P.Port.honest l.fn.port)
+    × ((done : List Act) → g.P.Port.legal l.fn.port done → g.P.Port.legal l.port done)

@@ -11,11 +11,11 @@ returns-in_err-due-clause-leads_err g c = λ honest start led rests.
 pub send_all-requires : goal.send_all-requires
 send_all-requires g c = λ h.
     let was = c.loop.invariant in
-    let honest : IsTrue (g.P.HeadPort.honest c.args.port.now) = subst (λ (b : Bool). IsTrue b) was.1 h in
-    let begins = begins_on _ _ _ c.args.daemon.now c.loop.daemon (g.P.HeadPort.legal c.args.port.now) (g.P.HeadPort.legal c.loop.port) _ _ was.2
+    let honest : IsTrue (g.P.Port.honest c.args.port.now) = subst (λ (b : Bool). IsTrue b) was.1 h in
+    let begins = begins_on _ _ _ c.args.daemon.now c.loop.daemon (g.P.Port.legal c.args.port.now) (g.P.Port.legal c.loop.port) _ _ was.2
     (c.requires.begins honest) (was.0 honest) in
     let made = rw c.in-Some.is at (c.in_ok-due.ensures.ticks begins.leader begins.led begins.rests.sent_all) in
-    (made.0, rw c.deref.ensures.value made.3, may_tick (g.P.HeadPort.legal c.loop.port) begins.leader made.0 c.in-Some.due.meter _ begins.may made.1)
+    (made.0, rw c.deref.ensures.value made.3, may_tick (g.P.Port.legal c.loop.port) begins.leader made.0 c.in-Some.due.meter _ begins.may made.1)
 
 pub returns-in-None-clause-leads : goal.returns-in-None-clause-leads
 returns-in-None-clause-leads g c = λ honest start led rests.
@@ -27,7 +27,7 @@ pub loop-preserved : goal.loop-preserved
 loop-preserved g c =
     let was = c.loop.invariant in (
       λ honest start led rests.
-          let then : IsTrue (g.P.HeadPort.honest c.loop.port) = subst (λ (b : Bool). IsTrue b) (sym was.1) honest in
+          let then : IsTrue (g.P.Port.honest c.loop.port) = subst (λ (b : Bool). IsTrue b) (sym was.1) honest in
           let one = was.0 honest start led rests in
           let made = rw c.in-Some.is at (c.in_ok-due.ensures.ticks one.now one.led one.rests.sent_all) in
           joined _ _ _ c.loop.daemon c.due.new.self start _ _ _ one

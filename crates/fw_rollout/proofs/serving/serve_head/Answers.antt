@@ -6,7 +6,7 @@ pub step_with-requires : goal.step_with-requires
 step_with-requires g c = record {
   begins = λ h.
       let was = c.loop.invariant in
-      let honest : IsTrue (g.P.HeadPort.honest c.args.port.now) = subst (λ (b : Bool). IsTrue b) was.3 h in
+      let honest : IsTrue (g.P.Port.honest c.args.port.now) = subst (λ (b : Bool). IsTrue b) was.3 h in
       begins_on _ _ _ c.args.daemon.now c.loop.daemon _ _ _ _ was.4 (c.requires.begins honest) (was.2 honest);
 }
 
@@ -16,7 +16,7 @@ loop-preserved g c =
       search rules,
       search rules,
       λ honest start led rests.
-          let then : IsTrue (g.P.HeadPort.honest c.loop.port) = subst (λ (b : Bool). IsTrue b) (sym was.3) honest in
+          let then : IsTrue (g.P.Port.honest c.loop.port) = subst (λ (b : Bool). IsTrue b) (sym was.3) honest in
           goes_on _ _ _ c.loop.daemon c.step_with.new.daemon start _ _ _ (was.2 honest start led rests) (c.in_ok-step_with.ensures.leads then),
       c.step_with.ensures.honesty ∙ was.3,
       λ done legal. c.step_with.ensures.law done (was.4 done legal),
@@ -25,7 +25,7 @@ loop-preserved g c =
 pub returns-in_err-step_with-clause-leads : goal.returns-in_err-step_with-clause-leads
 returns-in_err-step_with-clause-leads g c = λ honest start led rests.
     let was = c.loop.invariant in
-    let then : IsTrue (g.P.HeadPort.honest c.loop.port) = subst (λ (b : Bool). IsTrue b) (sym was.3) honest in
+    let then : IsTrue (g.P.Port.honest c.loop.port) = subst (λ (b : Bool). IsTrue b) (sym was.3) honest in
     let one = was.2 honest start led rests in
     has_led_on _ _ _ c.loop.daemon start _ _ _ one (c.in_err-step_with.ensures.leads_err then one.now one.led one.rests)
 

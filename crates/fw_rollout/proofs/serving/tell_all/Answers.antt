@@ -12,13 +12,13 @@ next_ended saved i ended inside at = drop_more saved i ended inside ∙ ap (λ (
 
 pub tell-requires : goal.tell-requires
 tell-requires g c = λ h.
-    let honest : IsTrue (g.P.HeadPort.honest c.args.port.now) = subst (λ (b : Bool). IsTrue b) c.loop-ended.invariant.1 h in
+    let honest : IsTrue (g.P.Port.honest c.args.port.now) = subst (λ (b : Bool). IsTrue b) c.loop-ended.invariant.1 h in
     let begins = c.requires honest in
     let i = c.loop-ended.ended-index in
     let all = c.args.saved.now in
     let left = next_ended all i c.ended-item.result (omega arith) c.ended-item.is in
-    may_tell (g.P.HeadPort.legal c.args.port.now) (g.P.HeadPort.legal c.loop-ended.port) begins.0 c.ended-item.result (drop i all) (drop (i + 1) all)
-    (g.P.HeadPort.acts c.args.port.now) (g.P.HeadPort.acts c.loop-ended.port) c.loop-ended.invariant.2 left
+    may_tell (g.P.Port.legal c.args.port.now) (g.P.Port.legal c.loop-ended.port) begins.0 c.ended-item.result (drop i all) (drop (i + 1) all)
+    (g.P.Port.acts c.args.port.now) (g.P.Port.acts c.loop-ended.port) c.loop-ended.invariant.2 left
     (All-drop (IsNotedIn begins.0.synced) i all begins.1.on_device) begins.2 (c.loop-ended.invariant.0 honest begins.0 begins.1)
 
 pub loop-ended-preserved : goal.loop-ended-preserved
@@ -28,8 +28,8 @@ loop-ended-preserved g c =
     let left = next_ended all i c.ended-item.result (omega arith) c.ended-item.is in (
       λ honest start about.
           let is = subst (λ (b : Bool). IsTrue b) (sym c.loop-ended.invariant.1) honest in
-          tells_on start c.ended-item.result (drop i all) (drop (i + 1) all) (g.P.HeadPort.acts c.args.port.now) (g.P.HeadPort.acts c.loop-ended.port)
-          (g.P.HeadPort.acts c.tell.new.self) left (All-drop (IsNotedIn start.synced) i all about.on_device)
+          tells_on start c.ended-item.result (drop i all) (drop (i + 1) all) (g.P.Port.acts c.args.port.now) (g.P.Port.acts c.loop-ended.port)
+          (g.P.Port.acts c.tell.new.self) left (All-drop (IsNotedIn start.synced) i all about.on_device)
           (c.loop-ended.invariant.0 honest start about) (c.tell.ensures.told is),
       c.tell.ensures.honesty ∙ c.loop-ended.invariant.1,
       λ done legal. c.tell.ensures.law done (c.loop-ended.invariant.2 done legal),
@@ -38,5 +38,5 @@ loop-ended-preserved g c =
 pub returns-clause-tells : goal.returns-clause-tells
 returns-clause-tells g c = λ honest start about.
     let none : drop c.loop-ended.ended-index c.args.saved.now ≡ [] = drop_all c.loop-ended.ended-index c.args.saved.now (omega arith) in
-    subst (λ (l : List Ended). Leads start (g.P.HeadPort.acts c.args.port.now) (g.P.HeadPort.acts c.loop-ended.port) (telling start l)) none
+    subst (λ (l : List Ended). Leads start (g.P.Port.acts c.args.port.now) (g.P.Port.acts c.loop-ended.port) (telling start l)) none
     (c.loop-ended.invariant.0 honest start about)

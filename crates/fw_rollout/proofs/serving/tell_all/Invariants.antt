@@ -7,7 +7,7 @@ use Rattle.fw_rollout.proofs.serving.tell_all.Given as goal
 -- the rows so far were reported, the others are about to be, and the port goes on to let through what is legal
 abbrev pub invariant-loop-ended : goal.invariant-loop-ended
 invariant-loop-ended g l =
-    (IsTrue (g.P.HeadPort.honest l.fn.port) → (start : Leader) → IsAboutToTell start l.saved
-    → Leads start (g.P.HeadPort.acts l.fn.port) (g.P.HeadPort.acts l.port) (telling start (drop l.ended-index l.saved)))
-    × (g.P.HeadPort.honest l.port ≡ g.P.HeadPort.honest l.fn.port)
-    × ((done : List Act) → g.P.HeadPort.legal l.fn.port done → g.P.HeadPort.legal l.port done)
+    (IsTrue (g.P.Port.honest l.fn.port) → (start : Leader) → IsAboutToTell start l.saved
+    → Leads start (g.P.Port.acts l.fn.port) (g.P.Port.acts l.port) (telling start (drop l.ended-index l.saved)))
+    × (g.P.Port.honest l.port ≡ g.P.Port.honest l.fn.port)
+    × ((done : List Act) → g.P.Port.legal l.fn.port done → g.P.Port.legal l.port done)

@@ -11,7 +11,7 @@ tell_all-requires g c = λ honest.
     let made = c.in_ok-saved.ensures.saves begins.leader begins.led begins.rests.told_all in (
       made.0,
       subst (λ (saved : List Ended). IsAboutToTell made.0 saved) (sym c.deref.ensures.value) made.3,
-      may_save (g.P.HeadPort.legal c.args.port.now) begins.leader made.0 (g.P.HeadPort.acts c.args.port.now) begins.may made.1,
+      may_save (g.P.Port.legal c.args.port.now) begins.leader made.0 (g.P.Port.acts c.args.port.now) begins.may made.1,
     )
 
 pub returns-clause-leads : goal.returns-clause-leads

@@ -1,6 +1,6 @@
 //! Ports that are UDP sockets (RFC 768).
 
-use crate::port::{Arrival, Closed, Patience, Port};
+use crate::port::{Arrival, Closed, NoReport, Patience, Port};
 use std::io;
 use std::io::ErrorKind;
 use std::net::{Net, SocketAddr, UdpSocket};
@@ -24,7 +24,7 @@ impl From<io::Error> for SocketError {
     }
 }
 
-/// A UDP socket. Nothing is known of what a network does, so it is not honest.
+/// A UDP socket. Nothing is known of what a network does, so it is not honest. It makes no reports.
 #[derive(Drop)]
 pub struct UdpPort {
     socket: UdpSocket,
@@ -107,7 +107,7 @@ impl UdpPort {
     }
 }
 
-impl Port for UdpPort {
+impl Port<NoReport> for UdpPort {
     ghost use Rattle.std.specs.Prelude.{false, [], ⊤};
 
     ghost honest = { λ _. false };

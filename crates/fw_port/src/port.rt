@@ -14,15 +14,19 @@ ghost use Rattle.std.specs.Prelude.{
   length,
   take,
 };
-ghost use Rattle.fw_daemon.specs.Acts.{Act, came, quiet, sent};
+ghost use Rattle.fw_port.specs.Acts.{Act, came, quiet, sent};
 
+use fw_wrapper::MAX_APDU;
 use std::fmt;
 use std::net::SocketAddr;
 use thiserror::Error;
 
+/// The bytes of the wrapper's header.
+const HEADER_SIZE: usize = 8;
+
 /// The bytes of the buffer that a daemon receives into: one more than a datagram of this profile can have, so a longer one, which is
 /// cut, is none.
-pub const MAX_RECEIVED: usize = 2313;
+pub const MAX_RECEIVED: usize = HEADER_SIZE + MAX_APDU + 1;
 
 /// The port is closed: nothing comes any more.
 #[derive(Clone, Copy, Debug, Error)]
@@ -52,16 +56,21 @@ pub struct Arrival {
     pub count: usize,
 }
 
-/// Where datagrams come from and go to. What an honest port did is known, and it lets through only what is legal.
-pub trait Port {
+/// The report of a daemon that makes none: there is no such value.
+#[derive(Clone, Copy)]
+pub enum NoReport {}
+
+/// Where datagrams come from and go to. What an honest port did is known, and it lets through only what is legal. A daemon that makes
+/// reports makes them in its port too, since their place among the datagrams counts: it has a trait of its own for that.
+pub trait Port<Report> {
     /// Whether the port does what is said below.
     ghost honest: { Self → Bool };
 
-    /// What came and was sent, and when nothing came, the newest first.
-    ghost acts: { Self → List Act };
+    /// What came, was sent and was reported, and when nothing came, the newest first.
+    ghost acts: { Self → List (Act Report) };
 
-    /// What may have been done once a datagram was sent.
-    ghost legal: { Self → List Act → Type 0 };
+    /// What may have been done once a datagram was sent or a report made.
+    ghost legal: { Self → List (Act Report) → Type 0 };
 
     /// Receives the next datagram into the buffer, cut to its length. `None` says that none came in time.
     ///
@@ -74,7 +83,7 @@ pub trait Port {
             (λ a. acts self.new ≡ came a.from (take a.count buffer.new) ∷ acts self.old)) }
         ensures closed { IsTrue (honest self.old) → OnErr result (acts self.new ≡ acts self.old) }
         ensures honesty { honest self.new ≡ honest self.old }
-        ensures law { (done : List Act) → legal self.old done → legal self.new done };
+        ensures law { (done : List (Act Report)) → legal self.old done → legal self.new done };
 
     /// How often the port failed so far, up to 2^64 - 1: an honest one never does.
     fn faults(&self) -> u64
@@ -85,5 +94,5 @@ pub trait Port {
         requires { IsTrue (honest self.old) → legal self.old (sent to bytes.now ∷ acts self.old) }
         ensures sent { IsTrue (honest self.old) → acts self.new ≡ sent to bytes.now ∷ acts self.old }
         ensures honesty { honest self.new ≡ honest self.old }
-        ensures law { (done : List Act) → legal self.old done → legal self.new done };
+        ensures law { (done : List (Act Report)) → legal self.old done → legal self.new done };
 }

@@ -1,5 +1,5 @@
 use Rattle.std.proofs.Common.{◌≡◌}
-use Rattle.fw_rollout.proofs.list.push.Given as goal
+use Rattle.fw_port.proofs.list.push.Given as goal
 
 -- nothing was appended yet, and the value still waits
 abbrev pub invariant-loop : goal.invariant-loop
