@@ -4,3 +4,5 @@ mod Heads
 mod Readings
 mod Backs
 mod Compacts
+mod Puts
+mod Commits

@@ -1,12 +1,15 @@
 -- Public vocabulary: a head end whose book is kept in a journal, and what a power cut leaves of it.
-use Rattle.std.specs.Prelude.{◌≡◌, ℕ, List, Option, Some, Bool, true, false, ◌||◌}
+use Rattle.std.specs.Prelude.{◌≡◌, ◌⊎◌, ℕ, List, Option, Some, None, Bool, true, false, ◌||◌, Result, OnOk, OnErr, IsErrOf, IsTrue}
 use Rattle.std.specs.Option.{option_map}
 use Rattle.fw_names.specs.Name.{Campaign}
 use Rattle.fw_book.specs.Contents.{Contents, Offered, offered_in}
+use Rattle.fw_book.specs.declared.error.BookError.{BookError}
 use Rattle.fw_head.specs.Head.{Head, HeadHears}
 use Rattle.fw_head.specs.declared.news.News.{News}
 use Rattle.fw_head.specs.declared.news.News.TheVariants.{Nothing, Moved, Done, Failed}
+use Rattle.fw_journal.specs.Device.{LeavesOnly, Keeps as DeviceKeeps}
 use Rattle.fw_journal.specs.Journal as journal
+use Rattle.fw_journal.specs.declared.device.JournalDevice
 use Rattle.fw_journal.specs.declared.journal.Journal.{Journal}
 use Rattle.fw_kept.specs.Kept.{HasBook, Keeps}
 use Rattle.fw_kept.specs.declared.head.KeptHead.{KeptHead}
@@ -79,3 +82,25 @@ pub record HasOffers (book : Contents) (bytes : List ℕ) : Type 0 where
 -- every power cut leaves a book that offers what the one in memory does
 abbrev pub IsBacked : {D : Type 0} → (D → List ℕ → Type 0) → KeptHead D → Type 0
 IsBacked may_leave kept = (left : List ℕ) → may_leave (device_of kept) left → HasOffers kept.head.book left
+
+-- ---- what a call that commits leaves
+
+-- A call that commits what waits, and makes `next` of the book. It is refused for `refusal` of the book first, where that is some;
+-- `fault` says that the device failed, in this call or in an earlier one.
+pub record Commits {D T E : Type 0} (J : JournalDevice.Ghosts D) (fault : E) (refusal : Option BookError) (old : KeptHead D) (result : Result T E) (new : KeptHead D) (next : Contents) : Type 0 where
+  -- from `Ok` on every power cut leaves that book
+  pub acknowledged : (synced : Contents) → Holds J.honest J.contents J.may_leave old synced → OnOk result (Holds J.honest J.contents J.may_leave new next)
+  pub each_cut : (synced : Contents) → Holds J.honest J.contents J.may_leave old synced → OnOk result ((left : List ℕ) → J.may_leave (device_of new) left → HasBook (book_of old).head left next)
+  -- where it is refused, what a power cut leaves and what waits are as they were, or it is broken
+  pub unchanged : (synced : Contents) → Holds J.honest J.contents J.may_leave old synced → OnErr result (Holds J.honest J.contents J.may_leave new synced ⊎ IsTrue (is_broken new))
+  -- a cut at any moment of the call leaves the book of the last commit, or that one
+  pub any_moment : (synced : Contents) → Holds J.honest J.contents J.may_leave old synced
+      → LeavesOnly J.moment J.left_since (device_of old) (device_of new) (λ left. HasBook (book_of old).head left synced ⊎ HasBook (book_of old).head left next)
+  -- also where nothing is committed from now on: every cut leaves a book that offers what the one in memory does
+  pub backed : (synced : Contents) → Holds J.honest J.contents J.may_leave old synced → IsBacked J.may_leave new
+  pub stays_backed : IsTrue (is_broken old) → IsBacked J.may_leave old → IsBacked J.may_leave new
+  -- whatever the device is: what failed once stays failed, and only a device that isn't sound fails
+  pub breaks : IsErrOf result fault → IsTrue (is_broken new)
+  pub broken : IsTrue (is_broken old) → refusal ≡ None → IsErrOf result fault × (new ≡ old)
+  pub never : IsTrue (J.sound (device_of old)) → IsErrOf result fault → IsTrue (is_broken old)
+  pub kept : DeviceKeeps J.honest J.sound (device_of old) (device_of new)

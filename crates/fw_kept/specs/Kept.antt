@@ -1,13 +1,14 @@
 -- Public vocabulary: a book that is kept in a journal, and what a power cut leaves of it.
-use Rattle.std.specs.Prelude.{◌≡◌, ◌≢◌, ℕ, ◌≤◌, ◌^◌, ◌+◌, ◌⊎◌, List, [], ◌∷◌, length, Option, Some, None, Bool, false, ◌||◌}
+use Rattle.std.specs.Prelude.{◌≡◌, ◌≢◌, ℕ, ◌≤◌, ◌^◌, ◌+◌, ◌⊎◌, List, [], ◌∷◌, length, Option, Some, None, Bool}
 use Rattle.fw_names.specs.Name.{Campaign}
 use Rattle.fw_book.specs.Contents.{Contents}
 use Rattle.fw_journal.specs.Book.{Stands}
+use Rattle.fw_journal.specs.Device.{LeavesOnly}
 use Rattle.fw_journal.specs.Journal as journal
+use Rattle.fw_journal.specs.declared.device.JournalDevice
 use Rattle.fw_journal.specs.declared.journal.Journal.{Journal}
 use Rattle.fw_ledger.specs.Entry.{Entry, opening, mark, cancelling, endings, Spells}
 use Rattle.fw_ledger.specs.Replay.{AddsAll, IsBookOf, FailsAt}
-use Rattle.fw_kept.specs.declared.kept.KeptBook.{KeptBook}
 
 -- ---- what bytes hold
 
@@ -57,21 +58,7 @@ pub record HasBadRecord (head : ℕ) (bytes : List ℕ) (index : ℕ) : Type 0 w
   pub fails : FailsAt head records index bad
   pub own : ¬ IsForeign head records
 
--- ---- a kept book
-
--- the book in memory
-abbrev pub book_of : {D : Type 0} → KeptBook D → Contents
-book_of kept = kept.book
-
-abbrev pub journal_of : {D : Type 0} → KeptBook D → Journal D
-journal_of kept = kept.journal
-
-abbrev pub device_of : {D : Type 0} → KeptBook D → D
-device_of kept = journal.device_of kept.journal
-
--- nothing is committed any more
-abbrev pub is_broken : {D : Type 0} → KeptBook D → Bool
-is_broken kept = kept.broken || journal.is_broken kept.journal
+-- ---- a journal of a book
 
 -- the journal, or what waits in it with a record more, has 2^60 bytes or more
 abbrev pub IsFull : {D : Type 0} → Journal D → Type 0
@@ -85,7 +72,7 @@ pub record Keeps {D : Type 0} (honest : D → Bool) (contents : D → List ℕ) 
   pub of_done : IsBookOf head done synced
   pub of_waiting : AddsAll waiting synced book
 
--- Every power cut leaves the book `synced`, and what waits for the next commit makes the book in memory of it.
-pub record Holds {D : Type 0} (honest : D → Bool) (contents : D → List ℕ) (may_leave : D → List ℕ → Type 0) (kept : KeptBook D) (synced : Contents) : Type 0 where
-  pub works : kept.broken ≡ false
-  pub keeps : Keeps honest contents may_leave kept.book.head kept.journal synced kept.book
+-- what a cut at any moment of an opening leaves: what one before it might have left, or a journal of the same records
+abbrev pub LeavesRecords : {D : Type 0} → JournalDevice.Ghosts D → D → D → Type 0
+LeavesRecords J old new =
+    LeavesOnly J.moment J.left_since old new (λ left. J.may_leave old left ⊎ ((records : List (List ℕ)) → Stands (J.contents old) records → Stands left records))

@@ -1,14 +1,18 @@
 -- For private clauses alone: what records are refused for, which can be put into a journal, and what is put in where a row ends.
-use Rattle.std.specs.Prelude.{◌≡◌, ◌≢◌, ℕ, ◌<◌, ◌^◌, List, [], length, Option, Some, None, IsSome}
+use Rattle.std.specs.Prelude.{◌≡◌, ◌≢◌, ◌⊎◌, ℕ, ◌<◌, ◌^◌, List, [], length, Option, Some, None, IsSome, Result, OnOk, OnErr, IsErrOf, IsTrue}
 use Rattle.fw_book.specs.Contents.{Contents, offered_in}
 use Rattle.fw_head.specs.declared.news.News.{News}
 use Rattle.fw_head.specs.declared.news.News.TheVariants as news
+use Rattle.fw_journal.specs.Device.{LeavesOnly, Keeps as DeviceKeeps}
+use Rattle.fw_journal.specs.Journal as journal
+use Rattle.fw_journal.specs.declared.device.JournalDevice
+use Rattle.fw_journal.specs.declared.journal.Journal.{Journal}
 use Rattle.fw_ledger.specs.Entry.{Entry, mark, HasSpelling, entry_bytes}
 use Rattle.fw_ledger.specs.Replay.{Makes, IsBookOf, FailsAt}
 use Rattle.fw_ledger.specs.declared.record.Ending.TheVariants as ending
 use Rattle.fw_kept.specs.declared.error.OpenError.{OpenError}
 use Rattle.fw_kept.specs.declared.error.OpenError.TheVariants.{BadBook, BadRecord, ForeignHead, BookFault, OutOfMemory}
-use Rattle.fw_kept.specs.Kept.{IsForeign}
+use Rattle.fw_kept.specs.Kept.{HasBook, IsForeign, Keeps}
 
 -- the record with this index has no place in the book of those before it, and the first isn't another head end's
 pub record IsBadAt (head : ℕ) (records : List (List ℕ)) (index : ℕ) : Type 0 where
@@ -55,3 +59,15 @@ NewsMake news.Nothing book next = next ≡ book
 NewsMake news.Moved book next = next ≡ book
 NewsMake (news.Done campaign meter) book next = Makes (mark campaign meter ending.Done) book next
 NewsMake (news.Failed campaign meter) book next = Makes (mark campaign meter ending.Failed) book next
+
+-- A call that puts all that waits on the device of a journal, and makes `next` of the book that its records are of: what `Commits` says of
+-- a head end, of its journal alone.
+pub record Puts {D T E : Type 0} (J : JournalDevice.Ghosts D) (fault : E) (old : Journal D) (result : Result T E) (new : Journal D) (book next : Contents) : Type 0 where
+  pub acknowledged : (head : ℕ) (synced : Contents) → Keeps J.honest J.contents J.may_leave head old synced book → OnOk result (Keeps J.honest J.contents J.may_leave head new next next)
+  pub unchanged : (head : ℕ) (synced : Contents) → Keeps J.honest J.contents J.may_leave head old synced book
+      → OnErr result (Keeps J.honest J.contents J.may_leave head new synced book ⊎ IsTrue (journal.is_broken new))
+  pub any_moment : (head : ℕ) (synced : Contents) → Keeps J.honest J.contents J.may_leave head old synced book
+      → LeavesOnly J.moment J.left_since (journal.device_of old) (journal.device_of new) (λ left. HasBook head left synced ⊎ HasBook head left next)
+  pub breaks : IsErrOf result fault → IsTrue (journal.is_broken new)
+  pub never : IsTrue (J.sound (journal.device_of old)) → IsErrOf result fault → IsTrue (journal.is_broken old)
+  pub kept : DeviceKeeps J.honest J.sound (journal.device_of old) (journal.device_of new)

@@ -1,9 +1,5 @@
--- Public vocabulary: what the calls of a kept book are refused for. The refusals of the book come first.
+-- Public vocabulary: what the calls of a kept head end are refused for. The refusals of the book come first.
 use Rattle.std.specs.Prelude.{◌≡◌, Option, Some, None}
-use Rattle.fw_names.specs.Name.{Campaign}
-use Rattle.fw_client.specs.Claim.{Claim}
-use Rattle.fw_book.specs.Contents.{Contents}
-use Rattle.fw_book.specs.Changes.{Confirms, DoneRefused}
 use Rattle.fw_book.specs.declared.error.BookError.{BookError}
 use Rattle.fw_journal.specs.declared.error.JournalError.{JournalError}
 use Rattle.fw_journal.specs.declared.error.JournalError.TheVariants as journal
@@ -19,20 +15,6 @@ IsRefusedFor refusal Full = refusal ≡ None
 IsRefusedFor refusal BookFault = refusal ≡ None
 IsRefusedFor refusal OutOfMemory = refusal ≡ None
 
--- a mark that waits: the book's first refusal; where it has none, memory alone
-abbrev pub IsMarkRefusedFor : Option BookError → KeptError → Type 0
-IsMarkRefusedFor refusal (Refused e) = refusal ≡ Some e
-IsMarkRefusedFor refusal Full = ⊥
-IsMarkRefusedFor refusal BookFault = ⊥
-IsMarkRefusedFor refusal OutOfMemory = refusal ≡ None
-
--- the same of a claim
-abbrev pub IsDoneRefusedFor : Contents → Campaign → Claim → KeptError → Type 0
-IsDoneRefusedFor book campaign claim (Refused e) = DoneRefused book campaign claim e
-IsDoneRefusedFor book campaign claim Full = ⊥
-IsDoneRefusedFor book campaign claim BookFault = ⊥
-IsDoneRefusedFor book campaign claim OutOfMemory = Confirms book campaign claim
-
 -- a commit
 abbrev pub IsCommitRefusal : KeptError → Type 0
 IsCommitRefusal (Refused e) = ⊥
@@ -40,7 +22,7 @@ IsCommitRefusal Full = Unit {0}
 IsCommitRefusal BookFault = Unit {0}
 IsCommitRefusal OutOfMemory = Unit {0}
 
--- what a refusal of the journal is in a call of the book
+-- what a refusal of the journal is in a call of the head end
 abbrev pub kept_error : JournalError → KeptError
 kept_error (journal.BadBook offset) = BookFault
 kept_error journal.NotEmpty = BookFault

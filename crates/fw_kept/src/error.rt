@@ -1,4 +1,4 @@
-//! Why a kept book isn't opened, or refuses a call.
+//! Why a kept head end isn't opened, or refuses a call.
 
 ghost use Rattle.std.specs.Prelude.{◌≡◌};
 ghost use Rattle.fw_kept.specs.declared.error.KeptError.TheVariants.{Refused};
@@ -49,7 +49,7 @@ pub(crate) fn open_error(error: JournalError) -> OpenError
     }
 }
 
-/// Why a kept book refused a call.
+/// Why a kept head end refused a call.
 #[derive(Clone, Copy, Debug, Error)]
 pub enum KeptError {
     /// The book doesn't take it.

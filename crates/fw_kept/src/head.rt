@@ -28,8 +28,8 @@ ghost use Rattle.fw_head.specs.Phase.{IsLive};
 ghost use Rattle.fw_head.specs.Row.{bytes_of};
 ghost use Rattle.fw_head.specs.Head.{row_of, RowsMayWant, new_head, campaign_at, opened_head, cancelled_head, BeginsWith};
 ghost use Rattle.fw_head.specs.Head.{sends_to, ticked_head, HeadHears, IsDoneBy, IsOfferedIn};
-ghost use Rattle.fw_journal.specs.Book.{IsBadBook, Stands};
-ghost use Rattle.fw_journal.specs.Device.{LeavesOnly, Keeps as DeviceKeeps};
+ghost use Rattle.fw_journal.specs.Book.{IsBadBook};
+ghost use Rattle.fw_journal.specs.Device.{Keeps as DeviceKeeps};
 ghost use Rattle.fw_journal.specs.Refusals.{IsMakingRefusal};
 ghost use Rattle.fw_ledger.specs.Replay.{Makes};
 ghost use Rattle.fw_ledger.specs.View.{entry_of};
@@ -37,9 +37,9 @@ ghost use Rattle.fw_kept.specs.Private.{CanBeKept};
 
 use crate::compacting::write_anew;
 use crate::error::{KeptError, OpenError};
-use crate::kept::KeptBook;
 use crate::marking::keep_end;
-use crate::putting::{check_has, opening_of, put};
+use crate::opening::open_book;
+use crate::putting::{check_has, opening_of, put, put_waiting};
 use fw_blocks::Width;
 use fw_head::{HeadCore, News, OutOfMemory};
 use fw_journal::{Journal, JournalDevice, JournalError, Replacer, RewriteError};
@@ -71,13 +71,14 @@ impl<D: JournalDevice + Drop> Drop for KeptHead<D> {
 }
 
 impl<D: JournalDevice> KeptHead<D> {
-    ghost use Rattle.fw_kept.specs.Kept.{HasBook, HasForeign, HasBadRecord, IsFull};
+    ghost use Rattle.fw_kept.specs.Kept.{HasBook, HasForeign, HasBadRecord, IsFull, LeavesRecords};
     ghost use Rattle.fw_kept.specs.Head.{
       head_of,
       book_of,
       journal_of,
       device_of,
       is_broken,
+      Commits,
       Holds,
       LosesMark,
       OfferSame,
@@ -125,7 +126,9 @@ impl<D: JournalDevice> KeptHead<D> {
     ///
     /// # Errors
     ///
-    /// Those of [`KeptBook::open`], and `OutOfMemory` where memory for the rows is refused. The device is returned.
+    /// `BadBook` with an offset where the bytes are no journal's; nothing is written then. `ForeignHead` where the book is another head
+    /// end's, and `BadRecord` with the index of a record that has no place in the book of those before it; the journal has the same records
+    /// then. Else `BookFault` and `OutOfMemory`, which may come in place of these. The device is returned.
     pub fn open(
         alloc: Global,
         head: HeadId,
@@ -146,15 +149,13 @@ impl<D: JournalDevice> KeptHead<D> {
             → HasForeign head (D.contents device)) }
 
         // A cut at any moment of the call leaves what one before it might have left, or a journal of the same records.
-        ensures any_moment { IsTrue (D.honest device) → IfOk result (λ kept. LeavesOnly D.moment D.left_since device (device_of kept)
-            (λ left. D.may_leave device left ⊎ ((records : List (List ℕ)) → Stands (D.contents device) records → Stands left records))) }
-        ensures any_moment_err { IsTrue (D.honest device) → IfErr result (λ e. LeavesOnly D.moment D.left_since device e.1
-            (λ left. D.may_leave device left ⊎ ((records : List (List ℕ)) → Stands (D.contents device) records → Stands left records))) }
+        ensures any_moment { IsTrue (D.honest device) → IfOk result (λ kept. LeavesRecords D.JournalDevice device (device_of kept)) }
+        ensures any_moment_err { IsTrue (D.honest device) → IfErr result (λ e. LeavesRecords D.JournalDevice device e.1) }
         ensures never { IsTrue (D.honest device) → IsTrue (D.sound device) → IfErr result (λ e. e.0 ≢ OpenError.BookFault) }
         ensures kept { IfOk result (λ kept. DeviceKeeps D.honest D.sound device (device_of kept)) }
     {
-        let (book, journal) = match KeptBook::open(alloc, head, device) {
-            Ok(kept) => kept.into_parts(),
+        let (book, journal) = match open_book(alloc, head, device) {
+            Ok(opened) => opened,
             Err(refused) => return Err(refused),
         };
         match HeadCore::of_book(alloc, book, width) {
@@ -295,30 +296,10 @@ impl<D: JournalDevice> KeptHead<D> {
         ensures refused { IfErr result (IsRefusedFor (opening_refusal (book_of self.old) (campaign_at (head_of self.old) serial) image.now
             meters.now)) }
         ensures same { OnErr result (head_of self.new ≡ head_of self.old) }
-        ensures acknowledged { (synced : Contents) → Holds D.honest D.contents D.may_leave self.old synced
-            → OnOk result (Holds D.honest D.contents D.may_leave self.new (book_of self.new)) }
-        ensures each_cut { (synced : Contents) → Holds D.honest D.contents D.may_leave self.old synced
-            → OnOk result ((left : List ℕ) → D.may_leave (device_of self.new) left
-            → HasBook (book_of self.old).head left (book_of self.new)) }
-        ensures unchanged { (synced : Contents) → Holds D.honest D.contents D.may_leave self.old synced
-            → OnErr result (Holds D.honest D.contents D.may_leave self.new synced ⊎ IsTrue (is_broken self.new)) }
-
-        // A cut at any moment of the call leaves the book of the last commit, or that with all marks and this campaign.
-        ensures any_moment { (synced : Contents) → Holds D.honest D.contents D.may_leave self.old synced
-            → LeavesOnly D.moment D.left_since (device_of self.old) (device_of self.new)
-            (λ left. HasBook (book_of self.old).head left synced
-            ⊎ HasBook (book_of self.old).head left (opened (book_of self.old) serial release image.now meters.now)) }
-
-        // Also where nothing is committed from now on: every cut leaves a book that offers what the one in memory does.
-        ensures backed { (synced : Contents) → Holds D.honest D.contents D.may_leave self.old synced → IsBacked D.may_leave self.new }
-        ensures stays_backed { IsTrue (is_broken self.old) → IsBacked D.may_leave self.old → IsBacked D.may_leave self.new }
-        ensures breaks { IsErrOf result KeptError.BookFault → IsTrue (is_broken self.new) }
-        ensures broken { IsTrue (is_broken self.old)
-            → opening_refusal (book_of self.old) (campaign_at (head_of self.old) serial) image.now meters.now ≡ None
-            → IsErrOf result KeptError.BookFault × (self.new ≡ self.old) }
-        ensures never { IsTrue (D.sound (device_of self.old)) → IsErrOf result KeptError.BookFault → IsTrue (is_broken self.old) }
+        ensures commits { Commits D.JournalDevice KeptError.BookFault
+            (opening_refusal (book_of self.old) (campaign_at (head_of self.old) serial) image.now meters.now)
+            self.old result self.new (opened (book_of self.old) serial release image.now meters.now) }
         ensures full { IsErrOf result KeptError.Full → IsFull (journal_of self.old) }
-        ensures kept { DeviceKeeps D.honest D.sound (device_of self.old) (device_of self.new) }
     {
         let opening = self.opening(alloc, serial, release, image, meters)?;
         put(alloc, &mut self.journal, &opening)?;
@@ -347,30 +328,10 @@ impl<D: JournalDevice> KeptHead<D> {
         ensures admitted { OnOk result (cancel_refusal (book_of self.old) (campaign_at (head_of self.old) serial) ≡ None) }
         ensures refused { IfErr result (IsRefusedFor (cancel_refusal (book_of self.old) (campaign_at (head_of self.old) serial))) }
         ensures same { OnErr result (head_of self.new ≡ head_of self.old) }
-        ensures acknowledged { (synced : Contents) → Holds D.honest D.contents D.may_leave self.old synced
-            → OnOk result (Holds D.honest D.contents D.may_leave self.new (book_of self.new)) }
-        ensures each_cut { (synced : Contents) → Holds D.honest D.contents D.may_leave self.old synced
-            → OnOk result ((left : List ℕ) → D.may_leave (device_of self.new) left
-            → HasBook (book_of self.old).head left (book_of self.new)) }
-        ensures unchanged { (synced : Contents) → Holds D.honest D.contents D.may_leave self.old synced
-            → OnErr result (Holds D.honest D.contents D.may_leave self.new synced ⊎ IsTrue (is_broken self.new)) }
-
-        // A cut at any moment of the call leaves the book of the last commit, or that with all marks and this cancelling.
-        ensures any_moment { (synced : Contents) → Holds D.honest D.contents D.may_leave self.old synced
-            → LeavesOnly D.moment D.left_since (device_of self.old) (device_of self.new)
-            (λ left. HasBook (book_of self.old).head left synced
-            ⊎ HasBook (book_of self.old).head left (cancelled (book_of self.old) serial)) }
-
-        // Also where nothing is committed from now on: every cut leaves a book that offers what the one in memory does.
-        ensures backed { (synced : Contents) → Holds D.honest D.contents D.may_leave self.old synced → IsBacked D.may_leave self.new }
-        ensures stays_backed { IsTrue (is_broken self.old) → IsBacked D.may_leave self.old → IsBacked D.may_leave self.new }
-        ensures breaks { IsErrOf result KeptError.BookFault → IsTrue (is_broken self.new) }
-        ensures broken { IsTrue (is_broken self.old)
-            → cancel_refusal (book_of self.old) (campaign_at (head_of self.old) serial) ≡ None
-            → IsErrOf result KeptError.BookFault × (self.new ≡ self.old) }
-        ensures never { IsTrue (D.sound (device_of self.old)) → IsErrOf result KeptError.BookFault → IsTrue (is_broken self.old) }
+        ensures commits { Commits D.JournalDevice KeptError.BookFault
+            (cancel_refusal (book_of self.old) (campaign_at (head_of self.old) serial))
+            self.old result self.new (cancelled (book_of self.old) serial) }
         ensures full { IsErrOf result KeptError.Full → IsFull (journal_of self.old) }
-        ensures kept { DeviceKeeps D.honest D.sound (device_of self.old) (device_of self.new) }
     {
         let cancelling = self.cancelling(serial)?;
         put(alloc, &mut self.journal, &cancelling)?;
@@ -457,32 +418,12 @@ impl<D: JournalDevice> KeptHead<D> {
     /// leaves is as it was, or the head end is broken.
     pub fn commit(&mut self) -> Result<(), KeptError>
         ensures head { head_of self.new ≡ head_of self.old }
-        ensures acknowledged { (synced : Contents) → Holds D.honest D.contents D.may_leave self.old synced
-            → OnOk result (Holds D.honest D.contents D.may_leave self.new (book_of self.old)) }
-        ensures each_cut { (synced : Contents) → Holds D.honest D.contents D.may_leave self.old synced
-            → OnOk result ((left : List ℕ) → D.may_leave (device_of self.new) left
-            → HasBook (book_of self.old).head left (book_of self.old)) }
-        ensures unchanged { (synced : Contents) → Holds D.honest D.contents D.may_leave self.old synced
-            → OnErr result (Holds D.honest D.contents D.may_leave self.new synced ⊎ IsTrue (is_broken self.new)) }
-
-        // A cut at any moment of the call leaves the book of the last commit, or that with all marks.
-        ensures any_moment { (synced : Contents) → Holds D.honest D.contents D.may_leave self.old synced
-            → LeavesOnly D.moment D.left_since (device_of self.old) (device_of self.new)
-            (λ left. HasBook (book_of self.old).head left synced ⊎ HasBook (book_of self.old).head left (book_of self.old)) }
-
-        // Also where nothing is committed from now on: every cut leaves a book that offers what the one in memory does.
-        ensures backed { (synced : Contents) → Holds D.honest D.contents D.may_leave self.old synced → IsBacked D.may_leave self.new }
-        ensures stays_backed { IsTrue (is_broken self.old) → IsBacked D.may_leave self.old → IsBacked D.may_leave self.new }
-        ensures breaks { IsErrOf result KeptError.BookFault → IsTrue (is_broken self.new) }
-        ensures broken { IsTrue (is_broken self.old) → IsErrOf result KeptError.BookFault × (self.new ≡ self.old) }
-        ensures never { IsTrue (D.sound (device_of self.old)) → IsErrOf result KeptError.BookFault → IsTrue (is_broken self.old) }
+        ensures commits { Commits D.JournalDevice KeptError.BookFault None self.old result self.new (book_of self.old) }
         ensures full { IsErrOf result KeptError.Full → IsFull (journal_of self.old) }
         ensures refusals { IfErr result IsCommitRefusal }
-        ensures kept { DeviceKeeps D.honest D.sound (device_of self.old) (device_of self.new) }
     {
         self.check_works()?;
-        self.journal.commit()?;
-        Ok(())
+        put_waiting(&mut self.journal)
     }
 
     /// Puts all marks that wait on the device, as `commit`, and then returns what waited for that, the oldest first: it may be reported now.
@@ -500,28 +441,9 @@ impl<D: JournalDevice> KeptHead<D> {
         ensures emptied { OnOk result (waiting.new.items ≡ []) }
         ensures waits { OnErr result (waiting.new ≡ waiting.old) }
         ensures head { head_of self.new ≡ head_of self.old }
-        ensures acknowledged { (synced : Contents) → Holds D.honest D.contents D.may_leave self.old synced
-            → OnOk result (Holds D.honest D.contents D.may_leave self.new (book_of self.old)) }
-        ensures each_cut { (synced : Contents) → Holds D.honest D.contents D.may_leave self.old synced
-            → OnOk result ((left : List ℕ) → D.may_leave (device_of self.new) left
-            → HasBook (book_of self.old).head left (book_of self.old)) }
-        ensures unchanged { (synced : Contents) → Holds D.honest D.contents D.may_leave self.old synced
-            → OnErr result (Holds D.honest D.contents D.may_leave self.new synced ⊎ IsTrue (is_broken self.new)) }
-
-        // A cut at any moment of the call leaves the book of the last commit, or that with all marks.
-        ensures any_moment { (synced : Contents) → Holds D.honest D.contents D.may_leave self.old synced
-            → LeavesOnly D.moment D.left_since (device_of self.old) (device_of self.new)
-            (λ left. HasBook (book_of self.old).head left synced ⊎ HasBook (book_of self.old).head left (book_of self.old)) }
-
-        // Also where nothing is committed from now on: every cut leaves a book that offers what the one in memory does.
-        ensures backed { (synced : Contents) → Holds D.honest D.contents D.may_leave self.old synced → IsBacked D.may_leave self.new }
-        ensures stays_backed { IsTrue (is_broken self.old) → IsBacked D.may_leave self.old → IsBacked D.may_leave self.new }
-        ensures breaks { IsErrOf result KeptError.BookFault → IsTrue (is_broken self.new) }
-        ensures broken { IsTrue (is_broken self.old) → IsErrOf result KeptError.BookFault × (self.new ≡ self.old) }
-        ensures never { IsTrue (D.sound (device_of self.old)) → IsErrOf result KeptError.BookFault → IsTrue (is_broken self.old) }
+        ensures commits { Commits D.JournalDevice KeptError.BookFault None self.old result self.new (book_of self.old) }
         ensures full { IsErrOf result KeptError.Full → IsFull (journal_of self.old) }
         ensures refusals { IfErr result IsCommitRefusal }
-        ensures kept { DeviceKeeps D.honest D.sound (device_of self.old) (device_of self.new) }
     {
         self.commit()?;
         Ok(mem::replace(waiting, Vec::new(alloc)))
@@ -542,28 +464,9 @@ impl<D: JournalDevice> KeptHead<D> {
         replacer: &mut R,
     ) -> Result<(), RewriteError>
         ensures head { head_of self.new ≡ head_of self.old }
-        ensures acknowledged { (synced : Contents) → Holds D.honest D.contents D.may_leave self.old synced
-            → OnOk result (Holds D.honest D.contents D.may_leave self.new (book_of self.old)) }
-        ensures each_cut { (synced : Contents) → Holds D.honest D.contents D.may_leave self.old synced
-            → OnOk result ((left : List ℕ) → D.may_leave (device_of self.new) left
-            → HasBook (book_of self.old).head left (book_of self.old)) }
-        ensures unchanged { (synced : Contents) → Holds D.honest D.contents D.may_leave self.old synced
-            → OnErr result (Holds D.honest D.contents D.may_leave self.new synced ⊎ IsTrue (is_broken self.new)) }
-
-        // A cut at any moment of the call leaves the book of the last commit, or that with all marks.
-        ensures any_moment { (synced : Contents) → Holds D.honest D.contents D.may_leave self.old synced
-            → LeavesOnly D.moment D.left_since (device_of self.old) (device_of self.new)
-            (λ left. HasBook (book_of self.old).head left synced ⊎ HasBook (book_of self.old).head left (book_of self.old)) }
-
-        // Also where nothing is committed from now on: every cut leaves a book that offers what the one in memory does.
-        ensures backed { (synced : Contents) → Holds D.honest D.contents D.may_leave self.old synced → IsBacked D.may_leave self.new }
-        ensures stays_backed { IsTrue (is_broken self.old) → IsBacked D.may_leave self.old → IsBacked D.may_leave self.new }
-        ensures breaks { IsErrOf result RewriteError.BookFault → IsTrue (is_broken self.new) }
-        ensures broken { IsTrue (is_broken self.old) → IsErrOf result RewriteError.BookFault × (self.new ≡ self.old) }
+        ensures commits { Commits D.JournalDevice RewriteError.BookFault None self.old result self.new (book_of self.old) }
         ensures goes_on { IsErrOf result RewriteError.NotReplaced → is_broken self.new ≡ false }
-        ensures never { IsTrue (D.sound (device_of self.old)) → IsErrOf result RewriteError.BookFault → IsTrue (is_broken self.old) }
         ensures replaced { IsTrue (D.sound (device_of self.old)) → ¬ IsErrOf result RewriteError.NotReplaced }
-        ensures kept { DeviceKeeps D.honest D.sound (device_of self.old) (device_of self.new) }
     {
         match self.check_works() {
             Ok(()) => write_anew(alloc, &mut self.journal, replacer, self.head.view().book),

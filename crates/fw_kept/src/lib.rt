@@ -1,10 +1,9 @@
-//! A head end's book that outlives a power cut, alone or in its head end: a book over a journal of its records.
+//! A head end whose book outlives a power cut: a journal of the records of its book stands beside it.
 #![tactic(auto)]
 
 mod compacting;
 mod error;
 mod head;
-mod kept;
 pub mod laws;
 mod marking;
 mod opening;
@@ -13,5 +12,4 @@ mod reading;
 
 pub use error::{KeptError, OpenError};
 pub use head::KeptHead;
-pub use kept::KeptBook;
 pub use reading::read_kept;

@@ -1,17 +1,56 @@
 //! The book of a journal's records, or why they have none.
 
-ghost use Rattle.std.specs.Prelude.{◌≡◌, ◌≢◌, ◌⊎◌, ℕ, List, IfOk, IfErr, IsErrOf, MatchBool, MatchResult};
+ghost use Rattle.std.specs.Prelude.{◌≡◌, ◌≢◌, ◌⊎◌, ℕ, List, IfOk, IfErr, IsErrOf, IsTrue, MatchBool, MatchResult};
 ghost use Rattle.fw_book.specs.Contents.{Contents};
+ghost use Rattle.fw_journal.specs.Book.{IsBadBook};
+ghost use Rattle.fw_journal.specs.Device.{Keeps as DeviceKeeps};
+ghost use Rattle.fw_journal.specs.Journal.{device_of};
 ghost use Rattle.fw_ledger.specs.Replay.{IsBookOf, FailsAt, records_of};
 ghost use Rattle.fw_ledger.specs.View.{entry_of};
-ghost use Rattle.fw_kept.specs.Kept.{IsForeign, campaign_of};
+ghost use Rattle.fw_kept.specs.Kept.{HasBook, HasForeign, HasBadRecord, IsForeign, Keeps, LeavesRecords, campaign_of};
 ghost use Rattle.fw_kept.specs.Private.{IsRecordsRefusal};
 
-use crate::error::OpenError;
+use crate::error::{OpenError, open_error};
 use fw_book::Book;
+use fw_journal::{Journal, JournalDevice};
 use fw_ledger::{Record, RecordError, ReplayError, read_record, read_records};
 use fw_names::{CampaignId, HeadId};
 use std::alloc::Global;
+
+/// The book of this head end that a device holds, and its journal. The device is synced first.
+///
+/// # Errors
+///
+/// Those of `KeptHead::open`. The device is returned.
+pub(crate) fn open_book<D: JournalDevice>(
+    alloc: Global,
+    head: HeadId,
+    device: D,
+) -> Result<(Book, Journal<D>), (OpenError, D)>
+    ensures opened { IsTrue (D.honest device)
+        → IfOk result (λ opened. Keeps D.honest D.contents D.may_leave head opened.1 opened.0 opened.0) }
+    ensures book { IsTrue (D.honest device) → IfOk result (λ opened. HasBook head (D.contents device) opened.0) }
+    // Whatever the device is.
+    ensures number { IfOk result (λ opened. opened.0.head ≡ head) }
+    ensures bad { IsTrue (D.honest device) → IfErr result (λ e. (offset : ℕ) → e.0 ≡ OpenError.BadBook offset
+        → IsBadBook (D.contents device) offset × (D.contents e.1 ≡ D.contents device)) }
+    ensures bad_record { IsTrue (D.honest device) → IfErr result (λ e. (index : ℕ) → e.0 ≡ OpenError.BadRecord index
+        → HasBadRecord head (D.contents device) index) }
+    ensures foreign { IsTrue (D.honest device) → IfErr result (λ e. e.0 ≡ OpenError.ForeignHead
+        → HasForeign head (D.contents device)) }
+    ensures any_moment { IsTrue (D.honest device) → IfOk result (λ opened. LeavesRecords D.JournalDevice device (device_of opened.1)) }
+    ensures any_moment_err { IsTrue (D.honest device) → IfErr result (λ e. LeavesRecords D.JournalDevice device e.1) }
+    ensures never { IsTrue (D.honest device) → IsTrue (D.sound device) → IfErr result (λ e. e.0 ≢ OpenError.BookFault) }
+    ensures kept { IfOk result (λ opened. DeviceKeeps D.honest D.sound device (device_of opened.1)) }
+{
+    match Journal::open(alloc, device) {
+        Ok((journal, records)) => match book_of(alloc, head, &records) {
+            Ok(book) => Ok((book, journal)),
+            Err(refusal) => Err((refusal, journal.into_device())),
+        },
+        Err((refusal, device)) => Err((open_error(refusal), device)),
+    }
+}
 
 /// The book of a head end that has these records.
 ///

@@ -1,17 +1,16 @@
 //! How a record of a book is put into its journal.
 
-ghost use Rattle.std.specs.Prelude.{◌≡◌, ◌⊎◌, ◌<◌, ◌≤◌, ◌+◌, ◌^◌, ℕ, length, None, IfOk, IfErr, OnOk, OnErr, IsErrOf, IsTrue};
+ghost use Rattle.std.specs.Prelude.{◌≡◌, ◌<◌, ◌≤◌, ◌+◌, ◌^◌, ℕ, length, None, IfOk, IfErr, OnOk, OnErr, IsErrOf, IsTrue};
 ghost use Rattle.fw_names.specs.Name.{IsOpened};
 ghost use Rattle.fw_book.specs.Contents.{Contents, offered_in};
 ghost use Rattle.fw_book.specs.Changes.{opened, opening_refusal};
-ghost use Rattle.fw_journal.specs.Device.{LeavesOnly, Keeps as DeviceKeeps};
-ghost use Rattle.fw_journal.specs.Journal.{device_of, is_broken};
+ghost use Rattle.fw_journal.specs.Journal.{device_of};
 ghost use Rattle.fw_ledger.specs.Entry.{earlier, source_bytes, IsSource, Spells};
 ghost use Rattle.fw_ledger.specs.Replay.{IsImage, Makes};
 ghost use Rattle.fw_ledger.specs.View.{source_of, entry_of};
-ghost use Rattle.fw_kept.specs.Kept.{HasBook, IsFull, Keeps};
+ghost use Rattle.fw_kept.specs.Kept.{IsFull, Keeps};
 ghost use Rattle.fw_kept.specs.Refusals.{IsCommitRefusal};
-ghost use Rattle.fw_kept.specs.Private.{CanBeKept};
+ghost use Rattle.fw_kept.specs.Private.{CanBeKept, Puts};
 
 use crate::error::KeptError;
 use fw_book::{Book, BookError};
@@ -62,23 +61,23 @@ pub(crate) fn put<D: JournalDevice>(
     told: &Record<'_>,
 ) -> Result<(), KeptError>
     requires { CanBeKept (entry_of told.now) }
-    ensures acknowledged { (head : ℕ) (synced book next : Contents) → Keeps D.honest D.contents D.may_leave head journal.old synced book
-        → Makes (entry_of told.now) book next
-        → OnOk result (Keeps D.honest D.contents D.may_leave head journal.new next next) }
-    ensures unchanged { (head : ℕ) (synced book : Contents) → Keeps D.honest D.contents D.may_leave head journal.old synced book
-        → OnErr result (Keeps D.honest D.contents D.may_leave head journal.new synced book ⊎ IsTrue (is_broken journal.new)) }
-    ensures any_moment { (head : ℕ) (synced book next : Contents) → Keeps D.honest D.contents D.may_leave head journal.old synced book
-        → Makes (entry_of told.now) book next
-        → LeavesOnly D.moment D.left_since (device_of journal.old) (device_of journal.new)
-        (λ left. HasBook head left synced ⊎ HasBook head left next) }
-    ensures breaks { IsErrOf result KeptError.BookFault → IsTrue (is_broken journal.new) }
-    ensures never { IsTrue (D.sound (device_of journal.old)) → IsErrOf result KeptError.BookFault → IsTrue (is_broken journal.old) }
+    ensures puts { (book next : Contents) → Makes (entry_of told.now) book next
+        → Puts D.JournalDevice KeptError.BookFault journal.old result journal.new book next }
     ensures full { IsErrOf result KeptError.Full → IsFull journal.old }
     ensures refusals { IfErr result IsCommitRefusal }
-    ensures kept { DeviceKeeps D.honest D.sound (device_of journal.old) (device_of journal.new) }
 {
     let bytes = bytes_of(alloc, told)?;
     journal.commit_with(alloc, &bytes)?;
+    Ok(())
+}
+
+/// Commits the records that wait.
+pub(crate) fn put_waiting<D: JournalDevice>(journal: &mut Journal<D>) -> Result<(), KeptError>
+    ensures puts { (book : Contents) → Puts D.JournalDevice KeptError.BookFault journal.old result journal.new book book }
+    ensures full { IsErrOf result KeptError.Full → IsFull journal.old }
+    ensures refusals { IfErr result IsCommitRefusal }
+{
+    journal.commit()?;
     Ok(())
 }
 

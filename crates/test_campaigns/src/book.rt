@@ -78,7 +78,7 @@ const ANSWER: &str =
     "000100010001002fc401c0000929010000000700000001ba7816bf8f01cfea414140de5dae2223b00361a396177a9cb410ff61f20015ad";
 
 /// The same of release 5.
-pub(crate) const RELEASE_ANSWER: &str =
+const RELEASE_ANSWER: &str =
     "0001000100010033c401c000092d02000000070000000100000005ba7816bf8f01cfea414140de5dae2223b00361a396177a9cb410ff61f20015ad";
 
 /// The head end of this number.
@@ -130,7 +130,7 @@ pub(crate) fn fresh(alloc: Global) -> Result<Kept<Book>, Fail> {
 }
 
 /// The claim that a client of a meter hears of an answer.
-pub(crate) fn claim(alloc: Global, number: u32, answer: &str) -> Result<ActiveClaim, Fail> {
+fn claim(alloc: Global, number: u32, answer: &str) -> Result<ActiveClaim, Fail> {
     let mut client = Client::new(meter(number)?);
     let _asked = client.ask(alloc, &Ask::ActiveName)?;
     match client.hear(alloc, &hex::decode(alloc, answer)?)? {

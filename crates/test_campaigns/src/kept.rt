@@ -1,64 +1,119 @@
-//! Kept books: what is kept, what a power cut leaves, and what is refused.
+//! Kept head ends: what is kept, what a power cut leaves, and what is refused.
 
-use crate::book::{
-    RELEASE_ANSWER, answer_text, bytes_of, campaign, claim, head, image, meter, meters,
-};
+use crate::book::{answer_text, bytes_of, head, image, meter, meters};
+use crate::head::{carried, width};
 use crate::readings::records_text;
-use crate::subject::Subject;
+use fw_head::News;
 use fw_journal::{Disk, MemoryDevice, MemoryReplacer};
-use fw_kept::KeptBook;
+use fw_kept::KeptHead;
+use fw_wrapper::split;
 use std::alloc::Global;
 use std::test::Fail;
-use test_tables::{Reads, Words, each_line};
+use test_tables::{Reads, Words, each_line, named, present};
 
-/// A call of a book of head end 7, or a look at it:
+/// A head end whose meters answer what it asks. Its drop is written out: where one is dropped, none of its parts is looked into.
+struct Answered(KeptHead<MemoryDevice>);
+
+impl Drop for Answered {
+    fn drop(self) {
+        let Answered(_) = self;
+    }
+}
+
+/// A call of head end 7, or a look at it:
 ///
 /// - `open SERIAL RELEASE IMAGE METER..`
-/// - `done SERIAL METER`, which marks a meter of this campaign as done, by a claim of campaign 1, release 5 and image `abc`
-/// - `fail SERIAL METER`
+/// - `hear METER ANSWER..`: for each answer, which has a name, what is asked of the meter now, and the answer of the meter to the first ask.
+///   The news of the last answer
 /// - `cancel SERIAL`, `commit` and `compact`
 /// - `memory`: the book in memory
 /// - `left`: the book that a power cut leaves
 /// - `records`: how many bytes there are up to the end of the records that a power cut leaves, and these
-impl Reads for Subject<KeptBook<MemoryDevice>> {
+impl Reads for Answered {
     fn told(&mut self, alloc: Global, what: &str) -> Result<String, Fail> {
-        let book = &mut self.0;
+        let head = &mut self.0;
         let mut words = Words::new(what);
         match words.word()? {
-            "open" => opened_text(alloc, book, words),
-            "done" => {
-                let [serial, number]: [u32; 2] = words.read()?;
-                let claim = claim(alloc, number, RELEASE_ANSWER)?;
-                answer_text(alloc, &book.mark_done(alloc, campaign(7, serial)?, claim))
+            "open" => opened_text(alloc, head, words),
+            "hear" => heard_text(alloc, head, words),
+            "cancel" => {
+                let serial = words.number()?;
+                if serial == 0 {
+                    return Err("a serial number begins at 1".into());
+                }
+                answer_text(alloc, &head.cancel(alloc, serial))
             }
-            "fail" => {
-                let [serial, number]: [u32; 2] = words.read()?;
-                let (campaign, meter) = (campaign(7, serial)?, meter(number)?);
-                answer_text(alloc, &book.mark_failed(alloc, campaign, meter))
-            }
-            "cancel" => answer_text(alloc, &book.cancel(alloc, campaign(7, words.number()?)?)),
-            "commit" => answer_text(alloc, &book.commit()),
-            "compact" => answer_text(alloc, &book.compact(alloc, &mut MemoryReplacer)),
-            "memory" => named_text(alloc, bytes_of(alloc, book.book())?.as_str()),
-            "left" => left_text(alloc, book.device().disk().synced()),
-            "records" => records_text(alloc, book.device().disk().synced()),
-            _ => Err("no call of a kept book has this name".into()),
+            "commit" => answer_text(alloc, &head.commit()),
+            "compact" => answer_text(alloc, &head.compact(alloc, &mut MemoryReplacer)),
+            "memory" => named_text(alloc, book_text(alloc, head)?.as_str()),
+            "left" => left_text(alloc, head.device().disk().synced()),
+            "records" => records_text(alloc, head.device().disk().synced()),
+            _ => Err("no call of a kept head end has this name".into()),
         }
     }
 }
 
 fn opened_text(
     alloc: Global,
-    book: &mut KeptBook<MemoryDevice>,
+    head: &mut KeptHead<MemoryDevice>,
     mut words: Words<'_>,
 ) -> Result<String, Fail> {
     let (serial, release, word): (u32, u32, &str) = words.read()?;
-    let (campaign, image) = (campaign(7, serial)?, image(word));
+    if serial == 0 {
+        return Err("a serial number begins at 1".into());
+    }
     let meters = meters(alloc, words.rest())?;
     answer_text(
         alloc,
-        &book.open_campaign(alloc, campaign, release, image, &meters),
+        &head.open_campaign(alloc, serial, release, image(word), &meters),
     )
+}
+
+/// What a meter answers, behind the invoke byte of the ask: that its blocks have four bytes, or none, that transfer is enabled, that a method
+/// is done or refused, that no block is missing, that image `abc` of campaign (7, 1), with release 5, or of campaign (7, 2), without, is to be
+/// activated, and that it runs the first of these.
+const ANSWERS: &str = "
+    four = 000600000004
+    none = 000600000000
+    enabled = 00
+    done = 0000
+    refused = fa00
+    whole = 000600000001
+    first = 00010102030600000003092d02000000070000000100000005ba7816bf8f01cfea414140de5dae2223b00361a396177a9cb410ff61f20015ad0920ba7816bf8f01cfea414140de5dae2223b00361a396177a9cb410ff61f20015ad
+    second = 000101020306000000030929010000000700000002ba7816bf8f01cfea414140de5dae2223b00361a396177a9cb410ff61f20015ad0920ba7816bf8f01cfea414140de5dae2223b00361a396177a9cb410ff61f20015ad
+    runs = 00092d02000000070000000100000005ba7816bf8f01cfea414140de5dae2223b00361a396177a9cb410ff61f20015ad
+";
+
+fn heard_text(
+    alloc: Global,
+    head: &mut KeptHead<MemoryDevice>,
+    mut words: Words<'_>,
+) -> Result<String, Fail> {
+    let meter = meter(words.number()?)?;
+    let mut news = News::Nothing;
+    for word in words.rest().split(' ') {
+        let answer = present(named(ANSWERS, word), "no answer has this name")?;
+        let asked = head.tick(alloc, meter)?;
+        news = head.hear(alloc, meter, &answer_to(alloc, &asked, answer)?)?;
+    }
+    Ok(format!(in alloc; "{news:?}")?)
+}
+
+/// The datagram of an answer to the first of these asks, or to one that wasn't made, where there is none.
+fn answer_to(alloc: Global, asked: &[Vec<u8>], answer: &str) -> Result<Vec<u8>, Fail> {
+    let (mut kind, mut id) = (0xc0, 0xc0);
+    if let Some(datagram) = asked.first() {
+        if let [its_kind, _, its_id, ..] = split(datagram)?.apdu {
+            (kind, id) = (*its_kind, *its_id);
+        }
+    }
+    let apdu = format!(in alloc; "{:02x}01{id:02x}{answer}", kind | 4)?;
+    carried(alloc, apdu.as_str())
+}
+
+/// The bytes of the book in memory.
+fn book_text(alloc: Global, head: &KeptHead<MemoryDevice>) -> Result<String, Fail> {
+    bytes_of(alloc, head.head().view().book)
 }
 
 pub(crate) fn device_of(alloc: Global, bytes: &[u8]) -> Result<MemoryDevice, Fail> {
@@ -67,8 +122,8 @@ pub(crate) fn device_of(alloc: Global, bytes: &[u8]) -> Result<MemoryDevice, Fai
 
 /// The bytes of the book of head end 7 that these bytes hold, or what they are refused for.
 pub(crate) fn read_text(alloc: Global, bytes: &[u8]) -> Result<String, Fail> {
-    match KeptBook::open(alloc, head(7)?, device_of(alloc, bytes)?) {
-        Ok(book) => bytes_of(alloc, book.book()),
+    match KeptHead::open(alloc, head(7)?, width()?, device_of(alloc, bytes)?) {
+        Ok(head) => book_text(alloc, &head),
         Err((refusal, _)) => Ok(refusal.to_string(alloc)?),
     }
 }
@@ -78,10 +133,10 @@ fn left_text(alloc: Global, bytes: &[u8]) -> Result<String, Fail> {
     named_text(alloc, read_text(alloc, bytes)?.as_str())
 }
 
-/// A new book of head end 7 on a device in memory.
-fn new_book(alloc: Global) -> Result<Subject<KeptBook<MemoryDevice>>, Fail> {
-    match KeptBook::create(alloc, head(7)?, device_of(alloc, &[])?) {
-        Ok(book) => Ok(Subject(book)),
+/// A new head end 7, whose book is on a device in memory.
+fn new_head(alloc: Global) -> Result<Answered, Fail> {
+    match KeptHead::create(alloc, head(7)?, width()?, device_of(alloc, &[])?) {
+        Ok(head) => Ok(Answered(head)),
         Err((refusal, _)) => Err(Fail::from(refusal.to_string(alloc)?)),
     }
 }
@@ -115,48 +170,50 @@ fn named_text(alloc: Global, bytes: &str) -> Result<String, Fail> {
     Ok(String::from_str(alloc, bytes)?)
 }
 
+/// A row that ended, or that isn't there, hears nothing. The claim of another campaign's image ends none.
 const KEPT: &str = "
     left               => 4657423200000007
-    fail 1 2           => NoSuchCampaign
+    hear 2 none        => Nothing
     open 1 5 abc 1 2 3 => done
     left               => one
     open 1 5 abc 4     => SerialUsed
     open 2 5 - 4       => EmptyImage
     open 2 5 abd 4 1   => MeterBusy
-    fail 1 2           => done
+    hear 2 none        => Failed(CampaignId { head: 7, serial: 1 }, MeterId { number: 2 })
     memory             => failed
     left               => one
     commit             => done
     left               => failed
-    fail 1 2           => NotLive
-    done 1 1           => done
-    done 1 1           => NotLive
+    hear 2 none        => Nothing
+    hear 1 four enabled done done whole done first done runs => Done(CampaignId { head: 7, serial: 1 }, MeterId { number: 1 })
+    hear 1 runs        => Nothing
     memory             => marked
     left               => failed
     open 2 0 abc 4     => done
     left               => two
     records            => 235 010000000700000001000000050100000003616263000000010000000200000003 0200000007000000010000000202 0200000007000000010000000101 01000000070000000200000000020000000100000004
-    done 2 4           => WrongCampaign
+    hear 4 four enabled done done whole done second done runs => Moved
+    memory             => two
     cancel 1           => done
     left               => cancelled
     memory             => cancelled
     cancel 1           => NotLive
     cancel 3           => NoSuchCampaign
     open 3 0 x 3       => done
-    fail 2 4           => done
+    hear 4 refused     => Failed(CampaignId { head: 7, serial: 2 }, MeterId { number: 4 })
     compact            => done
     left               => ended
     memory             => ended
     records            => 335 010000000700000001000000050100000003616263000000010000000200000003 040000000700000001010200 030000000700000001 01000000070000000200000000020000000100000004 04000000070000000202 0100000007000000030000000001000000017800000003
-    fail 3 3           => done
+    hear 3 none        => Failed(CampaignId { head: 7, serial: 3 }, MeterId { number: 3 })
     commit             => done
     compact            => done
 ";
 
 #[test]
-fn a_kept_book_outlives_a_cut(rt: HostRuntime) -> Result<(), Fail> {
+fn a_kept_head_end_outlives_each_call(rt: HostRuntime) -> Result<(), Fail> {
     let alloc = rt.alloc();
-    each_line(alloc, &mut new_book(alloc)?, KEPT)
+    each_line(alloc, &mut new_head(alloc)?, KEPT)
 }
 
 /// `CALLS TORN BOOK CALL`: what comes of this call, where meters 2 and 1 of campaign 1 were marked and wait, and the device fails after so many
@@ -171,8 +228,8 @@ impl Reads for Cuts {
         let (calls, torn, other): (u64, u8, &str) = words.read()?;
         let mut device = device_with_one(alloc)?;
         device.fuse(calls.saturating_add(3), torn);
-        match KeptBook::open(alloc, head(7)?, device) {
-            Ok(book) => cut_text(alloc, &mut Subject(book), words.rest(), other),
+        match KeptHead::open(alloc, head(7)?, width()?, device) {
+            Ok(head) => cut_text(alloc, &mut Answered(head), words.rest(), other),
             Err((refusal, _)) => Ok(refusal.to_string(alloc)?),
         }
     }
@@ -180,25 +237,20 @@ impl Reads for Cuts {
 
 /// A device with the book of campaign 1.
 fn device_with_one(alloc: Global) -> Result<MemoryDevice, Fail> {
-    let mut book = new_book(alloc)?;
-    let _done = book.told(alloc, "open 1 5 abc 1 2 3")?;
-    device_of(alloc, book.0.device().bytes())
+    let mut head = new_head(alloc)?;
+    let _done = head.told(alloc, "open 1 5 abc 1 2 3")?;
+    device_of(alloc, head.0.device().bytes())
 }
 
-fn cut_text(
-    alloc: Global,
-    book: &mut Subject<KeptBook<MemoryDevice>>,
-    call: &str,
-    other: &str,
-) -> Result<String, Fail> {
-    for mark in ["fail 1 2", "done 1 1"] {
-        let _done = book.told(alloc, mark)?;
+fn cut_text(alloc: Global, head: &mut Answered, call: &str, other: &str) -> Result<String, Fail> {
+    for mark in ["hear 2 none", "hear 1 four enabled runs"] {
+        let _ended = head.told(alloc, mark)?;
     }
-    let answer = book.told(alloc, call)?;
-    let again = book.told(alloc, "commit")?;
-    judge_cuts(alloc, book.0.device(), other)?;
-    let memory = book.told(alloc, "memory")?;
-    let read = left_text(alloc, book.0.device().bytes())?;
+    let answer = head.told(alloc, call)?;
+    let again = head.told(alloc, "commit")?;
+    judge_cuts(alloc, head.0.device(), other)?;
+    let memory = head.told(alloc, "memory")?;
+    let read = left_text(alloc, head.0.device().bytes())?;
     Ok(format!(in alloc; "{answer} {again}: {memory} {read}")?)
 }
 

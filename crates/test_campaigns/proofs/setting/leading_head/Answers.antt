@@ -2,4 +2,7 @@ use Rattle.fw_kept.specs.Head.{book_of}
 use Rattle.test_campaigns.proofs.setting.leading_head.Goals as goal
 
 pub returns : goal.returns
-returns c = let held = c.in_ok-head.ensures in (book_of c.open_campaign.new.self, c.in_ok-open_campaign.ensures.acknowledged held.0 held.1)
+returns c =
+    let held = c.in_ok-head.ensures in
+    let kept = c.in_ok-open_campaign.ensures.commits.acknowledged held.0 held.1 in
+    (_, kept)

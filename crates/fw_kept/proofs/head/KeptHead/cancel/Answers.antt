@@ -1,20 +1,27 @@
-use Rattle.std.proofs.Common.{rules, ◌≡◌, ◌⊎◌, inl, inr, ⊎_elim, Err, IfErr, refl, sym, ◌∙◌, ap, subst}
+use Rattle.std.proofs.Common.{rules, ◌≡◌, Err, IfErr, refl, sym, ◌∙◌, ap, subst}
 use Rattle.fw_book.specs.Changes.{cancelled, cancel_refusal}
 use Rattle.fw_head.specs.Head.{Head, campaign_at}
-use Rattle.fw_kept.specs.Kept.{HasBook, Keeps}
+use Rattle.fw_kept.specs.Head.{Commits}
 use Rattle.fw_kept.specs.Refusals.{IsRefusedFor}
 use Rattle.fw_kept.specs.declared.error.KeptError.{KeptError}
 use Rattle.fw_kept.specs.declared.error.KeptError.TheVariants.{Full, BookFault}
-use Rattle.fw_kept.proofs.Books.{nothing_done, left_has, or_right, or_none, err_is, commit_refused}
-use Rattle.fw_kept.proofs.Heads.{same_also}
-use Rattle.fw_kept.proofs.Backs.{cancelled_also, either_has, left_is, holds_backs}
+use Rattle.fw_kept.proofs.Books.{err_is, commit_refused}
+use Rattle.fw_kept.proofs.Backs.{cancelled_also}
+use Rattle.fw_kept.proofs.Commits.{undone, fails, done}
 use Rattle.fw_kept.proofs.head.KeptHead.cancel.Goals as goal
 
-pub returns-in_err-cancelling-clause-any_moment : goal.returns-in_err-cancelling-clause-any_moment
-returns-in_err-cancelling-clause-any_moment g c = λ synced holds.
-    let book = c.args.self.now.head.book in
-    let next = cancelled book c.args.serial in
-    nothing_done g.D.JournalDevice.honest g.D.JournalDevice.contents g.D.JournalDevice.may_leave g.D.JournalDevice.moment g.D.JournalDevice.left_since book.head c.args.self.now.journal synced book (λ left. HasBook book.head left next) holds.keeps g.met.D.JournalDevice.only_now
+pub returns-in_err-cancelling-clause-commits : goal.returns-in_err-cancelling-clause-commits
+returns-in_err-cancelling-clause-commits g c =
+    let J = g.D.JournalDevice in
+    let met = g.met.D.JournalDevice in
+    let old = c.args.self.now in
+    let first = cancel_refusal old.head.book (campaign_at old.head c.args.serial) in
+    let next = cancelled old.head.book c.args.serial in
+    let refusal = c.in_err-cancelling.field-0.0 in
+    let same : c.from_residual.result ≡ Err refusal = search rules in
+    subst (λ r. Commits J BookFault first old r old next) (sym same)
+    (undone J met.counts_now met.only_now BookFault first old next refusal (λ broken none. err_is refusal BookFault (c.in_err-cancelling.ensures.broken broken none))
+    (λ is. c.in_err-cancelling.ensures.fault (ap (λ (e : KeptError). Err e) is)))
 
 pub returns-in_err-put-clause-refused : goal.returns-in_err-put-clause-refused
 returns-in_err-put-clause-refused g c =
@@ -23,33 +30,18 @@ returns-in_err-put-clause-refused g c =
     let first = cancel_refusal c.args.self.now.head.book (campaign_at c.args.self.now.head c.args.serial) in
     subst (λ r. IfErr r (IsRefusedFor first)) (sym same) (commit_refused first refusal c.in_err-put.ensures.refusals c.in_ok-cancelling.ensures.admitted)
 
-pub returns-in_err-put-clause-unchanged : goal.returns-in_err-put-clause-unchanged
-returns-in_err-put-clause-unchanged g c = λ synced holds.
-    let book = c.args.self.now.head.book in
-    let same : c.from_residual-in_err-put.result ≡ Err c.in_err-put.field-0.0 = search rules in
-    rw same
-    (⊎_elim (λ back. inl (record { works = holds.works; keeps = back; offers = holds.offers }))
-    (λ broken. inr (or_right c.args.self.now.broken _ broken)) (c.in_err-put.ensures.unchanged book.head synced book holds.keeps))
-
-pub returns-in_err-put-clause-any_moment : goal.returns-in_err-put-clause-any_moment
-returns-in_err-put-clause-any_moment g c = λ synced holds.
-    let book = c.args.self.now.head.book in
-    c.put.ensures.any_moment book.head synced book (cancelled book c.args.serial) holds.keeps c.in_ok-cancelling.ensures.makes
-
-pub returns-in_err-put-clause-broken : goal.returns-in_err-put-clause-broken
-returns-in_err-put-clause-broken g c = λ broken admitted. absurd (or_none _ broken c.in_ok-cancelling.ensures.works)
-
-pub returns-in_err-put-clause-breaks : goal.returns-in_err-put-clause-breaks
-returns-in_err-put-clause-breaks g c = λ fault.
+pub returns-in_err-put-clause-commits : goal.returns-in_err-put-clause-commits
+returns-in_err-put-clause-commits g c =
+    let J = g.D.JournalDevice in
+    let met = g.met.D.JournalDevice in
+    let old = c.args.self.now in
+    let first = cancel_refusal old.head.book (campaign_at old.head c.args.serial) in
+    let next = cancelled old.head.book c.args.serial in
     let refusal = c.in_err-put.field-0.0 in
     let same : c.from_residual-in_err-put.result ≡ Err refusal = search rules in
-    or_right c.args.self.now.broken _ (c.in_err-put.ensures.breaks (ap (λ (e : KeptError). Err e) (err_is refusal BookFault (sym same ∙ fault))))
-
-pub returns-in_err-put-clause-never : goal.returns-in_err-put-clause-never
-returns-in_err-put-clause-never g c = λ sound fault.
-    let refusal = c.in_err-put.field-0.0 in
-    let same : c.from_residual-in_err-put.result ≡ Err refusal = search rules in
-    or_right c.args.self.now.broken _ (c.in_err-put.ensures.never sound (ap (λ (e : KeptError). Err e) (err_is refusal BookFault (sym same ∙ fault))))
+    subst (λ r. Commits J BookFault first old r (record old { journal = c.put.new.journal }) next) (sym same)
+    (fails J met.counts_now met.only_now BookFault first old next c.put.new.journal refusal c.in_ok-cancelling.ensures.works (cancelled_also old.head.book c.args.serial)
+    (c.in_err-put.ensures.puts old.head.book next c.in_ok-cancelling.ensures.makes))
 
 pub returns-in_err-put-clause-full : goal.returns-in_err-put-clause-full
 returns-in_err-put-clause-full g c = λ full.
@@ -57,49 +49,11 @@ returns-in_err-put-clause-full g c = λ full.
     let same : c.from_residual-in_err-put.result ≡ Err refusal = search rules in
     c.in_err-put.ensures.full (ap (λ (e : KeptError). Err e) (err_is refusal Full (sym same ∙ full)))
 
-pub returns-clause-acknowledged : goal.returns-clause-acknowledged
-returns-clause-acknowledged g c = λ synced holds.
-    let book = c.args.self.now.head.book in
-    let next = cancelled book c.args.serial in
-    let keeps = c.in_ok-put.ensures.acknowledged book.head synced book next holds.keeps c.in_ok-cancelling.ensures.makes in
-    record {
-      works = holds.works;
-      keeps = subst (λ (h : Head). Keeps g.D.JournalDevice.honest g.D.JournalDevice.contents g.D.JournalDevice.may_leave h.book.head c.put.new.journal h.book h.book) (sym c.in_ok-cancel.ensures.cancelled) keeps;
-      offers = λ campaign. refl;
-    }
-
-pub returns-clause-each_cut : goal.returns-clause-each_cut
-returns-clause-each_cut g c = λ synced holds left now.
-    let book = c.args.self.now.head.book in
-    let next = cancelled book c.args.serial in
-    let keeps = c.in_ok-put.ensures.acknowledged book.head synced book next holds.keeps c.in_ok-cancelling.ensures.makes in
-    subst (λ (h : Head). HasBook book.head left h.book) (sym c.in_ok-cancel.ensures.cancelled)
-    (left_has g.D.JournalDevice.honest g.D.JournalDevice.contents g.D.JournalDevice.may_leave book.head c.put.new.journal next next keeps left now)
-
-pub returns-clause-any_moment : goal.returns-clause-any_moment
-returns-clause-any_moment g c = λ synced holds.
-    let book = c.args.self.now.head.book in
-    c.put.ensures.any_moment book.head synced book (cancelled book c.args.serial) holds.keeps c.in_ok-cancelling.ensures.makes
-
-pub returns-clause-broken : goal.returns-clause-broken
-returns-clause-broken g c = λ broken admitted. absurd (or_none _ broken c.in_ok-cancelling.ensures.works)
-
-pub returns-in_err-cancelling-clause-backed : goal.returns-in_err-cancelling-clause-backed
-returns-in_err-cancelling-clause-backed g c = λ synced holds. holds_backs g.D.JournalDevice.honest g.D.JournalDevice.contents g.D.JournalDevice.may_leave c.args.self.now synced holds
-
-pub returns-in_err-put-clause-backed : goal.returns-in_err-put-clause-backed
-returns-in_err-put-clause-backed g c = λ synced holds left now.
-    let book = c.args.self.now.head.book in
-    let next = cancelled book c.args.serial in
-    let cuts = c.put.ensures.any_moment book.head synced book next holds.keeps c.in_ok-cancelling.ensures.makes in
-    either_has book synced next left (same_also book synced holds.offers) (cancelled_also book c.args.serial)
-    (left_is g.D.JournalDevice.moment g.D.JournalDevice.left_since g.D.JournalDevice.may_leave g.met.D.JournalDevice.counts_now c.args.self.now.journal.device c.put.new.journal.device (λ l. HasBook book.head l synced ⊎ HasBook book.head l next) cuts left now)
-
-pub returns-in_err-put-clause-stays_backed : goal.returns-in_err-put-clause-stays_backed
-returns-in_err-put-clause-stays_backed g c = λ broken back. absurd (or_none _ broken c.in_ok-cancelling.ensures.works)
-
-pub returns-clause-backed : goal.returns-clause-backed
-returns-clause-backed g c = λ synced holds. holds_backs g.D.JournalDevice.honest g.D.JournalDevice.contents g.D.JournalDevice.may_leave _ _ (returns-clause-acknowledged g c synced holds)
-
-pub returns-clause-stays_backed : goal.returns-clause-stays_backed
-returns-clause-stays_backed g c = λ broken back. absurd (or_none _ broken c.in_ok-cancelling.ensures.works)
+pub returns-clause-commits : goal.returns-clause-commits
+returns-clause-commits g c =
+    let met = g.met.D.JournalDevice in
+    let old = c.args.self.now in
+    let first = cancel_refusal old.head.book (campaign_at old.head c.args.serial) in
+    let next = cancelled old.head.book c.args.serial in
+    done g.D.JournalDevice met.counts_now met.only_now BookFault first old next c.cancel.new.self c.put.new.journal tt tt c.in_ok-cancelling.ensures.works
+    (ap (λ (h : Head). h.book) c.in_ok-cancel.ensures.cancelled) refl (c.in_ok-put.ensures.puts old.head.book next c.in_ok-cancelling.ensures.makes)

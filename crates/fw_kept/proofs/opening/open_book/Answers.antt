@@ -2,9 +2,8 @@ use Rattle.std.proofs.Common.{rules, ◌≡◌, ℕ, List, [], Vec, refl, sym, �
 use Rattle.std.specs.declared.alloc.Global.{Global}
 use Rattle.fw_journal.specs.Book.{contents_of}
 use Rattle.fw_ledger.specs.Replay.{IsBookOf, records_of}
-use Rattle.fw_kept.specs.Kept.{Keeps}
 use Rattle.fw_kept.proofs.Books.{same_lists, book_head, bad_of}
-use Rattle.fw_kept.proofs.kept.KeptBook.open.Goals as goal
+use Rattle.fw_kept.proofs.opening.open_book.Goals as goal
 
 pub returns-in-Ok-book_of-clause-opened : goal.returns-in-Ok-book_of-clause-opened
 returns-in-Ok-book_of-clause-opened g c = λ honest.
@@ -12,16 +11,12 @@ returns-in-Ok-book_of-clause-opened g c = λ honest.
     let book = c.in-Ok-book_of.book in
     let here : c.deref.result.now ≡ items = search rules in
     let found : IsBookOf c.args.head (records_of items) book = subst (λ (l : List (Vec ℕ Global)). IsBookOf c.args.head (records_of l) book) here c.in-Ok-book_of.ensures.found in
-    let keeps : Keeps g.D.JournalDevice.honest g.D.JournalDevice.contents g.D.JournalDevice.may_leave c.args.head c.in-Ok.journal book book = record {
+    record {
       done = contents_of items;
       waiting = [];
       has = c.in-Ok.ensures.opened honest;
       of_done = subst (λ (l : List (List ℕ)). IsBookOf c.args.head l book) (sym (same_lists items)) found;
       of_waiting = refl;
-    } in
-    record {
-      works = refl;
-      keeps = subst (λ (n : ℕ). Keeps g.D.JournalDevice.honest g.D.JournalDevice.contents g.D.JournalDevice.may_leave n c.in-Ok.journal book book) (sym (book_head c.args.head (records_of items) book found)) keeps;
     }
 
 pub returns-clause-bad : goal.returns-clause-bad

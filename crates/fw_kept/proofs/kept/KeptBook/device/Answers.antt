@@ -1,7 +1,0 @@
-use Rattle.fw_kept.proofs.Books.{left_has}
-use Rattle.fw_kept.proofs.kept.KeptBook.device.Goals as goal
-
-pub returns-clause-each_cut : goal.returns-clause-each_cut
-returns-clause-each_cut g c = λ synced holds left now.
-    let kept = c.args.self.now in
-    left_has g.D.JournalDevice.honest g.D.JournalDevice.contents g.D.JournalDevice.may_leave kept.book.head kept.journal synced kept.book holds.keeps left now
