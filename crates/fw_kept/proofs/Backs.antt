@@ -1,11 +1,9 @@
 -- That what a power cut leaves offers what the book in memory does.
 use Rattle.std.proofs.Common.{◌≡◌, ◌⊎◌, ⊎_elim, ℕ, ◌≤◌, List, [], ◌∷◌, ◌++◌, Option, Some, None, Bool, true, false, cond, eqb, nat_eq, map, sym, subst}
 use Rattle.std.specs.Map.{lookup}
-use Rattle.fw_names.specs.Name.{Campaign}
 use Rattle.fw_book.specs.Contents.{Offered, Contents}
 use Rattle.fw_book.specs.Changes.{opened, cancelled}
 use Rattle.fw_book.specs.Rows.{live_row, cancelled_rows}
-use Rattle.fw_head.specs.Head.{Head}
 use Rattle.fw_journal.specs.Device.{LeavesOnly}
 use Rattle.fw_kept.specs.Kept.{HasBook}
 use Rattle.fw_kept.specs.Head.{OfferSame, OffersAlso, HasOffers, IsBacked, Holds}

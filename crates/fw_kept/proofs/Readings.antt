@@ -1,5 +1,5 @@
 -- What bytes are read as, whoever's they are.
-use Rattle.std.proofs.Common.{◌≡◌, ◌≢◌, ⊎_elim, ℕ, ◌<◌, ◌^◌, List, [], ◌∷◌, ◌++◌, Option, Some, None, Bool, true, false, cond, eqb, Result, Ok, Err, IfOk, IfErr, IsErrOf, Vec, length, arith, refl, sym, ap, subst, ◌∙◌, append_assoc}
+use Rattle.std.proofs.Common.{◌≡◌, ◌≢◌, ⊎_elim, ℕ, List, [], ◌∷◌, ◌++◌, Option, Some, None, Bool, true, false, cond, eqb, Result, Ok, Err, IfErr, IsErrOf, Vec, length, arith, refl, sym, ap, subst, ◌∙◌, append_assoc}
 use Rattle.std.specs.declared.alloc.Global.{Global}
 use Rattle.std.proofs.lemmas.Bool.{cases_eq}
 use Rattle.fw_names.specs.Name.{Campaign, IsOpened}
@@ -7,15 +7,15 @@ use Rattle.fw_book.specs.Contents.{Offered, Contents, offered_in}
 use Rattle.fw_book.specs.Changes.{empty_book, mark_refusal, cancel_refusal}
 use Rattle.fw_book.specs.Laws.{AdmittedOpens}
 use Rattle.fw_book.specs.declared.error.BookError.TheVariants.{NoSuchCampaign}
-use Rattle.fw_journal.specs.Book.{contents_of, mark as journal_mark, body, blocks, Stands, HasRecord, IsBadBook}
+use Rattle.fw_journal.specs.Book.{contents_of, mark as journal_mark, body, blocks, Stands, HasRecord}
 use Rattle.fw_journal.specs.Laws.{OneReading}
 use Rattle.fw_journal.specs.Refusals.{IsOpeningRefusal}
 use Rattle.fw_journal.specs.declared.error.JournalError.{JournalError}
 use Rattle.fw_journal.specs.declared.error.JournalError.TheVariants as refusal
-use Rattle.fw_ledger.specs.Entry.{Entry, opening, mark, cancelling, endings, HasSpelling, Spells, NoRecord}
-use Rattle.fw_ledger.specs.Replay.{Makes, AddsNothing, IsBookOf, FailsAt, records_of}
+use Rattle.fw_ledger.specs.Entry.{Entry, opening, mark, cancelling, endings, Spells, NoRecord}
+use Rattle.fw_ledger.specs.Replay.{Makes, IsBookOf, records_of}
 use Rattle.fw_ledger.specs.Laws.{OneRecord, FailedHaveNone}
-use Rattle.fw_kept.specs.Kept.{HasBook, HasNoBook, HasBadRecord, IsForeign, IsReadAs, campaign_of}
+use Rattle.fw_kept.specs.Kept.{HasBadRecord, IsForeign, IsReadAs, campaign_of}
 use Rattle.fw_kept.specs.Private.{AreReadAs, IsBadAt, IsReadingRefusal, IsRecordsRefusal}
 use Rattle.fw_kept.specs.Laws.{ForeignHaveNone, BadRecordsHaveNone}
 use Rattle.fw_kept.specs.Refusals.{open_error}

@@ -28,8 +28,9 @@ ghost use Rattle.fw_head.specs.Phase.{IsLive};
 ghost use Rattle.fw_head.specs.Row.{bytes_of};
 ghost use Rattle.fw_head.specs.Head.{row_of, RowsMayWant, new_head, campaign_at, opened_head, cancelled_head, BeginsWith};
 ghost use Rattle.fw_head.specs.Head.{sends_to, ticked_head, HeadHears, IsDoneBy, IsOfferedIn};
-ghost use Rattle.fw_journal.specs.Book.{IsBadBook, Stands};
+ghost use Rattle.fw_journal.specs.Book.{IsBadBook, Stands, Drops};
 ghost use Rattle.fw_journal.specs.Device.{LeavesOnly, Keeps as DeviceKeeps};
+ghost use Rattle.fw_journal.specs.Keeping.{KeepsFirst};
 ghost use Rattle.fw_journal.specs.Refusals.{IsMakingRefusal};
 ghost use Rattle.fw_ledger.specs.Replay.{Makes};
 ghost use Rattle.fw_ledger.specs.View.{entry_of};
@@ -42,7 +43,7 @@ use crate::marking::keep_end;
 use crate::putting::{check_has, opening_of, put};
 use fw_blocks::Width;
 use fw_head::{HeadCore, News, OutOfMemory};
-use fw_journal::{Journal, JournalDevice, JournalError, Replacer, RewriteError};
+use fw_journal::{Journal, JournalDevice, JournalError, Keeper, Replacer, RewriteError};
 use fw_ledger::Record;
 use fw_names::{CampaignId, HeadId, ImageName, MeterId};
 use std::alloc::Global;
@@ -121,16 +122,17 @@ impl<D: JournalDevice> KeptHead<D> {
 
     /// Opens the head end whose book a power cut, or a process that was killed, may have left on the device. It begins with exactly the book
     /// that the device holds, and each meter that is live in it has a new row, which asks first what the meter has. The device is synced
-    /// first.
+    /// first. What is cut off it and reads as records, the keeper has first.
     ///
     /// # Errors
     ///
     /// Those of [`KeptBook::open`], and `OutOfMemory` where memory for the rows is refused. The device is returned.
-    pub fn open(
+    pub fn open<K: Keeper>(
         alloc: Global,
         head: HeadId,
         width: Width,
         device: D,
+        keeper: &mut K,
     ) -> Result<Self, (OpenError, D)>
         ensures opened { IsTrue (D.honest device)
             → IfOk result (λ kept. Holds D.honest D.contents D.may_leave kept (book_of kept)) }
@@ -150,10 +152,19 @@ impl<D: JournalDevice> KeptHead<D> {
             (λ left. D.may_leave device left ⊎ ((records : List (List ℕ)) → Stands (D.contents device) records → Stands left records))) }
         ensures any_moment_err { IsTrue (D.honest device) → IfErr result (λ e. LeavesOnly D.moment D.left_since device e.1
             (λ left. D.may_leave device left ⊎ ((records : List (List ℕ)) → Stands (D.contents device) records → Stands left records))) }
-        ensures never { IsTrue (D.honest device) → IsTrue (D.sound device) → IfErr result (λ e. e.0 ≢ OpenError.BookFault) }
+
+        // What reads as records is cut off only once the keeper holds it.
+        ensures dropped { IsTrue (D.honest device) → (rest : List ℕ) (count : ℕ) → Drops (D.contents device) rest count → 1 ≤ count
+            → OnOk result (K.holds keeper.new rest) }
+        ensures kept_first { IsTrue (D.honest device)
+            → IfOk result (λ kept. KeepsFirst D.JournalDevice K.Keeper device (device_of kept) keeper.old keeper.new) }
+        ensures kept_first_err { IsTrue (D.honest device)
+            → IfErr result (λ e. KeepsFirst D.JournalDevice K.Keeper device e.1 keeper.old keeper.new) }
+        ensures never { IsTrue (D.honest device) → IsTrue (D.sound device) → IsTrue (K.sound keeper.old)
+            → IfErr result (λ e. e.0 ≢ OpenError.BookFault) }
         ensures kept { IfOk result (λ kept. DeviceKeeps D.honest D.sound device (device_of kept)) }
     {
-        let (book, journal) = match KeptBook::open(alloc, head, device) {
+        let (book, journal) = match KeptBook::open(alloc, head, device, keeper) {
             Ok(kept) => kept.into_parts(),
             Err(refused) => return Err(refused),
         };

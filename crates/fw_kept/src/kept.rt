@@ -3,6 +3,7 @@
 ghost use Rattle.std.specs.Prelude.{
   ◌≡◌,
   ◌≢◌,
+  ◌≤◌,
   ◌⊎◌,
   [],
   ℕ,
@@ -29,8 +30,9 @@ ghost use Rattle.fw_book.specs.Changes.{
   Confirms,
 };
 ghost use Rattle.fw_book.specs.declared.row.RowState.TheVariants.{Done, Failed};
-ghost use Rattle.fw_journal.specs.Book.{IsBadBook, Stands};
+ghost use Rattle.fw_journal.specs.Book.{IsBadBook, Stands, Drops};
 ghost use Rattle.fw_journal.specs.Device.{LeavesOnly, Keeps as DeviceKeeps};
+ghost use Rattle.fw_journal.specs.Keeping.{KeepsFirst};
 ghost use Rattle.fw_journal.specs.Refusals.{IsMakingRefusal};
 ghost use Rattle.fw_ledger.specs.Replay.{Makes};
 ghost use Rattle.fw_ledger.specs.View.{entry_of};
@@ -42,7 +44,7 @@ use crate::opening::book_of;
 use crate::putting::{add, check_has, opening_of, put};
 use fw_book::Book;
 use fw_client::ActiveClaim;
-use fw_journal::{Journal, JournalDevice, JournalError, Replacer, RewriteError};
+use fw_journal::{Journal, JournalDevice, JournalError, Keeper, Replacer, RewriteError};
 use fw_ledger::{Ending, Record};
 use fw_names::{CampaignId, HeadId, ImageName, MeterId};
 use std::alloc::Global;
@@ -116,14 +118,19 @@ impl<D: JournalDevice> KeptBook<D> {
     }
 
     /// Opens the book that a power cut, or a process that was killed, may have left on the device: exactly the one that the device holds.
-    /// The device is synced first.
+    /// The device is synced first. What is cut off it and reads as records, the keeper has first.
     ///
     /// # Errors
     ///
     /// `BadBook` with an offset where the bytes are no journal's; nothing is written then. `ForeignHead` where the book is another head
     /// end's, and `BadRecord` with the index of a record that has no place in the book of those before it; the journal has the same records
-    /// then. Else `BookFault` and `OutOfMemory`, which may come in place of these. The device is returned.
-    pub fn open(alloc: Global, head: HeadId, device: D) -> Result<Self, (OpenError, D)>
+    /// then. Else `BookFault` and `OutOfMemory`, of the device or of the keeper, which may come in place of these. The device is returned.
+    pub fn open<K: Keeper>(
+        alloc: Global,
+        head: HeadId,
+        device: D,
+        keeper: &mut K,
+    ) -> Result<Self, (OpenError, D)>
         ensures opened { IsTrue (D.honest device)
             → IfOk result (λ kept. Holds D.honest D.contents D.may_leave kept (book_of kept)) }
         ensures book { IsTrue (D.honest device) → IfOk result (λ kept. HasBook head (D.contents device) (book_of kept)) }
@@ -141,10 +148,19 @@ impl<D: JournalDevice> KeptBook<D> {
             (λ left. D.may_leave device left ⊎ ((records : List (List ℕ)) → Stands (D.contents device) records → Stands left records))) }
         ensures any_moment_err { IsTrue (D.honest device) → IfErr result (λ e. LeavesOnly D.moment D.left_since device e.1
             (λ left. D.may_leave device left ⊎ ((records : List (List ℕ)) → Stands (D.contents device) records → Stands left records))) }
-        ensures never { IsTrue (D.honest device) → IsTrue (D.sound device) → IfErr result (λ e. e.0 ≢ OpenError.BookFault) }
+
+        // What reads as records is cut off only once the keeper holds it.
+        ensures dropped { IsTrue (D.honest device) → (rest : List ℕ) (count : ℕ) → Drops (D.contents device) rest count → 1 ≤ count
+            → OnOk result (K.holds keeper.new rest) }
+        ensures kept_first { IsTrue (D.honest device)
+            → IfOk result (λ kept. KeepsFirst D.JournalDevice K.Keeper device (device_of kept) keeper.old keeper.new) }
+        ensures kept_first_err { IsTrue (D.honest device)
+            → IfErr result (λ e. KeepsFirst D.JournalDevice K.Keeper device e.1 keeper.old keeper.new) }
+        ensures never { IsTrue (D.honest device) → IsTrue (D.sound device) → IsTrue (K.sound keeper.old)
+            → IfErr result (λ e. e.0 ≢ OpenError.BookFault) }
         ensures kept { IfOk result (λ kept. DeviceKeeps D.honest D.sound device (device_of kept)) }
     {
-        match Journal::open(alloc, device) {
+        match Journal::open(alloc, device, keeper) {
             Ok((journal, records)) => match book_of(alloc, head, &records) {
                 Ok(book) => Ok(KeptBook {
                     book,

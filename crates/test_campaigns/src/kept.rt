@@ -5,7 +5,7 @@ use crate::book::{
 };
 use crate::readings::records_text;
 use crate::subject::Subject;
-use fw_journal::{Disk, MemoryDevice, MemoryReplacer};
+use fw_journal::{Disk, MemoryDevice, MemoryKeeper, MemoryReplacer};
 use fw_kept::KeptBook;
 use std::alloc::Global;
 use std::test::Fail;
@@ -67,7 +67,8 @@ pub(crate) fn device_of(alloc: Global, bytes: &[u8]) -> Result<MemoryDevice, Fai
 
 /// The bytes of the book of head end 7 that these bytes hold, or what they are refused for.
 pub(crate) fn read_text(alloc: Global, bytes: &[u8]) -> Result<String, Fail> {
-    match KeptBook::open(alloc, head(7)?, device_of(alloc, bytes)?) {
+    let device = device_of(alloc, bytes)?;
+    match KeptBook::open(alloc, head(7)?, device, &mut MemoryKeeper::new(alloc)) {
         Ok(book) => bytes_of(alloc, book.book()),
         Err((refusal, _)) => Ok(refusal.to_string(alloc)?),
     }
@@ -171,7 +172,7 @@ impl Reads for Cuts {
         let (calls, torn, other): (u64, u8, &str) = words.read()?;
         let mut device = device_with_one(alloc)?;
         device.fuse(calls.saturating_add(3), torn);
-        match KeptBook::open(alloc, head(7)?, device) {
+        match KeptBook::open(alloc, head(7)?, device, &mut MemoryKeeper::new(alloc)) {
             Ok(book) => cut_text(alloc, &mut Subject(book), words.rest(), other),
             Err((refusal, _)) => Ok(refusal.to_string(alloc)?),
         }

@@ -1,4 +1,4 @@
-use Rattle.std.proofs.Common.{rules, ◌≡◌, ℕ, List, ◌∷◌}
+use Rattle.std.proofs.Common.{rules, ◌≡◌}
 use Rattle.fw_ledger.specs.Replay.{records_of}
 use Rattle.fw_kept.proofs.Readings.{none_of, first_of, some_records, books_read, reading_refused, not_foreign, bad_first}
 use Rattle.fw_kept.proofs.reading.book_in.Goals as goal
