@@ -169,6 +169,11 @@ def receive(head, meter, image):
     wants(got.endswith("00"), f"the reply to an activate is {got}")
 
 
+def without_notes(said):
+    """The lines of standard error, except those of records behind a shut gate: a head end that is killed in a commit leaves such records."""
+    return [line for line in (said or "").splitlines() if "behind a shut gate" not in line]
+
+
 class HeadEnd:
     """A head end in a process of its own."""
 
@@ -182,17 +187,17 @@ class HeadEnd:
         self.process.kill()
         out, said = self.process.communicate()
         status = self.process.returncode
-        wants(status in (0, -signal.SIGKILL) and not said, f"the head end ended with {status} and {said!r}")
+        wants(status in (0, -signal.SIGKILL) and not without_notes(said), f"the head end ended with {status} and {said!r}")
         return out.splitlines()
 
     def end(self, patience=60):
-        """Waits until it ends by itself, and returns its status, the lines that it printed, and those of standard error."""
+        """Waits until it ends by itself, and returns its status, the lines that it printed, and those of standard error without notes."""
         try:
             out, said = self.process.communicate(timeout=patience)
         except subprocess.TimeoutExpired:
             lines = self.kill()
             raise Failed(f"it doesn't end, and printed {lines[-3:]}") from None
-        return self.process.returncode, out.splitlines(), (said or "").splitlines()
+        return self.process.returncode, out.splitlines(), without_notes(said)
 
     def over(self, patience=60):
         """Waits until it ends by itself, with status 0 and nothing on standard error, and returns the lines that it printed."""

@@ -88,7 +88,16 @@ fn main(rt: HostRuntime) -> ExitCode {
 /// Runs the command that the words of the command line ask for. How far it is, is shown on the terminal, if there is one.
 fn run<
     'a,
-    R: AllocGlobal + Files<File = File> + Clock + Input + Print + Threads + Wait + Net + Sync,
+    R: AllocGlobal
+        + Files<File = File>
+        + Clock
+        + Input
+        + Print
+        + Eprint
+        + Threads
+        + Wait
+        + Net
+        + Sync,
     E: Eprint + Sync,
 >(rt: &R, terminal: Option<&E>, words: &'a [String]) -> Result<(), Ending<'a>> {
     match options::parse(rt.alloc(), words) {
@@ -100,7 +109,16 @@ fn run<
 /// Runs a command with its options.
 fn run_command<
     'a,
-    R: AllocGlobal + Files<File = File> + Clock + Input + Print + Threads + Wait + Net + Sync,
+    R: AllocGlobal
+        + Files<File = File>
+        + Clock
+        + Input
+        + Print
+        + Eprint
+        + Threads
+        + Wait
+        + Net
+        + Sync,
     E: Eprint + Sync,
 >(rt: &R, terminal: Option<&E>, invocation: Invocation<'a>) -> Result<(), Ending<'a>> {
     match invocation {
@@ -244,7 +262,7 @@ fn meter<'a, R: AllocGlobal + Files<File = File> + Clock + Print + Net + Wait>(
 }
 
 /// `head`, until no row is live.
-fn head<'a, R: AllocGlobal + Files<File = File> + Clock + Print + Net + Wait, E: Eprint>(
+fn head<'a, R: AllocGlobal + Files<File = File> + Clock + Print + Eprint + Net + Wait, E: Eprint>(
     rt: &R,
     terminal: Option<&E>,
     options: &HeadOptions<'a>,
@@ -257,7 +275,7 @@ fn head<'a, R: AllocGlobal + Files<File = File> + Clock + Print + Net + Wait, E:
 }
 
 /// `status`.
-fn status<'a, R: AllocGlobal + Files<File = File> + Print>(
+fn status<'a, R: AllocGlobal + Files<File = File> + Print + Eprint>(
     rt: &R,
     options: StatusOptions<'a>,
 ) -> Result<(), Ending<'a>> {

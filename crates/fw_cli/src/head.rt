@@ -67,7 +67,8 @@ pub struct HeadOptions<'a> {
 ///
 /// The writer gets the line `listening ..`, once datagrams are received, `cancelled ..` and `opened ..` for each campaign, `row ..` for each
 /// row that ended, each once the disk has it, and `over ..` at the end. Each is flushed. After the first, a line that can't be written is
-/// lost. How far it is, is shown on the terminal, if there is one.
+/// lost. How far it is, is shown on the terminal, if there is one. Standard error is told of records that the book lacks, and of the file
+/// that keeps them ([`kept_head`]).
 ///
 /// # Errors
 ///
@@ -87,7 +88,7 @@ pub struct HeadOptions<'a> {
 /// - `OutOfMemory`.
 ///
 /// Up to `NoAddress` nothing was sent, and the book is as before. Up to `OpenRefused` nothing was sent.
-pub fn run_head<R: Files<File = File> + Clock + Net + Wait, W: Write, E: Eprint>(
+pub fn run_head<R: Files<File = File> + Clock + Eprint + Net + Wait, W: Write, E: Eprint>(
     rt: &R,
     alloc: Global,
     writer: &mut W,
@@ -166,7 +167,7 @@ struct Opened {
 }
 
 /// Reads the list and the image, binds the socket, and opens the book.
-fn set_up<R: Files<File = File> + Net>(
+fn set_up<R: Files<File = File> + Eprint + Net>(
     rt: &R,
     alloc: Global,
     options: &HeadOptions<'_>,
@@ -210,7 +211,7 @@ fn asked_of<F: Files<File = File> + Net>(
 }
 
 /// The head end with its book, each of whose meters that it has to ask is in the list.
-fn led_head<F: Files<File = File>>(
+fn led_head<F: Files<File = File> + Eprint>(
     rt: &F,
     alloc: Global,
     options: &HeadOptions<'_>,

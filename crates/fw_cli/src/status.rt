@@ -1,7 +1,8 @@
 //! The command `status`: how far the rows of a book are, also while a head end has it.
 
-ghost use Rattle.std.specs.Prelude.{◌≡◌, ◌≢◌, ◌++◌, List, flat_map, IfErr, IfOk, OnOk, string_bytes};
+ghost use Rattle.std.specs.Prelude.{◌≡◌, ◌≢◌, ◌++◌, ℕ, List, flat_map, IfErr, IfOk, OnOk, string_bytes};
 ghost use Rattle.std.specs.Io.KnownBytes.{Appends, Keeps};
+ghost use Rattle.fw_journal.specs.Book.{Drops};
 ghost use Rattle.serde_json.specs.View.{view};
 ghost use Rattle.serde_json.specs.Written.{compact_text};
 ghost use Rattle.fw_report.specs.declared.summary.RowEntry.{RowEntry};
@@ -9,7 +10,7 @@ ghost use Rattle.fw_cli.specs.Heads.{HasRows, IsOfStatus, count_of, counts_line,
 
 use fw_book::RowState;
 use fw_faults::{Fault, write_text};
-use fw_host::is_absent;
+use fw_host::{is_absent, untaken_line};
 use fw_kept::read_kept;
 use fw_report::json::push_rows;
 use fw_report::table::{ROW_HEADINGS, append_rows};
@@ -45,7 +46,7 @@ pub struct StatusOptions<'a> {
 }
 
 /// Writes how far each row of the book in the file is. The file is read alone, and may be another program's meanwhile: what it has is then
-/// what it had on some commit.
+/// what it had on some commit. Standard error is told of records that stand behind its shut gate, as those of a commit that isn't done.
 ///
 /// # Errors
 ///
@@ -53,7 +54,7 @@ pub struct StatusOptions<'a> {
 /// - `BadBook`, `BadRecord`: it holds no book.
 /// - `Output`: the writer failed. What it holds then is unspecified.
 /// - `OutOfMemory`.
-pub fn run_status<F: Files<File = File>, W: Write>(
+pub fn run_status<F: Files<File = File> + Eprint, W: Write>(
     rt: &F,
     alloc: Global,
     writer: &mut W,
@@ -66,9 +67,20 @@ pub fn run_status<F: Files<File = File>, W: Write>(
     ensures faults { IfErr result IsOfStatus }
 {
     let bytes = bytes_of_book(rt, alloc, options.book)?;
-    let rows = rows_of(alloc, &bytes)?;
+    let (rows, untaken) = rows_of(alloc, &bytes)?;
+    if untaken > 0 {
+        tell_untaken(rt, alloc, untaken);
+    }
     let text = status_of(alloc, &rows, options.report)?;
     write_text(writer, text.as_str())
+}
+
+/// Tells standard error of records that the book lacks. A line that can't be written is lost.
+fn tell_untaken<F: Eprint>(rt: &F, alloc: Global, records: usize) {
+    if let Ok(line) = untaken_line(alloc, records) {
+        let line = line.as_str();
+        let _ = eprint!(rt; "{line}");
+    }
 }
 
 /// All bytes of the file of a book.
@@ -88,17 +100,19 @@ fn bytes_of_book<F: Files<File = File>>(rt: &F, alloc: Global, path: &str) -> Re
     }
 }
 
-/// The rows of the book that these bytes hold.
-fn rows_of(alloc: Global, bytes: &[u8]) -> Result<Vec<RowEntry>, Fault>
-    ensures rows { IfOk result (λ rows. HasRows bytes.now rows.items) }
+/// The rows of the book that these bytes hold, and how many whole records stand behind its shut gate.
+fn rows_of(alloc: Global, bytes: &[u8]) -> Result<(Vec<RowEntry>, usize), Fault>
+    ensures rows { IfOk result (λ r. HasRows bytes.now r.0.items) }
+    ensures untaken { IfOk result (λ r. (rest : List ℕ) × Drops bytes.now rest r.1) }
     ensures faults { IfErr result IsOfStatus }
 {
     let mut rows = Vec::new(alloc);
-    let Some(book) = read_kept(alloc, bytes)? else {
-        return Ok(rows);
+    let (book, untaken) = read_kept(alloc, bytes)?;
+    let Some(book) = book else {
+        return Ok((rows, untaken));
     };
     push_book(&mut rows, book.head().number(), &book)?;
-    Ok(rows)
+    Ok((rows, untaken))
 }
 
 /// The report of rows in this form.

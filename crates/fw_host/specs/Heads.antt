@@ -1,5 +1,5 @@
 -- Public vocabulary: the command `head`: the lines that it prints, and the faults that end it.
-use Rattle.std.specs.Prelude.{◌≡◌, ℕ, List, ◌++◌, Option, None, Some, Bool, true, false, codes, decimal}
+use Rattle.std.specs.Prelude.{◌≡◌, ℕ, List, ◌++◌, Option, None, Some, Bool, true, false, codes, decimal, if◌then◌else◌, nat_eq}
 use Rattle.hex.specs.Hex.{encode_lower}
 use Rattle.fw_names.specs.Name.{Campaign, Name}
 use Rattle.fw_book.specs.declared.error.BookError.{BookError}
@@ -30,6 +30,19 @@ ended_line ended =
 -- how many rows were reported as done and as failed
 abbrev pub over_line : Counts → List ℕ
 over_line counts = codes "over done " ++ (decimal counts.done ++ (codes " failed " ++ (decimal counts.failed ++ codes "\n")))
+
+-- ---- the lines on standard error
+
+-- whole records stand behind the shut gate of a book, which lacks them
+abbrev pub untaken_line : ℕ → List ℕ
+untaken_line count =
+    (if nat_eq count 1 then codes "1 record behind a shut gate was not taken\n" else (decimal count ++ codes " records behind a shut gate were not taken\n"))
+
+-- and a head end keeps them in this file
+abbrev pub kept_line : ℕ → List ℕ → List ℕ
+kept_line count file =
+    (if nat_eq count 1 then (codes "1 record behind a shut gate was not taken; it is kept in " ++ (file ++ codes "\n"))
+    else (decimal count ++ (codes " records behind a shut gate were not taken; they are kept in " ++ (file ++ codes "\n"))))
 
 -- ---- the faults
 

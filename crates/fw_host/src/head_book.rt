@@ -1,17 +1,19 @@
 //! The book of the command `head`, in a file.
 
-ghost use Rattle.std.specs.Prelude.{◌≡◌, ◌≢◌, IfErr, IfOk, IsTrue, OnOk};
+ghost use Rattle.std.specs.Prelude.{◌≡◌, ◌≢◌, ◌≤◌, ℕ, List, IfErr, IfOk, IsTrue, OnOk};
 ghost use Rattle.fw_head.specs.Head.{BeginsWith, new_head};
+ghost use Rattle.fw_journal.specs.Book.{Drops};
 ghost use Rattle.fw_journal.specs.Refusals.{IsFileRefusal};
 ghost use Rattle.fw_kept.specs.Head.{book_of, head_of};
 ghost use Rattle.fw_kept.specs.Kept.{HasForeign};
 ghost use Rattle.fw_host.specs.Heads.{IsOfBook, IsOfNewBook, IsOfOldBook};
 
 use crate::files::is_absent;
+use crate::head_dropped::DroppedFile;
 use fw_blocks::Width;
 use fw_book::Book;
 use fw_faults::Fault;
-use fw_journal::{FileDevice, FileReplacer, JournalDevice, JournalError, RewriteError};
+use fw_journal::{FileDevice, FileReplacer, JournalDevice, JournalError, Keeper, RewriteError};
 use fw_kept::KeptHead;
 use fw_names::{CampaignId, HeadId};
 use std::alloc::{AllocError, Global};
@@ -37,14 +39,18 @@ const ROW_SIZE: u64 = 5;
 /// The head end of this number whose book is in the file. A new one is made as FILE.new, and named FILE once the disk has all of it. So
 /// is one that is there, where it is written anew. A file that is named FILE.new and is no journal is left as it is.
 ///
+/// What is cut off a book that is there, and reads as records, is kept in FILE.dropped first, and standard error is told how many records
+/// that are. Where that can't be, nothing is cut off.
+///
 /// # Errors
 ///
-/// - `Locked`: another head end has the book. `BookFault`: its file can't be made, opened, read, written or synced.
+/// - `Locked`: another head end has the book. `BookFault`: its file can't be made, opened, read, written or synced, or what is to be cut off
+///   it can't be kept.
 /// - Of a book that is there `NoBook`, `BadBook`, `BadRecord` and `ForeignHead`: the file has no book that this head end may begin with.
 ///   It is left as it is, or as a journal of the same records.
 /// - Of a new one `BookExists`; and `BookFault` where another file is named FILE.new.
 /// - `OutOfMemory`.
-pub fn kept_head<F: Files<File = File>>(
+pub fn kept_head<F: Files<File = File> + Eprint>(
     rt: &F,
     alloc: Global,
     book: BookOptions<'_>,
@@ -66,7 +72,7 @@ pub fn kept_head<F: Files<File = File>>(
 }
 
 /// The head end whose book is in a file that is there.
-fn open<F: Files<File = File>>(
+fn open<F: Files<File = File> + Eprint>(
     rt: &F,
     alloc: Global,
     path: &str,
@@ -83,7 +89,8 @@ fn open<F: Files<File = File>>(
     };
     // A file whose length can't be told isn't written anew.
     let size = device.len().unwrap_or(0);
-    let mut kept = book_on(alloc, head, width, device)?;
+    let mut keeper = DroppedFile::new(rt, alloc, path);
+    let mut kept = book_on(alloc, head, width, device, &mut keeper)?;
     // A head end that made the file may have been ended before a power cut left its name there.
     sync_folder(rt, path)?;
     compact(rt, alloc, path, size, &mut kept)?;
@@ -137,20 +144,25 @@ fn digest_in(book: &Book, serial: u32) -> Option<[u8; 32]> {
 }
 
 /// The head end of this number whose book is on a device. `ForeignHead` says that it is another head end's.
-fn book_on<D: JournalDevice + Drop>(
+fn book_on<D: JournalDevice + Drop, K: Keeper>(
     alloc: Global,
     head: HeadId,
     width: Width,
     device: D,
+    keeper: &mut K,
 ) -> Result<KeptHead<D>, Fault>
     ensures begun { IfOk result (λ kept. BeginsWith (book_of kept) width (head_of kept)) }
     ensures number { IfOk result (λ kept. (book_of kept).head ≡ head) }
     ensures own { IsTrue (D.honest device) → OnOk result (¬ HasForeign head (D.contents device)) }
     ensures foreign { IsTrue (D.honest device) → IfErr result (λ f. f ≡ Fault.ForeignHead → HasForeign head (D.contents device)) }
+
+    // What is cut off and reads as records, the keeper holds.
+    ensures dropped { IsTrue (D.honest device) → (rest : List ℕ) (count : ℕ) → Drops (D.contents device) rest count → 1 ≤ count
+        → OnOk result (K.holds keeper.new rest) }
     ensures faults { IfErr result IsOfOldBook }
 {
     fw_kept::laws::foreign_have_none();
-    match KeptHead::open(alloc, head, width, device) {
+    match KeptHead::open(alloc, head, width, device, keeper) {
         Ok(kept) => Ok(kept),
         Err((error, _device)) => Err(Fault::from(error)),
     }
@@ -231,7 +243,7 @@ fn new_book(
 }
 
 /// Puts the names in the folder of a file where a power cut leaves them.
-fn sync_folder<F: Files<File = File>>(rt: &F, path: &str) -> Result<(), Fault>
+pub(crate) fn sync_folder<F: Files<File = File>>(rt: &F, path: &str) -> Result<(), Fault>
     ensures faults { IfErr result (λ f. f ≡ Fault.BookFault) }
 {
     let folder = match path.rsplit_once('/') {

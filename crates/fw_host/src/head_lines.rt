@@ -1,8 +1,8 @@
-//! The lines that the command `head` prints.
+//! The lines that the commands `head` and `status` print of a book.
 
 ghost use Rattle.std.specs.Prelude.{◌≡◌, IfOk, string_bytes};
 ghost use Rattle.fw_rollout.specs.Leading.{state_after};
-ghost use Rattle.fw_host.specs.Heads.{cancelled_line, ended_line, opened_line, over_line};
+ghost use Rattle.fw_host.specs.Heads.{cancelled_line, ended_line, kept_line, opened_line, over_line, untaken_line};
 
 use fw_book::RowState;
 use fw_ledger::Ending;
@@ -49,6 +49,30 @@ pub fn over_line(alloc: Global, counts: Counts) -> Result<String, AllocError>
 {
     let (done, failed) = (counts.done, counts.failed);
     format!(in alloc; "over done {done} failed {failed}\n")
+}
+
+/// The line of whole records that stand behind the shut gate of a book, which lacks them.
+pub fn untaken_line(alloc: Global, records: usize) -> Result<String, AllocError>
+    ensures { IfOk result (λ text. string_bytes text ≡ untaken_line records) }
+{
+    if records == 1 {
+        format!(in alloc; "1 record behind a shut gate was not taken\n")
+    } else {
+        format!(in alloc; "{records} records behind a shut gate were not taken\n")
+    }
+}
+
+/// The same of a head end that keeps them in this file.
+pub(crate) fn kept_line(alloc: Global, records: usize, file: &str) -> Result<String, AllocError>
+    ensures { IfOk result (λ text. string_bytes text ≡ kept_line records file.now) }
+{
+    if records == 1 {
+        format!(in alloc; "1 record behind a shut gate was not taken; it is kept in {file}\n")
+    } else {
+        format!(in alloc;
+            "{records} records behind a shut gate were not taken; they are kept in {file}\n"
+        )
+    }
 }
 
 /// How a book notes the end of a row.

@@ -73,7 +73,7 @@ some_body r rest more =
     let four : length (to_be_bytes w32 (length r)) ≡ 4 = refl in
     omega (arith, four, length-append (body r ++ rest) more, length-append (body r) rest, length-append (to_be_bytes w32 (length r)) (r ++ sha256 r))
 
-tail_of : (a b : ℕ) (s t : List ℕ) → a ∷ s ≡ b ∷ t → s ≡ t
+pub tail_of : (a b : ℕ) (s t : List ℕ) → a ∷ s ≡ b ∷ t → s ≡ t
 tail_of a b s t is = cc is
 
 pub blocks_unique : (xs ys : List (List ℕ)) (s t : List ℕ) → AreRecords xs → AreRecords ys → IsShut s → IsShut t → blocks xs ++ s ≡ blocks ys ++ t → xs ≡ ys

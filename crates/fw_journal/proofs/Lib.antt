@@ -5,3 +5,4 @@ mod Ends
 mod Moments
 mod Kept
 mod Mends
+mod Blocks

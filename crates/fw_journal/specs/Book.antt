@@ -1,5 +1,5 @@
 -- Public vocabulary: the bytes of a journal, and which records they stand for.
-use Rattle.std.specs.Prelude.{◌≡◌, ◌≢◌, ◌⊎◌, ⊤, ◌<◌, ◌≤◌, ◌^◌, ℕ, List, [], ◌∷◌, ◌++◌, length, Vec}
+use Rattle.std.specs.Prelude.{◌≡◌, ◌≢◌, ◌⊎◌, ⊤, ◌<◌, ◌≤◌, ◌^◌, ℕ, zero, suc, List, [], ◌∷◌, ◌++◌, length, Vec}
 use Rattle.std.specs.Int.{w32, to_be_bytes}
 use Rattle.std.specs.declared.alloc.Global.{Global}
 use Rattle.sha2.specs.Sha256.{sha256}
@@ -71,6 +71,25 @@ pub record HasRecord (bytes : List ℕ) : Type 0 where
   pub rest : List ℕ
   pub short : length first < 2 ^ 32
   pub split : bytes ≡ mark ++ 1 ∷ (body first ++ rest)
+
+-- a whole record stands first, behind one byte of any value, and then these bytes
+pub record HasBlock (bytes rest : List ℕ) : Type 0 where
+  pub gate : ℕ
+  pub entry : List ℕ
+  pub short : length entry < 2 ^ 32
+  pub split : bytes ≡ gate ∷ (body entry ++ rest)
+
+-- so many whole records stand here one after another, each behind one byte of any value, and no further one
+abbrev pub HasBlocks : ℕ → List ℕ → Type 0
+HasBlocks zero bytes = (rest : List ℕ) → ¬ HasBlock bytes rest
+HasBlocks (suc n) bytes = (rest : List ℕ) × HasBlock bytes rest × HasBlocks n rest
+
+-- in a journal of these bytes this stands from the shut gate on, with so many whole records one after another
+pub record Drops (bytes rest : List ℕ) (count : ℕ) : Type 0 where
+  pub records : List (List ℕ)
+  pub stands : Stands bytes records
+  pub rest_is : rest ≡ stands.end
+  pub counted : HasBlocks count rest
 
 -- what the vectors hold
 abbrev pub contents_of : List (Vec ℕ Global) → List (List ℕ)

@@ -1,6 +1,6 @@
 -- Public vocabulary: the laws of the bytes of a journal. They speak of definitions alone.
 use Rattle.std.specs.Prelude.{◌≡◌, ℕ, List}
-use Rattle.fw_journal.specs.Book.{AreRecords, Stands, IsBadBook, book_bytes}
+use Rattle.fw_journal.specs.Book.{AreRecords, Stands, IsBadBook, HasBlocks, book_bytes}
 
 -- bytes stand for one list of records at most
 abbrev pub OneReading : Type 0
@@ -13,3 +13,7 @@ BadIsNone = (bytes : List ℕ) (offset : ℕ) (records : List (List ℕ)) → Is
 -- a journal between two calls stands for its records
 abbrev pub BookStands : Type 0
 BookStands = (records : List (List ℕ)) → AreRecords records → Stands (book_bytes records) records
+
+-- bytes have one number of whole records one after another, each behind one byte
+abbrev pub OneCount : Type 0
+OneCount = (bytes : List ℕ) (some others : ℕ) → HasBlocks some bytes → HasBlocks others bytes → some ≡ others

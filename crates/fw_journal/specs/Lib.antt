@@ -6,6 +6,7 @@ pub mod Past
 pub mod Memory
 pub mod Book
 pub mod Journal
+pub mod Keeping
 pub mod Laws
 -- For private members alone: no public clause cites it.
 pub mod Group

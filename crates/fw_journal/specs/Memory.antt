@@ -3,6 +3,7 @@ use Rattle.std.specs.Prelude.{◌≡◌, ℕ, List, Bool, Option, is_none}
 use Rattle.fw_journal.specs.Past.{Held, MayLeave, IsSince}
 use Rattle.fw_journal.specs.declared.fuse.Fuse.{Fuse}
 use Rattle.fw_journal.specs.declared.memory.MemoryDevice.{MemoryDevice}
+use Rattle.fw_journal.specs.declared.memory.MemoryKeeper.{MemoryKeeper}
 
 -- what it holds now
 abbrev pub held_of : MemoryDevice → Held
@@ -34,3 +35,7 @@ left_since m since left = IsSince (past_of m) (held_of m) since left
 pub record KeepsAllButFuse (old new : MemoryDevice) : Type 0 where
   pub held : held_of new ≡ held_of old
   pub past : past_of new ≡ past_of old
+
+-- what it was given last to keep
+abbrev pub kept_of : MemoryKeeper → List ℕ
+kept_of m = m.bytes.items

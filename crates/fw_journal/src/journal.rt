@@ -26,13 +26,15 @@ ghost use Rattle.std.specs.Prelude.{
   IsErrOf,
 };
 ghost use Rattle.fw_journal.specs.Device.{IsSynced, LeavesOnly, Keeps};
-ghost use Rattle.fw_journal.specs.Book.{blocks, book_front, book_bytes, contents_of, AreRecords, Stands, IsBadBook};
+ghost use Rattle.fw_journal.specs.Book.{blocks, book_front, book_bytes, contents_of, AreRecords, Stands, IsBadBook, HasBlocks, Drops};
 ghost use Rattle.fw_journal.specs.Group.{Takes, EndsAt};
+ghost use Rattle.fw_journal.specs.Keeping.{KeepsFirst};
 ghost use Rattle.fw_journal.specs.Refusals.{IsMakingRefusal, IsOpeningRefusal, IsCommitRefusal};
 
 use crate::device::JournalDevice;
 use crate::error::{DeviceError, JournalError, ReplaceError, RewriteError};
-use crate::reading::read_book;
+use crate::keeping::Keeper;
+use crate::reading::{count_blocks, read_book};
 use crate::replacing::Replacer;
 use crate::steps::{read_synced, shorten_synced, write_synced};
 use sha2::{Digest, Sha256};
@@ -100,14 +102,20 @@ impl<D: JournalDevice> Journal<D> {
     }
 
     /// Opens a journal that a power cut, or a process that was killed, may have left. It syncs first, and gives all records that the device
-    /// holds, in their order. What stands from a shut gate on is cut off. A journal as a commit left it isn't written to.
+    /// holds, in their order. What stands from a shut gate on is cut off. Where a whole record stands there, the keeper has it first. A
+    /// journal as a commit left it isn't written to.
     ///
     /// # Errors
     ///
     /// `BadBook` where the bytes aren't a journal's: with the offset of the open gate after which no whole record stands, or with 0 where
-    /// they don't begin as one. Nothing is written then. Else `BookFault` and `OutOfMemory`, which may come in place of `BadBook`, since
-    /// the bytes and the records before that offset are read first. The device is returned.
-    pub fn open(alloc: Global, device: D) -> Result<(Self, Vec<Vec<u8>>), (JournalError, D)>
+    /// they don't begin as one. Nothing is written then. Else `BookFault` and `OutOfMemory`, of the device or of the keeper, which may come
+    /// in place of `BadBook`, since the bytes and the records before that offset are read first. Where the keeper refused, nothing was
+    /// written. The device is returned.
+    pub fn open<K: Keeper>(
+        alloc: Global,
+        device: D,
+        keeper: &mut K,
+    ) -> Result<(Self, Vec<Vec<u8>>), (JournalError, D)>
         ensures records { IsTrue (D.honest device) → IfOk result (λ r. Stands (D.contents device) (contents_of r.1.items)) }
         ensures opened { IsTrue (D.honest device)
             → IfOk result (λ r. Has D.honest D.contents D.may_leave r.0 (contents_of r.1.items) []) }
@@ -119,12 +127,21 @@ impl<D: JournalDevice> Journal<D> {
             (λ left. D.may_leave device left ⊎ ((records : List (List ℕ)) → Stands (D.contents device) records → Stands left records))) }
         ensures any_moment_err { IsTrue (D.honest device) → IfErr result (λ e. LeavesOnly D.moment D.left_since device e.1
             (λ left. D.may_leave device left ⊎ ((records : List (List ℕ)) → Stands (D.contents device) records → Stands left records))) }
-        ensures never { IsTrue (D.honest device) → IsTrue (D.sound device) → IfErr result (λ e. e.0 ≢ JournalError.BookFault) }
+
+        // What reads as records is cut off only once the keeper holds it.
+        ensures dropped { IsTrue (D.honest device) → (rest : List ℕ) (count : ℕ) → Drops (D.contents device) rest count → 1 ≤ count
+            → OnOk result (K.holds keeper.new rest) }
+        ensures kept_first { IsTrue (D.honest device)
+            → IfOk result (λ r. KeepsFirst D.JournalDevice K.Keeper device (device_of r.0) keeper.old keeper.new) }
+        ensures kept_first_err { IsTrue (D.honest device)
+            → IfErr result (λ e. KeepsFirst D.JournalDevice K.Keeper device e.1 keeper.old keeper.new) }
+        ensures never { IsTrue (D.honest device) → IsTrue (D.sound device) → IsTrue (K.sound keeper.old)
+            → IfErr result (λ e. e.0 ≢ JournalError.BookFault) }
         ensures refusals { IfErr result (λ e. IsOpeningRefusal e.0) }
         ensures kept { IfOk result (λ r. Keeps D.honest D.sound device (device_of r.0)) }
     {
         let mut device = device;
-        match recover(alloc, &mut device) {
+        match recover(alloc, &mut device, keeper) {
             Ok((records, end)) => Ok((
                 Journal {
                     device,
@@ -430,10 +447,11 @@ fn write_group<D: JournalDevice>(device: &mut D, end: u64, group: &[u8]) -> Resu
 }
 
 /// Reads the records of a journal, and makes its end a shut gate where it isn't one. What a killed process wrote and didn't sync is read, though a power cut
-/// needn't leave it: so it is synced first. Bytes that aren't a journal's are not written to.
-fn recover<D: JournalDevice>(
+/// needn't leave it: so it is synced first. What reads as records behind the shut gate is kept first. Bytes that aren't a journal's are not written to.
+fn recover<D: JournalDevice, K: Keeper>(
     alloc: Global,
     device: &mut D,
+    keeper: &mut K,
 ) -> Result<(Vec<Vec<u8>>, u64), JournalError>
     ensures records { IsTrue (D.honest device.old) → IfOk result (λ r. Stands (D.contents device.old) (contents_of r.0.items)) }
     ensures bytes { IsTrue (D.honest device.old) → IfOk result (λ r. D.contents device.new ≡ book_bytes (contents_of r.0.items)) }
@@ -445,17 +463,39 @@ fn recover<D: JournalDevice>(
     // A cut at any moment leaves what one before the call might have left, or the same records.
     ensures any_moment { IsTrue (D.honest device.old) → LeavesOnly D.moment D.left_since device.old device.new
         (λ left. D.may_leave device.old left ⊎ ((records : List (List ℕ)) → Stands (D.contents device.old) records → Stands left records)) }
-    ensures never { IsTrue (D.honest device.old) → IsTrue (D.sound device.old) → ¬ IsErrOf result JournalError.BookFault }
+    ensures dropped { IsTrue (D.honest device.old) → (rest : List ℕ) (count : ℕ) → Drops (D.contents device.old) rest count → 1 ≤ count
+        → OnOk result (K.holds keeper.new rest) }
+    ensures kept_first { IsTrue (D.honest device.old)
+        → KeepsFirst D.JournalDevice K.Keeper device.old device.new keeper.old keeper.new }
+    ensures never { IsTrue (D.honest device.old) → IsTrue (D.sound device.old) → IsTrue (K.sound keeper.old)
+        → ¬ IsErrOf result JournalError.BookFault }
     ensures refusals { IfErr result IsOpeningRefusal }
     ensures kept { Keeps D.honest D.sound device.old device.new }
 {
     let bytes = read_synced(alloc, device)?;
-    let (records, end) = read_book(alloc, &bytes)?;
-    if is_whole(&bytes, end) {
+    let bytes = bytes.as_slice();
+    let (records, end) = read_book(alloc, bytes)?;
+    if is_whole(bytes, end) {
         return Ok((records, end));
     }
+    keep_rest(keeper, bytes, end)?;
     shut(device, end)?;
     Ok((records, end))
+}
+
+/// Has what stands behind the records of a journal kept, where a whole record is among it.
+fn keep_rest<K: Keeper>(keeper: &mut K, bytes: &[u8], end: u64) -> Result<(), DeviceError>
+    requires { end ≤ length bytes.now }
+    ensures held { (count : ℕ) → HasBlocks count (drop end bytes.now) → 1 ≤ count → OnOk result (K.holds keeper.new (drop end bytes.now)) }
+    ensures idle { HasBlocks 0 (drop end bytes.now) → IsOk result × (keeper.new ≡ keeper.old) }
+    ensures never { IsTrue (K.sound keeper.old) → ¬ IsErrOf result DeviceError.Fault }
+{
+    let (_, rest) = bytes.split_at(end as usize);
+    let count = count_blocks(rest);
+    if count == 0 {
+        return Ok(());
+    }
+    keeper.keep(count, rest)
 }
 
 /// Whether a journal whose records end there is as it is between two calls: one shut gate follows, and nothing after it.

@@ -1,6 +1,6 @@
 //! Laws of the bytes of a journal, over the definitions alone.
 
-ghost use Rattle.fw_journal.specs.Laws.{OneReading, BadIsNone, BookStands};
+ghost use Rattle.fw_journal.specs.Laws.{OneReading, BadIsNone, BookStands, OneCount};
 
 /// Bytes stand for one list of records at most.
 pub fn one_reading()
@@ -15,4 +15,9 @@ pub fn bad_is_none()
 /// The bytes of a journal between two calls stand for its records.
 pub fn book_stands()
     ensures { BookStands }
+{}
+
+/// Bytes have one number of whole records that stand one after another, each behind one byte of any value.
+pub fn one_count()
+    ensures { OneCount }
 {}

@@ -7,6 +7,7 @@ use crate::device::JournalDevice;
 use crate::disk::{Change, Disk, shortened, spliced};
 use crate::error::{DeviceError, ReplaceError};
 use crate::fuse::{Fuse, burn, torn_byte, torn_bytes};
+use crate::keeping::Keeper;
 use crate::replacing::Replacer;
 use std::alloc::{AllocError, Global};
 
@@ -140,6 +141,48 @@ impl Replacer<MemoryDevice> for MemoryReplacer {
         }
         let synced = device.disk.after_sync(alloc)?;
         Ok(replace(alloc, &mut device.disk, &mut device.past, synced)?)
+    }
+}
+
+/// Keeps bytes in memory, for tests: those that it was given last.
+#[derive(Drop)]
+pub struct MemoryKeeper {
+    alloc: Global,
+    bytes: Vec<u8>,
+}
+
+impl MemoryKeeper {
+    ghost use Rattle.fw_journal.specs.Memory.{kept_of};
+
+    /// A keeper that was given nothing yet.
+    pub fn new(alloc: Global) -> MemoryKeeper
+        ensures { kept_of result ≡ [] }
+    {
+        MemoryKeeper {
+            alloc,
+            bytes: Vec::new(alloc),
+        }
+    }
+
+    /// What it was given last.
+    pub fn bytes(&self) -> &[u8]
+        ensures { result.now ≡ kept_of self.now }
+    {
+        &self.bytes
+    }
+}
+
+impl Keeper for MemoryKeeper {
+    ghost use Rattle.std.specs.Prelude.{true};
+    ghost use Rattle.fw_journal.specs.Memory.{kept_of};
+
+    ghost holds = { λ keeper bytes. kept_of keeper ≡ bytes };
+
+    ghost sound = { λ _. true };
+
+    fn keep(&mut self, _records: usize, bytes: &[u8]) -> Result<(), DeviceError> {
+        self.bytes = bytes.to_vec(self.alloc)?;
+        Ok(())
     }
 }
 

@@ -11,6 +11,7 @@ ghost use Rattle.std.specs.Prelude.{
   ℕ,
   List,
   length,
+  drop,
   false,
   IsTrue,
   IfOk,
@@ -31,6 +32,9 @@ ghost use Rattle.fw_journal.specs.Book.{
   IsBadBook,
   IsNoBody,
   HasRecord,
+  HasBlock,
+  HasBlocks,
+  Drops,
 };
 ghost use Rattle.fw_journal.specs.Refusals.{IsOpeningRefusal};
 
@@ -131,4 +135,40 @@ pub fn read_book(alloc: Global, bytes: &[u8]) -> Result<(Vec<Vec<u8>>, u64), Jou
         rest = after;
     }
     Ok((records, (bytes.len() - rest.len()) as u64))
+}
+
+/// How many whole records stand one after another from the shut gate of a journal on, whose records end there: each behind one byte, of any
+/// value. They aren't among its records, and an opening cuts them off. A commit that was cut between its two syncs leaves such ones, and so
+/// does a gate that turns on the medium.
+pub fn count_dropped(bytes: &[u8], end: u64) -> usize
+    requires within { end ≤ length bytes.now }
+    ensures { (records : List (List ℕ)) → Stands bytes.now records → end ≡ length (book_front records)
+        → Drops bytes.now (drop end bytes.now) result }
+{
+    let (_, rest) = bytes.split_at(end as usize);
+    count_blocks(rest)
+}
+
+/// How many whole records stand here one after another, each behind one byte of any value.
+pub(crate) fn count_blocks(bytes: &[u8]) -> usize
+    ensures { HasBlocks result bytes.now }
+{
+    let mut count = 0;
+    let mut later = bytes;
+    while let Some(after) = after_block(later) {
+        count += 1;
+        later = after;
+    }
+    count
+}
+
+/// What follows a whole record that stands first, behind one byte.
+fn after_block(bytes: &[u8]) -> Option<&[u8]>
+    ensures found { IfSome result (λ after. HasBlock bytes.now after.now) }
+    ensures shorter { IfSome result (λ after. length after.now < length bytes.now) }
+    ensures none { IfNone result (HasBlocks 0 bytes.now) }
+{
+    let (_, behind) = bytes.split_first()?;
+    let (_, after) = body_at(behind)?;
+    Some(after)
 }

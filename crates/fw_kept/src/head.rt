@@ -28,8 +28,9 @@ ghost use Rattle.fw_head.specs.Phase.{IsLive};
 ghost use Rattle.fw_head.specs.Row.{bytes_of};
 ghost use Rattle.fw_head.specs.Head.{row_of, RowsMayWant, new_head, campaign_at, opened_head, cancelled_head, BeginsWith};
 ghost use Rattle.fw_head.specs.Head.{sends_to, ticked_head, HeadHears, IsDoneBy, IsOfferedIn};
-ghost use Rattle.fw_journal.specs.Book.{IsBadBook};
+ghost use Rattle.fw_journal.specs.Book.{IsBadBook, Drops};
 ghost use Rattle.fw_journal.specs.Device.{Keeps as DeviceKeeps};
+ghost use Rattle.fw_journal.specs.Keeping.{KeepsFirst};
 ghost use Rattle.fw_journal.specs.Refusals.{IsMakingRefusal};
 ghost use Rattle.fw_ledger.specs.Replay.{Makes};
 ghost use Rattle.fw_ledger.specs.View.{entry_of};
@@ -42,7 +43,7 @@ use crate::opening::open_book;
 use crate::putting::{check_has, opening_of, put, put_waiting};
 use fw_blocks::Width;
 use fw_head::{HeadCore, News, OutOfMemory};
-use fw_journal::{Journal, JournalDevice, JournalError, Replacer, RewriteError};
+use fw_journal::{Journal, JournalDevice, JournalError, Keeper, Replacer, RewriteError};
 use fw_ledger::Record;
 use fw_names::{CampaignId, HeadId, ImageName, MeterId};
 use std::alloc::Global;
@@ -122,18 +123,19 @@ impl<D: JournalDevice> KeptHead<D> {
 
     /// Opens the head end whose book a power cut, or a process that was killed, may have left on the device. It begins with exactly the book
     /// that the device holds, and each meter that is live in it has a new row, which asks first what the meter has. The device is synced
-    /// first.
+    /// first. What is cut off it and reads as records, the keeper has first.
     ///
     /// # Errors
     ///
     /// `BadBook` with an offset where the bytes are no journal's; nothing is written then. `ForeignHead` where the book is another head
     /// end's, and `BadRecord` with the index of a record that has no place in the book of those before it; the journal has the same records
-    /// then. Else `BookFault` and `OutOfMemory`, which may come in place of these. The device is returned.
-    pub fn open(
+    /// then. Else `BookFault` and `OutOfMemory`, of the device or of the keeper, which may come in place of these. The device is returned.
+    pub fn open<K: Keeper>(
         alloc: Global,
         head: HeadId,
         width: Width,
         device: D,
+        keeper: &mut K,
     ) -> Result<Self, (OpenError, D)>
         ensures opened { IsTrue (D.honest device)
             → IfOk result (λ kept. Holds D.honest D.contents D.may_leave kept (book_of kept)) }
@@ -151,10 +153,19 @@ impl<D: JournalDevice> KeptHead<D> {
         // A cut at any moment of the call leaves what one before it might have left, or a journal of the same records.
         ensures any_moment { IsTrue (D.honest device) → IfOk result (λ kept. LeavesRecords D.JournalDevice device (device_of kept)) }
         ensures any_moment_err { IsTrue (D.honest device) → IfErr result (λ e. LeavesRecords D.JournalDevice device e.1) }
-        ensures never { IsTrue (D.honest device) → IsTrue (D.sound device) → IfErr result (λ e. e.0 ≢ OpenError.BookFault) }
+
+        // What reads as records is cut off only once the keeper holds it.
+        ensures dropped { IsTrue (D.honest device) → (rest : List ℕ) (count : ℕ) → Drops (D.contents device) rest count → 1 ≤ count
+            → OnOk result (K.holds keeper.new rest) }
+        ensures kept_first { IsTrue (D.honest device)
+            → IfOk result (λ kept. KeepsFirst D.JournalDevice K.Keeper device (device_of kept) keeper.old keeper.new) }
+        ensures kept_first_err { IsTrue (D.honest device)
+            → IfErr result (λ e. KeepsFirst D.JournalDevice K.Keeper device e.1 keeper.old keeper.new) }
+        ensures never { IsTrue (D.honest device) → IsTrue (D.sound device) → IsTrue (K.sound keeper.old)
+            → IfErr result (λ e. e.0 ≢ OpenError.BookFault) }
         ensures kept { IfOk result (λ kept. DeviceKeeps D.honest D.sound device (device_of kept)) }
     {
-        let (book, journal) = match open_book(alloc, head, device) {
+        let (book, journal) = match open_book(alloc, head, device, keeper) {
             Ok(opened) => opened,
             Err(refused) => return Err(refused),
         };

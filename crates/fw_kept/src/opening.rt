@@ -1,10 +1,11 @@
 //! The book of a journal's records, or why they have none.
 
-ghost use Rattle.std.specs.Prelude.{◌≡◌, ◌≢◌, ◌⊎◌, ℕ, List, IfOk, IfErr, IsErrOf, IsTrue, MatchBool, MatchResult};
+ghost use Rattle.std.specs.Prelude.{◌≡◌, ◌≢◌, ◌≤◌, ◌⊎◌, ℕ, List, IfOk, IfErr, IsErrOf, IsTrue, MatchBool, MatchResult, OnOk};
 ghost use Rattle.fw_book.specs.Contents.{Contents};
-ghost use Rattle.fw_journal.specs.Book.{IsBadBook};
+ghost use Rattle.fw_journal.specs.Book.{IsBadBook, Drops};
 ghost use Rattle.fw_journal.specs.Device.{Keeps as DeviceKeeps};
 ghost use Rattle.fw_journal.specs.Journal.{device_of};
+ghost use Rattle.fw_journal.specs.Keeping.{KeepsFirst};
 ghost use Rattle.fw_ledger.specs.Replay.{IsBookOf, FailsAt, records_of};
 ghost use Rattle.fw_ledger.specs.View.{entry_of};
 ghost use Rattle.fw_kept.specs.Kept.{HasBook, HasForeign, HasBadRecord, IsForeign, Keeps, LeavesRecords, campaign_of};
@@ -12,20 +13,22 @@ ghost use Rattle.fw_kept.specs.Private.{IsRecordsRefusal};
 
 use crate::error::{OpenError, open_error};
 use fw_book::Book;
-use fw_journal::{Journal, JournalDevice};
+use fw_journal::{Journal, JournalDevice, Keeper};
 use fw_ledger::{Record, RecordError, ReplayError, read_record, read_records};
 use fw_names::{CampaignId, HeadId};
 use std::alloc::Global;
 
-/// The book of this head end that a device holds, and its journal. The device is synced first.
+/// The book of this head end that a device holds, and its journal. The device is synced first. What is cut off it and reads as records, the
+/// keeper has first.
 ///
 /// # Errors
 ///
 /// Those of `KeptHead::open`. The device is returned.
-pub(crate) fn open_book<D: JournalDevice>(
+pub(crate) fn open_book<D: JournalDevice, K: Keeper>(
     alloc: Global,
     head: HeadId,
     device: D,
+    keeper: &mut K,
 ) -> Result<(Book, Journal<D>), (OpenError, D)>
     ensures opened { IsTrue (D.honest device)
         → IfOk result (λ opened. Keeps D.honest D.contents D.may_leave head opened.1 opened.0 opened.0) }
@@ -40,10 +43,17 @@ pub(crate) fn open_book<D: JournalDevice>(
         → HasForeign head (D.contents device)) }
     ensures any_moment { IsTrue (D.honest device) → IfOk result (λ opened. LeavesRecords D.JournalDevice device (device_of opened.1)) }
     ensures any_moment_err { IsTrue (D.honest device) → IfErr result (λ e. LeavesRecords D.JournalDevice device e.1) }
-    ensures never { IsTrue (D.honest device) → IsTrue (D.sound device) → IfErr result (λ e. e.0 ≢ OpenError.BookFault) }
+    ensures dropped { IsTrue (D.honest device) → (rest : List ℕ) (count : ℕ) → Drops (D.contents device) rest count → 1 ≤ count
+        → OnOk result (K.holds keeper.new rest) }
+    ensures kept_first { IsTrue (D.honest device)
+        → IfOk result (λ opened. KeepsFirst D.JournalDevice K.Keeper device (device_of opened.1) keeper.old keeper.new) }
+    ensures kept_first_err { IsTrue (D.honest device)
+        → IfErr result (λ e. KeepsFirst D.JournalDevice K.Keeper device e.1 keeper.old keeper.new) }
+    ensures never { IsTrue (D.honest device) → IsTrue (D.sound device) → IsTrue (K.sound keeper.old)
+        → IfErr result (λ e. e.0 ≢ OpenError.BookFault) }
     ensures kept { IfOk result (λ opened. DeviceKeeps D.honest D.sound device (device_of opened.1)) }
 {
-    match Journal::open(alloc, device) {
+    match Journal::open(alloc, device, keeper) {
         Ok((journal, records)) => match book_of(alloc, head, &records) {
             Ok(book) => Ok((book, journal)),
             Err(refusal) => Err((refusal, journal.into_device())),

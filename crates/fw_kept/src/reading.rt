@@ -1,7 +1,7 @@
 //! The book that bytes hold, whoever's it is.
 
-ghost use Rattle.std.specs.Prelude.{◌≡◌, ◌≢◌, ℕ, IfOk, IfErr, IsErrOf};
-ghost use Rattle.fw_journal.specs.Book.{HasRecord, IsBadBook};
+ghost use Rattle.std.specs.Prelude.{◌≡◌, ◌≢◌, ℕ, List, IfOk, IfErr, IsErrOf};
+ghost use Rattle.fw_journal.specs.Book.{Drops, HasRecord, IsBadBook};
 ghost use Rattle.fw_ledger.specs.Entry.{Entry, Spells, NoRecord};
 ghost use Rattle.fw_ledger.specs.Replay.{records_of};
 ghost use Rattle.fw_kept.specs.Kept.{HasBadRecord, HasNoBook, IsReadAs, campaign_of};
@@ -10,21 +10,22 @@ ghost use Rattle.fw_kept.specs.Private.{AreReadAs, IsReadingRefusal};
 use crate::error::{OpenError, open_error};
 use crate::opening::{book_of, campaign_of};
 use fw_book::Book;
-use fw_journal::read_book;
+use fw_journal::{count_dropped, read_book};
 use fw_ledger::{RecordError, read_record};
 use fw_names::HeadId;
 use std::alloc::Global;
 
-/// The book that the bytes of a journal hold, and `None` where it has no record, so that any head end may have it. The bytes may have been
-/// read from front to back while a head end writes them.
+/// The book that the bytes of a journal hold, and `None` where it has no record, so that any head end may have it; and how many whole
+/// records stand behind its shut gate, which the book lacks. The bytes may have been read from front to back while a head end writes them.
 ///
 /// # Errors
 ///
 /// `BadBook` with an offset where the bytes are no journal's, `BadRecord` with the index of a record that has no place in the book of those
 /// before it. Such bytes have no book of any head end. Otherwise `OutOfMemory` alone, which may come in place of these, and only where a
 /// whole record stands first.
-pub fn read_kept(alloc: Global, bytes: &[u8]) -> Result<Option<Book>, OpenError>
-    ensures found { IfOk result (IsReadAs bytes.now) }
+pub fn read_kept(alloc: Global, bytes: &[u8]) -> Result<(Option<Book>, usize), OpenError>
+    ensures found { IfOk result (λ r. IsReadAs bytes.now r.0) }
+    ensures dropped { IfOk result (λ r. (rest : List ℕ) × Drops bytes.now rest r.1) }
     ensures bad { (offset : ℕ) → IsErrOf result (OpenError.BadBook offset) → IsBadBook bytes.now offset }
     ensures bad_record { (index : ℕ) → IsErrOf result (OpenError.BadRecord index) → (head : ℕ) × HasBadRecord head bytes.now index }
     ensures no_book { (index : ℕ) → IsErrOf result (OpenError.BadRecord index) → HasNoBook bytes.now }
@@ -34,7 +35,10 @@ pub fn read_kept(alloc: Global, bytes: &[u8]) -> Result<Option<Book>, OpenError>
     fw_journal::laws::one_reading();
     crate::laws::bad_records_have_none();
     match read_book(alloc, bytes) {
-        Ok((records, _)) => book_in(alloc, &records),
+        Ok((records, end)) => match book_in(alloc, &records) {
+            Ok(book) => Ok((book, count_dropped(bytes, end))),
+            Err(refusal) => Err(refusal),
+        },
         Err(refusal) => Err(open_error(refusal)),
     }
 }

@@ -4,7 +4,7 @@ use crate::book::{answer_text, bytes_of, head, image, meter, meters};
 use crate::head::{carried, width};
 use crate::readings::records_text;
 use fw_head::News;
-use fw_journal::{Disk, MemoryDevice, MemoryReplacer};
+use fw_journal::{Disk, MemoryDevice, MemoryKeeper, MemoryReplacer};
 use fw_kept::KeptHead;
 use fw_wrapper::split;
 use std::alloc::Global;
@@ -122,7 +122,8 @@ pub(crate) fn device_of(alloc: Global, bytes: &[u8]) -> Result<MemoryDevice, Fai
 
 /// The bytes of the book of head end 7 that these bytes hold, or what they are refused for.
 pub(crate) fn read_text(alloc: Global, bytes: &[u8]) -> Result<String, Fail> {
-    match KeptHead::open(alloc, head(7)?, width()?, device_of(alloc, bytes)?) {
+    let device = device_of(alloc, bytes)?;
+    match KeptHead::open(alloc, head(7)?, width()?, device, &mut MemoryKeeper::new(alloc)) {
         Ok(head) => book_text(alloc, &head),
         Err((refusal, _)) => Ok(refusal.to_string(alloc)?),
     }
@@ -228,7 +229,7 @@ impl Reads for Cuts {
         let (calls, torn, other): (u64, u8, &str) = words.read()?;
         let mut device = device_with_one(alloc)?;
         device.fuse(calls.saturating_add(3), torn);
-        match KeptHead::open(alloc, head(7)?, width()?, device) {
+        match KeptHead::open(alloc, head(7)?, width()?, device, &mut MemoryKeeper::new(alloc)) {
             Ok(head) => cut_text(alloc, &mut Answered(head), words.rest(), other),
             Err((refusal, _)) => Ok(refusal.to_string(alloc)?),
         }

@@ -6,7 +6,7 @@ use crate::kept::{device_of, read_text};
 use crate::setting::new_head;
 use crate::subject::Subject;
 use crate::transfers::TO_CONFIRM;
-use fw_journal::{MemoryDevice, MemoryReplacer};
+use fw_journal::{MemoryDevice, MemoryKeeper, MemoryReplacer};
 use fw_kept::KeptHead;
 use std::alloc::Global;
 use std::test::Fail;
@@ -73,7 +73,9 @@ fn taken_text(
 }
 
 fn begun_text(alloc: Global, bytes: &[u8]) -> Result<String, Fail> {
-    match KeptHead::open(alloc, head(7)?, width()?, device_of(alloc, bytes)?) {
+    let device = device_of(alloc, bytes)?;
+    let mut keeper = MemoryKeeper::new(alloc);
+    match KeptHead::open(alloc, head(7)?, width()?, device, &mut keeper) {
         Ok(head) => {
             let mut head = Subject(head);
             apdus_text(alloc, &head.0.tick(alloc, meter(1)?)?)

@@ -14,6 +14,7 @@ use test_tables::{Kept, Reads, Words, each_part, named};
 /// - `list`: how many bytes there are up to the end of the records, and these, or what the bytes are refused for
 /// - `make`: the bytes of the book of head end 7 that the records make, or what they are refused for
 /// - `hold`: the bytes of the book that a journal holds, or what it is refused for
+/// - `lack`: how many whole records stand behind its shut gate, or what it is refused for
 /// - `open`: the bytes of the book that head end 7 opens, or what they are refused for
 /// - `record`: the bytes of the record that they are read as, or what they are refused for
 #[derive(Clone, Copy)]
@@ -31,6 +32,7 @@ impl Reads for Readings {
             "list" => records_text(alloc, &bytes),
             "make" => made_text(alloc, &bytes),
             "hold" => held_text(alloc, &bytes),
+            "lack" => lacked_text(alloc, &bytes),
             "open" => read_text(alloc, &bytes),
             "record" => record_text(alloc, &bytes),
             _ => Err("nothing of this name is made of bytes".into()),
@@ -80,8 +82,15 @@ fn made_text(alloc: Global, bytes: &[u8]) -> Result<String, Fail> {
 
 fn held_text(alloc: Global, bytes: &[u8]) -> Result<String, Fail> {
     match read_kept(alloc, bytes) {
-        Ok(Some(book)) => bytes_of(alloc, &book),
-        Ok(None) => Ok(String::from_str(alloc, "none")?),
+        Ok((Some(book), _)) => bytes_of(alloc, &book),
+        Ok((None, _)) => Ok(String::from_str(alloc, "none")?),
+        Err(refusal) => Ok(refusal.to_string(alloc)?),
+    }
+}
+
+fn lacked_text(alloc: Global, bytes: &[u8]) -> Result<String, Fail> {
+    match read_kept(alloc, bytes) {
+        Ok((_, records)) => Ok(format!(in alloc; "{records}")?),
         Err(refusal) => Ok(refusal.to_string(alloc)?),
     }
 }
@@ -111,6 +120,16 @@ const HELD: &str = "
     hold bytes 46574a32 => BadBook 0
 ";
 
+/// Records of one byte, 04, behind a shut gate, whatever gate they have. Of the last one a byte is lacking, or its digest is another.
+const LACKED: &str = "
+    lack journal => 0
+    lack bytes 46574a31000000000104e52d9c508c502347344d8c07ad91cbd6068afc75ff6292f062a09ca381c89e7100 => 1
+    lack bytes 46574a31030000000104e52d9c508c502347344d8c07ad91cbd6068afc75ff6292f062a09ca381c89e71010000000104e52d9c508c502347344d8c07ad91cbd6068afc75ff6292f062a09ca381c89e71ff0000000104e52d9c508c502347344d8c07ad91cbd6068afc75ff6292f062a09ca381c89e71 => 3
+    lack bytes 46574a31000000000104e52d9c508c502347344d8c07ad91cbd6068afc75ff6292f062a09ca381c89e71010000000104e52d9c508c502347344d8c07ad91cbd6068afc75ff6292f062a09ca381c89e => 1
+    lack bytes 46574a31000000000104e52d9c508c502347344d8c07ad91cbd6068afc75ff6292f062a09ca381c89e00 => 0
+    lack bytes 46574a31010000000104e52d9c508c502347344d8c07ad91cbd6068afc75ff6292f062a09ca381c89e71000000000104e52d9c508c502347344d8c07ad91cbd6068afc75ff6292f062a09ca381c89e71 => BadRecord 0
+";
+
 /// Records in a journal: what comes of it where head end 7 opens it.
 const OPENED: &str = "
     open journal => 4657423200000007
@@ -125,7 +144,7 @@ const OPENED: &str = "
 
 #[test]
 fn journals_are_read_as_the_book_that_they_hold(rt: HostRuntime) -> Result<(), Fail> {
-    each_part(rt.alloc(), &mut Readings, &[LISTED, HELD, OPENED])
+    each_part(rt.alloc(), &mut Readings, &[LISTED, HELD, LACKED, OPENED])
 }
 
 /// An opening with an image and two meters, one with the image of an earlier campaign, both marks, a cancelling and endings.

@@ -3,8 +3,8 @@
 
 use crate::support::{digits, shown, text};
 use fw_journal::{
-    Disk, FileDevice, FileJournal, FileReplacer, Journal, JournalDevice, JournalError,
-    MemoryDevice, MemoryReplacer, RewriteError,
+    DeviceError, Disk, FileDevice, FileJournal, FileReplacer, Journal, JournalDevice, JournalError,
+    Keeper, MemoryDevice, MemoryKeeper, MemoryReplacer, RewriteError,
 };
 use std::alloc::Global;
 use std::os::unix::fs::symlink;
@@ -15,6 +15,14 @@ use test_tables::{Kept, Reads, Words, each_part, present};
 
 /// What opening a journal on a device in memory returns.
 type Opened = Result<(Journal<MemoryDevice>, Vec<Vec<u8>>), (JournalError, MemoryDevice)>;
+
+/// Opens a journal. What is cut off it is kept in memory.
+fn open<D: JournalDevice>(
+    alloc: Global,
+    device: D,
+) -> Result<(Journal<D>, Vec<Vec<u8>>), (JournalError, D)> {
+    Journal::open(alloc, device, &mut MemoryKeeper::new(alloc))
+}
 
 /// What opening a journal returns: its records, each with a bar after it, or the refusal.
 fn told_of<D: JournalDevice + Drop>(
@@ -39,7 +47,7 @@ fn records_text(alloc: Global, records: &[Vec<u8>]) -> Result<String, Fail> {
 /// What opening these bytes as a journal returns.
 fn read_text(alloc: Global, bytes: &[u8]) -> Result<String, Fail> {
     let device = MemoryDevice::new(alloc, bytes.to_vec(alloc)?)?;
-    told_of(alloc, &Journal::open(alloc, device))
+    told_of(alloc, &open(alloc, device))
 }
 
 /// A journal on a device in memory. Its drop is written out, so that each place that drops it calls that.
@@ -56,6 +64,8 @@ impl Drop for Stepped {
 /// - `append RECORD`, `commit`, or `new`: another new journal takes its place
 /// - `size`: how many bytes it has up to its shut gate; `bytes`: all bytes of its device; `again`: what is read where that is opened again
 /// - `turned AT`: what is read of its bytes where one is turned
+/// - `kept AT..`, `refused AT..`: what opening its bytes returns where those at these places are turned, by a keeper that keeps what it is
+///   given, or refuses it. Then how many records it was given, in how many bytes, and how many the device has then
 /// - `cut CALLS TORN`: on a device with its bytes that fails after CALLS calls, and leaves this byte: what opening it returns, and two
 ///   commits of `two` and `three`. Then what is left, as it is read, and as it was at the last sync
 /// - `anew CALLS TORN`: on such a device, once `lost` waits there: what writing it anew with `two` and `three` returns, what is left,
@@ -80,6 +90,8 @@ impl Reads for Stepped {
             "bytes" => digits(alloc, self.0.device().bytes()),
             "again" => read_text(alloc, self.0.device().bytes()),
             "turned" => turned_text(alloc, self.0.device().bytes(), words.number()? as usize),
+            "kept" => kept_text(alloc, self.0.device().bytes(), words, false),
+            "refused" => kept_text(alloc, self.0.device().bytes(), words, true),
             "left" => fates_text(alloc, words.rest()),
             "opened" => opened_text(alloc, &hex::decode(alloc, words.rest())?),
             "created" => created_text(alloc, &hex::decode(alloc, words.rest())?),
@@ -137,6 +149,30 @@ const TURNED: &str = "
     turned 84  => one|two|
 ";
 
+/// Where whole records stand behind a shut gate, whatever their own gates are, what stands from it on is given to the keeper before it is
+/// cut off. Where the keeper refuses it, it stays. The last byte is a shut gate behind all of them.
+const DROPPED: &str = r#"
+    new            =>
+    append one     => Ok(())
+    append two     => Ok(())
+    append three   => Ok(())
+    commit         => Ok(())
+    kept 4         => ("", 3, 123, 5)
+    kept 44        => ("one|", 2, 83, 45)
+    kept 84        => ("one|two|", 1, 43, 85)
+    kept 126       => ("one|two|three|", 0, 0, 127)
+    kept 44 84     => ("one|", 2, 83, 45)
+    kept 44 49     => ("one|", 0, 0, 45)
+    kept 44 89     => ("one|", 1, 83, 45)
+    kept 44 126    => ("one|", 2, 83, 45)
+    kept 45        => ("BadBook 44", 0, 0, 127)
+    refused 4      => ("BookFault", 3, 123, 127)
+    refused 44     => ("BookFault", 2, 83, 127)
+    refused 84     => ("BookFault", 1, 43, 127)
+    refused 44 49  => ("one|", 0, 0, 45)
+    refused 126    => ("one|two|three|", 0, 0, 127)
+"#;
+
 /// What stands from a shut gate on is cut off. What is no journal is left as it is.
 const OPENED: &str = r#"
     opened                    => ("BadBook 0", "")
@@ -162,9 +198,76 @@ fn turned_text(alloc: Global, bytes: &[u8], at: usize) -> Result<String, Fail> {
     read_text(alloc, bytes.as_slice())
 }
 
+/// A keeper that notes what it was given last, and refuses it where it is full.
+#[derive(Drop)]
+struct Noted {
+    alloc: Global,
+    is_full: bool,
+    records: usize,
+    bytes: Vec<u8>,
+}
+
+impl Keeper for Noted {
+    ghost use Rattle.std.specs.Prelude.{⊤, false};
+
+    ghost holds = { λ _ _. ⊤ };
+
+    ghost sound = { λ _. false };
+
+    fn keep(&mut self, records: usize, bytes: &[u8]) -> Result<(), DeviceError> {
+        self.records = records;
+        self.bytes = bytes.to_vec(self.alloc)?;
+        if self.is_full {
+            Err(DeviceError::Fault)
+        } else {
+            Ok(())
+        }
+    }
+}
+
+fn kept_text(
+    alloc: Global,
+    bytes: &[u8],
+    mut places: Words<'_>,
+    is_full: bool,
+) -> Result<String, Fail> {
+    let mut bytes = bytes.to_vec(alloc)?;
+    while let Some(word) = places.next() {
+        let at: usize = word.parse()?;
+        *present(bytes.get_mut(at), "no such byte")? ^= 8;
+    }
+    let device = MemoryDevice::new(alloc, bytes.to_vec(alloc)?)?;
+    let mut keeper = Noted {
+        alloc,
+        is_full,
+        records: 0,
+        bytes: Vec::new(alloc),
+    };
+    let opened = Journal::open(alloc, device, &mut keeper);
+    given_text(alloc, &bytes, &opened, &keeper)
+}
+
+/// What is returned, and what the keeper was given of these bytes. Fails where those aren't their last ones.
+fn given_text(
+    alloc: Global,
+    bytes: &[u8],
+    opened: &Opened,
+    keeper: &Noted,
+) -> Result<String, Fail> {
+    if !bytes.ends_with(&keeper.bytes) {
+        return Err("the keeper was given other bytes".into());
+    }
+    let told = told_of(alloc, opened)?;
+    let left = device_of(opened).bytes().len();
+    shown(
+        alloc,
+        &(told.as_str(), keeper.records, keeper.bytes.len(), left),
+    )
+}
+
 fn opened_text(alloc: Global, bytes: &[u8]) -> Result<String, Fail> {
     let device = MemoryDevice::new(alloc, bytes.to_vec(alloc)?)?;
-    device_text(alloc, &Journal::open(alloc, device))
+    device_text(alloc, &open(alloc, device))
 }
 
 fn created_text(alloc: Global, bytes: &[u8]) -> Result<String, Fail> {
@@ -175,14 +278,17 @@ fn created_text(alloc: Global, bytes: &[u8]) -> Result<String, Fail> {
     }
 }
 
-/// What is returned, and the bytes of the device then.
-fn device_text(alloc: Global, opened: &Opened) -> Result<String, Fail> {
-    let device = match opened {
+fn device_of(opened: &Opened) -> &MemoryDevice {
+    match opened {
         Ok((journal, _)) => journal.device(),
         Err((_, device)) => device,
-    };
+    }
+}
+
+/// What is returned, and the bytes of the device then.
+fn device_text(alloc: Global, opened: &Opened) -> Result<String, Fail> {
     let told = told_of(alloc, opened)?;
-    let bytes = digits(alloc, device.bytes())?;
+    let bytes = digits(alloc, device_of(opened).bytes())?;
     shown(alloc, &(told.as_str(), bytes.as_str()))
 }
 
@@ -249,7 +355,9 @@ fn keeps_what_is_committed(rt: HostRuntime) -> Result<(), Fail> {
     each_part(
         rt.alloc(),
         &mut new_journal(rt.alloc())?,
-        &[KEPT, TURNED, OPENED, CREATED, LEFT, ONE, CUTS, ANEW],
+        &[
+            KEPT, TURNED, DROPPED, OPENED, CREATED, LEFT, ONE, CUTS, ANEW,
+        ],
     )
 }
 
@@ -264,8 +372,8 @@ fn failing_text(
     let mut device = MemoryDevice::new(alloc, bytes.to_vec(alloc)?)?;
     device.fuse(calls, torn);
     match word {
-        "cut" => cut_text(alloc, &mut Journal::open(alloc, device)),
-        "anew" => anew_text(alloc, &mut Journal::open(alloc, device)),
+        "cut" => cut_text(alloc, &mut open(alloc, device)),
+        "anew" => anew_text(alloc, &mut open(alloc, device)),
         _ => Err("no step has this name".into()),
     }
 }
@@ -460,7 +568,7 @@ impl Filed<'_> {
 
     fn open(&self, alloc: Global, path: Path) -> Result<String, Fail> {
         match FileDevice::open(self.rt, path) {
-            Ok(device) => told_of(alloc, &Journal::open(alloc, device)),
+            Ok(device) => told_of(alloc, &open(alloc, device)),
             Err(refusal) => shown(alloc, &refusal),
         }
     }

@@ -31,6 +31,11 @@ five bytes at most or begins as a book does; any other stays as it is.
 One process at a time has a FILE. A head end whose book is lost goes on under another number, never
 under the same.
 
+FILE may have whole records that are not in the book, behind a shut gate: of a commit that was cut, or
+behind a byte that turned on the disk. They are kept in FILE.dropped before they are cut off, or in
+FILE.dropped.2 and so on where a file has that name, and standard error says so:
+`N records behind a shut gate were not taken; they are kept in FILE.dropped`.
+
 With --open the image in the file of --image is offered to all meters of LIST, in campaigns of 256
 meters at most, with serial numbers from SERIAL on. A campaign that the book has already, of that release
 and image and for those meters in that order, is gone on with. With --cancel the live rows of that
@@ -85,8 +90,8 @@ Exit status:
        BookExists      FILE is there, and --new is given
        Locked          another head end has FILE
        BookFault       FILE can't be made, opened, read or written: there is no such folder, FILE is a
-                       folder, this user may not write it, the disk is full or failed, or --new is given
-                       and another file is named FILE.new
+                       folder, this user may not write it, the disk is full or failed, FILE.dropped is
+                       needed and can't be made, or --new is given and another file is named FILE.new
        BadBook N       the bytes of FILE from offset N on are no book's: they were changed
        BadRecord N     record N of FILE, counted from 0, has no place in a book
        ForeignHead     FILE is the book of another head end than that of --head

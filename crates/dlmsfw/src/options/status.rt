@@ -23,6 +23,10 @@ Standard output gets the rows by campaigns, in the order in which they were open
 in the order given: as a table, with how many rows are in which state, as comma-separated values with a
 header line, or as an object of JSON on one line.
 
+FILE may have whole records that are not in the book, behind a shut gate: of a commit that isn't done or
+was cut, or behind a byte that turned on the disk. Standard error says so then:
+`N records behind a shut gate were not taken`.
+
 Example:
 
   ./dlmsfw status --book head.book --report csv";
