@@ -1,9 +1,9 @@
 -- What stands at the front of bytes, by as many of them as its record takes.
-use Rattle.std.proofs.Common.{◌≡◌, ◌≢◌, ◌⊎◌, ℕ, ◌+◌, ◌-◌, ◌≤◌, ◌<◌, get_or, Bool, true, false, List, [], ◌∷◌, ◌++◌, length, take, drop, Option, Some, None, Result, Ok, Err, inl, inr, refl, sym, ap, subst, ◌∙◌, append-nil, arith, if◌then◌else◌}
-use Rattle.std.specs.Prelude.{nat_lt, nat_le, not, ◌==◌, ◌&&◌, ◌||◌}
+use Rattle.std.proofs.Common.{◌≡◌, ◌≢◌, ◌⊎◌, ℕ, ◌+◌, ◌-◌, ◌≤◌, ◌<◌, get_or, Bool, true, false, List, [], ◌∷◌, ◌++◌, length, take, drop, Option, Some, None, Result, Ok, Err, inr, refl, sym, ap, subst, ◌∙◌, append-nil, arith, if◌then◌else◌}
+use Rattle.std.specs.Prelude.{nat_lt, nat_le, not, ◌==◌, ◌&&◌}
 use Rattle.std.specs.Int.{w16, w32, from_be_bytes, from_le_bytes}
 use Rattle.std.proofs.lemmas.Bool.Decides.{nat_tests}
-use Rattle.std.proofs.lemmas.Bool.{le-ltb, lt-leb, ne-eqb}
+use Rattle.std.proofs.lemmas.Bool.{le-ltb, lt-leb, ne_eqb}
 use Rattle.std.proofs.lemmas.List.{length-append, length-drop, take-append-le, drop-append-le, take_more}
 use Rattle.std.proofs.Math.Seq.{drop-append_seam, take-length}
 use Rattle.fw_capture.specs.declared.error.WholeError.{WholeError}
@@ -14,10 +14,10 @@ use Rattle.fw_capture.specs.declared.format.Format.{Format}
 use Rattle.fw_capture.specs.declared.whole.Front.TheVariants as front
 use Rattle.fw_capture.specs.View.{Told}
 use Rattle.fw_capture.specs.Place.{Place}
-use Rattle.fw_capture.specs.Reading.{half_at, number_at, magic_at, link_of, header_at, unless, or_fault, frame_at, fractions, fraction_at, size_at, time_at, record_at, ◌>>=◌}
+use Rattle.fw_capture.specs.Reading.{half_at, number_at, magic_at, link_of, header_at, unless, or_fault, fractions, fraction_at, size_at, time_at, record_at, ◌>>=◌}
 use Rattle.fw_capture.specs.Steps.{after}
 use Rattle.fw_capture.specs.Private.{IsFront, IsOfReading, record_size}
-use Rattle.fw_capture.specs.Whole.{HasRecords, IsRecord, IsTorn, IsForeign, IsForeignAt, IsWholeTo, Passes, all_zeros, without_zeros, is_part, longest_packet}
+use Rattle.fw_capture.specs.Whole.{IsPassed, IsRecord, IsTorn, IsForeign, IsForeignAt, IsWholeTo, Passes, all_zeros, without_zeros, is_part, longest_packet}
 
 -- ---- what stands before further bytes
 
@@ -285,12 +285,17 @@ foreign f bytes left e some end is no_part = record {
   no_part = foreign_by f bytes left (all_zeros left) refl end no_part;
 }
 
-pub front_last : (f : Format) (rest bytes left : List ℕ) (behind : Option (List ℕ)) (e : CaptureFault) → rest ≡ bytes ++ left
-    → (length bytes < record_size f bytes → left ≡ []) → record_at f bytes ≡ Err e → all_zeros left ≡ true → is_part f (without_zeros bytes) ≡ true
-    → IsFront f rest behind front.Last
-front_last f rest bytes left behind e is end read zeros part =
+pub front_last : (f : Format) (rest bytes left : List ℕ) (e : CaptureFault) → rest ≡ bytes ++ left → (length bytes < record_size f bytes → left ≡ [])
+    → record_at f bytes ≡ Err e → all_zeros left ≡ true → is_part f (without_zeros bytes) ≡ true → (rest ≡ []) ⊎ IsTorn f rest
+front_last f rest bytes left e is end read zeros part =
     let P : List ℕ → Type 0 = λ x. IsTorn f x in
     inr (subst P (sym is) (torn f bytes left e end read zeros part))
+
+-- there are bytes where a header was filled
+pub some_bytes : (slice header given bytes : List ℕ) → (length slice == 0) ≡ false → slice ≡ header → bytes ≡ header ++ given → bytes ≢ []
+some_bytes [] header given bytes some is more none = absurd (cc)
+some_bytes (x ∷ slice) [] given bytes some is more none = absurd (cc)
+some_bytes (x ∷ slice) (y ∷ header) given bytes some is more none = absurd (cc)
 
 pub front_foreign : (f : Format) (rest bytes left : List ℕ) (e : CaptureFault) → rest ≡ bytes ++ left → bytes ≢ []
     → (length bytes < record_size f bytes → left ≡ []) → record_at f bytes ≡ Err e → (all_zeros left ≡ true → is_part f (without_zeros bytes) ≡ false)
@@ -314,7 +319,7 @@ before_zero xs d some zero =
 pub before_other : (xs : List ℕ) (d : ℕ) → 1 ≤ length xs → get_or xs (length xs - 1) d ≢ 0 → xs ≡ without_zeros xs
 before_other xs d some other =
     let last : ℕ = get_or xs (length xs - 1) d in
-    let one : all_zeros (last ∷ []) ≡ false = ap (λ (b : Bool). b && true) (ne-eqb last 0 other) in
+    let one : all_zeros (last ∷ []) ≡ false = ap (λ (b : Bool). b && true) (ne_eqb last 0 other) in
     let cut_is : without_zeros (last ∷ []) ≡ last ∷ [] = more_alone last one in
     sym (ap without_zeros (front_and_last xs d some) ∙ more_behind (take (length xs - 1) xs) (last ∷ []) one
     ∙ ap (λ (x : List ℕ). take (length xs - 1) xs ++ x) cut_is ∙ sym (front_and_last xs d some))
@@ -377,7 +382,7 @@ no_header r p q fault was same is found =
 -- how far a capture was read
 pub record SoFar (capture : List ℕ) (f : Format) (offset : ℕ) (after : Option (List ℕ)) : Type 0 where
   pub last : Place
-  pub has : HasRecords capture last
+  pub has : IsPassed capture last
   pub format : f ≡ last.format
   pub at : offset ≡ last.offset
   pub left : after ≡ Some last.rest

@@ -1,10 +1,9 @@
 -- Public vocabulary: the whole records at the front of a capture, and what a write that was cut short may leave behind them.
-use Rattle.std.specs.Prelude.{◌≡◌, ◌≢◌, ◌⊎◌, ℕ, ◌+◌, ◌≤◌, Bool, true, false, IsTrue, List, [], ◌∷◌, length, Ok, Err, nat_lt, nat_le, ◌==◌, ◌&&◌, ◌||◌, if◌then◌else◌}
-use Rattle.fw_capture.specs.declared.fault.CaptureFault.{CaptureFault}
+use Rattle.std.specs.Prelude.{◌≡◌, ◌≢◌, ◌⊎◌, ℕ, ◌+◌, ◌≤◌, Bool, true, false, List, [], ◌∷◌, length, Ok, nat_lt, nat_le, ◌==◌, ◌&&◌, ◌||◌, if◌then◌else◌}
 use Rattle.fw_capture.specs.declared.format.Format.{Format}
 use Rattle.fw_capture.specs.Place.{Place}
 use Rattle.fw_capture.specs.View.{Told}
-use Rattle.fw_capture.specs.Reading.{number_at, fractions, fraction_at, size_at, header_at, record_at}
+use Rattle.fw_capture.specs.Reading.{number_at, fractions, fraction_at, size_at, record_at}
 use Rattle.fw_capture.specs.Steps.{OpensAs, after}
 
 -- the longest packet of a capture that is written, as its file header says it
@@ -53,7 +52,7 @@ pub record IsForeign (f : Format) (bytes : List ℕ) : Type 0 where
 -- ---- a capture
 
 -- Whole records stand behind the file header of a capture, and what is behind them begins at this place.
-pub record HasRecords (capture : List ℕ) (last : Place) : Type 0 where
+pub record IsPassed (capture : List ℕ) (last : Place) : Type 0 where
   pub first : Place
   pub opens : OpensAs capture (Ok first)
   pub records : List (ℕ × Told)
@@ -62,13 +61,13 @@ pub record HasRecords (capture : List ℕ) (last : Place) : Type 0 where
 -- A capture is whole up to this length: behind its whole records is nothing, or what a write that was cut short leaves.
 pub record IsWholeTo (capture : List ℕ) (len : ℕ) : Type 0 where
   pub last : Place
-  pub has : HasRecords capture last
+  pub has : IsPassed capture last
   pub ends : len ≡ last.offset
   pub rest : (last.rest ≡ []) ⊎ IsTorn last.format last.rest
 
 -- behind the whole records of a capture something else stands at this offset
 pub record IsForeignAt (capture : List ℕ) (offset : ℕ) : Type 0 where
   pub last : Place
-  pub has : HasRecords capture last
+  pub has : IsPassed capture last
   pub at : offset ≡ last.offset
   pub foreign : IsForeign last.format last.rest

@@ -79,10 +79,11 @@ fn next_front<R: Read>(
 {
     bytes.clear();
     fill(reader, bytes, RECORD_HEADER_SIZE)?;
-    if bytes.is_empty() {
+    let header = bytes.as_slice();
+    if header.is_empty() {
         return Ok(Front::Last);
     }
-    let size = record_size(format, bytes);
+    let size = record_size(format, header);
     fill(reader, bytes, size)?;
     match record(format, bytes) {
         Ok((_, _, size)) => Ok(Front::Whole(size)),

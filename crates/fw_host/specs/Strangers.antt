@@ -1,5 +1,5 @@
 -- Public vocabulary: who is a stranger to a daemon: who has none of the addresses that it is asked or answered from.
-use Rattle.std.specs.Prelude.{◌≡◌, Bool, false, not, List, [], ◌∷◌, Option, Some, None}
+use Rattle.std.specs.Prelude.{◌≡◌, ◌==◌, ◌||◌, Bool, false, not, List, length, Option, Some, None}
 use Rattle.std.specs.List.{list_any}
 use Rattle.std.specs.HashSet.{HashSet, contains}
 use Rattle.std.specs.declared.net.socket_addr.SocketAddr.{SocketAddr}
@@ -15,8 +15,7 @@ is_listed_at list address = list_any (λ (at : Listed). socket_eq.ghosts.eq at.a
 
 -- whether who has an address is a stranger to a meter that these may ask, and anybody where there are none
 abbrev pub is_strange : List SocketAddr → SocketAddr → Bool
-is_strange [] address = false
-is_strange (head ∷ heads) address = not (is_among (head ∷ heads) address)
+is_strange heads address = not (length heads == 0 || is_among heads address)
 
 -- a set has just these addresses, or those of just these meters
 abbrev pub AreAddresses : {S : Type 0} → HashSet SocketAddr S → List SocketAddr → Type 0

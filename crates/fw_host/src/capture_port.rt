@@ -89,6 +89,7 @@ impl<'a, C: Clock, W: Write + Drop> CapturePort<'a, C, W> {
         ensures put { OnOk result (Captures (option_map W.contents self.old.capture) (option_map W.contents self.new.capture) (told_of content.entry)) }
         ensures open { OnOk result (self.new.failed ≡ self.old.failed) }
         ensures strangers { self.new.strangers.now ≡ self.old.strangers.now }
+        ensures turns { self.new.has_turns ≡ self.old.has_turns }
         ensures failed { OnErr result (IsTrue self.new.failed) }
     {
         if self.failed {
@@ -111,6 +112,7 @@ impl<'a, C: Clock, W: Write + Drop> CapturePort<'a, C, W> {
         ensures put { OnOk result (CapturesNoted self.old.strangers.now.count (option_map W.contents self.old.capture)
             (option_map W.contents self.new.capture) (told_of content.entry)) }
         ensures count { OnOk result (self.new.strangers.now ≡ record self.old.strangers.now { count = 0 }) }
+        ensures turns { self.new.has_turns ≡ self.old.has_turns }
         ensures open { OnOk result (self.new.failed ≡ self.old.failed) }
         ensures failed { OnErr result (IsTrue self.new.failed) }
     {
@@ -118,7 +120,7 @@ impl<'a, C: Clock, W: Write + Drop> CapturePort<'a, C, W> {
         if count > 0 {
             self.put_one(Content::Note(Note::Strangers(count)))?;
         }
-        self.strangers.noted();
+        self.strangers.count_anew();
         self.put_one(content)
     }
 
@@ -158,7 +160,7 @@ impl<'a, C: Clock, W: Write + Drop> CapturePort<'a, C, W> {
                 bytes,
             })?;
         } else {
-            self.strangers.came();
+            self.strangers.count_one();
         }
         self.put_turn(patience)
     }

@@ -100,15 +100,15 @@ impl Strangers {
         self.count
     }
 
-    /// A datagram of one came, and gets no record.
-    pub(crate) fn came(&mut self)
+    /// Counts a datagram of one, which gets no record.
+    pub(crate) fn count_one(&mut self)
         ensures { self.new ≡ record self.old { count = one_more self.old.count } }
     {
         self.count = self.count.saturating_add(1);
     }
 
-    /// The capture says how many came.
-    pub(crate) fn noted(&mut self)
+    /// Counts from none on, since the capture says how many came.
+    pub(crate) fn count_anew(&mut self)
         ensures { self.new ≡ record self.old { count = 0 } }
     {
         self.count = 0;

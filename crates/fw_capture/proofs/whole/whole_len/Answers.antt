@@ -1,9 +1,12 @@
-use Rattle.std.proofs.Common.{◌≡◌, ℕ, List, Option, Some, Err, Ok, ap, sym, ◌∙◌, arith, subst}
+use Rattle.std.proofs.Common.{◌≡◌, ℕ, Err, ap, sym, ◌∙◌, subst}
 use Rattle.std.proofs.lemmas.Result.{err_from_is_err_and}
 use Rattle.fw_capture.specs.declared.fault.CaptureFault.{CaptureFault}
+use Rattle.fw_capture.specs.declared.whole.Front.{Front}
 use Rattle.fw_capture.specs.Reading.{header_at}
+use Rattle.fw_capture.specs.Private.{IsFront}
+use Rattle.fw_capture.specs.Whole.{IsForeignAt}
 use Rattle.fw_capture.proofs.Filling.{filled_first}
-use Rattle.fw_capture.proofs.Wholeness.{SoFar, opened, goes_on, ends, ends_foreign, no_foreign, no_header, same_header}
+use Rattle.fw_capture.proofs.Wholeness.{opened, goes_on, ends, ends_foreign, no_foreign, no_header, same_header}
 use Rattle.fw_capture.proofs.whole.whole_len.Goals as goal
 
 pub returns-in_err-fill-clause-foreign : goal.returns-in_err-fill-clause-foreign
@@ -40,10 +43,23 @@ returns-in_err-size-clause-header g c = λ capture is fault found.
     no_header c.from_residual-in_err-size.result passed.0 c.in_err-size.field-0.0 fault passed.1 passed.2 c.in_err-size.ensures.faults found
 
 pub records-preserved : goal.records-preserved
-records-preserved g c = ?
+records-preserved g c = λ capture is.
+    let so_far = c.records.invariant capture is in
+    let P : Front → Type 0 = λ x. IsFront c.in-Ok.format so_far.last.rest (g.R.Read.remaining c.next_front.new.reader) x in
+    goes_on capture c.in-Ok.format c.records.offset c.in-Whole.size c.in-Some.end _ (g.R.Read.remaining c.next_front.new.reader) so_far
+    (subst P c.in-Whole.is (c.in_ok-size.ensures.next so_far.last.rest so_far.left)) c.in-Some.ensures.1
 
 pub returns-in-Last-clause-whole : goal.returns-in-Last-clause-whole
-returns-in-Last-clause-whole g c = ?
+returns-in-Last-clause-whole g c = λ capture is.
+    let so_far = c.records.invariant capture is in
+    let P : Front → Type 0 = λ x. IsFront c.in-Ok.format so_far.last.rest (g.R.Read.remaining c.next_front.new.reader) x in
+    ends capture c.in-Ok.format c.records.offset _ (g.R.Read.remaining c.next_front.new.reader) so_far
+    (subst P c.in-Last.is (c.in_ok-size.ensures.next so_far.last.rest so_far.left))
 
 pub returns-in-Foreign-clause-foreign : goal.returns-in-Foreign-clause-foreign
-returns-in-Foreign-clause-foreign g c = ?
+returns-in-Foreign-clause-foreign g c = λ capture is offset found.
+    let so_far = c.records.invariant capture is in
+    let P : Front → Type 0 = λ x. IsFront c.in-Ok.format so_far.last.rest (g.R.Read.remaining c.next_front.new.reader) x in
+    let Q : ℕ → Type 0 = λ n. IsForeignAt capture n in
+    let same : c.records.offset ≡ offset = cc in
+    subst Q same (ends_foreign capture c.in-Ok.format c.records.offset _ so_far (subst P c.in-Foreign.is (c.in_ok-size.ensures.next so_far.last.rest so_far.left)))
