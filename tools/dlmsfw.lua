@@ -350,10 +350,13 @@ local function heuristic(buffer, pinfo, tree)
   return true
 end
 
--- A note of a process that wrote the capture: the words after "dlmsfw ".
+-- A note of a process that wrote the capture: the words after "dlmsfw ". The number of strangers stands behind them, in eight bytes.
 function note.dissector(buffer, pinfo, tree)
   local text = buffer():string()
   local words = text == "dlmsfw start" and "start" or (text == "dlmsfw turn" and "turn" or nil)
+  if buffer:len() == 25 and buffer(0, 17):string() == "dlmsfw strangers " then
+    words = "strangers " .. tostring(buffer(17, 8):uint64())
+  end
   if not words then return 0 end
   pinfo.cols.protocol = "dlmsfw"
   pinfo.cols.info = words

@@ -176,6 +176,14 @@ const DAEMON_CAPTURE: CommandOption = CommandOption {
     help: "The file that what is received and sent is appended to as a capture",
 };
 
+/// The option that asks for what strangers send in it too.
+const DAEMON_CAPTURE_STRANGERS: CommandOption = CommandOption {
+    name: "capture-strangers",
+    takes: Takes::Nothing,
+    presence: Presence::With("capture"),
+    help: "Records the datagrams of strangers too, which are counted without it",
+};
+
 /// Where the capture of a run goes.
 fn capture_of<'a>(given: &ArgMatches<'a>) -> CaptureOption<'a> {
     CaptureOption {

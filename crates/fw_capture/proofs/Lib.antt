@@ -3,3 +3,5 @@ pub mod Packets
 pub mod Octets
 pub mod Readings
 pub mod ReadBack
+pub mod Wholeness
+pub mod Filling

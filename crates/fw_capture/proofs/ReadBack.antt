@@ -2,7 +2,7 @@
 use Rattle.std.proofs.Common.{◌≡◌, ℕ, ◌+◌, ◌-◌, ◌*◌, ◌/◌, ◌%◌, ◌^◌, ◌<◌, ◌≤◌, Bool, true, false, not, leb, eqb, ◌||◌, List, [], ◌∷◌, ◌++◌, length, take, drop, Option, Some, None, Result, Ok, Err, refl, sym, ap, ◌∙◌, arith, append_assoc}
 use Rattle.std.proofs.lemmas.Bool.{le-ltb, leb-false, ltb-false}
 use Rattle.std.proofs.lemmas.List.{length-append}
-use Rattle.std.proofs.lemmas.Nat.{from_be_bytes-to_be_bytes_2, from_le_bytes-to_le_bytes_4}
+use Rattle.std.proofs.lemmas.Nat.{from_be_bytes-to_be_bytes_2, from_be_bytes-to_be_bytes_8, from_le_bytes-to_le_bytes_4}
 use Rattle.std.proofs.Math.Seq.{take-length, take-append_seam, drop-append_seam}
 use Rattle.fw_capture.specs.declared.error.AppendError.{AppendError}
 use Rattle.fw_capture.specs.declared.error.AppendError.TheVariants.{TimePast, TwoFamilies, TooLong}
@@ -12,7 +12,7 @@ use Rattle.fw_capture.specs.declared.packet.Packet.{Packet}
 use Rattle.fw_capture.specs.declared.packet.Note.{Note}
 use Rattle.fw_capture.specs.declared.packet.Note.TheVariants as notes
 use Rattle.fw_capture.specs.declared.format.Link.TheVariants as link
-use Rattle.fw_capture.specs.View.{ipv4, ipv6, Told, datagram, note, other, IsEndpoint, IsTold, told_in}
+use Rattle.fw_capture.specs.View.{ipv4, ipv6, Told, datagram, note, other, IsEndpoint, IsNote, IsTold, told_in}
 use Rattle.fw_capture.specs.Checksum.{checksum}
 use Rattle.fw_capture.specs.Spelling.{second, note_protocol, note_text, loopback, udp_datagram, ipv4_packet, ipv4_header, ipv4_pseudo, ipv6_packet, ipv6_pseudo, ip_packet, packet_bytes, file_header}
 use Rattle.fw_capture.specs.Refusal.{first_applying, two_families, too_long}
@@ -106,13 +106,17 @@ ipv6_datagram_back from to m n bytes source dest fits =
 
 -- ---- notes
 
-note_back : (n : Note) → frame_at link.Raw (ip_packet (note n)) ≡ Ok (note n)
-note_back notes.Start = ipv4_back note_protocol loopback loopback (note_text notes.Start) refl refl refl (omega arith)
-note_back notes.Turn = ipv4_back note_protocol loopback loopback (note_text notes.Turn) refl refl refl (omega arith)
+note_back : (n : Note) → IsNote n → frame_at link.Raw (ip_packet (note n)) ≡ Ok (note n)
+note_back notes.Start fits = ipv4_back note_protocol loopback loopback (note_text notes.Start) refl refl refl (omega arith)
+note_back notes.Turn fits = ipv4_back note_protocol loopback loopback (note_text notes.Turn) refl refl refl (omega arith)
+note_back (notes.Strangers count) fits =
+    ipv4_back note_protocol loopback loopback (note_text (notes.Strangers count)) refl refl refl (omega arith)
+    ∙ ap (λ (n : ℕ). Ok (note (notes.Strangers n))) (from_be_bytes-to_be_bytes_8 count fits)
 
 note_size : (n : Note) → length (ip_packet (note n)) < 2 ^ 32
 note_size notes.Start = omega arith
 note_size notes.Turn = omega arith
+note_size (notes.Strangers count) = omega arith
 
 -- ---- pcap
 
@@ -138,7 +142,7 @@ told_back (datagram (ipv6 from m) (ipv6 to n) bytes) known same short =
     (ipv6_datagram_back from to m n bytes known.0 known.1 (omega arith), omega arith)
 told_back (datagram (ipv4 from m) (ipv6 to n) bytes) known same short = absurd (cc)
 told_back (datagram (ipv6 from m) (ipv4 to n) bytes) known same short = absurd (cc)
-told_back (note n) known same short = (note_back n, note_size n)
+told_back (note n) known same short = (note_back n known, note_size n)
 told_back other known same short = absurd known
 
 pub header_is_read : HeaderIsRead

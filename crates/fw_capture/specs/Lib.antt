@@ -6,6 +6,7 @@ pub mod Refusal
 pub mod Reading
 pub mod Place
 pub mod Steps
+pub mod Whole
 pub mod Laws
 -- For private clauses alone: no public clause cites it.
 pub mod Private

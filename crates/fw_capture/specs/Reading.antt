@@ -1,6 +1,6 @@
 -- Public vocabulary: what the bytes of a capture say: a value, or the first fault.
 use Rattle.std.specs.Prelude.{ℕ, ◌+◌, ◌*◌, ◌/◌, ◌%◌, Bool, true, false, not, List, [], ◌∷◌, length, take, drop, Option, Some, None, Result, Ok, Err, slice_index, nat_lt, nat_le, ◌==◌, ◌&&◌, ◌||◌, if◌then◌else◌}
-use Rattle.std.specs.Int.{w16, w32, from_be_bytes, from_le_bytes}
+use Rattle.std.specs.Int.{w16, w32, w64, from_be_bytes, from_le_bytes}
 use Rattle.std.specs.Str.{bytes_eq}
 use Rattle.fw_capture.specs.declared.fault.CaptureFault.{CaptureFault}
 use Rattle.fw_capture.specs.declared.fault.CaptureFault.TheVariants.{ShortHeader, BadMagic, BadVersion, UnknownLink, ShortRecord, BadFraction, CutPacket, ShortLink, BadIpVersion, ShortIp, BadIpHeader, BadIpLength, BadUdpLength}
@@ -9,7 +9,7 @@ use Rattle.fw_capture.specs.declared.format.Link.{Link}
 use Rattle.fw_capture.specs.declared.format.Link.TheVariants as link
 use Rattle.fw_capture.specs.declared.packet.Note.TheVariants as notes
 use Rattle.fw_capture.specs.View.{Endpoint, ipv4, ipv6, Told, datagram, note, other}
-use Rattle.fw_capture.specs.Spelling.{note_protocol, note_text, second}
+use Rattle.fw_capture.specs.Spelling.{note_protocol, note_text, strangers_words, second}
 
 -- what comes of the value that is read; a fault stays
 infixl 10 ◌>>=◌
@@ -30,6 +30,10 @@ or_fault fault (Some x) = Ok x
 -- the number of two bytes at a place, high byte first
 abbrev pub short_at : ℕ → List ℕ → ℕ
 short_at place bytes = from_be_bytes w16 (take 2 (drop place bytes))
+
+-- the number of eight bytes at a place, high byte first
+abbrev pub long_at : ℕ → List ℕ → ℕ
+long_at place bytes = from_be_bytes w64 (take 8 (drop place bytes))
 
 -- ---- UDP (RFC 768): the ports and the data. The length is that of header and data
 
@@ -65,10 +69,16 @@ is_fragment packet = not (short_at 6 packet % 0x4000 == 0)
 abbrev pub is_passed_over : List ℕ → Bool
 is_passed_over packet = is_fragment packet || not (ipv4_protocol packet == 17 || ipv4_protocol packet == note_protocol)
 
+-- the note of strangers of this text: their number follows the words, in eight bytes
+abbrev pub strangers_at : List ℕ → Told
+strangers_at payload =
+    if length payload == 25 && bytes_eq (take 17 payload) strangers_words then note (notes.Strangers (long_at 17 payload)) else other
+
 -- the note of this text; any other packet for experiments is none
 abbrev pub note_at : List ℕ → Told
 note_at payload =
-    if bytes_eq payload (note_text notes.Start) then note notes.Start else (if bytes_eq payload (note_text notes.Turn) then note notes.Turn else other)
+    if bytes_eq payload (note_text notes.Start) then note notes.Start else (
+    if bytes_eq payload (note_text notes.Turn) then note notes.Turn else strangers_at payload)
 
 -- what a datagram or a packet for experiments tells, by the header before it: the addresses are four bytes at 12 and at 16
 abbrev pub ipv4_payload_at : List ℕ → List ℕ → Result Told CaptureFault

@@ -1,6 +1,6 @@
 -- Public vocabulary: the bytes of a capture that is written: the file header and the records of pcap, and in a record an IP packet.
 use Rattle.std.specs.Prelude.{ℕ, ◌+◌, ◌/◌, ◌%◌, List, [], ◌∷◌, ◌++◌, length, codes, ◌==◌, if◌then◌else◌}
-use Rattle.std.specs.Int.{w16, w32, to_be_bytes, to_le_bytes}
+use Rattle.std.specs.Int.{w16, w32, w64, to_be_bytes, to_le_bytes}
 use Rattle.fw_capture.specs.declared.packet.Note.{Note}
 use Rattle.fw_capture.specs.declared.packet.Note.TheVariants as notes
 use Rattle.fw_capture.specs.View.{Endpoint, ipv4, ipv6, Told, datagram, note, other}
@@ -54,10 +54,15 @@ ipv6_pseudo from to size = from ++ to ++ (to_be_bytes w32 size ++ (0 ∷ 0 ∷ 0
 
 -- ---- notes, which are an own form
 
--- the text of a note
+-- the words of a note of strangers
+abbrev pub strangers_words : List ℕ
+strangers_words = codes "dlmsfw strangers "
+
+-- the text of a note; of strangers their number stands behind the words
 abbrev pub note_text : Note → List ℕ
 note_text notes.Start = codes "dlmsfw start"
 note_text notes.Turn = codes "dlmsfw turn"
+note_text (notes.Strangers count) = strangers_words ++ to_be_bytes w64 count
 
 -- 127.0.0.1, which a note goes from and to
 abbrev pub loopback : List ℕ

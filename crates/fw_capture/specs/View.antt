@@ -5,6 +5,7 @@ use Rattle.std.specs.Net.Socket.{v4_ip, v4_port, v6_ip, v6_port}
 use Rattle.std.specs.declared.net.socket_addr.SocketAddr.{SocketAddr}
 use Rattle.std.specs.declared.net.socket_addr.SocketAddr.TheVariants as socket
 use Rattle.fw_capture.specs.declared.packet.Note.{Note}
+use Rattle.fw_capture.specs.declared.packet.Note.TheVariants as notes
 use Rattle.fw_capture.specs.declared.packet.Content.{Content}
 use Rattle.fw_capture.specs.declared.packet.Content.TheVariants as content
 
@@ -37,8 +38,14 @@ abbrev pub IsEndpoint : Endpoint → Type 0
 IsEndpoint (ipv4 address port) = (length address ≡ 4) × (port < 2 ^ 16)
 IsEndpoint (ipv6 address port) = (length address ≡ 16) × (port < 2 ^ 16)
 
+-- a number of strangers has 64 bits
+abbrev pub IsNote : Note → Type 0
+IsNote notes.Start = Unit {0}
+IsNote notes.Turn = Unit {0}
+IsNote (notes.Strangers count) = count < 2 ^ 64
+
 -- a datagram between two endpoints, or a note
 abbrev pub IsTold : Told → Type 0
 IsTold (datagram from to bytes) = IsEndpoint from × IsEndpoint to
-IsTold (note n) = Unit {0}
+IsTold (note n) = IsNote n
 IsTold other = ⊥

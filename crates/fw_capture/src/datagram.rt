@@ -9,7 +9,7 @@ ghost use Rattle.fw_capture.specs.Private.{Gives};
 use crate::fault::CaptureFault;
 use crate::internet::UDP;
 use crate::link::{IPV4, IPV6};
-use crate::note::{NOTE_PROTOCOL, note_text};
+use crate::note::{NOTE_PROTOCOL, start_text, strangers, turn_text};
 use crate::number::short_at;
 use crate::packet::{Content, Note};
 use std::net::{Ipv4Addr, Ipv6Addr, SocketAddr, SocketAddrV4, SocketAddrV6};
@@ -58,12 +58,12 @@ fn udp(payload: &[u8]) -> Result<(u16, u16, &[u8]), CaptureFault>
 fn note(payload: &[u8]) -> Option<Content<'_>>
     ensures { told_in result ≡ note_at payload.now }
 {
-    if payload == note_text(Note::Start) {
+    if payload == start_text() {
         Some(Content::Note(Note::Start))
-    } else if payload == note_text(Note::Turn) {
+    } else if payload == turn_text() {
         Some(Content::Note(Note::Turn))
     } else {
-        None
+        strangers(payload)
     }
 }
 

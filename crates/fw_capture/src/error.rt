@@ -1,8 +1,9 @@
-//! Why a packet was not appended.
+//! Why a packet was not appended, or a capture isn't gone on with.
 
 ghost use Rattle.std.specs.Prelude.{◌≡◌};
 ghost use Rattle.fw_capture.specs.declared.error.AppendError.TheVariants.{OutOfMemory};
 
+use crate::fault::CaptureFault;
 use std::alloc::AllocError;
 use std::fmt;
 use thiserror::Error;
@@ -31,5 +32,34 @@ impl From<AllocError> for AppendError {
 
     fn from(_error: AllocError) -> AppendError {
         AppendError::OutOfMemory
+    }
+}
+
+/// The refusals of `whole_len`.
+#[derive(Clone, Copy, Debug, Drop, Error)]
+pub enum WholeError {
+    /// What is wrong with the file header.
+    Header(CaptureFault),
+    /// At this offset stands neither a whole record nor what a write leaves that was cut short.
+    Foreign(u64),
+    /// The reader failed.
+    Input,
+    /// No memory was found for a record.
+    OutOfMemory,
+}
+
+impl fmt::Display for WholeError {
+    fn fmt<W: fmt::Write>(&self, f: &mut fmt::Formatter<W>) -> fmt::Result {
+        fmt::Debug::fmt(self, f)
+    }
+}
+
+impl From<AllocError> for WholeError {
+    ghost use Rattle.fw_capture.specs.declared.error.WholeError.TheVariants as whole;
+
+    ghost from_gives = { λ _ e. e ≡ whole.OutOfMemory };
+
+    fn from(_error: AllocError) -> WholeError {
+        WholeError::OutOfMemory
     }
 }

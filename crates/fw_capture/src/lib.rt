@@ -20,11 +20,13 @@ mod number;
 mod packet;
 mod reader;
 mod reading;
+mod whole;
 mod writing;
 
-pub use error::AppendError;
+pub use error::{AppendError, WholeError};
 pub use fault::{CaptureError, CaptureFault};
 pub use format::{Format, Link};
 pub use packet::{Captured, Content, Note, Packet};
 pub use reader::Reader;
+pub use whole::whole_len;
 pub use writing::{append_packet, file_header};

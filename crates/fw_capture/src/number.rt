@@ -1,7 +1,7 @@
 //! The numbers of headers.
 
 ghost use Rattle.std.specs.Prelude.{◌≡◌, ◌+◌, ◌≤◌, length};
-ghost use Rattle.fw_capture.specs.Reading.{short_at, half_at, number_at};
+ghost use Rattle.fw_capture.specs.Reading.{short_at, long_at, half_at, number_at};
 
 /// The number of two bytes at a place, high byte first.
 pub(crate) fn short_at(place: usize, bytes: &[u8]) -> u16
@@ -12,6 +12,17 @@ pub(crate) fn short_at(place: usize, bytes: &[u8]) -> u16
         unreachable!()
     };
     u16::from_be_bytes([*high, *low])
+}
+
+/// The number of eight bytes at a place, high byte first.
+pub(crate) fn long_at(place: usize, bytes: &[u8]) -> u64
+    requires { place + 8 ≤ length bytes.now }
+    ensures { result ≡ long_at place bytes.now }
+{
+    let [a, b, c, d, e, f, g, h, ..] = &bytes[place..] else {
+        unreachable!()
+    };
+    u64::from_be_bytes([*a, *b, *c, *d, *e, *f, *g, *h])
 }
 
 /// The number of two bytes at a place, in the order of the file.

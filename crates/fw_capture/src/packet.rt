@@ -12,6 +12,8 @@ pub enum Note {
     Start,
     /// The meter took a turn of a verification.
     Turn,
+    /// So many datagrams came from strangers since the last record, and have none.
+    Strangers(u64),
 }
 
 /// What a packet tells.

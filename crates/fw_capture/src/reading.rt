@@ -16,7 +16,7 @@ use crate::packet::{Content, SECOND};
 pub(crate) const FILE_HEADER_SIZE: usize = 24;
 
 /// The bytes of the header of a record.
-const RECORD_HEADER_SIZE: usize = 16;
+pub(crate) const RECORD_HEADER_SIZE: usize = 16;
 
 const NANOSECONDS: u32 = 0xa1b2_3c4d;
 

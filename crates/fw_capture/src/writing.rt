@@ -11,7 +11,7 @@ use crate::error::AppendError;
 use crate::internet::{
     UDP, ipv4_pseudo_sum, ipv6_pseudo_sum, put_ipv4_header, put_ipv6_header, put_udp,
 };
-use crate::note::{NOTE_PROTOCOL, note_text};
+use crate::note::{NOTE_PROTOCOL, note_size, put_note_text};
 use crate::packet::{Captured, Content, Note, SECOND};
 use std::alloc::{AllocError, Global};
 use std::net::{SocketAddr, SocketAddrV4, SocketAddrV6};
@@ -32,7 +32,7 @@ pub fn file_header(alloc: Global) -> Result<Vec<u8>, AllocError>
 }
 
 /// The longest IP packet.
-const MAX_PACKET: usize = 65_535;
+pub(crate) const MAX_PACKET: usize = 65_535;
 
 /// The address that a note goes from and to.
 const LOOPBACK: [u8; 4] = [127, 0, 0, 1];
@@ -79,13 +79,13 @@ fn put_note(out: &mut Vec<u8>, nanoseconds: u64, note: Note) -> Result<(), Alloc
     requires { nanoseconds / second < 2 ^ 32 }
     ensures ok { OnOk result (out.new.items ≡ out.old.items
         ++ packet_bytes nanoseconds (told_of (Content.Note note))) }
+    ensures told { IsTold (told_of (Content.Note note)) }
     ensures front { Begins out.old.items out.new.items }
 {
-    let text = note_text(note);
-    let size = 20 + text.len();
+    let size = 20 + note_size(note);
     put_record_header(out, nanoseconds, size as u32)?;
     put_ipv4_header(out, NOTE_PROTOCOL, size as u16, LOOPBACK, LOOPBACK)?;
-    out.extend_from_slice(text)?;
+    put_note_text(out, note)?;
     Ok(())
 }
 

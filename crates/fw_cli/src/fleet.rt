@@ -31,7 +31,7 @@ ghost use Rattle.fw_cli.specs.declared.fleet.Member.{Member};
 use crate::meter::{Listening, MeterFault, MeterOptions, Teller, closing_fault, opened_capture};
 use fw_daemon::{Dropped, MeterDaemon, Watch, step};
 use fw_faults::{Fault, write_text};
-use fw_host::{CapturePort, listening_line, stored_meter};
+use fw_host::{CapturePort, Strangers, listening_line, stored_meter};
 use fw_meter::MeterCore;
 use fw_names::ImageName;
 use fw_port::{Port, UdpPort};
@@ -66,9 +66,11 @@ impl Member {
         &mut self,
         rt: &C,
         alloc: Global,
+        strangers: &mut Strangers,
         capture: Option<&File>,
     ) -> Result<Option<ImageName>, HasFailed> {
-        let mut port = CapturePort::of_meter(rt, alloc, &mut self.port, self.at, capture);
+        let mut port =
+            CapturePort::of_meter(rt, alloc, &mut self.port, self.at, strangers, capture);
         match step(alloc, &mut port, &mut self.daemon) {
             Ok(activated) if !port.has_failed() => Ok(activated),
             _ => Err(HasFailed(port.has_failed())),
@@ -80,6 +82,8 @@ impl Member {
 #[derive(Drop)]
 struct Fleet {
     members: Vec<Member>,
+    /// The strangers to each of them, who have one capture.
+    strangers: Strangers,
     dropped: Dropped,
     faults: u64,
 }
@@ -103,28 +107,30 @@ pub(crate) fn serve_fleet<R: Files<File = File> + Clock + Net + Wait, W: Write>(
     ensures faults { IfErr result (λ e. IsOfMeter e.fault) }
 {
     let members = members_of(rt, alloc, options, count)?;
-    match serve_members(rt, alloc, writer, members, options.capture) {
+    match serve_members(rt, alloc, writer, members, options) {
         Ok(()) => Ok(()),
         Err(fault) => Err(MeterFault::from(fault)),
     }
 }
 
-/// Serves these meters, until the port of one is closed. Where a capture is asked for, it is the file of this path.
+/// Serves these meters, until the port of one is closed.
 fn serve_members<R: Files<File = File> + Clock + Wait, W: Write>(
     rt: &R,
     alloc: Global,
     writer: &mut W,
     members: Vec<Member>,
-    capture: Option<&str>,
+    options: &MeterOptions<'_>,
 ) -> Result<(), Fault>
     ensures ends { IsErr result }
     ensures silent { IfErr result (λ f. f ≢ Fault.Socket → f ≢ Fault.Output → f ≢ Fault.CaptureFault
         → Keeps (W.contents writer.old) (W.contents writer.new)) }
-    ensures asked { IfErr result (λ f. IsOfCapture f → IsTrue (is_some capture.entry)) }
+    ensures asked { IfErr result (λ f. IsOfCapture f → IsTrue (is_some options.now.capture)) }
     ensures faults { IfErr result IsOfServing }
 {
+    let capture = options.capture;
     let mut fleet = Fleet {
         members,
+        strangers: Strangers::of_meter(alloc, &options.heads, options.captures_strangers)?,
         dropped: Dropped {
             strangers: 0,
             unserved: 0,
@@ -281,7 +287,7 @@ impl Fleet {
         };
         let mut faults: u64 = 0;
         for member in &mut self.members {
-            let activated = member.step(rt, alloc, capture)?;
+            let activated = member.step(rt, alloc, &mut self.strangers, capture)?;
             watch.round(activated, self.dropped, self.faults);
             let Dropped {
                 strangers,

@@ -16,16 +16,16 @@ use fw_blocks::Width;
 use fw_book::BookError;
 use fw_faults::{Fault, Reads, read_input, write_text};
 use fw_host::{
-    BookOptions, CapturePort, HeadProgress, Opening, Part, UdpHeadPort, cancel, cancelled_line,
-    check_addresses, check_part, is_open, kept_head, open_part, opened_line, over_line, parts_of,
-    read_list,
+    BookOptions, CapturePort, HeadProgress, Opening, Part, Strangers, UdpHeadPort, cancel,
+    cancelled_line, check_addresses, check_part, is_open, kept_head, open_part, opened_line,
+    over_line, parts_of, read_list,
 };
 use fw_journal::{FileDevice, JournalDevice};
 use fw_kept::KeptHead;
 use fw_names::{CampaignId, HeadId};
 use fw_port::UdpPort;
 use fw_rollout::{HeadDaemon, Listed, MeterList, Stop, Timing, serve_head};
-use std::alloc::Global;
+use std::alloc::{AllocError, Global};
 use std::fs::File;
 use std::io::Write;
 use std::net::{Net, SocketAddr};
@@ -58,12 +58,15 @@ pub struct HeadOptions<'a> {
     pub stays: bool,
     /// The path of the file of the capture, where one is asked for.
     pub capture: Option<&'a str>,
+    /// Whether it has the datagrams of addresses that are not in the list too.
+    pub captures_strangers: bool,
 }
 
 /// The head end leads each live row of its book to its end. It may be ended at any moment, and goes on there when it is run again.
 ///
 /// Where a capture is asked for, its file is gone on with, or made where no file is there. It gets the start of the process, and what is received
-/// and sent, each before it is handled or sent.
+/// and sent, each before it is handled or sent. What comes from addresses that are not in the list is counted in it, unless that is asked for
+/// too.
 ///
 /// The writer gets the line `listening ..`, once datagrams are received, `cancelled ..` and `opened ..` for each campaign, `row ..` for each
 /// row that ended, each once the disk has it, and `over ..` at the end. Each is flushed. After the first, a line that can't be written is
@@ -108,6 +111,7 @@ pub fn run_head<R: Files<File = File> + Clock + Eprint + Net + Wait, W: Write, E
         mut kept,
     } = set_up(rt, alloc, options)?;
     let capture = opened_capture(rt, alloc, options.capture)?;
+    let strangers = strangers_of(alloc, options, asked.list.meters())?;
     tell_listening(alloc, writer, at)?;
     begin(alloc, writer, &mut kept, asked.opened.take(), options)?;
     let mut daemon = HeadDaemon::new(alloc, kept, &asked.list, options.timing)?;
@@ -119,6 +123,7 @@ pub fn run_head<R: Files<File = File> + Clock + Eprint + Net + Wait, W: Write, E
         RecordedPort {
             port,
             at,
+            strangers,
             file: capture,
             capture: options.capture,
         },
@@ -127,11 +132,25 @@ pub fn run_head<R: Files<File = File> + Clock + Eprint + Net + Wait, W: Write, E
     )
 }
 
+/// The strangers to a head end whose meters these are. Without a capture nobody has to know them.
+fn strangers_of(
+    alloc: Global,
+    options: &HeadOptions<'_>,
+    list: &[Listed],
+) -> Result<Strangers, AllocError> {
+    if options.capture.is_some() {
+        Strangers::of_head(alloc, list, options.captures_strangers)
+    } else {
+        Ok(Strangers::none())
+    }
+}
+
 /// A socket with its address and with the file of its capture, where one is asked for.
 #[derive(Drop)]
 struct RecordedPort<'a> {
     port: UdpPort,
     at: SocketAddr,
+    strangers: Strangers,
     file: Option<File>,
     capture: Option<&'a str>,
 }
@@ -375,10 +394,11 @@ fn lead<R: Clock + Wait, W: Write, E: Eprint, D: JournalDevice + Drop>(
     let RecordedPort {
         port: mut socket,
         at,
+        mut strangers,
         file,
         capture,
     } = port;
-    let recorded = CapturePort::of_head(rt, alloc, &mut socket, at, file);
+    let recorded = CapturePort::of_head(rt, alloc, &mut socket, at, &mut strangers, file);
     let mut port = UdpHeadPort::new(rt, alloc, recorded, writer);
     let mut progress = HeadProgress::new(terminal);
     match serve_head(rt, &mut port, daemon, stays, &mut progress) {

@@ -12,7 +12,8 @@ use crate::fleet::serve_fleet;
 use fw_daemon::{Dropped, MeterDaemon, Watch, serve};
 use fw_faults::{Fault, write_text};
 use fw_host::{
-    CapturePort, NewMeter, activated_line, dropped_line, listening_line, open_capture, stored_meter,
+    CapturePort, NewMeter, Strangers, activated_line, dropped_line, listening_line, open_capture,
+    stored_meter,
 };
 use fw_names::ImageName;
 use fw_port::{Closed, SocketError, UdpPort};
@@ -43,6 +44,8 @@ pub struct MeterOptions<'a> {
     pub count: Option<u32>,
     /// The path of the file of the capture, where one is asked for.
     pub capture: Option<&'a str>,
+    /// Whether it has the datagrams of addresses that may not ask too.
+    pub captures_strangers: bool,
 }
 
 /// Why the command ended.
@@ -71,7 +74,8 @@ impl From<Fault> for MeterFault {
 /// with `.N` after it.
 ///
 /// Where a capture is asked for, its file is gone on with, or made where no file is there. It gets the start of the process, what is received
-/// and sent, each before it is handled or sent, and each turn of a verification in which nothing came.
+/// and sent, each before it is handled or sent, and each turn of a verification. What comes from addresses that may not ask is counted in it,
+/// unless that is asked for too.
 ///
 /// The writer gets the line `listening ..`, once datagrams are received, `activated ..` for each image that the meter switches to, and
 /// `dropped ..` where more was dropped, once a minute at most. Each is flushed. After the first, a line that can't be written is lost.
@@ -131,16 +135,17 @@ fn serve_one<R: Files<File = File> + Clock + Net + Wait, W: Write>(
     ensures asked { IfErr result (λ f. IsOfCapture f → IsTrue (is_some options.entry.capture)) }
     ensures faults { IfErr result IsOfMeter }
 {
-    let Listening { mut port, at } = Listening::of(UdpPort::bind(rt, options.listen))?;
+    let listening = Listening::of(UdpPort::bind(rt, options.listen))?;
     let meter = stored_meter(rt, alloc, options.store, &options.fresh)?;
+    let strangers = Strangers::of_meter(alloc, &options.heads, options.captures_strangers)?;
     let mut daemon = MeterDaemon::new(meter, options.heads);
     serve_daemon(
         rt,
         alloc,
         writer,
-        &mut port,
-        at,
+        listening,
         &mut daemon,
+        strangers,
         options.capture,
     )
 }
@@ -150,9 +155,9 @@ fn serve_daemon<R: Files<File = File> + Clock + Wait, W: Write>(
     rt: &R,
     alloc: Global,
     writer: &mut W,
-    port: &mut UdpPort,
-    at: SocketAddr,
+    listening: Listening,
     daemon: &mut MeterDaemon<FileStore>,
+    strangers: Strangers,
     capture: Option<&str>,
 ) -> Result<(), Fault>
     ensures ends { IsErr result }
@@ -161,10 +166,12 @@ fn serve_daemon<R: Files<File = File> + Clock + Wait, W: Write>(
     ensures asked { IfErr result (λ f. IsOfCapture f → IsTrue (is_some capture.entry)) }
     ensures faults { IfErr result IsOfServing }
 {
+    let Listening { mut port, at } = listening;
+    let mut strangers = strangers;
     let file = opened_capture(rt, alloc, capture)?;
     tell_listening(alloc, writer, at)?;
     let mut teller = Teller::new(rt, alloc, writer);
-    let mut port = CapturePort::of_meter(rt, alloc, port, at, file);
+    let mut port = CapturePort::of_meter(rt, alloc, &mut port, at, &mut strangers, file);
     let Closed = serve(rt, alloc, &mut port, daemon, &mut teller);
     Err(closing_fault(capture, port.has_failed()))
 }

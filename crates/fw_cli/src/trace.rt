@@ -13,8 +13,8 @@ use std::alloc::Global;
 use std::io::{Read, Write};
 
 /// The reader has a capture (pcap). The writer gets a line for each datagram of it, in the order of the capture: its number, from 0 on, the
-/// address and port that it came from and went to, and what it says, in the words of a trace. It gets one for each note too, `start` or
-/// `turn`. Other packets are passed over.
+/// address and port that it came from and went to, and what it says, in the words of a trace. It gets one for each note too, `start`,
+/// `turn` or `strangers ..`. Other packets are passed over.
 ///
 /// A capture doesn't say which end is a meter: a request is for a meter, and anything else for a head end.
 ///

@@ -43,6 +43,7 @@ datagram_line number from to s =
 abbrev pub note_line : Note → List ℕ
 note_line notes.Start = codes "start\n"
 note_line notes.Turn = codes "turn\n"
+note_line (notes.Strangers count) = codes "strangers " ++ (decimal count ++ codes "\n")
 
 -- the line of a record, of which the datagram has this number if it tells one
 abbrev pub IsLine : ℕ → Told → List ℕ → Type 0

@@ -27,7 +27,7 @@ pub(crate) fn append_line(
     match content {
         None => Ok(number),
         Some(Content::Note(note)) => {
-            text.push_str(note_line(note))?;
+            append_note(text, note)?;
             Ok(number)
         }
         Some(Content::Datagram { from, to, bytes }) => {
@@ -37,13 +37,14 @@ pub(crate) fn append_line(
     }
 }
 
-/// The line of a note.
-fn note_line(note: Note) -> &'static str
-    ensures { result.now ≡ note_line note }
+/// Appends the line of a note.
+fn append_note(text: &mut String, note: Note) -> Result<(), AllocError>
+    ensures { OnOk result (string_bytes text.new ≡ string_bytes text.old ++ note_line note) }
 {
     match note {
-        Note::Start => "start\n",
-        Note::Turn => "turn\n",
+        Note::Start => text.push_str("start\n"),
+        Note::Turn => text.push_str("turn\n"),
+        Note::Strangers(count) => write!(text, "strangers {count}\n"),
     }
 }
 

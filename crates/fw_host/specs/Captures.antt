@@ -1,15 +1,21 @@
 -- Public vocabulary: the captures of daemons: what they get of a datagram, and the faults that end one.
-use Rattle.std.specs.Prelude.{◌≡◌, ℕ, Bool, true, false, List, [], ◌∷◌, ◌++◌, take, Option, Some, None}
+use Rattle.std.specs.Prelude.{◌≡◌, ◌⊎◌, ℕ, Bool, true, false, MatchBool, nat_lt, List, [], ◌∷◌, ◌++◌, take, Option, Some, None, Err, if◌then◌else◌}
 use Rattle.std.specs.Io.KnownBytes.{Appends}
 use Rattle.fw_capture.specs.Spelling.{file_header, packet_bytes}
 use Rattle.std.specs.declared.net.socket_addr.SocketAddr.{SocketAddr}
-use Rattle.fw_capture.specs.declared.packet.Note.TheVariants.{Start, Turn}
+use Rattle.fw_capture.specs.declared.fault.CaptureFault.{CaptureFault}
+use Rattle.fw_capture.specs.declared.packet.Note.TheVariants as notes
+use Rattle.fw_capture.specs.Reading.{header_at}
+use Rattle.fw_capture.specs.Whole.{IsForeignAt}
 use Rattle.fw_capture.specs.View.{Told, datagram, endpoint_of, note}
+use Rattle.fw_daemon.specs.Daemon.{one_more}
 use Rattle.fw_port.specs.declared.port.Arrival.{Arrival}
 use Rattle.fw_port.specs.declared.port.Patience.{Patience}
 use Rattle.fw_port.specs.declared.port.Patience.TheVariants.{Waits, Polls}
 use Rattle.fw_faults.specs.declared.fault.Fault.{Fault}
-use Rattle.fw_faults.specs.declared.fault.Fault.TheVariants.{CaptureFault, ForeignCapture}
+use Rattle.fw_host.specs.declared.strangers.Strangers.{Strangers}
+use Rattle.fw_host.specs.Strangers.{is_stranger}
+use Rattle.fw_faults.specs.declared.fault.Fault.TheVariants as faults
 
 -- Where there is a capture, the record of this was appended to it, at some time.
 abbrev pub Captures : Option (Option (List ℕ)) → Option (Option (List ℕ)) → Told → Type 0
@@ -17,26 +23,59 @@ Captures None last told = last ≡ None
 Captures (Some first) None told = ⊥
 Captures (Some first) (Some last) told = (nanoseconds : ℕ) × Appends first last (packet_bytes nanoseconds told)
 
--- what is recorded of what came: the datagram, or, where a meter that verifies got none, the turn that it takes then
-abbrev pub arrival_told : Bool → SocketAddr → Patience → Option Arrival → List ℕ → Option Told
-arrival_told has_turns at patience (Some a) buffer = Some (datagram (endpoint_of a.from) (endpoint_of at) (take a.count buffer))
-arrival_told true at Polls None buffer = Some (note Turn)
-arrival_told true at Waits None buffer = None
-arrival_told false at patience None buffer = None
+-- Where there is a capture, the record of this was appended, and before it the note of so many datagrams of strangers, if there are any.
+abbrev pub CapturesNoted : ℕ → Option (Option (List ℕ)) → Option (Option (List ℕ)) → Told → Type 0
+CapturesNoted count first last told =
+    MatchBool (nat_lt 0 count)
+    ((mid : Option (Option (List ℕ))) × Captures first mid (note (notes.Strangers count)) × Captures mid last told)
+    (Captures first last told)
 
--- the record of this, if there is anything, was appended to the capture, where there is one
-abbrev pub CapturesSome : Option (Option (List ℕ)) → Option (Option (List ℕ)) → Option Told → Type 0
-CapturesSome first last None = last ≡ first
-CapturesSome first last (Some told) = Captures first last told
+-- each of these, one after another, where so many datagrams of strangers came before
+abbrev pub CapturesAll : ℕ → Option (Option (List ℕ)) → Option (Option (List ℕ)) → List Told → Type 0
+CapturesAll count first last [] = last ≡ first
+CapturesAll count first last (told ∷ rest) =
+    (mid : Option (Option (List ℕ))) × CapturesNoted count first mid told × CapturesAll 0 mid last rest
+
+-- how many datagrams of strangers have no note behind these records
+abbrev pub count_after : ℕ → List Told → ℕ
+count_after count [] = count
+count_after count (told ∷ rest) = 0
+
+-- the turn of a meter that verifies, where nothing came that it handles
+abbrev pub turn_told : Bool → Patience → List Told
+turn_told true Polls = note notes.Turn ∷ []
+turn_told true Waits = []
+turn_told false patience = []
+
+-- what is recorded of a stranger's datagram, and the turn behind it; it is counted where it isn't recorded
+abbrev pub stranger_told : Bool → Bool → SocketAddr → Patience → SocketAddr → List ℕ → List Told
+stranger_told true has_turns at patience from bytes = datagram (endpoint_of from) (endpoint_of at) bytes ∷ turn_told has_turns patience
+stranger_told false has_turns at patience from bytes = turn_told has_turns patience
+
+abbrev pub stranger_count : Strangers → ℕ
+stranger_count s = if s.are_recorded then s.count else one_more s.count
+
+-- What is recorded of what came: the datagram; a stranger's, where those are recorded; and the turn that a meter takes then which verifies.
+abbrev pub CapturesArrival : Strangers → Bool → SocketAddr → Patience → Option Arrival → List ℕ → Option (Option (List ℕ)) → Option (Option (List ℕ))
+    → Type 0
+CapturesArrival s has_turns at patience None buffer first last = CapturesAll s.count first last (turn_told has_turns patience)
+CapturesArrival s has_turns at patience (Some a) buffer first last =
+    CapturesAll (if is_stranger s.known a.from then stranger_count s else s.count) first last
+    (if is_stranger s.known a.from then stranger_told s.are_recorded has_turns at patience a.from (take a.count buffer)
+    else (datagram (endpoint_of a.from) (endpoint_of at) (take a.count buffer) ∷ []))
 
 -- What a process that starts appends to a capture with this front, as long as a file header, or all of it where it is shorter: the file header,
 -- where the capture is empty, and the note of the start. Any other front is a file header.
 abbrev pub StartsCapture : List ℕ → ℕ → Option (List ℕ) → Option (List ℕ) → Type 0
-StartsCapture [] nanoseconds first last = Appends first last (file_header ++ packet_bytes nanoseconds (note Start))
-StartsCapture (x ∷ xs) nanoseconds first last = ((x ∷ xs) ≡ file_header) × Appends first last (packet_bytes nanoseconds (note Start))
+StartsCapture [] nanoseconds first last = Appends first last (file_header ++ packet_bytes nanoseconds (note notes.Start))
+StartsCapture (x ∷ xs) nanoseconds first last = ((x ∷ xs) ≡ file_header) × Appends first last (packet_bytes nanoseconds (note notes.Start))
+
+-- a capture that isn't gone on with: its file header has a fault, or something else than less than a record stands behind its whole records
+abbrev pub IsForeign : List ℕ → Type 0
+IsForeign capture = ((fault : CaptureFault) × (header_at capture ≡ Err fault)) ⊎ ((offset : ℕ) × IsForeignAt capture offset)
 
 -- of a capture of a daemon
 abbrev pub IsOfCapture : Fault → Type 0
-IsOfCapture CaptureFault = Unit {0}
-IsOfCapture ForeignCapture = Unit {0}
+IsOfCapture faults.CaptureFault = Unit {0}
+IsOfCapture faults.ForeignCapture = Unit {0}
 IsOfCapture fault = ⊥

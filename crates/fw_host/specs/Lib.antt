@@ -4,4 +4,5 @@ pub mod Lists
 pub mod Heads
 pub mod Openings
 pub mod Addresses
+pub mod Strangers
 pub mod Captures

@@ -1,17 +1,18 @@
 //! The capture of a daemon, in a file.
 
-ghost use Rattle.std.specs.Prelude.{◌≡◌, ◌≢◌, ◌≤◌, ◌↔◌, [], IfErr, IfOk, IsTrue, OnOk, length};
+ghost use Rattle.std.specs.Prelude.{◌≡◌, ◌≢◌, ◌≤◌, ◌↔◌, ℕ, List, [], Some, IfErr, IfOk, IsTrue, OnOk, length};
 ghost use Rattle.std.specs.Io.KnownBytes.{Appends, Keeps};
 ghost use Rattle.fw_capture.specs.Spelling.{file_header, packet_bytes};
 ghost use Rattle.fw_capture.specs.View.{told_of};
-ghost use Rattle.fw_host.specs.Captures.{IsOfCapture, StartsCapture};
+ghost use Rattle.fw_capture.specs.Whole.{IsWholeTo};
+ghost use Rattle.fw_host.specs.Captures.{IsForeign, IsOfCapture, StartsCapture};
 
-use fw_capture::{Captured, Content, Note, file_header};
+use fw_capture::{Captured, Content, Note, WholeError, file_header, whole_len};
 use fw_faults::Fault;
 use fw_recording::{write_header, write_record};
 use std::alloc::{AllocError, Global};
 use std::fs::{File, OpenOptions};
-use std::io::Write;
+use std::io::{BufReader, Read, Write};
 use std::os::unix::fs::FileExt;
 use std::rt::{Clock, Files};
 use std::time::{SystemTime, UNIX_EPOCH};
@@ -22,12 +23,13 @@ const HEADER_SIZE: usize = 24;
 /// The file of a daemon's capture, under the lock, with a note of the start of the process at its end. It is made where no file is there, and
 /// gone on with where one is.
 ///
-/// Each record is appended by a call of its own, so a process that is killed leaves whole ones.
+/// Each record is appended by a call of its own, so a process that is killed leaves whole ones. A power cut or a full disk may leave less than a
+/// record at the end, and zeros. That is cut off, and the disk has it so before anything is appended.
 ///
 /// # Errors
 ///
 /// - `CaptureFault`: the file can't be made, opened, read or written, or another process has it. Or the system gives no more memory.
-/// - `ForeignCapture`: the file is there, and isn't a capture that a daemon began. It is left as it is.
+/// - `ForeignCapture`: the file is there, and isn't a capture that a daemon began, or its records have another fault. It is left as it is.
 pub fn open_capture<R: Files<File = File> + Clock>(
     rt: &R,
     alloc: Global,
@@ -45,8 +47,44 @@ pub fn open_capture<R: Files<File = File> + Clock>(
     }
     let mut buffer = [0; HEADER_SIZE];
     let count = read_front(&file, &mut buffer)?;
+    keep_whole(alloc, &file, &buffer[..count])?;
     start(alloc, &mut file, now(rt), &buffer[..count])?;
     Ok(file)
+}
+
+/// Cuts off what is no whole record at the end of the capture of a daemon, which has this front. Any other file is left as it is.
+fn keep_whole(alloc: Global, file: &File, front: &[u8]) -> Result<(), Fault>
+    ensures faults { IfErr result IsOfCapture }
+{
+    if !is_own(alloc, front).map_err(|_| Fault::CaptureFault)? {
+        return Ok(());
+    }
+    let mut reader = BufReader::new(alloc, file).map_err(|_| Fault::CaptureFault)?;
+    let len = kept_len(alloc, &mut reader)?;
+    let metadata = file.metadata().map_err(|_| Fault::CaptureFault)?;
+    if len < metadata.len() {
+        file.set_len(len).map_err(|_| Fault::CaptureFault)?;
+        file.sync_all().map_err(|_| Fault::CaptureFault)?;
+    }
+    Ok(())
+}
+
+/// How many bytes of a capture are kept.
+///
+/// # Errors
+///
+/// `ForeignCapture`: something else stands behind its whole records than less than a record. `CaptureFault`: it can't be read, or memory was
+/// refused.
+fn kept_len<R: Read>(alloc: Global, reader: &mut R) -> Result<u64, Fault>
+    ensures whole { (capture : List ℕ) → R.remaining reader.old ≡ Some capture → IfOk result (IsWholeTo capture) }
+    ensures foreign { (capture : List ℕ) → R.remaining reader.old ≡ Some capture → result ≡ Err Fault.ForeignCapture → IsForeign capture }
+    ensures faults { IfErr result IsOfCapture }
+{
+    match whole_len(alloc, reader) {
+        Ok(len) => Ok(len),
+        Err(WholeError::Header(_) | WholeError::Foreign(_)) => Err(Fault::ForeignCapture),
+        Err(WholeError::Input | WholeError::OutOfMemory) => Err(Fault::CaptureFault),
+    }
 }
 
 /// Reads the front of a file into a buffer, as much as there is room for or the file has. It returns how many bytes these are.

@@ -3,9 +3,10 @@
 ghost use Rattle.std.specs.Prelude.{◌≡◌, ◌≤◌, IfOk, IfSome, IsErr, IsTrue, OnErr, OnOk, false, true, length};
 ghost use Rattle.std.specs.Option.{option_map};
 ghost use Rattle.fw_capture.specs.View.{datagram, endpoint_of, told_of};
-ghost use Rattle.fw_host.specs.Captures.{Captures, CapturesSome, arrival_told};
+ghost use Rattle.fw_host.specs.Captures.{Captures, CapturesAll, CapturesArrival, CapturesNoted, count_after, stranger_count, stranger_told, turn_told};
 
 use crate::capture_file::{now, put_record};
+use crate::strangers::Strangers;
 use fw_capture::{Content, Note};
 use fw_port::{Arrival, Closed, NoReport, Patience, Port, UdpPort};
 use std::alloc::Global;
@@ -15,7 +16,7 @@ use std::rt::Clock;
 
 /// A UDP socket with a writer of its capture, where one is asked for. A datagram is recorded before it is handled or sent, so nothing is done
 /// that the capture lacks: where a record can't be written, the datagram is dropped, and the port is closed. Of a meter each turn of a
-/// verification has a note, unless a datagram of a stranger brings it about.
+/// verification has a note. A datagram of a stranger has no record, unless those are asked for: before the next record a note says how many came.
 ///
 /// Nothing is known of what a network does, so it is not honest.
 #[derive(Drop)]
@@ -25,6 +26,7 @@ pub struct CapturePort<'a, C: Clock, W: Write + Drop> {
     port: &'a mut UdpPort,
     /// The address that the port has.
     at: SocketAddr,
+    strangers: &'a mut Strangers,
     capture: Option<W>,
     /// Whether nothing coming in time, where it isn't waited, is a turn.
     has_turns: bool,
@@ -39,6 +41,7 @@ impl<'a, C: Clock, W: Write + Drop> CapturePort<'a, C, W> {
         alloc: Global,
         port: &'a mut UdpPort,
         at: SocketAddr,
+        strangers: &'a mut Strangers,
         capture: Option<W>,
     ) -> CapturePort<'a, C, W> {
         CapturePort {
@@ -46,6 +49,7 @@ impl<'a, C: Clock, W: Write + Drop> CapturePort<'a, C, W> {
             alloc,
             port,
             at,
+            strangers,
             capture,
             has_turns: false,
             failed: false,
@@ -58,6 +62,7 @@ impl<'a, C: Clock, W: Write + Drop> CapturePort<'a, C, W> {
         alloc: Global,
         port: &'a mut UdpPort,
         at: SocketAddr,
+        strangers: &'a mut Strangers,
         capture: Option<W>,
     ) -> CapturePort<'a, C, W> {
         CapturePort {
@@ -65,6 +70,7 @@ impl<'a, C: Clock, W: Write + Drop> CapturePort<'a, C, W> {
             alloc,
             port,
             at,
+            strangers,
             capture,
             has_turns: true,
             failed: false,
@@ -79,9 +85,11 @@ impl<'a, C: Clock, W: Write + Drop> CapturePort<'a, C, W> {
     }
 
     /// Appends a record to the capture, where there is one. None is appended after one that failed, of which a part may be there.
-    fn put(&mut self, content: Content<'_>) -> Result<(), Closed>
+    fn put_one(&mut self, content: Content<'_>) -> Result<(), Closed>
         ensures put { OnOk result (Captures (option_map W.contents self.old.capture) (option_map W.contents self.new.capture) (told_of content.entry)) }
         ensures open { OnOk result (self.new.failed ≡ self.old.failed) }
+        ensures strangers { self.new.strangers.now ≡ self.old.strangers.now }
+        ensures turns { self.new.has_turns ≡ self.old.has_turns }
         ensures failed { OnErr result (IsTrue self.new.failed) }
     {
         if self.failed {
@@ -99,7 +107,65 @@ impl<'a, C: Clock, W: Write + Drop> CapturePort<'a, C, W> {
         }
     }
 
-    /// Appends the record of what came: a datagram, or the turn that follows where nothing did.
+    /// Appends a record, after the note of strangers whose datagrams came since the last one, if there were any.
+    fn put(&mut self, content: Content<'_>) -> Result<(), Closed>
+        ensures put { OnOk result (CapturesNoted self.old.strangers.now.count (option_map W.contents self.old.capture)
+            (option_map W.contents self.new.capture) (told_of content.entry)) }
+        ensures count { OnOk result (self.new.strangers.now ≡ record self.old.strangers.now { count = 0 }) }
+        ensures turns { self.new.has_turns ≡ self.old.has_turns }
+        ensures open { OnOk result (self.new.failed ≡ self.old.failed) }
+        ensures failed { OnErr result (IsTrue self.new.failed) }
+    {
+        let count = self.strangers.count();
+        if count > 0 {
+            self.put_one(Content::Note(Note::Strangers(count)))?;
+        }
+        self.strangers.count_anew();
+        self.put_one(content)
+    }
+
+    /// Appends the note of the turn that follows where nothing came, or a stranger's datagram did, and it isn't waited.
+    fn put_turn(&mut self, patience: Patience) -> Result<(), Closed>
+        ensures put { OnOk result (CapturesAll self.old.strangers.now.count (option_map W.contents self.old.capture)
+            (option_map W.contents self.new.capture) (turn_told self.old.has_turns patience)) }
+        ensures count { OnOk result (self.new.strangers.now
+            ≡ record self.old.strangers.now { count = count_after self.old.strangers.now.count (turn_told self.old.has_turns patience) }) }
+        ensures open { OnOk result (self.new.failed ≡ self.old.failed) }
+        ensures failed { OnErr result (IsTrue self.new.failed) }
+    {
+        if self.has_turns && patience == Patience::Polls {
+            self.put(Content::Note(Note::Turn))
+        } else {
+            Ok(())
+        }
+    }
+
+    /// Appends what is recorded of a stranger's datagram, or counts it, and then the turn that follows.
+    fn put_stranger(
+        &mut self,
+        patience: Patience,
+        from: SocketAddr,
+        bytes: &[u8],
+    ) -> Result<(), Closed>
+        ensures put { OnOk result (CapturesAll (stranger_count self.old.strangers.now) (option_map W.contents self.old.capture)
+            (option_map W.contents self.new.capture)
+            (stranger_told self.old.strangers.now.are_recorded self.old.has_turns self.old.at patience from bytes.now)) }
+        ensures open { OnOk result (self.new.failed ≡ self.old.failed) }
+        ensures failed { OnErr result (IsTrue self.new.failed) }
+    {
+        if self.strangers.are_recorded() {
+            self.put(Content::Datagram {
+                from,
+                to: self.at,
+                bytes,
+            })?;
+        } else {
+            self.strangers.count_one();
+        }
+        self.put_turn(patience)
+    }
+
+    /// Appends the records of what came: a datagram, and the turn that follows where nothing did, or a stranger's.
     fn put_arrival(
         &mut self,
         patience: Patience,
@@ -107,21 +173,21 @@ impl<'a, C: Clock, W: Write + Drop> CapturePort<'a, C, W> {
         buffer: &[u8],
     ) -> Result<(), Closed>
         requires { IfSome came (λ a. a.count ≤ length buffer.now) }
-        ensures put { OnOk result (CapturesSome (option_map W.contents self.old.capture) (option_map W.contents self.new.capture)
-            (arrival_told self.old.has_turns self.old.at patience came buffer.now)) }
+        ensures put { OnOk result (CapturesArrival self.old.strangers.now self.old.has_turns self.old.at patience came buffer.now
+            (option_map W.contents self.old.capture) (option_map W.contents self.new.capture)) }
         ensures open { OnOk result (self.new.failed ≡ self.old.failed) }
         ensures failed { OnErr result (IsTrue self.new.failed) }
     {
         match came {
+            Some(arrival) if self.strangers.has(arrival.from) => {
+                self.put_stranger(patience, arrival.from, &buffer[..arrival.count])
+            }
             Some(arrival) => self.put(Content::Datagram {
                 from: arrival.from,
                 to: self.at,
                 bytes: &buffer[..arrival.count],
             }),
-            None if self.has_turns && patience == Patience::Polls => {
-                self.put(Content::Note(Note::Turn))
-            }
-            None => Ok(()),
+            None => self.put_turn(patience),
         }
     }
 
@@ -132,8 +198,8 @@ impl<'a, C: Clock, W: Write + Drop> CapturePort<'a, C, W> {
         buffer: &mut [u8],
     ) -> Result<Option<Arrival>, Closed>
         ensures bound { IfOk result (λ came. IfSome came (λ a. a.count ≤ length buffer.new)) }
-        ensures recorded { IfOk result (λ came. CapturesSome (option_map W.contents self.old.capture) (option_map W.contents self.new.capture)
-            (arrival_told self.old.has_turns self.old.at patience came buffer.new)) }
+        ensures recorded { IfOk result (λ came. CapturesArrival self.old.strangers.now self.old.has_turns self.old.at patience came buffer.new
+            (option_map W.contents self.old.capture) (option_map W.contents self.new.capture)) }
         ensures closed { self.old.failed ≡ true → IsErr result }
     {
         if self.failed {
@@ -146,8 +212,8 @@ impl<'a, C: Clock, W: Write + Drop> CapturePort<'a, C, W> {
 
     /// Records a datagram, and sends it then.
     fn send_recorded(&mut self, to: SocketAddr, bytes: &[u8])
-        ensures recorded { self.new.failed ≡ false → Captures (option_map W.contents self.old.capture) (option_map W.contents self.new.capture)
-            (datagram (endpoint_of self.old.at) (endpoint_of to) bytes.now) }
+        ensures recorded { self.new.failed ≡ false → CapturesNoted self.old.strangers.now.count (option_map W.contents self.old.capture)
+            (option_map W.contents self.new.capture) (datagram (endpoint_of self.old.at) (endpoint_of to) bytes.now) }
     {
         let content = Content::Datagram {
             from: self.at,

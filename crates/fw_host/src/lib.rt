@@ -15,6 +15,7 @@ mod head_progress;
 mod meter_lines;
 mod meter_list;
 mod meter_store;
+mod strangers;
 
 pub use capture_file::open_capture;
 pub use capture_port::CapturePort;
@@ -28,3 +29,4 @@ pub use head_progress::HeadProgress;
 pub use meter_lines::{activated_line, dropped_line, listening_line};
 pub use meter_list::read_list;
 pub use meter_store::{NewMeter, opened, stored_meter};
+pub use strangers::Strangers;

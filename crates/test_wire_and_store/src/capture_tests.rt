@@ -28,7 +28,7 @@ enum Told {
     Datagram,
     /// Of a datagram of N bytes from an address to itself the refusal, or how many bytes the capture has.
     Size,
-    /// The same as of a datagram of a note at a time.
+    /// The same as of a datagram of a note at a time: a start, a turn, or so many datagrams of strangers.
     Note,
 }
 
@@ -106,7 +106,7 @@ fn note_text(alloc: Global, nanoseconds: u64, name: &str) -> Result<String, Fail
     let note = match name {
         "start" => Note::Start,
         "turn" => Note::Turn,
-        _ => return Err("no note has this name".into()),
+        count => Note::Strangers(count.parse::<u64>()?),
     };
     let captured = Captured {
         nanoseconds,
@@ -118,6 +118,8 @@ fn note_text(alloc: Global, nanoseconds: u64, name: &str) -> Result<String, Fail
 const NOTES: &str = "
     1 start                    => aa00000000010000002000000020000000450000200000400040fd3bdf7f0000017f000001646c6d736677207374617274
     2000000001 turn            => aa02000000010000001f0000001f0000004500001f0000400040fd3be07f0000017f000001646c6d736677207475726e
+    2000000001 258             => aa02000000010000002d0000002d0000004500002d0000400040fd3bd27f0000017f000001646c6d73667720737472616e67657273200000000000000102
+    1 18446744073709551615     => aa00000000010000002d0000002d0000004500002d0000400040fd3bd27f0000017f000001646c6d73667720737472616e6765727320ffffffffffffffff
     18446744073709551615 start => TimePast 1
 ";
 

@@ -1,7 +1,9 @@
 //! The command `head`, and its help.
 
 use super::manual::{CommandOption, Manual, Presence, Takes};
-use super::{DAEMON_CAPTURE, Invocation, WrongValue, address, manual};
+use super::{
+    DAEMON_CAPTURE, DAEMON_CAPTURE_STRANGERS, Invocation, WrongValue, address, manual,
+};
 use clap::{ArgMatches, Command};
 use fw_blocks::Width;
 use fw_cli::HeadOptions;
@@ -45,7 +47,8 @@ A row is asked when nothing of it is outstanding, or after four times its last r
 --resend at first and at least; a quarter longer after each time in which nothing at all came from
 its meter, up to a minute. No more than --flight datagrams are out at once, or those of one row.
 
-With --capture CAPTURE all that is received and sent is appended to CAPTURE, as `meter --help` says it.
+With --capture CAPTURE all that is received and sent is appended to CAPTURE, as `meter --help` says it. A
+stranger's datagram is one from an address that is not in LIST.
 
 Standard output gets these lines, each at once, of which one that can't be written is lost, except for
 the first:
@@ -106,7 +109,8 @@ Exit status:
        NoSuchCampaign  --cancel: the book has no such campaign
        NotLive         --cancel: none of its rows is live
        CaptureFault    CAPTURE can't be made, opened or written; `meter --help` has the causes
-       ForeignCapture  CAPTURE is there, and isn't a capture that a meter or a head end began
+       ForeignCapture  CAPTURE is there, and isn't a capture that a meter or a head end began, or a
+                       packet before its end is damaged
        Output          the first line can't be written to standard output
        OutOfMemory     the system gives no more memory
      Of a row whose end the disk doesn't have nothing was printed.
@@ -172,6 +176,7 @@ const MANUAL: &Manual = &Manual {
             help: "Goes on where no row is live",
         },
         DAEMON_CAPTURE,
+        DAEMON_CAPTURE_STRANGERS,
         CommandOption {
             name: "open",
             takes: Takes::Within("SERIAL", 1, u32::MAX),
@@ -237,6 +242,7 @@ pub(super) fn invoked<'a>(
         timing,
         stays: given.get_flag("stay"),
         capture: given.get_str("capture"),
+        captures_strangers: given.get_flag("capture-strangers"),
     })))
 }
 

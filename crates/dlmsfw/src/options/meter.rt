@@ -1,7 +1,9 @@
 //! The command `meter`, and its help.
 
 use super::manual::{CommandOption, Manual, Presence, Takes};
-use super::{DAEMON_CAPTURE, Invocation, WrongValue, address, manual};
+use super::{
+    DAEMON_CAPTURE, DAEMON_CAPTURE_STRANGERS, Invocation, WrongValue, address, manual,
+};
 use clap::{ArgMatches, Command};
 use fw_cli::MeterOptions;
 use fw_host::NewMeter;
@@ -32,10 +34,11 @@ the files of those before it were opened or made, and stay.
 
 With --capture CAPTURE all that is received and sent is appended to CAPTURE as pcap, which Wireshark and
 `trace` read: each datagram before it is handled or sent, and so its reply isn't sent where CAPTURE can't
-be written. Where no such file is there, it is made, and else it must be such a capture. The start of
-the process is a packet of its own, and so is each turn of a verification in which nothing came; a
-datagram that is dropped while an image is verified has a turn after it. A process that is killed leaves
-whole packets. One process at a time has a CAPTURE.
+be written. Where no such file is there, it is made, and else it must be such a capture, of which what is
+no whole packet at its end is cut off, as a power cut or a full disk leaves it. The start of the process
+is a packet of its own, and so is each turn of a verification. Of datagrams from addresses that may not
+ask just their number is a packet, before the next one, unless --capture-strangers is given. A process
+that is killed leaves whole packets. One process at a time has a CAPTURE.
 
 Standard output gets these lines, each at once, of which one that can't be written is lost, except for
 the first:
@@ -88,7 +91,8 @@ Exit status:
                      such folder, it is a folder, this user may not read and write it, or the disk is
                      full, as it may be at a later datagram too, which is dropped
        ForeignCapture
-                     CAPTURE is there, and isn't a capture that a meter or a head end began
+                     CAPTURE is there, and isn't a capture that a meter or a head end began, or a
+                     packet before its end is damaged; it is left as it is
        Output        the first line can't be written to standard output
        OutOfMemory   the system gives no more memory
      Except at a Socket or a CaptureFault that came later nothing was answered.
@@ -142,6 +146,7 @@ const MANUAL: &Manual = &Manual {
             help: "Runs meters 1 to N, 4096 at most, at ports from PORT on",
         },
         DAEMON_CAPTURE,
+        DAEMON_CAPTURE_STRANGERS,
     ],
 };
 
@@ -175,6 +180,7 @@ pub(super) fn invoked<'a>(
         },
         count: given.get_one("count"),
         capture: given.get_str("capture"),
+        captures_strangers: given.get_flag("capture-strangers"),
     })))
 }
 

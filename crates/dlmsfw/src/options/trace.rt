@@ -17,9 +17,9 @@ one, and `editcap -F pcap` makes one of a file in the form pcapng.
 Standard output gets `N FROM -> TO  WORDS` for each datagram: its number, from 0 on, the addresses
 and ports that it came from and went to, and what it says. A request is for a meter, and anything
 else for a head end. `? (N bytes)` is one that can't be read. A note of dlmsfw has a line too: `start`
-where its process started, or `turn` where a meter took a turn of a verification. Other packets are
-passed over: fragments, and those that aren't UDP over IP. All input is read before anything is
-written.
+where its process started, `turn` where a meter took a turn of a verification, or `strangers N`: so many
+datagrams came from strangers since the packet before, and aren't there. Other packets are passed over:
+fragments, and those that aren't UDP over IP. All input is read before anything is written.
 
 Example:
 
