@@ -3,10 +3,13 @@
 ghost use Rattle.std.specs.Prelude.{◌≡◌, ◌≢◌, MatchBool};
 ghost use Rattle.dlmsfw.specs.Places.{book_place_of, place_of};
 
+use crate::refusal;
+use crate::refusal::Refusal;
 use fw_cli::{HeadOptions, MeterFault, MeterOptions, StatusOptions};
 use fw_faults::Fault;
 use std::fmt;
 use std::net::{Ipv4Addr, Net, SocketAddr, UdpSocket};
+use std::rt::Files;
 
 /// Why no wires could be made. It prints what the user reads after the fault's name.
 #[derive(Clone, Copy)]
@@ -155,6 +158,20 @@ pub(crate) fn place_of<'a>(ended: MeterFault, places: MeterPlaces<'a>) -> Option
     }
 }
 
+/// Why the system refuses what the fault of a meter is about, if that is an address or a file to read, and it refuses it now.
+pub(crate) fn refusal_of(
+    rt: &(impl Net + Files),
+    fault: Fault,
+    place: Option<Place<'_>>,
+) -> Option<Refusal> {
+    match (fault, place?) {
+        (Fault::Socket, Place::Listen(at)) => refusal::of_address(rt, at),
+        (Fault::Socket, Place::ListenOf(first, number)) => refusal::of_addresses(rt, first, number),
+        (Fault::FactoryFault, Place::FactoryFile(path)) => refusal::of_file(rt, path),
+        _ => None,
+    }
+}
+
 /// The address, the files and the serial numbers that a head end is started with, or the file that `status` reads.
 #[derive(Clone, Copy)]
 pub(crate) struct BookPlaces<'a> {
@@ -255,6 +272,20 @@ pub(crate) fn book_place_of<'a>(fault: Fault, places: BookPlaces<'a>) -> Option<
         Fault::CaptureFault | Fault::ForeignCapture => Some(BookPlace::HeadCapture(
             places.capture?,
         )),
+        _ => None,
+    }
+}
+
+/// Why the system refuses what the fault of a head end is about, if that is an address or a file to read, and it refuses it now.
+pub(crate) fn book_refusal_of(
+    rt: &(impl Net + Files),
+    fault: Fault,
+    place: Option<BookPlace<'_>>,
+) -> Option<Refusal> {
+    match (fault, place?) {
+        (Fault::Socket, BookPlace::HeadListen(at)) => refusal::of_address(rt, at),
+        (Fault::ListFault, BookPlace::Meters(path)) => refusal::of_file(rt, path),
+        (Fault::ImageFault, BookPlace::Image(path)) => refusal::of_file(rt, path),
         _ => None,
     }
 }

@@ -11,6 +11,7 @@ ghost use Rattle.dlmsfw.specs.Status.{EndsParse, EndsWith};
 
 mod cause;
 mod options;
+mod refusal;
 mod streams;
 
 use cause::{BookPlaces, CapturePlace, MeterPlaces};
@@ -22,6 +23,7 @@ use fw_cli::{
 };
 use fw_faults::Fault;
 use options::{CaptureOption, Invocation, TraceOptions};
+use refusal::Refusal;
 use std::alloc::Global;
 use std::fmt::Display;
 use std::fs::File;
@@ -346,14 +348,22 @@ fn words<R: AllocGlobal + Env>(rt: &R) -> Result<Vec<String>, Ending<'static>> {
 }
 
 /// Prints why the program ends, and returns its exit status. Where standard error can't be written, the status alone says why.
-fn report(rt: &(impl Print + Eprint + Net), ending: Ending<'_>) -> ExitCode
+fn report(rt: &(impl Print + Eprint + Net + Files), ending: Ending<'_>) -> ExitCode
     ensures { EndsWith ending.entry (exit_status result) }
 {
     match ending {
         Ending::Fault(fault) => fail(rt, fault),
-        Ending::Capture(path) => fail_at(rt, Fault::CaptureFault, Some(CapturePlace(path))),
-        Ending::Meter(ended, places) => { fail_at(rt, ended.fault, cause::place_of(ended, places)) }
-        Ending::Book(fault, places) => fail_at(rt, fault, cause::book_place_of(fault, places)),
+        Ending::Capture(path) => fail_at(rt, Fault::CaptureFault, Some(CapturePlace(path)), None),
+        Ending::Meter(ended, places) => {
+            let place = cause::place_of(ended, places);
+            let refusal = cause::refusal_of(rt, ended.fault, place);
+            fail_at(rt, ended.fault, place, refusal)
+        }
+        Ending::Book(fault, places) => {
+            let place = cause::book_place_of(fault, places);
+            let refusal = cause::book_refusal_of(rt, fault, place);
+            fail_at(rt, fault, place, refusal)
+        }
         Ending::Refused => ExitCode::from(FAULT),
         Ending::CommandLine(error) => report_parse(rt, error),
         Ending::NoText => {
@@ -380,13 +390,25 @@ fn report_parse(rt: &(impl Print + Eprint + Net), error: clap::Error) -> ExitCod
     }
 }
 
-/// Prints the name of a fault of a meter or a head end, and on a second line the option that it is about. Returns its exit status.
-fn fail_at<P: Display + Drop>(rt: &impl Eprint, fault: Fault, place: Option<P>) -> ExitCode
+/// Prints the name of a fault of a meter or a head end, and on a second line the option that it is about, with why the system refuses that, if it
+/// does. Returns its exit status.
+fn fail_at<P: Display + Drop>(
+    rt: &impl Eprint,
+    fault: Fault,
+    place: Option<P>,
+    refusal: Option<Refusal>,
+) -> ExitCode
     ensures { exit_status result ≡ 1 }
 {
     let _ = eprintln!(rt; "dlmsfw: {fault}");
-    if let Some(place) = place {
-        let _ = eprintln!(rt; "{place}");
+    match (place, refusal) {
+        (Some(place), Some(refusal)) => {
+            let _ = eprintln!(rt; "{place}: {refusal}");
+        }
+        (Some(place), None) => {
+            let _ = eprintln!(rt; "{place}");
+        }
+        (None, _) => {}
     }
     ExitCode::from(FAULT)
 }

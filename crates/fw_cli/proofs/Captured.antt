@@ -6,7 +6,7 @@ use Rattle.fw_cli.specs.declared.head.HeadOptions.{HeadOptions}
 use Rattle.fw_cli.specs.Faults.{IsOfMeter}
 use Rattle.fw_cli.specs.Heads.{IsAskedFor}
 use Rattle.fw_host.specs.Captures.{IsOfCapture}
-use Rattle.fw_host.specs.Heads.{IsOfHead}
+use Rattle.fw_host.specs.Heads.{IsOfHeadSetup}
 use Rattle.fw_host.specs.Meters.{IsOfSetup}
 
 pub setup_is_no_capture : (f : Fault) → IsOfSetup f → IsOfCapture f → ⊥
@@ -19,10 +19,10 @@ capture_of_meter fault.CaptureFault is = tt
 capture_of_meter fault.ForeignCapture is = tt
 capture_of_meter f is = absurd is
 
-pub capture_of_head : (f : Fault) → IsOfCapture f → IsOfHead f
-capture_of_head fault.CaptureFault is = tt
-capture_of_head fault.ForeignCapture is = tt
-capture_of_head f is = absurd is
+pub capture_in_setup : (f : Fault) → IsOfCapture f → IsOfHeadSetup f
+capture_in_setup fault.CaptureFault is = tt
+capture_in_setup fault.ForeignCapture is = tt
+capture_in_setup f is = absurd is
 
 pub capture_is_asked : (options : HeadOptions) (f : Fault) → IsTrue (is_some options.capture) → IsOfCapture f → IsAskedFor options f
 capture_is_asked options fault.CaptureFault asked is = asked

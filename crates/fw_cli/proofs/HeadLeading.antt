@@ -1,6 +1,6 @@
 -- Which faults of the command `head` come when, and which options they need.
-use Rattle.std.proofs.Common.{◌≡◌, ℕ, List, Bool, true, false, Option, Some, None, Result, Ok, Err, IfErr, inl, inr, refl, sym, subst, ap}
-use Rattle.std.specs.Prelude.{IsTrue, is_some, ◌⊎◌}
+use Rattle.std.proofs.Common.{◌≡◌, ℕ, List, Bool, true, false, Option, Some, None, Result, Ok, Err, IfErr, All, Contains, inl, inr, refl, sym, subst, ap}
+use Rattle.std.specs.Prelude.{IsTrue, OnOk, is_some, ◌⊎◌}
 use Rattle.fw_book.specs.declared.error.BookError.{BookError}
 use Rattle.fw_rollout.specs.declared.error.Stop.{Stop}
 use Rattle.fw_rollout.specs.declared.error.Stop.TheVariants as stop
@@ -11,7 +11,18 @@ use Rattle.fw_faults.specs.Faults.{fault_of_stop}
 use Rattle.fw_host.specs.Captures.{IsOfCapture}
 use Rattle.fw_host.specs.Heads.{ComesBeforeLines, IsCancelFault, IsOfBook, IsOfHead, IsOfHeadSetup, IsOfLeading, IsOfNewBook, IsOfOldBook, IsOpenFault}
 use Rattle.fw_cli.specs.Heads.{IsAskedFor, IsOfCancelling, IsOfList, IsOfOpening, IsOfOpeningSetup, IsOfStop}
-use Rattle.fw_host.specs.Openings.{PartsRefused}
+use Rattle.fw_names.specs.Name.{Campaign}
+use Rattle.fw_book.specs.Changes.{cancel_refusal, opening_refusal}
+use Rattle.fw_book.specs.Contents.{Contents}
+use Rattle.fw_host.specs.declared.head_opening.part.Part.{Part}
+use Rattle.std.specs.Map.{values_of}
+use Rattle.fw_head.specs.Head.{Head, new_head}
+use Rattle.fw_rollout.specs.declared.link.Listed.{Listed}
+use Rattle.fw_host.specs.Addresses.{HasAddress}
+use Rattle.fw_host.specs.Openings.{IsTakenBy, PartsRefused, campaign_in}
+use Rattle.fw_cli.specs.Judging.{IsAdmitted, IsJudged, IsOpenable}
+use Rattle.fw_cli.specs.declared.head.Asked.{Asked}
+use Rattle.fw_cli.specs.declared.head.Opened.{Opened}
 
 -- ---- the book
 
@@ -24,6 +35,9 @@ old_in_setup fault.Socket is = tt
 old_in_setup (fault.NoAddress meter) is = tt
 old_in_setup (fault.OpenRefused refusal) is = tt
 old_in_setup fault.BookExists is = tt
+old_in_setup (fault.CancelRefused refusal) is = tt
+old_in_setup fault.CaptureFault is = tt
+old_in_setup fault.ForeignCapture is = tt
 old_in_setup f is = is
 
 new_in_setup : (f : Fault) → IsOfNewBook f → IsOfHeadSetup f
@@ -64,9 +78,6 @@ book_is_asked options f is = asked_by options options.book.is_new f refl is
 -- ---- what comes after the first line
 
 pub setup_in_head : (f : Fault) → IsOfHeadSetup f → IsOfHead f
-setup_in_head (fault.CancelRefused refusal) is = tt
-setup_in_head fault.CaptureFault is = tt
-setup_in_head fault.ForeignCapture is = tt
 setup_in_head fault.Full is = tt
 setup_in_head fault.Output is = tt
 setup_in_head f is = is
@@ -180,6 +191,59 @@ address_in_setup f (inr (number, e)) = subst IsOfHeadSetup (sym e) tt
 pub address_is_asked : (options : HeadOptions) (f : Fault) → (f ≡ fault.OutOfMemory) ⊎ ((number : ℕ) × (f ≡ fault.NoAddress number)) → IsAskedFor options f
 address_is_asked options f (inl e) = subst (IsAskedFor options) (sym e) tt
 address_is_asked options f (inr (number, e)) = subst (IsAskedFor options) (sym e) tt
+
+-- ---- what is judged before a file is made
+
+pub absent_in_setup : (f : Fault) → (f ≡ fault.BookExists) ⊎ (f ≡ fault.BookFault) → IsOfHeadSetup f
+absent_in_setup f (inl e) = subst IsOfHeadSetup (sym e) tt
+absent_in_setup f (inr e) = subst IsOfHeadSetup (sym e) tt
+
+pub absent_is_asked : (options : HeadOptions) (f : Fault) → IsTrue options.book.is_new → (f ≡ fault.BookExists) ⊎ (f ≡ fault.BookFault) → IsAskedFor options f
+absent_is_asked options f new (inl e) = subst (IsAskedFor options) (sym e) new
+absent_is_asked options f new (inr e) = subst (IsAskedFor options) (sym e) tt
+
+pub cancel_in_setup : (book : Contents) (campaign : Campaign) (f : Fault)
+    → (e : BookError) × (f ≡ fault.CancelRefused e) × (cancel_refusal book campaign ≡ Some e) → IsOfHeadSetup f
+cancel_in_setup book campaign f (e, is, why) = subst IsOfHeadSetup (sym is) tt
+
+pub cancel_is_asked : (options : HeadOptions) (serial : ℕ) (book : Contents) (campaign : Campaign) (f : Fault) → options.cancel ≡ Some serial
+    → (e : BookError) × (f ≡ fault.CancelRefused e) × (cancel_refusal book campaign ≡ Some e) → IsAskedFor options f
+cancel_is_asked options serial book campaign f asked (e, is, why) =
+    subst (IsAskedFor options) (sym is) (subst (λ (o : Option ℕ). IsTrue (is_some o)) (sym asked) refl)
+
+pub judged_cancel : (book : Contents) (options : HeadOptions) (asked : Asked) (serial : ℕ) (r : Result (Unit {0}) Fault) → options.cancel ≡ Some serial
+    → OnOk r (cancel_refusal book (campaign_in book serial) ≡ None) → OnOk r (IsJudged book options asked)
+judged_cancel book options asked serial r e ok = subst (λ (o : Option ℕ). OnOk r (IsAdmitted book o asked.opened)) (sym e) ok
+
+pub judged_parts : (book : Contents) (options : HeadOptions) (asked : Asked) (opened : Opened) (r : Result (Unit {0}) Fault) → options.cancel ≡ None
+    → asked.opened ≡ Some opened → OnOk r (All (IsTakenBy book opened.release opened.image.items) opened.parts.items) → OnOk r (IsJudged book options asked)
+judged_parts book options asked opened r none some ok =
+    subst (λ (o : Option ℕ). OnOk r (IsAdmitted book o asked.opened)) (sym none)
+    (subst (λ (o : Option Opened). OnOk r (IsOpenable book o)) (sym some) ok)
+
+pub judged_none : (book : Contents) (options : HeadOptions) (asked : Asked) → options.cancel ≡ None → asked.opened ≡ None → IsJudged book options asked
+judged_none book options asked none empty =
+    subst (λ (o : Option ℕ). IsAdmitted book o asked.opened) (sym none) (subst (λ (o : Option Opened). IsOpenable book o) (sym empty) tt)
+
+-- a new head end has no rows
+pub no_rows : (cancelled : Option ℕ) (list : List Listed) (number width : ℕ) (h : Head) → h ≡ new_head number width → All (HasAddress cancelled list) (values_of h.rows)
+no_rows cancelled list number width h new = subst (λ (x : Head). All (HasAddress cancelled list) (values_of x.rows)) (sym new) tt
+
+-- an opening was refused
+abbrev pub IsRefusedPart : Contents → List ℕ → List Part → Fault → Type 0
+IsRefusedPart book image parts f =
+    (part : Part) × Contains parts part × (e : BookError) × (f ≡ fault.OpenRefused e)
+    × (opening_refusal book (campaign_in book part.serial) image part.meters.items ≡ Some e)
+
+pub parts_in_setup : (book : Contents) (image : List ℕ) (parts : List Part) (f : Fault) → IsRefusedPart book image parts f → IsOfHeadSetup f
+parts_in_setup book image parts f refused = subst IsOfHeadSetup (sym refused.1.1.1.0) tt
+
+pub parts_are_asked : (options : HeadOptions) (book : Contents) (image : List ℕ) (parts : List Part) (f : Fault) → IsTrue (is_some options.opening)
+    → IsRefusedPart book image parts f → IsAskedFor options f
+parts_are_asked options book image parts f opened refused = subst (IsAskedFor options) (sym refused.1.1.1.0) opened
+
+pub parts_are_opening : (book : Contents) (image : List ℕ) (parts : List Part) (f : Fault) → IsRefusedPart book image parts f → IsOfOpening f
+parts_are_opening book image parts f refused = subst IsOfOpening (sym refused.1.1.1.0) tt
 
 -- what is said of a fault is said of the one that is passed on
 pub passed_on : {A : Type 0} (r : Result A Fault) (P : Fault → Type 0) (e f : Fault) → r ≡ Err e → e ≡ f → P f → IfErr r P

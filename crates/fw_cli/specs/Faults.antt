@@ -2,7 +2,7 @@
 use Rattle.std.specs.Prelude.{◌≡◌, ◌≢◌, ◌≤◌, ℕ, Option, None, Some, IfSome}
 use Rattle.fw_faults.specs.declared.fault.Fault.{Fault}
 use Rattle.fw_faults.specs.declared.fault.Fault.TheVariants.{BadFates, BadSetup, StoreFault, Device, BadFile, BadHeader, BadImage, Input, TooMuchInput, BadLine, EmptyImage, ImageTooLong, CaptureFault, ForeignCapture, BadCapture, Event, Mismatch, ThreadRefused, Socket, Output, OutOfMemory}
-use Rattle.fw_host.specs.Meters.{IsOfSetup}
+use Rattle.fw_host.specs.Meters.{IsOfSetup, IsOfStore}
 use Rattle.fw_cli.specs.declared.meter.MeterFault.{MeterFault}
 
 -- the faults that come before anything is read
@@ -115,15 +115,6 @@ IsOfServing ForeignCapture = Unit {0}
 IsOfServing Output = Unit {0}
 IsOfServing OutOfMemory = Unit {0}
 IsOfServing fault = ⊥
-
--- those of the file that has a meter
-abbrev pub IsOfStore : Fault → Type 0
-IsOfStore StoreFault = Unit {0}
-IsOfStore Device = Unit {0}
-IsOfStore BadFile = Unit {0}
-IsOfStore BadHeader = Unit {0}
-IsOfStore BadImage = Unit {0}
-IsOfStore fault = ⊥
 
 -- Of `count` meters, the number of one stands with the fault, where it is that of a file. Without a count none does.
 abbrev pub NamesMeter : Option ℕ → MeterFault → Type 0

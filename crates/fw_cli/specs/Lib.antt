@@ -14,3 +14,4 @@ pub mod Laws
 -- For private clauses alone: no public clause cites it.
 pub mod Private
 pub mod Fleets
+pub mod Judging

@@ -25,14 +25,14 @@ ghost use Rattle.fw_store.specs.declared.version.HeaderVersion.TheVariants.{Two}
 ghost use Rattle.fw_cli.specs.Fleets.{IsAddressOf, port_of};
 ghost use Rattle.fw_cli.specs.Faults.{IsOfMeter, IsOfServing, NamesMeter};
 ghost use Rattle.fw_host.specs.Captures.{IsOfCapture};
-ghost use Rattle.fw_host.specs.Meters.{IsOfSetup, default_factory, listening_line};
+ghost use Rattle.fw_host.specs.Meters.{IsOfSetup, IsOfStore, default_factory, listening_line};
 ghost use Rattle.fw_cli.specs.declared.fleet.Member.{Member};
 
+use crate::judged::{Judge, Judged};
 use crate::meter::{Listening, MeterFault, MeterOptions, Teller, closing_fault, opened_capture};
 use fw_daemon::{Dropped, MeterDaemon, Watch, step};
 use fw_faults::{Fault, write_text};
-use fw_host::{CapturePort, Strangers, listening_line, stored_meter};
-use fw_meter::MeterCore;
+use fw_host::{CapturePort, Strangers, listening_line};
 use fw_names::ImageName;
 use fw_port::{Port, UdpPort};
 use fw_store::FileStore;
@@ -56,6 +56,13 @@ struct Member {
     daemon: MeterDaemon<FileStore>,
 }
 
+/// A meter of which nothing is refused any more, with its port, before its file is made.
+#[derive(Drop)]
+struct Site {
+    port: Listening,
+    judged: Judged,
+}
+
 /// A port is closed. It is so since its capture couldn't be written, or since the socket failed.
 #[derive(Clone, Copy, Drop)]
 struct HasFailed(bool);
@@ -69,8 +76,14 @@ impl Member {
         strangers: &mut Strangers,
         capture: Option<&File>,
     ) -> Result<Option<ImageName>, HasFailed> {
-        let mut port =
-            CapturePort::of_meter(rt, alloc, &mut self.port, self.at, strangers, capture);
+        let mut port = CapturePort::of_meter(
+            rt,
+            alloc,
+            &mut self.port,
+            self.at,
+            strangers,
+            capture,
+        );
         match step(alloc, &mut port, &mut self.daemon) {
             Ok(activated) if !port.has_failed() => Ok(activated),
             _ => Err(HasFailed(port.has_failed())),
@@ -106,19 +119,23 @@ pub(crate) fn serve_fleet<R: Files<File = File> + Clock + Net + Wait, W: Write>(
     ensures asked { IfErr result (λ e. IsOfCapture e.fault → IsTrue (is_some options.now.capture)) }
     ensures faults { IfErr result (λ e. IsOfMeter e.fault) }
 {
-    let members = members_of(rt, alloc, options, count)?;
-    match serve_members(rt, alloc, writer, members, options) {
+    let ports = ports_of(rt, alloc, options.listen, count)?;
+    let sites = sites_of(rt, alloc, options, ports, count)?;
+    let file = opened_capture(rt, alloc, options.capture)?;
+    let members = members_of(rt, alloc, options, sites, count)?;
+    match serve_members(rt, alloc, writer, members, file, options) {
         Ok(()) => Ok(()),
         Err(fault) => Err(MeterFault::from(fault)),
     }
 }
 
-/// Serves these meters, until the port of one is closed.
+/// Serves these meters, until the port of one is closed. Where a capture is asked for, this is its file.
 fn serve_members<R: Files<File = File> + Clock + Wait, W: Write>(
     rt: &R,
     alloc: Global,
     writer: &mut W,
     members: Vec<Member>,
+    file: Option<File>,
     options: &MeterOptions<'_>,
 ) -> Result<(), Fault>
     ensures ends { IsErr result }
@@ -137,7 +154,6 @@ fn serve_members<R: Files<File = File> + Clock + Wait, W: Write>(
         },
         faults: 0,
     };
-    let file = opened_capture(rt, alloc, capture)?;
     let lines = listening_lines(alloc, &fleet.members)?;
     write_text(writer, lines.as_str())?;
     let mut teller = Teller::new(rt, alloc, writer);
@@ -145,57 +161,29 @@ fn serve_members<R: Files<File = File> + Clock + Wait, W: Write>(
     Err(closing_fault(capture, has_failed))
 }
 
-/// Meters of the numbers from 1 to this one, with their ports.
-fn members_of<R: Files<File = File> + Net>(
-    rt: &R,
+/// The ports of meters of the numbers from 1 to this one.
+fn ports_of<N: Net>(
+    net: &N,
     alloc: Global,
-    options: &MeterOptions<'_>,
+    first: SocketAddr,
     count: u32,
-) -> Result<Vec<Member>, MeterFault>
-    ensures count { IfOk result (λ members. length members.items ≡ count) }
+) -> Result<Vec<Listening>, MeterFault>
+    ensures count { IfOk result (λ ports. length ports.items ≡ count) }
     ensures number { IfErr result (NamesMeter (Some count)) }
-    ensures bad_setup { options.now.fresh.factory_file ≡ None → IfErr result (λ e. e.fault ≡ Fault.BadSetup
-        → ¬ IsSetup Two options.now.fresh.block_size options.now.fresh.capacity default_factory) }
-    ensures faults { IfErr result (λ e. (e.fault ≡ Fault.Socket) ⊎ IsOfSetup e.fault) }
+    ensures faults { IfErr result (λ e. (e.fault ≡ Fault.Socket) ⊎ (e.fault ≡ Fault.OutOfMemory)) }
 {
-    let mut members = Vec::new(alloc);
+    let mut ports = Vec::new(alloc);
     for before in 0..count {
         let number = before + 1;
-        let member = match new_member(rt, alloc, options, number) {
-            Ok(member) => member,
-            Err(fault) => {
-                return Err(MeterFault {
-                    fault,
-                    number: Some(number),
-                });
-            }
+        let port = match numbered_port(net, first, number) {
+            Ok(port) => port,
+            Err(fault) => return Err(MeterFault::of_meter(fault, number)),
         };
-        if members.push(member).is_err() {
+        if ports.push(port).is_err() {
             return Err(MeterFault::from(Fault::OutOfMemory));
         }
     }
-    Ok(members)
-}
-
-/// The meter of this number, from 1 on.
-fn new_member<R: Files<File = File> + Net>(
-    rt: &R,
-    alloc: Global,
-    options: &MeterOptions<'_>,
-    number: u32,
-) -> Result<Member, Fault>
-    ensures bad_setup { options.now.fresh.factory_file ≡ None → result ≡ Err Fault.BadSetup
-        → ¬ IsSetup Two options.now.fresh.block_size options.now.fresh.capacity default_factory }
-    ensures faults { IfErr result (λ f. (f ≡ Fault.Socket) ⊎ IsOfSetup f) }
-{
-    let Listening { port, at } = numbered_port(rt, options.listen, number)?;
-    let meter = numbered_meter(rt, alloc, options, number)?;
-    let heads = Vec::from_slice(alloc, &options.heads)?;
-    Ok(Member {
-        port,
-        at,
-        daemon: MeterDaemon::new(meter, heads),
-    })
+    Ok(ports)
 }
 
 /// The port of the meter of this number.
@@ -208,20 +196,111 @@ fn numbered_port<N: Net>(net: &N, first: SocketAddr, number: u32) -> Result<List
     }
 }
 
-/// The meter of this number in its file.
-fn numbered_meter<F: Files<File = File>>(
+/// Judges the meters of these ports, of the numbers from 1 to this one. No file is made.
+fn sites_of<F: Files<File = File>>(
     rt: &F,
     alloc: Global,
     options: &MeterOptions<'_>,
+    ports: Vec<Listening>,
+    count: u32,
+) -> Result<Vec<Site>, MeterFault>
+    requires { length ports.items ≡ count }
+    ensures count { IfOk result (λ sites. length sites.items ≡ count) }
+    ensures number { IfErr result (NamesMeter (Some count)) }
+    ensures bad_setup { options.now.fresh.factory_file ≡ None → IfErr result (λ e. e.fault ≡ Fault.BadSetup
+        → ¬ IsSetup Two options.now.fresh.block_size options.now.fresh.capacity default_factory) }
+    ensures faults { IfErr result (λ e. IsOfSetup e.fault) }
+{
+    let mut judge = Judge::of(options.fresh);
+    let mut sites = Vec::new(alloc);
+    let mut before = 0u32;
+    for port in ports {
+        let number = before + 1;
+        let judged = match numbered_meter(rt, alloc, options.store, &mut judge, number) {
+            Ok(judged) => judged,
+            Err(fault) => return Err(MeterFault::of_meter(fault, number)),
+        };
+        if sites.push(Site { port, judged }).is_err() {
+            return Err(MeterFault::from(Fault::OutOfMemory));
+        }
+        before = number;
+    }
+    Ok(sites)
+}
+
+/// Judges the meter of this number.
+fn numbered_meter<F: Files<File = File>>(
+    rt: &F,
+    alloc: Global,
+    store: &str,
+    judge: &mut Judge<'_>,
     number: u32,
-) -> Result<MeterCore<FileStore>, Fault>
-    ensures bad_setup { options.now.fresh.factory_file ≡ None → result ≡ Err Fault.BadSetup
-        → ¬ IsSetup Two options.now.fresh.block_size options.now.fresh.capacity default_factory }
+) -> Result<Judged, Fault>
+    ensures fresh { judge.new.fresh ≡ judge.old.fresh }
+    ensures bad_setup { judge.old.fresh.factory_file ≡ None → result ≡ Err Fault.BadSetup
+        → ¬ IsSetup Two judge.old.fresh.block_size judge.old.fresh.capacity default_factory }
     ensures faults { IfErr result IsOfSetup }
 {
-    let store = options.store;
-    let path = format!(in alloc; "{store}.{number}")?;
-    stored_meter(rt, alloc, path.as_str(), &options.fresh)
+    let path = numbered_path(alloc, store, number)?;
+    judge.meter(rt, alloc, path.as_str())
+}
+
+/// The path of the file of the meter of this number.
+fn numbered_path(alloc: Global, store: &str, number: u32) -> Result<String, AllocError> {
+    format!(in alloc; "{store}.{number}")
+}
+
+/// The judged meters of the numbers from 1 to this one, of which each that has no file gets one.
+fn members_of<F: Files<File = File>>(
+    rt: &F,
+    alloc: Global,
+    options: &MeterOptions<'_>,
+    sites: Vec<Site>,
+    count: u32,
+) -> Result<Vec<Member>, MeterFault>
+    requires { length sites.items ≡ count }
+    ensures count { IfOk result (λ members. length members.items ≡ count) }
+    ensures number { IfErr result (NamesMeter (Some count)) }
+    ensures faults { IfErr result (λ e. (e.fault ≡ Fault.OutOfMemory) ⊎ IsOfStore e.fault) }
+{
+    let mut members = Vec::new(alloc);
+    let mut before = 0u32;
+    for site in sites {
+        let number = before + 1;
+        let member = match new_member(rt, alloc, options, site, number) {
+            Ok(member) => member,
+            Err(fault) => return Err(MeterFault::of_meter(fault, number)),
+        };
+        if members.push(member).is_err() {
+            return Err(MeterFault::from(Fault::OutOfMemory));
+        }
+        before = number;
+    }
+    Ok(members)
+}
+
+/// The judged meter of this number, which gets a file where it has none.
+fn new_member<F: Files<File = File>>(
+    rt: &F,
+    alloc: Global,
+    options: &MeterOptions<'_>,
+    site: Site,
+    number: u32,
+) -> Result<Member, Fault>
+    ensures faults { IfErr result (λ f. (f ≡ Fault.OutOfMemory) ⊎ IsOfStore f) }
+{
+    let Site {
+        port: Listening { port, at },
+        judged,
+    } = site;
+    let heads = Vec::from_slice(alloc, &options.heads)?;
+    let path = numbered_path(alloc, options.store, number)?;
+    let meter = judged.made(rt, path.as_str())?;
+    Ok(Member {
+        port,
+        at,
+        daemon: MeterDaemon::new(meter, heads),
+    })
 }
 
 /// The address that the meter of this number receives at, if there is such a port: as many ports after that of the first meter as there are

@@ -9,16 +9,18 @@ ghost use Rattle.fw_rollout.specs.Leading.{Leader};
 ghost use Rattle.fw_host.specs.Addresses.{HasAddress};
 ghost use Rattle.fw_host.specs.Captures.{IsOfCapture};
 ghost use Rattle.fw_host.specs.Heads.{ComesBeforeLines, IsOfHead, IsOfHeadSetup, IsOfLeading};
+ghost use Rattle.fw_book.specs.Changes.{empty_book};
+ghost use Rattle.fw_cli.specs.Judging.{IsJudged};
 ghost use Rattle.fw_cli.specs.Heads.{IsAskedFor, IsOfCancelling, IsOfList, IsOfOpening, IsOfOpeningSetup, IsOfStop};
 
-use crate::meter::{Listening, closing_fault, opened_capture, tell_listening};
+use crate::meter::{Listening, RecordedPort, closing_fault, opened_capture, tell_listening};
 use fw_blocks::Width;
-use fw_book::BookError;
+use fw_book::{Book, BookError};
 use fw_faults::{Fault, Reads, read_input, write_text};
 use fw_host::{
     BookOptions, CapturePort, HeadProgress, Opening, Part, Strangers, UdpHeadPort, cancel,
-    cancelled_line, check_addresses, check_part, is_open, kept_head, open_part, opened_line,
-    over_line, parts_of, read_list,
+    cancelled_line, check_absent, check_addresses, check_cancel, check_parts, is_open, kept_head,
+    open_part, opened_line, over_line, parts_of, read_list,
 };
 use fw_journal::{FileDevice, JournalDevice};
 use fw_kept::KeptHead;
@@ -68,6 +70,9 @@ pub struct HeadOptions<'a> {
 /// and sent, each before it is handled or sent. What comes from addresses that are not in the list is counted in it, unless that is asked for
 /// too.
 ///
+/// All is judged before a file is made: the list, the image, the socket, and what is cancelled and opened, as far as the book is known then. The
+/// file of the capture comes next, and a new book last.
+///
 /// The writer gets the line `listening ..`, once datagrams are received, `cancelled ..` and `opened ..` for each campaign, `row ..` for each
 /// row that ended, each once the disk has it, and `over ..` at the end. Each is flushed. After the first, a line that can't be written is
 /// lost. How far it is, is shown on the terminal, if there is one. Standard error is told of records that the book lacks, and of the file
@@ -90,7 +95,8 @@ pub struct HeadOptions<'a> {
 /// - `Output`: the first line can't be written.
 /// - `OutOfMemory`.
 ///
-/// Up to `NoAddress` nothing was sent, and the book is as before. Up to `OpenRefused` nothing was sent.
+/// Up to `ForeignCapture` nothing was sent, the book is as before, and no new one is made. So it is at `CancelRefused`, and at `OpenRefused`
+/// where nothing is cancelled first. Up to `OpenRefused` nothing was sent.
 pub fn run_head<R: Files<File = File> + Clock + Eprint + Net + Wait, W: Write, E: Eprint>(
     rt: &R,
     alloc: Global,
@@ -107,10 +113,10 @@ pub fn run_head<R: Files<File = File> + Clock + Eprint + Net + Wait, W: Write, E
     let Ready {
         port,
         at,
+        file,
         mut asked,
         mut kept,
     } = set_up(rt, alloc, options)?;
-    let capture = opened_capture(rt, alloc, options.capture)?;
     let strangers = strangers_of(alloc, options, asked.list.meters())?;
     tell_listening(alloc, writer, at)?;
     begin(alloc, writer, &mut kept, asked.opened.take(), options)?;
@@ -124,7 +130,7 @@ pub fn run_head<R: Files<File = File> + Clock + Eprint + Net + Wait, W: Write, E
             port,
             at,
             strangers,
-            file: capture,
+            file,
             capture: options.capture,
         },
         &mut daemon,
@@ -145,21 +151,13 @@ fn strangers_of(
     }
 }
 
-/// A socket with its address and with the file of its capture, where one is asked for.
-#[derive(Drop)]
-struct RecordedPort<'a> {
-    port: UdpPort,
-    at: SocketAddr,
-    strangers: Strangers,
-    file: Option<File>,
-    capture: Option<&'a str>,
-}
-
 /// All that the command needs before its first line.
 #[derive(Drop)]
 struct Ready {
     port: UdpPort,
     at: SocketAddr,
+    /// The file of the capture, where one is asked for.
+    file: Option<File>,
     asked: Asked,
     kept: KeptHead<FileDevice>,
 }
@@ -185,8 +183,9 @@ struct Opened {
     image: Vec<u8>,
 }
 
-/// Reads the list and the image, binds the socket, and opens the book.
-fn set_up<R: Files<File = File> + Eprint + Net>(
+/// Reads the list and the image, binds the socket, and opens the book. A file is made once all of this is judged: that of the capture, and then
+/// a new book.
+fn set_up<R: Files<File = File> + Clock + Eprint + Net>(
     rt: &R,
     alloc: Global,
     options: &HeadOptions<'_>,
@@ -199,10 +198,11 @@ fn set_up<R: Files<File = File> + Eprint + Net>(
 {
     let asked = asked_of(rt, alloc, options)?;
     let Listening { port, at } = Listening::of(UdpPort::bind_for(rt, options.listen, WAIT_LIMIT))?;
-    let kept = led_head(rt, alloc, options, asked.list.meters())?;
+    let Led { kept, file } = led_head(rt, alloc, options, &asked)?;
     Ok(Ready {
         port,
         at,
+        file,
         asked,
         kept,
     })
@@ -229,21 +229,104 @@ fn asked_of<F: Files<File = File> + Net>(
     })
 }
 
-/// The head end with its book, each of whose meters that it has to ask is in the list.
-fn led_head<F: Files<File = File> + Eprint>(
-    rt: &F,
+/// A head end with its book, and the file of the capture, where one is asked for.
+#[derive(Drop)]
+struct Led {
+    kept: KeptHead<FileDevice>,
+    file: Option<File>,
+}
+
+/// The head end with its book, which is made last where it is to be new. Each meter that it has to ask is in the list.
+fn led_head<R: Files<File = File> + Clock + Eprint>(
+    rt: &R,
     alloc: Global,
     options: &HeadOptions<'_>,
-    list: &[Listed],
-) -> Result<KeptHead<FileDevice>, Fault>
-    ensures number { IfOk result (λ kept. (book_of kept).head ≡ options.now.head) }
-    ensures addresses { IfOk result (λ kept. All (HasAddress options.now.cancel list.now) (values_of (head_of kept).rows)) }
+    asked: &Asked,
+) -> Result<Led, Fault>
+    requires opened { IsTrue (is_some asked.now.opened) → IsTrue (is_some options.now.opening) }
+    ensures number { IfOk result (λ led. (book_of led.kept).head ≡ options.now.head) }
+    ensures addresses { IfOk result (λ led. All (HasAddress options.now.cancel asked.now.list) (values_of (head_of led.kept).rows)) }
+    ensures asked { IfErr result (IsAskedFor options.now) }
+    ensures faults { IfErr result IsOfHeadSetup }
+{
+    if options.book.is_new {
+        new_head(rt, alloc, options, asked)
+    } else {
+        old_head(rt, alloc, options, asked)
+    }
+}
+
+/// The head end with a book that is there, each of whose meters that it has to ask is in the list.
+fn old_head<R: Files<File = File> + Clock + Eprint>(
+    rt: &R,
+    alloc: Global,
+    options: &HeadOptions<'_>,
+    asked: &Asked,
+) -> Result<Led, Fault>
+    requires opened { IsTrue (is_some asked.now.opened) → IsTrue (is_some options.now.opening) }
+    ensures number { IfOk result (λ led. (book_of led.kept).head ≡ options.now.head) }
+    ensures addresses { IfOk result (λ led. All (HasAddress options.now.cancel asked.now.list) (values_of (head_of led.kept).rows)) }
     ensures asked { IfErr result (IsAskedFor options.now) }
     ensures faults { IfErr result IsOfHeadSetup }
 {
     let kept = kept_head(rt, alloc, options.book, options.head, options.width)?;
-    check_addresses(alloc, &kept, list, options.cancel)?;
-    Ok(kept)
+    check_addresses(alloc, &kept, asked.list.meters(), options.cancel)?;
+    judge(kept.head().view().book, options, asked)?;
+    let file = opened_capture(rt, alloc, options.capture)?;
+    Ok(Led { kept, file })
+}
+
+/// The head end with a new book. All that it may refuse is judged before a file is made.
+fn new_head<R: Files<File = File> + Clock + Eprint>(
+    rt: &R,
+    alloc: Global,
+    options: &HeadOptions<'_>,
+    asked: &Asked,
+) -> Result<Led, Fault>
+    requires is_new { IsTrue options.now.book.is_new }
+    requires opened { IsTrue (is_some asked.now.opened) → IsTrue (is_some options.now.opening) }
+    ensures number { IfOk result (λ led. (book_of led.kept).head ≡ options.now.head) }
+    ensures addresses { IfOk result (λ led. All (HasAddress options.now.cancel asked.now.list) (values_of (head_of led.kept).rows)) }
+    ensures asked { IfErr result (IsAskedFor options.now) }
+    ensures faults { IfErr result IsOfHeadSetup }
+{
+    check_absent(rt, options.book.path)?;
+    judge(&Book::new(alloc, options.head), options, asked)?;
+    made_head(rt, alloc, options, asked)
+}
+
+/// The head end with a new book, which takes what is asked of it. Its file is made last.
+fn made_head<R: Files<File = File> + Clock + Eprint>(
+    rt: &R,
+    alloc: Global,
+    options: &HeadOptions<'_>,
+    asked: &Asked,
+) -> Result<Led, Fault>
+    requires is_new { IsTrue options.now.book.is_new }
+    requires judged { IsJudged (empty_book options.now.head) options.now asked.now }
+    ensures number { IfOk result (λ led. (book_of led.kept).head ≡ options.now.head) }
+    ensures addresses { IfOk result (λ led. All (HasAddress options.now.cancel asked.now.list) (values_of (head_of led.kept).rows)) }
+    ensures asked { IfErr result (IsAskedFor options.now) }
+    ensures faults { IfErr result IsOfHeadSetup }
+{
+    let file = opened_capture(rt, alloc, options.capture)?;
+    let made = kept_head(rt, alloc, options.book, options.head, options.width)?;
+    Ok(Led { kept: made, file })
+}
+
+/// Judges what is asked of a book. Where a campaign is cancelled first, which lets go of its meters, openings are judged once it is.
+fn judge(book: &Book, options: &HeadOptions<'_>, asked: &Asked) -> Result<(), Fault>
+    ensures judged { OnOk result (IsJudged book.now options.now asked.now) }
+    ensures asked { (IsTrue (is_some asked.now.opened) → IsTrue (is_some options.now.opening)) → IfErr result (IsAskedFor options.now) }
+    ensures faults { IfErr result IsOfHeadSetup }
+{
+    if let Some(serial) = options.cancel {
+        return check_cancel(book, serial);
+    }
+    match &asked.opened {
+        Some(opened) => check_parts(book, &opened.parts, opened.release, &opened.image),
+        None => Ok(()),
+    }
 }
 
 /// The meters of the list in a file, for a head end at this address.
@@ -359,13 +442,9 @@ fn open_all<W: Write>(
         release,
         image,
     } = opened;
+    check_parts(kept.head().view().book, parts, *release, image)?;
     for part in parts {
-        if !is_open(kept, part, *release, image) {
-            check_part(kept, part, image)?;
-        }
-    }
-    for part in parts {
-        if !is_open(kept, part, *release, image) {
+        if !is_open(kept.head().view().book, part, *release, image) {
             let name = open_part(alloc, kept, part, *release, image)?;
             if let Ok(line) = opened_line(alloc, name) {
                 let _lost = write_text(writer, line.as_str());

@@ -5,6 +5,7 @@ mod answer;
 mod capture;
 mod fleet;
 mod head;
+mod judged;
 pub mod laws;
 mod live;
 mod meter;

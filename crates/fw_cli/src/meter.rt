@@ -1,6 +1,6 @@
 //! The command `meter`: a meter in a file answers datagrams over UDP until it is ended.
 
-ghost use Rattle.std.specs.Prelude.{◌≡◌, ◌≢◌, ◌⊎◌, None, IfErr, IfOk, IsErr, IsTrue, OnErr, OnOk, is_some};
+ghost use Rattle.std.specs.Prelude.{◌≡◌, ◌≢◌, ◌⊎◌, None, Some, IfErr, IfOk, IsErr, IsTrue, OnErr, OnOk, is_some};
 ghost use Rattle.std.specs.Io.KnownBytes.{Appends, Keeps};
 ghost use Rattle.fw_store.specs.Setup.{IsSetup};
 ghost use Rattle.fw_store.specs.declared.version.HeaderVersion.TheVariants.{Two};
@@ -9,11 +9,11 @@ ghost use Rattle.fw_host.specs.Captures.{IsOfCapture};
 ghost use Rattle.fw_host.specs.Meters.{activated_line, default_factory, dropped_line, listening_line};
 
 use crate::fleet::serve_fleet;
+use crate::judged::Judge;
 use fw_daemon::{Dropped, MeterDaemon, Watch, serve};
 use fw_faults::{Fault, write_text};
 use fw_host::{
     CapturePort, NewMeter, Strangers, activated_line, dropped_line, listening_line, open_capture,
-    stored_meter,
 };
 use fw_names::ImageName;
 use fw_port::{Closed, SocketError, UdpPort};
@@ -57,6 +57,19 @@ pub struct MeterFault {
     pub number: Option<u32>,
 }
 
+impl MeterFault {
+    /// The fault of the meter of this number.
+    pub(crate) fn of_meter(fault: Fault, number: u32) -> MeterFault
+        ensures fault { result.fault ≡ fault }
+        ensures number { result.number ≡ Some number }
+    {
+        MeterFault {
+            fault,
+            number: Some(number),
+        }
+    }
+}
+
 impl From<Fault> for MeterFault {
     ghost from_gives = { λ fault ended. ended ≡ record { fault = fault; number = None } };
 
@@ -77,6 +90,9 @@ impl From<Fault> for MeterFault {
 /// and sent, each before it is handled or sent, and each turn of a verification. What comes from addresses that may not ask is counted in it,
 /// unless that is asked for too.
 ///
+/// All sockets are bound first. Then each meter's file that is there is opened, and what new meters are made with is judged. The file of the
+/// capture comes next, and new files of meters last.
+///
 /// The writer gets the line `listening ..`, once datagrams are received, `activated ..` for each image that the meter switches to, and
 /// `dropped ..` where more was dropped, once a minute at most. Each is flushed. After the first, a line that can't be written is lost.
 ///
@@ -84,16 +100,16 @@ impl From<Fault> for MeterFault {
 ///
 /// It ends by one of these alone, with the number of the meter that couldn't be set up, if there is a count.
 ///
-/// - `Socket`: the address can't be received at, or is past port 65,535. No file was made, except for meters before it. Or the socket failed
-///   1,000 times in a row while the meter served.
-/// - `StoreFault`: the file can't be made or opened, or another store has it open.
+/// - `Socket`: the address can't be received at, or is past port 65,535. No file was made. Or the socket failed 1,000 times in a row while the
+///   meter served.
+/// - `StoreFault`: the file can't be opened, or another store has it open; no file of a meter was made. Or it can't be made.
 /// - `Device`, which prints `Fault`: the file can't be read, or its header not be written in version 2.
 /// - `BadFile`, `BadHeader` or `BadImage`: the file holds no meter. It is left as it is.
 /// - `FactoryFault`: no file is there, and the one of the factory image can't be read. No file was made.
 /// - `BadSetup`: no file is there, and the options describe no meter. No file was made.
-/// - `CaptureFault`: the file of the capture can't be made or opened, or another process has it. Or a record can't be written while the meter
-///   serves: what it is of wasn't handled or sent.
-/// - `ForeignCapture`: the file holds something else than a capture of a daemon. It is left as it is.
+/// - `CaptureFault`: the file of the capture can't be made or opened, or another process has it. No file of a meter was made. Or a record can't
+///   be written while the meter serves: what it is of wasn't handled or sent.
+/// - `ForeignCapture`: the file holds something else than a capture of a daemon. It is left as it is, and no file of a meter was made.
 /// - `Output`: the first line can't be written.
 /// - `OutOfMemory`: it didn't serve.
 pub fn run_meter<R: Files<File = File> + Clock + Net + Wait, W: Write>(
@@ -135,43 +151,61 @@ fn serve_one<R: Files<File = File> + Clock + Net + Wait, W: Write>(
     ensures asked { IfErr result (λ f. IsOfCapture f → IsTrue (is_some options.entry.capture)) }
     ensures faults { IfErr result IsOfMeter }
 {
-    let listening = Listening::of(UdpPort::bind(rt, options.listen))?;
-    let meter = stored_meter(rt, alloc, options.store, &options.fresh)?;
+    let Listening { port, at } = Listening::of(UdpPort::bind(rt, options.listen))?;
+    let judged = Judge::of(options.fresh).meter(rt, alloc, options.store)?;
     let strangers = Strangers::of_meter(alloc, &options.heads, options.captures_strangers)?;
+    let file = opened_capture(rt, alloc, options.capture)?;
+    let meter = judged.made(rt, options.store)?;
     let mut daemon = MeterDaemon::new(meter, options.heads);
     serve_daemon(
         rt,
         alloc,
         writer,
-        listening,
+        RecordedPort {
+            port,
+            at,
+            strangers,
+            file,
+            capture: options.capture,
+        },
         &mut daemon,
-        strangers,
-        options.capture,
     )
 }
 
-/// Serves this meter, until its port is closed. Where a capture is asked for, it is the file of this path.
+/// A socket with its address, with those who are strangers to it, and with the file of its capture, where one is asked for.
+#[derive(Drop)]
+pub(crate) struct RecordedPort<'a> {
+    pub(crate) port: UdpPort,
+    pub(crate) at: SocketAddr,
+    pub(crate) strangers: Strangers,
+    pub(crate) file: Option<File>,
+    pub(crate) capture: Option<&'a str>,
+}
+
+/// Serves this meter, until its port is closed.
 fn serve_daemon<R: Files<File = File> + Clock + Wait, W: Write>(
     rt: &R,
     alloc: Global,
     writer: &mut W,
-    listening: Listening,
+    port: RecordedPort<'_>,
     daemon: &mut MeterDaemon<FileStore>,
-    strangers: Strangers,
-    capture: Option<&str>,
 ) -> Result<(), Fault>
     ensures ends { IsErr result }
     ensures silent { IfErr result (λ f. f ≢ Fault.Socket → f ≢ Fault.Output → f ≢ Fault.CaptureFault
         → Keeps (W.contents writer.old) (W.contents writer.new)) }
-    ensures asked { IfErr result (λ f. IsOfCapture f → IsTrue (is_some capture.entry)) }
+    ensures asked { IfErr result (λ f. IsOfCapture f → IsTrue (is_some port.entry.capture)) }
     ensures faults { IfErr result IsOfServing }
 {
-    let Listening { mut port, at } = listening;
-    let mut strangers = strangers;
-    let file = opened_capture(rt, alloc, capture)?;
+    let RecordedPort {
+        port: mut socket,
+        at,
+        mut strangers,
+        file,
+        capture,
+    } = port;
     tell_listening(alloc, writer, at)?;
     let mut teller = Teller::new(rt, alloc, writer);
-    let mut port = CapturePort::of_meter(rt, alloc, &mut port, at, &mut strangers, file);
+    let mut port = CapturePort::of_meter(rt, alloc, &mut socket, at, &mut strangers, file);
     let Closed = serve(rt, alloc, &mut port, daemon, &mut teller);
     Err(closing_fault(capture, port.has_failed()))
 }

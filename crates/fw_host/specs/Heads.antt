@@ -79,14 +79,14 @@ IsOfHeadSetup BadSetup = Unit {0}
 IsOfHeadSetup Socket = Unit {0}
 IsOfHeadSetup (NoAddress meter) = Unit {0}
 IsOfHeadSetup (OpenRefused refusal) = Unit {0}
+IsOfHeadSetup (CancelRefused refusal) = Unit {0}
 IsOfHeadSetup BookExists = Unit {0}
+IsOfHeadSetup CaptureFault = Unit {0}
+IsOfHeadSetup ForeignCapture = Unit {0}
 IsOfHeadSetup fault = IsOfOldBook fault
 
 -- of `head`
 abbrev pub IsOfHead : Fault → Type 0
-IsOfHead (CancelRefused refusal) = Unit {0}
-IsOfHead CaptureFault = Unit {0}
-IsOfHead ForeignCapture = Unit {0}
 IsOfHead Full = Unit {0}
 IsOfHead Output = Unit {0}
 IsOfHead fault = IsOfHeadSetup fault

@@ -28,14 +28,25 @@ dropped_line dropped faults =
 abbrev pub default_factory : List ℕ
 default_factory = codes "abc"
 
+-- those of the file that has a meter
+abbrev pub IsOfStore : Fault → Type 0
+IsOfStore StoreFault = Unit {0}
+IsOfStore Device = Unit {0}
+IsOfStore BadFile = Unit {0}
+IsOfStore BadHeader = Unit {0}
+IsOfStore BadImage = Unit {0}
+IsOfStore fault = ⊥
+
+-- those of what a new store is made with, before it is made
+abbrev pub IsOfNewStore : Fault → Type 0
+IsOfNewStore BadSetup = Unit {0}
+IsOfNewStore FactoryFault = Unit {0}
+IsOfNewStore OutOfMemory = Unit {0}
+IsOfNewStore fault = ⊥
+
 -- the faults of the set-up of a meter in a file
 abbrev pub IsOfSetup : Fault → Type 0
 IsOfSetup BadSetup = Unit {0}
-IsOfSetup StoreFault = Unit {0}
-IsOfSetup Device = Unit {0}
-IsOfSetup BadFile = Unit {0}
-IsOfSetup BadHeader = Unit {0}
-IsOfSetup BadImage = Unit {0}
 IsOfSetup FactoryFault = Unit {0}
 IsOfSetup OutOfMemory = Unit {0}
-IsOfSetup fault = ⊥
+IsOfSetup fault = IsOfStore fault

@@ -1,8 +1,10 @@
 -- Public vocabulary: the campaigns of an opening, and when the book has one of them already.
-use Rattle.std.specs.Prelude.{◌≡◌, ◌⊎◌, ℕ, ◌+◌, ◌/◌, ◌<◌, ◌-◌, ◌≤◌, ◌^◌, List, [], map, length, All}
+use Rattle.std.specs.Prelude.{◌≡◌, ◌⊎◌, ℕ, ◌+◌, ◌/◌, ◌<◌, ◌-◌, ◌≤◌, ◌^◌, List, [], map, length, All, IsSomeAnd, None}
 use Rattle.std.specs.List.{flat_map, range_with_len}
 use Rattle.fw_book.specs.declared.error.BookError.TheVariants.{NoMeters}
-use Rattle.fw_book.specs.Contents.{Offered, max_meters}
+use Rattle.fw_names.specs.Name.{Campaign}
+use Rattle.fw_book.specs.Changes.{opening_refusal}
+use Rattle.fw_book.specs.Contents.{Contents, Offered, max_meters, offered_in}
 use Rattle.fw_book.specs.Rows.{meters_of}
 use Rattle.fw_rollout.specs.declared.link.Listed.{Listed}
 use Rattle.fw_faults.specs.declared.fault.Fault.{Fault}
@@ -43,3 +45,17 @@ pub record IsOfferOf (release : ℕ) (image meters : List ℕ) (offer : Offered)
   pub release_is : offer.release ≡ release
   pub image_is : offer.image ≡ image
   pub meters_are : meters_of offer.rows ≡ meters
+
+-- the campaign of this serial number, of the head end whose book it is
+abbrev pub campaign_in : Contents → ℕ → Campaign
+campaign_in book serial = record { head = book.head; serial = serial }
+
+-- the book has this campaign already, for just this image and these meters
+abbrev pub IsOpenIn : Contents → ℕ → List ℕ → Part → Type 0
+IsOpenIn book release image part =
+    IsSomeAnd (offered_in book (campaign_in book part.serial)) (IsOfferOf release image part.meters.items)
+
+-- the book has it, or refuses it for nothing
+abbrev pub IsTakenBy : Contents → ℕ → List ℕ → Part → Type 0
+IsTakenBy book release image part =
+    IsOpenIn book release image part ⊎ (opening_refusal book (campaign_in book part.serial) image part.meters.items ≡ None)

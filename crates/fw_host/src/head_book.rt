@@ -1,6 +1,6 @@
 //! The book of the command `head`, in a file.
 
-ghost use Rattle.std.specs.Prelude.{◌≡◌, ◌≢◌, ◌≤◌, ℕ, List, IfErr, IfOk, IsTrue, OnOk};
+ghost use Rattle.std.specs.Prelude.{◌≡◌, ◌≢◌, ◌≤◌, ◌⊎◌, ℕ, List, IfErr, IfOk, IsTrue, OnOk};
 ghost use Rattle.fw_head.specs.Head.{BeginsWith, new_head};
 ghost use Rattle.fw_journal.specs.Book.{Drops};
 ghost use Rattle.fw_journal.specs.Refusals.{IsFileRefusal};
@@ -204,9 +204,13 @@ fn make<F: Files<File = File>>(
     Ok(kept)
 }
 
-/// Checks that no file is there.
-fn check_absent<F: Files<File = File>>(rt: &F, path: &str) -> Result<(), Fault>
-    ensures faults { IfErr result IsOfNewBook }
+/// Checks that no file is there. A new book begins with that.
+///
+/// # Errors
+///
+/// `BookExists`, and `BookFault` where it can't be looked for.
+pub fn check_absent<F: Files<File = File>>(rt: &F, path: &str) -> Result<(), Fault>
+    ensures faults { IfErr result (λ f. (f ≡ Fault.BookExists) ⊎ (f ≡ Fault.BookFault)) }
 {
     match fs::exists(rt, path) {
         Ok(false) => Ok(()),

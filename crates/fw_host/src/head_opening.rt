@@ -4,10 +4,11 @@ ghost use Rattle.std.specs.Prelude.{
   ◌≡◌,
   ◌≤◌,
   ◌↔◌,
+  All,
+  Contains,
   IfErr,
   IfOk,
   IsErrOf,
-  IsSomeAnd,
   IsTrue,
   None,
   OnErr,
@@ -16,17 +17,18 @@ ghost use Rattle.std.specs.Prelude.{
 };
 ghost use Rattle.fw_names.specs.Name.{name_of};
 ghost use Rattle.fw_book.specs.Changes.{cancel_refusal, opening_refusal};
-ghost use Rattle.fw_book.specs.Contents.{Contents, offered_in};
+ghost use Rattle.fw_book.specs.Contents.{Contents};
 ghost use Rattle.fw_book.specs.Rows.{meters_of};
 ghost use Rattle.fw_book.specs.declared.error.BookError.{BookError};
 ghost use Rattle.fw_head.specs.Head.{campaign_at, cancelled_head, opened_head};
 ghost use Rattle.fw_kept.specs.Head.{Holds, book_of, head_of};
 ghost use Rattle.fw_host.specs.Heads.{IsCancelFault, IsOfLeading, IsOpenFault};
-ghost use Rattle.fw_host.specs.Openings.{ArePartsOf, IsOfferOf, PartsRefused, listed_meters};
+ghost use Rattle.fw_host.specs.declared.head_opening.part.Part.{Part};
+ghost use Rattle.fw_host.specs.Openings.{ArePartsOf, IsOpenIn, IsTakenBy, PartsRefused, campaign_in, listed_meters};
 
 mod part;
 
-use fw_book::{BookError, MAX_METERS, Row};
+use fw_book::{Book, BookError, MAX_METERS, Row};
 use fw_faults::Fault;
 use fw_journal::JournalDevice;
 use fw_kept::{KeptError, KeptHead};
@@ -82,17 +84,11 @@ fn listed_meters(alloc: Global, list: &[Listed]) -> Result<Vec<MeterId>, AllocEr
     list.iter().map(|at| at.meter).collect(alloc)
 }
 
-/// Whether the head end has this campaign already, for this image and these meters.
-pub fn is_open<D: JournalDevice>(
-    kept: &KeptHead<D>,
-    part: &Part,
-    release: u32,
-    image: &[u8],
-) -> bool
-    ensures { IsTrue result ↔ IsSomeAnd (offered_in (book_of kept.now) (campaign_at (head_of kept.now) part.now.serial))
-        (IsOfferOf release image.now part.now.meters.items) }
+/// Whether the book has this campaign already, for this image and these meters.
+pub fn is_open(book: &Book, part: &Part, release: u32, image: &[u8]) -> bool
+    ensures { IsTrue result ↔ IsOpenIn book.now release image.now part.now }
 {
-    match kept.head().view().book.offer(campaign_of(kept, part)) {
+    match book.offer(campaign_of(book, part)) {
         Some(offer) => offer.release() == release
             && offer.image() == image
             && are_of(offer.rows(), &part.meters),
@@ -111,41 +107,63 @@ fn are_of(rows: &[Row], meters: &[MeterId]) -> bool
             .all(|(row, meter)| row.meter == *meter)
 }
 
-/// The campaign of a part, at this head end.
-fn campaign_of<D: JournalDevice>(kept: &KeptHead<D>, part: &Part) -> CampaignId
-    ensures { result ≡ campaign_at (head_of kept.now) part.now.serial }
+/// The campaign of a part, at the head end of this book.
+fn campaign_of(book: &Book, part: &Part) -> CampaignId
+    ensures { result ≡ campaign_in book.now part.now.serial }
 {
-    match CampaignId::new(kept.head().view().book.head(), part.serial) {
+    match CampaignId::new(book.head(), part.serial) {
         Some(campaign) => campaign,
         None => unreachable!(),
     }
 }
 
-/// Checks that the head end takes a campaign of an opening, as far as it is known before those before it are opened.
+/// Checks that a book takes each campaign of an opening that it hasn't already, as far as it is known before those before it are opened.
 ///
 /// # Errors
 ///
-/// `OpenRefused` with the first refusal of the book.
-pub fn check_part<D: JournalDevice>(
-    kept: &KeptHead<D>,
-    part: &Part,
-    image: &[u8],
-) -> Result<(), Fault>
-    ensures admitted { OnOk result (opening_refusal (book_of kept.now) (campaign_at (head_of kept.now) part.now.serial) image.now
-        part.now.meters.items ≡ None) }
-    ensures refused { IfErr result (λ f. (e : BookError) × (f ≡ Fault.OpenRefused e)
-        × (opening_refusal (book_of kept.now) (campaign_at (head_of kept.now) part.now.serial) image.now part.now.meters.items ≡ Some e)) }
-    ensures faults { IfErr result IsOfLeading }
+/// `OpenRefused` with the first refusal of one of these campaigns.
+pub fn check_parts(book: &Book, parts: &[Part], release: u32, image: &[u8]) -> Result<(), Fault>
+    ensures taken { OnOk result (All (IsTakenBy book.now release image.now) parts.now) }
+    ensures refused { IfErr result (λ f. (part : Part) × Contains parts.now part × (e : BookError) × (f ≡ Fault.OpenRefused e)
+        × (opening_refusal book.now (campaign_in book.now part.serial) image.now part.meters.items ≡ Some e)) }
 {
-    let campaign = campaign_of(kept, part);
-    match kept
-        .head()
-        .view()
-        .book
-        .check_opening(campaign, image, &part.meters)
-    {
+    for part in parts {
+        check_part(book, part, release, image)?;
+    }
+    Ok(())
+}
+
+/// Checks that a book takes this campaign, or has it already.
+fn check_part(book: &Book, part: &Part, release: u32, image: &[u8]) -> Result<(), Fault>
+    ensures taken { OnOk result (IsTakenBy book.now release image.now part.now) }
+    ensures refused { IfErr result (λ f. (e : BookError) × (f ≡ Fault.OpenRefused e)
+        × (opening_refusal book.now (campaign_in book.now part.now.serial) image.now part.now.meters.items ≡ Some e)) }
+{
+    if is_open(book, part, release, image) {
+        return Ok(());
+    }
+    match book.check_opening(campaign_of(book, part), image, &part.meters) {
         Ok(()) => Ok(()),
         Err(refusal) => Err(Fault::OpenRefused(refusal)),
+    }
+}
+
+/// Checks that a book lets the campaign of this serial number be cancelled.
+///
+/// # Errors
+///
+/// `CancelRefused` with the first refusal of the book, which has no campaign of number 0.
+pub fn check_cancel(book: &Book, serial: u32) -> Result<(), Fault>
+    ensures admitted { OnOk result (cancel_refusal book.now (campaign_in book.now serial) ≡ None) }
+    ensures refused { IfErr result (λ f. (e : BookError) × (f ≡ Fault.CancelRefused e)
+        × (cancel_refusal book.now (campaign_in book.now serial) ≡ Some e)) }
+{
+    let Some(campaign) = CampaignId::new(book.head(), serial) else {
+        return Err(Fault::CancelRefused(BookError::NoSuchCampaign));
+    };
+    match book.check_cancel(campaign) {
+        Ok(()) => Ok(()),
+        Err(refusal) => Err(Fault::CancelRefused(refusal)),
     }
 }
 

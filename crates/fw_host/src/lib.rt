@@ -21,12 +21,14 @@ pub use capture_file::open_capture;
 pub use capture_port::CapturePort;
 pub use files::is_absent;
 pub use head_addresses::check_addresses;
-pub use head_book::{BookOptions, kept_head};
+pub use head_book::{BookOptions, check_absent, kept_head};
 pub use head_lines::{cancelled_line, opened_line, over_line, untaken_line};
-pub use head_opening::{Opening, Part, cancel, check_part, is_open, open_part, parts_of};
+pub use head_opening::{
+    Opening, Part, cancel, check_cancel, check_parts, is_open, open_part, parts_of,
+};
 pub use head_port::UdpHeadPort;
 pub use head_progress::HeadProgress;
 pub use meter_lines::{activated_line, dropped_line, listening_line};
 pub use meter_list::read_list;
-pub use meter_store::{NewMeter, opened, stored_meter};
+pub use meter_store::{NewMeter, NewStore, found_meter, opened};
 pub use strangers::Strangers;

@@ -1,18 +1,18 @@
-//! The store of the command `meter`, which is made where it isn't there.
+//! The store of the command `meter`: the one in a file that is there, or a new one, which is made once all is judged.
 
-ghost use Rattle.std.specs.Prelude.{◌≡◌, ◌⊎◌, None, IfOk, IfErr, OnOk};
+ghost use Rattle.std.specs.Prelude.{◌≡◌, ◌≢◌, None, IfOk, IfErr, IfSome};
 ghost use Rattle.fw_store.specs.Setup.{IsSetup};
 ghost use Rattle.fw_store.specs.declared.version.HeaderVersion.TheVariants.{Two};
 ghost use Rattle.fw_image.specs.Meter.{restarted};
 ghost use Rattle.fw_image.specs.Stored.{Opens, Refused};
 ghost use Rattle.fw_image.specs.declared.error.OpenError.{OpenError};
 ghost use Rattle.fw_faults.specs.Faults.{fault_of_opening};
-ghost use Rattle.fw_host.specs.Meters.{IsOfSetup, default_factory};
+ghost use Rattle.fw_host.specs.Meters.{IsOfNewStore, IsOfStore, default_factory};
 
 use crate::files::is_absent;
 use fw_faults::{Fault, Reads, read_input};
 use fw_meter::MeterCore;
-use fw_store::{FileStore, FileStoreError, ImageStore};
+use fw_store::{FileStore, FileStoreError, HeaderVersion, ImageStore, is_setup};
 use std::alloc::Global;
 use std::fs;
 use std::fs::File;
@@ -32,30 +32,98 @@ pub struct NewMeter<'a> {
     pub factory_file: Option<&'a str>,
 }
 
-/// The meter in the file, which is made where no file is there.
+/// What the store of a new meter is made with, which one can be made with.
+#[derive(Drop)]
+pub struct NewStore {
+    block_size: u32,
+    capacity: u32,
+    factory: Vec<u8>,
+    ghost fits: { IsSetup Two block_size capacity factory.items },
+}
+
+impl NewStore {
+    /// What these options describe, with the image in the file that they name. No file is made.
+    ///
+    /// # Errors
+    ///
+    /// - `FactoryFault`: the file of the factory image can't be read.
+    /// - `BadSetup`: the options describe no meter.
+    /// - `OutOfMemory`.
+    pub fn judged<F: Files<File = File>>(
+        rt: &F,
+        alloc: Global,
+        fresh: &NewMeter<'_>,
+    ) -> Result<NewStore, Fault>
+        ensures numbers { IfOk result (λ new. (new.block_size ≡ fresh.now.block_size) × (new.capacity ≡ fresh.now.capacity)) }
+        ensures factory { fresh.now.factory_file ≡ None → IfOk result (λ new. new.factory.items ≡ default_factory) }
+        ensures bad_setup { fresh.now.factory_file ≡ None → result ≡ Err Fault.BadSetup
+            → ¬ IsSetup Two fresh.now.block_size fresh.now.capacity default_factory }
+        ensures faults { IfErr result IsOfNewStore }
+    {
+        let factory = factory_of(rt, alloc, fresh)?;
+        if !is_setup(
+            HeaderVersion::Two,
+            fresh.capacity,
+            fresh.block_size,
+            &factory,
+        ) {
+            return Err(Fault::BadSetup);
+        }
+        Ok(NewStore {
+            block_size: fresh.block_size,
+            capacity: fresh.capacity,
+            factory,
+        })
+    }
+
+    /// A new meter in a new file.
+    ///
+    /// # Errors
+    ///
+    /// - `StoreFault`: the file can't be made, or one is there.
+    /// - `Device`, `BadHeader` or `BadImage`: what was made can't be read, or holds no meter.
+    pub fn meter<F: Files<File = File>>(
+        &self,
+        rt: &F,
+        path: &str,
+    ) -> Result<MeterCore<FileStore>, Fault>
+        ensures begins { IfOk result (λ meter. restarted meter.meter ≡ meter.meter) }
+        ensures faultless { IfOk result (λ meter. meter.faults ≡ 0) }
+        ensures faults { IfErr result IsOfStore }
+    {
+        let made = FileStore::create(rt, path, self.capacity, self.block_size, &self.factory);
+        match made {
+            Ok(store) => opened(store),
+            // It can be made with these.
+            Err(FileStoreError::BadSetup) => unreachable!(),
+            Err(error) => Err(Fault::from(error)),
+        }
+    }
+}
+
+/// The meter that the file holds, and `None` where no file is there.
 ///
 /// # Errors
 ///
-/// - `StoreFault`: the file can't be made or opened, or another store has it open.
+/// - `StoreFault`: the file can't be opened, or another store has it open.
 /// - `Device`, which prints `Fault`: the file can't be read, or its header not be written in version 2.
 /// - `BadFile`, `BadHeader` or `BadImage`: the file holds no meter. It is left as it is.
-/// - `FactoryFault`: no file is there, and the one of the factory image can't be read. No file was made.
-/// - `BadSetup`: no file is there, and the options describe no meter. No file was made.
-/// - `OutOfMemory`.
-pub fn stored_meter<F: Files<File = File>>(
+pub fn found_meter<F: Files<File = File>>(
     rt: &F,
-    alloc: Global,
     path: &str,
-    fresh: &NewMeter<'_>,
-) -> Result<MeterCore<FileStore>, Fault>
-    ensures begins { IfOk result (λ meter. restarted meter.meter ≡ meter.meter) }
-    ensures faultless { IfOk result (λ meter. meter.faults ≡ 0) }
-    ensures bad_setup { fresh.now.factory_file ≡ None → result ≡ Err Fault.BadSetup
-        → ¬ IsSetup Two fresh.now.block_size fresh.now.capacity default_factory }
-    ensures faults { IfErr result IsOfSetup }
+) -> Result<Option<MeterCore<FileStore>>, Fault>
+    ensures begins { IfOk result (λ found. IfSome found (λ meter. restarted meter.meter ≡ meter.meter)) }
+    ensures faultless { IfOk result (λ found. IfSome found (λ meter. meter.faults ≡ 0)) }
+    ensures faults { IfErr result IsOfStore }
 {
-    let store = open_or_make(rt, alloc, path, fresh)?;
-    opened(store)
+    match FileStore::reopen(rt, path) {
+        Ok(store) => match opened(store) {
+            Ok(meter) => Ok(Some(meter)),
+            Err(fault) => Err(fault),
+        },
+        Err(FileStoreError::StoreFault) if is_absent(fs::exists(rt, path)) => Ok(None),
+        Err(error) => Err(Fault::from(error)),
+    }
 }
 
 /// The meter that a store holds, whose header is one of version 2 from then on.
@@ -77,35 +145,25 @@ pub fn opened<S: ImageStore + Drop>(store: S) -> Result<MeterCore<S>, Fault>
     }
 }
 
-/// The store in the file, which is made where no file is there.
-fn open_or_make<F: Files<File = File>>(
+/// The factory image of a new meter.
+fn factory_of<F: Files<File = File>>(
     rt: &F,
     alloc: Global,
-    path: &str,
     fresh: &NewMeter<'_>,
-) -> Result<FileStore, Fault>
-    ensures faultless { IfOk result (λ store. (⟦<FileStore as ImageStore>⟧.known store).faults ≡ 0) }
-    ensures bad_setup { fresh.now.factory_file ≡ None → result ≡ Err Fault.BadSetup
-        → ¬ IsSetup Two fresh.now.block_size fresh.now.capacity default_factory }
-    ensures faults { IfErr result IsOfSetup }
+) -> Result<Vec<u8>, Fault>
+    ensures default { fresh.now.factory_file ≡ None → IfOk result (λ factory. factory.items ≡ default_factory) }
+    ensures bad_setup { fresh.now.factory_file ≡ None → result ≢ Err Fault.BadSetup }
+    ensures faults { IfErr result IsOfNewStore }
 {
-    match FileStore::reopen(rt, path) {
-        Ok(store) => Ok(store),
-        Err(FileStoreError::StoreFault) if is_absent(fs::exists(rt, path)) =>
-            match fresh.factory_file {
-                None => make(rt, path, fresh, DEFAULT_FACTORY),
-                Some(file) => {
-                    let factory = bytes_of_file(rt, alloc, file)?;
-                    make(rt, path, fresh, &factory)
-                }
-            },
-        Err(error) => Err(Fault::from(error)),
+    match fresh.factory_file {
+        None => Ok(Vec::from_slice(alloc, DEFAULT_FACTORY)?),
+        Some(file) => bytes_of_file(rt, alloc, file),
     }
 }
 
 /// All bytes of the file of a factory image.
 fn bytes_of_file<F: Files<File = File>>(rt: &F, alloc: Global, path: &str) -> Result<Vec<u8>, Fault>
-    ensures faults { IfErr result (λ f. (f ≡ Fault.BadSetup) ⊎ ((f ≡ Fault.FactoryFault) ⊎ (f ≡ Fault.OutOfMemory))) }
+    ensures faults { IfErr result IsOfNewStore }
 {
     let mut file = File::open(rt, path).map_err(|_| Fault::FactoryFault)?;
     let mut reads = Reads::none();
@@ -115,23 +173,5 @@ fn bytes_of_file<F: Files<File = File>>(rt: &F, alloc: Global, path: &str) -> Re
         Err(Fault::TooMuchInput) => Err(Fault::BadSetup),
         Err(Fault::OutOfMemory) => Err(Fault::OutOfMemory),
         Err(_) => Err(Fault::FactoryFault),
-    }
-}
-
-/// A new store in a new file.
-fn make<F: Files<File = File>>(
-    rt: &F,
-    path: &str,
-    fresh: &NewMeter<'_>,
-    factory: &[u8],
-) -> Result<FileStore, Fault>
-    ensures faultless { IfOk result (λ store. (⟦<FileStore as ImageStore>⟧.known store).faults ≡ 0) }
-    ensures setup { OnOk result (IsSetup Two fresh.now.block_size fresh.now.capacity factory.now) }
-    ensures bad_setup { result ≡ Err Fault.BadSetup → ¬ IsSetup Two fresh.now.block_size fresh.now.capacity factory.now }
-    ensures faults { IfErr result (λ f. (f ≡ Fault.BadSetup) ⊎ ((f ≡ Fault.StoreFault) ⊎ (f ≡ Fault.OutOfMemory))) }
-{
-    match FileStore::create(rt, path, fresh.capacity, fresh.block_size, factory) {
-        Ok(store) => Ok(store),
-        Err(error) => Err(Fault::from(error)),
     }
 }

@@ -22,6 +22,8 @@ mod lists;
 #[cfg(test)]
 mod live;
 #[cfg(test)]
+mod refused;
+#[cfg(test)]
 mod rehearsals;
 #[cfg(test)]
 mod restarts;

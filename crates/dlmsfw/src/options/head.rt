@@ -1,9 +1,7 @@
 //! The command `head`, and its help.
 
 use super::manual::{CommandOption, Manual, Presence, Takes};
-use super::{
-    DAEMON_CAPTURE, DAEMON_CAPTURE_STRANGERS, Invocation, WrongValue, address, manual,
-};
+use super::{DAEMON_CAPTURE, DAEMON_CAPTURE_STRANGERS, Invocation, WrongValue, address, manual};
 use clap::{ArgMatches, Command};
 use fw_blocks::Width;
 use fw_cli::HeadOptions;
@@ -43,6 +41,9 @@ meters at most, with serial numbers from SERIAL on. A campaign that the book has
 and image and for those meters in that order, is gone on with. With --cancel the live rows of that
 campaign are cancelled first.
 
+A file is made once all is judged: LIST, the image, the address, and what is cancelled and opened. CAPTURE
+comes first then, and a new FILE last. Of a FILE that is there --open is judged once --cancel is done.
+
 A row is asked when nothing of it is outstanding, or after four times its last round trip, which is
 --resend at first and at least; a quarter longer after each time in which nothing at all came from
 its meter, up to a minute. No more than --flight datagrams are out at once, or those of one row.
@@ -79,16 +80,17 @@ const ENDINGS: &str = "\
 Exit status:
   0  no row is live
   1  a fault: standard error has `dlmsfw: NAME`, with one of these names, and a second line with the
-     option that it is about
-       ListFault       LIST can't be opened or read
+     option that it is about. Of ListFault, ImageFault and Socket it goes on with `: ` and the cause
+       ListFault       LIST can't be opened or read: it isn't there, it is a folder, or this user has no
+                       right to it. Or it has more than 64 MiB, without a cause
        BadList L       line L of LIST, counted from 1, has no meter's number and address, or a number
                        or an address that an earlier line has, or a name that has no address of the
                        family of --listen
-       ImageFault      the file of --image can't be opened or read
+       ImageFault      the file of --image can't be opened or read, for the same causes
        BadSetup        the campaigns need serial numbers above 4294967295
-       Socket          datagrams can't be received at --listen: another program does, it is no address
-                       of this machine, or this user has no right to it. Or the socket failed 1000
-                       times in a row later
+       Socket          datagrams can't be received at --listen: it is in use, this machine has no such
+                       address, or this user has no right to it. Or the socket failed 1000 times in a
+                       row later, without a cause
        NoBook          FILE isn't there, and --new isn't given
        BookExists      FILE is there, and --new is given
        Locked          another head end has FILE

@@ -1,9 +1,7 @@
 //! The command `meter`, and its help.
 
 use super::manual::{CommandOption, Manual, Presence, Takes};
-use super::{
-    DAEMON_CAPTURE, DAEMON_CAPTURE_STRANGERS, Invocation, WrongValue, address, manual,
-};
+use super::{DAEMON_CAPTURE, DAEMON_CAPTURE_STRANGERS, Invocation, WrongValue, address, manual};
 use clap::{ArgMatches, Command};
 use fw_cli::MeterOptions;
 use fw_host::NewMeter;
@@ -29,8 +27,10 @@ from elsewhere is dropped. An address is IPv4 or IPv6, as 127.0.0.1:4059 or [::1
 
 With --count N there are N meters in one process, a fleet to try a head end on: meter K receives at PORT
 and K - 1 more, and is in FILE.K. What was dropped is that of all. Each needs three open files, which the
-system may limit (`ulimit -n`). They are set up one after the other: where one can't be, none serves, and
-the files of those before it were opened or made, and stay.
+system may limit (`ulimit -n`). If one can't be set up, none serves; new files that were made by then stay.
+
+A file is made once all is judged: each address, each FILE that is there, and what a new meter is made
+with. CAPTURE comes first then, and each new FILE last.
 
 With --capture CAPTURE all that is received and sent is appended to CAPTURE as pcap, which Wireshark and
 `trace` read: each datagram before it is handled or sent, and so its reply isn't sent where CAPTURE can't
@@ -70,10 +70,12 @@ Exit status:
   0  none: a meter has no end of its own
   1  a fault: standard error has `dlmsfw: NAME`, with one of these names, and a second line with the
      option that it is about; with --count, FILE is FILE.K of meter K, which has the fault, and after
-     the address of the first meter stands `, meter K`
-       Socket        datagrams can't be received at --listen: another program does, it is no address
-                     of this machine, or this user has no right to it; its file was not made. Or the
-                     socket failed 1000 times in a row later
+     the address of the first meter stands `, meter K`. Of Socket and FactoryFault the second line goes
+     on with `: ` and the cause
+       Socket        datagrams can't be received at --listen: it is in use, this machine has no such
+                     address, there is no such port, this user has no right to it, or a process may not
+                     have that number of open files; no file was made. Or the socket failed 1000 times
+                     in a row later, without a cause
        StoreFault    FILE can't be opened or made: another program has it locked, there is no such
                      folder, FILE is a folder, this user may not read and write it, the disk is full,
                      or FILE.journal can't be made beside it
@@ -84,7 +86,8 @@ Exit status:
        BadHeader     FILE has no header that a meter writes: its bytes were changed
        BadImage      an image in FILE, which runs or is verified, hasn't the digest of its name: its
                      bytes were changed
-       FactoryFault  FILE isn't there, and the file of --factory-file can't be read
+       FactoryFault  FILE isn't there, and the file of --factory-file can't be read: it isn't there
+                     either, it is a folder, or this user has no right to it
        BadSetup      FILE isn't there, and the factory image is empty or longer than the capacity; the
                      second line has --factory-file where it is given, and else --capacity
        CaptureFault  CAPTURE can't be made, opened or written: another process has it, there is no

@@ -1,5 +1,10 @@
-use Rattle.std.proofs.Common.{◌≡◌, length}
+use Rattle.std.proofs.Common.{◌≡◌, ◌+◌, length}
+use Rattle.std.specs.Vec.Iter.{into_iter_items}
 use Rattle.fw_cli.proofs.fleet.members_of.Given as goal
 
-abbrev pub invariant-loop-before : goal.invariant-loop-before
-invariant-loop-before g l = length l.members.items ≡ l.before
+-- how many sites had their turn
+abbrev pub invariant-loop-site : goal.invariant-loop-site
+invariant-loop-site g l = record {
+  counted : l.before + length (into_iter_items l.site-iterator) ≡ l.count;
+  same : length l.members.items ≡ l.before;
+}

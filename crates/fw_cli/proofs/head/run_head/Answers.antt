@@ -4,7 +4,6 @@ use Rattle.std.proofs.lemmas.Result.{err_from_is_err_and}
 use Rattle.fw_cli.specs.Heads.{IsAskedFor, IsOfStop}
 use Rattle.fw_host.specs.Captures.{IsOfCapture}
 use Rattle.fw_host.specs.Heads.{IsOfHead}
-use Rattle.fw_cli.proofs.Captured.{capture_is_asked, capture_of_head}
 use Rattle.fw_cli.proofs.HeadLeading.{line_lost, on_err_both, passed_on, stopped}
 use Rattle.fw_cli.proofs.head.run_head.Goals as goal
 
@@ -22,18 +21,6 @@ pub returns-clause-faults : goal.returns-clause-faults
 returns-clause-faults g c =
     on_err_both c.lead.result IsOfStop (λ f. IsOfCapture f → IsTrue (is_some c.args.options.now.capture)) IsOfHead
     (λ f is asked. (stopped c.args.options.now f asked is).of_head) c.lead.ensures.faults c.lead.ensures.asked
-
-pub returns-in_err-capture-clause-asked : goal.returns-in_err-capture-clause-asked
-returns-in_err-capture-clause-asked g c =
-    let passed = err_from_is_err_and c.from_residual-in_err-capture.result c.from_residual-in_err-capture.ensures.1 in
-    let same : passed.0 ≡ c.in_err-capture.field-0.0 = passed.2 in
-    passed_on c.from_residual-in_err-capture.result (IsAskedFor c.args.options.now) passed.0 _ passed.1 same (capture_is_asked c.args.options.now _ c.in_err-capture.ensures.asked c.in_err-capture.ensures.faults)
-
-pub returns-in_err-capture-clause-faults : goal.returns-in_err-capture-clause-faults
-returns-in_err-capture-clause-faults g c =
-    let passed = err_from_is_err_and c.from_residual-in_err-capture.result c.from_residual-in_err-capture.ensures.1 in
-    let same : passed.0 ≡ c.in_err-capture.field-0.0 = passed.2 in
-    passed_on c.from_residual-in_err-capture.result IsOfHead passed.0 _ passed.1 same (capture_of_head _ c.in_err-capture.ensures.faults)
 
 pub returns-in_err-tell_listening-clause-silent : goal.returns-in_err-tell_listening-clause-silent
 returns-in_err-tell_listening-clause-silent g c =

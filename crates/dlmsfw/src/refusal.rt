@@ -1,0 +1,112 @@
+//! Why the system refuses an address or a file. It is asked once more after the command has ended, when all that the command had open is closed.
+
+ghost use Rattle.std.specs.Prelude.{◌≡◌};
+ghost use Rattle.dlmsfw.specs.Refusals.{refusal_of};
+
+use std::io::ErrorKind;
+use std::net::{Net, SocketAddr, UdpSocket};
+use std::rt::Files;
+use std::{fmt, fs, io};
+
+/// The error numbers of Linux that say that a process, or the system, has as many open files as it may.
+const TOO_MANY: [i32; 2] = [24, 23];
+
+/// Why the system refuses an address or a file. It prints what the user reads behind the option that has it.
+#[derive(Clone, Copy)]
+pub(crate) enum Refusal {
+    /// Another socket has the address.
+    InUse,
+    /// The machine has no such address.
+    NoAddress,
+    /// The port would be above 65,535.
+    NoPort,
+    /// The user may not have it.
+    NoRight,
+    /// There is no such file, or no such folder.
+    NoFile,
+    /// It is a folder, and no file.
+    IsFolder,
+    /// A process may not have that number of open files.
+    TooManyFiles,
+    /// Another cause, as the system names it.
+    Other(ErrorKind),
+}
+
+impl fmt::Display for Refusal {
+    fn fmt<W: fmt::Write>(&self, f: &mut fmt::Formatter<W>) -> fmt::Result {
+        f.write_str(match self {
+            Refusal::InUse => "it is in use",
+            Refusal::NoAddress => "this machine has no such address",
+            Refusal::NoPort => "there is no such port",
+            Refusal::NoRight => "the right to do so is missing",
+            Refusal::NoFile => "there is no such file or folder",
+            Refusal::IsFolder => "it is a folder",
+            Refusal::TooManyFiles => {
+                "too many files are open; ulimit -n prints how many a process may have"
+            }
+            Refusal::Other(kind) => return fmt::Display::fmt(kind, f),
+        })
+    }
+}
+
+impl Refusal {
+    /// Why the system refuses what gave this error.
+    fn of(error: &io::Error) -> Refusal {
+        match error.raw_os_error() {
+            Some(number) if TOO_MANY.contains(&number) => Refusal::TooManyFiles,
+            _ => Refusal::of_kind(error.kind()),
+        }
+    }
+
+    /// Why it refuses what gave an error of this kind.
+    fn of_kind(kind: ErrorKind) -> Refusal
+        ensures { result ≡ refusal_of kind }
+    {
+        match kind {
+            ErrorKind::AddrInUse => Refusal::InUse,
+            ErrorKind::AddrNotAvailable => Refusal::NoAddress,
+            ErrorKind::PermissionDenied => Refusal::NoRight,
+            ErrorKind::NotFound => Refusal::NoFile,
+            ErrorKind::IsADirectory => Refusal::IsFolder,
+            other => Refusal::Other(other),
+        }
+    }
+}
+
+/// Why a socket can't be bound to this address, if it can't now.
+pub(crate) fn of_address(net: &impl Net, at: SocketAddr) -> Option<Refusal> {
+    match UdpSocket::bind(net, at) {
+        Ok(_bound) => None,
+        Err(error) => Some(Refusal::of(&error)),
+    }
+}
+
+/// Why no socket could be bound to the address of the meter of this number, where the first one has this address. Where one can be now that
+/// there is no other, the system refused the number of them.
+pub(crate) fn of_addresses(net: &impl Net, first: SocketAddr, number: u32) -> Option<Refusal> {
+    let mut at = first;
+    if first.port() > 0 {
+        let port = u64::from(first.port()) + u64::from(number.saturating_sub(1));
+        match u16::try_from(port) {
+            Ok(port) => at.set_port(port),
+            Err(_) => return Some(Refusal::NoPort),
+        }
+    }
+    match of_address(net, at) {
+        Some(refusal) => Some(refusal),
+        None => Some(Refusal::TooManyFiles),
+    }
+}
+
+/// Why a file can't be read, if it can't be opened now. What is no file and no folder isn't opened, since that may wait or take bytes away.
+pub(crate) fn of_file(files: &impl Files, path: &str) -> Option<Refusal> {
+    match fs::metadata(files, path) {
+        Err(error) => Some(Refusal::of(&error)),
+        Ok(about) if about.is_dir() => Some(Refusal::IsFolder),
+        Ok(about) if about.is_file() => match fs::open(files, path) {
+            Ok(_opened) => None,
+            Err(error) => Some(Refusal::of(&error)),
+        },
+        Ok(_) => None,
+    }
+}

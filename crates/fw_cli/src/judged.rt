@@ -1,0 +1,98 @@
+//! Meters before their files are made. Each is judged first, so that what refuses one leaves no file of another.
+
+ghost use Rattle.std.specs.Prelude.{◌≡◌, None, Err, IfErr};
+ghost use Rattle.fw_store.specs.Setup.{IsSetup};
+ghost use Rattle.fw_store.specs.declared.version.HeaderVersion.TheVariants.{Two};
+ghost use Rattle.fw_host.specs.Meters.{IsOfNewStore, IsOfSetup, IsOfStore, default_factory};
+
+use fw_faults::Fault;
+use fw_host::{NewMeter, NewStore, found_meter};
+use fw_meter::MeterCore;
+use fw_store::FileStore;
+use std::alloc::Global;
+use std::fs::File;
+use std::rc::Rc;
+use std::rt::Files;
+
+/// A meter of which nothing is refused any more.
+#[derive(Drop)]
+pub(crate) enum Judged {
+    /// Its file is there, and has it.
+    Found(MeterCore<FileStore>),
+    /// No file is there. Its store is made with this.
+    New(Rc<NewStore>),
+}
+
+impl Judged {
+    /// The meter, whose file is made where it isn't there.
+    pub(crate) fn made<F: Files<File = File>>(
+        self,
+        rt: &F,
+        path: &str,
+    ) -> Result<MeterCore<FileStore>, Fault>
+        ensures faults { IfErr result IsOfStore }
+    {
+        match self {
+            Judged::Found(meter) => Ok(meter),
+            Judged::New(new) => new.meter(rt, path),
+        }
+    }
+}
+
+/// What judges meters: what new ones are made with, read once the first of them is met.
+#[derive(Drop)]
+pub(crate) struct Judge<'a> {
+    fresh: NewMeter<'a>,
+    new: Option<Rc<NewStore>>,
+}
+
+impl<'a> Judge<'a> {
+    /// New meters are made with these.
+    pub(crate) fn of(fresh: NewMeter<'a>) -> Judge<'a>
+        ensures { result.fresh ≡ fresh }
+    {
+        Judge { fresh, new: None }
+    }
+
+    /// The meter in a file, or what it is made with where no file is there. No file is made.
+    pub(crate) fn meter<F: Files<File = File>>(
+        &mut self,
+        rt: &F,
+        alloc: Global,
+        path: &str,
+    ) -> Result<Judged, Fault>
+        ensures fresh { self.new.fresh ≡ self.old.fresh }
+        ensures bad_setup { self.old.fresh.factory_file ≡ None → result ≡ Err Fault.BadSetup
+            → ¬ IsSetup Two self.old.fresh.block_size self.old.fresh.capacity default_factory }
+        ensures faults { IfErr result IsOfSetup }
+    {
+        match found_meter(rt, path) {
+            Ok(Some(meter)) => Ok(Judged::Found(meter)),
+            Ok(None) => match self.new_store(rt, alloc) {
+                Ok(new) => Ok(Judged::New(new)),
+                Err(fault) => Err(fault),
+            },
+            Err(fault) => Err(fault),
+        }
+    }
+
+    /// What new meters are made with.
+    fn new_store<F: Files<File = File>>(
+        &mut self,
+        rt: &F,
+        alloc: Global,
+    ) -> Result<Rc<NewStore>, Fault>
+        ensures fresh { self.new.fresh ≡ self.old.fresh }
+        ensures bad_setup { self.old.fresh.factory_file ≡ None → result ≡ Err Fault.BadSetup
+            → ¬ IsSetup Two self.old.fresh.block_size self.old.fresh.capacity default_factory }
+        ensures faults { IfErr result IsOfNewStore }
+    {
+        if let Some(new) = &self.new {
+            return Ok(new.clone()?);
+        }
+        let new = NewStore::judged(rt, alloc, &self.fresh)?;
+        let new = Rc::new(alloc, new)?;
+        self.new = Some(new.clone()?);
+        Ok(new)
+    }
+}

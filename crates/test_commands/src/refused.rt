@@ -1,0 +1,154 @@
+//! Meters and head ends that are refused for one of their inputs make no store and no book, over files and sockets of this machine.
+
+use fw_blocks::Width;
+use fw_book::BookError;
+use fw_cli::{HeadOptions, MeterFault, MeterOptions, run_head, run_meter};
+use fw_faults::Fault;
+use fw_host::{BookOptions, NewMeter, Opening};
+use fw_names::HeadId;
+use fw_rollout::Timing;
+use std::alloc::Global;
+use std::fmt::Display;
+use std::net::{Net, SocketAddr};
+use std::test::Fail;
+use std::{env, fs, io};
+
+/// A terminal that shows nothing.
+struct Silent;
+
+impl Eprint for Silent {
+    fn eprint<D: Display + Drop>(&self, _value: D) -> io::Result<()> {
+        Ok(())
+    }
+
+    fn eprintln<D: Display + Drop>(&self, _value: D) -> io::Result<()> {
+        Ok(())
+    }
+}
+
+/// The path of a file of the folder for such files.
+fn place(rt: &HostRuntime, name: &str) -> Result<String, Fail> {
+    let mut path = env::temp_dir(rt)?;
+    path.push(name)?;
+    Ok(String::from_str(rt.alloc(), path.as_str())?)
+}
+
+/// What two meters end with of which the second has no port, and whether the first has a store then.
+fn two_meters<R: Files<File = File> + Clock + Net + Wait>(
+    rt: &R,
+    alloc: Global,
+    store: &str,
+) -> Result<(Fault, bool), Fail> {
+    let options = MeterOptions {
+        listen: "127.0.0.1:65535".parse::<SocketAddr>()?,
+        heads: Vec::new(alloc),
+        store,
+        fresh: NewMeter {
+            block_size: 64,
+            capacity: 1024,
+            factory_file: None,
+        },
+        count: Some(2),
+        capture: None,
+    };
+    let fault = match run_meter(rt, alloc, &mut Vec::new(alloc), options) {
+        Ok(()) => return Err(Fail::from("it ends well")),
+        Err(MeterFault { fault, number: _ }) => fault,
+    };
+    let first = format!(in alloc; "{store}.1")?;
+    let is_made = fs::exists(rt, first.as_str())?;
+    if is_made {
+        fs::remove_file(rt, first.as_str())?;
+    }
+    Ok((fault, is_made))
+}
+
+#[test]
+fn a_meter_without_a_port_makes_no_store(rt: HostRuntime) -> Result<(), Fail> {
+    let store = place(&rt, "fw_cli_refused_meter")?;
+    let (fault, is_made) = two_meters(&rt, rt.alloc(), store.as_str())?;
+    assert!(rt; fault == Fault::Socket);
+    assert!(rt; !is_made);
+    Ok(())
+}
+
+/// What a head end ends with that is to make its book, with this list and this image, and whether it has one then.
+fn new_book<R: Files<File = File> + Clock + Net + Wait>(
+    rt: &R,
+    alloc: Global,
+    folder: &str,
+    text: &str,
+    image: &str,
+) -> Result<(Fault, bool), Fail> {
+    let book = format!(in alloc; "{folder}.book")?;
+    let list = format!(in alloc; "{folder}.csv")?;
+    let offered = format!(in alloc; "{folder}.image")?;
+    fs::write(rt, list.as_str(), text)?;
+    fs::write(rt, offered.as_str(), image)?;
+    let ended = head_of(rt, alloc, book.as_str(), list.as_str(), offered.as_str());
+    let is_made = fs::exists(rt, book.as_str())?;
+    for made in [&book, &list, &offered] {
+        if fs::exists(rt, made.as_str())? {
+            fs::remove_file(rt, made.as_str())?;
+        }
+    }
+    Ok((ended?, is_made))
+}
+
+/// What a head end ends with that makes a book in this file, and opens this image for the meters of this list.
+fn head_of<R: Files<File = File> + Clock + Net + Wait>(
+    rt: &R,
+    alloc: Global,
+    book: &str,
+    list: &str,
+    image: &str,
+) -> Result<Fault, Fail> {
+    let (Some(head), Some(width)) = (HeadId::new(7), Width::new(4)) else {
+        return Err(Fail::from("there is no head end 7"));
+    };
+    let options = HeadOptions {
+        head,
+        book: BookOptions {
+            path: book,
+            is_new: true,
+        },
+        meters: list,
+        listen: "127.0.0.1:0".parse::<SocketAddr>()?,
+        cancel: None,
+        opening: Some(Opening {
+            serial: 1,
+            release: 0,
+            image,
+        }),
+        width,
+        timing: Timing {
+            resend: 1_000,
+            flight: 1,
+        },
+        stays: false,
+        capture: None,
+    };
+    let terminal: Option<&Silent> = None;
+    match run_head(rt, alloc, &mut Vec::new(alloc), terminal, &options) {
+        Ok(()) => Err(Fail::from("it ends well")),
+        Err(fault) => Ok(fault),
+    }
+}
+
+#[test]
+fn a_head_end_with_a_bad_list_makes_no_book(rt: HostRuntime) -> Result<(), Fail> {
+    let place = place(&rt, "fw_cli_bad_list")?;
+    let (fault, is_made) = new_book(&rt, rt.alloc(), place.as_str(), "1\n", "image")?;
+    assert!(rt; fault == Fault::BadList(1));
+    assert!(rt; !is_made);
+    Ok(())
+}
+
+#[test]
+fn a_head_end_whose_opening_is_refused_makes_no_book(rt: HostRuntime) -> Result<(), Fail> {
+    let place = place(&rt, "fw_cli_refused_opening")?;
+    let (fault, is_made) = new_book(&rt, rt.alloc(), place.as_str(), "1,127.0.0.1:9\n", "")?;
+    assert!(rt; fault == Fault::OpenRefused(BookError::EmptyImage));
+    assert!(rt; !is_made);
+    Ok(())
+}
