@@ -1,0 +1,124 @@
+//! A file that was made gets its name.
+
+ghost use Rattle.std.specs.Prelude.{◌≡◌, ◌⊎◌, ℕ, IsTrue, IfOk, IfErr, OnOk, IsErrOf};
+ghost use Rattle.fw_disk.specs.Disk.{absent, plain, Goes};
+ghost use Rattle.fw_disk.specs.Ours.{MayTake, IsNamed, IsKept, Names, Replaces};
+ghost use Rattle.fw_disk.specs.declared.name.Name.TheVariants.{Main, New};
+
+use crate::cause::{Cause, NamingError};
+use crate::filling::fill;
+use crate::folder::Folder;
+use crate::kind::Kind;
+use crate::making::{abandon, begin};
+use crate::name::{Found, Name};
+
+/// Ends a making: gives the file, which has the name FILE.new, the name FILE, which nothing has. It is synced before that, and its folder
+/// after it: so a power cut leaves nothing under FILE, or the whole file, and after `Ok` the file.
+///
+/// # Errors
+///
+/// `NotNamed` with `Exists` where something has the name FILE, or with one of the system: it is as before. `NotSynced` where the folder
+/// couldn't be synced.
+pub fn finish<F: Folder>(folder: &mut F, file: &F::File) -> Result<(), NamingError>
+    ensures absent { IsTrue (F.seen folder.old).honest → OnOk result ((F.seen folder.old).disk.entry Main ≡ absent) }
+    ensures named { IsTrue (F.seen folder.old).honest → (F.seen folder.old).disk.entry New ≡ plain (F.number file.now)
+        → OnOk result (IsNamed Main (F.number file.now) ((F.seen folder.old).disk.bytes (F.number file.now)) (F.seen folder.new).disk) }
+    ensures kept { IsTrue (F.seen folder.old).honest → (F.seen folder.old).disk.entry New ≡ plain (F.number file.now)
+        → OnOk result (IsKept Main (F.number file.now) ((F.seen folder.old).disk.bytes (F.number file.now)) (F.seen folder.new)) }
+
+    // Whatever it answers, and whenever it is cut.
+    ensures goes { (F.seen folder.old).disk.entry New ≡ plain (F.number file.now)
+        → Goes (Names (F.number file.now) ((F.seen folder.old).disk.bytes (F.number file.now))) (F.seen folder.old) (F.seen folder.new) }
+    ensures same { IsTrue (F.seen folder.old).honest → (cause : Cause) → IsErrOf result (NamingError.NotNamed cause)
+        → (F.seen folder.new).disk ≡ (F.seen folder.old).disk }
+{
+    prepare(folder, file).map_err(NamingError::NotNamed)?;
+    give_name(folder)
+}
+
+/// Checks that nothing has the name FILE, and syncs a file.
+fn prepare<F: Folder>(folder: &mut F, file: &F::File) -> Result<(), Cause>
+{
+    match folder.look(Name::Main)? {
+        Found::Absent => folder.sync(file),
+        Found::Plain | Found::Other => Err(Cause::Exists),
+    }
+}
+
+/// Gives what has the name FILE.new, which is synced, the name FILE, and syncs that.
+fn give_name<F: Folder>(folder: &mut F) -> Result<(), NamingError>
+{
+    folder
+        .rename(Name::New, Name::Main)
+        .map_err(NamingError::NotNamed)?;
+    folder.sync_folder().map_err(NamingError::NotSynced)
+}
+
+/// Puts another file with these bytes in the place of FILE, under a lock of its own, with the permissions of the old one. `old` is FILE,
+/// opened. The new file is made as FILE.new. So a power cut leaves FILE with the old file as it was, or with the new one whole; after
+/// `Ok` with the new one.
+///
+/// # Errors
+///
+/// `NotNamed`: FILE is the old file. With `NotAlone`, also where that has another name as well, under which it would be left; with what
+/// `begin` is refused for; or with one of the system. `NotSynced`: FILE is the new file, but its folder couldn't be synced.
+pub fn replace<F: Folder, K: Kind>(
+    folder: &mut F,
+    old: &F::File,
+    kind: &K,
+    bytes: &[u8],
+) -> Result<F::File, NamingError>
+    ensures named { IsTrue (F.seen folder.old).honest
+        → IfOk result (λ file. IsNamed Main (F.number file) bytes.now (F.seen folder.new).disk) }
+    ensures kept { IsTrue (F.seen folder.old).honest
+        → IfOk result (λ file. IsKept Main (F.number file) bytes.now (F.seen folder.new)) }
+
+    // Whatever it answers, and whenever it is cut.
+    ensures goes { Goes (Replaces (F.number old.now) bytes.now (MayTake (K.ours kind.now) (F.seen folder.old).disk New))
+        (F.seen folder.old) (F.seen folder.new) }
+    ensures same { IsTrue (F.seen folder.old).honest → (cause : Cause) → IsErrOf result (NamingError.NotNamed cause)
+        → (F.seen folder.new).disk.entry Main ≡ (F.seen folder.old).disk.entry Main }
+{
+    let file = make_beside(folder, old, kind, bytes).map_err(NamingError::NotNamed)?;
+    if let Err(error) = give_name(folder) {
+        if let NamingError::NotNamed(_) = error {
+            abandon(folder, Name::New, &file);
+        }
+        return Err(error);
+    }
+    Ok(file)
+}
+
+/// Makes the new file, synced, under the name FILE.new.
+fn make_beside<F: Folder, K: Kind>(
+    folder: &mut F,
+    old: &F::File,
+    kind: &K,
+    bytes: &[u8],
+) -> Result<F::File, Cause>
+{
+    if !folder.is_alone(Name::Main, old)? {
+        return Err(Cause::NotAlone);
+    }
+    let file = begin(folder, Name::New, kind)?;
+    match fill_like(folder, old, &file, kind, bytes) {
+        Ok(()) => Ok(file),
+        Err(cause) => {
+            abandon(folder, Name::New, &file);
+            Err(cause)
+        }
+    }
+}
+
+/// Gives a file that was begun the permissions of another, and its bytes.
+fn fill_like<F: Folder, K: Kind>(
+    folder: &mut F,
+    old: &F::File,
+    file: &F::File,
+    kind: &K,
+    bytes: &[u8],
+) -> Result<(), Cause>
+{
+    folder.copy_permissions(old, file)?;
+    fill(folder, file, kind, bytes)
+}
