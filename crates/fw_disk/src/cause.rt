@@ -1,5 +1,6 @@
 //! Why a file wasn't opened, made or written.
 
+ghost use Rattle.std.specs.Prelude.{◌≡◌};
 ghost use Rattle.fw_disk.specs.Causes.{IsOfSystem};
 
 use std::fmt;
@@ -111,5 +112,22 @@ impl NamingError {
 impl fmt::Display for NamingError {
     fn fmt<W: fmt::Write>(&self, f: &mut fmt::Formatter<W>) -> fmt::Result {
         fmt::Display::fmt(&self.cause(), f)
+    }
+}
+
+/// An error, and why the system refused, if it is known.
+#[derive(Debug, Drop)]
+pub struct Because<E> {
+    /// The error.
+    pub error: E,
+    /// Why the system refused.
+    pub cause: Option<Cause>,
+}
+
+impl<E> From<E> for Because<E> {
+    ghost from_gives = { λ error because. because.error ≡ error };
+
+    fn from(error: E) -> Because<E> {
+        Because { error, cause: None }
     }
 }

@@ -16,7 +16,7 @@ mod place;
 mod replacing;
 mod system;
 
-pub use cause::{Cause, NamingError};
+pub use cause::{Because, Cause, NamingError};
 pub use filling::{fill, reserve};
 pub use folder::Folder;
 pub use kind::{FRONT_SIZE, Kind};
