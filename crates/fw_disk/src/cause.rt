@@ -1,6 +1,8 @@
 //! Why a file wasn't opened, made or written.
 
+ghost use Rattle.std.specs.Prelude.{◌≡◌};
 ghost use Rattle.fw_disk.specs.Causes.{IsOfSystem};
+ghost use Rattle.fw_disk.specs.declared.cause.NamingError.TheVariants.{NotNamed};
 
 use std::fmt;
 use std::fs::TryLockError;
@@ -97,6 +99,14 @@ pub enum NamingError {
     NotNamed(Cause),
     /// It has the name, but a power cut may take that back.
     NotSynced(Cause),
+}
+
+impl From<Cause> for NamingError {
+    ghost from_gives = { λ cause error. error ≡ NotNamed cause };
+
+    fn from(cause: Cause) -> NamingError {
+        NamingError::NotNamed(cause)
+    }
 }
 
 impl NamingError {

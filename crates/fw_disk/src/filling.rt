@@ -2,7 +2,7 @@
 
 ghost use Rattle.std.specs.Prelude.{◌≡◌, ◌≤◌, ◌+◌, ◌-◌, ◌++◌, [], IsTrue, OnOk, length, replicate};
 ghost use Rattle.fw_disk.specs.Disk.{Goes, IsSynced, ChangesOnly};
-ghost use Rattle.fw_disk.specs.Calls.{NoName};
+ghost use Rattle.fw_disk.specs.Calls.{NoName, Writes, Tears};
 ghost use Rattle.fw_disk.specs.Ours.{Fills};
 
 use crate::cause::Cause;
@@ -39,6 +39,11 @@ fn write_synced<F: Folder>(
     at: u64,
     bytes: &[u8],
 ) -> Result<(), Cause>
+    ensures done { IsTrue (F.seen folder.old).honest
+        → at ≤ length ((F.seen folder.old).disk.bytes (F.number file.now))
+        → OnOk result (Writes (F.number file.now) at bytes.now (F.seen folder.old).disk (F.seen folder.new).disk) }
+    ensures synced { IsTrue (F.seen folder.old).honest → OnOk result (IsSynced (F.number file.now) (F.seen folder.new)) }
+    ensures goes { Goes (Tears (F.number file.now) at (length bytes.now)) (F.seen folder.old) (F.seen folder.new) }
 {
     folder.write_at(file, at, bytes)?;
     folder.sync(file)

@@ -1,5 +1,8 @@
 //! The folder of a file of the operating system.
 
+ghost use Rattle.std.specs.Prelude.{IfErr};
+ghost use Rattle.fw_disk.specs.Causes.{IsOfSystem};
+
 use crate::cause::Cause;
 use crate::folder::Folder;
 use crate::name::{Found, Name};
@@ -22,13 +25,17 @@ impl<'a, R: Files<File = File>> SystemFolder<'a, R> {
     /// # Errors
     ///
     /// `Other` where the path is too long.
-    pub fn of(rt: &'a R, path: &'a str) -> Result<SystemFolder<'a, R>, Cause> {
+    pub fn of(rt: &'a R, path: &'a str) -> Result<SystemFolder<'a, R>, Cause>
+        ensures { IfErr result IsOfSystem }
+    {
         let place = Place::of(path)?;
         Ok(SystemFolder { rt, place })
     }
 
     /// Opens a file in a way, and locks it.
-    fn locked(&self, name: Name, options: &OpenOptions) -> Result<File, Cause> {
+    fn locked(&self, name: Name, options: &OpenOptions) -> Result<File, Cause>
+        ensures { IfErr result IsOfSystem }
+    {
         let file = options.open(self.rt, self.place.path(name)?)?;
         file.try_lock()?;
         Ok(file)

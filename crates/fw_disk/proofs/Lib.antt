@@ -1,0 +1,2 @@
+mod Goings
+mod Steps
