@@ -1,5 +1,5 @@
 -- How calls of a folder follow on each other.
-use Rattle.std.proofs.Common.{◌≡◌, ◌⊎◌, inl, inr, ⊎_elim, ℕ, ◌≤◌, arith, IsTrue, refl, sym, ◌∙◌, subst}
+use Rattle.std.proofs.Common.{◌≡◌, ◌⊎◌, inl, inr, ⊎_elim, ℕ, ◌≤◌, arith, IsTrue, refl, sym, ◌∙◌, subst, Ok, Err, Result, OnOk}
 use Rattle.fw_disk.specs.Disk.{Disk, Seen, Makes, Goes}
 use Rattle.fw_disk.specs.Calls.{Stays}
 
@@ -69,3 +69,8 @@ widen_from R T Q a b goes now lefts wide = λ honest.
       meanwhile = λ since left le had. ⊎_elim (λ h. inl h) (λ x. inr (x.0, x.1, wide x.0 left (lefts honest x.0 x.1) x.2)) (f.meanwhile since left le had);
       keeps = f.keeps;
     }
+
+-- what follows of what a call that succeeded makes
+pub on_ok : {T E : Type 0} (result : Result T E) (P Q : Type 0) → (P → Q) → OnOk result P → OnOk result Q
+on_ok (Ok v) P Q follows holds = follows holds
+on_ok (Err e) P Q follows holds = holds

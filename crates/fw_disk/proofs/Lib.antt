@@ -1,2 +1,3 @@
 mod Goings
 mod Steps
+mod Fillings

@@ -3,7 +3,7 @@ use Rattle.std.specs.Prelude.{◌≡◌, ◌⊎◌, ℕ, List, [], take}
 use Rattle.fw_disk.specs.declared.name.Name.{Name}
 use Rattle.fw_disk.specs.declared.name.Name.TheVariants.{Main, New}
 use Rattle.fw_disk.specs.Disk.{Entry, absent, plain, other, Disk, Seen, IsAlone, ChangesOnly}
-use Rattle.fw_disk.specs.Calls.{NoFile}
+use Rattle.fw_disk.specs.Calls.{NoName, NoFile}
 
 -- the file is alone under the name and is ours by its bytes
 pub record IsOurs (ours : List ℕ → Type 0) (disk : Disk) (name : Name) (n : ℕ) : Type 0 where
@@ -43,7 +43,7 @@ Starts ours first bytes = (left : List ℕ) → take first left ≡ take first b
 
 -- the bytes of the file alone change, and it stays ours, if it begins as it should
 pub record Fills (ours : List ℕ → Type 0) (first n : ℕ) (bytes : List ℕ) (old new : Disk) : Type 0 where
-  pub only : ChangesOnly (λ m. ⊥) (λ m. m ≡ n) old new
+  pub only : ChangesOnly NoName (λ m. m ≡ n) old new
   pub left_over : Starts ours first bytes → ours (new.bytes n)
 
 -- FILE is as before, or names this file with these bytes. Nothing else changes, except FILE.new.

@@ -92,13 +92,26 @@ pub fn replace<F: Folder, K: Kind>(
         → (F.seen folder.new).disk.entry Main ≡ (F.seen folder.old).disk.entry Main }
 {
     let file = make_beside(folder, old, kind, bytes)?;
-    if let Err(error) = give_name(folder) {
-        if let NamingError::NotNamed(_) = error {
-            abandon(folder, Name::New, &file);
-        }
-        return Err(error);
-    }
+    name_or_abandon(folder, &file)?;
     Ok(file)
+}
+
+/// Gives what has the name FILE.new the name FILE, or takes it away.
+fn name_or_abandon<F: Folder>(folder: &mut F, file: &F::File) -> Result<(), NamingError>
+    ensures named { IsTrue (F.seen folder.old).honest
+        → OnOk result (Renames New Main (F.seen folder.old).disk (F.seen folder.new).disk) }
+    ensures synced { IsTrue (F.seen folder.old).honest → OnOk result (AreNamesSynced (F.seen folder.new)) }
+    ensures goes { Goes (MayRename New Main ((F.seen folder.old).disk.entry New)) (F.seen folder.old) (F.seen folder.new) }
+    ensures same { IsTrue (F.seen folder.old).honest → (cause : Cause) → IsErrOf result (NamingError.NotNamed cause)
+        → (F.seen folder.new).disk.entry Main ≡ (F.seen folder.old).disk.entry Main }
+{
+    match give_name(folder) {
+        Err(NamingError::NotNamed(cause)) => {
+            abandon(folder, Name::New, file);
+            Err(NamingError::NotNamed(cause))
+        }
+        named => named,
+    }
 }
 
 /// Makes the new file, synced, under the name FILE.new.
