@@ -40,14 +40,14 @@ module _ (ours : List ℕ → Type 0) (first n k : ℕ) (bytes f o : List ℕ) (
   begins : (s : List ℕ) → take (min (length f) (length f)) s ≡ take (length f) f → length s ≤ max (length f) (length f + length o) → take first s ≡ take first bytes
   begins s before longest = ⊎_elim
       (λ le.
-        let is : length f ≡ first = omega (arith, length-f, k_is, le) in
-        let part : f ≡ take first bytes = f_is ∙ ap (λ j. take j bytes) (omega (arith, k_is, le)) in
-        ap (λ j. take j s) (sym is) ∙ short s before ∙ take_all (length f) f (omega arith) ∙ part)
+      let is : length f ≡ first = omega (arith, length-f, k_is, le) in
+      let part : f ≡ take first bytes = f_is ∙ ap (λ j. take j bytes) (omega (arith, k_is, le)) in
+      ap (λ j. take j s) (sym is) ∙ short s before ∙ take_all (length f) f (omega arith) ∙ part)
       (λ gt.
-        let whole : f ≡ bytes = f_is ∙ take_all k bytes (omega (arith, k_is, gt)) in
-        let none : length o ≡ 0 = length-o (omega (arith, k_is, gt)) in
-        let all : s ≡ f = sym (take_all (length f) s (omega (arith, longest, none))) ∙ short s before ∙ take_all (length f) f (omega arith) in
-        ap (λ (l : List ℕ). take first l) (all ∙ whole))
+      let whole : f ≡ bytes = f_is ∙ take_all k bytes (omega (arith, k_is, gt)) in
+      let none : length o ≡ 0 = length-o (omega (arith, k_is, gt)) in
+      let all : s ≡ f = sym (take_all (length f) s (omega (arith, longest, none))) ∙ short s before ∙ take_all (length f) f (omega arith) in
+      ap (λ (l : List ℕ). take first l) (all ∙ whole))
       (le_or_gt first (length bytes))
 
   pub torn_others : (x y z : Disk) → Fills ours first n bytes x y → y.bytes n ≡ f → Tears n (length f) (length o) y z → Fills ours first n bytes x z

@@ -19,11 +19,7 @@ use crate::opening::open_ours;
 /// `NotAlone` where a link is there, no regular file, or one that has another name as well; `Foreign` where a file is there that isn't
 /// ours by its bytes; `Locked` where another process has it; and those of the system. Where what is there isn't ours, nothing is changed:
 /// no entry, and no byte of any file.
-pub fn begin<F: Folder, K: Kind>(
-    folder: &mut F,
-    name: Name,
-    kind: &K,
-) -> Result<F::File, Cause>
+pub fn begin<F: Folder, K: Kind>(folder: &mut F, name: Name, kind: &K) -> Result<F::File, Cause>
     ensures taken { IsTrue (F.seen folder.old).honest
         → IfOk result (λ file. MayTake (K.ours kind.now) (F.seen folder.old).disk name (F.number file)) }
     ensures empty { IsTrue (F.seen folder.old).honest → IfOk result (λ file. IsNamed name (F.number file) [] (F.seen folder.new).disk) }

@@ -40,6 +40,15 @@ impl<'a, R: Files<File = File>> SystemFolder<'a, R> {
         file.try_lock()?;
         Ok(file)
     }
+
+    /// Gives what has the first name the second one.
+    fn renamed(&self, from: Name, to: Name) -> Result<(), Cause>
+        ensures { IfErr result IsOfSystem }
+    {
+        let from = self.place.path(from)?;
+        let to = self.place.path(to)?;
+        Ok(fs::rename(self.rt, from, to)?)
+    }
 }
 
 // Of a folder of the operating system nothing is known, so each clause under honesty holds of it.
@@ -84,10 +93,12 @@ impl<'a, R: Files<File = File>> Folder for SystemFolder<'a, R> {
     fn is_alone(&mut self, name: Name, file: &File) -> Result<bool, Cause> {
         let own = file.metadata()?;
         let named = fs::symlink_metadata(self.rt, self.place.path(name)?)?;
-        Ok(own.is_file()
-            && own.nlink() == 1
-            && own.dev() == named.dev()
-            && own.ino() == named.ino())
+        Ok(
+            own.is_file()
+                && own.nlink() == 1
+                && own.dev() == named.dev()
+                && own.ino() == named.ino(),
+        )
     }
 
     fn len(&mut self, file: &File) -> Result<u64, Cause> {
@@ -115,7 +126,7 @@ impl<'a, R: Files<File = File>> Folder for SystemFolder<'a, R> {
     }
 
     fn rename(&mut self, from: Name, to: Name) -> Result<(), Cause> {
-        Ok(fs::rename(self.rt, self.place.path(from)?, self.place.path(to)?)?)
+        self.renamed(from, to)
     }
 
     fn remove(&mut self, name: Name) -> Result<(), Cause> {

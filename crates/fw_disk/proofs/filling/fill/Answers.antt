@@ -42,7 +42,7 @@ returns-clause-goes g c = λ empty synced honest.
     let first = written_first ours limit n c.min.result bytes f o k_is c.split_at.ensures.front c.split_at.ensures.back a.disk b.disk empty (c.in_ok-write_synced.ensures.done honest (omega arith)) in
     follow T (Tears n (length f) (length o)) T (λ x. x.bytes n ≡ f) a b d
     (widen_from (Tears n 0 (length f)) T (λ x. x.bytes n ≡ []) a b c.write_synced.ensures.goes (λ h. empty) (λ h left may. synced left may ∙ empty)
-      (λ x y q t. torn_first ours limit n c.min.result bytes f o k_is c.split_at.ensures.front c.split_at.ensures.back (g.met.K.Kind.small c.args.kind.now) x y q t))
+    (λ x y q t. torn_first ours limit n c.min.result bytes f o k_is c.split_at.ensures.front c.split_at.ensures.back (g.met.K.Kind.small c.args.kind.now) x y q t))
     (λ h. first) (λ h left may. c.in_ok-write_synced.ensures.synced h left may ∙ first) c.write_synced-2.ensures.goes
     (λ x y t. t)
     (λ x y z t q s. torn_others ours limit n c.min.result bytes f o k_is c.split_at.ensures.front c.split_at.ensures.back x y z t q s) honest

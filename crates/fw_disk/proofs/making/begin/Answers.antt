@@ -17,4 +17,4 @@ returns-in-Plain-clause-goes g c = λ honest.
     let same = (c.look.ensures.goes honest).reads in
     stays_first T (takes_refl ours ⊤ c.args.name may) a b (g.F.Folder.seen c.take.new.folder) c.look.ensures.goes
     (widen (Takes ours ⊤ c.args.name (IsOurs ours b.disk c.args.name)) T b (g.F.Folder.seen c.take.new.folder) c.take.ensures.goes
-      (λ h x y t. takes_more ours ⊤ c.args.name (IsOurs ours b.disk c.args.name) may x y (λ n is. inr (subst (λ (d : Disk). IsOurs ours d c.args.name n) same is)) t)) honest
+    (λ h x y t. takes_more ours ⊤ c.args.name (IsOurs ours b.disk c.args.name) may x y (λ n is. inr (subst (λ (d : Disk). IsOurs ours d c.args.name n) same is)) t)) honest

@@ -18,6 +18,6 @@ returns-in_err-sync-clause-goes g c = λ honest.
     let taken : may n = c.in_ok-file.ensures.ours honest in
     stays_first T (takes_refl ours ⊤ c.args.name may) a (g.F.Folder.seen c.open_ours.new.folder) (g.F.Folder.seen c.sync.new.self) c.open_ours.ensures.goes
     (stays_last T (g.F.Folder.seen c.open_ours.new.folder) (g.F.Folder.seen c.clear.new.self) (g.F.Folder.seen c.sync.new.self)
-      (widen (Shortens n) T (g.F.Folder.seen c.open_ours.new.folder) (g.F.Folder.seen c.clear.new.self) c.clear.ensures.goes
-        (λ h x y s. takes_shortened ours ⊤ c.args.name may n taken (g.met.K.Kind.fronts c.args.kind.now) x y s))
-      c.sync.ensures.goes) honest
+    (widen (Shortens n) T (g.F.Folder.seen c.open_ours.new.folder) (g.F.Folder.seen c.clear.new.self) c.clear.ensures.goes
+    (λ h x y s. takes_shortened ours ⊤ c.args.name may n taken (g.met.K.Kind.fronts c.args.kind.now) x y s))
+    c.sync.ensures.goes) honest

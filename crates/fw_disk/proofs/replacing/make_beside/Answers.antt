@@ -15,8 +15,8 @@ module _ (ours : List ℕ → Type 0) (fits : Type 0) (o : ℕ) where
       let same = (first honest).reads in
       stays_first (Takes ours fits New (MayTakeBeside ours a.disk o)) (takes_refl ours fits New (MayTakeBeside ours a.disk o)) a b d first
       (widen (Takes ours ⊤ New (MayTake ours b.disk New)) (Takes ours fits New (MayTakeBeside ours a.disk o)) b d second
-        (λ h x y t. takes_begun ours fits New (MayTakeBeside ours a.disk o) (MayTake ours b.disk New) x y
-          (λ n is. record { main = alone; takes = subst (λ (d : Disk). MayTake ours d New n) same is }) t))
+      (λ h x y t. takes_begun ours fits New (MayTakeBeside ours a.disk o) (MayTake ours b.disk New) x y
+      (λ n is. record { main = alone; takes = subst (λ (d : Disk). MayTake ours d New n) same is }) t))
 
 pub returns-in_err-file-clause-goes : goal.returns-in_err-file-clause-goes
 returns-in_err-file-clause-goes g c = λ honest.
@@ -71,5 +71,5 @@ returns-in-Err-clause-goes g c = λ honest.
     let filled = c.fill_like.ensures.goes empty (c.in_ok-file.ensures.synced then) in
     chain T (takes_trans ours fits New (MayTakeBeside ours a.disk o)) a e (g.F.Folder.seen c.abandon.new.folder)
     (chain T (takes_trans ours fits New (MayTakeBeside ours a.disk o)) a d e (begun ours fits o a b d c.is_alone.ensures.goes alone c.begin.ensures.goes honest)
-      (widen (Fills ours first n bytes) T d e filled (λ h x y f. takes_filled ours fits New (MayTakeBeside ours a.disk o) n first bytes taken (λ fit. fit) x y f)))
+    (widen (Fills ours first n bytes) T d e filled (λ h x y f. takes_filled ours fits New (MayTakeBeside ours a.disk o) n first bytes taken (λ fit. fit) x y f)))
     (widen (MayRemove New) T e (g.F.Folder.seen c.abandon.new.folder) c.abandon.ensures.goes (λ h x y r. takes_removed ours fits New (MayTakeBeside ours a.disk o) x y r)) honest
