@@ -1,10 +1,10 @@
 -- What filling makes of the bytes of a file.
-use Rattle.std.proofs.Common.{◌≡◌, ◌⊎◌, inl, inr, ⊎_elim, ℕ, ◌+◌, ◌≤◌, ◌<◌, min, max, List, [], ◌++◌, length, take, drop, refl, sym, ◌∙◌, ap, subst, arith}
+use Rattle.std.proofs.Common.{◌≡◌, ◌⊎◌, ⊎_elim, ℕ, ◌+◌, ◌≤◌, ◌<◌, min, max, List, [], ◌++◌, length, take, drop, sym, ◌∙◌, ap, subst, arith}
 use Rattle.std.proofs.lemmas.List.{take_all, length-take}
 use Rattle.std.proofs.lemmas.Grind.{common_steps}
-use Rattle.fw_disk.specs.Disk.{Disk, ChangesOnly}
+use Rattle.fw_disk.specs.Disk.{Disk}
 use Rattle.fw_disk.specs.Calls.{NoName, splice, IsTorn, Writes, Tears}
-use Rattle.fw_disk.specs.Ours.{Starts, Fills}
+use Rattle.fw_disk.specs.Ours.{Fills}
 use Rattle.fw_disk.proofs.Steps.{only_trans}
 
 splice_empty : (f : List ℕ) → splice [] 0 f ≡ f

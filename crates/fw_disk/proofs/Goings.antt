@@ -1,6 +1,6 @@
 -- How calls of a folder follow on each other.
-use Rattle.std.proofs.Common.{◌≡◌, ◌⊎◌, inl, inr, ⊎_elim, ℕ, ◌≤◌, arith, IsTrue, refl, sym, ◌∙◌, subst, Ok, Err, Result, OnOk}
-use Rattle.fw_disk.specs.Disk.{Disk, Seen, Makes, Goes}
+use Rattle.std.proofs.Common.{◌≡◌, inl, inr, ⊎_elim, arith, IsTrue, sym, subst, Ok, Err, Result, OnOk}
+use Rattle.fw_disk.specs.Disk.{Disk, Seen, Goes}
 use Rattle.fw_disk.specs.Calls.{Stays}
 
 -- a call, and then one of which it is known what is read and what a power cut may leave as it begins

@@ -1,11 +1,11 @@
 -- What reserving has made, so far.
-use Rattle.std.proofs.Common.{◌≡◌, ◌⊎◌, inl, inr, ℕ, ◌+◌, ◌-◌, ◌≤◌, List, [], ◌++◌, length, take, drop, replicate, refl, sym, ◌∙◌, ap, subst, arith, IsTrue, append_assoc}
-use Rattle.std.proofs.lemmas.List.{append-nil, replicate-append-replicate}
+use Rattle.std.proofs.Common.{◌≡◌, ℕ, ◌+◌, ◌-◌, ◌≤◌, List, ◌++◌, length, replicate, ◌∙◌, ap, arith, IsTrue, append_assoc}
+use Rattle.std.proofs.lemmas.List.{replicate-append-replicate}
 use Rattle.std.proofs.lemmas.Grind.{common_steps}
-use Rattle.fw_disk.specs.Disk.{Disk, Seen, Goes, ChangesOnly}
-use Rattle.fw_disk.specs.Calls.{NoName, Stays, splice, Writes, Tears}
+use Rattle.fw_disk.specs.Disk.{Seen, Goes, ChangesOnly}
+use Rattle.fw_disk.specs.Calls.{NoName, splice, Writes, Tears}
 use Rattle.fw_disk.proofs.Goings.{chain, widen}
-use Rattle.fw_disk.proofs.Steps.{only_refl, only_trans}
+use Rattle.fw_disk.proofs.Steps.{only_trans}
 
 -- zeros stand up to here
 pub record Reserved (n from at : ℕ) (old now : Seen) : Type 0 where

@@ -5,8 +5,8 @@ use Rattle.std.proofs.lemmas.Bool.Decides.{eqb_tells}
 use Rattle.fw_disk.specs.declared.name.Name.{Name}
 use Rattle.fw_disk.specs.Disk.{Entry, absent, plain, other, Disk, ChangesOnly, IsNameless}
 use Rattle.fw_disk.specs.declared.name.Name.TheVariants.{Main, New}
-use Rattle.fw_disk.specs.Calls.{NoName, NoFile, Stays, Shortens, MayRename, MayRemove}
-use Rattle.fw_disk.specs.Ours.{IsLeftOver, Takes, Starts, Fills, IsNamed, Names, Replaces, MayTakeBeside}
+use Rattle.fw_disk.specs.Calls.{NoName, NoFile, Shortens, MayRename, MayRemove}
+use Rattle.fw_disk.specs.Ours.{IsLeftOver, Takes, Starts, Fills, Names, Replaces, MayTakeBeside}
 
 pub only_refl : (N : Name → Type 0) (M : ℕ → Type 0) (x : Disk) → ChangesOnly N M x x
 only_refl N M x = record { entries = λ name no. refl; contents = λ n no. refl; others = λ n. refl }

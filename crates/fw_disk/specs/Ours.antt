@@ -1,8 +1,8 @@
 -- Public vocabulary: which files may be taken, and what the calls over them leave.
-use Rattle.std.specs.Prelude.{◌≡◌, ◌⊎◌, ℕ, List, [], take}
+use Rattle.std.specs.Prelude.{◌≡◌, ◌⊎◌, ℕ, List, take}
 use Rattle.fw_disk.specs.declared.name.Name.{Name}
 use Rattle.fw_disk.specs.declared.name.Name.TheVariants.{Main, New}
-use Rattle.fw_disk.specs.Disk.{Entry, absent, plain, other, Disk, Seen, IsAlone, ChangesOnly}
+use Rattle.fw_disk.specs.Disk.{absent, plain, Disk, Seen, IsAlone, ChangesOnly}
 use Rattle.fw_disk.specs.Calls.{NoName, NoFile}
 
 -- the file is alone under the name and is ours by its bytes

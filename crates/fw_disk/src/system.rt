@@ -53,6 +53,7 @@ impl<'a, R: Files<File = File>> SystemFolder<'a, R> {
 
 // Of a folder of the operating system nothing is known, so each clause under honesty holds of it.
 impl<'a, R: Files<File = File>> Folder for SystemFolder<'a, R> {
+    ghost use Rattle.std.proofs.Common.{rules};
     ghost use Rattle.fw_disk.specs.Disk.{nothing_known};
 
     type File = File;
@@ -61,7 +62,7 @@ impl<'a, R: Files<File = File>> Folder for SystemFolder<'a, R> {
 
     ghost number = { λ _. 0 };
 
-    ghost nameless = { λ f honest. absurd honest };
+    ghost nameless = { Prim.search rules };
 
     ghost counts_now = { λ f since left le now. tt };
 

@@ -1,5 +1,4 @@
-use Rattle.std.proofs.Common.{rules, ◌≡◌, ◌≤◌, ℕ, min, List, [], length, sym, ◌∙◌, ap, arith, IsTrue, OnOk}
-use Rattle.fw_disk.specs.Disk.{Disk}
+use Rattle.std.proofs.Common.{rules, ◌≡◌, min, [], length, ◌∙◌, ap, arith}
 use Rattle.fw_disk.specs.Calls.{Writes, Tears}
 use Rattle.fw_disk.specs.Ours.{Fills}
 use Rattle.fw_disk.proofs.Goings.{follow, widen_from, on_ok}

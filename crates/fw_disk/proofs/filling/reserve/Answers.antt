@@ -1,4 +1,4 @@
-use Rattle.std.proofs.Common.{rules, ◌≡◌, ◌≤◌, ◌+◌, ◌-◌, inl, ℕ, List, take, replicate, min, refl, arith}
+use Rattle.std.proofs.Common.{rules, ◌≤◌, ◌+◌, ◌-◌, inl, take, replicate, refl, arith}
 use Rattle.std.proofs.lemmas.List.{take-replicate}
 use Rattle.fw_disk.proofs.Reserving.{grows}
 use Rattle.fw_disk.proofs.filling.reserve.Goals as goal

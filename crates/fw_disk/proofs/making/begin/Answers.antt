@@ -1,4 +1,4 @@
-use Rattle.std.proofs.Common.{◌≡◌, inr, ℕ, List, ap, sym, subst}
+use Rattle.std.proofs.Common.{inr, subst}
 use Rattle.std.specs.Prelude.{⊤}
 use Rattle.fw_disk.specs.Disk.{Disk}
 use Rattle.fw_disk.specs.Ours.{IsOurs, MayTake, Takes}

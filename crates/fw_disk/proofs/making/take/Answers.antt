@@ -1,6 +1,4 @@
-use Rattle.std.proofs.Common.{◌≡◌, ℕ, List, ap, sym, subst}
 use Rattle.std.specs.Prelude.{⊤}
-use Rattle.fw_disk.specs.Disk.{Disk, IsAlone}
 use Rattle.fw_disk.specs.Calls.{Shortens}
 use Rattle.fw_disk.specs.Ours.{IsOurs, Takes}
 use Rattle.fw_disk.proofs.Goings.{widen, stays_first, stays_last}

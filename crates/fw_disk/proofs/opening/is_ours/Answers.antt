@@ -1,4 +1,4 @@
-use Rattle.std.proofs.Common.{rules, ◌≡◌, ◌≤◌, ◌+◌, ◌-◌, ℕ, List, [], ◌∷◌, length, take, drop, min, slice_range, refl, sym, ◌∙◌, ap, subst, arith, IsTrue}
+use Rattle.std.proofs.Common.{rules, ◌≡◌, ◌≤◌, ◌+◌, ℕ, List, [], ◌∷◌, length, take, min, slice_range, refl, ◌∙◌, ap, arith}
 use Rattle.std.proofs.lemmas.List.{take_min, length-take}
 use Rattle.fw_disk.proofs.opening.is_ours.Goals as goal
 

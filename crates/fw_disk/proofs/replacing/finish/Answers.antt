@@ -1,4 +1,4 @@
-use Rattle.std.proofs.Common.{◌≡◌, ℕ, List, sym, ◌∙◌, ap}
+use Rattle.std.proofs.Common.{◌≡◌, ◌∙◌, ap}
 use Rattle.fw_disk.specs.declared.name.Name.TheVariants.{Main, New}
 use Rattle.fw_disk.specs.Disk.{Disk}
 use Rattle.fw_disk.specs.Calls.{Stays, MayRename}

@@ -1,4 +1,4 @@
-use Rattle.std.proofs.Common.{rules, ◌≡◌, ℕ, List, [], true, sym, ◌∙◌, ap, subst, IsTrue}
+use Rattle.std.proofs.Common.{rules, ℕ, List, subst, IsTrue}
 use Rattle.std.specs.Prelude.{⊤}
 use Rattle.fw_disk.specs.declared.name.Name.TheVariants.{Main, New}
 use Rattle.fw_disk.specs.Disk.{Disk, Seen, IsAlone, Goes}

@@ -1,6 +1,4 @@
-use Rattle.std.proofs.Common.{◌≡◌, subst}
 use Rattle.fw_disk.specs.declared.name.Name.TheVariants.{Main, New}
-use Rattle.fw_disk.specs.Disk.{Disk}
 use Rattle.fw_disk.specs.Calls.{MayRename, MayRemove}
 use Rattle.fw_disk.proofs.Goings.{follow}
 use Rattle.fw_disk.proofs.Steps.{renamed_or_removed}

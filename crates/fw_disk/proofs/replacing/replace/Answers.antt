@@ -1,8 +1,7 @@
-use Rattle.std.proofs.Common.{◌≡◌, ℕ, List, sym, ◌∙◌, ap, IsTrue}
+use Rattle.std.proofs.Common.{◌≡◌, ◌∙◌}
 use Rattle.fw_disk.specs.declared.name.Name.TheVariants.{Main, New}
-use Rattle.fw_disk.specs.Disk.{Entry, plain, Disk, Seen, Goes}
 use Rattle.fw_disk.specs.Calls.{MayRename}
-use Rattle.fw_disk.specs.Ours.{MayTake, MayTakeBeside, Takes, Starts, Replaces, IsNamed}
+use Rattle.fw_disk.specs.Ours.{MayTake, MayTakeBeside, Takes, Starts, Replaces}
 use Rattle.fw_disk.proofs.Goings.{follow, widen}
 use Rattle.fw_disk.proofs.Steps.{apart, replaces_beside, replaces_renamed}
 use Rattle.fw_disk.proofs.replacing.replace.Goals as goal
