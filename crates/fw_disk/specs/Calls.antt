@@ -1,7 +1,7 @@
 -- Public vocabulary: what each call of a folder makes of the disk, and what a power cut may leave of it.
-use Rattle.std.specs.Prelude.{◌≡◌, ◌≢◌, ◌⊎◌, ℕ, ◌+◌, ◌≤◌, min, max, List, [], ◌++◌, length, take, drop}
+use Rattle.std.specs.Prelude.{◌≡◌, ◌⊎◌, ℕ, ◌+◌, ◌≤◌, min, max, List, [], ◌++◌, length, take, drop}
 use Rattle.fw_disk.specs.declared.name.Name.{Name}
-use Rattle.fw_disk.specs.Disk.{Entry, absent, plain, other, Disk, ChangesOnly}
+use Rattle.fw_disk.specs.Disk.{Entry, absent, plain, Disk, ChangesOnly}
 
 abbrev pub NoName : Name → Type 0
 NoName name = ⊥

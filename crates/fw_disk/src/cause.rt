@@ -2,11 +2,11 @@
 
 ghost use Rattle.std.specs.Prelude.{◌≡◌};
 ghost use Rattle.fw_disk.specs.Causes.{IsOfSystem};
+ghost use Rattle.fw_disk.specs.declared.cause.NamingError.TheVariants.{NotNamed};
 
-use std::fmt;
 use std::fs::TryLockError;
-use std::io;
 use std::io::ErrorKind;
+use std::{fmt, io};
 use thiserror::Error;
 
 /// Why a call of a folder failed: the system's own error by its kind, or that the file isn't ours.
@@ -53,7 +53,9 @@ impl fmt::Display for Cause {
             Cause::Locked => f.write_str("another process has it open"),
             Cause::TooManyOpen => f.write_str("too many files are open"),
             Cause::Exists => f.write_str("a file is there already"),
-            Cause::NotAlone => f.write_str("it is a link, or no regular file, or has another name as well"),
+            Cause::NotAlone => f.write_str(
+                "it is a link, or no regular file, or has another name as well",
+            ),
             Cause::Foreign => f.write_str("it is another program's file"),
             Cause::Other { code } => fmt::Display::fmt(&io::Error::from_raw_os_error(*code), f),
         }
@@ -98,6 +100,14 @@ pub enum NamingError {
     NotNamed(Cause),
     /// It has the name, but a power cut may take that back.
     NotSynced(Cause),
+}
+
+impl From<Cause> for NamingError {
+    ghost from_gives = { λ cause error. error ≡ NotNamed cause };
+
+    fn from(cause: Cause) -> NamingError {
+        NamingError::NotNamed(cause)
+    }
 }
 
 impl NamingError {

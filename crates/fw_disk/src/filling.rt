@@ -2,7 +2,7 @@
 
 ghost use Rattle.std.specs.Prelude.{◌≡◌, ◌≤◌, ◌+◌, ◌-◌, ◌++◌, [], IsTrue, OnOk, length, replicate};
 ghost use Rattle.fw_disk.specs.Disk.{Goes, IsSynced, ChangesOnly};
-ghost use Rattle.fw_disk.specs.Calls.{NoName};
+ghost use Rattle.fw_disk.specs.Calls.{NoName, Writes, Tears};
 ghost use Rattle.fw_disk.specs.Ours.{Fills};
 
 use crate::cause::Cause;
@@ -39,6 +39,11 @@ fn write_synced<F: Folder>(
     at: u64,
     bytes: &[u8],
 ) -> Result<(), Cause>
+    ensures done { IsTrue (F.seen folder.old).honest
+        → at ≤ length ((F.seen folder.old).disk.bytes (F.number file.now))
+        → OnOk result (Writes (F.number file.now) at bytes.now (F.seen folder.old).disk (F.seen folder.new).disk) }
+    ensures synced { IsTrue (F.seen folder.old).honest → OnOk result (IsSynced (F.number file.now) (F.seen folder.new)) }
+    ensures goes { Goes (Tears (F.number file.now) at (length bytes.now)) (F.seen folder.old) (F.seen folder.new) }
 {
     folder.write_at(file, at, bytes)?;
     folder.sync(file)
@@ -53,15 +58,10 @@ const PIECE_SIZE: usize = 4096;
 /// # Errors
 ///
 /// `Full` where there is no room, and those of the system. Some of the zeros may then be there.
-pub fn reserve<F: Folder>(
-    folder: &mut F,
-    file: &F::File,
-    from: u64,
-    to: u64,
-) -> Result<(), Cause>
+pub fn reserve<F: Folder>(folder: &mut F, file: &F::File, from: u64, to: u64) -> Result<(), Cause>
     ensures done { IsTrue (F.seen folder.old).honest → length ((F.seen folder.old).disk.bytes (F.number file.now)) ≡ from
         → OnOk result ((F.seen folder.new).disk.bytes (F.number file.now)
-            ≡ (F.seen folder.old).disk.bytes (F.number file.now) ++ replicate (to - from) 0) }
+        ≡ (F.seen folder.old).disk.bytes (F.number file.now) ++ replicate (to - from) 0) }
     ensures goes { Goes (ChangesOnly NoName (λ m. m ≡ F.number file.now)) (F.seen folder.old) (F.seen folder.new) }
 {
     let zeros = [0; PIECE_SIZE];

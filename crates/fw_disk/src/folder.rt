@@ -19,6 +19,7 @@ ghost use Rattle.std.specs.Prelude.{
 ghost use Rattle.fw_disk.specs.Disk.{
   Disk,
   Seen,
+  absent,
   plain,
   found_of,
   IsNameless,
@@ -78,6 +79,7 @@ pub trait Folder {
     fn create(&mut self, name: Name) -> Result<Self::File, Cause>
         ensures done { IsTrue (seen self.old).honest → IfOk result (λ file.
             (number file ≡ (seen self.old).disk.next) × Creates name (number file) (seen self.old).disk (seen self.new).disk) }
+        ensures absent { IsTrue (seen self.old).honest → OnOk result ((seen self.old).disk.entry name ≡ absent) }
         ensures goes { Goes (MayCreate name (seen self.old).disk.next) (seen self.old) (seen self.new) }
         ensures cause { IfErr result IsOfSystem };
 

@@ -1,10 +1,9 @@
 //! A file that is made under another name.
 
-ghost use Rattle.std.specs.Prelude.{◌≡◌, ◌⊎◌, ℕ, [], IsTrue, IfOk, OnOk, IsErrOf};
-ghost use Rattle.fw_disk.specs.Disk.{plain, absent, Goes, IsSynced, IsNameless};
-ghost use Rattle.fw_disk.specs.Calls.{MayRemove};
+ghost use Rattle.std.specs.Prelude.{◌≡◌, ◌⊎◌, ⊤, ℕ, [], IsTrue, IfOk, IsErrOf};
+ghost use Rattle.fw_disk.specs.Disk.{plain, absent, Goes, IsSynced};
+ghost use Rattle.fw_disk.specs.Calls.{MayCreate, MayRemove};
 ghost use Rattle.fw_disk.specs.Ours.{IsOurs, MayTake, Takes, IsNamed};
-ghost use Rattle.fw_disk.specs.declared.name.Name.TheVariants.{Main, New};
 
 use crate::cause::Cause;
 use crate::folder::Folder;
@@ -20,18 +19,14 @@ use crate::opening::open_ours;
 /// `NotAlone` where a link is there, no regular file, or one that has another name as well; `Foreign` where a file is there that isn't
 /// ours by its bytes; `Locked` where another process has it; and those of the system. Where what is there isn't ours, nothing is changed:
 /// no entry, and no byte of any file.
-pub fn begin<F: Folder, K: Kind>(
-    folder: &mut F,
-    name: Name,
-    kind: &K,
-) -> Result<F::File, Cause>
+pub fn begin<F: Folder, K: Kind>(folder: &mut F, name: Name, kind: &K) -> Result<F::File, Cause>
     ensures taken { IsTrue (F.seen folder.old).honest
         → IfOk result (λ file. MayTake (K.ours kind.now) (F.seen folder.old).disk name (F.number file)) }
     ensures empty { IsTrue (F.seen folder.old).honest → IfOk result (λ file. IsNamed name (F.number file) [] (F.seen folder.new).disk) }
     ensures synced { IsTrue (F.seen folder.old).honest → IfOk result (λ file. IsSynced (F.number file) (F.seen folder.new)) }
 
     // Whatever it answers, and whenever it is cut.
-    ensures goes { Goes (Takes (K.ours kind.now) name (MayTake (K.ours kind.now) (F.seen folder.old).disk name))
+    ensures goes { Goes (Takes (K.ours kind.now) ⊤ name (MayTake (K.ours kind.now) (F.seen folder.old).disk name))
         (F.seen folder.old) (F.seen folder.new) }
     ensures foreign { IsTrue (F.seen folder.old).honest → ((n : ℕ) → ¬ MayTake (K.ours kind.now) (F.seen folder.old).disk name n)
         → (F.seen folder.new).disk ≡ (F.seen folder.old).disk }
@@ -47,6 +42,13 @@ pub fn begin<F: Folder, K: Kind>(
 
 /// Makes a file where nothing has the name.
 fn make<F: Folder>(folder: &mut F, name: Name) -> Result<F::File, Cause>
+    ensures fresh { IsTrue (F.seen folder.old).honest
+        → IfOk result (λ file. ((F.seen folder.old).disk.entry name ≡ absent) × (F.number file ≡ (F.seen folder.old).disk.next)) }
+    ensures empty { IsTrue (F.seen folder.old).honest → IfOk result (λ file. IsNamed name (F.number file) [] (F.seen folder.new).disk) }
+    ensures synced { IsTrue (F.seen folder.old).honest → IfOk result (λ file. IsSynced (F.number file) (F.seen folder.new)) }
+    ensures goes { Goes (MayCreate name (F.seen folder.old).disk.next) (F.seen folder.old) (F.seen folder.new) }
+    ensures alone { IsTrue (F.seen folder.old).honest → ¬ IsErrOf result Cause.NotAlone }
+    ensures never { ¬ IsErrOf result Cause.Foreign }
 {
     let file = folder.create(name)?;
     // Who had the lock before may have taken the file, and given it another name.
@@ -60,6 +62,16 @@ fn make<F: Folder>(folder: &mut F, name: Name) -> Result<F::File, Cause>
 /// Takes what was left of a making, and takes its bytes away. That is synced: else what is written next and some of them might be left
 /// together.
 fn take<F: Folder, K: Kind>(folder: &mut F, name: Name, kind: &K) -> Result<F::File, Cause>
+    ensures ours { IsTrue (F.seen folder.old).honest
+        → IfOk result (λ file. IsOurs (K.ours kind.now) (F.seen folder.old).disk name (F.number file)) }
+    ensures empty { IsTrue (F.seen folder.old).honest → IfOk result (λ file. IsNamed name (F.number file) [] (F.seen folder.new).disk) }
+    ensures synced { IsTrue (F.seen folder.old).honest → IfOk result (λ file. IsSynced (F.number file) (F.seen folder.new)) }
+    ensures goes { Goes (Takes (K.ours kind.now) ⊤ name (IsOurs (K.ours kind.now) (F.seen folder.old).disk name))
+        (F.seen folder.old) (F.seen folder.new) }
+    ensures foreign { IsTrue (F.seen folder.old).honest → ((n : ℕ) → ¬ IsOurs (K.ours kind.now) (F.seen folder.old).disk name n)
+        → (F.seen folder.new).disk ≡ (F.seen folder.old).disk }
+    ensures cause { IsTrue (F.seen folder.old).honest → IsErrOf result Cause.NotAlone ⊎ IsErrOf result Cause.Foreign
+        → (n : ℕ) → ¬ IsOurs (K.ours kind.now) (F.seen folder.old).disk name n }
 {
     let file = open_ours(folder, name, kind)?;
     folder.clear(&file)?;

@@ -1,6 +1,7 @@
 //! Where a file is, and those beside it.
 
-ghost use Rattle.std.specs.Prelude.{◌≤◌};
+ghost use Rattle.std.specs.Prelude.{◌≤◌, IfErr};
+ghost use Rattle.fw_disk.specs.Causes.{IsOfSystem};
 
 use crate::cause::Cause;
 use crate::name::Name;
@@ -25,7 +26,9 @@ impl<'a> Place<'a> {
     /// # Errors
     ///
     /// `Other` with the system's number for a name that is too long.
-    pub fn of(path: &'a str) -> Result<Place<'a>, Cause> {
+    pub fn of(path: &'a str) -> Result<Place<'a>, Cause>
+        ensures { IfErr result IsOfSystem }
+    {
         Ok(Place {
             path,
             new: Beside::of(path, ".new")?,
@@ -34,7 +37,9 @@ impl<'a> Place<'a> {
     }
 
     /// The path of a name.
-    pub fn path(&self, name: Name) -> Result<&str, Cause> {
+    pub fn path(&self, name: Name) -> Result<&str, Cause>
+        ensures { IfErr result IsOfSystem }
+    {
         match name {
             Name::Main => Ok(self.path),
             Name::New => self.new.text(),
@@ -62,7 +67,9 @@ struct Beside {
 
 impl Beside {
     /// The path with the ending.
-    fn of(path: &str, ending: &str) -> Result<Beside, Cause> {
+    fn of(path: &str, ending: &str) -> Result<Beside, Cause>
+        ensures { IfErr result IsOfSystem }
+    {
         let (path, ending) = (path.as_bytes(), ending.as_bytes());
         let mut bytes = [0; MAX_PATH_SIZE];
         if path.len() > MAX_PATH_SIZE || ending.len() > MAX_PATH_SIZE - path.len() {
@@ -75,7 +82,9 @@ impl Beside {
     }
 
     /// The path as text.
-    fn text(&self) -> Result<&str, Cause> {
+    fn text(&self) -> Result<&str, Cause>
+        ensures { IfErr result IsOfSystem }
+    {
         match str::from_utf8(&self.bytes[..self.size]) {
             Ok(text) => Ok(text),
             Err(_) => Err(TOO_LONG),

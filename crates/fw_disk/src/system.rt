@@ -1,5 +1,8 @@
 //! The folder of a file of the operating system.
 
+ghost use Rattle.std.specs.Prelude.{IfErr};
+ghost use Rattle.fw_disk.specs.Causes.{IsOfSystem};
+
 use crate::cause::Cause;
 use crate::folder::Folder;
 use crate::name::{Found, Name};
@@ -22,21 +25,35 @@ impl<'a, R: Files<File = File>> SystemFolder<'a, R> {
     /// # Errors
     ///
     /// `Other` where the path is too long.
-    pub fn of(rt: &'a R, path: &'a str) -> Result<SystemFolder<'a, R>, Cause> {
+    pub fn of(rt: &'a R, path: &'a str) -> Result<SystemFolder<'a, R>, Cause>
+        ensures { IfErr result IsOfSystem }
+    {
         let place = Place::of(path)?;
         Ok(SystemFolder { rt, place })
     }
 
     /// Opens a file in a way, and locks it.
-    fn locked(&self, name: Name, options: &OpenOptions) -> Result<File, Cause> {
+    fn locked(&self, name: Name, options: &OpenOptions) -> Result<File, Cause>
+        ensures { IfErr result IsOfSystem }
+    {
         let file = options.open(self.rt, self.place.path(name)?)?;
         file.try_lock()?;
         Ok(file)
+    }
+
+    /// Gives what has the first name the second one.
+    fn renamed(&self, from: Name, to: Name) -> Result<(), Cause>
+        ensures { IfErr result IsOfSystem }
+    {
+        let from = self.place.path(from)?;
+        let to = self.place.path(to)?;
+        Ok(fs::rename(self.rt, from, to)?)
     }
 }
 
 // Of a folder of the operating system nothing is known, so each clause under honesty holds of it.
 impl<'a, R: Files<File = File>> Folder for SystemFolder<'a, R> {
+    ghost use Rattle.std.proofs.Common.{rules};
     ghost use Rattle.fw_disk.specs.Disk.{nothing_known};
 
     type File = File;
@@ -45,7 +62,7 @@ impl<'a, R: Files<File = File>> Folder for SystemFolder<'a, R> {
 
     ghost number = { λ _. 0 };
 
-    ghost nameless = { λ f honest. absurd honest };
+    ghost nameless = { Prim.search rules };
 
     ghost counts_now = { λ f since left le now. tt };
 
@@ -77,10 +94,12 @@ impl<'a, R: Files<File = File>> Folder for SystemFolder<'a, R> {
     fn is_alone(&mut self, name: Name, file: &File) -> Result<bool, Cause> {
         let own = file.metadata()?;
         let named = fs::symlink_metadata(self.rt, self.place.path(name)?)?;
-        Ok(own.is_file()
-            && own.nlink() == 1
-            && own.dev() == named.dev()
-            && own.ino() == named.ino())
+        Ok(
+            own.is_file()
+                && own.nlink() == 1
+                && own.dev() == named.dev()
+                && own.ino() == named.ino(),
+        )
     }
 
     fn len(&mut self, file: &File) -> Result<u64, Cause> {
@@ -108,7 +127,7 @@ impl<'a, R: Files<File = File>> Folder for SystemFolder<'a, R> {
     }
 
     fn rename(&mut self, from: Name, to: Name) -> Result<(), Cause> {
-        Ok(fs::rename(self.rt, self.place.path(from)?, self.place.path(to)?)?)
+        self.renamed(from, to)
     }
 
     fn remove(&mut self, name: Name) -> Result<(), Cause> {
