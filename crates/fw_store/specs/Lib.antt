@@ -16,6 +16,7 @@ pub mod Journaled
 pub mod StoreBytes
 pub mod Refusals
 pub mod StoreLaws
+pub mod Beside
 -- For private members alone: no public clause cites it.
 pub mod Sizes
 pub mod Fronts

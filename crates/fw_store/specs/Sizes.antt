@@ -1,6 +1,6 @@
 -- What a store over a device keeps: its layout, and the law that each of its slots has the capacity. For its private members alone:
 -- no public clause cites it.
-use Rattle.std.specs.Prelude.{◌≡◌, ℕ, ◌+◌, ◌-◌, ◌*◌, ◌≤◌, List, length, take, drop}
+use Rattle.std.specs.Prelude.{◌≡◌, ℕ, ◌+◌, ◌-◌, ◌*◌, ◌≤◌, List, length, take, drop, replicate}
 use Rattle.std.specs.Int.{w32, to_be_bytes}
 use Rattle.std.proofs.Common.{arith, length-drop}
 use Rattle.std.proofs.lemmas.List.{length-take}
@@ -36,6 +36,11 @@ pub record IsLaidOut (tail : Tail) (capacity : ℕ) (bytes : List ℕ) : Type 0 
   pub begins : take 4 bytes ≡ to_be_bytes w32 capacity
   pub room : IsCapacity capacity
   pub size : length bytes ≡ stored_size tail capacity
+
+-- as many bytes as this, with zeros behind the first four
+pub record IsBlank (count : ℕ) (bytes : List ℕ) : Type 0 where
+  pub size : length bytes ≡ count
+  pub zeros : drop 4 bytes ≡ replicate (count - 4) 0
 
 -- its slots are within its bytes
 pub slots_within : (tail : Tail) (capacity : ℕ) (bytes : List ℕ) → IsLaidOut tail capacity bytes → old_store_size capacity ≤ length bytes

@@ -21,6 +21,8 @@ ghost use Rattle.std.specs.Prelude.{
   length,
   replicate,
   slice_range,
+  take,
+  drop,
 };
 ghost use Rattle.std.specs.Int.{w32, to_be_bytes};
 ghost use Rattle.fw_store.specs.Faults.{count_after};
@@ -38,7 +40,7 @@ ghost use Rattle.fw_store.specs.StoreBytes.{
   store_bytes,
   store_size,
 };
-ghost use Rattle.fw_store.specs.Sizes.{IsLaidOut, stored_size, tail_of};
+ghost use Rattle.fw_store.specs.Sizes.{IsBlank, IsLaidOut, stored_size, tail_of};
 ghost use Rattle.fw_store.specs.Device.{padded, with_head};
 ghost use Rattle.fw_store.specs.Fresh.{fresh_device};
 ghost use Rattle.fw_store.specs.Versions.{bytes_of, version_of};
@@ -141,6 +143,20 @@ impl<D: ByteDevice + Drop> DeviceStore<D> {
             tail: Tail::of_version(version),
             fault_count: 0,
         })
+    }
+
+    /// The store that was laid out on a device, with a header of version 2.
+    pub(crate) fn laid_on(device: D, capacity: u32) -> DeviceStore<D>
+        requires { IsTrue (D.honest device) → IsLaidOut Tail.Marks capacity (D.contents device) }
+        ensures size { (⟦<DeviceStore<D> as ImageStore>⟧.known result).capacity ≡ capacity }
+        ensures faultless { (⟦<DeviceStore<D> as ImageStore>⟧.known result).faults ≡ 0 }
+    {
+        DeviceStore {
+            device,
+            capacity,
+            tail: Tail::Marks,
+            fault_count: 0,
+        }
     }
 
     /// The store that a device holds, with a header of either version, or of version 1 without releases. Its length says which.
@@ -252,7 +268,7 @@ pub(crate) fn holds_store<D: ByteDevice>(device: &mut D) -> Result<bool, DeviceF
 }
 
 /// The number whose bytes these are, high byte first.
-fn number(bytes: [u8; 4]) -> u32
+pub(crate) fn number(bytes: [u8; 4]) -> u32
     ensures { to_be_bytes w32 result ≡ bytes }
 {
     u32::from_be_bytes(bytes)
@@ -287,11 +303,29 @@ fn lay_out<D: ByteDevice>(
         → store_size (version_of head.now) capacity ≤ D.room device.old → IsOk result }
 {
     clear(device, store_size(head.version(), capacity))?;
+    write_behind(device, capacity, head, image)?;
+    device.replace_at(0, &capacity.to_be_bytes())
+}
+
+/// Writes all of a store but its capacity on a device that has as many bytes, with zeros behind the first four: this header, and the
+/// image in the first slot.
+pub(crate) fn write_behind<D: ByteDevice>(
+    device: &mut D,
+    capacity: u32,
+    head: &HeaderBytes,
+    image: &[u8],
+) -> Result<(), DeviceFault>
+    requires fits { length image.now ≤ capacity }
+    requires blank { IsTrue (D.honest device.old) → IsBlank (store_size (version_of head.now) capacity) (D.contents device.old) }
+    ensures done { IsTrue (D.honest device.old) → OnOk result (D.contents device.new ≡ take 4 (D.contents device.old) ++ drop 4
+        (store_bytes capacity (record { head = bytes_of head.now; first = padded image.now capacity; second = replicate capacity 0 }))) }
+    ensures kept { KeepsDevice D.honest D.sound D.room device.old device.new }
+    ensures never { IsTrue (D.sound device.old) → IsOk result }
+{
     device.write_at(SLOTS_AT, image)?;
     let (front, last) = head.as_slice().split_at(FRONT_SIZE);
     device.write_at(HEADER_AT, front)?;
-    device.write_at(tail_at(capacity), last)?;
-    device.replace_at(0, &capacity.to_be_bytes())
+    device.write_at(tail_at(capacity), last)
 }
 
 /// Reads the header of a store on a device.

@@ -5,6 +5,7 @@ ghost use Rattle.fw_store.specs.declared.error.SetupError.TheVariants as setup;
 ghost use Rattle.fw_store.specs.declared.error.FileStoreError.TheVariants as file;
 
 use crate::device::DeviceFault;
+use fw_disk::{Because, Cause, NamingError};
 use std::alloc::AllocError;
 use std::fmt;
 use thiserror::Error;
@@ -66,5 +67,40 @@ impl From<DeviceFault> for FileStoreError {
 
     fn from(_fault: DeviceFault) -> FileStoreError {
         FileStoreError::StoreFault
+    }
+}
+
+/// A file of a store, or its folder, failed, and why, if it is known.
+#[derive(Clone, Copy, Debug)]
+pub(crate) struct FileFault {
+    cause: Option<Cause>,
+}
+
+impl From<Cause> for FileFault {
+    fn from(cause: Cause) -> FileFault {
+        FileFault { cause: Some(cause) }
+    }
+}
+
+impl From<NamingError> for FileFault {
+    fn from(error: NamingError) -> FileFault {
+        FileFault::from(error.cause())
+    }
+}
+
+impl From<DeviceFault> for FileFault {
+    fn from(_fault: DeviceFault) -> FileFault {
+        FileFault { cause: None }
+    }
+}
+
+impl From<FileFault> for Because<FileStoreError> {
+    ghost from_gives = { λ _ because. because.error ≡ file.StoreFault };
+
+    fn from(fault: FileFault) -> Because<FileStoreError> {
+        Because {
+            error: FileStoreError::StoreFault,
+            cause: fault.cause,
+        }
     }
 }

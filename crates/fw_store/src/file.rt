@@ -1,22 +1,24 @@
 //! Stores in files of the operating system.
 
-ghost use Rattle.std.specs.Prelude.{◌≡◌, ◌+◌, ◌<◌, ◌^◌, length, IfOk, IfErr, OnOk, IsErrOf};
+ghost use Rattle.std.specs.Prelude.{◌≡◌, ◌+◌, ◌<◌, ◌≤◌, ◌^◌, length, IfOk, IfErr, OnOk, IsErrOf};
 ghost use Rattle.fw_store.specs.Refusals.{IsCreateRefusal, IsReopenRefusal};
 ghost use Rattle.fw_store.specs.Setup.{IsCapacity, IsSetup};
 
+use crate::beside::{BegunStore, UndoFile, take_room};
 use crate::device::{ByteDevice, DeviceFault};
-use crate::device_store::{DeviceStore, holds_store};
-use crate::error::FileStoreError;
-use crate::names::{Beside, JOURNAL, NEW, sync_folder};
-use crate::open_file::{OpenFile, options, refused};
+use crate::device_store::{DeviceStore, holds_store, write_behind};
+use crate::error::{FileFault, FileStoreError};
+use crate::open_file::OpenFile;
 use crate::recovery::{Scratch, prepare_journal, recover};
-use crate::setup::is_setup;
+use crate::setup::{fresh_bytes, is_setup};
 use crate::store::ImageStore;
-use crate::version::HeaderVersion;
+use crate::tail::store_size;
+use crate::version::{HeaderBytes, HeaderVersion};
+use fw_disk::{
+    Because, Cause, Folder, Found, Name, SystemFolder, abandon, begin, finish, open, open_companion,
+};
 use fw_undo::{Change, HeaderWrite, MAX_JOURNAL_SIZE};
-use std::fs;
 use std::fs::File;
-use std::io::ErrorKind;
 use std::path::AsPath;
 use std::rt::Files;
 
@@ -35,47 +37,92 @@ pub struct FileDevice {
 pub type FileStore = DeviceStore<FileDevice>;
 
 impl FileDevice {
-    /// Makes a file under another name, where there is none under this one. Where one was left under the other name, which nobody has
-    /// open, it is taken. Its journal is empty.
-    fn create<R: Files<File = File>>(rt: &R, path: &str) -> Result<FileDevice, DeviceFault> {
-        absent(rt, path)?;
-        let name = Beside::of(path, NEW)?;
-        let store = OpenFile::open(rt, name.text()?, &options(true)).map_err(refused)?;
-        store.lock()?;
-        // Who had the lock before may have given the file this name meanwhile.
-        absent(rt, path)?;
-        match empty_journal(rt, path) {
-            Ok(journal) => Ok(FileDevice::of(store, journal)),
+    /// Makes a store in a new file with this header, and the image in the first slot.
+    fn make<R: Files<File = File>>(
+        folder: &mut SystemFolder<'_, R>,
+        capacity: u32,
+        head: &HeaderBytes,
+        image: &[u8],
+    ) -> Result<FileDevice, FileFault>
+        requires { length image.now ≤ capacity }
+    {
+        let mut device = FileDevice::begin(folder, capacity)?;
+        match device.settle(folder, capacity, head, image) {
+            Ok(()) => Ok(device),
             Err(fault) => {
-                abandon(rt, path);
+                device.abandon(folder);
                 Err(fault)
             }
         }
     }
 
-    /// Opens a file that is there. What a power cut left of a header write is put right by its journal. Where the file is a store and
-    /// has no journal, it gets an empty one. The names of both are where a power cut leaves them.
-    fn open<R: Files<File = File>>(rt: &R, path: &str) -> Result<FileDevice, FileStoreError>
-        ensures refusals { IfErr result IsReopenRefusal }
+    /// Begins a store under the name FILE.new where nothing is FILE, with room for all of it, and its journal, which is empty.
+    fn begin<R: Files<File = File>>(
+        folder: &mut SystemFolder<'_, R>,
+        capacity: u32,
+    ) -> Result<FileDevice, Cause> {
+        match folder.look(Name::Main)? {
+            Found::Absent => (),
+            Found::Plain | Found::Other => return Err(Cause::Exists),
+        }
+        let store = begin(folder, Name::New, &BegunStore)?;
+        match room_and_journal(folder, &store, capacity) {
+            Ok(journal) => {
+                let size = store_size(HeaderVersion::Two, capacity);
+                Ok(FileDevice::of(OpenFile::of(store, size), OpenFile::of(journal, 0)))
+            }
+            Err(cause) => {
+                abandon(folder, Name::New, &store);
+                Err(cause)
+            }
+        }
+    }
+
+    /// Writes a store that was begun, and gives it its name.
+    fn settle<R: Files<File = File>>(
+        &mut self,
+        folder: &mut SystemFolder<'_, R>,
+        capacity: u32,
+        head: &HeaderBytes,
+        image: &[u8],
+    ) -> Result<(), FileFault>
+        requires { length image.now ≤ capacity }
     {
-        let mut store = OpenFile::open(rt, path, &options(false)).map_err(refused)?;
-        store.lock()?;
-        let journal = match journal_of(rt, path)? {
-            Some(mut journal) => {
+        write_behind(self, capacity, head, image)?;
+        finish(folder, self.store.file())?;
+        Ok(())
+    }
+
+    /// Takes away what was made of a store, under whichever name it is.
+    fn abandon<R: Files<File = File>>(&self, folder: &mut SystemFolder<'_, R>) {
+        abandon(folder, Name::New, self.store.file());
+        abandon(folder, Name::Main, self.store.file());
+        abandon(folder, Name::Journal, self.journal.file());
+    }
+
+    /// Opens a file that is there, if it is a store. What a power cut left of a header write is put right by its journal. A store that
+    /// has no journal gets an empty one. The names of both are where a power cut leaves them.
+    fn open<R: Files<File = File>>(
+        folder: &mut SystemFolder<'_, R>,
+    ) -> Result<Option<FileDevice>, FileFault> {
+        let file = open(folder)?;
+        let mut store = measured(folder, file)?;
+        let journal = match open_companion(folder, Name::Journal, &UndoFile)? {
+            Some(journal) => {
+                let mut journal = measured(folder, journal)?;
                 put_right(&mut store, &mut journal)?;
                 Some(journal)
             }
             None => None,
         };
         if !holds_store(&mut store)? {
-            return Err(FileStoreError::BadFile);
+            return Ok(None);
         }
         let journal = match journal {
             Some(journal) => journal,
-            None => empty_journal(rt, path)?,
+            None => new_journal(folder)?,
         };
-        sync_folder(rt, path)?;
-        Ok(FileDevice::of(store, journal))
+        Ok(Some(FileDevice::of(store, journal)))
     }
 
     /// The bytes of a file, with the journal beside it.
@@ -117,30 +164,30 @@ impl FileDevice {
     }
 }
 
-/// Nothing has this name.
-fn absent<R: Files<File = File>>(rt: &R, path: &str) -> Result<(), DeviceFault> {
-    match fs::symlink_metadata(rt, path) {
-        Err(error) if error.kind() == ErrorKind::NotFound => Ok(()),
-        _ => Err(DeviceFault),
-    }
+/// Takes room for a store in a file that was begun, and begins the journal beside it.
+fn room_and_journal<R: Files<File = File>>(
+    folder: &mut SystemFolder<'_, R>,
+    store: &File,
+    capacity: u32,
+) -> Result<File, Cause> {
+    take_room(folder, store, capacity)?;
+    begin(folder, Name::Journal, &UndoFile)
 }
 
-/// The journal beside a file, if there is one.
-fn journal_of<R: Files<File = File>>(rt: &R, path: &str) -> Result<Option<OpenFile>, DeviceFault> {
-    let name = Beside::of(path, JOURNAL)?;
-    match OpenFile::open(rt, name.text()?, &options(false)) {
-        Ok(journal) => Ok(Some(journal)),
-        Err(error) if error.kind() == ErrorKind::NotFound => Ok(None),
-        Err(_) => Err(DeviceFault),
-    }
+/// Makes the journal beside a store that has none.
+fn new_journal<R: Files<File = File>>(folder: &mut SystemFolder<'_, R>) -> Result<OpenFile, Cause> {
+    let journal = begin(folder, Name::Journal, &UndoFile)?;
+    folder.sync_folder()?;
+    Ok(OpenFile::of(journal, 0))
 }
 
-/// The journal beside a file, without a byte.
-fn empty_journal<R: Files<File = File>>(rt: &R, path: &str) -> Result<OpenFile, DeviceFault> {
-    let name = Beside::of(path, JOURNAL)?;
-    let mut journal = OpenFile::open(rt, name.text()?, &options(true)).map_err(refused)?;
-    journal.replace_both(0, &[], 0, &[])?;
-    Ok(journal)
+/// A file that was opened, with its length.
+fn measured<R: Files<File = File>>(
+    folder: &mut SystemFolder<'_, R>,
+    file: File,
+) -> Result<OpenFile, Cause> {
+    let size = folder.len(&file)?;
+    Ok(OpenFile::of(file, size))
 }
 
 /// Takes back what a power cut left of a header write, by its journal.
@@ -178,30 +225,6 @@ fn read_journal<'a>(
     Ok(Some(bytes))
 }
 
-/// Gives a store that is made its name.
-fn settle<R: Files<File = File>>(rt: &R, path: &str) -> Result<(), DeviceFault> {
-    absent(rt, path)?;
-    let name = Beside::of(path, NEW)?;
-    fs::rename(rt, name.text()?, path).map_err(refused)?;
-    let synced = sync_folder(rt, path);
-    if synced.is_err() {
-        let _ = fs::remove_file(rt, path);
-    }
-    synced
-}
-
-/// Takes away what was made of a store.
-fn abandon<R: Files<File = File>>(rt: &R, path: &str) {
-    let _ = remove(rt, path, NEW);
-    let _ = remove(rt, path, JOURNAL);
-}
-
-/// Removes a file beside another.
-fn remove<R: Files<File = File>>(rt: &R, path: &str, ending: &str) -> Result<(), DeviceFault> {
-    let name = Beside::of(path, ending)?;
-    fs::remove_file(rt, name.text()?).map_err(refused)
-}
-
 impl DeviceStore<FileDevice> {
     /// A new store in a new file, with a header of version 2: the factory image is in its first slot, with zeros after it and in the
     /// other one. `capacity` is the size of a slot in bytes, 1 to 16,777,216, and `block_size` that of a block, 1 to 1,024. The image
@@ -209,8 +232,9 @@ impl DeviceStore<FileDevice> {
     ///
     /// # Errors
     ///
-    /// `BadSetup` where one of these doesn't hold, and no file is made. Otherwise `StoreFault` alone: where a file is there
-    /// already, which is left as it is, and where the file can't be made, locked or written. Nothing that was made is left then.
+    /// `BadSetup` if one of these doesn't hold, and no file is made. Otherwise `StoreFault` alone: a file is there already, or the file
+    /// can't be made, locked or written, or a file of another program is FILE.new or FILE.journal. Each of these is left as it is, and
+    /// nothing that was made is left.
     pub fn create<R: Files<File = File>, P: AsPath>(
         rt: &R,
         path: P,
@@ -228,21 +252,42 @@ impl DeviceStore<FileDevice> {
         if !is_setup(HeaderVersion::Two, capacity, block_size, factory) {
             return Err(FileStoreError::BadSetup);
         }
-        let place = path.path_text();
-        let device = FileDevice::create(rt, place)?;
-        match DeviceStore::create_on(device, capacity, block_size, factory) {
-            Ok(store) => match settle(rt, place) {
-                Ok(()) => Ok(store),
-                Err(fault) => {
-                    abandon(rt, place);
-                    Err(FileStoreError::from(fault))
-                }
-            },
-            Err(error) => {
-                abandon(rt, place);
-                Err(error)
-            }
+        let Ok(mut folder) = SystemFolder::of(rt, path.path_text()) else {
+            return Err(FileStoreError::StoreFault);
+        };
+        match FileStore::create_in(&mut folder, capacity, block_size, factory) {
+            Ok(store) => Ok(store),
+            Err(because) => Err(because.error),
         }
+    }
+
+    /// The same in the folder of the file, with the cause of a refusal.
+    ///
+    /// # Errors
+    ///
+    /// As above. A `StoreFault` has the cause, if the system gave one: `Exists` if a file is there already, `NotAlone` or `Foreign` if
+    /// another program's is FILE.new or FILE.journal.
+    pub fn create_in<R: Files<File = File>>(
+        folder: &mut SystemFolder<'_, R>,
+        capacity: u32,
+        block_size: u32,
+        factory: &[u8],
+    ) -> Result<FileStore, Because<FileStoreError>>
+        ensures size { IfOk result (λ store. (⟦<DeviceStore<FileDevice> as ImageStore>⟧.known store).capacity ≡ capacity) }
+        ensures faultless { IfOk result (λ store. (⟦<DeviceStore<FileDevice> as ImageStore>⟧.known store).faults ≡ 0) }
+        ensures setup { OnOk result (IsSetup HeaderVersion.Two block_size capacity factory.now) }
+        ensures bad_setup { IfErr result (λ b. b.error ≡ FileStoreError.BadSetup
+            → ¬ IsSetup HeaderVersion.Two block_size capacity factory.now) }
+        ensures fault { IfErr result (λ b. b.error ≡ FileStoreError.StoreFault
+            → IsSetup HeaderVersion.Two block_size capacity factory.now) }
+        ensures refusals { IfErr result (λ b. IsCreateRefusal b.error) }
+    {
+        if !is_setup(HeaderVersion::Two, capacity, block_size, factory) {
+            return Err(Because::from(FileStoreError::BadSetup));
+        }
+        let head = fresh_bytes(HeaderVersion::Two, block_size, factory);
+        let device = FileDevice::make(folder, capacity, &head, factory)?;
+        Ok(DeviceStore::laid_on(device, capacity))
     }
 
     /// The store in a file that is there, with a header of either version, or of version 1 without releases: they are 0. The next
@@ -251,9 +296,9 @@ impl DeviceStore<FileDevice> {
     ///
     /// # Errors
     ///
-    /// `StoreFault` where the file can't be opened, read or put right, another store has it open, or it has no journal and none can be
-    /// made beside it; and `BadFile` where its bytes don't begin with a capacity of 1 to 16,777,216, or aren't as many as those of a
-    /// store of that capacity.
+    /// `StoreFault` if the file can't be opened, read or put right, another store has it open, it is a link or has another name as well,
+    /// FILE.journal is another program's file, or there is none and none can be made; and `BadFile` if its bytes don't begin with a
+    /// capacity of 1 to 16,777,216, or aren't as many as those of a store of that capacity.
     pub fn reopen<R: Files<File = File>, P: AsPath>(
         rt: &R,
         path: P,
@@ -262,8 +307,35 @@ impl DeviceStore<FileDevice> {
         ensures faultless { IfOk result (λ store. (⟦<DeviceStore<FileDevice> as ImageStore>⟧.known store).faults ≡ 0) }
         ensures refusals { IfErr result IsReopenRefusal }
     {
-        let device = FileDevice::open(rt, path.path_text())?;
-        DeviceStore::reopen_on(device)
+        let Ok(mut folder) = SystemFolder::of(rt, path.path_text()) else {
+            return Err(FileStoreError::StoreFault);
+        };
+        match FileStore::reopen_in(&mut folder) {
+            Ok(store) => Ok(store),
+            Err(because) => Err(because.error),
+        }
+    }
+
+    /// The same in the folder of the file, with the cause of a refusal.
+    ///
+    /// # Errors
+    ///
+    /// As above. A `StoreFault` has the cause, if the system gave one: `Missing` if there is no file, `Locked` if another store has it
+    /// open, `NotAlone` or `Foreign` if it, or FILE.journal, isn't this store's alone.
+    pub fn reopen_in<R: Files<File = File>>(
+        folder: &mut SystemFolder<'_, R>,
+    ) -> Result<FileStore, Because<FileStoreError>>
+        ensures size { IfOk result (λ store. IsCapacity (⟦<DeviceStore<FileDevice> as ImageStore>⟧.known store).capacity) }
+        ensures faultless { IfOk result (λ store. (⟦<DeviceStore<FileDevice> as ImageStore>⟧.known store).faults ≡ 0) }
+        ensures refusals { IfErr result (λ b. IsReopenRefusal b.error) }
+    {
+        let Some(device) = FileDevice::open(folder)? else {
+            return Err(Because::from(FileStoreError::BadFile));
+        };
+        match DeviceStore::reopen_on(device) {
+            Ok(store) => Ok(store),
+            Err(error) => Err(Because::from(error)),
+        }
     }
 }
 

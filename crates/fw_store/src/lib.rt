@@ -5,6 +5,7 @@
 //! a file, whose bytes are those of specs/StoreBytes.antt. The forms are this profile's own.
 #![tactic(auto)]
 
+mod beside;
 mod device;
 mod device_store;
 mod error;
@@ -13,7 +14,6 @@ mod fuse;
 mod header;
 pub mod laws;
 mod memory;
-mod names;
 mod open_file;
 mod recovery;
 mod setup;

@@ -3,10 +3,9 @@
 ghost use Rattle.std.specs.Prelude.{◌≡◌, ◌+◌, ◌<◌, ◌^◌, length, OnOk};
 
 use crate::device::{ByteDevice, DeviceFault};
-use std::fs::{File, OpenOptions};
+use std::fs::File;
 use std::io;
 use std::os::unix::fs::FileExt;
-use std::rt::Files;
 
 /// The bytes of an open file. Nothing is known of what a file holds or gives, so it is neither honest nor sound.
 #[derive(Drop)]
@@ -19,39 +18,25 @@ pub(crate) struct OpenFile {
 }
 
 /// What the operating system refused.
-pub(crate) fn refused(_error: io::Error) -> DeviceFault {
+fn refused(_error: io::Error) -> DeviceFault {
     DeviceFault
 }
 
-/// To read and write a file, which is made where there is none, or has to be there.
-pub(crate) fn options(create: bool) -> OpenOptions {
-    let mut options = OpenOptions::new();
-    options.read(true).write(true).create(create);
-    options
-}
-
 impl OpenFile {
-    /// Opens a file.
-    pub(crate) fn open<R: Files<File = File>>(
-        rt: &R,
-        path: &str,
-        options: &OpenOptions,
-    ) -> Result<OpenFile, io::Error> {
-        let file = options.open(rt, path)?;
-        let size = file.metadata()?.len();
-        Ok(OpenFile {
+    /// An open file of so many bytes.
+    pub(crate) fn of(file: File, size: u64) -> OpenFile
+        ensures { result.size ≡ size }
+    {
+        OpenFile {
             file,
             size,
             synced: false,
-        })
+        }
     }
 
-    /// Puts the file under a lock, which ends when it is closed.
-    pub(crate) fn lock(&self) -> Result<(), DeviceFault> {
-        if self.file.try_lock().is_err() {
-            return Err(DeviceFault);
-        }
-        Ok(())
+    /// The file itself.
+    pub(crate) fn file(&self) -> &File {
+        &self.file
     }
 
     /// How many bytes the file has, as far as it is known.

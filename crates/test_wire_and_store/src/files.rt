@@ -4,7 +4,8 @@ use crate::calls::{FRESH, KEPT, OLD_FRESH, OLD_FRONT, WRITES, called, calls, sto
 use crate::support::{digits, shown};
 use fw_store::{FileStore, FileStoreError};
 use std::alloc::Global;
-use std::path::PathBuf;
+use std::os::unix::fs::symlink;
+use std::path::{AsPath, PathBuf};
 use std::test::Fail;
 use std::{env, fs};
 use test_tables::{Reads, Words, each_part};
@@ -36,7 +37,9 @@ impl Drop for Place<'_> {
 /// - `stored`, `bytes`: the bytes of the file, as those of a store, and as they are; `exists`: whether there is a file
 /// - `put BYTES`: a file of these bytes is written; `set-len LEN`: it is made this long; `remove`
 /// - `create-dir`, `remove-dir`: a folder is made in place of the file, and removed
+/// - `link`: the file gets the ending `.kept`, and a link to it is in its place; `unlink`: the file is in its place again
 /// - `absent`: the path goes on in a folder that isn't there
+/// - `beside ENDING`, and `put`, `set-len`, `bytes`, `exists` or `remove`: the same of the file with this ending
 impl Reads for Place<'_> {
     fn told(&mut self, alloc: Global, what: &str) -> Result<String, Fail> {
         let mut words = Words::new(what);
@@ -44,6 +47,7 @@ impl Reads for Place<'_> {
             "stored" => stored_text(alloc, &fs::read(self.rt, self.path.as_path())?),
             "bytes" => digits(alloc, &fs::read(self.rt, self.path.as_path())?),
             "exists" => shown(alloc, &fs::exists(self.rt, self.path.as_path())?),
+            "beside" => self.beside(alloc, words),
             "create" => {
                 let [capacity, block_size]: [u32; 2] = words.read()?;
                 shown(alloc, &self.create(capacity, block_size))
@@ -117,7 +121,7 @@ impl Place<'_> {
                 Ok(())
             }
             "absent" => Ok(self.path.push("store")?),
-            "set-len" => self.set_len(words.read()?),
+            "set-len" => set_len(self.rt, self.path.as_path(), words.read()?),
             word => self.change_file(alloc, word, words.rest()),
         }
     }
@@ -129,16 +133,43 @@ impl Place<'_> {
             "remove" => fs::remove_file(self.rt, path)?,
             "create-dir" => fs::create_dir(self.rt, path)?,
             "remove-dir" => fs::remove_dir(self.rt, path)?,
+            "link" => {
+                let kept = self.with_ending(alloc, ".kept")?;
+                fs::rename(self.rt, path, kept.as_str())?;
+                symlink(self.rt, kept.as_str(), path)?
+            }
+            "unlink" => {
+                let kept = self.with_ending(alloc, ".kept")?;
+                fs::rename(self.rt, kept.as_str(), path)?
+            }
             _ => return Err("no step has this name".into()),
         }
         Ok(())
     }
 
-    fn set_len(&self, len: u64) -> Result<(), Fail> {
-        let path = self.path.as_path();
-        let file = fs::OpenOptions::new().write(true).open(self.rt, path)?;
-        Ok(file.set_len(len)?)
+    fn with_ending(&self, alloc: Global, ending: &str) -> Result<String, Fail> {
+        Ok(format!(in alloc; "{}{ending}", self.path.as_path().path_text())?)
     }
+
+    /// A step with a file beside the store.
+    fn beside(&self, alloc: Global, mut words: Words<'_>) -> Result<String, Fail> {
+        let path = self.with_ending(alloc, words.word()?)?;
+        let path = path.as_str();
+        match words.word()? {
+            "bytes" => return digits(alloc, &fs::read(self.rt, path)?),
+            "exists" => return shown(alloc, &fs::exists(self.rt, path)?),
+            "put" => fs::write(self.rt, path, &hex::decode(alloc, words.rest())?)?,
+            "set-len" => set_len(self.rt, path, words.read()?)?,
+            "remove" => fs::remove_file(self.rt, path)?,
+            _ => return Err("no step has this name".into()),
+        }
+        Ok(String::new(alloc))
+    }
+}
+
+fn set_len<P: AsPath>(rt: &HostRuntime, path: P, len: u64) -> Result<(), Fail> {
+    let file = fs::OpenOptions::new().write(true).open(rt, path)?;
+    Ok(file.set_len(len)?)
 }
 
 fn table_of(name: &str) -> Result<&'static str, Fail> {
@@ -165,8 +196,9 @@ fn steps(rt: &HostRuntime, name: &str, tables: &[&str]) -> Result<(), Fail> {
 fn path_of(rt: &HostRuntime, name: &str) -> Result<PathBuf, Fail> {
     let mut path = env::temp_dir(rt)?;
     path.push(name)?;
-    if fs::exists(rt, path.as_path())? {
-        fs::remove_file(rt, path.as_path())?;
+    for ending in ["", ".journal", ".new", ".kept"] {
+        let file = format!(in rt.alloc(); "{}{ending}", path.as_path().path_text())?;
+        let _ = fs::remove_file(rt, file.as_str());
     }
     Ok(path)
 }
@@ -374,6 +406,104 @@ const CUT: &str = "
     drop            =>
     remove          =>
 ";
+
+/// A link to a store isn't opened, under whose name its journal wouldn't be found.
+const LINKED: &str = "
+    create 8 2 => None
+    drop       =>
+    link       =>
+    reopen     => Some(StoreFault)
+    create 8 2 => Some(StoreFault)
+    unlink     =>
+    reopen     => None
+    drop       =>
+    remove     =>
+";
+
+/// Of a file that has the name of the journal, these are what a power cut leaves of one: no bytes, some of its mark, zeros, as many as a
+/// journal has. Any other one is refused, and left.
+const JOURNALS: &str = "
+    create 8 2                     => None
+    drop                           =>
+    beside .journal bytes          =>
+    beside .journal put 4657       =>
+    reopen                         => None
+    drop                           =>
+    beside .journal put 46575531ff =>
+    reopen                         => None
+    drop                           =>
+    beside .journal put 000000     =>
+    reopen                         => None
+    drop                           =>
+    beside .journal put            =>
+    beside .journal set-len 8260   =>
+    reopen                         => None
+    drop                           =>
+    beside .journal set-len 8261   =>
+    look                           => Some(StoreFault)
+    beside .journal put 46575532   =>
+    look                           => Some(StoreFault)
+    beside .journal bytes          => 46575532
+    beside .journal put 0000000078 =>
+    reopen                         => None
+    drop                           =>
+    beside .journal put 00000078   =>
+    look                           => Some(StoreFault)
+    beside .journal bytes          => 00000078
+    remove                         =>
+    create 8 2                     => Some(StoreFault)
+    exists                         => false
+    beside .new exists             => false
+    beside .journal bytes          => 00000078
+    beside .journal put 46575531ff =>
+    create 8 2                     => None
+    beside .journal bytes          =>
+    drop                           =>
+    beside .journal remove         =>
+    reopen                         => None
+    beside .journal bytes          =>
+    drop                           =>
+    remove                         =>
+    beside .journal remove         =>
+";
+
+/// Of a file that has the name of a store that is made, these are what a cut making leaves: four bytes at most, or as many as a store has,
+/// with its capacity in front. Any other one is refused, and left.
+const MAKINGS: &str = "
+    beside .new put 707172         =>
+    create 8 2                     => None
+    drop                           =>
+    beside .new exists             => false
+    remove                         =>
+    beside .new put 00000008       =>
+    beside .new set-len 2178       =>
+    create 8 2                     => None
+    drop                           =>
+    remove                         =>
+    beside .journal remove         =>
+    beside .new put 00000008       =>
+    beside .new set-len 2179       =>
+    create 8 2                     => Some(StoreFault)
+    exists                         => false
+    beside .journal exists         => false
+    beside .new put 0000000000     =>
+    create 8 2                     => Some(StoreFault)
+    beside .new bytes              => 0000000000
+    beside .new put 0100000100     =>
+    create 8 2                     => Some(StoreFault)
+    beside .new bytes              => 0100000100
+    beside .new put 0100000000     =>
+    create 8 2                     => None
+    drop                           =>
+    remove                         =>
+    beside .journal remove         =>
+";
+
+#[test]
+fn refuses_the_files_of_others(rt: HostRuntime) -> Result<(), Fail> {
+    let tables = &[LINKED, JOURNALS, MAKINGS];
+    steps(&rt, "fw_store_others", tables)
+}
 
 #[test]
 fn refuses_what_is_there_and_what_is_no_store(rt: HostRuntime) -> Result<(), Fail> {

@@ -1,0 +1,4 @@
+mod Goings
+mod Steps
+mod Fillings
+mod Reserving
