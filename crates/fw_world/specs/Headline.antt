@@ -56,7 +56,7 @@ pub record IsSound (w : World) : Type 0 where
   pub campaigns : (campaign : Campaign) (image : List ℕ) → w.offered campaign ≡ Some image → IsOpened campaign
   pub meters : (number : ℕ) (meter : Meter) → w.meters number ≡ Some meter → IsSoundMeter meter
 
--- ---- the headline, in five parts
+-- ---- the headline, in six parts
 
 -- what a datagram initiates has the name and the size of an offered image
 abbrev pub InitiatesOffered : Offers → Datagram → Type 0

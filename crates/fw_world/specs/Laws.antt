@@ -18,7 +18,7 @@ AfterEachRun P = (opening w : World) (events : List Event) → IsOpening opening
 abbrev pub SetupOpens : Type 0
 SetupOpens = (setup : Setup) → IsSetup setup → IsOpening (world_of (opening_state setup))
 
--- the five parts, and what the types of the parts say of each world
+-- the parts, except the one that asks that no images collide, and what the types of the parts say of each world
 pub record IsSafeWorld (IsFirst : FirstNames) (w : World) : Type 0 where
   pub sound : IsSound w
   pub initiates : InitiatesAreOffered w
