@@ -121,6 +121,12 @@ numbered number rest behind whole first four four' b w =
     ∙ splice_between [] first (drop 4 (number ++ rest)) 0 number refl (four ∙ sym four')
     ∙ ap (λ (l : List ℕ). number ++ l) (drop_at number rest 4 four')
 
+-- what is put together is no shorter than its front
+pub no_shorter : (all front rest : List ℕ) (n : ℕ) → all ≡ front ++ rest → length front ≡ n → n ≤ length all
+no_shorter all front rest n e size =
+    let whole : length all ≡ length front + length rest = ap length e ∙ length-append front rest in
+    omega arith
+
 -- zeros are blank
 pub blank_zeros : (size : ℕ) (bytes : List ℕ) → bytes ≡ zeros size → 4 ≤ size → IsBlank size bytes
 blank_zeros size bytes e four =

@@ -1,5 +1,5 @@
 use Rattle.std.proofs.Common.{◌≡◌, ℕ, ◌+◌, ◌++◌, ◌≤◌, ◌∙◌, ap, refl, sym, arith, IsTrue, length, take, drop, List, replicate}
-use Rattle.std.proofs.Common.{append_assoc, length-append}
+use Rattle.std.proofs.Common.{append_assoc}
 use Rattle.std.proofs.lemmas.List.{length-take, length-replicate}
 use Rattle.std.specs.Int.{w32, to_be_bytes}
 use Rattle.fw_store.specs.Device.{splice, padded}
@@ -7,7 +7,7 @@ use Rattle.fw_store.specs.StoreBytes.{store_bytes, store_size}
 use Rattle.fw_store.specs.Versions.{bytes_of, version_of}
 use Rattle.fw_store.specs.declared.version.HeaderVersion.{HeaderVersion}
 use Rattle.fw_store.proofs.Outcomes.{on_ok, on_ok_too}
-use Rattle.fw_store.proofs.Laying.{blank_zeros, numbered}
+use Rattle.fw_store.proofs.Laying.{blank_zeros, no_shorter, numbered}
 use Rattle.fw_store.proofs.device_store.lay_out.Goals as goal
 
 pub write_behind-requires-clause-blank : goal.write_behind-requires-clause-blank
@@ -28,8 +28,9 @@ replace_at-requires g c h =
     let all : length blank ≡ c.store_size.result = ap length (c.in_ok-clear.ensures.done was) ∙ length-replicate c.store_size.result z in
     let size = c.store_size.ensures ∙ ap (λ (v : HeaderVersion). store_size v c.args.capacity) c.version.ensures in
     let number : length c.to_be_bytes.result ≡ 4 = ap length c.to_be_bytes.ensures in
-    let there = ap length (c.in_ok-write_behind.ensures.done cleared) in
-    omega (arith, length-append (take 4 blank) _, length-take 4 blank)
+    let four : length (take 4 blank) ≡ 4 = omega (arith, length-take 4 blank) in
+    let long : 4 ≤ length behind = no_shorter behind (take 4 blank) _ 4 (c.in_ok-write_behind.ensures.done cleared) four in
+    omega arith
 
 pub returns-clause-done : goal.returns-clause-done
 returns-clause-done g c h =
