@@ -1,5 +1,5 @@
 -- Which faults of the command `head` come when, and which options they need.
-use Rattle.std.proofs.Common.{◌≡◌, ℕ, List, Bool, true, false, Option, Some, None, Result, Ok, Err, IfErr, All, Contains, inl, inr, refl, sym, subst, ap}
+use Rattle.std.proofs.Common.{◌≡◌, ℕ, ◌≤◌, List, Bool, true, false, Option, Some, None, Result, Ok, Err, IfErr, All, inl, inr, refl, sym, subst, ap}
 use Rattle.std.specs.Prelude.{IsTrue, OnOk, is_some, ◌⊎◌}
 use Rattle.fw_book.specs.declared.error.BookError.{BookError}
 use Rattle.fw_rollout.specs.declared.error.Stop.{Stop}
@@ -11,15 +11,14 @@ use Rattle.fw_faults.specs.Faults.{fault_of_stop}
 use Rattle.fw_host.specs.Captures.{IsOfCapture}
 use Rattle.fw_host.specs.Heads.{ComesBeforeLines, IsCancelFault, IsOfBook, IsOfHead, IsOfHeadSetup, IsOfLeading, IsOfNewBook, IsOfOldBook, IsOpenFault}
 use Rattle.fw_cli.specs.Heads.{IsAskedFor, IsOfCancelling, IsOfList, IsOfOpening, IsOfOpeningSetup, IsOfStop}
-use Rattle.fw_names.specs.Name.{Campaign}
-use Rattle.fw_book.specs.Changes.{cancel_refusal, opening_refusal}
+use Rattle.fw_book.specs.Changes.{cancel_refusal}
 use Rattle.fw_book.specs.Contents.{Contents}
 use Rattle.fw_host.specs.declared.head_opening.part.Part.{Part}
 use Rattle.std.specs.Map.{values_of}
 use Rattle.fw_head.specs.Head.{Head, new_head}
 use Rattle.fw_rollout.specs.declared.link.Listed.{Listed}
 use Rattle.fw_host.specs.Addresses.{HasAddress}
-use Rattle.fw_host.specs.Openings.{IsTakenBy, PartsRefused, campaign_in}
+use Rattle.fw_host.specs.Openings.{IsTakenBy, PartsRefused, RefusesOne, campaign_in}
 use Rattle.fw_cli.specs.Judging.{IsAdmitted, IsJudged, IsOpenable}
 use Rattle.fw_cli.specs.declared.head.Asked.{Asked}
 use Rattle.fw_cli.specs.declared.head.Opened.{Opened}
@@ -202,13 +201,17 @@ pub absent_is_asked : (options : HeadOptions) (f : Fault) → IsTrue options.boo
 absent_is_asked options f new (inl e) = subst (IsAskedFor options) (sym e) new
 absent_is_asked options f new (inr e) = subst (IsAskedFor options) (sym e) tt
 
-pub cancel_in_setup : (book : Contents) (campaign : Campaign) (f : Fault)
-    → (e : BookError) × (f ≡ fault.CancelRefused e) × (cancel_refusal book campaign ≡ Some e) → IsOfHeadSetup f
-cancel_in_setup book campaign f (e, is, why) = subst IsOfHeadSetup (sym is) tt
+-- a cancelling was refused
+abbrev pub IsRefusedCancel : Contents → ℕ → Fault → Type 0
+IsRefusedCancel book serial f =
+    (e : BookError) × (f ≡ fault.CancelRefused e) × (1 ≤ serial → cancel_refusal book (campaign_in book serial) ≡ Some e)
 
-pub cancel_is_asked : (options : HeadOptions) (serial : ℕ) (book : Contents) (campaign : Campaign) (f : Fault) → options.cancel ≡ Some serial
-    → (e : BookError) × (f ≡ fault.CancelRefused e) × (cancel_refusal book campaign ≡ Some e) → IsAskedFor options f
-cancel_is_asked options serial book campaign f asked (e, is, why) =
+pub cancel_in_setup : (book : Contents) (serial : ℕ) (f : Fault) → IsRefusedCancel book serial f → IsOfHeadSetup f
+cancel_in_setup book serial f (e, is, why) = subst IsOfHeadSetup (sym is) tt
+
+pub cancel_is_asked : (options : HeadOptions) (serial : ℕ) (book : Contents) (f : Fault) → options.cancel ≡ Some serial
+    → IsRefusedCancel book serial f → IsAskedFor options f
+cancel_is_asked options serial book f asked (e, is, why) =
     subst (IsAskedFor options) (sym is) (subst (λ (o : Option ℕ). IsTrue (is_some o)) (sym asked) refl)
 
 pub judged_cancel : (book : Contents) (options : HeadOptions) (asked : Asked) (serial : ℕ) (r : Result (Unit {0}) Fault) → options.cancel ≡ Some serial
@@ -229,21 +232,15 @@ judged_none book options asked none empty =
 pub no_rows : (cancelled : Option ℕ) (list : List Listed) (number width : ℕ) (h : Head) → h ≡ new_head number width → All (HasAddress cancelled list) (values_of h.rows)
 no_rows cancelled list number width h new = subst (λ (x : Head). All (HasAddress cancelled list) (values_of x.rows)) (sym new) tt
 
--- an opening was refused
-abbrev pub IsRefusedPart : Contents → List ℕ → List Part → Fault → Type 0
-IsRefusedPart book image parts f =
-    (part : Part) × Contains parts part × (e : BookError) × (f ≡ fault.OpenRefused e)
-    × (opening_refusal book (campaign_in book part.serial) image part.meters.items ≡ Some e)
-
-pub parts_in_setup : (book : Contents) (image : List ℕ) (parts : List Part) (f : Fault) → IsRefusedPart book image parts f → IsOfHeadSetup f
-parts_in_setup book image parts f refused = subst IsOfHeadSetup (sym refused.1.1.1.0) tt
+pub parts_in_setup : (book : Contents) (image : List ℕ) (parts : List Part) (f : Fault) → RefusesOne book image parts f → IsOfHeadSetup f
+parts_in_setup book image parts f refuses = let (e, is, why) = refuses.refused in subst IsOfHeadSetup (sym is) tt
 
 pub parts_are_asked : (options : HeadOptions) (book : Contents) (image : List ℕ) (parts : List Part) (f : Fault) → IsTrue (is_some options.opening)
-    → IsRefusedPart book image parts f → IsAskedFor options f
-parts_are_asked options book image parts f opened refused = subst (IsAskedFor options) (sym refused.1.1.1.0) opened
+    → RefusesOne book image parts f → IsAskedFor options f
+parts_are_asked options book image parts f opened refuses = let (e, is, why) = refuses.refused in subst (IsAskedFor options) (sym is) opened
 
-pub parts_are_opening : (book : Contents) (image : List ℕ) (parts : List Part) (f : Fault) → IsRefusedPart book image parts f → IsOfOpening f
-parts_are_opening book image parts f refused = subst IsOfOpening (sym refused.1.1.1.0) tt
+pub parts_are_opening : (book : Contents) (image : List ℕ) (parts : List Part) (f : Fault) → RefusesOne book image parts f → IsOfOpening f
+parts_are_opening book image parts f refuses = let (e, is, why) = refuses.refused in subst IsOfOpening (sym is) tt
 
 -- what is said of a fault is said of the one that is passed on
 pub passed_on : {A : Type 0} (r : Result A Fault) (P : Fault → Type 0) (e f : Fault) → r ≡ Err e → e ≡ f → P f → IfErr r P

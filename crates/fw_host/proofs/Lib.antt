@@ -1,2 +1,3 @@
 mod Addressed
 pub mod Listings
+mod Taken

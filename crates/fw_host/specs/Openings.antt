@@ -1,6 +1,7 @@
 -- Public vocabulary: the campaigns of an opening, and when the book has one of them already.
-use Rattle.std.specs.Prelude.{◌≡◌, ◌⊎◌, ℕ, ◌+◌, ◌/◌, ◌<◌, ◌-◌, ◌≤◌, ◌^◌, List, [], map, length, All, IsSomeAnd, None}
+use Rattle.std.specs.Prelude.{◌≡◌, ◌⊎◌, ℕ, ◌+◌, ◌/◌, ◌<◌, ◌-◌, ◌≤◌, ◌^◌, List, [], map, length, All, Contains, IsSomeAnd, None, Some}
 use Rattle.std.specs.List.{flat_map, range_with_len}
+use Rattle.fw_book.specs.declared.error.BookError.{BookError}
 use Rattle.fw_book.specs.declared.error.BookError.TheVariants.{NoMeters}
 use Rattle.fw_names.specs.Name.{Campaign}
 use Rattle.fw_book.specs.Changes.{opening_refusal}
@@ -59,3 +60,15 @@ IsOpenIn book release image part =
 abbrev pub IsTakenBy : Contents → ℕ → List ℕ → Part → Type 0
 IsTakenBy book release image part =
     IsOpenIn book release image part ⊎ (opening_refusal book (campaign_in book part.serial) image part.meters.items ≡ None)
+
+-- the fault that the book's first refusal of this campaign is
+abbrev pub RefusesPart : Contents → List ℕ → Part → Fault → Type 0
+RefusesPart book image part fault =
+    (e : BookError) × (fault ≡ OpenRefused e)
+    × (opening_refusal book (campaign_in book part.serial) image part.meters.items ≡ Some e)
+
+-- it refuses one of these
+pub record RefusesOne (book : Contents) (image : List ℕ) (parts : List Part) (fault : Fault) : Type 0 where
+  pub part : Part
+  pub within : Contains parts part
+  pub refused : RefusesPart book image part fault

@@ -5,7 +5,6 @@ ghost use Rattle.std.specs.Prelude.{
   ◌≤◌,
   ◌↔◌,
   All,
-  Contains,
   IfErr,
   IfOk,
   IsErrOf,
@@ -23,8 +22,7 @@ ghost use Rattle.fw_book.specs.declared.error.BookError.{BookError};
 ghost use Rattle.fw_head.specs.Head.{campaign_at, cancelled_head, opened_head};
 ghost use Rattle.fw_kept.specs.Head.{Holds, book_of, head_of};
 ghost use Rattle.fw_host.specs.Heads.{IsCancelFault, IsOfLeading, IsOpenFault};
-ghost use Rattle.fw_host.specs.declared.head_opening.part.Part.{Part};
-ghost use Rattle.fw_host.specs.Openings.{ArePartsOf, IsOpenIn, IsTakenBy, PartsRefused, campaign_in, listed_meters};
+ghost use Rattle.fw_host.specs.Openings.{ArePartsOf, IsOpenIn, IsTakenBy, PartsRefused, RefusesOne, RefusesPart, campaign_in, listed_meters};
 
 mod part;
 
@@ -124,11 +122,13 @@ fn campaign_of(book: &Book, part: &Part) -> CampaignId
 /// `OpenRefused` with the first refusal of one of these campaigns.
 pub fn check_parts(book: &Book, parts: &[Part], release: u32, image: &[u8]) -> Result<(), Fault>
     ensures taken { OnOk result (All (IsTakenBy book.now release image.now) parts.now) }
-    ensures refused { IfErr result (λ f. (part : Part) × Contains parts.now part × (e : BookError) × (f ≡ Fault.OpenRefused e)
-        × (opening_refusal book.now (campaign_in book.now part.serial) image.now part.meters.items ≡ Some e)) }
+    ensures refused { IfErr result (RefusesOne book.now image.now parts.now) }
 {
     for part in parts {
-        check_part(book, part, release, image)?;
+        match check_part(book, part, release, image) {
+            Ok(()) => {}
+            Err(refused) => return Err(refused),
+        }
     }
     Ok(())
 }
@@ -136,8 +136,7 @@ pub fn check_parts(book: &Book, parts: &[Part], release: u32, image: &[u8]) -> R
 /// Checks that a book takes this campaign, or has it already.
 fn check_part(book: &Book, part: &Part, release: u32, image: &[u8]) -> Result<(), Fault>
     ensures taken { OnOk result (IsTakenBy book.now release image.now part.now) }
-    ensures refused { IfErr result (λ f. (e : BookError) × (f ≡ Fault.OpenRefused e)
-        × (opening_refusal book.now (campaign_in book.now part.now.serial) image.now part.now.meters.items ≡ Some e)) }
+    ensures refused { IfErr result (RefusesPart book.now image.now part.now) }
 {
     if is_open(book, part, release, image) {
         return Ok(());
@@ -156,7 +155,8 @@ fn check_part(book: &Book, part: &Part, release: u32, image: &[u8]) -> Result<()
 pub fn check_cancel(book: &Book, serial: u32) -> Result<(), Fault>
     ensures admitted { OnOk result (cancel_refusal book.now (campaign_in book.now serial) ≡ None) }
     ensures refused { IfErr result (λ f. (e : BookError) × (f ≡ Fault.CancelRefused e)
-        × (cancel_refusal book.now (campaign_in book.now serial) ≡ Some e)) }
+        × (1 ≤ serial → cancel_refusal book.now (campaign_in book.now serial) ≡ Some e)) }
+    ensures none { serial ≡ 0 → IsErrOf result (Fault.CancelRefused BookError.NoSuchCampaign) }
 {
     let Some(campaign) = CampaignId::new(book.head(), serial) else {
         return Err(Fault::CancelRefused(BookError::NoSuchCampaign));
