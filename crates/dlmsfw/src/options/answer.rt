@@ -38,8 +38,9 @@ Exit status:
   0  each line was answered
   1  a fault: standard error has `dlmsfw: NAME`, with one of these names
        StoreFault    FILE can't be opened or made: another program has it locked, there is no such
-                     folder, FILE is a folder, this user may not read and write it, the disk is full,
-                     or FILE.journal can't be made beside it
+                     folder, FILE is a folder or a link or has a second name, this user may not read
+                     and write it, the disk is full, FILE.journal can't be made beside it, or what is
+                     named FILE.new or FILE.journal isn't the meter's; that stays as it is
        Fault         the disk failed: FILE can't be read, or its header of version 1 can't be written
                      in version 2
        BadFile       FILE hasn't the length that it begins with: it is empty or another program's, or
