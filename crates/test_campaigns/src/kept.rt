@@ -123,7 +123,8 @@ pub(crate) fn device_of(alloc: Global, bytes: &[u8]) -> Result<MemoryDevice, Fai
 /// The bytes of the book of head end 7 that these bytes hold, or what they are refused for.
 pub(crate) fn read_text(alloc: Global, bytes: &[u8]) -> Result<String, Fail> {
     let device = device_of(alloc, bytes)?;
-    match KeptHead::open(alloc, head(7)?, width()?, device, &mut MemoryKeeper::new(alloc)) {
+    let mut keeper = MemoryKeeper::new(alloc);
+    match KeptHead::open(alloc, head(7)?, width()?, device, &mut keeper) {
         Ok(head) => book_text(alloc, &head),
         Err((refusal, _)) => Ok(refusal.to_string(alloc)?),
     }
@@ -229,7 +230,8 @@ impl Reads for Cuts {
         let (calls, torn, other): (u64, u8, &str) = words.read()?;
         let mut device = device_with_one(alloc)?;
         device.fuse(calls.saturating_add(3), torn);
-        match KeptHead::open(alloc, head(7)?, width()?, device, &mut MemoryKeeper::new(alloc)) {
+        let mut keeper = MemoryKeeper::new(alloc);
+        match KeptHead::open(alloc, head(7)?, width()?, device, &mut keeper) {
             Ok(head) => cut_text(alloc, &mut Answered(head), words.rest(), other),
             Err((refusal, _)) => Ok(refusal.to_string(alloc)?),
         }

@@ -90,8 +90,8 @@ impl Reads for Stepped {
             "bytes" => digits(alloc, self.0.device().bytes()),
             "again" => read_text(alloc, self.0.device().bytes()),
             "turned" => turned_text(alloc, self.0.device().bytes(), words.number()? as usize),
-            "kept" => kept_text(alloc, self.0.device().bytes(), words, false),
-            "refused" => kept_text(alloc, self.0.device().bytes(), words, true),
+            "kept" => kept_text(alloc, self.0.device().bytes(), words.rest(), false),
+            "refused" => kept_text(alloc, self.0.device().bytes(), words.rest(), true),
             "left" => fates_text(alloc, words.rest()),
             "opened" => opened_text(alloc, &hex::decode(alloc, words.rest())?),
             "created" => created_text(alloc, &hex::decode(alloc, words.rest())?),
@@ -149,8 +149,8 @@ const TURNED: &str = "
     turned 84  => one|two|
 ";
 
-/// Where whole records stand behind a shut gate, whatever their own gates are, what stands from it on is given to the keeper before it is
-/// cut off. Where the keeper refuses it, it stays. The last byte is a shut gate behind all of them.
+/// If whole records stand behind a shut gate, whatever their own gates are, what stands from it on is given to the keeper before it is
+/// cut off. If the keeper refuses it, it stays. The last byte is a shut gate behind all of them.
 const DROPPED: &str = r#"
     new            =>
     append one     => Ok(())
@@ -198,7 +198,7 @@ fn turned_text(alloc: Global, bytes: &[u8], at: usize) -> Result<String, Fail> {
     read_text(alloc, bytes.as_slice())
 }
 
-/// A keeper that notes what it was given last, and refuses it where it is full.
+/// A keeper that notes what it was given last, and refuses it if it is full.
 #[derive(Drop)]
 struct Noted {
     alloc: Global,
@@ -225,15 +225,10 @@ impl Keeper for Noted {
     }
 }
 
-fn kept_text(
-    alloc: Global,
-    bytes: &[u8],
-    mut places: Words<'_>,
-    is_full: bool,
-) -> Result<String, Fail> {
+fn kept_text(alloc: Global, bytes: &[u8], places: &str, is_full: bool) -> Result<String, Fail> {
     let mut bytes = bytes.to_vec(alloc)?;
-    while let Some(word) = places.next() {
-        let at: usize = word.parse()?;
+    for word in places.split(' ') {
+        let at = word.parse::<usize>()?;
         *present(bytes.get_mut(at), "no such byte")? ^= 8;
     }
     let device = MemoryDevice::new(alloc, bytes.to_vec(alloc)?)?;
@@ -247,7 +242,7 @@ fn kept_text(
     given_text(alloc, &bytes, &opened, &keeper)
 }
 
-/// What is returned, and what the keeper was given of these bytes. Fails where those aren't their last ones.
+/// What is returned, and what the keeper was given of these bytes. Fails if those aren't their last ones.
 fn given_text(
     alloc: Global,
     bytes: &[u8],
