@@ -82,7 +82,8 @@ fn kept_len<R: Read>(alloc: Global, reader: &mut R) -> Result<u64, Fault>
 {
     match whole_len(alloc, reader) {
         Ok(len) => Ok(len),
-        Err(WholeError::Header(_) | WholeError::Foreign(_)) => Err(Fault::ForeignCapture),
+        Err(WholeError::Header(_fault)) => Err(Fault::ForeignCapture),
+        Err(WholeError::Foreign(_offset)) => Err(Fault::ForeignCapture),
         Err(WholeError::Input | WholeError::OutOfMemory) => Err(Fault::CaptureFault),
     }
 }
