@@ -15,6 +15,7 @@ use Rattle.fw_book.specs.Changes.{cancel_refusal}
 use Rattle.fw_book.specs.Contents.{Contents}
 use Rattle.fw_host.specs.declared.head_opening.part.Part.{Part}
 use Rattle.std.specs.Map.{values_of}
+use Rattle.std.proofs.lemmas.List.Elements.{All-nil}
 use Rattle.fw_head.specs.Head.{Head, new_head}
 use Rattle.fw_rollout.specs.declared.link.Listed.{Listed}
 use Rattle.fw_host.specs.Addresses.{HasAddress}
@@ -230,7 +231,7 @@ judged_none book options asked none empty =
 
 -- a new head end has no rows
 pub no_rows : (cancelled : Option ℕ) (list : List Listed) (number width : ℕ) (h : Head) → h ≡ new_head number width → All (HasAddress cancelled list) (values_of h.rows)
-no_rows cancelled list number width h new = subst (λ (x : Head). All (HasAddress cancelled list) (values_of x.rows)) (sym new) tt
+no_rows cancelled list number width h new = subst (λ (x : Head). All (HasAddress cancelled list) (values_of x.rows)) (sym new) (All-nil (HasAddress cancelled list))
 
 pub parts_in_setup : (book : Contents) (image : List ℕ) (parts : List Part) (f : Fault) → RefusesOne book image parts f → IsOfHeadSetup f
 parts_in_setup book image parts f refuses = let (e, is, why) = refuses.refused in subst IsOfHeadSetup (sym is) tt

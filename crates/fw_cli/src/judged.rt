@@ -43,15 +43,15 @@ impl Judged {
 #[derive(Drop)]
 pub(crate) struct Judge<'a> {
     fresh: NewMeter<'a>,
-    new: Option<Rc<NewStore>>,
+    store: Option<Rc<NewStore>>,
 }
 
 impl<'a> Judge<'a> {
     /// New meters are made with these.
     pub(crate) fn of(fresh: NewMeter<'a>) -> Judge<'a>
-        ensures { result.fresh ≡ fresh }
+        ensures { result.fresh ≡ fresh.entry }
     {
-        Judge { fresh, new: None }
+        Judge { fresh, store: None }
     }
 
     /// The meter in a file, or what it is made with where no file is there. No file is made.
@@ -87,12 +87,12 @@ impl<'a> Judge<'a> {
             → ¬ IsSetup Two self.old.fresh.block_size self.old.fresh.capacity default_factory }
         ensures faults { IfErr result IsOfNewStore }
     {
-        if let Some(new) = &self.new {
-            return Ok(new.clone()?);
+        if let Some(store) = &self.store {
+            return Ok(store.clone()?);
         }
         let new = NewStore::judged(rt, alloc, &self.fresh)?;
         let new = Rc::new(alloc, new)?;
-        self.new = Some(new.clone()?);
+        self.store = Some(new.clone()?);
         Ok(new)
     }
 }

@@ -9,13 +9,13 @@ pub returns-in_err-check_absent-clause-asked : goal.returns-in_err-check_absent-
 returns-in_err-check_absent-clause-asked g c =
     let passed = err_from_is_err_and c.from_residual.result c.from_residual.ensures.1 in
     let same : passed.0 ≡ c.in_err-check_absent.field-0.0 = cc passed.2 in
-    passed_on c.from_residual.result (IsAskedFor c.args.options.now) passed.0 _ passed.1 same (absent_is_asked c.args.options.now _ c.requires.is_new c.in_err-check_absent.ensures)
+    passed_on c.from_residual.result (IsAskedFor c.args.options.now) passed.0 _ passed.1 same (absent_is_asked c.args.options.now _ c.requires.is_new c.in_err-check_absent.ensures.faults)
 
 pub returns-in_err-check_absent-clause-faults : goal.returns-in_err-check_absent-clause-faults
 returns-in_err-check_absent-clause-faults g c =
     let passed = err_from_is_err_and c.from_residual.result c.from_residual.ensures.1 in
     let same : passed.0 ≡ c.in_err-check_absent.field-0.0 = cc passed.2 in
-    passed_on c.from_residual.result IsOfHeadSetup passed.0 _ passed.1 same (absent_in_setup _ c.in_err-check_absent.ensures)
+    passed_on c.from_residual.result IsOfHeadSetup passed.0 _ passed.1 same (absent_in_setup _ c.in_err-check_absent.ensures.faults)
 
 pub returns-in_err-judge-clause-asked : goal.returns-in_err-judge-clause-asked
 returns-in_err-judge-clause-asked g c =

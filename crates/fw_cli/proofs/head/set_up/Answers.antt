@@ -48,4 +48,4 @@ pub returns-clause-number : goal.returns-clause-number
 returns-clause-number g c = c.in_ok-kept.ensures.number
 
 pub returns-clause-addresses : goal.returns-clause-addresses
-returns-clause-addresses g c = rw c.meters.ensures.meters at c.in_ok-kept.ensures.addresses
+returns-clause-addresses g c = c.in_ok-kept.ensures.addresses
