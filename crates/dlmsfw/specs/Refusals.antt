@@ -1,6 +1,6 @@
 -- Why the system refuses what gave an error of this kind.
-use Rattle.std_io.specs.declared.io.kind.ErrorKind.{ErrorKind}
-use Rattle.std_io.specs.declared.io.kind.ErrorKind.TheVariants.{AddrInUse, AddrNotAvailable, PermissionDenied, NotFound, IsADirectory}
+use Rattle.std.specs.declared.io.ErrorKind.{ErrorKind}
+use Rattle.std.specs.declared.io.ErrorKind.TheVariants.{AddrInUse, AddrNotAvailable, PermissionDenied, NotFound, IsADirectory}
 use Rattle.dlmsfw.specs.declared.refusal.Refusal.{Refusal}
 use Rattle.dlmsfw.specs.declared.refusal.Refusal.TheVariants.{InUse, NoAddress, NoRight, NoFile, IsFolder, Other}
 
