@@ -196,11 +196,18 @@ fn steps(rt: &HostRuntime, name: &str, tables: &[&str]) -> Result<(), Fail> {
 fn path_of(rt: &HostRuntime, name: &str) -> Result<PathBuf, Fail> {
     let mut path = env::temp_dir(rt)?;
     path.push(name)?;
-    for ending in ["", ".journal", ".new", ".kept"] {
-        let file = format!(in rt.alloc(); "{}{ending}", path.as_path().path_text())?;
-        let _ = fs::remove_file(rt, file.as_str());
-    }
+    remove_beside(rt, &path, "")?;
+    remove_beside(rt, &path, ".journal")?;
+    remove_beside(rt, &path, ".new")?;
+    remove_beside(rt, &path, ".kept")?;
     Ok(path)
+}
+
+/// Removes a file whose name is that of another with an ending, if it is there.
+fn remove_beside(rt: &HostRuntime, path: &PathBuf, ending: &str) -> Result<(), Fail> {
+    let file = format!(in rt.alloc(); "{}{ending}", path.as_path().path_text())?;
+    let _ = fs::remove_file(rt, file.as_str());
+    Ok(())
 }
 
 /// The bytes of the file of a new store, and after calls.
