@@ -41,7 +41,11 @@ fn exchange<C: Clock, W: Write + Drop>(
 
 /// The strangers to a meter or a head end that knows what it hears, or another alone.
 fn strangers(alloc: Global, who: &str, ends: Ends, is_meter: bool) -> Result<Strangers, Fail> {
-    let address = if who == "known" { ends.other } else { ends.port };
+    let address = if who == "known" {
+        ends.other
+    } else {
+        ends.port
+    };
     let are_recorded = who == "recorded";
     Ok(if who == "any" {
         Strangers::none()

@@ -9,7 +9,10 @@ use fw_names::HeadId;
 use fw_rollout::Timing;
 use std::alloc::Global;
 use std::fmt::Display;
+use std::fs::File;
 use std::net::{Net, SocketAddr};
+use std::rt::{Clock, Files};
+use std::sync::Wait;
 use std::test::Fail;
 use std::{env, fs, io};
 
@@ -34,7 +37,7 @@ fn place(rt: &HostRuntime, name: &str) -> Result<String, Fail> {
 }
 
 /// What two meters end with of which the second has no port, and whether the first has a store then.
-fn two_meters<R: Files<File = File> + Clock + Net + Wait>(
+fn two_meters<R: Files<File = File> + Clock + Net + Wait + Eprint>(
     rt: &R,
     alloc: Global,
     store: &str,
@@ -50,6 +53,7 @@ fn two_meters<R: Files<File = File> + Clock + Net + Wait>(
         },
         count: Some(2),
         capture: None,
+        captures_strangers: false,
     };
     let fault = match run_meter(rt, alloc, &mut Vec::new(alloc), options) {
         Ok(()) => return Err(Fail::from("it ends well")),
@@ -73,7 +77,7 @@ fn a_meter_without_a_port_makes_no_store(rt: HostRuntime) -> Result<(), Fail> {
 }
 
 /// What a head end ends with that is to make its book, with this list and this image, and whether it has one then.
-fn new_book<R: Files<File = File> + Clock + Net + Wait>(
+fn new_book<R: Files<File = File> + Clock + Net + Wait + Eprint>(
     rt: &R,
     alloc: Global,
     folder: &str,
@@ -85,18 +89,18 @@ fn new_book<R: Files<File = File> + Clock + Net + Wait>(
     let offered = format!(in alloc; "{folder}.image")?;
     fs::write(rt, list.as_str(), text)?;
     fs::write(rt, offered.as_str(), image)?;
-    let ended = head_of(rt, alloc, book.as_str(), list.as_str(), offered.as_str());
+    let ended = head_of(rt, alloc, book.as_str(), list.as_str(), offered.as_str())?;
     let is_made = fs::exists(rt, book.as_str())?;
     for made in [&book, &list, &offered] {
         if fs::exists(rt, made.as_str())? {
             fs::remove_file(rt, made.as_str())?;
         }
     }
-    Ok((ended?, is_made))
+    Ok((ended, is_made))
 }
 
 /// What a head end ends with that makes a book in this file, and opens this image for the meters of this list.
-fn head_of<R: Files<File = File> + Clock + Net + Wait>(
+fn head_of<R: Files<File = File> + Clock + Net + Wait + Eprint>(
     rt: &R,
     alloc: Global,
     book: &str,
@@ -127,6 +131,7 @@ fn head_of<R: Files<File = File> + Clock + Net + Wait>(
         },
         stays: false,
         capture: None,
+        captures_strangers: false,
     };
     let terminal: Option<&Silent> = None;
     match run_head(rt, alloc, &mut Vec::new(alloc), terminal, &options) {
