@@ -100,12 +100,12 @@ fn new_book<R: Files<File = File> + Clock + Net + Wait + Eprint>(
 }
 
 /// What a head end ends with that makes a book in this file, and opens this image for the meters of this list.
-fn head_of<R: Files<File = File> + Clock + Net + Wait + Eprint>(
+fn head_of<'paths, R: Files<File = File> + Clock + Net + Wait + Eprint>(
     rt: &R,
     alloc: Global,
-    book: &str,
-    list: &str,
-    image: &str,
+    book: &'paths str,
+    list: &'paths str,
+    image: &'paths str,
 ) -> Result<Fault, Fail> {
     let (Some(head), Some(width)) = (HeadId::new(7), Width::new(4)) else {
         return Err(Fail::from("there is no head end 7"));
