@@ -116,8 +116,16 @@ int unlink(const char *path) {
     return done;
 }
 
-/* (told before it is done: who reads the line may end the program at once) */
+/* Of a file it is a call as pwrite; of a line it is told before it is done: who reads that may end the program at once. */
 ssize_t write(int file, const void *bytes, size_t size) {
+    struct stat found;
+    if (file > 2 && fstat(file, &found) == 0 && S_ISREG(found.st_mode)) {
+        off_t at = fcntl(file, F_GETFL) & O_APPEND ? found.st_size : lseek(file, 0, SEEK_CUR);
+        if (is_refused()) return -1;
+        ssize_t done = syscall(SYS_write, file, bytes, size);
+        if (done > 0) tell("write", file, at, bytes, done);
+        return done;
+    }
     act();
     if (file == 1 && size > 0) tell("print", file, 0, bytes, size);
     return syscall(SYS_write, file, bytes, size);
