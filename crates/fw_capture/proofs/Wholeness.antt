@@ -17,7 +17,7 @@ use Rattle.fw_capture.specs.Place.{Place}
 use Rattle.fw_capture.specs.Reading.{half_at, number_at, magic_at, link_of, header_at, unless, or_fault, fractions, fraction_at, size_at, time_at, record_at, ◌>>=◌}
 use Rattle.fw_capture.specs.Steps.{after}
 use Rattle.fw_capture.specs.Private.{IsFront, IsOfReading, record_size}
-use Rattle.fw_capture.specs.Whole.{IsPassed, IsRecord, IsTorn, IsForeign, IsForeignAt, IsWholeTo, Passes, all_zeros, without_zeros, is_part, longest_packet}
+use Rattle.fw_capture.specs.Whole.{IsPassed, IsRecord, IsTorn, IsForeign, IsForeignAt, IsWholeTo, Passes, all_zeros, without_zeros, is_part, longest_packet, says_twice}
 
 -- ---- what stands before further bytes
 
@@ -102,6 +102,13 @@ at_least_by f bytes (in_bounds header packet size) = omega (arith, size)
 pub at_least : (f : Format) (bytes : List ℕ) → 16 ≤ record_size f bytes
 at_least f bytes = at_least_by f bytes (size_of f bytes)
 
+twice_before : (f : Format) (xs ys : List ℕ) → 16 ≤ length xs → says_twice f (xs ++ ys) ≡ says_twice f xs
+twice_before f xs ys header = rw (size_before f xs ys header, number_before f.little 12 xs ys (omega arith)) refl
+
+-- no record of these bytes says twice how long it is
+abbrev NoneOf : Format → List ℕ → Type 0
+NoneOf f bytes = (x : ℕ × Told × ℕ) → record_at f bytes ≡ Ok x → says_twice f bytes ≡ false
+
 nothing_more : (xs ys : List ℕ) → ys ≡ [] → xs ++ ys ≡ xs
 nothing_more xs ys none = ap (λ (x : List ℕ). xs ++ x) none ∙ append-nil xs
 
@@ -124,36 +131,37 @@ whole_by f bytes x (in_bounds header packet size) within is =
     let read = sized f bytes x is in (omega (arith, read.0, read.2, size, within), omega (arith, read.0, packet))
 
 pub read_whole : (f : Format) (bytes left : List ℕ) (x : ℕ × Told × ℕ) → length bytes ≤ record_size f bytes → record_at f bytes ≡ Ok x
-    → IsRecord f (bytes ++ left) x × (drop x.2 (bytes ++ left) ≡ left)
-read_whole f bytes left x within is =
+    → says_twice f bytes ≡ true → IsRecord f (bytes ++ left) x × (drop x.2 (bytes ++ left) ≡ left)
+read_whole f bytes left x within is twice =
     let read = sized f bytes x is in
     let size = whole_by f bytes x (size_of f bytes) within is in
     let same : record_at f (bytes ++ left) ≡ Ok x = record_before f bytes left read.1 (omega (arith, read.0, read.2)) ∙ is in
-    ((same, size.1), ap (λ (n : ℕ). drop n (bytes ++ left)) size.0 ∙ drop-append_seam bytes left)
+    (record { reads = same; bound = size.1; twice = twice_before f bytes left read.1 ∙ twice }, ap (λ (n : ℕ). drop n (bytes ++ left)) size.0 ∙ drop-append_seam bytes left)
 
-none_by : (f : Format) (bytes left : List ℕ) (e : CaptureFault) → SizeIs f bytes → record_size f bytes ≤ length bytes → record_at f bytes ≡ Err e
+not_both : (b : Bool) → b ≡ true → b ≡ false → ⊥
+not_both b is other = cc
+
+none_by : (f : Format) (bytes left : List ℕ) → SizeIs f bytes → record_size f bytes ≤ length bytes → NoneOf f bytes
     → (x : ℕ × Told × ℕ) → ¬ IsRecord f (bytes ++ left) x
-none_by f bytes left e (cut_header header size) whole is x found = absurd (omega (arith, header, size, whole))
-none_by f bytes left e (over_long header packet size) whole is x found =
-    let read = sized f (bytes ++ left) x found.0 in
-    absurd (omega (arith, read.0, size_before f bytes left header, packet, found.1))
-none_by f bytes left e (in_bounds header packet size) whole is x found =
-    let same : record_at f (bytes ++ left) ≡ Err e = record_before f bytes left header (omega (arith, size, whole)) ∙ is in
-    let other : record_at f (bytes ++ left) ≡ Ok x = found.0 in
-    absurd (cc)
+none_by f bytes left (cut_header header size) whole none x found = absurd (omega (arith, header, size, whole))
+none_by f bytes left (over_long header packet size) whole none x found =
+    let read = sized f (bytes ++ left) x found.reads in
+    absurd (omega (arith, read.0, size_before f bytes left header, packet, found.bound))
+none_by f bytes left (in_bounds header packet size) whole none x found =
+    let here : record_at f bytes ≡ Ok x = sym (record_before f bytes left header (omega (arith, size, whole))) ∙ found.reads in
+    not_both (says_twice f bytes) (sym (twice_before f bytes left header) ∙ found.twice) (none x here)
 
-none_if : (f : Format) (bytes left : List ℕ) (e : CaptureFault) (b : Bool) → nat_lt (length bytes) (record_size f bytes) ≡ b
-    → (length bytes < record_size f bytes → left ≡ []) → record_at f bytes ≡ Err e → (x : ℕ × Told × ℕ) → ¬ IsRecord f (bytes ++ left) x
-none_if f bytes left e true less end is x found =
-    let same : record_at f (bytes ++ left) ≡ Err e =
-    ap (λ (y : List ℕ). record_at f y) (nothing_more bytes left (end (grind (arith, nat_tests, less)))) ∙ is in
-    let other : record_at f (bytes ++ left) ≡ Ok x = found.0 in
-    absurd (cc)
-none_if f bytes left e false whole end is x found = none_by f bytes left e (size_of f bytes) (grind (arith, nat_tests, whole)) is x found
+none_if : (f : Format) (bytes left : List ℕ) (b : Bool) → nat_lt (length bytes) (record_size f bytes) ≡ b
+    → (length bytes < record_size f bytes → left ≡ []) → NoneOf f bytes → (x : ℕ × Told × ℕ) → ¬ IsRecord f (bytes ++ left) x
+none_if f bytes left true less end none x found =
+    let same : bytes ++ left ≡ bytes = nothing_more bytes left (end (grind (arith, nat_tests, less))) in
+    let found : IsRecord f bytes x = subst (λ (y : List ℕ). IsRecord f y x) same found in
+    not_both (says_twice f bytes) found.twice (none x found.reads)
+none_if f bytes left false whole end none x found = none_by f bytes left (size_of f bytes) (grind (arith, nat_tests, whole)) none x found
 
-pub reads_none : (f : Format) (bytes left : List ℕ) (e : CaptureFault) → (length bytes < record_size f bytes → left ≡ []) → record_at f bytes ≡ Err e
+pub reads_none : (f : Format) (bytes left : List ℕ) → (length bytes < record_size f bytes → left ≡ []) → NoneOf f bytes
     → (x : ℕ × Told × ℕ) → ¬ IsRecord f (bytes ++ left) x
-reads_none f bytes left e end is = none_if f bytes left e (nat_lt (length bytes) (record_size f bytes)) refl end is
+reads_none f bytes left end none = none_if f bytes left (nat_lt (length bytes) (record_size f bytes)) refl end none
 
 -- ---- zeros
 
@@ -245,16 +253,17 @@ no_part_before f bytes more whole = no_part_by f bytes more (size_of f bytes) wh
 -- ---- what is found at the front
 
 pub front_whole : (f : Format) (rest bytes left : List ℕ) (behind : Option (List ℕ)) (time : ℕ) (told : Told) (size : ℕ) → rest ≡ bytes ++ left
-    → behind ≡ Some left → length bytes ≤ record_size f bytes → record_at f bytes ≡ Ok (time, told, size) → IsFront f rest behind (front.Whole size)
-front_whole f rest bytes left behind time told size is at within read =
-    let whole = read_whole f bytes left (time, told, size) within read in
+    → behind ≡ Some left → length bytes ≤ record_size f bytes → record_at f bytes ≡ Ok (time, told, size) → says_twice f bytes ≡ true
+    → IsFront f rest behind (front.Whole size)
+front_whole f rest bytes left behind time told size is at within read twice =
+    let whole = read_whole f bytes left (time, told, size) within read twice in
     let P : List ℕ → Type 0 = λ x. IsFront f x behind (front.Whole size) in
     subst P (sym is) (time, told, whole.0, at ∙ ap (λ (x : List ℕ). Some x) (sym whole.1))
 
-pub torn : (f : Format) (bytes left : List ℕ) (e : CaptureFault) → (length bytes < record_size f bytes → left ≡ []) → record_at f bytes ≡ Err e
+pub torn : (f : Format) (bytes left : List ℕ) → (length bytes < record_size f bytes → left ≡ []) → NoneOf f bytes
     → all_zeros left ≡ true → is_part f (without_zeros bytes) ≡ true → IsTorn f (bytes ++ left)
-torn f bytes left e end is zeros part = record {
-  none = reads_none f bytes left e end is;
+torn f bytes left end none zeros part = record {
+  none = reads_none f bytes left end none;
   part = ap (λ (x : List ℕ). is_part f x) (zeros_behind bytes left zeros) ∙ part;
 }
 
@@ -277,19 +286,19 @@ foreign_by f bytes left false more end no_part =
         absurd (cc)
     full f bytes left false whole end more = grind (arith, nat_tests, whole)
 
-pub foreign : (f : Format) (bytes left : List ℕ) (e : CaptureFault) → bytes ≢ [] → (length bytes < record_size f bytes → left ≡ []) → record_at f bytes ≡ Err e
+pub foreign : (f : Format) (bytes left : List ℕ) → bytes ≢ [] → (length bytes < record_size f bytes → left ≡ []) → NoneOf f bytes
     → (all_zeros left ≡ true → is_part f (without_zeros bytes) ≡ false) → IsForeign f (bytes ++ left)
-foreign f bytes left e some end is no_part = record {
+foreign f bytes left some end none no_part = record {
   more = not_empty bytes left some;
-  none = reads_none f bytes left e end is;
+  none = reads_none f bytes left end none;
   no_part = foreign_by f bytes left (all_zeros left) refl end no_part;
 }
 
-pub front_last : (f : Format) (rest bytes left : List ℕ) (e : CaptureFault) → rest ≡ bytes ++ left → (length bytes < record_size f bytes → left ≡ [])
-    → record_at f bytes ≡ Err e → all_zeros left ≡ true → is_part f (without_zeros bytes) ≡ true → (rest ≡ []) ⊎ IsTorn f rest
-front_last f rest bytes left e is end read zeros part =
+pub front_last : (f : Format) (rest bytes left : List ℕ) → rest ≡ bytes ++ left → (length bytes < record_size f bytes → left ≡ [])
+    → NoneOf f bytes → all_zeros left ≡ true → is_part f (without_zeros bytes) ≡ true → (rest ≡ []) ⊎ IsTorn f rest
+front_last f rest bytes left is end none zeros part =
     let P : List ℕ → Type 0 = λ x. IsTorn f x in
-    inr (subst P (sym is) (torn f bytes left e end read zeros part))
+    inr (subst P (sym is) (torn f bytes left end none zeros part))
 
 -- there are bytes where a header was filled
 pub some_bytes : (slice header given bytes : List ℕ) → (length slice == 0) ≡ false → slice ≡ header → bytes ≡ header ++ given → bytes ≢ []
@@ -297,12 +306,12 @@ some_bytes [] header given bytes some is more none = absurd (cc)
 some_bytes (x ∷ slice) [] given bytes some is more none = absurd (cc)
 some_bytes (x ∷ slice) (y ∷ header) given bytes some is more none = absurd (cc)
 
-pub front_foreign : (f : Format) (rest bytes left : List ℕ) (e : CaptureFault) → rest ≡ bytes ++ left → bytes ≢ []
-    → (length bytes < record_size f bytes → left ≡ []) → record_at f bytes ≡ Err e → (all_zeros left ≡ true → is_part f (without_zeros bytes) ≡ false)
+pub front_foreign : (f : Format) (rest bytes left : List ℕ) → rest ≡ bytes ++ left → bytes ≢ []
+    → (length bytes < record_size f bytes → left ≡ []) → NoneOf f bytes → (all_zeros left ≡ true → is_part f (without_zeros bytes) ≡ false)
     → IsForeign f rest
-front_foreign f rest bytes left e is some end read no_part =
+front_foreign f rest bytes left is some end none no_part =
     let P : List ℕ → Type 0 = λ x. IsForeign f x in
-    subst P (sym is) (foreign f bytes left e some end read no_part)
+    subst P (sym is) (foreign f bytes left some end none no_part)
 
 -- a list with its last element
 front_and_last : (xs : List ℕ) (d : ℕ) → 1 ≤ length xs → xs ≡ take (length xs - 1) xs ++ get_or xs (length xs - 1) d ∷ []

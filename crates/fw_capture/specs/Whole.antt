@@ -10,9 +10,15 @@ use Rattle.fw_capture.specs.Steps.{OpensAs, after}
 abbrev pub longest_packet : ℕ
 longest_packet = 65535
 
--- a record stands at the front of these bytes, and none that is written is longer
-abbrev pub IsRecord : Format → List ℕ → ℕ × Told × ℕ → Type 0
-IsRecord f bytes x = (record_at f bytes ≡ Ok x) × (x.2 ≤ 16 + longest_packet)
+-- the header of a record says twice how long its packet is, as that of a packet does of which nothing was left out
+abbrev pub says_twice : Format → List ℕ → Bool
+says_twice f bytes = size_at f bytes == number_at f.little 12 bytes
+
+-- A record stands at the front of these bytes, whose header says twice how long its packet is, and none that is written is longer.
+pub record IsRecord (f : Format) (bytes : List ℕ) (x : ℕ × Told × ℕ) : Type 0 where
+  pub reads : record_at f bytes ≡ Ok x
+  pub bound : x.2 ≤ 16 + longest_packet
+  pub twice : says_twice f bytes ≡ true
 
 -- from a place on there are these records, each a time and what it tells, and behind the last of them is this place
 abbrev pub Passes : Place → List (ℕ × Told) → Place → Type 0
@@ -35,7 +41,7 @@ without_zeros (b ∷ bytes) = if all_zeros (b ∷ bytes) then [] else b ∷ with
 abbrev pub is_part : Format → List ℕ → Bool
 is_part f bytes =
     nat_lt (length bytes) 16
-    || (nat_lt (fraction_at f bytes) (fractions f) && (size_at f bytes == number_at f.little 12 bytes
+    || (nat_lt (fraction_at f bytes) (fractions f) && (says_twice f bytes
     && (nat_le (size_at f bytes) longest_packet && nat_lt (length bytes) (16 + size_at f bytes))))
 
 -- No record stands at the front, but less than one, and zeros that a disk has where nothing was written.

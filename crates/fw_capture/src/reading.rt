@@ -86,6 +86,7 @@ pub(crate) fn record(
 ) -> Result<(u64, Option<Content<'_>>, usize), CaptureFault>
     ensures exact { Gives (λ x. (x.0, told_in x.1, x.2)) result (record_at format bytes.now) }
     ensures within { IfOk result (λ x. x.2 ≤ length bytes.now) }
+    ensures header { IfOk result (λ x. 16 ≤ x.2) }
 {
     if bytes.len() < RECORD_HEADER_SIZE {
         return Err(CaptureFault::ShortRecord);

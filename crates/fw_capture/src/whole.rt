@@ -1,10 +1,11 @@
 //! How far a capture is whole, as a process finds it that goes on with it.
 
-ghost use Rattle.std.specs.Prelude.{◌≡◌, ◌+◌, ◌<◌, ◌≤◌, ◌++◌, ℕ, List, [], Some, length, not, take, IfErr, IfOk, OnOk, MatchOption};
+ghost use Rattle.std.specs.Prelude.{◌≡◌, ◌+◌, ◌<◌, ◌≤◌, ◌++◌, ℕ, List, [], Some, length, not, take, true, false, IfErr, IfNone, IfOk, IfSome, OnOk, MatchOption};
 ghost use Rattle.std.specs.Io.KnownBytes.{Consumes, IsAtEnd, Keeps};
 ghost use Rattle.fw_capture.specs.declared.fault.CaptureFault.{CaptureFault};
-ghost use Rattle.fw_capture.specs.Reading.{header_at};
-ghost use Rattle.fw_capture.specs.Whole.{IsForeignAt, IsWholeTo, all_zeros, is_part, without_zeros};
+ghost use Rattle.fw_capture.specs.Reading.{header_at, record_at};
+ghost use Rattle.fw_capture.specs.View.{Told};
+ghost use Rattle.fw_capture.specs.Whole.{IsForeignAt, IsWholeTo, all_zeros, is_part, says_twice, without_zeros};
 ghost use Rattle.fw_capture.specs.Private.{Fills, IsFront, IsOfReading, record_size};
 
 use crate::error::WholeError;
@@ -85,9 +86,9 @@ fn next_front<R: Read>(
     }
     let size = record_size(format, header);
     fill(reader, bytes, size)?;
-    match record(format, bytes) {
-        Ok((_, _, size)) => Ok(Front::Whole(size)),
-        Err(_) => {
+    match own_record(format, bytes) {
+        Some(size) => Ok(Front::Whole(size)),
+        None => {
             if is_part(format, stem(bytes)) && only_zeros(reader)? {
                 Ok(Front::Last)
             } else {
@@ -95,6 +96,27 @@ fn next_front<R: Read>(
             }
         }
     }
+}
+
+/// How many bytes the record has that stands here, if its header says twice how long the packet is. In one that says two lengths, one of
+/// them was changed.
+fn own_record(format: Format, bytes: &[u8]) -> Option<usize>
+    ensures found { IfSome result (λ size. (time : ℕ) × (told : Told) × ((record_at format bytes.now ≡ Ok (time, told, size))
+        × (says_twice format bytes.now ≡ true))) }
+    ensures none { IfNone result ((x : ℕ × Told × ℕ) → record_at format bytes.now ≡ Ok x → says_twice format bytes.now ≡ false) }
+{
+    match record(format, bytes) {
+        Ok((_, _, size)) if says_twice(format, bytes) => Some(size),
+        _ => None,
+    }
+}
+
+/// Whether the header of a record says twice how long its packet is.
+fn says_twice(format: Format, bytes: &[u8]) -> bool
+    requires { 16 ≤ length bytes.now }
+    ensures { result ≡ says_twice format bytes.now }
+{
+    number_at(format.little, 8, bytes) == number_at(format.little, 12, bytes)
 }
 
 /// How many bytes the record takes that has this header. Of a packet that is longer than the longest none is looked at.
@@ -121,7 +143,7 @@ fn is_part(format: Format, bytes: &[u8]) -> bool
     }
     let size = number_at(format.little, 8, bytes);
     number_at(format.little, 4, bytes) < format.fractions()
-        && size == number_at(format.little, 12, bytes)
+        && says_twice(format, bytes)
         && size as usize <= MAX_PACKET
         && bytes.len() < RECORD_HEADER_SIZE + size as usize
 }
