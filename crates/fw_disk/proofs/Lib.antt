@@ -1,4 +1,4 @@
-mod Goings
+pub mod Goings
 mod Steps
 mod Fillings
 mod Reserving
