@@ -1,4 +1,4 @@
 pub mod Goings
-mod Steps
+pub mod Steps
 mod Fillings
 mod Reserving
