@@ -1,8 +1,30 @@
-//! Which files are there.
+//! The files of a command.
 
-ghost use Rattle.std.specs.Prelude.{◌≡◌, ◌↔◌, IsTrue, false};
+ghost use Rattle.std.specs.Prelude.{◌≡◌, ◌↔◌, IsTrue, IfErr, false};
 
+use fw_disk::{Because, Name, SystemFolder};
+use fw_faults::Fault;
+use std::fs::File;
 use std::io;
+use std::rt::Files;
+
+/// The folder of the file at this path.
+///
+/// # Errors
+///
+/// This fault, with its reason: the path is too long.
+pub(crate) fn folder_of<'a, F: Files<File = File>>(
+    rt: &'a F,
+    path: &'a str,
+    fault: Fault,
+) -> Result<SystemFolder<'a, F>, Because<Fault>>
+    ensures { IfErr result (λ b. b.error ≡ fault) }
+{
+    match SystemFolder::of(rt, path) {
+        Ok(folder) => Ok(folder),
+        Err(cause) => Err(Because::of(fault, cause.at(Name::Main))),
+    }
+}
 
 /// Whether it is known that no file is there, by what `fs::exists` says. Where it can't be looked for, one may be there.
 pub fn is_absent(found: io::Result<bool>) -> bool

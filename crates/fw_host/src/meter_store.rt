@@ -1,20 +1,22 @@
 //! The store of the command `meter`: the one in a file that is there, or a new one, which is made once all is judged.
 
-ghost use Rattle.std.specs.Prelude.{◌≡◌, ◌≢◌, None, IfOk, IfErr, IfSome};
+ghost use Rattle.std.specs.Prelude.{◌≡◌, ◌≢◌, ◌↔◌, None, Some, IsTrue, IfOk, IfErr, IfSome};
+ghost use Rattle.fw_disk.specs.declared.cause.Cause.TheVariants.{Missing};
+ghost use Rattle.fw_disk.specs.declared.name.Name.TheVariants.{Main};
 ghost use Rattle.fw_store.specs.Setup.{IsSetup};
 ghost use Rattle.fw_store.specs.declared.version.HeaderVersion.TheVariants.{Two};
 ghost use Rattle.fw_image.specs.Meter.{restarted};
 ghost use Rattle.fw_image.specs.Stored.{Opens, Refused};
 ghost use Rattle.fw_image.specs.declared.error.OpenError.{OpenError};
-ghost use Rattle.fw_faults.specs.Faults.{fault_of_opening};
+ghost use Rattle.fw_faults.specs.Faults.{fault_of_file, fault_of_opening};
 ghost use Rattle.fw_host.specs.Meters.{IsOfNewStore, IsOfStore, default_factory};
 
-use crate::files::is_absent;
+use crate::files::folder_of;
+use fw_disk::{Because, Cause, Name, Reason};
 use fw_faults::{Fault, Reads, read_input};
 use fw_meter::MeterCore;
 use fw_store::{FileStore, FileStoreError, HeaderVersion, ImageStore, is_setup};
 use std::alloc::Global;
-use std::fs;
 use std::fs::File;
 use std::rt::Files;
 
@@ -80,49 +82,85 @@ impl NewStore {
     ///
     /// # Errors
     ///
-    /// - `StoreFault`: the file can't be made, or one is there.
+    /// - `StoreFault`, with its reason if that is known: the file can't be made, or one is there, or another program's is FILE.new or
+    ///   FILE.journal.
     /// - `Device`, `BadHeader` or `BadImage`: what was made can't be read, or holds no meter.
     pub fn meter<F: Files<File = File>>(
         &self,
         rt: &F,
         path: &str,
-    ) -> Result<MeterCore<FileStore>, Fault>
+    ) -> Result<MeterCore<FileStore>, Because<Fault>>
         ensures begins { IfOk result (λ meter. restarted meter.meter ≡ meter.meter) }
         ensures faultless { IfOk result (λ meter. meter.faults ≡ 0) }
-        ensures faults { IfErr result IsOfStore }
+        ensures faults { IfErr result (λ b. IsOfStore b.error) }
     {
-        let made = FileStore::create(rt, path, self.capacity, self.block_size, &self.factory);
+        let mut folder = folder_of(rt, path, Fault::StoreFault)?;
+        let made = FileStore::create_in(&mut folder, self.capacity, self.block_size, &self.factory);
         match made {
-            Ok(store) => opened(store),
-            // It can be made with these.
-            Err(FileStoreError::BadSetup) => unreachable!(),
-            Err(error) => Err(Fault::from(error)),
+            Ok(store) => match opened(store) {
+                Ok(meter) => Ok(meter),
+                Err(fault) => Err(Because::from(fault)),
+            },
+            Err(because) => match because.error {
+                // It can be made with these.
+                FileStoreError::BadSetup => unreachable!(),
+                _ => Err(refused(because)),
+            },
         }
     }
 }
 
-/// The meter that the file holds, and `None` where no file is there.
+/// The meter that the file holds, and `None` where no file is there and one can be made.
 ///
 /// # Errors
 ///
-/// - `StoreFault`: the file can't be opened, or another store has it open.
+/// - `StoreFault`, with its reason if that is known: the file can't be opened, or another store has it open; or it isn't there, and another
+///   program's file is FILE.new or FILE.journal.
 /// - `Device`, which prints `Fault`: the file can't be read, or its header not be written in version 2.
 /// - `BadFile`, `BadHeader` or `BadImage`: the file holds no meter. It is left as it is.
 pub fn found_meter<F: Files<File = File>>(
     rt: &F,
     path: &str,
-) -> Result<Option<MeterCore<FileStore>>, Fault>
+) -> Result<Option<MeterCore<FileStore>>, Because<Fault>>
     ensures begins { IfOk result (λ found. IfSome found (λ meter. restarted meter.meter ≡ meter.meter)) }
     ensures faultless { IfOk result (λ found. IfSome found (λ meter. meter.faults ≡ 0)) }
-    ensures faults { IfErr result IsOfStore }
+    ensures faults { IfErr result (λ b. IsOfStore b.error) }
 {
-    match FileStore::reopen(rt, path) {
+    let mut folder = folder_of(rt, path, Fault::StoreFault)?;
+    match FileStore::reopen_in(&mut folder) {
         Ok(store) => match opened(store) {
             Ok(meter) => Ok(Some(meter)),
-            Err(fault) => Err(fault),
+            Err(fault) => Err(Because::from(fault)),
         },
-        Err(FileStoreError::StoreFault) if is_absent(fs::exists(rt, path)) => Ok(None),
-        Err(error) => Err(Fault::from(error)),
+        Err(because) if is_missing(because.reason) => match FileStore::check_absent_in(
+            &mut folder,
+        ) {
+            Ok(()) => Ok(None),
+            Err(because) => Err(refused(because)),
+        },
+        Err(because) => Err(refused(because)),
+    }
+}
+
+/// Whether the reason is that there is no FILE.
+fn is_missing(reason: Option<Reason>) -> bool
+    ensures { IsTrue result ↔ (reason ≡ Some (record { name = Main; cause = Missing })) }
+{
+    let missing = Reason {
+        name: Name::Main,
+        cause: Cause::Missing,
+    };
+    reason == Some(missing)
+}
+
+/// The fault that a refusal of a store's files is, with its reason.
+fn refused(because: Because<FileStoreError>) -> Because<Fault>
+    ensures error { result.error ≡ fault_of_file because.error }
+    ensures reason { result.reason ≡ because.reason }
+{
+    Because {
+        error: Fault::from(because.error),
+        reason: because.reason,
     }
 }
 

@@ -13,9 +13,7 @@ use crate::device_store::number;
 use crate::setup::is_capacity;
 use crate::tail::store_size;
 use crate::version::HeaderVersion;
-use fw_disk::{
-    Cause, Folder, Found, Kind, Name, Reason, abandon, begin, open_companion, reserve,
-};
+use fw_disk::{Cause, Folder, Found, Kind, Name, Reason, abandon, begin, open_companion, reserve};
 use fw_undo::MAX_JOURNAL_SIZE;
 
 /// How many bytes of a store are its capacity. They are written and synced before all others.

@@ -34,7 +34,8 @@ use crate::store::ImageStore;
 use crate::tail::store_size;
 use crate::version::{HeaderBytes, HeaderVersion};
 use fw_disk::{
-    Because, Cause, Folder, Name, Reason, SystemFolder, abandon, begin, finish, open, open_companion,
+    Because, Cause, Folder, Name, Reason, SystemFolder, abandon, begin, finish, open,
+    open_companion,
 };
 use fw_undo::{Change, HeaderWrite, MAX_JOURNAL_SIZE};
 use std::fs::File;
@@ -180,9 +181,7 @@ impl FileDevice {
 }
 
 /// FILE, opened.
-fn opened_store<R: Files<File = File>>(
-    folder: &mut SystemFolder<'_, R>,
-) -> Result<OpenFile, Reason>
+fn opened_store<R: Files<File = File>>(folder: &mut SystemFolder<'_, R>) -> Result<OpenFile, Reason>
     ensures { IfErr result (λ r. r.name ≡ Name.Main) }
 {
     match open(folder) {
