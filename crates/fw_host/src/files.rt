@@ -1,8 +1,10 @@
 //! The files of a command.
 
-ghost use Rattle.std.specs.Prelude.{◌≡◌, ◌↔◌, IsTrue, IfErr, false};
+ghost use Rattle.std.specs.Prelude.{◌≡◌, ◌↔◌, IsTrue, IfErr, Some, false};
+ghost use Rattle.fw_disk.specs.declared.cause.Cause.TheVariants.{Missing};
+ghost use Rattle.fw_disk.specs.declared.name.Name.TheVariants.{Main};
 
-use fw_disk::{Because, Name, SystemFolder};
+use fw_disk::{Because, Cause, Name, Reason, SystemFolder};
 use fw_faults::Fault;
 use std::fs::File;
 use std::io;
@@ -24,6 +26,17 @@ pub(crate) fn folder_of<'a, F: Files<File = File>>(
         Ok(folder) => Ok(folder),
         Err(cause) => Err(Because::of(fault, cause.at(Name::Main))),
     }
+}
+
+/// Whether the reason is that there is no FILE.
+pub(crate) fn is_missing(reason: Option<Reason>) -> bool
+    ensures { IsTrue result ↔ (reason ≡ Some (record { name = Main; cause = Missing })) }
+{
+    let missing = Reason {
+        name: Name::Main,
+        cause: Cause::Missing,
+    };
+    reason == Some(missing)
 }
 
 /// Whether it is known that no file is there, by what `fs::exists` says. Where it can't be looked for, one may be there.

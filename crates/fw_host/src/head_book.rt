@@ -10,17 +10,17 @@ ghost use Rattle.fw_kept.specs.Head.{book_of, head_of};
 ghost use Rattle.fw_kept.specs.Kept.{HasForeign};
 ghost use Rattle.fw_host.specs.Heads.{IsOfBook, IsOfOldBook};
 
-use crate::files::folder_of;
+use crate::files::{folder_of, is_missing};
 use crate::head_dropped::DroppedFile;
 use crate::head_new_book::make;
 use fw_blocks::Width;
 use fw_book::Book;
-use fw_disk::{Because, Cause, Name, Reason};
+use fw_disk::{Because, Cause, Name};
 use fw_faults::Fault;
 use fw_journal::{FileDevice, FileReplacer, JournalDevice, JournalError, Keeper, RewriteError};
 use fw_kept::KeptHead;
 use fw_names::{CampaignId, HeadId};
-use std::alloc::{AllocError, Global};
+use std::alloc::Global;
 use std::fs::File;
 use std::rt::Files;
 
@@ -102,23 +102,21 @@ fn open<F: Files<File = File> + Eprint>(
     Ok(kept)
 }
 
-/// The fault that the refusal to open the file of a book is. If there is no file, the fault's name says so.
+/// The fault that the refusal to open the file of a book is, with its reason. Where there is no file, there is no book.
 fn not_opened(because: Because<JournalError>) -> Because<Fault>
     requires { IsFileRefusal because.error }
     ensures missing { because.reason ≡ Some (record { name = Main; cause = Missing }) → result.error ≡ Fault.NoBook }
+    ensures reason { result.reason ≡ because.reason }
     ensures faults { IsOfOldBook result.error }
 {
-    match because.reason {
-        Some(
-            Reason {
-                name: Name::Main,
-                cause: Cause::Missing,
-            },
-        ) => Because::from(Fault::NoBook),
-        reason => Because {
-            error: Fault::from(because.error),
-            reason,
-        },
+    let error = if is_missing(because.reason) {
+        Fault::NoBook
+    } else {
+        Fault::from(because.error)
+    };
+    Because {
+        error,
+        reason: because.reason,
     }
 }
 
@@ -144,7 +142,7 @@ fn compact<F: Files<File = File>>(
     ensures same { head_of kept.new ≡ head_of kept.old }
     ensures faults { IfErr result (λ b. IsOfOldBook b.error) }
 {
-    if size / 2 <= size_anew(alloc, kept.head().view().book).map_err(Fault::from)? {
+    if size / 2 <= size_anew(alloc, kept.head().view().book)? {
         return Ok(());
     }
     let mut replacer = match FileReplacer::of(rt, path) {
@@ -160,7 +158,9 @@ fn compact<F: Files<File = File>>(
 }
 
 /// About how many bytes a book has that was written anew. Images count once each.
-fn size_anew(alloc: Global, book: &Book) -> Result<u64, AllocError> {
+fn size_anew(alloc: Global, book: &Book) -> Result<u64, Fault>
+    ensures { IfErr result (λ f. f ≡ Fault.OutOfMemory) }
+{
     let mut images = Vec::new(alloc);
     let mut size = 0u64;
     for (serial, offer) in book.rows() {

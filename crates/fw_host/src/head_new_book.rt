@@ -12,7 +12,7 @@ ghost use Rattle.fw_host.specs.Heads.{IsOfNewBook, LeavesNewBook};
 
 use crate::files::folder_of;
 use fw_blocks::Width;
-use fw_disk::{Because, Folder, Found, Name, Reason, SystemFolder};
+use fw_disk::{Because, Cause, Folder, Found, Name, Reason, SystemFolder};
 use fw_faults::Fault;
 use fw_journal::{FileDevice, JournalDevice, JournalError};
 use fw_kept::KeptHead;
@@ -25,7 +25,7 @@ use std::rt::Files;
 ///
 /// # Errors
 ///
-/// `BookExists`, also for a link to nothing, and `BookFault` with its reason where it can't be looked for.
+/// `BookExists`, also for a link to nothing, and `BookFault` where it can't be looked for, each with its reason.
 pub fn check_absent<F: Files<File = File>>(rt: &F, path: &str) -> Result<(), Because<Fault>>
     ensures faults { IfErr result (λ b. (b.error ≡ Fault.BookExists) ⊎ (b.error ≡ Fault.BookFault)) }
 {
@@ -43,7 +43,7 @@ fn check_no_book<F: Folder>(folder: &mut F) -> Result<(), Because<Fault>>
 {
     match folder.look(Name::Main) {
         Ok(Found::Absent) => Ok(()),
-        Ok(_) => Err(Because::from(Fault::BookExists)),
+        Ok(_) => Err(Because::of(Fault::BookExists, Cause::Exists.at(Name::Main))),
         Err(cause) => Err(Because::of(Fault::BookFault, cause.at(Name::Main))),
     }
 }

@@ -1,8 +1,6 @@
 //! The store of the command `meter`: the one in a file that is there, or a new one, which is made once all is judged.
 
-ghost use Rattle.std.specs.Prelude.{◌≡◌, ◌≢◌, ◌↔◌, None, Some, IsTrue, IfOk, IfErr, IfSome};
-ghost use Rattle.fw_disk.specs.declared.cause.Cause.TheVariants.{Missing};
-ghost use Rattle.fw_disk.specs.declared.name.Name.TheVariants.{Main};
+ghost use Rattle.std.specs.Prelude.{◌≡◌, ◌≢◌, None, IfOk, IfErr, IfNone, IfSome, OnSome};
 ghost use Rattle.fw_store.specs.Setup.{IsSetup};
 ghost use Rattle.fw_store.specs.declared.version.HeaderVersion.TheVariants.{Two};
 ghost use Rattle.fw_image.specs.Meter.{restarted};
@@ -11,8 +9,8 @@ ghost use Rattle.fw_image.specs.declared.error.OpenError.{OpenError};
 ghost use Rattle.fw_faults.specs.Faults.{fault_of_file, fault_of_opening};
 ghost use Rattle.fw_host.specs.Meters.{IsOfNewStore, IsOfStore, default_factory};
 
-use crate::files::folder_of;
-use fw_disk::{Because, Cause, Name, Reason};
+use crate::files::{folder_of, is_missing};
+use fw_disk::{Because, Folder};
 use fw_faults::{Fault, Reads, read_input};
 use fw_meter::MeterCore;
 use fw_store::{FileStore, FileStoreError, HeaderVersion, ImageStore, is_setup};
@@ -63,17 +61,25 @@ impl NewStore {
         ensures faults { IfErr result IsOfNewStore }
     {
         let factory = factory_of(rt, alloc, fresh)?;
-        if !is_setup(
-            HeaderVersion::Two,
-            fresh.capacity,
-            fresh.block_size,
-            &factory,
-        ) {
-            return Err(Fault::BadSetup);
+        match NewStore::of(fresh.block_size, fresh.capacity, factory) {
+            Some(new) => Ok(new),
+            None => Err(Fault::BadSetup),
         }
-        Ok(NewStore {
-            block_size: fresh.block_size,
-            capacity: fresh.capacity,
+    }
+
+    /// What a store is made with, if one can be made with these. No file is made.
+    pub fn of(block_size: u32, capacity: u32, factory: Vec<u8>) -> Option<NewStore>
+        ensures numbers { IfSome result (λ new. (new.block_size ≡ block_size) × (new.capacity ≡ capacity)) }
+        ensures factory { IfSome result (λ new. new.factory.items ≡ factory.items) }
+        ensures some { OnSome result (IsSetup Two block_size capacity factory.items) }
+        ensures none { IfNone result (¬ IsSetup Two block_size capacity factory.items) }
+    {
+        if !is_setup(HeaderVersion::Two, capacity, block_size, &factory) {
+            return None;
+        }
+        Some(NewStore {
+            block_size,
+            capacity,
             factory,
         })
     }
@@ -132,25 +138,22 @@ pub fn found_meter<F: Files<File = File>>(
             Ok(meter) => Ok(Some(meter)),
             Err(fault) => Err(Because::from(fault)),
         },
-        Err(because) if is_missing(because.reason) => match FileStore::check_absent_in(
-            &mut folder,
-        ) {
-            Ok(()) => Ok(None),
-            Err(because) => Err(refused(because)),
-        },
+        Err(because) if is_missing(because.reason) => {
+            check_new(&mut folder)?;
+            Ok(None)
+        }
         Err(because) => Err(refused(because)),
     }
 }
 
-/// Whether the reason is that there is no FILE.
-fn is_missing(reason: Option<Reason>) -> bool
-    ensures { IsTrue result ↔ (reason ≡ Some (record { name = Main; cause = Missing })) }
+/// Checks that a store can be made.
+fn check_new<F: Folder>(folder: &mut F) -> Result<(), Because<Fault>>
+    ensures { IfErr result (λ b. b.error ≡ Fault.StoreFault) }
 {
-    let missing = Reason {
-        name: Name::Main,
-        cause: Cause::Missing,
-    };
-    reason == Some(missing)
+    match FileStore::check_absent_in(folder) {
+        Ok(()) => Ok(()),
+        Err(because) => Err(refused(because)),
+    }
 }
 
 /// The fault that a refusal of a store's files is, with its reason.
