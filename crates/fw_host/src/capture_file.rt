@@ -2,6 +2,7 @@
 
 ghost use Rattle.std.specs.Prelude.{◌≡◌, ◌≢◌, ◌≤◌, ◌↔◌, ℕ, List, [], Some, IfErr, IfOk, IsTrue, OnOk, length};
 ghost use Rattle.std.specs.Io.KnownBytes.{Appends, Keeps};
+ghost use Rattle.fw_disk.specs.declared.name.Name.TheVariants.{Main};
 ghost use Rattle.fw_capture.specs.Spelling.{file_header, packet_bytes};
 ghost use Rattle.fw_capture.specs.View.{told_of};
 ghost use Rattle.fw_capture.specs.Whole.{IsWholeTo};
@@ -54,7 +55,8 @@ pub fn open_capture<R: Files<File = File> + Clock>(
 
 /// The fault of a capture in FILE that the system refuses.
 fn refused(cause: Cause) -> Because<Fault>
-    ensures { result.error ≡ Fault.CaptureFault }
+    ensures error { result.error ≡ Fault.CaptureFault }
+    ensures reason { result.reason ≡ Some (record { name = Main; cause = cause }) }
 {
     Because::of(Fault::CaptureFault, cause.at(Name::Main))
 }

@@ -1,6 +1,6 @@
 //! The files of a command.
 
-ghost use Rattle.std.specs.Prelude.{◌≡◌, ◌↔◌, IsTrue, IfErr, Some, false};
+ghost use Rattle.std.specs.Prelude.{◌≡◌, ◌↔◌, IsTrue, IfErr, IfSome, Some, false};
 ghost use Rattle.fw_disk.specs.declared.cause.Cause.TheVariants.{Missing};
 ghost use Rattle.fw_disk.specs.declared.name.Name.TheVariants.{Main};
 
@@ -20,7 +20,8 @@ pub(crate) fn folder_of<'a, F: Files<File = File>>(
     path: &'a str,
     fault: Fault,
 ) -> Result<SystemFolder<'a, F>, Because<Fault>>
-    ensures { IfErr result (λ b. b.error ≡ fault) }
+    ensures fault { IfErr result (λ b. b.error ≡ fault) }
+    ensures reason { IfErr result (λ b. IfSome b.reason (λ r. r.name ≡ Main)) }
 {
     match SystemFolder::of(rt, path) {
         Ok(folder) => Ok(folder),

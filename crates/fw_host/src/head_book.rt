@@ -1,6 +1,7 @@
 //! The book of the command `head`, in a file.
 
-ghost use Rattle.std.specs.Prelude.{◌≡◌, ◌≢◌, ◌≤◌, ℕ, List, IfErr, IfOk, IsTrue, OnOk, Some};
+ghost use Rattle.std.specs.Prelude.{◌≡◌, ◌≢◌, ◌≤◌, ℕ, List, IfErr, IfOk, IsTrue, OnOk, None, Some};
+ghost use Rattle.std.specs.Option.{option_map};
 ghost use Rattle.fw_disk.specs.declared.cause.Cause.TheVariants.{Missing};
 ghost use Rattle.fw_disk.specs.declared.name.Name.TheVariants.{Main};
 ghost use Rattle.fw_head.specs.Head.{BeginsWith, new_head};
@@ -122,7 +123,9 @@ fn not_opened(because: Because<JournalError>) -> Because<Fault>
 
 /// A fault of the book in FILE, and why the last call of its device that failed did, if the fault may be of that.
 fn told(fault: Fault, cause: Option<Cause>) -> Because<Fault>
-    ensures { result.error ≡ fault }
+    ensures error { result.error ≡ fault }
+    ensures reason { fault ≡ Fault.BookFault → result.reason ≡ option_map (λ c. record { name = Main; cause = c }) cause }
+    ensures others { fault ≢ Fault.BookFault → result.reason ≡ None }
 {
     match (fault, cause) {
         (Fault::BookFault, Some(cause)) => Because::of(fault, cause.at(Name::Main)),

@@ -1,10 +1,12 @@
 //! The new book of the command `head`, which gets its name once it is on the disk.
 
 ghost use Rattle.std.specs.Prelude.{◌≡◌, ◌≢◌, ◌⊎◌, IfErr, IfOk, IsTrue, OnOk};
-ghost use Rattle.fw_disk.specs.declared.name.Name.TheVariants.{Main};
+ghost use Rattle.std.specs.Option.{option_map};
+ghost use Rattle.fw_disk.specs.declared.name.Name.TheVariants.{Main, New};
 ghost use Rattle.fw_disk.specs.Disk.{absent, Goes};
 ghost use Rattle.fw_disk.specs.Calls.{Stays};
 ghost use Rattle.fw_head.specs.Head.{new_head};
+ghost use Rattle.fw_journal.specs.File.{cause_of};
 ghost use Rattle.fw_journal.specs.Refusals.{IsNamingRefusal};
 ghost use Rattle.fw_kept.specs.Head.{head_of};
 ghost use Rattle.fw_faults.specs.Faults.{fault_of_device};
@@ -121,7 +123,9 @@ impl<'a, F: Files<File = File>> Making<FileDevice> for SystemFolder<'a, F> {
         device.finish(self)
     }
 
-    fn reason(&self, device: &FileDevice) -> Option<Reason> {
+    fn reason(&self, device: &FileDevice) -> Option<Reason>
+        ensures { result ≡ option_map (λ c. record { name = New; cause = c }) (cause_of device.now) }
+    {
         match device.cause() {
             Some(cause) => Some(cause.at(Name::New)),
             None => None,
