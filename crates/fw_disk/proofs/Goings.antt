@@ -3,6 +3,17 @@ use Rattle.std.proofs.Common.{◌≡◌, inl, inr, ⊎_elim, arith, IsTrue, sym,
 use Rattle.fw_disk.specs.Disk.{Disk, Seen, Goes}
 use Rattle.fw_disk.specs.Calls.{Stays}
 
+-- no call yet
+pub unmoved : (T : Disk → Disk → Type 0) → ((x : Disk) → T x x) → (a : Seen) → Goes T a a
+unmoved T same a = λ honest. record {
+  honest = honest;
+  reads = same a.disk;
+  leaves = λ left may. (left, may, same left);
+  later = omega arith;
+  meanwhile = λ since left le had. inl had;
+  keeps = λ since left le had. had;
+}
+
 -- a call, and then one of which it is known what is read and what a power cut may leave as it begins
 pub follow : (R S T : Disk → Disk → Type 0) (Q : Disk → Type 0) (a b c : Seen) → Goes R a b
     → (IsTrue a.honest → Q b.disk) → (IsTrue a.honest → (left : Disk) → b.may_leave left → Q left) → Goes S b c

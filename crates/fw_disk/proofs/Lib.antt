@@ -1,4 +1,4 @@
-mod Goings
-mod Steps
+pub mod Goings
+pub mod Steps
 mod Fillings
 mod Reserving

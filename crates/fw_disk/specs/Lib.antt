@@ -3,3 +3,4 @@ pub mod Disk
 pub mod Calls
 pub mod Ours
 pub mod Causes
+pub mod Endings

@@ -124,20 +124,3 @@ impl fmt::Display for NamingError {
         fmt::Display::fmt(&self.cause(), f)
     }
 }
-
-/// An error, and why the system refused, if it is known.
-#[derive(Debug, Drop)]
-pub struct Because<E> {
-    /// The error.
-    pub error: E,
-    /// Why the system refused.
-    pub cause: Option<Cause>,
-}
-
-impl<E> From<E> for Because<E> {
-    ghost from_gives = { λ error because. because.error ≡ error };
-
-    fn from(error: E) -> Because<E> {
-        Because { error, cause: None }
-    }
-}

@@ -1,7 +1,10 @@
 //! The names of a file and of those beside it.
 
+ghost use Rattle.std.specs.Prelude.{◌≡◌};
+ghost use Rattle.fw_disk.specs.Endings.{ending_of};
+
 /// A name in the folder of a file. A program can name no other file of it.
-#[derive(Clone, Copy, PartialEq, Eq)]
+#[derive(Clone, Copy, Debug, PartialEq, Eq)]
 pub enum Name {
     /// FILE, the file itself.
     Main,
@@ -9,6 +12,19 @@ pub enum Name {
     New,
     /// FILE.journal, its undo log.
     Journal,
+}
+
+impl Name {
+    /// What stands behind the path of FILE in that of the name.
+    pub fn ending(self) -> &'static str
+        ensures { result.now ≡ ending_of self }
+    {
+        match self {
+            Name::Main => "",
+            Name::New => ".new",
+            Name::Journal => ".journal",
+        }
+    }
 }
 
 /// What stands under a name.

@@ -31,8 +31,8 @@ impl<'a> Place<'a> {
     {
         Ok(Place {
             path,
-            new: Beside::of(path, ".new")?,
-            journal: Beside::of(path, ".journal")?,
+            new: Beside::of(path, Name::New.ending())?,
+            journal: Beside::of(path, Name::Journal.ending())?,
         })
     }
 

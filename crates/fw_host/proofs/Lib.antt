@@ -1,3 +1,4 @@
 mod Addressed
 pub mod Listings
 mod Taken
+mod Makings

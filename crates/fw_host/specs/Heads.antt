@@ -3,6 +3,8 @@ use Rattle.std.specs.Prelude.{◌≡◌, ℕ, List, ◌++◌, Option, None, Some
 use Rattle.hex.specs.Hex.{encode_lower}
 use Rattle.fw_names.specs.Name.{Campaign, Name}
 use Rattle.fw_book.specs.declared.error.BookError.{BookError}
+use Rattle.fw_book.specs.Changes.{empty_book}
+use Rattle.fw_kept.specs.Kept.{HasBook}
 use Rattle.fw_rollout.specs.declared.daemon.Counts.{Counts}
 use Rattle.fw_rollout.specs.declared.ended.Ended.{Ended}
 use Rattle.fw_rollout.specs.Leading.{state_after}
@@ -43,6 +45,12 @@ abbrev pub kept_line : ℕ → List ℕ → List ℕ
 kept_line count file =
     (if nat_eq count 1 then (codes "1 record behind a shut gate was not taken; it is kept in " ++ (file ++ codes "\n"))
     else (decimal count ++ (codes " records behind a shut gate were not taken; they are kept in " ++ (file ++ codes "\n"))))
+
+-- ---- a new book
+
+-- every power cut leaves a book of some head end that has no campaign
+abbrev pub LeavesNewBook : {D : Type 0} → (D → List ℕ → Type 0) → D → Type 0
+LeavesNewBook may_leave device = (head : ℕ) × ((left : List ℕ) → may_leave device left → HasBook head left (empty_book head))
 
 -- ---- the faults
 

@@ -6,3 +6,4 @@ pub mod Openings
 pub mod Addresses
 pub mod Strangers
 pub mod Captures
+pub mod BegunCapture

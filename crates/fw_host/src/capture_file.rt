@@ -2,54 +2,95 @@
 
 ghost use Rattle.std.specs.Prelude.{◌≡◌, ◌≢◌, ◌≤◌, ◌↔◌, ℕ, List, [], Some, IfErr, IfOk, IsTrue, OnOk, length};
 ghost use Rattle.std.specs.Io.KnownBytes.{Appends, Keeps};
+ghost use Rattle.fw_disk.specs.declared.name.Name.TheVariants.{Main};
 ghost use Rattle.fw_capture.specs.Spelling.{file_header, packet_bytes};
 ghost use Rattle.fw_capture.specs.View.{told_of};
 ghost use Rattle.fw_capture.specs.Whole.{IsWholeTo};
 ghost use Rattle.fw_host.specs.Captures.{IsForeign, IsOfCapture, StartsCapture};
 
+use crate::capture_making::new_capture;
+use crate::files::folder_of;
 use fw_capture::{Captured, Content, Note, WholeError, file_header, whole_len};
+use fw_disk::{Because, Cause, Name, SystemFolder, open};
 use fw_faults::Fault;
 use fw_recording::{write_header, write_record};
 use std::alloc::{AllocError, Global};
-use std::fs::{File, OpenOptions};
-use std::io::{BufReader, Read, Write};
+use std::fs::File;
+use std::io::{BufReader, Read, Seek, SeekFrom, Write};
 use std::os::unix::fs::FileExt;
 use std::rt::{Clock, Files};
 use std::time::{SystemTime, UNIX_EPOCH};
 
 /// The bytes of the file header of a capture.
-const HEADER_SIZE: usize = 24;
+pub(crate) const HEADER_SIZE: usize = 24;
 
-/// The file of a daemon's capture, under the lock, with a note of the start of the process at its end. It is made where no file is there, and
-/// gone on with where one is.
+/// The file of a daemon's capture, under the lock, with a note of the start of the process at its end, where it stands. It is made where no
+/// file is there, as FILE.new, which is named FILE once the disk has its file header; and gone on with where one is.
 ///
 /// Each record is appended by a call of its own, so a process that is killed leaves whole ones. A power cut or a full disk may leave less than a
 /// record at the end, and zeros. That is cut off, and the disk has it so before anything is appended.
 ///
 /// # Errors
 ///
-/// - `CaptureFault`: the file can't be made, opened, read or written, or another process has it. Or the system gives no more memory.
+/// - `CaptureFault`, with its reason if that is known: the file can't be made, opened, read or written, or another process has it; or it is a
+///   link or no regular file, or has another name as well; or it isn't there, and another program's file is FILE.new. Or the system gives no
+///   more memory.
 /// - `ForeignCapture`: the file is there, and isn't a capture that a daemon began, or its records have another fault. It is left as it is.
 pub fn open_capture<R: Files<File = File> + Clock>(
     rt: &R,
     alloc: Global,
     path: &str,
-) -> Result<File, Fault>
-    ensures faults { IfErr result IsOfCapture }
+) -> Result<File, Because<Fault>>
+    ensures faults { IfErr result (λ b. IsOfCapture b.error) }
 {
-    let mut options = OpenOptions::new();
-    options.read(true).append(true).create(true);
-    let Ok(mut file) = options.open(rt, path) else {
-        return Err(Fault::CaptureFault);
+    let mut folder = folder_of(rt, path, Fault::CaptureFault)?;
+    let mut file = match open(&mut folder) {
+        Ok(file) => file,
+        Err(Cause::Missing) => made(alloc, &mut folder)?,
+        Err(cause) => return Err(refused(cause)),
     };
-    if file.try_lock().is_err() {
-        return Err(Fault::CaptureFault);
-    }
-    let mut buffer = [0; HEADER_SIZE];
-    let count = read_front(&file, &mut buffer)?;
-    keep_whole(alloc, &file, &buffer[..count])?;
-    start(alloc, &mut file, now(rt), &buffer[..count])?;
+    go_on(alloc, &mut file, now(rt))?;
     Ok(file)
+}
+
+/// The fault of a capture in FILE that the system refuses.
+fn refused(cause: Cause) -> Because<Fault>
+    ensures error { result.error ≡ Fault.CaptureFault }
+    ensures reason { result.reason ≡ Some (record { name = Main; cause = cause }) }
+{
+    Because::of(Fault::CaptureFault, cause.at(Name::Main))
+}
+
+/// The file of a new capture, which has the file header.
+fn made<R: Files<File = File>>(
+    alloc: Global,
+    folder: &mut SystemFolder<'_, R>,
+) -> Result<File, Because<Fault>>
+    ensures { IfErr result (λ b. b.error ≡ Fault.CaptureFault) }
+{
+    let header = file_header(alloc).map_err(|_| Fault::CaptureFault)?;
+    match new_capture(folder, &header) {
+        Ok(file) => Ok(file),
+        Err(reason) => Err(Because::of(Fault::CaptureFault, reason)),
+    }
+}
+
+/// Goes on with a capture: cuts off what is no whole record at its end, and appends the note of the start.
+fn go_on(alloc: Global, file: &mut File, nanoseconds: u64) -> Result<(), Because<Fault>>
+    ensures faults { IfErr result (λ b. IsOfCapture b.error) }
+{
+    let mut buffer = [0; HEADER_SIZE];
+    let count = read_front(file, &mut buffer).map_err(refused)?;
+    keep_whole(alloc, file, &buffer[..count])?;
+    go_to_end(file).map_err(refused)?;
+    start(alloc, file, nanoseconds, &buffer[..count])?;
+    Ok(())
+}
+
+/// Goes to the end of a file.
+fn go_to_end(file: &mut File) -> Result<(), Cause> {
+    file.seek(SeekFrom::End(0))?;
+    Ok(())
 }
 
 /// Cuts off what is no whole record at the end of the capture of a daemon, which has this front. Any other file is left as it is.
@@ -89,20 +130,15 @@ fn kept_len<R: Read>(alloc: Global, reader: &mut R) -> Result<u64, Fault>
 }
 
 /// Reads the front of a file into a buffer, as much as there is room for or the file has. It returns how many bytes these are.
-fn read_front(file: &File, buffer: &mut [u8]) -> Result<usize, Fault>
-    ensures count { IfOk result (λ count. count ≤ length buffer.new) }
-    ensures faults { IfErr result (λ f. f ≡ Fault.CaptureFault) }
+fn read_front(file: &File, buffer: &mut [u8]) -> Result<usize, Cause>
+    ensures { IfOk result (λ count. count ≤ length buffer.new) }
 {
-    let Ok(metadata) = file.metadata() else {
-        return Err(Fault::CaptureFault);
-    };
+    let metadata = file.metadata()?;
     let count = match usize::try_from(metadata.len()) {
         Ok(size) => size.min(buffer.len()),
         Err(_) => buffer.len(),
     };
-    if file.read_exact_at(&mut buffer[..count], 0).is_err() {
-        return Err(Fault::CaptureFault);
-    }
+    file.read_exact_at(&mut buffer[..count], 0)?;
     Ok(count)
 }
 

@@ -1,8 +1,44 @@
-//! Which files are there.
+//! The files of a command.
 
-ghost use Rattle.std.specs.Prelude.{◌≡◌, ◌↔◌, IsTrue, false};
+ghost use Rattle.std.specs.Prelude.{◌≡◌, ◌↔◌, IsTrue, IfErr, IfSome, Some, false};
+ghost use Rattle.fw_disk.specs.declared.cause.Cause.TheVariants.{Missing};
+ghost use Rattle.fw_disk.specs.declared.name.Name.TheVariants.{Main};
 
+use fw_disk::{Because, Cause, Name, Reason, SystemFolder};
+use fw_faults::Fault;
+use std::fs::File;
 use std::io;
+use std::rt::Files;
+
+/// The folder of the file at this path.
+///
+/// # Errors
+///
+/// This fault, with its reason: the path is too long.
+pub(crate) fn folder_of<'a, F: Files<File = File>>(
+    rt: &'a F,
+    path: &'a str,
+    fault: Fault,
+) -> Result<SystemFolder<'a, F>, Because<Fault>>
+    ensures fault { IfErr result (λ b. b.error ≡ fault) }
+    ensures reason { IfErr result (λ b. IfSome b.reason (λ r. r.name ≡ Main)) }
+{
+    match SystemFolder::of(rt, path) {
+        Ok(folder) => Ok(folder),
+        Err(cause) => Err(Because::of(fault, cause.at(Name::Main))),
+    }
+}
+
+/// Whether the reason is that there is no FILE.
+pub(crate) fn is_missing(reason: Option<Reason>) -> bool
+    ensures { IsTrue result ↔ (reason ≡ Some (record { name = Main; cause = Missing })) }
+{
+    let missing = Reason {
+        name: Name::Main,
+        cause: Cause::Missing,
+    };
+    reason == Some(missing)
+}
 
 /// Whether it is known that no file is there, by what `fs::exists` says. Where it can't be looked for, one may be there.
 pub fn is_absent(found: io::Result<bool>) -> bool

@@ -1,7 +1,7 @@
 //! The file that keeps what an opening cuts off a book.
 
-use crate::head_book::sync_folder;
 use crate::head_lines::kept_line;
+use fw_disk::{Cause, Folder, SystemFolder};
 use fw_journal::{DeviceError, Keeper};
 use std::alloc::{AllocError, Global};
 use std::fs::{File, OpenOptions};
@@ -61,7 +61,13 @@ impl<'a, R: Files<File = File>> DroppedFile<'a, R> {
         file.set_permissions(book.permissions()).map_err(refused)?;
         file.write_all(bytes).map_err(refused)?;
         file.sync_all().map_err(refused)?;
-        sync_folder(self.rt, self.path).map_err(|_| DeviceError::Fault)
+        self.sync_folder().map_err(|_| DeviceError::Fault)
+    }
+
+    /// Puts the names in the folder of the book where a power cut leaves them.
+    fn sync_folder(&self) -> Result<(), Cause> {
+        let mut folder = SystemFolder::of(self.rt, self.path)?;
+        folder.sync_folder()
     }
 }
 

@@ -3,12 +3,14 @@
 #![tactic(auto)]
 
 mod capture_file;
+mod capture_making;
 mod capture_port;
 mod files;
 mod head_addresses;
 mod head_book;
 mod head_dropped;
 mod head_lines;
+mod head_new_book;
 mod head_opening;
 mod head_port;
 mod head_progress;
@@ -21,8 +23,9 @@ pub use capture_file::open_capture;
 pub use capture_port::CapturePort;
 pub use files::is_absent;
 pub use head_addresses::check_addresses;
-pub use head_book::{BookOptions, check_absent, kept_head};
+pub use head_book::{BookOptions, kept_head};
 pub use head_lines::{cancelled_line, opened_line, over_line, untaken_line};
+pub use head_new_book::check_absent;
 pub use head_opening::{
     Opening, Part, cancel, check_cancel, check_parts, is_open, open_part, parts_of,
 };

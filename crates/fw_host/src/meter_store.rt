@@ -1,20 +1,20 @@
 //! The store of the command `meter`: the one in a file that is there, or a new one, which is made once all is judged.
 
-ghost use Rattle.std.specs.Prelude.{◌≡◌, ◌≢◌, None, IfOk, IfErr, IfSome};
+ghost use Rattle.std.specs.Prelude.{◌≡◌, ◌≢◌, None, IfOk, IfErr, IfNone, IfSome, OnSome};
 ghost use Rattle.fw_store.specs.Setup.{IsSetup};
 ghost use Rattle.fw_store.specs.declared.version.HeaderVersion.TheVariants.{Two};
 ghost use Rattle.fw_image.specs.Meter.{restarted};
 ghost use Rattle.fw_image.specs.Stored.{Opens, Refused};
 ghost use Rattle.fw_image.specs.declared.error.OpenError.{OpenError};
-ghost use Rattle.fw_faults.specs.Faults.{fault_of_opening};
+ghost use Rattle.fw_faults.specs.Faults.{fault_of_file, fault_of_opening};
 ghost use Rattle.fw_host.specs.Meters.{IsOfNewStore, IsOfStore, default_factory};
 
-use crate::files::is_absent;
+use crate::files::{folder_of, is_missing};
+use fw_disk::{Because, Folder};
 use fw_faults::{Fault, Reads, read_input};
 use fw_meter::MeterCore;
 use fw_store::{FileStore, FileStoreError, HeaderVersion, ImageStore, is_setup};
 use std::alloc::Global;
-use std::fs;
 use std::fs::File;
 use std::rt::Files;
 
@@ -61,17 +61,25 @@ impl NewStore {
         ensures faults { IfErr result IsOfNewStore }
     {
         let factory = factory_of(rt, alloc, fresh)?;
-        if !is_setup(
-            HeaderVersion::Two,
-            fresh.capacity,
-            fresh.block_size,
-            &factory,
-        ) {
-            return Err(Fault::BadSetup);
+        match NewStore::of(fresh.block_size, fresh.capacity, factory) {
+            Some(new) => Ok(new),
+            None => Err(Fault::BadSetup),
         }
-        Ok(NewStore {
-            block_size: fresh.block_size,
-            capacity: fresh.capacity,
+    }
+
+    /// What a store is made with, if one can be made with these. No file is made.
+    pub fn of(block_size: u32, capacity: u32, factory: Vec<u8>) -> Option<NewStore>
+        ensures numbers { IfSome result (λ new. (new.block_size ≡ block_size) × (new.capacity ≡ capacity)) }
+        ensures factory { IfSome result (λ new. new.factory.items ≡ factory.items) }
+        ensures some { OnSome result (IsSetup Two block_size capacity factory.items) }
+        ensures none { IfNone result (¬ IsSetup Two block_size capacity factory.items) }
+    {
+        if !is_setup(HeaderVersion::Two, capacity, block_size, &factory) {
+            return None;
+        }
+        Some(NewStore {
+            block_size,
+            capacity,
             factory,
         })
     }
@@ -80,49 +88,82 @@ impl NewStore {
     ///
     /// # Errors
     ///
-    /// - `StoreFault`: the file can't be made, or one is there.
+    /// - `StoreFault`, with its reason if that is known: the file can't be made, or one is there, or another program's is FILE.new or
+    ///   FILE.journal.
     /// - `Device`, `BadHeader` or `BadImage`: what was made can't be read, or holds no meter.
     pub fn meter<F: Files<File = File>>(
         &self,
         rt: &F,
         path: &str,
-    ) -> Result<MeterCore<FileStore>, Fault>
+    ) -> Result<MeterCore<FileStore>, Because<Fault>>
         ensures begins { IfOk result (λ meter. restarted meter.meter ≡ meter.meter) }
         ensures faultless { IfOk result (λ meter. meter.faults ≡ 0) }
-        ensures faults { IfErr result IsOfStore }
+        ensures faults { IfErr result (λ b. IsOfStore b.error) }
     {
-        let made = FileStore::create(rt, path, self.capacity, self.block_size, &self.factory);
+        let mut folder = folder_of(rt, path, Fault::StoreFault)?;
+        let made = FileStore::create_in(&mut folder, self.capacity, self.block_size, &self.factory);
         match made {
-            Ok(store) => opened(store),
-            // It can be made with these.
-            Err(FileStoreError::BadSetup) => unreachable!(),
-            Err(error) => Err(Fault::from(error)),
+            Ok(store) => match opened(store) {
+                Ok(meter) => Ok(meter),
+                Err(fault) => Err(Because::from(fault)),
+            },
+            Err(because) => match because.error {
+                // It can be made with these.
+                FileStoreError::BadSetup => unreachable!(),
+                _ => Err(refused(because)),
+            },
         }
     }
 }
 
-/// The meter that the file holds, and `None` where no file is there.
+/// The meter that the file holds, and `None` where no file is there and one can be made.
 ///
 /// # Errors
 ///
-/// - `StoreFault`: the file can't be opened, or another store has it open.
+/// - `StoreFault`, with its reason if that is known: the file can't be opened, or another store has it open; or it isn't there, and another
+///   program's file is FILE.new or FILE.journal.
 /// - `Device`, which prints `Fault`: the file can't be read, or its header not be written in version 2.
 /// - `BadFile`, `BadHeader` or `BadImage`: the file holds no meter. It is left as it is.
 pub fn found_meter<F: Files<File = File>>(
     rt: &F,
     path: &str,
-) -> Result<Option<MeterCore<FileStore>>, Fault>
+) -> Result<Option<MeterCore<FileStore>>, Because<Fault>>
     ensures begins { IfOk result (λ found. IfSome found (λ meter. restarted meter.meter ≡ meter.meter)) }
     ensures faultless { IfOk result (λ found. IfSome found (λ meter. meter.faults ≡ 0)) }
-    ensures faults { IfErr result IsOfStore }
+    ensures faults { IfErr result (λ b. IsOfStore b.error) }
 {
-    match FileStore::reopen(rt, path) {
+    let mut folder = folder_of(rt, path, Fault::StoreFault)?;
+    match FileStore::reopen_in(&mut folder) {
         Ok(store) => match opened(store) {
             Ok(meter) => Ok(Some(meter)),
-            Err(fault) => Err(fault),
+            Err(fault) => Err(Because::from(fault)),
         },
-        Err(FileStoreError::StoreFault) if is_absent(fs::exists(rt, path)) => Ok(None),
-        Err(error) => Err(Fault::from(error)),
+        Err(because) if is_missing(because.reason) => {
+            check_new(&mut folder)?;
+            Ok(None)
+        }
+        Err(because) => Err(refused(because)),
+    }
+}
+
+/// Checks that a store can be made.
+fn check_new<F: Folder>(folder: &mut F) -> Result<(), Because<Fault>>
+    ensures { IfErr result (λ b. b.error ≡ Fault.StoreFault) }
+{
+    match FileStore::check_absent_in(folder) {
+        Ok(()) => Ok(()),
+        Err(because) => Err(refused(because)),
+    }
+}
+
+/// The fault that a refusal of a store's files is, with its reason.
+fn refused(because: Because<FileStoreError>) -> Because<Fault>
+    ensures error { result.error ≡ fault_of_file because.error }
+    ensures reason { result.reason ≡ because.reason }
+{
+    Because {
+        error: Fault::from(because.error),
+        reason: because.reason,
     }
 }
 

@@ -1,6 +1,8 @@
 -- Public vocabulary: the laws of the bytes of a journal. They speak of definitions alone.
 use Rattle.std.specs.Prelude.{◌≡◌, ℕ, List}
+use Rattle.fw_disk.specs.Ours.{Starts}
 use Rattle.fw_journal.specs.Book.{AreRecords, Stands, IsBadBook, HasBlocks, book_bytes}
+use Rattle.fw_journal.specs.Begun.{IsBegunJournal}
 
 -- bytes stand for one list of records at most
 abbrev pub OneReading : Type 0
@@ -17,3 +19,7 @@ BookStands = (records : List (List ℕ)) → AreRecords records → Stands (book
 -- bytes have one number of whole records one after another, each behind one byte
 abbrev pub OneCount : Type 0
 OneCount = (bytes : List ℕ) (some others : ℕ) → HasBlocks some bytes → HasBlocks others bytes → some ≡ others
+
+-- a file that has the first five bytes of a journal counts as left of a journal that is made
+abbrev pub FirstBytesBegin : Type 0
+FirstBytesBegin = (records : List (List ℕ)) → Starts IsBegunJournal 5 (book_bytes records)

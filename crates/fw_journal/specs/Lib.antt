@@ -5,6 +5,8 @@ pub mod Fuse
 pub mod Past
 pub mod Memory
 pub mod Book
+pub mod Begun
+pub mod File
 pub mod Journal
 pub mod Keeping
 pub mod Laws

@@ -4,8 +4,9 @@ ghost use Rattle.std.specs.Prelude.{◌≡◌};
 ghost use Rattle.fw_journal.specs.declared.error.DeviceError.TheVariants as device;
 ghost use Rattle.fw_journal.specs.declared.error.JournalError.TheVariants.{OutOfMemory};
 ghost use Rattle.fw_journal.specs.declared.error.ReplaceError.TheVariants as replacing;
-ghost use Rattle.fw_journal.specs.Refusals.{book_error, rewrite_error};
+ghost use Rattle.fw_journal.specs.Refusals.{book_error, replace_error, rewrite_error};
 
+use fw_disk::NamingError;
 use std::alloc::{AllocError, AllocFailed};
 use std::fmt;
 use thiserror::Error;
@@ -69,6 +70,17 @@ impl From<AllocError> for ReplaceError {
 
     fn from(_error: AllocError) -> ReplaceError {
         ReplaceError::OutOfMemory
+    }
+}
+
+impl From<NamingError> for ReplaceError {
+    ghost from_gives = { λ error e. e ≡ replace_error error };
+
+    fn from(error: NamingError) -> ReplaceError {
+        match error {
+            NamingError::NotNamed(_) => ReplaceError::NotReplaced,
+            NamingError::NotSynced(_) => ReplaceError::Fault,
+        }
     }
 }
 

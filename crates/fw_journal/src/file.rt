@@ -1,182 +1,171 @@
 //! Journals in files of the operating system.
 
-ghost use Rattle.std.specs.Prelude.{◌≡◌, IfErr};
-ghost use Rattle.fw_journal.specs.Refusals.{IsFileRefusal};
+ghost use Rattle.std.specs.Prelude.{◌≡◌, IfOk, IfErr, OnErr, IsSome, None};
+ghost use Rattle.fw_disk.specs.Causes.{IsOfSystem};
+ghost use Rattle.fw_disk.specs.declared.name.Name.TheVariants.{Main, New};
+ghost use Rattle.fw_journal.specs.File.{cause_of};
+ghost use Rattle.fw_journal.specs.Refusals.{file_error, naming_error, IsFileRefusal, IsNamingRefusal, IsToldAs};
 
+use crate::begun::BegunJournal;
 use crate::device::JournalDevice;
 use crate::error::{DeviceError, JournalError, ReplaceError};
 use crate::journal::Journal;
-use crate::reading::is_begun;
 use crate::replacing::Replacer;
-use std::alloc::{AllocError, Global};
-use std::fs::{File, OpenOptions};
-use std::os::unix::fs::{FileExt, MetadataExt};
-use std::path::AsPath;
+use fw_disk::{Because, Cause, Name, SystemFolder, begin, finish, open, replace};
+use std::fs::File;
+use std::io;
+use std::os::unix::fs::FileExt;
 use std::rt::Files;
-use std::{fs, io};
 
 /// The bytes of an open file, which no other journal has open: it is under an exclusive lock. Nothing is known of what a file holds or
 /// gives, so it is neither honest nor sound.
 #[derive(Drop)]
 pub struct FileDevice {
     file: File,
+    /// Why the last call that failed did.
+    cause: Option<Cause>,
 }
 
 /// A journal in a file.
 pub type FileJournal = Journal<FileDevice>;
 
-/// What the operating system refused.
-fn refused(_error: io::Error) -> DeviceError
-    ensures { result ≡ DeviceError.Fault }
-{
-    DeviceError::Fault
-}
-
 impl FileDevice {
-    /// Makes a file where there is none.
+    /// Opens FILE, if it has no other name. Its name is where a power cut leaves it then.
     ///
     /// # Errors
     ///
-    /// `BookFault` where a file is there already, which is left as it is, or where it can't be made; `Locked` where another journal took
-    /// it meanwhile.
-    pub fn create<R: Files<File = File>, P: AsPath>(
-        rt: &R,
-        path: P,
-    ) -> Result<FileDevice, JournalError>
-        ensures refusals { IfErr result IsFileRefusal }
+    /// `Locked` if another journal has it open, and otherwise `BookFault`, each with the cause: `Missing` if there is no file, `NotAlone`
+    /// if it is a link or no regular file, or has another name as well. Nothing is changed.
+    pub fn open<R: Files<File = File>>(
+        folder: &mut SystemFolder<'_, R>,
+    ) -> Result<FileDevice, Because<JournalError>>
+        ensures fresh { IfOk result (λ device. cause_of device ≡ None) }
+        ensures reason { IfErr result (IsToldAs file_error Main) }
+        ensures refusals { IfErr result (λ b. IsFileRefusal b.error) }
     {
-        let mut options = OpenOptions::new();
-        options.read(true).write(true).create_new(true);
-        FileDevice::locked(options.open(rt, path).map_err(refused)?)
+        match open(folder) {
+            Ok(file) => Ok(FileDevice::of(file)),
+            Err(cause) => Err(refused(Name::Main, cause)),
+        }
     }
 
-    /// Opens a file that is there.
+    /// Begins a journal that gets the name FILE once it is whole: FILE.new, without bytes. It is made, or it is what a power cut or a killed
+    /// process left of such a making: a file of five bytes at most, or one that begins as a journal does.
     ///
     /// # Errors
     ///
-    /// `BookFault` where it can't be opened, and `Locked` where another journal has it open, or replaced it meanwhile.
-    pub fn open<R: Files<File = File>, P: AsPath>(
-        rt: &R,
-        path: P,
-    ) -> Result<FileDevice, JournalError>
-        ensures refusals { IfErr result IsFileRefusal }
+    /// `Locked` if another journal has it open, and otherwise `BookFault`, each with the cause: `NotAlone` if a link is there, no regular
+    /// file, or one that has another name as well, and `Foreign` if a file of any other bytes is there. These are left as they are.
+    pub fn begin<R: Files<File = File>>(
+        folder: &mut SystemFolder<'_, R>,
+    ) -> Result<FileDevice, Because<JournalError>>
+        ensures fresh { IfOk result (λ device. cause_of device ≡ None) }
+        ensures reason { IfErr result (IsToldAs file_error New) }
+        ensures refusals { IfErr result (λ b. IsFileRefusal b.error) }
     {
-        let path = path.path_text();
-        let mut options = OpenOptions::new();
-        options.read(true).write(true);
-        let device = FileDevice::locked(options.open(rt, path).map_err(refused)?)?;
-        // Who had the lock before may have put another file in its place meanwhile.
-        if !device.has_name(rt, path)? {
-            return Err(JournalError::Locked);
+        match begin(folder, Name::New, &BegunJournal) {
+            Ok(file) => Ok(FileDevice::of(file)),
+            Err(cause) => Err(refused(Name::New, cause)),
         }
-        Ok(device)
     }
 
-    /// Makes a file without bytes for a journal that gets another name once it is whole, or takes one that is there: what a power cut or a
-    /// killed process left of such a making, which is a file of five bytes at most, or one that begins as a journal does.
+    /// Gives a journal that was begun the name FILE, which nothing has. A power cut leaves nothing under it, or the whole file, and after
+    /// `Ok` the file.
     ///
     /// # Errors
     ///
-    /// `BookFault` where it can't be made, opened or emptied, or where a file of any other bytes is there, or one that has another name as
-    /// well: these are left as they are. `Locked` where another journal has it open, or took it or replaced it meanwhile.
-    pub fn begin<R: Files<File = File>, P: AsPath>(
-        rt: &R,
-        path: P,
-    ) -> Result<FileDevice, JournalError>
-        ensures refusals { IfErr result IsFileRefusal }
+    /// `NotEmpty` with the cause `Exists` if something is FILE, which is left as it is; and otherwise `BookFault` with the cause: the file
+    /// hasn't got the name, or a power cut may take that back.
+    pub fn finish<R: Files<File = File>>(
+        &self,
+        folder: &mut SystemFolder<'_, R>,
+    ) -> Result<(), Because<JournalError>>
+        ensures reason { IfErr result (IsToldAs naming_error Main) }
+        ensures refusals { IfErr result (λ b. IsNamingRefusal b.error) }
     {
-        let path = path.path_text();
-        let device = match FileDevice::create(rt, path) {
-            Err(JournalError::BookFault) => FileDevice::open(rt, path)?,
-            made => made?,
-        };
-        if !device.has_only_name(rt, path)? || !device.is_begun()? {
-            return Err(JournalError::BookFault);
+        match finish(folder, &self.file) {
+            Ok(()) => Ok(()),
+            Err(error) => Err(not_named(error.cause())),
         }
-        device.clear()?;
-        Ok(device)
     }
 
-    /// Whether its bytes may be left of a journal that was cut while it was made.
-    fn is_begun(&self) -> Result<bool, DeviceError>
-        ensures refusals { IfErr result (λ e. e ≡ DeviceError.Fault) }
+    /// Why the last call that failed did, of those of a [`JournalDevice`] and of a [`FileReplacer`].
+    pub fn cause(&self) -> Option<Cause>
+        ensures { result ≡ cause_of self.now }
     {
-        let metadata = self.file.metadata().map_err(refused)?;
-        let mut front = [0; 6];
-        let front = &mut front[..metadata.len().min(6) as usize];
-        self.file.read_exact_at(front, 0).map_err(refused)?;
-        Ok(is_begun(front))
+        self.cause
     }
 
-    /// Takes its bytes away, and syncs that: else what is written next and some of them might be left together.
-    fn clear(&self) -> Result<(), DeviceError>
-        ensures refusals { IfErr result (λ e. e ≡ DeviceError.Fault) }
+    /// An open file.
+    fn of(file: File) -> FileDevice
+        ensures { cause_of result ≡ None }
     {
-        let metadata = self.file.metadata().map_err(refused)?;
-        if metadata.len() > 0 {
-            self.file.set_len(0).map_err(refused)?;
-            self.file.sync_all().map_err(refused)?;
+        FileDevice { file, cause: None }
+    }
+
+    /// What the system answered. Why it refused is kept.
+    fn noted<T>(&mut self, answer: io::Result<T>) -> Result<T, DeviceError>
+        ensures fault { IfErr result (λ e. e ≡ DeviceError.Fault) }
+        ensures cause { OnErr result (IsSome (cause_of self.new)) }
+    {
+        match answer {
+            Ok(value) => Ok(value),
+            Err(error) => {
+                self.cause = Some(Cause::from(error));
+                Err(DeviceError::Fault)
+            }
         }
-        Ok(())
-    }
-
-    /// Whether this is the name of the file.
-    fn has_name<R: Files<File = File>>(&self, rt: &R, path: &str) -> Result<bool, DeviceError>
-        ensures refusals { IfErr result (λ e. e ≡ DeviceError.Fault) }
-    {
-        let own = self.file.metadata().map_err(refused)?;
-        let named = fs::metadata(rt, path).map_err(refused)?;
-        Ok(own.dev() == named.dev() && own.ino() == named.ino())
-    }
-
-    /// Whether it is a file of which this is the only name, and no link to it.
-    fn has_only_name<R: Files<File = File>>(&self, rt: &R, path: &str) -> Result<bool, DeviceError>
-        ensures refusals { IfErr result (λ e. e ≡ DeviceError.Fault) }
-    {
-        let own = self.file.metadata().map_err(refused)?;
-        let named = fs::symlink_metadata(rt, path).map_err(refused)?;
-        Ok(
-            own.is_file()
-                && own.nlink() == 1
-                && own.dev() == named.dev()
-                && own.ino() == named.ino(),
-        )
-    }
-
-    /// Gives a file that was begun these bytes and the permissions of the old one, and syncs it. The first bytes are synced before any
-    /// other is written, so that a power cut leaves a file that is begun.
-    fn fill(&mut self, old: &FileDevice, bytes: &[u8]) -> Result<(), DeviceError> {
-        let old = old.file.metadata().map_err(refused)?;
-        self.file
-            .set_permissions(old.permissions())
-            .map_err(refused)?;
-        let (first, others) = bytes.split_at(bytes.len().min(5));
-        self.write_at(0, first)?;
-        self.sync()?;
-        self.write_at(first.len() as u64, others)?;
-        self.file.sync_all().map_err(refused)
-    }
-
-    /// The file under the lock, which ends when it is closed.
-    fn locked(file: File) -> Result<FileDevice, JournalError>
-        ensures refusals { IfErr result IsFileRefusal }
-    {
-        if file.try_lock().is_err() {
-            return Err(JournalError::Locked);
-        }
-        Ok(FileDevice { file })
     }
 }
 
-/// Puts other bytes in the place of those of a file, by a new file beside it: FILE.new, which is under a lock of its own before it gets
-/// the name of the old one. So whoever opens the file under its name finds it locked, before and after. A power cut leaves the old file or
-/// the new one. What a power cut or a killed process left under the other name is written over ([`FileDevice::begin`]); where any other file
-/// is there, it stays, and nothing is replaced. Nor is a file that has another name as well, under which it would be left.
+/// Why the file with this name isn't opened or begun.
+fn refused(name: Name, cause: Cause) -> Because<JournalError>
+    ensures reason { IsToldAs file_error name result }
+    ensures refusal { IsFileRefusal result.error }
+{
+    Because::of(file_error(cause), cause.at(name))
+}
+
+/// What a file that isn't opened or begun is refused for.
+fn file_error(cause: Cause) -> JournalError
+    ensures error { result ≡ file_error cause }
+    ensures refusal { IsFileRefusal result }
+{
+    match cause {
+        Cause::Locked => JournalError::Locked,
+        _ => JournalError::BookFault,
+    }
+}
+
+/// Why a file hasn't got the name FILE.
+fn not_named(cause: Cause) -> Because<JournalError>
+    ensures reason { IsToldAs naming_error Main result }
+    ensures refusal { IsNamingRefusal result.error }
+{
+    Because::of(naming_error(cause), cause.at(Name::Main))
+}
+
+/// What a file that doesn't get its name is refused for.
+fn naming_error(cause: Cause) -> JournalError
+    ensures error { result ≡ naming_error cause }
+    ensures refusal { IsNamingRefusal result }
+{
+    match cause {
+        Cause::Exists => JournalError::NotEmpty,
+        _ => JournalError::BookFault,
+    }
+}
+
+/// Puts other bytes in the place of those of FILE, by a new file beside it: FILE.new, which is under a lock of its own before it gets the
+/// name FILE. So whoever opens FILE finds it locked, before and after. A power cut leaves the old file or the new one. What a cut making left
+/// as FILE.new is written over ([`FileDevice::begin`]); if any other file is there, it stays, and nothing is replaced. Nor is a file that
+/// has another name as well, under which it would be left.
+///
+/// If the folder can't be synced once the new file has the name, the answer is `Fault`. The device keeps the old file, which has no name any
+/// more, and its journal is broken.
 #[derive(Drop)]
 pub struct FileReplacer<'a, R> {
-    rt: &'a R,
-    path: &'a str,
-    new: String,
+    folder: SystemFolder<'a, R>,
 }
 
 impl<'a, R: Files<File = File>> FileReplacer<'a, R> {
@@ -184,69 +173,33 @@ impl<'a, R: Files<File = File>> FileReplacer<'a, R> {
     ///
     /// # Errors
     ///
-    /// `AllocError` where memory was refused.
-    pub fn new(rt: &'a R, alloc: Global, path: &'a str) -> Result<Self, AllocError> {
-        let mut new = String::from_str(alloc, path)?;
-        new.push_str(".new")?;
-        Ok(FileReplacer { rt, path, new })
-    }
-
-    /// The new file under the lock, with these bytes, synced. It has the other name.
-    fn make(&self, old: &FileDevice, bytes: &[u8]) -> Result<FileDevice, JournalError> {
-        let mut device = FileDevice::begin(self.rt, self.new.as_str())?;
-        match device.fill(old, bytes) {
-            Ok(()) => Ok(device),
-            Err(fault) => {
-                self.remove();
-                Err(JournalError::from(fault))
-            }
-        }
-    }
-
-    /// Takes away the new file, which hasn't got the name of the old one.
-    fn remove(&self) {
-        let _ = fs::remove_file(self.rt, self.new.as_str());
-    }
-
-    /// Gives the new file the name of the old one.
-    fn rename(&self) -> Result<(), DeviceError> {
-        fs::rename(self.rt, self.new.as_str(), self.path).map_err(refused)
-    }
-
-    /// Puts the names in the folder of the file where a power cut leaves them.
-    fn sync_folder(&self) -> Result<(), DeviceError> {
-        let folder = match self.path.rsplit_once('/') {
-            Some((folder, _)) if folder.is_empty() => "/",
-            Some((folder, _)) => folder,
-            None => ".",
-        };
-        let mut options = OpenOptions::new();
-        options.read(true);
-        let folder = options.open(self.rt, folder).map_err(refused)?;
-        folder.sync_all().map_err(refused)
+    /// `Other` if the path is too long.
+    pub fn of(rt: &'a R, path: &'a str) -> Result<FileReplacer<'a, R>, Cause>
+        ensures { IfErr result IsOfSystem }
+    {
+        let folder = SystemFolder::of(rt, path)?;
+        Ok(FileReplacer { folder })
     }
 }
 
 impl<'a, R: Files<File = File>> Replacer<FileDevice> for FileReplacer<'a, R> {
-    fn replace(&mut self, device: &mut FileDevice, bytes: &[u8]) -> Result<(), ReplaceError> {
-        if !device.has_only_name(self.rt, self.path).unwrap_or(false) {
-            return Err(ReplaceError::NotReplaced);
+    fn replace(&mut self, device: &mut FileDevice, bytes: &[u8]) -> Result<(), ReplaceError>
+        ensures cause { OnErr result (IsSome (cause_of device.new)) }
+    {
+        match replace(&mut self.folder, &device.file, &BegunJournal, bytes) {
+            Ok(file) => {
+                device.file = file;
+                Ok(())
+            }
+            Err(error) => {
+                device.cause = Some(error.cause());
+                Err(ReplaceError::from(error))
+            }
         }
-        let Ok(new) = self.make(device, bytes) else {
-            return Err(ReplaceError::NotReplaced);
-        };
-        if self.rename().is_err() {
-            self.remove();
-            return Err(ReplaceError::NotReplaced);
-        }
-        *device = new;
-        if self.sync_folder().is_err() {
-            return Err(ReplaceError::Fault);
-        }
-        Ok(())
     }
 }
 
+// Of a file nothing is known, so each clause of a device holds of these. It is known that a refusal has its cause.
 impl JournalDevice for FileDevice {
     ghost use Rattle.std.specs.Prelude.{false, [], ⊤};
 
@@ -266,24 +219,40 @@ impl JournalDevice for FileDevice {
 
     ghost only_now = { λ _ _ now. now };
 
-    fn len(&mut self) -> Result<u64, DeviceError> {
-        let metadata = self.file.metadata().map_err(refused)?;
-        Ok(metadata.len())
+    fn len(&mut self) -> Result<u64, DeviceError>
+        ensures fault { IfErr result (λ e. e ≡ DeviceError.Fault) }
+        ensures cause { OnErr result (IsSome (cause_of self.new)) }
+    {
+        let metadata = self.file.metadata();
+        Ok(self.noted(metadata)?.len())
     }
 
-    fn read_at(&mut self, at: u64, out: &mut [u8]) -> Result<(), DeviceError> {
-        self.file.read_exact_at(out, at).map_err(refused)
+    fn read_at(&mut self, at: u64, out: &mut [u8]) -> Result<(), DeviceError>
+        ensures fault { IfErr result (λ e. e ≡ DeviceError.Fault) }
+        ensures cause { OnErr result (IsSome (cause_of self.new)) }
+    {
+        let read = self.file.read_exact_at(out, at);
+        self.noted(read)
     }
 
-    fn write_at(&mut self, at: u64, bytes: &[u8]) -> Result<(), DeviceError> {
-        self.file.write_all_at(bytes, at).map_err(refused)
+    fn write_at(&mut self, at: u64, bytes: &[u8]) -> Result<(), DeviceError>
+        ensures cause { OnErr result (IsSome (cause_of self.new)) }
+    {
+        let written = self.file.write_all_at(bytes, at);
+        self.noted(written)
     }
 
-    fn shorten(&mut self, len: u64) -> Result<(), DeviceError> {
-        self.file.set_len(len).map_err(refused)
+    fn shorten(&mut self, len: u64) -> Result<(), DeviceError>
+        ensures cause { OnErr result (IsSome (cause_of self.new)) }
+    {
+        let shortened = self.file.set_len(len);
+        self.noted(shortened)
     }
 
-    fn sync(&mut self) -> Result<(), DeviceError> {
-        self.file.sync_data().map_err(refused)
+    fn sync(&mut self) -> Result<(), DeviceError>
+        ensures cause { OnErr result (IsSome (cause_of self.new)) }
+    {
+        let synced = self.file.sync_data();
+        self.noted(synced)
     }
 }

@@ -374,10 +374,10 @@ impl<D: JournalDevice> Journal<D> {
 }
 
 /// What each journal begins with.
-const MARK: [u8; 4] = [0x46, 0x57, 0x4A, 0x31];
+pub(crate) const MARK: [u8; 4] = [0x46, 0x57, 0x4A, 0x31];
 
 /// The bytes of a new journal.
-const NEW_BOOK: [u8; 5] = [0x46, 0x57, 0x4A, 0x31, 0];
+pub(crate) const NEW_BOOK: [u8; 5] = [0x46, 0x57, 0x4A, 0x31, 0];
 
 /// Makes a journal without records on a device without bytes, and says where its gate stands.
 fn lay_out<D: JournalDevice>(device: &mut D) -> Result<u64, JournalError>

@@ -1,6 +1,6 @@
 //! Laws of the bytes of a journal, over the definitions alone.
 
-ghost use Rattle.fw_journal.specs.Laws.{OneReading, BadIsNone, BookStands, OneCount};
+ghost use Rattle.fw_journal.specs.Laws.{OneReading, BadIsNone, BookStands, OneCount, FirstBytesBegin};
 
 /// Bytes stand for one list of records at most.
 pub fn one_reading()
@@ -20,4 +20,10 @@ pub fn book_stands()
 /// Bytes have one number of whole records that stand one after another, each behind one byte of any value.
 pub fn one_count()
     ensures { OneCount }
+{}
+
+/// A file that has the first five bytes of a journal counts as left of a journal that is made, whatever follows them. These are synced before
+/// any other is written, so what a cut making leaves is taken by the next one.
+pub fn first_bytes_begin()
+    ensures { FirstBytesBegin }
 {}

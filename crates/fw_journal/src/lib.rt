@@ -5,6 +5,7 @@
 //! one in memory, and one over a file.
 #![tactic(auto)]
 
+mod begun;
 mod device;
 mod disk;
 mod error;

@@ -2,7 +2,6 @@
 
 ghost use Rattle.std.specs.Prelude.{
   ◌≡◌,
-  ◌⊎◌,
   ◌++◌,
   ◌∷◌,
   ◌<◌,
@@ -12,7 +11,6 @@ ghost use Rattle.std.specs.Prelude.{
   List,
   length,
   drop,
-  false,
   IsTrue,
   IfOk,
   IfErr,
@@ -51,14 +49,6 @@ fn after_mark(bytes: &[u8]) -> Option<&[u8]>
         [0x46, 0x57, 0x4A, 0x31, ..] => Some(&bytes[4..]),
         _ => None,
     }
-}
-
-/// Whether bytes may be left of a journal that was cut while it was made: they are no more than a new one has, or begin as one does.
-pub(crate) fn is_begun(bytes: &[u8]) -> bool
-    ensures begun { IsTrue result → length bytes.now ≤ 5 ⊎ ((rest : List ℕ) × (bytes.now ≡ mark ++ rest)) }
-    ensures other { result ≡ false → (5 < length bytes.now) × IsNoBook bytes.now }
-{
-    bytes.len() <= 5 || after_mark(bytes).is_some()
 }
 
 /// A number of four bytes, high byte first, and what follows it.

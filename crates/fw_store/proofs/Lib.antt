@@ -8,3 +8,4 @@ mod StoreByteLemmas
 mod MarkLemmas
 mod Parts
 mod SlotLaws
+mod Makings

@@ -17,6 +17,7 @@ pub mod StoreBytes
 pub mod Refusals
 pub mod StoreLaws
 pub mod Beside
+pub mod Making
 -- For private members alone: no public clause cites it.
 pub mod Sizes
 pub mod Fronts

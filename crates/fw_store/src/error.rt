@@ -1,11 +1,11 @@
 //! Why a store or a device failed, or could not be made.
 
-ghost use Rattle.std.specs.Prelude.{◌≡◌};
+ghost use Rattle.std.specs.Prelude.{◌≡◌, Some, None};
 ghost use Rattle.fw_store.specs.declared.error.SetupError.TheVariants as setup;
 ghost use Rattle.fw_store.specs.declared.error.FileStoreError.TheVariants as file;
 
 use crate::device::DeviceFault;
-use fw_disk::{Because, Cause, NamingError};
+use fw_disk::{Because, Reason};
 use std::alloc::AllocError;
 use std::fmt;
 use thiserror::Error;
@@ -70,37 +70,37 @@ impl From<DeviceFault> for FileStoreError {
     }
 }
 
-/// A file of a store, or its folder, failed, and why, if it is known.
+/// A file of a store, or its folder, failed, and why, and under which of its names, if that is known.
 #[derive(Clone, Copy, Debug)]
 pub(crate) struct FileFault {
-    cause: Option<Cause>,
+    reason: Option<Reason>,
 }
 
-impl From<Cause> for FileFault {
-    fn from(cause: Cause) -> FileFault {
-        FileFault { cause: Some(cause) }
-    }
-}
+impl From<Reason> for FileFault {
+    ghost from_gives = { λ reason fault. fault.reason ≡ Some reason };
 
-impl From<NamingError> for FileFault {
-    fn from(error: NamingError) -> FileFault {
-        FileFault::from(error.cause())
+    fn from(reason: Reason) -> FileFault {
+        FileFault {
+            reason: Some(reason),
+        }
     }
 }
 
 impl From<DeviceFault> for FileFault {
+    ghost from_gives = { λ _ fault. fault.reason ≡ None };
+
     fn from(_fault: DeviceFault) -> FileFault {
-        FileFault { cause: None }
+        FileFault { reason: None }
     }
 }
 
 impl From<FileFault> for Because<FileStoreError> {
-    ghost from_gives = { λ _ because. because.error ≡ file.StoreFault };
+    ghost from_gives = { λ fault because. (because.error ≡ file.StoreFault) × (because.reason ≡ fault.reason) };
 
     fn from(fault: FileFault) -> Because<FileStoreError> {
         Because {
             error: FileStoreError::StoreFault,
-            cause: fault.cause,
+            reason: fault.reason,
         }
     }
 }

@@ -1,10 +1,29 @@
 //! Stores in files of the operating system.
 
-ghost use Rattle.std.specs.Prelude.{◌≡◌, ◌+◌, ◌<◌, ◌≤◌, ◌^◌, length, IfOk, IfErr, OnOk, IsErrOf};
+ghost use Rattle.std.specs.Prelude.{
+  ◌≡◌,
+  ◌+◌,
+  ◌<◌,
+  ◌≤◌,
+  ◌^◌,
+  ℕ,
+  IsTrue,
+  length,
+  IfOk,
+  IfErr,
+  IfSome,
+  OnOk,
+  IsErrOf,
+};
+ghost use Rattle.fw_disk.specs.Disk.{absent, Goes};
+ghost use Rattle.fw_disk.specs.Calls.{Stays};
+ghost use Rattle.fw_disk.specs.Ours.{MayTake};
+ghost use Rattle.fw_store.specs.Beside.{IsBegunStore, IsUndoFile};
+ghost use Rattle.fw_store.specs.Making.{IsInTheWay};
 ghost use Rattle.fw_store.specs.Refusals.{IsCreateRefusal, IsReopenRefusal};
 ghost use Rattle.fw_store.specs.Setup.{IsCapacity, IsSetup};
 
-use crate::beside::{BegunStore, UndoFile, take_room};
+use crate::beside::{UndoFile, begin_store, check_absent};
 use crate::device::{ByteDevice, DeviceFault};
 use crate::device_store::{DeviceStore, holds_store, write_behind};
 use crate::error::{FileFault, FileStoreError};
@@ -15,7 +34,8 @@ use crate::store::ImageStore;
 use crate::tail::store_size;
 use crate::version::{HeaderBytes, HeaderVersion};
 use fw_disk::{
-    Because, Cause, Folder, Found, Name, SystemFolder, abandon, begin, finish, open, open_companion,
+    Because, Cause, Folder, Name, Reason, SystemFolder, abandon, begin, finish, open,
+    open_companion,
 };
 use fw_undo::{Change, HeaderWrite, MAX_JOURNAL_SIZE};
 use std::fs::File;
@@ -60,20 +80,16 @@ impl FileDevice {
     fn begin<R: Files<File = File>>(
         folder: &mut SystemFolder<'_, R>,
         capacity: u32,
-    ) -> Result<FileDevice, Cause> {
-        match folder.look(Name::Main)? {
-            Found::Absent => (),
-            Found::Plain | Found::Other => return Err(Cause::Exists),
-        }
-        let store = begin(folder, Name::New, &BegunStore)?;
-        match room_and_journal(folder, &store, capacity) {
+    ) -> Result<FileDevice, Reason> {
+        let store = begin_store(folder, capacity)?;
+        match begin(folder, Name::Journal, &UndoFile) {
             Ok(journal) => {
                 let size = store_size(HeaderVersion::Two, capacity);
                 Ok(FileDevice::of(OpenFile::of(store, size), OpenFile::of(journal, 0)))
             }
             Err(cause) => {
                 abandon(folder, Name::New, &store);
-                Err(cause)
+                Err(cause.at(Name::Journal))
             }
         }
     }
@@ -89,8 +105,10 @@ impl FileDevice {
         requires { length image.now ≤ capacity }
     {
         write_behind(self, capacity, head, image)?;
-        finish(folder, self.store.file())?;
-        Ok(())
+        match finish(folder, self.store.file()) {
+            Ok(()) => Ok(()),
+            Err(error) => Err(FileFault::from(error.cause().at(Name::Main))),
+        }
     }
 
     /// Takes away what was made of a store, under whichever name it is.
@@ -105,11 +123,9 @@ impl FileDevice {
     fn open<R: Files<File = File>>(
         folder: &mut SystemFolder<'_, R>,
     ) -> Result<Option<FileDevice>, FileFault> {
-        let file = open(folder)?;
-        let mut store = measured(folder, file)?;
-        let journal = match open_companion(folder, Name::Journal, &UndoFile)? {
-            Some(journal) => {
-                let mut journal = measured(folder, journal)?;
+        let mut store = opened_store(folder)?;
+        let journal = match opened_journal(folder)? {
+            Some(mut journal) => {
                 put_right(&mut store, &mut journal)?;
                 Some(journal)
             }
@@ -164,30 +180,58 @@ impl FileDevice {
     }
 }
 
-/// Takes room for a store in a file that was begun, and begins the journal beside it.
-fn room_and_journal<R: Files<File = File>>(
+/// FILE, opened.
+fn opened_store<R: Files<File = File>>(folder: &mut SystemFolder<'_, R>) -> Result<OpenFile, Reason>
+    ensures { IfErr result (λ r. r.name ≡ Name.Main) }
+{
+    match open(folder) {
+        Ok(file) => measured(folder, Name::Main, file),
+        Err(cause) => Err(cause.at(Name::Main)),
+    }
+}
+
+/// FILE.journal, opened, if it is there.
+fn opened_journal<R: Files<File = File>>(
     folder: &mut SystemFolder<'_, R>,
-    store: &File,
-    capacity: u32,
-) -> Result<File, Cause> {
-    take_room(folder, store, capacity)?;
-    begin(folder, Name::Journal, &UndoFile)
+) -> Result<Option<OpenFile>, Reason>
+    ensures { IfErr result (λ r. r.name ≡ Name.Journal) }
+{
+    match open_companion(folder, Name::Journal, &UndoFile) {
+        Ok(Some(file)) => Ok(Some(measured(folder, Name::Journal, file)?)),
+        Ok(None) => Ok(None),
+        Err(cause) => Err(cause.at(Name::Journal)),
+    }
 }
 
-/// Makes the journal beside a store that has none.
-fn new_journal<R: Files<File = File>>(folder: &mut SystemFolder<'_, R>) -> Result<OpenFile, Cause> {
-    let journal = begin(folder, Name::Journal, &UndoFile)?;
+/// FILE.journal, made beside a store that has none.
+fn new_journal<R: Files<File = File>>(folder: &mut SystemFolder<'_, R>) -> Result<OpenFile, Reason>
+    ensures { IfErr result (λ r. r.name ≡ Name.Journal) }
+{
+    match synced_journal(folder) {
+        Ok(file) => Ok(OpenFile::of(file, 0)),
+        Err(cause) => Err(cause.at(Name::Journal)),
+    }
+}
+
+/// An empty FILE.journal, whose name is where a power cut leaves it.
+fn synced_journal<R: Files<File = File>>(folder: &mut SystemFolder<'_, R>) -> Result<File, Cause> {
+    let file = begin(folder, Name::Journal, &UndoFile)?;
     folder.sync_folder()?;
-    Ok(OpenFile::of(journal, 0))
+    Ok(file)
 }
 
-/// A file that was opened, with its length.
+/// A file that was opened under this name, with its length.
 fn measured<R: Files<File = File>>(
     folder: &mut SystemFolder<'_, R>,
+    name: Name,
     file: File,
-) -> Result<OpenFile, Cause> {
-    let size = folder.len(&file)?;
-    Ok(OpenFile::of(file, size))
+) -> Result<OpenFile, Reason>
+    ensures { IfErr result (λ r. r.name ≡ name) }
+{
+    match folder.len(&file) {
+        Ok(size) => Ok(OpenFile::of(file, size)),
+        Err(cause) => Err(cause.at(name)),
+    }
 }
 
 /// Takes back what a power cut left of a header write, by its journal.
@@ -261,12 +305,12 @@ impl DeviceStore<FileDevice> {
         }
     }
 
-    /// The same in the folder of the file, with the cause of a refusal.
+    /// The same in the folder of the file, with the reason of a refusal.
     ///
     /// # Errors
     ///
-    /// As above. A `StoreFault` has the cause, if the system gave one: `Exists` if a file is there already, `NotAlone` or `Foreign` if
-    /// another program's is FILE.new or FILE.journal.
+    /// As above. A `StoreFault` has its reason, if that is known: `Exists` if a file is there already, `NotAlone` or `Foreign` if another
+    /// program's is FILE.new or FILE.journal.
     pub fn create_in<R: Files<File = File>>(
         folder: &mut SystemFolder<'_, R>,
         capacity: u32,
@@ -288,6 +332,29 @@ impl DeviceStore<FileDevice> {
         let head = fresh_bytes(HeaderVersion::Two, block_size, factory);
         let device = FileDevice::make(folder, capacity, &head, factory)?;
         Ok(DeviceStore::laid_on(device, capacity))
+    }
+
+    /// Checks that a store can be made: nothing is FILE, and FILE.new and FILE.journal are what a making may take, or nothing. Nothing is
+    /// changed.
+    ///
+    /// # Errors
+    ///
+    /// `StoreFault` with its reason, as that of a making.
+    pub fn check_absent_in<F: Folder>(folder: &mut F) -> Result<(), Because<FileStoreError>>
+        ensures absent { IsTrue (F.seen folder.old).honest → OnOk result ((F.seen folder.old).disk.entry Name.Main ≡ absent) }
+        ensures store { IsTrue (F.seen folder.old).honest
+            → OnOk result ((n : ℕ) × MayTake IsBegunStore (F.seen folder.old).disk Name.New n) }
+        ensures journal { IsTrue (F.seen folder.old).honest
+            → OnOk result ((n : ℕ) × MayTake IsUndoFile (F.seen folder.old).disk Name.Journal n) }
+        ensures goes { Goes Stays (F.seen folder.old) (F.seen folder.new) }
+        ensures refusals { IfErr result (λ b. b.error ≡ FileStoreError.StoreFault) }
+        ensures reason { IsTrue (F.seen folder.old).honest
+            → IfErr result (λ b. IfSome b.reason (IsInTheWay (F.seen folder.old).disk)) }
+    {
+        match check_absent(folder) {
+            Ok(()) => Ok(()),
+            Err(reason) => Err(Because::of(FileStoreError::StoreFault, reason)),
+        }
     }
 
     /// The store in a file that is there, with a header of either version, or of version 1 without releases: they are 0. The next
@@ -316,12 +383,12 @@ impl DeviceStore<FileDevice> {
         }
     }
 
-    /// The same in the folder of the file, with the cause of a refusal.
+    /// The same in the folder of the file, with the reason of a refusal.
     ///
     /// # Errors
     ///
-    /// As above. A `StoreFault` has the cause, if the system gave one: `Missing` if there is no file, `Locked` if another store has it
-    /// open, `NotAlone` or `Foreign` if it, or FILE.journal, isn't this store's alone.
+    /// As above. A `StoreFault` has its reason, if that is known: `Missing` if there is no file, `Locked` if another store has it open,
+    /// `NotAlone` or `Foreign` if it, or FILE.journal, isn't this store's alone.
     pub fn reopen_in<R: Files<File = File>>(
         folder: &mut SystemFolder<'_, R>,
     ) -> Result<FileStore, Because<FileStoreError>>

@@ -2,6 +2,7 @@
 //! has 40 bytes, and a journal begins with 4.
 
 use crate::support::{digits, shown, text};
+use fw_disk::{Because, Reason, SystemFolder};
 use fw_journal::{
     DeviceError, Disk, FileDevice, FileJournal, FileReplacer, Journal, JournalDevice, JournalError,
     Keeper, MemoryDevice, MemoryKeeper, MemoryReplacer, RewriteError,
@@ -495,10 +496,12 @@ impl Drop for Filed<'_> {
 
 /// A step with it, or with the file of a name in the folder of temporary files:
 ///
-/// - `append RECORD`, `commit`, `close`
+/// - `append RECORD`, `commit`, `close`; `cause`: why its last call that failed did
 /// - `create NAME`: a journal is made there, and held; `open NAME`: what is read there
 /// - `anew NAME`: what its writing anew with `two` returns, under this name
-/// - `put NAME TEXT`, `text NAME`, `exists NAME`, `remove NAME`; `link NAME OLD`: another name of it
+/// - `put NAME TEXT`, `text NAME`, `exists NAME`, `remove NAME`; `link NAME OLD`: a link to it; `name NAME OLD`: another name of it
+///
+/// A file that is refused is told with its name and the cause.
 impl Reads for Filed<'_> {
     fn told(&mut self, alloc: Global, what: &str) -> Result<String, Fail> {
         let mut words = Words::new(what);
@@ -509,6 +512,7 @@ impl Reads for Filed<'_> {
             }
             "append" => self.kept(alloc, Some(words.rest())),
             "commit" => self.kept(alloc, None),
+            "cause" => self.cause(alloc),
             word => {
                 let path = path_of(self.rt, words.word()?)?;
                 self.at(alloc, word, path.as_path(), words.rest())
@@ -535,47 +539,81 @@ impl Filed<'_> {
         }
     }
 
+    /// Why the last call of its device that failed did.
+    fn cause(&self, alloc: Global) -> Result<String, Fail> {
+        match &self.journal {
+            Some(journal) => shown(alloc, &journal.device().cause()),
+            None => Err("no journal is held".into()),
+        }
+    }
+
     /// A step with the file there.
     fn at(&mut self, alloc: Global, word: &str, path: Path, rest: &str) -> Result<String, Fail> {
         match word {
-            "create" => return shown(alloc, &self.create(alloc, path)),
-            "open" => return self.open(alloc, path),
-            "anew" => return self.anew(alloc, path),
+            "create" => return self.create(alloc, path.path_text()),
+            "open" => return self.open(alloc, path.path_text()),
+            "anew" => return self.anew(alloc, path.path_text()),
             "text" => return Ok(fs::read_to_string(self.rt, path)?),
             "exists" => return shown(alloc, &fs::exists(self.rt, path)?),
             "put" => fs::write(self.rt, path, rest.as_bytes())?,
             "link" => symlink(self.rt, path_of(self.rt, rest)?.as_path(), path)?,
+            "name" => fs::hard_link(self.rt, path_of(self.rt, rest)?.as_path(), path)?,
             "remove" => fs::remove_file(self.rt, path)?,
             _ => return Err("no step has this name".into()),
         }
         Ok(String::new(alloc))
     }
 
-    fn create(&mut self, alloc: Global, path: Path) -> Result<(), JournalError> {
-        match Journal::create(alloc, FileDevice::create(self.rt, path)?) {
+    fn create(&mut self, alloc: Global, path: &str) -> Result<String, Fail> {
+        let mut folder = SystemFolder::of(self.rt, path)?;
+        match made(alloc, &mut folder) {
             Ok(journal) => {
                 self.journal = Some(journal);
-                Ok(())
+                text(alloc, "done")
             }
-            Err((refusal, _)) => Err(refusal),
+            Err(because) => why(alloc, &because),
         }
     }
 
-    fn open(&self, alloc: Global, path: Path) -> Result<String, Fail> {
-        match FileDevice::open(self.rt, path) {
+    fn open(&self, alloc: Global, path: &str) -> Result<String, Fail> {
+        let mut folder = SystemFolder::of(self.rt, path)?;
+        match FileDevice::open(&mut folder) {
             Ok(device) => told_of(alloc, &open(alloc, device)),
-            Err(refusal) => shown(alloc, &refusal),
+            Err(because) => why(alloc, &because),
         }
     }
 
-    fn anew(&mut self, alloc: Global, path: Path) -> Result<String, Fail> {
+    fn anew(&mut self, alloc: Global, path: &str) -> Result<String, Fail> {
         let Some(journal) = &mut self.journal else {
             return Err("no journal is held".into());
         };
-        let mut replacer = FileReplacer::new(self.rt, alloc, path.path_text())?;
+        let mut replacer = FileReplacer::of(self.rt, path)?;
         let mut records = Vec::new(alloc);
         records.push(b"two".to_vec(alloc)?)?;
         rewrite_text(alloc, journal.rewrite(alloc, &mut replacer, &records))
+    }
+}
+
+/// A journal in a file that is made, and has its name.
+fn made(
+    alloc: Global,
+    folder: &mut SystemFolder<'_, HostRuntime>,
+) -> Result<FileJournal, Because<JournalError>> {
+    match Journal::create(alloc, FileDevice::begin(folder)?) {
+        Ok(journal) => {
+            journal.device().finish(folder)?;
+            Ok(journal)
+        }
+        Err((refusal, _)) => Err(Because::from(refusal)),
+    }
+}
+
+/// What a file is refused for, with its name and the cause.
+fn why(alloc: Global, because: &Because<JournalError>) -> Result<String, Fail> {
+    let Because { error, reason } = because;
+    match reason {
+        Some(Reason { name, cause }) => Ok(format!(in alloc; "{error:?} {name:?} {cause:?}")?),
+        None => shown(alloc, error),
     }
 }
 
@@ -587,32 +625,40 @@ fn steps(rt: &HostRuntime, names: &[&str], tables: &[&str]) -> Result<(), Fail> 
     each_part(rt.alloc(), &mut Filed { rt, journal: None }, tables)
 }
 
-/// A file takes one journal at a time, and isn't made twice.
+/// A file takes one journal at a time, and isn't made twice. What is left as its other name is taken by the next making.
 const IN_A_FILE: &str = "
-    create journals.fwj => Ok(())
-    create journals.fwj => Err(BookFault)
-    open journals.fwj   => Locked
-    append one          => Ok(())
-    commit              => Ok(())
-    close               =>
-    open journals.fwj   => one|
-    remove journals.fwj =>
+    open journals.fwj       => BookFault Main Missing
+    create journals.fwj     => done
+    create journals.fwj     => NotEmpty Main Exists
+    exists journals.fwj.new => true
+    open journals.fwj       => Locked Main Locked
+    append one              => Ok(())
+    commit                  => Ok(())
+    close                   =>
+    open journals.fwj       => one|
+    remove journals.fwj     =>
+    create journals.fwj     => done
+    exists journals.fwj.new => false
+    close                   =>
+    remove journals.fwj     =>
 ";
 
 #[test]
 fn keeps_what_is_committed_in_a_file(rt: HostRuntime) -> Result<(), Fail> {
-    steps(&rt, &["journals.fwj"], &[IN_A_FILE])
+    steps(&rt, &["journals.fwj", "journals.fwj.new"], &[IN_A_FILE])
 }
 
-/// A file that is written anew is locked before and after. What a making that was cut may leave under the other name is written over: five
-/// bytes at most, or a file that begins as a journal does.
+/// A file that is made or written anew is locked before and after. What a making that was cut may leave under the other name is written
+/// over: five bytes at most, or a file that begins as a journal does.
 const REPLACED: &str = "
     put rewritten.fwj.new      =>
-    create rewritten.fwj       => Ok(())
+    create rewritten.fwj       => done
+    exists rewritten.fwj.new   => false
     append one                 => Ok(())
     commit                     => Ok(())
+    put rewritten.fwj.new      =>
     anew rewritten.fwj         => done
-    open rewritten.fwj         => Locked
+    open rewritten.fwj         => Locked Main Locked
     append three               => Ok(())
     commit                     => Ok(())
     close                      =>
@@ -620,11 +666,13 @@ const REPLACED: &str = "
     remove rewritten.fwj       =>
     exists rewritten.fwj.new   => false
     put rewritten.fwj.new FW   =>
-    create rewritten.fwj       => Ok(())
+    create rewritten.fwj       => done
+    exists rewritten.fwj.new   => false
     append one                 => Ok(())
     commit                     => Ok(())
+    put rewritten.fwj.new FW   =>
     anew rewritten.fwj         => done
-    open rewritten.fwj         => Locked
+    open rewritten.fwj         => Locked Main Locked
     append three               => Ok(())
     commit                     => Ok(())
     close                      =>
@@ -632,11 +680,13 @@ const REPLACED: &str = "
     remove rewritten.fwj       =>
     exists rewritten.fwj.new   => false
     put rewritten.fwj.new 12345 =>
-    create rewritten.fwj       => Ok(())
+    create rewritten.fwj       => done
+    exists rewritten.fwj.new   => false
     append one                 => Ok(())
     commit                     => Ok(())
+    put rewritten.fwj.new 12345 =>
     anew rewritten.fwj         => done
-    open rewritten.fwj         => Locked
+    open rewritten.fwj         => Locked Main Locked
     append three               => Ok(())
     commit                     => Ok(())
     close                      =>
@@ -644,11 +694,13 @@ const REPLACED: &str = "
     remove rewritten.fwj       =>
     exists rewritten.fwj.new   => false
     put rewritten.fwj.new FWJ1 and what a killed process left there, longer than all records =>
-    create rewritten.fwj       => Ok(())
+    create rewritten.fwj       => done
+    exists rewritten.fwj.new   => false
     append one                 => Ok(())
     commit                     => Ok(())
+    put rewritten.fwj.new FWJ1 and what a killed process left there, longer than all records =>
     anew rewritten.fwj         => done
-    open rewritten.fwj         => Locked
+    open rewritten.fwj         => Locked Main Locked
     append three               => Ok(())
     commit                     => Ok(())
     close                      =>
@@ -657,43 +709,57 @@ const REPLACED: &str = "
     exists rewritten.fwj.new   => false
 ";
 
-/// Where a file that is no journal has its other name, both stay.
+/// Where a file that is no journal has its other name, both stay, and none is made.
 const NOT_REPLACED: &str = "
-    put rewritten.fwj.new 123456 =>
-    create rewritten.fwj       => Ok(())
+    create rewritten.fwj       => done
     append one                 => Ok(())
     commit                     => Ok(())
+    cause                      => None
+    put rewritten.fwj.new 123456 =>
     anew rewritten.fwj         => NotReplaced
-    open rewritten.fwj         => Locked
+    cause                      => Some(Foreign)
+    open rewritten.fwj         => Locked Main Locked
     append three               => Ok(())
     commit                     => Ok(())
     close                      =>
     open rewritten.fwj         => one|three|
     remove rewritten.fwj       =>
+    create rewritten.fwj       => BookFault New Foreign
+    exists rewritten.fwj       => false
     text rewritten.fwj.new     => 123456
     remove rewritten.fwj.new   =>
-    put rewritten.fwj.new FWJ0 is another program's =>
-    create rewritten.fwj       => Ok(())
+    create rewritten.fwj       => done
     append one                 => Ok(())
     commit                     => Ok(())
+    cause                      => None
+    put rewritten.fwj.new FWJ0 is another program's =>
     anew rewritten.fwj         => NotReplaced
-    open rewritten.fwj         => Locked
+    cause                      => Some(Foreign)
+    open rewritten.fwj         => Locked Main Locked
     append three               => Ok(())
     commit                     => Ok(())
     close                      =>
     open rewritten.fwj         => one|three|
     remove rewritten.fwj       =>
+    create rewritten.fwj       => BookFault New Foreign
+    exists rewritten.fwj       => false
     text rewritten.fwj.new     => FWJ0 is another program's
     remove rewritten.fwj.new   =>
 ";
 
-/// A file isn't replaced by a link to it, under whose name it would be left unlocked.
+/// A link isn't opened, nor is a file that has another name as well. Neither is replaced: under the other name it would be left unlocked.
 const LINKED: &str = "
-    create named.fwj           => Ok(())
+    create named.fwj           => done
     link linked.fwj named.fwj  =>
     anew linked.fwj            => NotReplaced
+    cause                      => Some(NotAlone)
     close                      =>
+    open linked.fwj            => BookFault Main NotAlone
     remove linked.fwj          =>
+    name linked.fwj named.fwj  =>
+    open named.fwj             => BookFault Main NotAlone
+    remove linked.fwj          =>
+    open named.fwj             =>
     remove named.fwj           =>
 ";
 
