@@ -367,6 +367,13 @@ impl<D: JournalDevice + Drop> HeadDaemon<D> {
         self.schedule.live() == 0 && self.ended.is_empty()
     }
 
+    /// The device that the book is on.
+    pub fn device(&self) -> &D
+        ensures { result.now ≡ device_of (kept_of self.now) }
+    {
+        self.kept.device()
+    }
+
     /// How far the head end is.
     pub fn counts(&self) -> Counts
         ensures counts { result ≡ counts_of self.now }
