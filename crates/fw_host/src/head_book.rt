@@ -16,7 +16,7 @@ use crate::head_dropped::DroppedFile;
 use crate::head_new_book::make;
 use fw_blocks::Width;
 use fw_book::Book;
-use fw_disk::{Because, Cause, Name};
+use fw_disk::{Because, Cause, Name, SystemFolder};
 use fw_faults::Fault;
 use fw_journal::{FileDevice, FileReplacer, JournalDevice, JournalError, Keeper, RewriteError};
 use fw_kept::KeptHead;
@@ -88,7 +88,7 @@ fn open<F: Files<File = File> + Eprint>(
     ensures faults { IfErr result (λ b. IsOfOldBook b.error) }
 {
     let mut folder = folder_of(rt, path, Fault::BookFault)?;
-    let mut device = match FileDevice::open(&mut folder) {
+    let mut device = match old_device(&mut folder) {
         Ok(device) => device,
         Err(because) => return Err(not_opened(because)),
     };
@@ -101,6 +101,19 @@ fn open<F: Files<File = File> + Eprint>(
     };
     compact(rt, alloc, path, size, &mut kept)?;
     Ok(kept)
+}
+
+/// FILE, opened. If another process put a new file in its place meanwhile, the lock of that one tells so.
+fn old_device<F: Files<File = File>>(
+    folder: &mut SystemFolder<'_, F>,
+) -> Result<FileDevice, Because<JournalError>>
+    ensures { IfErr result (λ b. IsFileRefusal b.error) }
+{
+    let replaced = Cause::NotAlone.at(Name::Main);
+    match FileDevice::open(folder) {
+        Err(because) if because.reason == Some(replaced) => FileDevice::open(folder),
+        opened => opened,
+    }
 }
 
 /// The fault that the refusal to open the file of a book is, with its reason. Where there is no file, there is no book.

@@ -7,7 +7,7 @@ ghost use Rattle.fw_disk.specs.Disk.{absent, Goes};
 ghost use Rattle.fw_disk.specs.Calls.{Stays};
 ghost use Rattle.fw_head.specs.Head.{new_head};
 ghost use Rattle.fw_journal.specs.File.{cause_of};
-ghost use Rattle.fw_journal.specs.Refusals.{IsNamingRefusal};
+ghost use Rattle.fw_journal.specs.Refusals.{IsFileRefusal, IsNamingRefusal};
 ghost use Rattle.fw_kept.specs.Head.{head_of};
 ghost use Rattle.fw_faults.specs.Faults.{fault_of_device};
 ghost use Rattle.fw_host.specs.Heads.{IsOfNewBook, LeavesNewBook};
@@ -64,9 +64,26 @@ pub(crate) fn make<F: Files<File = File>>(
 {
     let mut folder = folder_of(rt, path, Fault::BookFault)?;
     check_no_book(&mut folder)?;
-    match FileDevice::begin(&mut folder) {
+    match new_device(&mut folder) {
         Ok(device) => make_on(alloc, head, width, device, &mut folder),
-        Err(because) => Err(refused(because)),
+        Err(because) => {
+            // Who had the lock may have given the file its name meanwhile.
+            check_no_book(&mut folder)?;
+            Err(refused(because))
+        }
+    }
+}
+
+/// FILE.new, begun. If another process makes it meanwhile, its lock tells so.
+fn new_device<F: Files<File = File>>(
+    folder: &mut SystemFolder<'_, F>,
+) -> Result<FileDevice, Because<JournalError>>
+    ensures { IfErr result (λ b. IsFileRefusal b.error) }
+{
+    let made = Cause::Exists.at(Name::New);
+    match FileDevice::begin(folder) {
+        Err(because) if because.reason == Some(made) => FileDevice::begin(folder),
+        begun => begun,
     }
 }
 
