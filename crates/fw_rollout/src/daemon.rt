@@ -3,6 +3,7 @@
 ghost use Rattle.std.specs.Prelude.{
   ◌≡◌,
   ◌≤◌,
+  ◌+◌,
   ◌↔◌,
   ℕ,
   [],
@@ -21,6 +22,8 @@ ghost use Rattle.std.specs.Prelude.{
   OnErr,
   OnOk,
   MatchOption,
+  length,
+  min,
   slice_get,
 };
 ghost use Rattle.fw_head.specs.Row.{bytes_of};
@@ -31,6 +34,15 @@ ghost use Rattle.fw_kept.specs.Kept.{IsFull};
 ghost use Rattle.fw_rollout.specs.Early.{IsAnswerOf};
 ghost use Rattle.fw_rollout.specs.Timing.{HasRoom, most_out};
 ghost use Rattle.fw_rollout.specs.Stopping.{IsSaveStop};
+ghost use Rattle.fw_rollout.specs.Counting.{
+  CountsJust,
+  counted_of,
+  greatest,
+  none_counted,
+  one_more,
+  with_heard,
+  with_row,
+};
 ghost use Rattle.fw_rollout.specs.Leading.{HearsAs, IsAboutToSend, IsAboutToTell, IsListed, Leader, SavesAll, TicksMeter};
 ghost use Rattle.fw_rollout.specs.Daemon.{
   IsAskedBy,
@@ -38,6 +50,7 @@ ghost use Rattle.fw_rollout.specs.Daemon.{
   IsDueNow,
   IsLed,
   IsList,
+  IsOutSince,
   IsOver,
   IsSaveDue,
   TakesAnswer,
@@ -52,7 +65,9 @@ ghost use Rattle.fw_rollout.specs.Daemon.{
   out_at,
   out_of,
   queue_of,
+  since_after,
   since_of,
+  since_with,
 };
 ghost use Rattle.fw_rollout.specs.Schedule.{EndsMeter, IsSchedule, listed_of, lives_of, times};
 
@@ -158,6 +173,7 @@ impl<D: JournalDevice + Drop> HeadDaemon<D> {
     ) -> Result<HeadDaemon<D>, Stop>
         ensures kept { IfOk result (λ daemon. kept_of daemon ≡ kept) }
         ensures meters { IfOk result (λ daemon. meters_of daemon ≡ meters.now) }
+        ensures counts { IfOk result (λ daemon. counted_of daemon ≡ none_counted) }
         ensures led { (synced : Contents) → Holds D.honest D.contents D.may_leave kept synced
             → IfOk result (λ daemon. IsLed D.honest D.contents D.may_leave daemon (new_leader meters.now (head_of kept) synced)) }
         ensures memory { IfErr result (λ stop. stop ≡ Stop.OutOfMemory) }
@@ -202,6 +218,13 @@ impl<D: JournalDevice + Drop> HeadDaemon<D> {
         ensures asked { (leader : Leader) → IsLed D.honest D.contents D.may_leave self.old leader
             → IfOk result (λ r. IfSome r (λ due. IsAskedBy now self.old (record { meter = due.meter; address = due.to }))) }
 
+        // And it is waited for an answer since then.
+        ensures waits { (leader : Leader) → IsLed D.honest D.contents D.may_leave self.old leader → IfOk result (λ r. IfSome r (λ due.
+            IsOutSince now (length due.datagrams.items) self.new (record { meter = due.meter; address = due.to }))) }
+        ensures counts { IfOk result (λ r. MatchOption r (counted_of self.new ≡ counted_of self.old) (λ due. counted_of self.new
+            ≡ record (counted_of self.old) { sent = min ((counted_of self.old).sent + length due.datagrams.items) greatest })) }
+        ensures counts_err { OnErr result (counted_of self.new ≡ counted_of self.old) }
+
         // Nothing is sent only where no meter may be asked at this time, or too much is out.
         ensures none { (leader : Leader) → IsLed D.honest D.contents D.may_leave self.old leader
             → IfOk result (λ r. IfNone r (((place : ℕ) → ¬ IsDueBy now self.old place) ⊎ ¬ HasRoom (out_at now self.old) (flight_of self.old))) }
@@ -224,7 +247,7 @@ impl<D: JournalDevice + Drop> HeadDaemon<D> {
         let datagrams = self.kept.tick(self.alloc, listed.meter)?;
         let count = datagrams.len() as u64;
         self.schedule.sent(place, now, count)?;
-        self.counts.sent = self.counts.sent.saturating_add(count);
+        add(&mut self.counts.sent, count);
         Ok(Some(Due {
             meter: listed.meter,
             to: listed.address,
@@ -245,6 +268,11 @@ impl<D: JournalDevice + Drop> HeadDaemon<D> {
         // When a meter that answered is asked again follows from what the answer leaves of what was asked: a meter that isn't ready pauses.
         ensures takes { (leader : Leader) → IsLed D.honest D.contents D.may_leave self.old leader
             → IfOk result (λ heard. heard ≡ Heard.Moved → TakesAnswer now from datagram.now self.old self.new) }
+
+        // The rows that ended wait since the first of them did.
+        ensures since { IfOk result (λ what. since_of self.new ≡ since_after what now (ended_of self.old) (since_of self.old)) }
+        ensures counts { IfOk result (λ what. counted_of self.new ≡ with_heard what (counted_of self.old)) }
+        ensures counts_err { OnErr result (counted_of self.new ≡ record (counted_of self.old) { received = one_more (counted_of self.old).received }) }
 
         // Memory is refused for a datagram of a listed meter alone.
         ensures listed { (leader : Leader) → IsLed D.honest D.contents D.may_leave self.old leader
@@ -308,14 +336,14 @@ impl<D: JournalDevice + Drop> HeadDaemon<D> {
         ensures kept { kept_of self.new ≡ kept_of self.old }
         ensures ended { OnOk result (ended_of self.new
             ≡ ended_of self.old ++ record { campaign = campaign; meter = meter; ending = ending } ∷ []) }
+        ensures since { since_of self.new ≡ since_with now (ended_of self.old) (since_of self.old) }
+        ensures counts { counted_of self.new ≡ counted_of self.old }
         ensures meters { EndsMeter place self.old.schedule self.new.schedule }
         ensures schedule { IsSchedule self.old.schedule → IsSchedule self.new.schedule }
         ensures memory { IfErr result (λ stop. stop ≡ Stop.OutOfMemory) }
     {
         self.schedule.end(place);
-        if self.ended.is_empty() {
-            self.held_since = now;
-        }
+        self.held_since = since_first(&self.ended, now, self.held_since);
         self.ended.push(Ended {
             campaign,
             meter,
@@ -345,6 +373,9 @@ impl<D: JournalDevice + Drop> HeadDaemon<D> {
             → IfOk result (λ ended. (next : Leader) × SavesAll leader next × IsLed D.honest D.contents D.may_leave self.new next
             × IsAboutToTell next ended.items) }
         ensures returned { IfOk result (λ ended. ended.items ≡ ended_of self.old) }
+        ensures emptied { OnOk result (ended_of self.new ≡ []) }
+        ensures counts { IfOk result (λ ended. CountsJust ended.items (counted_of self.old) (counted_of self.new)) }
+        ensures counts_err { OnErr result (counted_of self.new ≡ counted_of self.old) }
         ensures stops { IfErr result IsSaveStop }
 
         // The causes of a commit that is refused.
@@ -418,17 +449,42 @@ fn place_of(schedule: &Schedule, address: SocketAddr) -> Option<(usize, MeterId)
     Some((place, at.meter))
 }
 
+/// Since when rows wait, once one ended now besides these.
+fn since_first(ended: &[Ended], now: u64, since: u64) -> u64
+    ensures { result ≡ since_with now ended.now since }
+{
+    if ended.is_empty() { now } else { since }
+}
+
 /// Counts these rows, by how they ended.
-fn count_ended(counts: &mut Counts, ended: &[Ended]) {
+fn count_ended(counts: &mut Counts, ended: &[Ended])
+    ensures { CountsJust ended.now counts.old counts.new }
+{
     for one in ended {
-        match one.ending {
-            Ending::Done => count(&mut counts.done),
-            Ending::Failed => count(&mut counts.failed),
-        }
+        count_row(counts, one.ending);
     }
 }
 
+/// Counts a row that ended so.
+fn count_row(counts: &mut Counts, ending: Ending)
+    ensures { counts.new ≡ with_row ending counts.old }
+{
+    match ending {
+        Ending::Done => count(&mut counts.done),
+        Ending::Failed => count(&mut counts.failed),
+    }
+}
+
+/// Counts so many more.
+fn add(counter: &mut u64, more: u64)
+    ensures { counter.new ≡ min (counter.old + more) greatest }
+{
+    *counter = counter.saturating_add(more);
+}
+
 /// Counts one more.
-fn count(counter: &mut u64) {
+fn count(counter: &mut u64)
+    ensures { counter.new ≡ one_more counter.old }
+{
     *counter = counter.saturating_add(1);
 }

@@ -3,6 +3,7 @@ use Rattle.fw_head.specs.Head.{Head, HeadHears, IsHead}
 use Rattle.fw_kept.specs.Head.{Holds, head_of}
 use Rattle.fw_ledger.specs.declared.record.Ending.TheVariants as ends
 use Rattle.fw_rollout.specs.declared.ended.Ended.{Ended}
+use Rattle.fw_rollout.specs.Daemon.{since_with}
 use Rattle.fw_rollout.specs.Early.{IsAnswerOf}
 use Rattle.fw_rollout.specs.Leading.{ended_by, heard_of}
 use Rattle.fw_rollout.proofs.Daemons.{ended_on, is_listed, moved_live, moved_on, nothing_on, stranger_on}
@@ -118,3 +119,50 @@ returns-in_ok-answered-in-Moved-clause-takes g c = λ leader led moved. record {
   leaves = subst (λ (m : ℕ). IsAnswerOf (head_of c.hear.new.self) m c.args.datagram.now c.in_ok-answer-in-Moved.answer) (search rules) c.in_ok-answer-in-Moved.ensures;
   goes_on = c.in_ok-answered-in-Moved.ensures.answered;
 }
+
+-- ---- since when rows wait
+
+pub returns-in_ok-end-in-Done-clause-since : goal.returns-in_ok-end-in-Done-clause-since
+returns-in_ok-end-in-Done-clause-since g c = c.end.ensures.since ∙ ap (λ (rows : List Ended). since_with c.args.now rows c.args.self.now.held_since) c.reserve.ensures.items
+
+pub returns-in_ok-end-in-Failed-clause-since : goal.returns-in_ok-end-in-Failed-clause-since
+returns-in_ok-end-in-Failed-clause-since g c = c.end-in-Failed.ensures.since ∙ ap (λ (rows : List Ended). since_with c.args.now rows c.args.self.now.held_since) c.reserve.ensures.items
+
+-- ---- what is counted
+
+pub returns-in_default-clause-counts : goal.returns-in_default-clause-counts
+returns-in_default-clause-counts g c = ap (λ (n : ℕ). record c.args.self.now.counts { strangers = n }) c.count.ensures
+
+pub returns-in-Nothing-clause-counts : goal.returns-in-Nothing-clause-counts
+returns-in-Nothing-clause-counts g c = ap (λ (n : ℕ). record c.args.self.now.counts { received = n }) c.count-2.ensures
+
+pub returns-in_ok-answered-in-Moved-clause-counts : goal.returns-in_ok-answered-in-Moved-clause-counts
+returns-in_ok-answered-in-Moved-clause-counts g c = ap (λ (n : ℕ). record c.args.self.now.counts { received = n }) c.count-2.ensures
+
+pub returns-in_ok-end-in-Done-clause-counts : goal.returns-in_ok-end-in-Done-clause-counts
+returns-in_ok-end-in-Done-clause-counts g c = c.end.ensures.counts ∙ ap (λ (n : ℕ). record c.args.self.now.counts { received = n }) c.count-2.ensures
+
+pub returns-in_ok-end-in-Failed-clause-counts : goal.returns-in_ok-end-in-Failed-clause-counts
+returns-in_ok-end-in-Failed-clause-counts g c = c.end-in-Failed.ensures.counts ∙ ap (λ (n : ℕ). record c.args.self.now.counts { received = n }) c.count-2.ensures
+
+pub returns-in_err-reserve-clause-counts_err : goal.returns-in_err-reserve-clause-counts_err
+returns-in_err-reserve-clause-counts_err g c = at_err c.from_residual.result (ap (λ (n : ℕ). record c.args.self.now.counts { received = n }) c.count-2.ensures)
+
+pub returns-in_err-hear-clause-counts_err : goal.returns-in_err-hear-clause-counts_err
+returns-in_err-hear-clause-counts_err g c = at_err c.from_residual-in_err-hear.result (ap (λ (n : ℕ). record c.args.self.now.counts { received = n }) c.count-2.ensures)
+
+pub returns-in_err-answer-in-Moved-clause-counts_err : goal.returns-in_err-answer-in-Moved-clause-counts_err
+returns-in_err-answer-in-Moved-clause-counts_err g c =
+    at_err c.from_residual-in_err-answer-in-Moved.result (ap (λ (n : ℕ). record c.args.self.now.counts { received = n }) c.count-2.ensures)
+
+pub returns-in_err-answered-in-Moved-clause-counts_err : goal.returns-in_err-answered-in-Moved-clause-counts_err
+returns-in_err-answered-in-Moved-clause-counts_err g c =
+    at_err c.from_residual-in_err-answered-in-Moved.result (ap (λ (n : ℕ). record c.args.self.now.counts { received = n }) c.count-2.ensures)
+
+pub returns-in_err-end-in-Done-clause-counts_err : goal.returns-in_err-end-in-Done-clause-counts_err
+returns-in_err-end-in-Done-clause-counts_err g c =
+    at_err c.from_residual-in_err-end-in-Done.result (c.end.ensures.counts ∙ ap (λ (n : ℕ). record c.args.self.now.counts { received = n }) c.count-2.ensures)
+
+pub returns-in_err-end-in-Failed-clause-counts_err : goal.returns-in_err-end-in-Failed-clause-counts_err
+returns-in_err-end-in-Failed-clause-counts_err g c =
+    at_err c.from_residual-in_err-end-in-Failed.result (c.end-in-Failed.ensures.counts ∙ ap (λ (n : ℕ). record c.args.self.now.counts { received = n }) c.count-2.ensures)
