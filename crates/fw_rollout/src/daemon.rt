@@ -22,12 +22,13 @@ ghost use Rattle.std.specs.Prelude.{
   OnErr,
   OnOk,
   MatchOption,
+  is_some,
   length,
   min,
   slice_get,
 };
 ghost use Rattle.fw_head.specs.Row.{bytes_of};
-ghost use Rattle.fw_head.specs.Head.{IsOfferedIn};
+ghost use Rattle.fw_head.specs.Head.{IsOfferedIn, row_of};
 ghost use Rattle.fw_book.specs.Contents.{Contents};
 ghost use Rattle.fw_kept.specs.Head.{Holds, device_of, head_of, is_broken, journal_of};
 ghost use Rattle.fw_kept.specs.Kept.{IsFull};
@@ -43,7 +44,7 @@ ghost use Rattle.fw_rollout.specs.Counting.{
   with_heard,
   with_row,
 };
-ghost use Rattle.fw_rollout.specs.Leading.{HearsAs, IsAboutToSend, IsAboutToTell, IsListed, Leader, SavesAll, TicksMeter};
+ghost use Rattle.fw_rollout.specs.Leading.{HasLiveRow, HearsAs, IsAboutToSend, IsAboutToTell, IsListed, Leader, SavesAll, TicksMeter};
 ghost use Rattle.fw_rollout.specs.Daemon.{
   IsAskedBy,
   IsDueBy,
@@ -274,9 +275,9 @@ impl<D: JournalDevice + Drop> HeadDaemon<D> {
         ensures counts { IfOk result (λ what. counted_of self.new ≡ with_heard what (counted_of self.old)) }
         ensures counts_err { OnErr result (counted_of self.new ≡ record (counted_of self.old) { received = one_more (counted_of self.old).received }) }
 
-        // Memory is refused for a datagram of a listed meter alone.
+        // Memory is refused for a datagram of a listed meter alone, which has a live row.
         ensures listed { (leader : Leader) → IsLed D.honest D.contents D.may_leave self.old leader
-            → OnErr result ((meter : ℕ) × IsListed leader meter from) }
+            → OnErr result ((meter : ℕ) × IsListed leader meter from × HasLiveRow leader meter) }
         ensures memory { IfErr result (λ stop. stop ≡ Stop.OutOfMemory) }
     {
         fw_book::laws::states_follow();
@@ -288,7 +289,8 @@ impl<D: JournalDevice + Drop> HeadDaemon<D> {
             return Ok(Heard::Stranger);
         };
         count(&mut self.counts.received);
-        self.ended.reserve(1)?;
+        let has_row = self.has_row(meter);
+        make_room(&mut self.ended, has_row)?;
         match self.kept.hear(self.alloc, meter, datagram)? {
             News::Nothing => Ok(Heard::Nothing),
             News::Moved => {
@@ -305,6 +307,13 @@ impl<D: JournalDevice + Drop> HeadDaemon<D> {
                 Ok(Heard::Ended)
             }
         }
+    }
+
+    /// Whether a meter has a live row.
+    fn has_row(&self, meter: MeterId) -> bool
+        ensures { result ≡ is_some (row_of (head_of (kept_of self.now)).rows meter) }
+    {
+        self.kept.head().has_row(meter)
     }
 
     /// What an answer of a meter leaves of what its row asked.
@@ -447,6 +456,21 @@ fn place_of(schedule: &Schedule, address: SocketAddr) -> Option<(usize, MeterId)
     let place = schedule.place_of(address)?;
     let at = schedule.at(place)?;
     Some((place, at.meter))
+}
+
+/// Takes memory for a row that may end, if there is one.
+///
+/// # Errors
+///
+/// `AllocError` where memory was refused.
+fn make_room(ended: &mut Vec<Ended>, has_row: bool) -> Result<(), AllocError>
+    ensures items { ended.new.items ≡ ended.old.items }
+    ensures row { OnErr result (IsTrue has_row) }
+{
+    if has_row {
+        return ended.reserve(1);
+    }
+    Ok(())
 }
 
 /// Since when rows wait, once one ended now besides these.
