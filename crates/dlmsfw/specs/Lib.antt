@@ -1,3 +1,4 @@
 pub mod Status
 pub mod Places
 pub mod Refusals
+pub mod Texts

@@ -1,63 +1,101 @@
--- What a fault of a meter or of a head end is about: its address, one of its files, its capacity, or the serial number of a campaign.
-use Rattle.std.specs.Prelude.{ℕ, Option, None, Some}
+-- What a fault is about: an address, a file or one beside it, a capacity, or the serial number of a campaign.
+use Rattle.std.specs.Prelude.{◌≡◌, ℕ, List, Option, None, Some}
 use Rattle.std.specs.Option.{option_map, option_map_or}
+use Rattle.fw_disk.specs.declared.reason.Because.{Because}
+use Rattle.fw_disk.specs.declared.reason.Reason.{Reason}
+use Rattle.fw_disk.specs.declared.name.Name.{Name}
+use Rattle.fw_disk.specs.declared.name.Name.TheVariants.{Main}
 use Rattle.fw_faults.specs.declared.fault.Fault.{Fault}
-use Rattle.fw_faults.specs.declared.fault.Fault.TheVariants.{StoreFault, Device, BadFile, BadHeader, BadImage, FactoryFault, Socket, NoBook, BookExists, Locked, BookFault, BadBook, BadRecord, ForeignHead, Full, ListFault, BadList, NoAddress, ImageFault, BadSetup, OpenRefused, CancelRefused, CaptureFault, ForeignCapture}
+use Rattle.fw_faults.specs.declared.fault.Fault.TheVariants.{StoreFault, Device, BadFile, BadHeader, BadImage, FactoryFault, Input, Socket, NoBook, BookExists, Locked, BookFault, BadBook, BadRecord, ForeignHead, Full, ListFault, BadList, NoAddress, ImageFault, BadSetup, OpenRefused, CancelRefused, CaptureFault, ForeignCapture}
 use Rattle.fw_cli.specs.declared.meter.MeterFault.{MeterFault}
 use Rattle.dlmsfw.specs.declared.cause.BookPlaces.{BookPlaces}
 use Rattle.dlmsfw.specs.declared.cause.BookPlace.{BookPlace}
 use Rattle.dlmsfw.specs.declared.cause.BookPlace.TheVariants.{Book, HeadListen, Meters, Image, Open, Cancel, HeadCapture}
 use Rattle.dlmsfw.specs.declared.cause.MeterPlaces.{MeterPlaces}
+use Rattle.dlmsfw.specs.declared.cause.NamedFile.{NamedFile}
 use Rattle.dlmsfw.specs.declared.cause.Place.{Place}
-use Rattle.dlmsfw.specs.declared.cause.Place.TheVariants.{Listen, ListenOf, Store, StoreOf, FactoryFile, Capacity, Capture}
+use Rattle.dlmsfw.specs.declared.cause.Place.TheVariants.{Listen, ListenOf, Store, FactoryFile, Capacity, Capture}
+use Rattle.dlmsfw.specs.declared.refusal.Refusal.{Refusal}
+use Rattle.dlmsfw.specs.Refusals.{reason_told}
+
+-- the name of a file that a reason is about
+abbrev pub name_in : Option Reason → Name
+name_in None = Main
+name_in (Some reason) = reason.name
 
 -- where a meter listens, or the one of this number
 abbrev pub listen_of : Option ℕ → MeterPlaces → Place
 listen_of None places = Listen places.listen
 listen_of (Some number) places = ListenOf places.listen number
 
--- the file of a meter, or of the one of this number
-abbrev pub store_of : Option ℕ → MeterPlaces → Place
-store_of None places = Store places.store
-store_of (Some number) places = StoreOf places.store number
+-- the file of a store
+abbrev pub store_place_of : Fault → NamedFile → Option Place
+store_place_of StoreFault file = Some (Store file)
+store_place_of Device file = Some (Store file)
+store_place_of BadFile file = Some (Store file)
+store_place_of BadHeader file = Some (Store file)
+store_place_of BadImage file = Some (Store file)
+store_place_of fault file = None
 
 -- the file of the image that a new meter runs, or its capacity, which the image that it runs without a file doesn't fit
 abbrev pub factory_of : MeterPlaces → Place
 factory_of places = option_map_or FactoryFile places.factory_file (Capacity places.capacity)
 
-abbrev pub place_in : Fault → Option ℕ → MeterPlaces → Option Place
-place_in Socket number places = Some (listen_of number places)
-place_in StoreFault number places = Some (store_of number places)
-place_in Device number places = Some (store_of number places)
-place_in BadFile number places = Some (store_of number places)
-place_in BadHeader number places = Some (store_of number places)
-place_in BadImage number places = Some (store_of number places)
-place_in FactoryFault number places = option_map FactoryFile places.factory_file
-place_in BadSetup number places = Some (factory_of places)
-place_in CaptureFault number places = option_map Capture places.capture
-place_in ForeignCapture number places = option_map Capture places.capture
-place_in fault number places = None
+abbrev pub place_in : Fault → Option ℕ → Name → MeterPlaces → Option Place
+place_in Socket number name places = Some (listen_of number places)
+place_in FactoryFault number name places = option_map FactoryFile places.factory_file
+place_in BadSetup number name places = Some (factory_of places)
+place_in CaptureFault number name places = option_map (λ path. Capture (record { path = path; number = None; name = name })) places.capture
+place_in ForeignCapture number name places = option_map (λ path. Capture (record { path = path; number = None; name = name })) places.capture
+place_in fault number name places = store_place_of fault (record { path = places.store; number = number; name = name })
 
 abbrev pub place_of : MeterFault → MeterPlaces → Option Place
-place_of ended places = place_in ended.fault ended.number places
+place_of ended places = place_in ended.fault ended.number (name_in ended.reason) places
 
-abbrev pub book_place_of : Fault → BookPlaces → Option BookPlace
-book_place_of NoBook places = Some (Book places.book)
-book_place_of BookExists places = Some (Book places.book)
-book_place_of Locked places = Some (Book places.book)
-book_place_of BookFault places = Some (Book places.book)
-book_place_of (BadBook offset) places = Some (Book places.book)
-book_place_of (BadRecord index) places = Some (Book places.book)
-book_place_of ForeignHead places = Some (Book places.book)
-book_place_of Full places = Some (Book places.book)
-book_place_of Socket places = option_map HeadListen places.listen
-book_place_of ListFault places = option_map Meters places.meters
-book_place_of (BadList line) places = option_map Meters places.meters
-book_place_of (NoAddress meter) places = option_map Meters places.meters
-book_place_of ImageFault places = option_map Image places.image
-book_place_of BadSetup places = option_map Open places.opened
-book_place_of (OpenRefused refusal) places = option_map Open places.opened
-book_place_of (CancelRefused refusal) places = option_map Cancel places.cancel
-book_place_of CaptureFault places = option_map HeadCapture places.capture
-book_place_of ForeignCapture places = option_map HeadCapture places.capture
-book_place_of fault places = None
+abbrev pub answer_place_of : Because Fault → NamedFile → Option Place
+answer_place_of because store = store_place_of because.error (record store { name = name_in because.reason })
+
+-- a file that is traced can't be opened or read
+abbrev pub trace_place_of : Fault → NamedFile → Option NamedFile
+trace_place_of CaptureFault file = Some file
+trace_place_of Input file = Some file
+trace_place_of fault file = None
+
+-- the file of a book
+abbrev pub book_file : Name → BookPlaces → BookPlace
+book_file name places = Book (record { path = places.book; number = None; name = name })
+
+abbrev pub book_place_in : Fault → Name → BookPlaces → Option BookPlace
+book_place_in NoBook name places = Some (book_file name places)
+book_place_in BookExists name places = Some (book_file name places)
+book_place_in Locked name places = Some (book_file name places)
+book_place_in BookFault name places = Some (book_file name places)
+book_place_in (BadBook offset) name places = Some (book_file name places)
+book_place_in (BadRecord index) name places = Some (book_file name places)
+book_place_in ForeignHead name places = Some (book_file name places)
+book_place_in Full name places = Some (book_file name places)
+book_place_in Socket name places = option_map HeadListen places.listen
+book_place_in ListFault name places = option_map Meters places.meters
+book_place_in (BadList line) name places = option_map Meters places.meters
+book_place_in (NoAddress meter) name places = option_map Meters places.meters
+book_place_in ImageFault name places = option_map Image places.image
+book_place_in BadSetup name places = option_map Open places.opened
+book_place_in (OpenRefused refusal) name places = option_map Open places.opened
+book_place_in (CancelRefused refusal) name places = option_map Cancel places.cancel
+book_place_in CaptureFault name places = option_map (λ path. HeadCapture (record { path = path; number = None; name = name })) places.capture
+book_place_in ForeignCapture name places = option_map (λ path. HeadCapture (record { path = path; number = None; name = name })) places.capture
+book_place_in fault name places = None
+
+abbrev pub book_place_of : Because Fault → BookPlaces → Option BookPlace
+book_place_of because places = book_place_in because.error (name_in because.reason) places
+
+-- of a store and of a capture the reason is told that stands with the fault
+abbrev pub TellsReason : Option Place → Option Reason → Option Refusal → Type 0
+TellsReason (Some (Store file)) reason told = told ≡ reason_told reason
+TellsReason (Some (Capture file)) reason told = told ≡ reason_told reason
+TellsReason place reason told = Unit {0}
+
+abbrev pub TellsBookReason : Option BookPlace → Option Reason → Option Refusal → Type 0
+TellsBookReason (Some (Book file)) reason told = told ≡ reason_told reason
+TellsBookReason (Some (HeadCapture file)) reason told = told ≡ reason_told reason
+TellsBookReason place reason told = Unit {0}

@@ -1,13 +1,20 @@
--- Why the system refuses what gave an error of this kind.
+-- Why an address or a file is refused.
+use Rattle.std.specs.Prelude.{Option}
+use Rattle.std.specs.Option.{option_map}
 use Rattle.std.specs.declared.io.ErrorKind.{ErrorKind}
-use Rattle.std.specs.declared.io.ErrorKind.TheVariants.{AddrInUse, AddrNotAvailable, PermissionDenied, NotFound, IsADirectory}
+use Rattle.std.specs.declared.io.ErrorKind.TheVariants.{AddrInUse, AddrNotAvailable, PermissionDenied}
+use Rattle.fw_disk.specs.declared.cause.Cause.TheVariants.{NoRight}
+use Rattle.fw_disk.specs.declared.reason.Reason.{Reason}
 use Rattle.dlmsfw.specs.declared.refusal.Refusal.{Refusal}
-use Rattle.dlmsfw.specs.declared.refusal.Refusal.TheVariants.{InUse, NoAddress, NoRight, NoFile, IsFolder, Other}
+use Rattle.dlmsfw.specs.declared.refusal.Refusal.TheVariants.{InUse, NoAddress, Other, File}
 
+-- why the system refuses the address that gave an error of this kind
 abbrev pub refusal_of : ErrorKind → Refusal
 refusal_of AddrInUse = InUse
 refusal_of AddrNotAvailable = NoAddress
-refusal_of PermissionDenied = NoRight
-refusal_of NotFound = NoFile
-refusal_of IsADirectory = IsFolder
+refusal_of PermissionDenied = File NoRight
 refusal_of kind = Other kind
+
+-- why a file was refused, if a reason stands with its fault
+abbrev pub reason_told : Option Reason → Option Refusal
+reason_told reason = option_map (λ (r : Reason). File r.cause) reason

@@ -4,7 +4,7 @@ use Rattle.clap.specs.declared.error.kind.ErrorKind.{ErrorKind}
 use Rattle.clap.specs.declared.error.kind.ErrorKind.TheVariants.{DisplayHelp, DisplayVersion, OutOfMemory}
 use Rattle.clap.specs.Values.{kind_of}
 use Rattle.dlmsfw.specs.declared.Ending.{Ending}
-use Rattle.dlmsfw.specs.declared.Ending.TheVariants.{Fault, Capture, Meter, Book, Refused, CommandLine, NoText}
+use Rattle.dlmsfw.specs.declared.Ending.TheVariants.{Fault, Capture, Trace, Answer, Meter, Book, Refused, CommandLine, NoText}
 
 -- the text that was asked for
 abbrev pub IsHelp : ErrorKind → Type 0
@@ -19,9 +19,11 @@ pub record EndsParse (kind : ErrorKind) (status : ℕ) : Type 0 where
 -- the program may end so with this status
 abbrev pub EndsWith : Ending → ℕ → Type 0
 EndsWith (Fault fault) status = status ≡ 1
-EndsWith (Capture path) status = status ≡ 1
+EndsWith (Capture path cause) status = status ≡ 1
+EndsWith (Trace because path) status = status ≡ 1
+EndsWith (Answer because store) status = status ≡ 1
 EndsWith (Meter ended places) status = status ≡ 1
-EndsWith (Book fault places) status = status ≡ 1
+EndsWith (Book because places) status = status ≡ 1
 EndsWith Refused status = status ≡ 1
 EndsWith (CommandLine error) status = EndsParse (kind_of error) status
 EndsWith NoText status = status ≡ 2

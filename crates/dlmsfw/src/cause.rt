@@ -1,11 +1,14 @@
-//! The cause of a fault, where the fault's name doesn't say it, and what the fault is about.
+//! What a fault is about, and why it came, where the fault's name doesn't say it.
 
-ghost use Rattle.std.specs.Prelude.{◌≡◌, ◌≢◌, MatchBool};
-ghost use Rattle.dlmsfw.specs.Places.{book_place_of, place_of};
+ghost use Rattle.std.specs.Prelude.{◌≡◌, ◌≢◌, MatchBool, None, Some};
+ghost use Rattle.dlmsfw.specs.Places.{TellsReason, TellsBookReason, answer_place_of, book_place_of, name_in, place_of, store_place_of, trace_place_of};
+ghost use Rattle.dlmsfw.specs.Refusals.{reason_told};
+ghost use Rattle.dlmsfw.specs.Texts.{book_place_text, file_text, place_text};
 
 use crate::refusal;
 use crate::refusal::Refusal;
 use fw_cli::{HeadOptions, MeterFault, MeterOptions, StatusOptions};
+use fw_disk::{Because, Name, Reason};
 use fw_faults::Fault;
 use std::fmt;
 use std::net::{Ipv4Addr, Net, SocketAddr, UdpSocket};
@@ -58,13 +61,51 @@ fn socket_cause(one_is_bound: bool) -> Cause
     }
 }
 
-/// The file of a capture, as what a fault is about.
+/// A file that is named on the command line, or the one beside it that is meant.
 #[derive(Clone, Copy)]
-pub(crate) struct CapturePlace<'a>(pub(crate) &'a str);
+pub(crate) struct NamedFile<'a> {
+    path: &'a str,
+    /// The number of the meter whose file it is, which stands behind the path, where there is a count of them.
+    number: Option<u32>,
+    /// Which of its names is meant.
+    name: Name,
+}
 
-impl fmt::Display for CapturePlace<'_> {
+impl<'a> NamedFile<'a> {
+    /// The file at this path.
+    pub(crate) fn of(path: &'a str) -> NamedFile<'a>
+        ensures { result ≡ record { path = path.entry; number = None; name = Name.Main } }
+    {
+        NamedFile {
+            path,
+            number: None,
+            name: Name::Main,
+        }
+    }
+}
+
+impl fmt::Display for NamedFile<'_> {
+    ghost output = { λ file. Some (file_text file) };
+
     fn fmt<W: fmt::Write>(&self, f: &mut fmt::Formatter<W>) -> fmt::Result {
-        write!(f, "--capture {}", self.0)
+        let path = self.path;
+        let ending = self.name.ending();
+        match (self.number, self.name) {
+            (None, Name::Main) => write!(f, "{path}"),
+            (None, _) => write!(f, "{path}: {path}{ending}"),
+            (Some(number), Name::Main) => write!(f, "{path}.{number}"),
+            (Some(number), _) => write!(f, "{path}.{number}: {path}.{number}{ending}"),
+        }
+    }
+}
+
+/// The name of a file that a reason is about. Without a reason it is the file itself.
+fn name_in(reason: Option<Reason>) -> Name
+    ensures { result ≡ name_in reason }
+{
+    match reason {
+        Some(reason) => reason.name,
+        None => Name::Main,
     }
 }
 
@@ -105,24 +146,23 @@ pub(crate) enum Place<'a> {
     /// The address that the first meter listens at, and the number of the one that is meant.
     ListenOf(SocketAddr, u32),
     /// The file that has it.
-    Store(&'a str),
-    /// The file that has the meter of this number.
-    StoreOf(&'a str, u32),
+    Store(NamedFile<'a>),
     /// The file of its factory image.
     FactoryFile(&'a str),
     /// Its capacity, which the image that it runs without a file doesn't fit.
     Capacity(u32),
     /// The file of its capture.
-    Capture(&'a str),
+    Capture(NamedFile<'a>),
 }
 
 impl fmt::Display for Place<'_> {
+    ghost output = { λ place. Some (place_text place) };
+
     fn fmt<W: fmt::Write>(&self, f: &mut fmt::Formatter<W>) -> fmt::Result {
         match self {
             Place::Listen(address) => write!(f, "--listen {address}"),
             Place::ListenOf(address, number) => write!(f, "--listen {address}, meter {number}"),
             Place::Store(file) => write!(f, "--store {file}"),
-            Place::StoreOf(file, number) => write!(f, "--store {file}.{number}"),
             Place::FactoryFile(file) => write!(f, "--factory-file {file}"),
             Place::Capacity(capacity) => write!(f, "--capacity {capacity}"),
             Place::Capture(file) => write!(f, "--capture {file}"),
@@ -134,16 +174,17 @@ impl fmt::Display for Place<'_> {
 pub(crate) fn place_of<'a>(ended: MeterFault, places: MeterPlaces<'a>) -> Option<Place<'a>>
     ensures { result ≡ place_of ended places.entry }
 {
+    let name = name_in(ended.reason);
+    let store = NamedFile {
+        path: places.store,
+        number: ended.number,
+        name,
+    };
     match ended.fault {
         Fault::Socket => Some(match ended.number {
             Some(number) => Place::ListenOf(places.listen, number),
             None => Place::Listen(places.listen),
         }),
-        Fault::StoreFault | Fault::Device | Fault::BadFile | Fault::BadHeader | Fault::BadImage =>
-            Some(match ended.number {
-                Some(number) => Place::StoreOf(places.store, number),
-                None => Place::Store(places.store),
-            }),
         Fault::FactoryFault => match places.factory_file {
             Some(file) => Some(Place::FactoryFile(file)),
             None => None,
@@ -153,18 +194,74 @@ pub(crate) fn place_of<'a>(ended: MeterFault, places: MeterPlaces<'a>) -> Option
             Some(file) => Place::FactoryFile(file),
             None => Place::Capacity(places.capacity),
         }),
-        Fault::CaptureFault | Fault::ForeignCapture => Some(Place::Capture(places.capture?)),
+        Fault::CaptureFault | Fault::ForeignCapture => Some(Place::Capture(NamedFile {
+            path: places.capture?,
+            number: None,
+            name,
+        })),
+        fault => store_place_of(fault, store),
+    }
+}
+
+/// The file of a store, if the fault is of that.
+fn store_place_of<'a>(fault: Fault, file: NamedFile<'a>) -> Option<Place<'a>>
+    ensures { result ≡ store_place_of fault file.entry }
+{
+    match fault {
+        Fault::StoreFault | Fault::Device | Fault::BadFile | Fault::BadHeader | Fault::BadImage =>
+            Some(Place::Store(file)),
         _ => None,
     }
 }
 
-/// Why the system refuses what the fault of a meter is about, if that is an address or a file to read, and it refuses it now.
+/// What the fault of an answer over the store in this file is about, if it is the file.
+pub(crate) fn answer_place_of<'a>(
+    because: &Because<Fault>,
+    store: NamedFile<'a>,
+) -> Option<Place<'a>>
+    ensures { result ≡ answer_place_of because.now store.entry }
+{
+    let name = name_in(because.reason);
+    store_place_of(because.error, NamedFile { name, ..store })
+}
+
+/// What the fault of a trace of this file is about, if it is the file: it can't be opened or read.
+pub(crate) fn trace_place_of<'a>(fault: Fault, file: NamedFile<'a>) -> Option<NamedFile<'a>>
+    ensures { result ≡ trace_place_of fault file.entry }
+{
+    match fault {
+        Fault::CaptureFault | Fault::Input => Some(file),
+        _ => None,
+    }
+}
+
+/// Why a file that is traced can't be opened or read, where it is what the fault is about. Where the command doesn't say it, the system is asked.
+pub(crate) fn trace_refusal_of(
+    files: &impl Files,
+    reason: Option<Reason>,
+    place: Option<NamedFile<'_>>,
+) -> Option<Refusal>
+    ensures { reason ≢ None → place.entry ≢ None → result ≡ reason_told reason }
+{
+    let file = place?;
+    match refusal::of_reason(reason) {
+        Some(refusal) => Some(refusal),
+        None => refusal::of_file(files, file.path),
+    }
+}
+
+/// Why what the fault of a meter is about is refused: of a store or a capture the reason that stands with the fault. If it is an address or a
+/// file to read, and the system refuses it now, why it does.
 pub(crate) fn refusal_of(
     rt: &(impl Net + Files),
-    fault: Fault,
+    ended: MeterFault,
     place: Option<Place<'_>>,
-) -> Option<Refusal> {
-    match (fault, place?) {
+) -> Option<Refusal>
+    ensures { TellsReason place.entry ended.reason result }
+{
+    match (ended.fault, place?) {
+        (_, Place::Store(_)) => refusal::of_reason(ended.reason),
+        (_, Place::Capture(_)) => refusal::of_reason(ended.reason),
         (Fault::Socket, Place::Listen(at)) => refusal::of_address(rt, at),
         (Fault::Socket, Place::ListenOf(first, number)) => refusal::of_addresses(rt, first, number),
         (Fault::FactoryFault, Place::FactoryFile(path)) => refusal::of_file(rt, path),
@@ -220,7 +317,7 @@ impl<'a> BookPlaces<'a> {
 #[derive(Clone, Copy)]
 pub(crate) enum BookPlace<'a> {
     /// The file that has it.
-    Book(&'a str),
+    Book(NamedFile<'a>),
     /// The address that its head end listens at.
     HeadListen(SocketAddr),
     /// The list of meters.
@@ -232,10 +329,12 @@ pub(crate) enum BookPlace<'a> {
     /// The campaign that is cancelled.
     Cancel(u32),
     /// The file of the capture.
-    HeadCapture(&'a str),
+    HeadCapture(NamedFile<'a>),
 }
 
 impl fmt::Display for BookPlace<'_> {
+    ghost output = { λ place. Some (book_place_text place) };
+
     fn fmt<W: fmt::Write>(&self, f: &mut fmt::Formatter<W>) -> fmt::Result {
         match self {
             BookPlace::Book(file) => write!(f, "--book {file}"),
@@ -250,10 +349,14 @@ impl fmt::Display for BookPlace<'_> {
 }
 
 /// What a fault of a book is about, if it is one of these.
-pub(crate) fn book_place_of<'a>(fault: Fault, places: BookPlaces<'a>) -> Option<BookPlace<'a>>
-    ensures { result ≡ book_place_of fault places.entry }
+pub(crate) fn book_place_of<'a>(
+    because: &Because<Fault>,
+    places: BookPlaces<'a>,
+) -> Option<BookPlace<'a>>
+    ensures { result ≡ book_place_of because.now places.entry }
 {
-    match fault {
+    let name = name_in(because.reason);
+    match because.error {
         Fault::NoBook
         | Fault::BookExists
         | Fault::Locked
@@ -261,7 +364,11 @@ pub(crate) fn book_place_of<'a>(fault: Fault, places: BookPlaces<'a>) -> Option<
         | Fault::BadBook(_)
         | Fault::BadRecord(_)
         | Fault::ForeignHead
-        | Fault::Full => Some(BookPlace::Book(places.book)),
+        | Fault::Full => Some(BookPlace::Book(NamedFile {
+            path: places.book,
+            number: None,
+            name,
+        })),
         Fault::Socket => Some(BookPlace::HeadListen(places.listen?)),
         Fault::ListFault | Fault::BadList(_) | Fault::NoAddress(_) => Some(BookPlace::Meters(
             places.meters?,
@@ -269,20 +376,27 @@ pub(crate) fn book_place_of<'a>(fault: Fault, places: BookPlaces<'a>) -> Option<
         Fault::ImageFault => Some(BookPlace::Image(places.image?)),
         Fault::BadSetup | Fault::OpenRefused(_) => Some(BookPlace::Open(places.opened?)),
         Fault::CancelRefused(_) => Some(BookPlace::Cancel(places.cancel?)),
-        Fault::CaptureFault | Fault::ForeignCapture => Some(BookPlace::HeadCapture(
-            places.capture?,
-        )),
+        Fault::CaptureFault | Fault::ForeignCapture => Some(BookPlace::HeadCapture(NamedFile {
+            path: places.capture?,
+            number: None,
+            name,
+        })),
         _ => None,
     }
 }
 
-/// Why the system refuses what the fault of a head end is about, if that is an address or a file to read, and it refuses it now.
+/// Why what the fault of a head end is about is refused: of a book or a capture the reason that stands with the fault. If it is an address or a
+/// file to read, and the system refuses it now, why it does.
 pub(crate) fn book_refusal_of(
     rt: &(impl Net + Files),
-    fault: Fault,
+    because: &Because<Fault>,
     place: Option<BookPlace<'_>>,
-) -> Option<Refusal> {
-    match (fault, place?) {
+) -> Option<Refusal>
+    ensures { TellsBookReason place.entry because.now.reason result }
+{
+    match (because.error, place?) {
+        (_, BookPlace::Book(_)) => refusal::of_reason(because.reason),
+        (_, BookPlace::HeadCapture(_)) => refusal::of_reason(because.reason),
         (Fault::Socket, BookPlace::HeadListen(at)) => refusal::of_address(rt, at),
         (Fault::ListFault, BookPlace::Meters(path)) => refusal::of_file(rt, path),
         (Fault::ImageFault, BookPlace::Image(path)) => refusal::of_file(rt, path),

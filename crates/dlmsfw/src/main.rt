@@ -14,13 +14,14 @@ mod options;
 mod refusal;
 mod streams;
 
-use cause::{BookPlaces, CapturePlace, MeterPlaces};
+use cause::{BookPlaces, MeterPlaces, NamedFile, Place};
 use clap::error::ErrorKind;
 use fw_cli::{
     AnswerOptions, Ended, HeadOptions, LiveOptions, MeterFault, MeterOptions, NameOptions,
     RehearseOptions, ReplayOptions, StatusOptions, StoredOptions, run_answer, run_answer_stored,
     run_head, run_live, run_meter, run_name, run_rehearse, run_replay, run_status, run_trace,
 };
+use fw_disk::{Because, Cause, Name};
 use fw_faults::Fault;
 use options::{CaptureOption, Invocation, TraceOptions};
 use refusal::Refusal;
@@ -49,12 +50,16 @@ const WRONG_COMMAND_LINE: u8 = 2;
 enum Ending<'a> {
     /// A fault of the command.
     Fault(Fault),
-    /// A fault of the capture in this file.
-    Capture(&'a str),
+    /// A fault of the capture of a run in this file, and why it can't be made, if that is known.
+    Capture(&'a str, Option<Cause>),
+    /// A fault of a trace of this file.
+    Trace(Because<Fault>, &'a str),
+    /// A fault of an answer over the store in this file.
+    Answer(Because<Fault>, &'a str),
     /// A fault of a meter with this address, these files and this capacity, or of one of several.
     Meter(MeterFault, MeterPlaces<'a>),
     /// A fault of a head end with this address and these files, or of the book that is read.
-    Book(Fault, BookPlaces<'a>),
+    Book(Because<Fault>, BookPlaces<'a>),
     /// An event of a script was refused, and the command has reported it.
     Refused,
     /// A wrong command line, or one that asks for help or the version.
@@ -154,7 +159,10 @@ fn answer_stored<'a, R: AllocGlobal + Files<File = File> + Input + Print>(
 ) -> Result<(), Ending<'a>> {
     let reader = &mut rt.reader();
     let writer = &mut io::writer(rt);
-    Ok(run_answer_stored(rt, rt.alloc(), reader, writer, &options)?)
+    match run_answer_stored(rt, rt.alloc(), reader, writer, &options) {
+        Ok(()) => Ok(()),
+        Err(because) => Err(Ending::Answer(because, options.file)),
+    }
 }
 
 /// `name`.
@@ -247,7 +255,14 @@ fn trace_to_output<'a, R: AllocGlobal + Files<File = File> + Input + Print>(
 ) -> Result<(), Ending<'a>> {
     let reader = &mut rt.reader();
     let writer = &mut io::writer(rt);
-    Ok(trace(rt, rt.alloc(), reader, writer, &options)?)
+    match (
+        trace(rt, rt.alloc(), reader, writer, &options),
+        options.capture,
+    ) {
+        (Ok(()), _) => Ok(()),
+        (Err(because), Some(path)) => Err(Ending::Trace(because, path)),
+        (Err(because), None) => Err(Ending::Fault(because.error)),
+    }
 }
 
 /// `meter`, until it is ended.
@@ -272,7 +287,7 @@ fn head<'a, R: AllocGlobal + Files<File = File> + Clock + Print + Eprint + Net +
     let writer = &mut io::writer(rt);
     match run_head(rt, rt.alloc(), writer, terminal, options) {
         Ok(()) => Ok(()),
-        Err(fault) => Err(Ending::Book(fault, BookPlaces::of_head(options))),
+        Err(because) => Err(Ending::Book(because, BookPlaces::of_head(options))),
     }
 }
 
@@ -284,7 +299,7 @@ fn status<'a, R: AllocGlobal + Files<File = File> + Print + Eprint>(
     let writer = &mut io::writer(rt);
     match run_status(rt, rt.alloc(), writer, &options) {
         Ok(()) => Ok(()),
-        Err(fault) => Err(Ending::Book(fault, BookPlaces::of_status(&options))),
+        Err(because) => Err(Ending::Book(because, BookPlaces::of_status(&options))),
     }
 }
 
@@ -298,14 +313,14 @@ fn created<'a, F: Files<File = File>>(
     };
     match File::create(rt, path) {
         Ok(file) => Ok(Some(file)),
-        Err(_) => Err(Ending::Capture(path)),
+        Err(error) => Err(Ending::Capture(path, Some(Cause::from(error)))),
     }
 }
 
 /// What a run with such a capture ends with.
 fn ending_of<'a>(fault: Fault, to: CaptureOption<'a>) -> Ending<'a> {
     match to.path {
-        Some(path) if fault == Fault::CaptureFault => Ending::Capture(path),
+        Some(path) if fault == Fault::CaptureFault => Ending::Capture(path, None),
         _ => Ending::Fault(fault),
     }
 }
@@ -317,23 +332,27 @@ fn trace<F: Files<File = File>, R: Read, W: Write>(
     reader: &mut R,
     writer: &mut W,
     options: &TraceOptions<'_>,
-) -> Result<(), Fault>
+) -> Result<(), Because<Fault>>
     ensures input { options.now.capture ≡ None → OnOk result (WritesTrace None (R.remaining reader.old) (R.remaining reader.new)
         (W.contents writer.old) (W.contents writer.new)) }
 
     // Where a file is named, standard input isn't read.
     ensures file { IsTrue (is_some options.now.capture) → R.remaining reader.new ≡ R.remaining reader.old }
-    ensures asked { result ≡ Err Fault.CaptureFault → IsTrue (is_some options.now.capture) }
-    ensures silent { IfErr result (λ f. ComesBeforeOutput f → Keeps (W.contents writer.old) (W.contents writer.new)) }
-    ensures faults { IfErr result (λ f. (f ≡ Fault.CaptureFault) ⊎ IsOfTrace f) }
+    ensures asked { IfErr result (λ b. b.error ≡ Fault.CaptureFault → IsTrue (is_some options.now.capture)) }
+    ensures silent { IfErr result (λ b. ComesBeforeOutput b.error → Keeps (W.contents writer.old) (W.contents writer.new)) }
+    ensures reason { IfErr result (λ b. b.error ≡ Fault.CaptureFault → IsTrue (is_some b.reason)) }
+    ensures faults { IfErr result (λ b. (b.error ≡ Fault.CaptureFault) ⊎ IsOfTrace b.error) }
 {
     let Some(path) = options.capture else {
-        return run_trace(alloc, reader, writer);
+        return Ok(run_trace(alloc, reader, writer)?);
     };
-    let Ok(mut file) = File::open(rt, path) else {
-        return Err(Fault::CaptureFault);
-    };
-    run_trace(alloc, &mut file, writer)
+    match File::open(rt, path) {
+        Ok(mut file) => Ok(run_trace(alloc, &mut file, writer)?),
+        Err(error) => {
+            let reason = Cause::from(error).at(Name::Main);
+            Err(Because::of(Fault::CaptureFault, reason))
+        }
+    }
 }
 
 /// The words of the command line, the first of which is the program's name.
@@ -353,16 +372,28 @@ fn report(rt: &(impl Print + Eprint + Net + Files), ending: Ending<'_>) -> ExitC
 {
     match ending {
         Ending::Fault(fault) => fail(rt, fault),
-        Ending::Capture(path) => fail_at(rt, Fault::CaptureFault, Some(CapturePlace(path)), None),
+        Ending::Capture(path, cause) => {
+            let place = Some(Place::Capture(NamedFile::of(path)));
+            fail_at(rt, Fault::CaptureFault, place, cause.map(Refusal::File))
+        }
+        Ending::Trace(because, path) => {
+            let place = cause::trace_place_of(because.error, NamedFile::of(path));
+            let refusal = cause::trace_refusal_of(rt, because.reason, place);
+            fail_at(rt, because.error, place, refusal)
+        }
+        Ending::Answer(because, store) => {
+            let place = cause::answer_place_of(&because, NamedFile::of(store));
+            fail_at(rt, because.error, place, refusal::of_reason(because.reason))
+        }
         Ending::Meter(ended, places) => {
             let place = cause::place_of(ended, places);
-            let refusal = cause::refusal_of(rt, ended.fault, place);
+            let refusal = cause::refusal_of(rt, ended, place);
             fail_at(rt, ended.fault, place, refusal)
         }
-        Ending::Book(fault, places) => {
-            let place = cause::book_place_of(fault, places);
-            let refusal = cause::book_refusal_of(rt, fault, place);
-            fail_at(rt, fault, place, refusal)
+        Ending::Book(because, places) => {
+            let place = cause::book_place_of(&because, places);
+            let refusal = cause::book_refusal_of(rt, &because, place);
+            fail_at(rt, because.error, place, refusal)
         }
         Ending::Refused => ExitCode::from(FAULT),
         Ending::CommandLine(error) => report_parse(rt, error),
@@ -390,8 +421,7 @@ fn report_parse(rt: &(impl Print + Eprint + Net), error: clap::Error) -> ExitCod
     }
 }
 
-/// Prints the name of a fault of a meter or a head end, and on a second line the option that it is about, with why the system refuses that, if it
-/// does. Returns its exit status.
+/// Prints the name of a fault, and on a second line the option that it is about, with why that is refused, if it is known. Returns its exit status.
 fn fail_at<P: Display + Drop>(
     rt: &impl Eprint,
     fault: Fault,

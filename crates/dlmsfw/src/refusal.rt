@@ -1,8 +1,10 @@
-//! Why the system refuses an address or a file. It is asked once more after the command has ended, when all that the command had open is closed.
+//! Why an address or a file is refused. Where the command doesn't say it, the system is asked once more after it has ended, when all that it had
+//! open is closed.
 
 ghost use Rattle.std.specs.Prelude.{◌≡◌};
-ghost use Rattle.dlmsfw.specs.Refusals.{refusal_of};
+ghost use Rattle.dlmsfw.specs.Refusals.{reason_told, refusal_of};
 
+use fw_disk::{Cause, Reason};
 use std::io::ErrorKind;
 use std::net::{Net, SocketAddr, UdpSocket};
 use std::rt::Files;
@@ -11,7 +13,7 @@ use std::{fmt, fs, io};
 /// The error numbers of Linux that say that a process, or the system, has as many open files as it may.
 const TOO_MANY: [i32; 2] = [24, 23];
 
-/// Why the system refuses an address or a file. It prints what the user reads behind the option that has it.
+/// Why an address or a file is refused. It prints what the user reads behind the option that has it.
 #[derive(Clone, Copy)]
 pub(crate) enum Refusal {
     /// Another socket has the address.
@@ -20,16 +22,12 @@ pub(crate) enum Refusal {
     NoAddress,
     /// The port would be above 65,535.
     NoPort,
-    /// The user may not have it.
-    NoRight,
-    /// There is no such file, or no such folder.
-    NoFile,
-    /// It is a folder, and no file.
-    IsFolder,
-    /// A process may not have that number of open files.
-    TooManyFiles,
-    /// Another cause, as the system names it.
+    /// A process may not have that number of sockets.
+    TooManySockets,
+    /// Another cause of an address, as the system names it.
     Other(ErrorKind),
+    /// A cause that files have.
+    File(Cause),
 }
 
 impl fmt::Display for Refusal {
@@ -38,38 +36,44 @@ impl fmt::Display for Refusal {
             Refusal::InUse => "it is in use",
             Refusal::NoAddress => "this machine has no such address",
             Refusal::NoPort => "there is no such port",
-            Refusal::NoRight => "the right to do so is missing",
-            Refusal::NoFile => "there is no such file or folder",
-            Refusal::IsFolder => "it is a folder",
-            Refusal::TooManyFiles => {
+            Refusal::TooManySockets => {
                 "too many files are open; ulimit -n prints how many a process may have"
             }
             Refusal::Other(kind) => return fmt::Display::fmt(kind, f),
+            Refusal::File(cause) => return fmt::Display::fmt(cause, f),
         })
     }
 }
 
 impl Refusal {
-    /// Why the system refuses what gave this error.
+    /// Why the system refuses the address that gave this error.
     fn of(error: &io::Error) -> Refusal {
         match error.raw_os_error() {
-            Some(number) if TOO_MANY.contains(&number) => Refusal::TooManyFiles,
+            Some(number) if TOO_MANY.contains(&number) => Refusal::TooManySockets,
             _ => Refusal::of_kind(error.kind()),
         }
     }
 
-    /// Why it refuses what gave an error of this kind.
+    /// Why it refuses the address that gave an error of this kind.
     fn of_kind(kind: ErrorKind) -> Refusal
         ensures { result ≡ refusal_of kind }
     {
         match kind {
             ErrorKind::AddrInUse => Refusal::InUse,
             ErrorKind::AddrNotAvailable => Refusal::NoAddress,
-            ErrorKind::PermissionDenied => Refusal::NoRight,
-            ErrorKind::NotFound => Refusal::NoFile,
-            ErrorKind::IsADirectory => Refusal::IsFolder,
+            ErrorKind::PermissionDenied => Refusal::File(Cause::NoRight),
             other => Refusal::Other(other),
         }
+    }
+}
+
+/// Why a file was refused, if the command says it.
+pub(crate) fn of_reason(reason: Option<Reason>) -> Option<Refusal>
+    ensures { result ≡ reason_told reason }
+{
+    match reason {
+        Some(reason) => Some(Refusal::File(reason.cause)),
+        None => None,
     }
 }
 
@@ -94,18 +98,18 @@ pub(crate) fn of_addresses(net: &impl Net, first: SocketAddr, number: u32) -> Op
     }
     match of_address(net, at) {
         Some(refusal) => Some(refusal),
-        None => Some(Refusal::TooManyFiles),
+        None => Some(Refusal::TooManySockets),
     }
 }
 
 /// Why a file can't be read, if it can't be opened now. What is no file and no folder isn't opened, since that may wait or take bytes away.
 pub(crate) fn of_file(files: &impl Files, path: &str) -> Option<Refusal> {
     match fs::metadata(files, path) {
-        Err(error) => Some(Refusal::of(&error)),
-        Ok(about) if about.is_dir() => Some(Refusal::IsFolder),
+        Err(error) => Some(Refusal::File(Cause::from(error))),
+        Ok(about) if about.is_dir() => Some(Refusal::File(Cause::IsFolder)),
         Ok(about) if about.is_file() => match fs::open(files, path) {
             Ok(_opened) => None,
-            Err(error) => Some(Refusal::of(&error)),
+            Err(error) => Some(Refusal::File(Cause::from(error))),
         },
         Ok(_) => None,
     }

@@ -1,11 +1,15 @@
 -- Public vocabulary: the commands `head` and `status`: the faults that `head` has when, and the report and the faults of `status`.
-use Rattle.std.specs.Prelude.{◌≡◌, ◌⊎◌, ℕ, List, [], ◌++◌, Some, Bool, true, false, IsTrue, is_some, filter, flat_map, length, map, codes, decimal}
+use Rattle.std.specs.Prelude.{◌≡◌, ◌≢◌, ◌⊎◌, ℕ, List, [], ◌++◌, Option, None, Some, Bool, true, false, IsTrue, is_some, filter, flat_map, length, map, codes, decimal}
 use Rattle.serde_json.specs.Data.{Data, array, object, member, no_members}
 use Rattle.serde_json.specs.View.{items_of}
 use Rattle.serde_json.specs.Written.{compact_text}
 use Rattle.fw_book.specs.declared.row.RowState.{RowState}
 use Rattle.fw_book.specs.declared.row.RowState.TheVariants as state
 use Rattle.fw_book.specs.Contents.{Contents}
+use Rattle.fw_disk.specs.declared.cause.Cause.{Cause}
+use Rattle.fw_disk.specs.declared.cause.Cause.TheVariants.{Missing}
+use Rattle.fw_disk.specs.declared.reason.Reason.{Reason}
+use Rattle.fw_disk.specs.declared.name.Name.TheVariants.{Main}
 use Rattle.fw_journal.specs.Book.{Stands}
 use Rattle.fw_kept.specs.Kept.{HasBook}
 use Rattle.fw_faults.specs.declared.fault.Fault.{Fault}
@@ -122,12 +126,22 @@ IsOfStop Full = Unit {0}
 IsOfStop OutOfMemory = Unit {0}
 IsOfStop fault = ⊥
 
+-- of `status`, once the book is read
+abbrev pub IsOfReport : Fault → Type 0
+IsOfReport (BadBook offset) = Unit {0}
+IsOfReport (BadRecord index) = Unit {0}
+IsOfReport Output = Unit {0}
+IsOfReport OutOfMemory = Unit {0}
+IsOfReport fault = ⊥
+
 -- of `status`
 abbrev pub IsOfStatus : Fault → Type 0
 IsOfStatus NoBook = Unit {0}
 IsOfStatus BookFault = Unit {0}
-IsOfStatus (BadBook offset) = Unit {0}
-IsOfStatus (BadRecord index) = Unit {0}
-IsOfStatus Output = Unit {0}
-IsOfStatus OutOfMemory = Unit {0}
-IsOfStatus fault = ⊥
+IsOfStatus fault = IsOfReport fault
+
+-- A book that isn't read has a reason: no file is there, or another cause of the system's. No other fault of `status` has one.
+abbrev pub SaysWhy : Fault → Option Reason → Type 0
+SaysWhy NoBook reason = reason ≡ Some (record { name = Main; cause = Missing })
+SaysWhy BookFault reason = (cause : Cause) × (cause ≢ Missing) × (reason ≡ Some (record { name = Main; cause = cause }))
+SaysWhy fault reason = reason ≡ None

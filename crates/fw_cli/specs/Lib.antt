@@ -15,3 +15,4 @@ pub mod Laws
 pub mod Private
 pub mod Fleets
 pub mod Judging
+pub mod Reasons

@@ -13,12 +13,13 @@ ghost use Rattle.std.specs.Prelude.{
   IfOk,
   IsErr,
   IsTrue,
+  OnOk,
   MatchOption,
   None,
   Some,
   is_some,
 };
-ghost use Rattle.std.specs.Io.KnownBytes.{Keeps};
+ghost use Rattle.std.specs.Io.KnownBytes.{Appends, Keeps};
 ghost use Rattle.std.specs.Net.Socket.{socket_port};
 ghost use Rattle.fw_store.specs.Setup.{IsSetup};
 ghost use Rattle.fw_store.specs.declared.version.HeaderVersion.TheVariants.{Two};
@@ -28,9 +29,11 @@ ghost use Rattle.fw_host.specs.Captures.{IsOfCapture};
 ghost use Rattle.fw_host.specs.Meters.{IsOfSetup, IsOfStore, default_factory, listening_line};
 ghost use Rattle.fw_cli.specs.declared.fleet.Member.{Member};
 
+use crate::capture_file::{CaptureFile, closing, failure_of};
 use crate::judged::{Judge, Judged};
-use crate::meter::{Listening, MeterFault, MeterOptions, Teller, closing_fault, opened_capture};
+use crate::meter::{Listening, MeterFault, MeterOptions, Teller, strangers_of};
 use fw_daemon::{Dropped, MeterDaemon, Watch, step};
+use fw_disk::Because;
 use fw_faults::{Fault, write_text};
 use fw_host::{CapturePort, Strangers, listening_line};
 use fw_names::ImageName;
@@ -74,7 +77,7 @@ impl Member {
         rt: &C,
         alloc: Global,
         strangers: &mut Strangers,
-        capture: Option<&File>,
+        capture: Option<&mut CaptureFile>,
     ) -> Result<Option<ImageName>, HasFailed> {
         let mut port = CapturePort::of_meter(
             rt,
@@ -97,6 +100,8 @@ struct Fleet {
     members: Vec<Member>,
     /// The strangers to each of them, who have one capture.
     strangers: Strangers,
+    /// The file of that, where one is asked for.
+    capture: Option<CaptureFile>,
     dropped: Dropped,
     faults: u64,
 }
@@ -121,11 +126,11 @@ pub(crate) fn serve_fleet<R: Files<File = File> + Clock + Net + Wait, W: Write>(
 {
     let ports = ports_of(rt, alloc, options.listen, count)?;
     let sites = sites_of(rt, alloc, options, ports, count)?;
-    let file = opened_capture(rt, alloc, options.capture)?;
+    let file = CaptureFile::opened(rt, alloc, options.capture)?;
     let members = members_of(rt, alloc, options, sites, count)?;
     match serve_members(rt, alloc, writer, members, file, options) {
         Ok(()) => Ok(()),
-        Err(fault) => Err(MeterFault::from(fault)),
+        Err(because) => Err(MeterFault::from(because)),
     }
 }
 
@@ -135,30 +140,30 @@ fn serve_members<R: Files<File = File> + Clock + Wait, W: Write>(
     alloc: Global,
     writer: &mut W,
     members: Vec<Member>,
-    file: Option<File>,
+    file: Option<CaptureFile>,
     options: &MeterOptions<'_>,
-) -> Result<(), Fault>
+) -> Result<(), Because<Fault>>
     ensures ends { IsErr result }
-    ensures silent { IfErr result (λ f. f ≢ Fault.Socket → f ≢ Fault.Output → f ≢ Fault.CaptureFault
+    ensures silent { IfErr result (λ b. b.error ≢ Fault.Socket → b.error ≢ Fault.Output → b.error ≢ Fault.CaptureFault
         → Keeps (W.contents writer.old) (W.contents writer.new)) }
-    ensures asked { IfErr result (λ f. IsOfCapture f → IsTrue (is_some options.now.capture)) }
-    ensures faults { IfErr result IsOfServing }
+    ensures asked { IfErr result (λ b. IsOfCapture b.error → IsTrue (is_some options.now.capture)) }
+    ensures faults { IfErr result (λ b. IsOfServing b.error) }
 {
-    let capture = options.capture;
     let mut fleet = Fleet {
         members,
-        strangers: Strangers::of_meter(alloc, &options.heads, options.captures_strangers)?,
+        strangers: strangers_of(alloc, &options.heads, options.captures_strangers)?,
+        capture: file,
         dropped: Dropped {
             strangers: 0,
             unserved: 0,
         },
         faults: 0,
     };
-    let lines = listening_lines(alloc, &fleet.members)?;
-    write_text(writer, lines.as_str())?;
+    tell_members(alloc, writer, &fleet.members)?;
     let mut teller = Teller::new(rt, alloc, writer);
-    let has_failed = fleet.serve(rt, alloc, file.as_ref(), &mut teller);
-    Err(closing_fault(capture, has_failed))
+    let has_failed = fleet.serve(rt, alloc, &mut teller);
+    let cause = failure_of(fleet.capture.as_ref());
+    Err(closing(options.capture, has_failed, cause))
 }
 
 /// The ports of meters of the numbers from 1 to this one.
@@ -177,7 +182,7 @@ fn ports_of<N: Net>(
         let number = before + 1;
         let port = match numbered_port(net, first, number) {
             Ok(port) => port,
-            Err(fault) => return Err(MeterFault::of_meter(fault, number)),
+            Err(fault) => return Err(MeterFault::of_meter(Because::from(fault), number)),
         };
         if ports.push(port).is_err() {
             return Err(MeterFault::from(Fault::OutOfMemory));
@@ -218,7 +223,7 @@ fn sites_of<F: Files<File = File>>(
         let number = before + 1;
         let judged = match numbered_meter(rt, alloc, options.store, &mut judge, number) {
             Ok(judged) => judged,
-            Err(fault) => return Err(MeterFault::of_meter(fault, number)),
+            Err(because) => return Err(MeterFault::of_meter(because, number)),
         };
         if sites.push(Site { port, judged }).is_err() {
             return Err(MeterFault::from(Fault::OutOfMemory));
@@ -235,19 +240,21 @@ fn numbered_meter<F: Files<File = File>>(
     store: &str,
     judge: &mut Judge<'_>,
     number: u32,
-) -> Result<Judged, Fault>
+) -> Result<Judged, Because<Fault>>
     ensures fresh { judge.new.fresh ≡ judge.old.fresh }
-    ensures bad_setup { judge.old.fresh.factory_file ≡ None → result ≡ Err Fault.BadSetup
-        → ¬ IsSetup Two judge.old.fresh.block_size judge.old.fresh.capacity default_factory }
-    ensures faults { IfErr result IsOfSetup }
+    ensures bad_setup { judge.old.fresh.factory_file ≡ None → IfErr result (λ b. b.error ≡ Fault.BadSetup
+        → ¬ IsSetup Two judge.old.fresh.block_size judge.old.fresh.capacity default_factory) }
+    ensures faults { IfErr result (λ b. IsOfSetup b.error) }
 {
     let path = numbered_path(alloc, store, number)?;
     judge.meter(rt, alloc, path.as_str())
 }
 
 /// The path of the file of the meter of this number.
-fn numbered_path(alloc: Global, store: &str, number: u32) -> Result<String, AllocError> {
-    format!(in alloc; "{store}.{number}")
+fn numbered_path(alloc: Global, store: &str, number: u32) -> Result<String, Fault>
+    ensures faults { IfErr result (λ f. f ≡ Fault.OutOfMemory) }
+{
+    Ok(format!(in alloc; "{store}.{number}")?)
 }
 
 /// The judged meters of the numbers from 1 to this one, of which each that has no file gets one.
@@ -269,7 +276,7 @@ fn members_of<F: Files<File = File>>(
         let number = before + 1;
         let member = match new_member(rt, alloc, options, site, number) {
             Ok(member) => member,
-            Err(fault) => return Err(MeterFault::of_meter(fault, number)),
+            Err(because) => return Err(MeterFault::of_meter(because, number)),
         };
         if members.push(member).is_err() {
             return Err(MeterFault::from(Fault::OutOfMemory));
@@ -286,14 +293,14 @@ fn new_member<F: Files<File = File>>(
     options: &MeterOptions<'_>,
     site: Site,
     number: u32,
-) -> Result<Member, Fault>
-    ensures faults { IfErr result (λ f. (f ≡ Fault.OutOfMemory) ⊎ IsOfStore f) }
+) -> Result<Member, Because<Fault>>
+    ensures faults { IfErr result (λ b. (b.error ≡ Fault.OutOfMemory) ⊎ IsOfStore b.error) }
 {
     let Site {
         port: Listening { port, at },
         judged,
     } = site;
-    let heads = Vec::from_slice(alloc, &options.heads)?;
+    let heads = heads_of(alloc, options)?;
     let path = numbered_path(alloc, options.store, number)?;
     let meter = judged.made(rt, path.as_str())?;
     Ok(Member {
@@ -301,6 +308,13 @@ fn new_member<F: Files<File = File>>(
         at,
         daemon: MeterDaemon::new(meter, heads),
     })
+}
+
+/// The addresses that may ask a meter.
+fn heads_of(alloc: Global, options: &MeterOptions<'_>) -> Result<Vec<SocketAddr>, Fault>
+    ensures faults { IfErr result (λ f. f ≡ Fault.OutOfMemory) }
+{
+    Ok(Vec::from_slice(alloc, &options.heads)?)
 }
 
 /// The address that the meter of this number receives at, if there is such a port: as many ports after that of the first meter as there are
@@ -322,6 +336,17 @@ fn address_of(first: SocketAddr, number: u32) -> Option<SocketAddr>
     }
 }
 
+/// Writes at which addresses these meters receive datagrams.
+fn tell_members<W: Write>(alloc: Global, writer: &mut W, members: &[Member]) -> Result<(), Fault>
+    ensures written { OnOk result (Appends (W.contents writer.old) (W.contents writer.new)
+        (flat_map (λ (member : Member). listening_line member.at) members.now)) }
+    ensures silent { IfErr result (λ f. f ≢ Fault.Output → Keeps (W.contents writer.old) (W.contents writer.new)) }
+    ensures faults { IfErr result (λ f. (f ≡ Fault.Output) ⊎ (f ≡ Fault.OutOfMemory)) }
+{
+    let lines = listening_lines(alloc, members)?;
+    write_text(writer, lines.as_str())
+}
+
 /// The lines that tell at which addresses datagrams are received.
 fn listening_lines(alloc: Global, members: &[Member]) -> Result<String, AllocError>
     ensures { IfOk result (λ lines. string_bytes lines ≡ flat_map (λ (member : Member). listening_line member.at) members.now) }
@@ -336,15 +361,9 @@ fn listening_lines(alloc: Global, members: &[Member]) -> Result<String, AllocErr
 
 impl Fleet {
     /// Rounds of all meters, until the port of one is closed. It returns whether that was since its capture couldn't be written.
-    fn serve<R: Clock + Wait, W: Watch>(
-        &mut self,
-        rt: &R,
-        alloc: Global,
-        capture: Option<&File>,
-        watch: &mut W,
-    ) -> bool {
+    fn serve<R: Clock + Wait, W: Watch>(&mut self, rt: &R, alloc: Global, watch: &mut W) -> bool {
         for _ in rt.forever() {
-            if let Err(HasFailed(has_failed)) = self.round(rt, alloc, capture, watch) {
+            if let Err(HasFailed(has_failed)) = self.round(rt, alloc, watch) {
                 return has_failed;
             }
             thread::sleep(rt, Duration::from_micros(PAUSE));
@@ -357,7 +376,6 @@ impl Fleet {
         &mut self,
         rt: &C,
         alloc: Global,
-        capture: Option<&File>,
         watch: &mut W,
     ) -> Result<(), HasFailed> {
         let mut dropped = Dropped {
@@ -366,6 +384,7 @@ impl Fleet {
         };
         let mut faults: u64 = 0;
         for member in &mut self.members {
+            let capture = self.capture.as_mut();
             let activated = member.step(rt, alloc, &mut self.strangers, capture)?;
             watch.round(activated, self.dropped, self.faults);
             let Dropped {

@@ -1,8 +1,9 @@
 //! The command `head`: a head end whose book is in a file leads meters over UDP to the images that they are offered.
 
-ghost use Rattle.std.specs.Prelude.{◌≡◌, ◌⊎◌, All, IfErr, IfOk, IsTrue, OnOk, false, is_some};
+ghost use Rattle.std.specs.Prelude.{◌≡◌, ◌≢◌, ◌⊎◌, All, IfErr, IfOk, IsTrue, OnOk, false, is_some};
 ghost use Rattle.std.specs.Io.KnownBytes.{Keeps};
 ghost use Rattle.std.specs.Map.{values_of};
+ghost use Rattle.fw_journal.specs.File.{cause_of};
 ghost use Rattle.fw_kept.specs.Head.{book_of, head_of};
 ghost use Rattle.fw_rollout.specs.Daemon.{IsLed, IsOver};
 ghost use Rattle.fw_rollout.specs.Leading.{Leader};
@@ -12,10 +13,13 @@ ghost use Rattle.fw_host.specs.Heads.{ComesBeforeLines, IsOfHead, IsOfHeadSetup,
 ghost use Rattle.fw_book.specs.Changes.{empty_book};
 ghost use Rattle.fw_cli.specs.Judging.{IsJudged};
 ghost use Rattle.fw_cli.specs.Heads.{IsAskedFor, IsOfCancelling, IsOfList, IsOfOpening, IsOfOpeningSetup, IsOfStop};
+ghost use Rattle.fw_cli.specs.Reasons.{reason_of};
 
-use crate::meter::{Listening, RecordedPort, closing_fault, opened_capture, tell_listening};
+use crate::capture_file::{CaptureFile, closing, failure_of, reason_of};
+use crate::meter::{Listening, RecordedPort, tell_listening};
 use fw_blocks::Width;
 use fw_book::{Book, BookError};
+use fw_disk::Because;
 use fw_faults::{Fault, Reads, read_input, write_text};
 use fw_host::{
     BookOptions, CapturePort, HeadProgress, Opening, Part, Strangers, UdpHeadPort, cancel,
@@ -27,7 +31,7 @@ use fw_kept::KeptHead;
 use fw_names::{CampaignId, HeadId};
 use fw_port::UdpPort;
 use fw_rollout::{HeadDaemon, Listed, MeterList, Stop, Timing, serve_head};
-use std::alloc::{AllocError, Global};
+use std::alloc::Global;
 use std::fs::File;
 use std::io::Write;
 use std::net::{Net, SocketAddr};
@@ -80,6 +84,8 @@ pub struct HeadOptions<'a> {
 ///
 /// # Errors
 ///
+/// With a fault of a file stands why it was refused, if that is known.
+///
 /// - `ListFault`: the list can't be read. `BadList`: this line is none of a list.
 /// - `ImageFault`: the image can't be read. `OpenRefused` with `ImageTooLong`: it has more than 64 MiB.
 /// - `BadSetup`: the campaigns that are opened need greater serial numbers than there are, or begin at 0, which is none.
@@ -103,12 +109,12 @@ pub fn run_head<R: Files<File = File> + Clock + Eprint + Net + Wait, W: Write, E
     writer: &mut W,
     terminal: Option<&E>,
     options: &HeadOptions<'_>,
-) -> Result<(), Fault>
+) -> Result<(), Because<Fault>>
     // Where it stays, it ends by a fault alone.
     ensures stays { OnOk result (options.now.stays ≡ false) }
-    ensures silent { IfErr result (λ f. ComesBeforeLines f → Keeps (W.contents writer.old) (W.contents writer.new)) }
-    ensures asked { IfErr result (IsAskedFor options.now) }
-    ensures faults { IfErr result IsOfHead }
+    ensures silent { IfErr result (λ b. ComesBeforeLines b.error → Keeps (W.contents writer.old) (W.contents writer.new)) }
+    ensures asked { IfErr result (λ b. IsAskedFor options.now b.error) }
+    ensures faults { IfErr result (λ b. IsOfHead b.error) }
 {
     let Ready {
         port,
@@ -120,22 +126,53 @@ pub fn run_head<R: Files<File = File> + Clock + Eprint + Net + Wait, W: Write, E
     let strangers = strangers_of(alloc, options, asked.list.meters())?;
     tell_listening(alloc, writer, at)?;
     begin(alloc, writer, &mut kept, asked.opened.take(), options)?;
-    let mut daemon = HeadDaemon::new(alloc, kept, &asked.list, options.timing)?;
-    lead(
+    let mut daemon = daemon_of(alloc, kept, &asked.list, options)?;
+    let port = RecordedPort {
+        port,
+        at,
+        strangers,
+        file,
+        capture: options.capture,
+    };
+    match lead(
         rt,
         alloc,
         writer,
         terminal,
-        RecordedPort {
-            port,
-            at,
-            strangers,
-            file,
-            capture: options.capture,
-        },
+        port,
         &mut daemon,
         options.stays,
-    )
+    ) {
+        Ok(()) => Ok(()),
+        Err(because) => Err(of_book(because, daemon.device())),
+    }
+}
+
+/// The daemon of a head end that asks the meters of this list.
+fn daemon_of(
+    alloc: Global,
+    kept: KeptHead<FileDevice>,
+    list: &MeterList,
+    options: &HeadOptions<'_>,
+) -> Result<HeadDaemon<FileDevice>, Fault>
+    ensures faults { IfErr result (λ f. f ≡ Fault.OutOfMemory) }
+{
+    Ok(HeadDaemon::new(alloc, kept, list, options.timing)?)
+}
+
+/// A fault of a head end whose book is on this device. A fault of the book gets the cause of the device.
+fn of_book(because: Because<Fault>, device: &FileDevice) -> Because<Fault>
+    ensures fault { result.error ≡ because.error }
+    ensures book { because.error ≡ Fault.BookFault → result.reason ≡ reason_of (cause_of device.now) }
+    ensures others { because.error ≢ Fault.BookFault → result.reason ≡ because.reason }
+{
+    match because.error {
+        Fault::BookFault => Because {
+            error: Fault::BookFault,
+            reason: reason_of(device.cause()),
+        },
+        _ => because,
+    }
 }
 
 /// The strangers to a head end whose meters these are. Without a capture nobody has to know them.
@@ -143,9 +180,11 @@ fn strangers_of(
     alloc: Global,
     options: &HeadOptions<'_>,
     list: &[Listed],
-) -> Result<Strangers, AllocError> {
+) -> Result<Strangers, Fault>
+    ensures faults { IfErr result (λ f. f ≡ Fault.OutOfMemory) }
+{
     if options.capture.is_some() {
-        Strangers::of_head(alloc, list, options.captures_strangers)
+        Ok(Strangers::of_head(alloc, list, options.captures_strangers)?)
     } else {
         Ok(Strangers::none())
     }
@@ -157,7 +196,7 @@ struct Ready {
     port: UdpPort,
     at: SocketAddr,
     /// The file of the capture, where one is asked for.
-    file: Option<File>,
+    file: Option<CaptureFile>,
     asked: Asked,
     kept: KeptHead<FileDevice>,
 }
@@ -189,12 +228,12 @@ fn set_up<R: Files<File = File> + Clock + Eprint + Net>(
     rt: &R,
     alloc: Global,
     options: &HeadOptions<'_>,
-) -> Result<Ready, Fault>
+) -> Result<Ready, Because<Fault>>
     ensures opened { IfOk result (λ ready. IsTrue (is_some ready.asked.opened) → IsTrue (is_some options.now.opening)) }
     ensures number { IfOk result (λ ready. (book_of ready.kept).head ≡ options.now.head) }
     ensures addresses { IfOk result (λ ready. All (HasAddress options.now.cancel ready.asked.list) (values_of (head_of ready.kept).rows)) }
-    ensures asked { IfErr result (IsAskedFor options.now) }
-    ensures faults { IfErr result IsOfHeadSetup }
+    ensures asked { IfErr result (λ b. IsAskedFor options.now b.error) }
+    ensures faults { IfErr result (λ b. IsOfHeadSetup b.error) }
 {
     let asked = asked_of(rt, alloc, options)?;
     let Listening { port, at } = Listening::of(UdpPort::bind_for(rt, options.listen, WAIT_LIMIT))?;
@@ -233,7 +272,7 @@ fn asked_of<F: Files<File = File> + Net>(
 #[derive(Drop)]
 struct Led {
     kept: KeptHead<FileDevice>,
-    file: Option<File>,
+    file: Option<CaptureFile>,
 }
 
 /// The head end with its book, which is made last where it is to be new. Each meter that it has to ask is in the list.
@@ -242,12 +281,12 @@ fn led_head<R: Files<File = File> + Clock + Eprint>(
     alloc: Global,
     options: &HeadOptions<'_>,
     asked: &Asked,
-) -> Result<Led, Fault>
+) -> Result<Led, Because<Fault>>
     requires opened { IsTrue (is_some asked.now.opened) → IsTrue (is_some options.now.opening) }
     ensures number { IfOk result (λ led. (book_of led.kept).head ≡ options.now.head) }
     ensures addresses { IfOk result (λ led. All (HasAddress options.now.cancel asked.now.list) (values_of (head_of led.kept).rows)) }
-    ensures asked { IfErr result (IsAskedFor options.now) }
-    ensures faults { IfErr result IsOfHeadSetup }
+    ensures asked { IfErr result (λ b. IsAskedFor options.now b.error) }
+    ensures faults { IfErr result (λ b. IsOfHeadSetup b.error) }
 {
     if options.book.is_new {
         new_head(rt, alloc, options, asked)
@@ -262,17 +301,17 @@ fn old_head<R: Files<File = File> + Clock + Eprint>(
     alloc: Global,
     options: &HeadOptions<'_>,
     asked: &Asked,
-) -> Result<Led, Fault>
+) -> Result<Led, Because<Fault>>
     requires opened { IsTrue (is_some asked.now.opened) → IsTrue (is_some options.now.opening) }
     ensures number { IfOk result (λ led. (book_of led.kept).head ≡ options.now.head) }
     ensures addresses { IfOk result (λ led. All (HasAddress options.now.cancel asked.now.list) (values_of (head_of led.kept).rows)) }
-    ensures asked { IfErr result (IsAskedFor options.now) }
-    ensures faults { IfErr result IsOfHeadSetup }
+    ensures asked { IfErr result (λ b. IsAskedFor options.now b.error) }
+    ensures faults { IfErr result (λ b. IsOfHeadSetup b.error) }
 {
     let kept = kept_head(rt, alloc, options.book, options.head, options.width)?;
     check_addresses(alloc, &kept, asked.list.meters(), options.cancel)?;
     judge(kept.head().view().book, options, asked)?;
-    let file = opened_capture(rt, alloc, options.capture)?;
+    let file = CaptureFile::opened(rt, alloc, options.capture)?;
     Ok(Led { kept, file })
 }
 
@@ -282,13 +321,13 @@ fn new_head<R: Files<File = File> + Clock + Eprint>(
     alloc: Global,
     options: &HeadOptions<'_>,
     asked: &Asked,
-) -> Result<Led, Fault>
+) -> Result<Led, Because<Fault>>
     requires is_new { IsTrue options.now.book.is_new }
     requires opened { IsTrue (is_some asked.now.opened) → IsTrue (is_some options.now.opening) }
     ensures number { IfOk result (λ led. (book_of led.kept).head ≡ options.now.head) }
     ensures addresses { IfOk result (λ led. All (HasAddress options.now.cancel asked.now.list) (values_of (head_of led.kept).rows)) }
-    ensures asked { IfErr result (IsAskedFor options.now) }
-    ensures faults { IfErr result IsOfHeadSetup }
+    ensures asked { IfErr result (λ b. IsAskedFor options.now b.error) }
+    ensures faults { IfErr result (λ b. IsOfHeadSetup b.error) }
 {
     check_absent(rt, options.book.path)?;
     judge(&Book::new(alloc, options.head), options, asked)?;
@@ -301,15 +340,15 @@ fn made_head<R: Files<File = File> + Clock + Eprint>(
     alloc: Global,
     options: &HeadOptions<'_>,
     asked: &Asked,
-) -> Result<Led, Fault>
+) -> Result<Led, Because<Fault>>
     requires is_new { IsTrue options.now.book.is_new }
     requires judged { IsJudged (empty_book options.now.head) options.now asked.now }
     ensures number { IfOk result (λ led. (book_of led.kept).head ≡ options.now.head) }
     ensures addresses { IfOk result (λ led. All (HasAddress options.now.cancel asked.now.list) (values_of (head_of led.kept).rows)) }
-    ensures asked { IfErr result (IsAskedFor options.now) }
-    ensures faults { IfErr result IsOfHeadSetup }
+    ensures asked { IfErr result (λ b. IsAskedFor options.now b.error) }
+    ensures faults { IfErr result (λ b. IsOfHeadSetup b.error) }
 {
-    let file = opened_capture(rt, alloc, options.capture)?;
+    let file = CaptureFile::opened(rt, alloc, options.capture)?;
     let made = kept_head(rt, alloc, options.book, options.head, options.width)?;
     Ok(Led { kept: made, file })
 }
@@ -388,8 +427,26 @@ fn bytes_of_file<F: Files<File = File>>(
     }
 }
 
-/// Cancels the campaign that is to be cancelled first, and opens those that are opened then.
+/// Cancels the campaign that is to be cancelled first, and opens those that are opened then. A fault of the book has the cause of its device.
 fn begin<W: Write>(
+    alloc: Global,
+    writer: &mut W,
+    kept: &mut KeptHead<FileDevice>,
+    opened: Option<Opened>,
+    options: &HeadOptions<'_>,
+) -> Result<(), Because<Fault>>
+    ensures asked { (IsTrue (is_some opened) → IsTrue (is_some options.now.opening))
+        → IfErr result (λ b. IsAskedFor options.now b.error) }
+    ensures faults { IfErr result (λ b. IsOfLeading b.error) }
+{
+    match cancel_and_open(alloc, writer, kept, opened, options) {
+        Ok(()) => Ok(()),
+        Err(fault) => Err(of_book(Because::from(fault), kept.device())),
+    }
+}
+
+/// Cancels the campaign that is to be cancelled first, and opens those that are opened then.
+fn cancel_and_open<W: Write>(
     alloc: Global,
     writer: &mut W,
     kept: &mut KeptHead<FileDevice>,
@@ -455,7 +512,7 @@ fn open_all<W: Write>(
 }
 
 /// Leads the rows to their ends, and writes how many ended how. It returns `Ok` once none is live and all that ended is on the device, and
-/// never where it stays.
+/// never where it stays. Why a book failed the device knows.
 fn lead<R: Clock + Wait, W: Write, E: Eprint, D: JournalDevice + Drop>(
     rt: &R,
     alloc: Global,
@@ -464,29 +521,32 @@ fn lead<R: Clock + Wait, W: Write, E: Eprint, D: JournalDevice + Drop>(
     port: RecordedPort<'_>,
     daemon: &mut HeadDaemon<D>,
     stays: bool,
-) -> Result<(), Fault>
+) -> Result<(), Because<Fault>>
     ensures over { (now : Leader) → IsLed D.honest D.contents D.may_leave daemon.new now → OnOk result (IsOver now) }
     ensures stays { OnOk result (stays ≡ false) }
-    ensures asked { IfErr result (λ f. IsOfCapture f → IsTrue (is_some port.entry.capture)) }
-    ensures faults { IfErr result IsOfStop }
+    ensures asked { IfErr result (λ b. IsOfCapture b.error → IsTrue (is_some port.entry.capture)) }
+    ensures faults { IfErr result (λ b. IsOfStop b.error) }
 {
     let RecordedPort {
         port: mut socket,
         at,
         mut strangers,
-        file,
+        mut file,
         capture,
     } = port;
-    let recorded = CapturePort::of_head(rt, alloc, &mut socket, at, &mut strangers, file);
+    let recorder = file.as_mut();
+    let recorded = CapturePort::of_head(rt, alloc, &mut socket, at, &mut strangers, recorder);
     let mut port = UdpHeadPort::new(rt, alloc, recorded, writer);
     let mut progress = HeadProgress::new(terminal);
-    match serve_head(rt, &mut port, daemon, stays, &mut progress) {
-        Ok(()) => {}
-        Err(Stop::Closed) => return Err(closing_fault(capture, port.has_failed())),
-        Err(stop) => return Err(Fault::from(stop)),
-    }
+    let led = serve_head(rt, &mut port, daemon, stays, &mut progress);
     drop(progress);
+    let has_failed = port.has_failed();
     drop(port);
+    match led {
+        Ok(()) => {}
+        Err(Stop::Closed) => return Err(closing(capture, has_failed, failure_of(file.as_ref()))),
+        Err(stop) => return Err(Because::from(Fault::from(stop))),
+    }
     if let Ok(line) = over_line(alloc, daemon.counts()) {
         let _lost = write_text(writer, line.as_str());
     }

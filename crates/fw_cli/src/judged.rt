@@ -5,6 +5,7 @@ ghost use Rattle.fw_store.specs.Setup.{IsSetup};
 ghost use Rattle.fw_store.specs.declared.version.HeaderVersion.TheVariants.{Two};
 ghost use Rattle.fw_host.specs.Meters.{IsOfNewStore, IsOfSetup, IsOfStore, default_factory};
 
+use fw_disk::Because;
 use fw_faults::Fault;
 use fw_host::{NewMeter, NewStore, found_meter};
 use fw_meter::MeterCore;
@@ -29,8 +30,8 @@ impl Judged {
         self,
         rt: &F,
         path: &str,
-    ) -> Result<MeterCore<FileStore>, Fault>
-        ensures faults { IfErr result IsOfStore }
+    ) -> Result<MeterCore<FileStore>, Because<Fault>>
+        ensures faults { IfErr result (λ b. IsOfStore b.error) }
     {
         match self {
             Judged::Found(meter) => Ok(meter),
@@ -60,19 +61,19 @@ impl<'a> Judge<'a> {
         rt: &F,
         alloc: Global,
         path: &str,
-    ) -> Result<Judged, Fault>
+    ) -> Result<Judged, Because<Fault>>
         ensures fresh { self.new.fresh ≡ self.old.fresh }
-        ensures bad_setup { self.old.fresh.factory_file ≡ None → result ≡ Err Fault.BadSetup
-            → ¬ IsSetup Two self.old.fresh.block_size self.old.fresh.capacity default_factory }
-        ensures faults { IfErr result IsOfSetup }
+        ensures bad_setup { self.old.fresh.factory_file ≡ None → IfErr result (λ b. b.error ≡ Fault.BadSetup
+            → ¬ IsSetup Two self.old.fresh.block_size self.old.fresh.capacity default_factory) }
+        ensures faults { IfErr result (λ b. IsOfSetup b.error) }
     {
         match found_meter(rt, path) {
             Ok(Some(meter)) => Ok(Judged::Found(meter)),
             Ok(None) => match self.new_store(rt, alloc) {
                 Ok(new) => Ok(Judged::New(new)),
-                Err(fault) => Err(fault),
+                Err(fault) => Err(Because::from(fault)),
             },
-            Err(fault) => Err(fault),
+            Err(because) => Err(because),
         }
     }
 

@@ -3,6 +3,7 @@
 
 mod answer;
 mod capture;
+mod capture_file;
 mod fleet;
 mod head;
 mod judged;

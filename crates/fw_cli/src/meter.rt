@@ -1,6 +1,6 @@
 //! The command `meter`: a meter in a file answers datagrams over UDP until it is ended.
 
-ghost use Rattle.std.specs.Prelude.{◌≡◌, ◌≢◌, ◌⊎◌, None, Some, IfErr, IfOk, IsErr, IsTrue, OnErr, OnOk, is_some};
+ghost use Rattle.std.specs.Prelude.{◌≡◌, ◌≢◌, ◌⊎◌, None, Some, IfErr, IsErr, IsTrue, OnOk, is_some};
 ghost use Rattle.std.specs.Io.KnownBytes.{Appends, Keeps};
 ghost use Rattle.fw_store.specs.Setup.{IsSetup};
 ghost use Rattle.fw_store.specs.declared.version.HeaderVersion.TheVariants.{Two};
@@ -8,13 +8,13 @@ ghost use Rattle.fw_cli.specs.Faults.{IsOfMeter, IsOfServing, NamesMeter};
 ghost use Rattle.fw_host.specs.Captures.{IsOfCapture};
 ghost use Rattle.fw_host.specs.Meters.{activated_line, default_factory, dropped_line, listening_line};
 
+use crate::capture_file::{CaptureFile, closing, failure_of};
 use crate::fleet::serve_fleet;
 use crate::judged::Judge;
 use fw_daemon::{Dropped, MeterDaemon, Watch, serve};
+use fw_disk::{Because, Reason};
 use fw_faults::{Fault, write_text};
-use fw_host::{
-    CapturePort, NewMeter, Strangers, activated_line, dropped_line, listening_line, open_capture,
-};
+use fw_host::{CapturePort, NewMeter, Strangers, activated_line, dropped_line, listening_line};
 use fw_names::ImageName;
 use fw_port::{Closed, SocketError, UdpPort};
 use fw_store::FileStore;
@@ -55,28 +55,46 @@ pub struct MeterFault {
     pub fault: Fault,
     /// The number of the meter that couldn't be set up, from 1 on, where there is a count of them.
     pub number: Option<u32>,
+    /// Why its file, or the one of the capture, was refused, if that is known.
+    pub reason: Option<Reason>,
 }
 
 impl MeterFault {
     /// The fault of the meter of this number.
-    pub(crate) fn of_meter(fault: Fault, number: u32) -> MeterFault
-        ensures fault { result.fault ≡ fault }
+    pub(crate) fn of_meter(because: Because<Fault>, number: u32) -> MeterFault
+        ensures fault { result.fault ≡ because.error }
         ensures number { result.number ≡ Some number }
+        ensures reason { result.reason ≡ because.reason }
     {
         MeterFault {
-            fault,
+            fault: because.error,
             number: Some(number),
+            reason: because.reason,
+        }
+    }
+}
+
+impl From<Because<Fault>> for MeterFault {
+    ghost from_gives = { λ because ended. ended ≡ record { fault = because.error; number = None; reason = because.reason } };
+
+    fn from(because: Because<Fault>) -> MeterFault {
+        let Because { error, reason } = because;
+        MeterFault {
+            fault: error,
+            number: None,
+            reason,
         }
     }
 }
 
 impl From<Fault> for MeterFault {
-    ghost from_gives = { λ fault ended. ended ≡ record { fault = fault; number = None } };
+    ghost from_gives = { λ fault ended. ended ≡ record { fault = fault; number = None; reason = None } };
 
     fn from(fault: Fault) -> MeterFault {
         MeterFault {
             fault,
             number: None,
+            reason: None,
         }
     }
 }
@@ -98,7 +116,8 @@ impl From<Fault> for MeterFault {
 ///
 /// # Errors
 ///
-/// It ends by one of these alone, with the number of the meter that couldn't be set up, if there is a count.
+/// It ends by one of these alone, with the number of the meter that couldn't be set up, if there is a count, and with why its file or that
+/// of the capture was refused, if that is known.
 ///
 /// - `Socket`: the address can't be received at, or is past port 65,535. No file was made. Or the socket failed 1,000 times in a row while the
 ///   meter served.
@@ -131,7 +150,7 @@ pub fn run_meter<R: Files<File = File> + Clock + Net + Wait, W: Write>(
         Some(count) => serve_fleet(rt, alloc, writer, &options, count),
         None => match serve_one(rt, alloc, writer, options) {
             Ok(()) => Ok(()),
-            Err(fault) => Err(MeterFault::from(fault)),
+            Err(because) => Err(MeterFault::from(because)),
         },
     }
 }
@@ -142,19 +161,19 @@ fn serve_one<R: Files<File = File> + Clock + Net + Wait, W: Write>(
     alloc: Global,
     writer: &mut W,
     options: MeterOptions<'_>,
-) -> Result<(), Fault>
+) -> Result<(), Because<Fault>>
     ensures ends { IsErr result }
-    ensures bad_setup { options.entry.fresh.factory_file ≡ None → result ≡ Err Fault.BadSetup
-        → ¬ IsSetup Two options.entry.fresh.block_size options.entry.fresh.capacity default_factory }
-    ensures silent { IfErr result (λ f. f ≢ Fault.Socket → f ≢ Fault.Output → f ≢ Fault.CaptureFault
+    ensures bad_setup { options.entry.fresh.factory_file ≡ None → IfErr result (λ b. b.error ≡ Fault.BadSetup
+        → ¬ IsSetup Two options.entry.fresh.block_size options.entry.fresh.capacity default_factory) }
+    ensures silent { IfErr result (λ b. b.error ≢ Fault.Socket → b.error ≢ Fault.Output → b.error ≢ Fault.CaptureFault
         → Keeps (W.contents writer.old) (W.contents writer.new)) }
-    ensures asked { IfErr result (λ f. IsOfCapture f → IsTrue (is_some options.entry.capture)) }
-    ensures faults { IfErr result IsOfMeter }
+    ensures asked { IfErr result (λ b. IsOfCapture b.error → IsTrue (is_some options.entry.capture)) }
+    ensures faults { IfErr result (λ b. IsOfMeter b.error) }
 {
     let Listening { port, at } = Listening::of(UdpPort::bind(rt, options.listen))?;
     let judged = Judge::of(options.fresh).meter(rt, alloc, options.store)?;
-    let strangers = Strangers::of_meter(alloc, &options.heads, options.captures_strangers)?;
-    let file = opened_capture(rt, alloc, options.capture)?;
+    let strangers = strangers_of(alloc, &options.heads, options.captures_strangers)?;
+    let file = CaptureFile::opened(rt, alloc, options.capture)?;
     let meter = judged.made(rt, options.store)?;
     let mut daemon = MeterDaemon::new(meter, options.heads);
     serve_daemon(
@@ -172,13 +191,24 @@ fn serve_one<R: Files<File = File> + Clock + Net + Wait, W: Write>(
     )
 }
 
+/// The strangers to meters that just these addresses may ask, if there is one.
+pub(crate) fn strangers_of(
+    alloc: Global,
+    heads: &[SocketAddr],
+    are_recorded: bool,
+) -> Result<Strangers, Fault>
+    ensures faults { IfErr result (λ f. f ≡ Fault.OutOfMemory) }
+{
+    Ok(Strangers::of_meter(alloc, heads, are_recorded)?)
+}
+
 /// A socket with its address, with those who are strangers to it, and with the file of its capture, where one is asked for.
 #[derive(Drop)]
 pub(crate) struct RecordedPort<'a> {
     pub(crate) port: UdpPort,
     pub(crate) at: SocketAddr,
     pub(crate) strangers: Strangers,
-    pub(crate) file: Option<File>,
+    pub(crate) file: Option<CaptureFile>,
     pub(crate) capture: Option<&'a str>,
 }
 
@@ -189,53 +219,28 @@ fn serve_daemon<R: Files<File = File> + Clock + Wait, W: Write>(
     writer: &mut W,
     port: RecordedPort<'_>,
     daemon: &mut MeterDaemon<FileStore>,
-) -> Result<(), Fault>
+) -> Result<(), Because<Fault>>
     ensures ends { IsErr result }
-    ensures silent { IfErr result (λ f. f ≢ Fault.Socket → f ≢ Fault.Output → f ≢ Fault.CaptureFault
+    ensures silent { IfErr result (λ b. b.error ≢ Fault.Socket → b.error ≢ Fault.Output → b.error ≢ Fault.CaptureFault
         → Keeps (W.contents writer.old) (W.contents writer.new)) }
-    ensures asked { IfErr result (λ f. IsOfCapture f → IsTrue (is_some port.entry.capture)) }
-    ensures faults { IfErr result IsOfServing }
+    ensures asked { IfErr result (λ b. IsOfCapture b.error → IsTrue (is_some port.entry.capture)) }
+    ensures faults { IfErr result (λ b. IsOfServing b.error) }
 {
     let RecordedPort {
         port: mut socket,
         at,
         mut strangers,
-        file,
+        mut file,
         capture,
     } = port;
     tell_listening(alloc, writer, at)?;
     let mut teller = Teller::new(rt, alloc, writer);
-    let mut port = CapturePort::of_meter(rt, alloc, &mut socket, at, &mut strangers, file);
+    let recorder = file.as_mut();
+    let mut port = CapturePort::of_meter(rt, alloc, &mut socket, at, &mut strangers, recorder);
     let Closed = serve(rt, alloc, &mut port, daemon, &mut teller);
-    Err(closing_fault(capture, port.has_failed()))
-}
-
-/// The file of a capture, where one is asked for.
-pub(crate) fn opened_capture<R: Files<File = File> + Clock>(
-    rt: &R,
-    alloc: Global,
-    path: Option<&str>,
-) -> Result<Option<File>, Fault>
-    ensures some { IfOk result (λ file. is_some file ≡ is_some path.entry) }
-    ensures asked { OnErr result (IsTrue (is_some path.entry)) }
-    ensures faults { IfErr result IsOfCapture }
-{
-    match path {
-        None => Ok(None),
-        Some(path) => Ok(Some(open_capture(rt, alloc, path)?)),
-    }
-}
-
-/// Why a port with a capture, where one is asked for, is closed: a record couldn't be written, or the socket failed.
-pub(crate) fn closing_fault(capture: Option<&str>, has_failed: bool) -> Fault
-    ensures asked { IsOfCapture result → IsTrue (is_some capture.entry) }
-    ensures faults { (result ≡ Fault.Socket) ⊎ (result ≡ Fault.CaptureFault) }
-{
-    if has_failed && capture.is_some() {
-        Fault::CaptureFault
-    } else {
-        Fault::Socket
-    }
+    let has_failed = port.has_failed();
+    drop(port);
+    Err(closing(capture, has_failed, failure_of(file.as_ref())))
 }
 
 /// A port, with the address that it has.

@@ -6,19 +6,20 @@ ghost use Rattle.fw_journal.specs.Book.{Drops};
 ghost use Rattle.serde_json.specs.View.{view};
 ghost use Rattle.serde_json.specs.Written.{compact_text};
 ghost use Rattle.fw_report.specs.declared.summary.RowEntry.{RowEntry};
-ghost use Rattle.fw_cli.specs.Heads.{HasRows, IsOfStatus, count_of, counts_line, csv_row, is_in, status_data, status_text};
+ghost use Rattle.fw_cli.specs.Heads.{HasRows, IsOfReport, IsOfStatus, SaysWhy, count_of, counts_line, csv_row, is_in, status_data, status_text};
 
 use fw_book::RowState;
+use fw_disk::{Because, Cause, Name};
 use fw_faults::{Fault, write_text};
-use fw_host::{is_absent, untaken_line};
+use fw_host::untaken_line;
 use fw_kept::read_kept;
 use fw_report::json::push_rows;
 use fw_report::table::{ROW_HEADINGS, append_rows};
 use fw_report::{RowEntry, push_book, state_word};
 use serde_json::{Value, json};
 use std::alloc::{AllocError, Global};
-use std::fs;
 use std::fs::File;
+use std::io;
 use std::io::{ErrorKind, Read, Write};
 use std::rt::Files;
 
@@ -50,7 +51,7 @@ pub struct StatusOptions<'a> {
 ///
 /// # Errors
 ///
-/// - `NoBook`: no file is there. `BookFault`: it can't be read.
+/// - `NoBook`: no file is there. `BookFault`: it can't be read. Each has its reason.
 /// - `BadBook`, `BadRecord`: it holds no book.
 /// - `Output`: the writer failed. What it holds then is unspecified.
 /// - `OutOfMemory`.
@@ -59,19 +60,39 @@ pub fn run_status<F: Files<File = File> + Eprint, W: Write>(
     alloc: Global,
     writer: &mut W,
     options: &StatusOptions<'_>,
-) -> Result<(), Fault>
+) -> Result<(), Because<Fault>>
     // Of the file's contents nothing is known here, so the rows are some.
     ensures ok { OnOk result ((rows : List RowEntry) × Appends (W.contents writer.old) (W.contents writer.new)
         (status_text options.now.report rows)) }
-    ensures silent { IfErr result (λ f. f ≢ Fault.Output → Keeps (W.contents writer.old) (W.contents writer.new)) }
-    ensures faults { IfErr result IsOfStatus }
+    ensures silent { IfErr result (λ b. b.error ≢ Fault.Output → Keeps (W.contents writer.old) (W.contents writer.new)) }
+    ensures reason { IfErr result (λ b. SaysWhy b.error b.reason) }
+    ensures faults { IfErr result (λ b. IsOfStatus b.error) }
 {
     let bytes = bytes_of_book(rt, alloc, options.book)?;
-    let (rows, untaken) = rows_of(alloc, &bytes)?;
+    match tell_status(rt, alloc, writer, &bytes, options.report) {
+        Ok(()) => Ok(()),
+        Err(fault) => Err(Because::from(fault)),
+    }
+}
+
+/// Writes how far each row of the book is that these bytes hold.
+fn tell_status<F: Eprint, W: Write>(
+    rt: &F,
+    alloc: Global,
+    writer: &mut W,
+    bytes: &[u8],
+    report: StatusForm,
+) -> Result<(), Fault>
+    ensures ok { OnOk result ((rows : List RowEntry) × HasRows bytes.now rows
+        × Appends (W.contents writer.old) (W.contents writer.new) (status_text report rows)) }
+    ensures silent { IfErr result (λ f. f ≢ Fault.Output → Keeps (W.contents writer.old) (W.contents writer.new)) }
+    ensures faults { IfErr result IsOfReport }
+{
+    let (rows, untaken) = rows_of(alloc, bytes)?;
     if untaken > 0 {
         tell_untaken(rt, alloc, untaken);
     }
-    let text = status_of(alloc, &rows, options.report)?;
+    let text = status_of(alloc, &rows, report)?;
     write_text(writer, text.as_str())
 }
 
@@ -84,19 +105,36 @@ fn tell_untaken<F: Eprint>(rt: &F, alloc: Global, records: usize) {
 }
 
 /// All bytes of the file of a book.
-fn bytes_of_book<F: Files<File = File>>(rt: &F, alloc: Global, path: &str) -> Result<Vec<u8>, Fault>
-    ensures faults { IfErr result IsOfStatus }
+fn bytes_of_book<F: Files<File = File>>(
+    rt: &F,
+    alloc: Global,
+    path: &str,
+) -> Result<Vec<u8>, Because<Fault>>
+    ensures reason { IfErr result (λ b. SaysWhy b.error b.reason) }
+    ensures faults { IfErr result (λ b. IsOfStatus b.error) }
 {
     let mut file = match File::open(rt, path) {
         Ok(file) => file,
-        Err(_) if is_absent(fs::exists(rt, path)) => return Err(Fault::NoBook),
-        Err(_) => return Err(Fault::BookFault),
+        Err(error) => return Err(refused(error)),
     };
     let mut bytes = Vec::new(alloc);
     match file.read_to_end(&mut bytes) {
         Ok(_) => Ok(bytes),
-        Err(error) if error.kind() == ErrorKind::OutOfMemory => Err(Fault::OutOfMemory),
-        Err(_) => Err(Fault::BookFault),
+        Err(error) => Err(refused(error)),
+    }
+}
+
+/// Why the file of a book can't be opened or read.
+fn refused(error: io::Error) -> Because<Fault>
+    ensures reason { SaysWhy result.error result.reason }
+    ensures faults { IsOfStatus result.error }
+{
+    if error.kind() == ErrorKind::OutOfMemory {
+        return Because::from(Fault::OutOfMemory);
+    }
+    match Cause::from(error) {
+        Cause::Missing => Because::of(Fault::NoBook, Cause::Missing.at(Name::Main)),
+        cause => Because::of(Fault::BookFault, cause.at(Name::Main)),
     }
 }
 
@@ -104,7 +142,7 @@ fn bytes_of_book<F: Files<File = File>>(rt: &F, alloc: Global, path: &str) -> Re
 fn rows_of(alloc: Global, bytes: &[u8]) -> Result<(Vec<RowEntry>, usize), Fault>
     ensures rows { IfOk result (λ r. HasRows bytes.now r.0.items) }
     ensures untaken { IfOk result (λ r. (rest : List ℕ) × Drops bytes.now rest r.1) }
-    ensures faults { IfErr result IsOfStatus }
+    ensures faults { IfErr result IsOfReport }
 {
     let mut rows = Vec::new(alloc);
     let (book, untaken) = read_kept(alloc, bytes)?;

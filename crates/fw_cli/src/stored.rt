@@ -1,6 +1,6 @@
 //! The command `answer --store`: a meter in a file answers datagrams, one a line.
 
-ghost use Rattle.std.specs.Prelude.{◌≡◌, ◌<◌, ◌≤◌, ◌⊎◌, ℕ, List, Some, None, IfOk, IfErr, OnOk};
+ghost use Rattle.std.specs.Prelude.{◌≡◌, ◌≢◌, ◌≤◌, ◌⊎◌, ℕ, Some, None, IfOk, IfErr, OnOk};
 ghost use Rattle.std.specs.Io.KnownBytes.{Keeps};
 ghost use Rattle.fw_image.specs.Meter.{restarted};
 ghost use Rattle.fw_cli.specs.Options.{DescribesOne, DescribesNone};
@@ -8,14 +8,14 @@ ghost use Rattle.fw_faults.specs.Reading.{Gives, ReadsUntil, max_input};
 ghost use Rattle.fw_cli.specs.Faults.{ComesBeforeInput, ComesBeforeOutput, IsOfStoredAnswer};
 ghost use Rattle.fw_cli.specs.Answering.{AnswersOpened};
 
-use crate::answer::{AnswerOptions, describes_one, setup_of};
+use crate::answer::{AnswerOptions, MeterSetup, describes_one, setup_of};
 use crate::serving::serve;
+use fw_disk::Because;
 use fw_faults::Fault;
-use fw_host::{is_absent, opened};
+use fw_host::{NewStore, found_meter};
 use fw_meter::MeterCore;
-use fw_store::{FileStore, FileStoreError, ImageStore};
+use fw_store::FileStore;
 use std::alloc::Global;
-use std::fs;
 use std::fs::File;
 use std::io::{Read, Write};
 use std::rt::Files;
@@ -35,7 +35,9 @@ pub struct StoredOptions<'a> {
 ///
 /// # Errors
 ///
-/// - `StoreFault`: the file can't be made or opened, or another store has it open.
+/// With a fault of the file stands why it was refused, if that is known.
+///
+/// - `StoreFault`: the file can't be made or opened, another store has it open, or FILE.new or FILE.journal is another program's.
 /// - `Device`, which prints `Fault`: the file can't be read, or its header not be written in version 2.
 /// - `BadFile`, `BadHeader` or `BadImage`: the file holds no meter. It is left as it is.
 /// - `BadSetup`: no file is there, and the options describe no meter. No file was made.
@@ -51,94 +53,87 @@ pub fn run_answer_stored<F: Files<File = File>, R: Read, W: Write>(
     reader: &mut R,
     writer: &mut W,
     options: &StoredOptions<'_>,
-) -> Result<(), Fault>
+) -> Result<(), Because<Fault>>
     // Each line is answered, or those before the bad one.
     ensures ok { OnOk result (AnswersOpened None (R.remaining reader.old) (R.remaining reader.new)
         (W.contents writer.old) (W.contents writer.new)) }
-    ensures bad_line { (number : ℕ) → result ≡ Err (Fault.BadLine number)
+    ensures bad_line { (number : ℕ) → IfErr result (λ b. b.error ≡ Fault.BadLine number
         → AnswersOpened (Some number) (R.remaining reader.old) (R.remaining reader.new)
-        (W.contents writer.old) (W.contents writer.new) }
+        (W.contents writer.old) (W.contents writer.new)) }
 
     // No other options are refused.
-    ensures bad_setup { result ≡ Err Fault.BadSetup → DescribesNone options.now.fresh }
-    ensures setup_first { IfErr result (λ f. ComesBeforeInput f → Keeps (R.remaining reader.old) (R.remaining reader.new)) }
+    ensures bad_setup { IfErr result (λ b. b.error ≡ Fault.BadSetup → DescribesNone options.now.fresh) }
+    ensures setup_first { IfErr result (λ b. ComesBeforeInput b.error → Keeps (R.remaining reader.old) (R.remaining reader.new)) }
 
     // Where nothing was read, memory was refused for a meter that the options describe.
-    ensures memory { result ≡ Err Fault.OutOfMemory → DescribesOne options.now.fresh
-        ⊎ Gives (R.remaining reader.old) (R.remaining reader.new) (λ count. (1 ≤ count) × (count ≤ max_input)) }
+    ensures memory { IfErr result (λ b. b.error ≡ Fault.OutOfMemory → DescribesOne options.now.fresh
+        ⊎ Gives (R.remaining reader.old) (R.remaining reader.new) (λ count. (1 ≤ count) × (count ≤ max_input))) }
 
     // How far the reading was.
-    ensures reading { IfErr result (λ f. ReadsUntil f (R.remaining reader.old) (R.remaining reader.new)) }
+    ensures reading { IfErr result (λ b. ReadsUntil b.error (R.remaining reader.old) (R.remaining reader.new)) }
 
-    ensures silent { IfErr result (λ f. ComesBeforeOutput f → Keeps (W.contents writer.old) (W.contents writer.new)) }
-    ensures faults { IfErr result IsOfStoredAnswer }
+    ensures silent { IfErr result (λ b. ComesBeforeOutput b.error → Keeps (W.contents writer.old) (W.contents writer.new)) }
+    ensures faults { IfErr result (λ b. IsOfStoredAnswer b.error) }
 {
     let meter = set_up(rt, alloc, options)?;
-    serve(alloc, meter, reader, writer)
+    match serve(alloc, meter, reader, writer) {
+        Ok(()) => Ok(()),
+        Err(fault) => Err(Because::from(fault)),
+    }
 }
 
-/// The meter in the file, whose header is one of version 2 from then on.
+/// The meter in the file, whose header is one of version 2 from then on. The file is made if none is there.
 fn set_up<F: Files<File = File>>(
     rt: &F,
     alloc: Global,
     options: &StoredOptions<'_>,
-) -> Result<MeterCore<FileStore>, Fault>
+) -> Result<MeterCore<FileStore>, Because<Fault>>
     ensures begins { IfOk result (λ meter. restarted meter.meter ≡ meter.meter) }
     ensures faultless { IfOk result (λ meter. meter.faults ≡ 0) }
-    ensures bad_setup { result ≡ Err Fault.BadSetup → DescribesNone options.now.fresh }
-    ensures memory { result ≡ Err Fault.OutOfMemory → DescribesOne options.now.fresh }
-    ensures faults { IfErr result (λ f. ComesBeforeInput f ⊎ (f ≡ Fault.OutOfMemory)) }
+    ensures bad_setup { IfErr result (λ b. b.error ≡ Fault.BadSetup → DescribesNone options.now.fresh) }
+    ensures memory { IfErr result (λ b. b.error ≡ Fault.OutOfMemory → DescribesOne options.now.fresh) }
+    ensures faults { IfErr result (λ b. ComesBeforeInput b.error ⊎ (b.error ≡ Fault.OutOfMemory)) }
 {
-    let store = open_or_make(rt, alloc, options)?;
-    opened(store)
-}
-
-/// The store in the file, which is made if no file is there.
-fn open_or_make<F: Files<File = File>>(
-    rt: &F,
-    alloc: Global,
-    options: &StoredOptions<'_>,
-) -> Result<FileStore, Fault>
-    ensures faultless { IfOk result (λ store. (⟦<FileStore as ImageStore>⟧.known store).faults ≡ 0) }
-    ensures bad_setup { result ≡ Err Fault.BadSetup → DescribesNone options.now.fresh }
-    ensures memory { result ≡ Err Fault.OutOfMemory → DescribesOne options.now.fresh }
-    ensures faults { IfErr result (λ f. ComesBeforeInput f ⊎ (f ≡ Fault.OutOfMemory)) }
-{
-    match FileStore::reopen(rt, options.file) {
-        Ok(store) => Ok(store),
-        Err(FileStoreError::StoreFault) if is_absent(fs::exists(rt, options.file)) => make(
-            rt, alloc, options,
-        ),
-        Err(error) => Err(Fault::from(error)),
+    match found_meter(rt, options.file) {
+        Ok(Some(meter)) => Ok(meter),
+        Ok(None) => made(rt, alloc, options),
+        Err(because) => Err(because),
     }
 }
 
-/// A new store in a new file. Options that describe no meter are refused before memory is taken.
-fn make<F: Files<File = File>>(
+/// A new meter in a new file.
+fn made<F: Files<File = File>>(
     rt: &F,
     alloc: Global,
     options: &StoredOptions<'_>,
-) -> Result<FileStore, Fault>
-    ensures faultless { IfOk result (λ store. (⟦<FileStore as ImageStore>⟧.known store).faults ≡ 0) }
-    ensures described { OnOk result (DescribesOne options.now.fresh) }
-    ensures bad_setup { result ≡ Err Fault.BadSetup → DescribesNone options.now.fresh }
-    ensures memory { result ≡ Err Fault.OutOfMemory → DescribesOne options.now.fresh }
-    ensures fault { result ≡ Err Fault.StoreFault → DescribesOne options.now.fresh }
-    ensures faults { IfErr result (λ f. (f ≡ Fault.BadSetup) ⊎ ((f ≡ Fault.StoreFault) ⊎ (f ≡ Fault.OutOfMemory))) }
+) -> Result<MeterCore<FileStore>, Because<Fault>>
+    ensures begins { IfOk result (λ meter. restarted meter.meter ≡ meter.meter) }
+    ensures faultless { IfOk result (λ meter. meter.faults ≡ 0) }
+    ensures bad_setup { IfErr result (λ b. b.error ≡ Fault.BadSetup → DescribesNone options.now.fresh) }
+    ensures described { IfErr result (λ b. b.error ≢ Fault.BadSetup → DescribesOne options.now.fresh) }
+    ensures faults { IfErr result (λ b. ComesBeforeInput b.error ⊎ (b.error ≡ Fault.OutOfMemory)) }
 {
-    if !describes_one(&options.fresh) {
+    let new = new_store(alloc, &options.fresh)?;
+    new.meter(rt, options.file)
+}
+
+/// What a new store is made with. Options that describe no meter are refused before memory is taken.
+fn new_store(alloc: Global, options: &AnswerOptions<'_>) -> Result<NewStore, Fault>
+    ensures described { OnOk result (DescribesOne options.now) }
+    ensures bad_setup { result ≡ Err Fault.BadSetup → DescribesNone options.now }
+    ensures memory { result ≡ Err Fault.OutOfMemory → DescribesOne options.now }
+    ensures faults { IfErr result (λ f. (f ≡ Fault.BadSetup) ⊎ (f ≡ Fault.OutOfMemory)) }
+{
+    if !describes_one(options) {
         return Err(Fault::BadSetup);
     }
-    let setup = setup_of(alloc, &options.fresh)?;
-    let made = FileStore::create(
-        rt,
-        options.file,
-        setup.capacity,
-        setup.block_size,
-        &setup.factory,
-    );
-    match made {
-        Ok(store) => Ok(store),
-        Err(error) => Err(Fault::from(error)),
+    let MeterSetup {
+        block_size,
+        capacity,
+        factory,
+    } = setup_of(alloc, options)?;
+    match NewStore::of(block_size, capacity, factory) {
+        Some(new) => Ok(new),
+        None => Err(Fault::BadSetup),
     }
 }

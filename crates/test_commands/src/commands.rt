@@ -335,7 +335,7 @@ fn a_meter_in_a_file(rt: HostRuntime) -> Result<(), Fail> {
     let input = &mut "000100010001000dc001c1001200002c0000ff0600\n".as_bytes();
     let ended = run_answer_stored(&rt, alloc, input, &mut written, &options);
     fs::remove_file(&rt, path.as_path())?;
-    assert!(rt; ended == Ok(()));
+    assert!(rt; ended.is_ok());
     assert!(rt; written.as_slice() == b"0001000100010006c401c1001600\n".as_slice());
     Ok(())
 }

@@ -1,8 +1,10 @@
-//! Meters and head ends that are refused for one of their inputs make no store and no book, over files and sockets of this machine.
+//! Meters and head ends that are refused for one of their inputs make no store and no book, over files and sockets of this machine. If it is for
+//! a file in the way, they say why.
 
 use fw_blocks::Width;
 use fw_book::BookError;
 use fw_cli::{HeadOptions, MeterFault, MeterOptions, run_head, run_meter};
+use fw_disk::{Because, Cause, Name};
 use fw_faults::Fault;
 use fw_host::{BookOptions, NewMeter, Opening};
 use fw_names::HeadId;
@@ -36,14 +38,15 @@ fn place(rt: &HostRuntime, name: &str) -> Result<String, Fail> {
     Ok(String::from_str(rt.alloc(), path.as_str())?)
 }
 
-/// What two meters end with of which the second has no port, and whether the first has a store then.
+/// What two meters end with that receive from this address on, and whether the first has a store then.
 fn two_meters<R: Files<File = File> + Clock + Net + Wait + Eprint>(
     rt: &R,
     alloc: Global,
     store: &str,
-) -> Result<(Fault, bool), Fail> {
+    listen: &str,
+) -> Result<(MeterFault, bool), Fail> {
     let options = MeterOptions {
-        listen: "127.0.0.1:65535".parse::<SocketAddr>()?,
+        listen: listen.parse::<SocketAddr>()?,
         heads: Vec::new(alloc),
         store,
         fresh: NewMeter {
@@ -55,23 +58,42 @@ fn two_meters<R: Files<File = File> + Clock + Net + Wait + Eprint>(
         capture: None,
         captures_strangers: false,
     };
-    let fault = match run_meter(rt, alloc, &mut Vec::new(alloc), options) {
+    let ended = match run_meter(rt, alloc, &mut Vec::new(alloc), options) {
         Ok(()) => return Err(Fail::from("it ends well")),
-        Err(MeterFault { fault, number: _ }) => fault,
+        Err(ended) => ended,
     };
     let first = format!(in alloc; "{store}.1")?;
     let is_made = fs::exists(rt, first.as_str())?;
     if is_made {
         fs::remove_file(rt, first.as_str())?;
     }
-    Ok((fault, is_made))
+    Ok((ended, is_made))
 }
 
+/// The second one has no port.
 #[test]
 fn a_meter_without_a_port_makes_no_store(rt: HostRuntime) -> Result<(), Fail> {
     let store = place(&rt, "fw_cli_refused_meter")?;
-    let (fault, is_made) = two_meters(&rt, rt.alloc(), store.as_str())?;
-    assert!(rt; fault == Fault::Socket);
+    let (ended, is_made) = two_meters(&rt, rt.alloc(), store.as_str(), "127.0.0.1:65535")?;
+    assert!(rt; ended.fault == Fault::Socket);
+    assert!(rt; ended.reason.is_none());
+    assert!(rt; !is_made);
+    Ok(())
+}
+
+/// A folder is FILE.2.new.
+#[test]
+fn a_meter_with_a_folder_in_the_way_says_why(rt: HostRuntime) -> Result<(), Fail> {
+    let store = place(&rt, "fw_cli_meter_in_the_way")?;
+    let folder = format!(in rt.alloc(); "{store}.2.new")?;
+    fs::create_dir(&rt, folder.as_str())?;
+    let ended = two_meters(&rt, rt.alloc(), store.as_str(), "127.0.0.1:0");
+    let removed = fs::remove_dir(&rt, folder.as_str());
+    let (ended, is_made) = ended?;
+    removed?;
+    assert!(rt; ended.fault == Fault::StoreFault);
+    assert!(rt; ended.number == Some(2));
+    assert!(rt; ended.reason == Some(Cause::NotAlone.at(Name::New)));
     assert!(rt; !is_made);
     Ok(())
 }
@@ -83,7 +105,7 @@ fn new_book<R: Files<File = File> + Clock + Net + Wait + Eprint>(
     folder: &str,
     text: &str,
     image: &str,
-) -> Result<(Fault, bool), Fail> {
+) -> Result<(Because<Fault>, bool), Fail> {
     let book = format!(in alloc; "{folder}.book")?;
     let list = format!(in alloc; "{folder}.csv")?;
     let offered = format!(in alloc; "{folder}.image")?;
@@ -106,7 +128,7 @@ fn head_of<'paths, R: Files<File = File> + Clock + Net + Wait + Eprint>(
     book: &'paths str,
     list: &'paths str,
     image: &'paths str,
-) -> Result<Fault, Fail> {
+) -> Result<Because<Fault>, Fail> {
     let (Some(head), Some(width)) = (HeadId::new(7), Width::new(4)) else {
         return Err(Fail::from("there is no head end 7"));
     };
@@ -136,15 +158,15 @@ fn head_of<'paths, R: Files<File = File> + Clock + Net + Wait + Eprint>(
     let terminal: Option<&Silent> = None;
     match run_head(rt, alloc, &mut Vec::new(alloc), terminal, &options) {
         Ok(()) => Err(Fail::from("it ends well")),
-        Err(fault) => Ok(fault),
+        Err(because) => Ok(because),
     }
 }
 
 #[test]
 fn a_head_end_with_a_bad_list_makes_no_book(rt: HostRuntime) -> Result<(), Fail> {
     let place = place(&rt, "fw_cli_bad_list")?;
-    let (fault, is_made) = new_book(&rt, rt.alloc(), place.as_str(), "1\n", "image")?;
-    assert!(rt; fault == Fault::BadList(1));
+    let (because, is_made) = new_book(&rt, rt.alloc(), place.as_str(), "1\n", "image")?;
+    assert!(rt; because.error == Fault::BadList(1));
     assert!(rt; !is_made);
     Ok(())
 }
@@ -152,8 +174,24 @@ fn a_head_end_with_a_bad_list_makes_no_book(rt: HostRuntime) -> Result<(), Fail>
 #[test]
 fn a_head_end_whose_opening_is_refused_makes_no_book(rt: HostRuntime) -> Result<(), Fail> {
     let place = place(&rt, "fw_cli_refused_opening")?;
-    let (fault, is_made) = new_book(&rt, rt.alloc(), place.as_str(), "1,127.0.0.1:9\n", "")?;
-    assert!(rt; fault == Fault::OpenRefused(BookError::EmptyImage));
+    let (because, is_made) = new_book(&rt, rt.alloc(), place.as_str(), "1,127.0.0.1:9\n", "")?;
+    assert!(rt; because.error == Fault::OpenRefused(BookError::EmptyImage));
+    assert!(rt; !is_made);
+    Ok(())
+}
+
+/// A folder is FILE.new.
+#[test]
+fn a_head_end_with_a_folder_in_the_way_says_why(rt: HostRuntime) -> Result<(), Fail> {
+    let place = place(&rt, "fw_cli_head_in_the_way")?;
+    let folder = format!(in rt.alloc(); "{place}.book.new")?;
+    fs::create_dir(&rt, folder.as_str())?;
+    let ended = new_book(&rt, rt.alloc(), place.as_str(), "1,127.0.0.1:9\n", "image");
+    let removed = fs::remove_dir(&rt, folder.as_str());
+    let (because, is_made) = ended?;
+    removed?;
+    assert!(rt; because.error == Fault::BookFault);
+    assert!(rt; because.reason == Some(Cause::NotAlone.at(Name::New)));
     assert!(rt; !is_made);
     Ok(())
 }

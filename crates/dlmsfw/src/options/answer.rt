@@ -36,11 +36,14 @@ prints
 const ENDINGS: &str = "\
 Exit status:
   0  each line was answered
-  1  a fault: standard error has `dlmsfw: NAME`, with one of these names
-       StoreFault    FILE can't be opened or made: another program has it locked, there is no such
-                     folder, FILE is a folder or a link or has a second name, this user may not read
-                     and write it, the disk is full, FILE.journal can't be made beside it, or what is
-                     named FILE.new or FILE.journal isn't the meter's; that stays as it is
+  1  a fault: standard error has `dlmsfw: NAME`, with one of these names. From StoreFault to BadImage a
+     second line has the option --store, and behind it the cause, if that is known, and before that the
+     name of the file beside FILE that is meant: `--store FILE: FILE.new: it is another program's file`
+       StoreFault    FILE can't be opened or made: another process has it, there is no such folder,
+                     FILE is a folder or a link or has a second name, this user may not read and write
+                     it, the disk is full or may only be read, too many files are open, FILE.journal
+                     can't be made beside it, or what is named FILE.new or FILE.journal isn't the
+                     meter's; that stays as it is
        Fault         the disk failed: FILE can't be read, or its header of version 1 can't be written
                      in version 2
        BadFile       FILE hasn't the length that it begins with: it is empty or another program's, or

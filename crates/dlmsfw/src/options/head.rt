@@ -80,7 +80,9 @@ const ENDINGS: &str = "\
 Exit status:
   0  no row is live
   1  a fault: standard error has `dlmsfw: NAME`, with one of these names, and a second line with the
-     option that it is about. Of ListFault, ImageFault and Socket it goes on with `: ` and the cause
+     option that it is about. If the cause is known, it goes on with `: ` and the cause, and before it
+     the name of the file that is meant, if that is the one beside FILE or CAPTURE:
+     `--book FILE: FILE.new: it is another program's file`
        ListFault       LIST can't be opened or read: it isn't there, it is a folder, or this user has no
                        right to it. Or it has more than 64 MiB, without a cause
        BadList L       line L of LIST, counted from 1, has no meter's number and address, or a number
@@ -95,8 +97,10 @@ Exit status:
        BookExists      FILE is there, and --new is given
        Locked          another head end has FILE
        BookFault       FILE can't be made, opened, read or written: there is no such folder, FILE is a
-                       folder, this user may not write it, the disk is full or failed, FILE.dropped is
-                       needed and can't be made, or --new is given and another file is named FILE.new
+                       folder or a link or has a second name, this user may not write it, the disk is
+                       full or failed or may only be read, too many files are open, FILE.dropped is
+                       needed and can't be made, or --new is given and another program's file is named
+                       FILE.new
        BadBook N       the bytes of FILE from offset N on are no book's: they were changed
        BadRecord N     record N of FILE, counted from 0, has no place in a book
        ForeignHead     FILE is the book of another head end than that of --head

@@ -70,16 +70,18 @@ Exit status:
   0  none: a meter has no end of its own
   1  a fault: standard error has `dlmsfw: NAME`, with one of these names, and a second line with the
      option that it is about; with --count, FILE is FILE.K of meter K, which has the fault, and after
-     the address of the first meter stands `, meter K`. Of Socket and FactoryFault the second line goes
-     on with `: ` and the cause
+     the address of the first meter stands `, meter K`. If the cause is known, the second line goes on
+     with `: ` and the cause, and before it the name of the file that is meant, if that is the one
+     beside FILE or CAPTURE: `--store FILE: FILE.new: it is another program's file`
        Socket        datagrams can't be received at --listen: it is in use, this machine has no such
                      address, there is no such port, this user has no right to it, or a process may not
                      have that number of open files; no file was made. Or the socket failed 1000 times
                      in a row later, without a cause
-       StoreFault    FILE can't be opened or made: another program has it locked, there is no such
-                     folder, FILE is a folder or a link or has a second name, this user may not read
-                     and write it, the disk is full, FILE.journal can't be made beside it, or what is
-                     named FILE.new or FILE.journal isn't the meter's; that stays as it is
+       StoreFault    FILE can't be opened or made: another process has it, there is no such folder,
+                     FILE is a folder or a link or has a second name, this user may not read and write
+                     it, the disk is full or may only be read, too many files are open, FILE.journal
+                     can't be made beside it, or what is named FILE.new or FILE.journal isn't the
+                     meter's; that stays as it is
        Fault         the disk failed: FILE can't be read, or its header of version 1 can't be written
                      in version 2
        BadFile       FILE hasn't the length that it begins with: it is empty or another program's, or
@@ -92,8 +94,10 @@ Exit status:
        BadSetup      FILE isn't there, and the factory image is empty or longer than the capacity; the
                      second line has --factory-file where it is given, and else --capacity
        CaptureFault  CAPTURE can't be made, opened or written: another process has it, there is no
-                     such folder, it is a folder, this user may not read and write it, or the disk is
-                     full, as it may be at a later datagram too, which is dropped
+                     such folder, it is a folder or a link or has a second name, this user may not
+                     read and write it, too many files are open, what is named CAPTURE.new is another
+                     program's file, or the disk is full, as it may be at a later datagram too, which
+                     is dropped
        ForeignCapture
                      CAPTURE is there, and isn't a capture that a meter or a head end began, or a
                      packet before its end is damaged; it is left as it is

@@ -130,9 +130,9 @@ Exit status:
        BadSetup      there is no head end or no meter, there are more than 16 head ends or 256 meters,
                      two have the same number, or a width, block, capacity or factory image is out of
                      range; nothing was written
-       CaptureFault  FILE of --capture can't be made or written, which a second line names: there is
-                     no such folder, FILE is a folder, this user may not write it, or the disk is
-                     full; nothing was written to standard output
+       CaptureFault  FILE of --capture can't be made or written, which a second line names, with the
+                     cause if it can't be made: there is no such folder, FILE is a folder, this user
+                     may not write it, or the disk is full; nothing was written to standard output
        Output        standard output can't be written, as on a full disk
        OutOfMemory   the system gives no more memory; nothing was written
   2  a wrong command line: standard error says what is wrong";

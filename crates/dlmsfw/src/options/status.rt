@@ -35,9 +35,11 @@ Example:
 const ENDINGS: &str = "\
 Exit status:
   0  the report was written
-  1  a fault: standard error has `dlmsfw: NAME`, with one of these names, and a second line with the file
+  1  a fault: standard error has `dlmsfw: NAME`, with one of these names, and a second line with the
+     file, and of NoBook and BookFault with the cause behind it
        NoBook       FILE isn't there
-       BookFault    FILE can't be read
+       BookFault    FILE can't be read: it is a folder, this user has no right to it, or too many files
+                    are open
        BadBook N    the bytes of FILE from offset N on are no book's
        BadRecord N  record N of FILE, counted from 0, has no place in a book
        Output       standard output can't be written, as on a full disk

@@ -29,8 +29,10 @@ Example:
 const ENDINGS: &str = "\
 Exit status:
   0  the capture was told
-  1  a fault: standard error has `dlmsfw: NAME`, with one of these names
-       CaptureFault       CAPTURE can't be opened
+  1  a fault: standard error has `dlmsfw: NAME`, with one of these names. If CAPTURE can't be opened or
+     read, a second line has its name, and behind it the cause, if that is known
+       CaptureFault       CAPTURE can't be opened: it isn't there, this user has no right to it, or too
+                          many files are open
        Input              a read of CAPTURE or of standard input failed, as where it is a folder
        TooMuchInput       the capture has more than 64 MiB
        BadCapture F N     its first fault is F, in the record at offset N, or in the file header at 0;

@@ -1,8 +1,10 @@
-use Rattle.std.proofs.Common.{List, sym, subst, refl}
+use Rattle.std.proofs.Common.{rules, List, sym, subst, refl}
 use Rattle.fw_rollout.specs.declared.ended.Ended.{Ended}
+use Rattle.fw_rollout.specs.Counting.{CountsRows}
 use Rattle.fw_rollout.specs.Leading.{IsAboutToTell}
+use Rattle.fw_rollout.proofs.Counted.{told_same}
 use Rattle.fw_rollout.proofs.Steps.{may_save}
-use Rattle.fw_rollout.proofs.Rounds.{at_err, has_led_same, saved}
+use Rattle.fw_rollout.proofs.Rounds.{at_err, follows_none, has_led_same, saved}
 use Rattle.fw_rollout.proofs.serving.tell_saved.Goals as goal
 
 pub tell_all-requires : goal.tell_all-requires
@@ -14,11 +16,36 @@ tell_all-requires g c = λ honest.
       may_save (g.P.Port.legal c.args.port.now) begins.leader made.0 (g.P.Port.acts c.args.port.now) begins.may made.1,
     )
 
-pub returns-clause-leads : goal.returns-clause-leads
-returns-clause-leads g c = λ honest start led rests.
-    let made = c.in_ok-saved.ensures.saves start led rests.told_all in
-    saved _ _ _ c.saved.new.self start made.0 _ _ rests made.1 made.2
-    (c.tell_all.ensures.tells honest made.0 (subst (λ (saved : List Ended). IsAboutToTell made.0 saved) (sym c.deref.ensures.value) made.3))
+pub returns-then-not-is_save_due-clause-leads : goal.returns-then-not-is_save_due-clause-leads
+returns-then-not-is_save_due-clause-leads g c = record {
+  leads = λ honest. follows_none _ _ _ c.args.daemon.now _;
+  leads_err = λ honest start led rests. tt;
+  counts = λ honest. told_same _ _ _ _ refl refl;
+  honesty = refl;
+  law = λ done legal. legal;
+}
 
-pub returns-in_err-saved-clause-leads_err : goal.returns-in_err-saved-clause-leads_err
-returns-in_err-saved-clause-leads_err g c = λ honest start led rests. at_err c.from_residual.result (has_led_same start _ _ refl)
+pub returns-in_err-saved-clause-leads : goal.returns-in_err-saved-clause-leads
+returns-in_err-saved-clause-leads g c = record {
+  leads = λ honest start led rests. search rules;
+  leads_err = λ honest start led rests. at_err c.from_residual.result (has_led_same start _ _ refl);
+  counts = λ honest. told_same _ _ _ _ refl c.in_err-saved.ensures.counts_err;
+  honesty = refl;
+  law = λ done legal. legal;
+}
+
+pub returns-clause-leads : goal.returns-clause-leads
+returns-clause-leads g c = record {
+  leads = λ honest start led rests.
+      let made = c.in_ok-saved.ensures.saves start led rests.told_all in
+      saved _ _ _ c.saved.new.self start made.0 _ _ rests made.1 made.2
+      (c.tell_all.ensures.tells honest made.0 (subst (λ (saved : List Ended). IsAboutToTell made.0 saved) (sym c.deref.ensures.value) made.3));
+  leads_err = λ honest start led rests. tt;
+  counts = λ honest. record {
+    rows = c.deref.result.now;
+    adds = c.tell_all.ensures.told honest;
+    counts = subst (λ (rows : List Ended). CountsRows rows c.args.daemon.now.counts c.saved.new.self.counts) (sym c.deref.ensures.value) c.in_ok-saved.ensures.counts.counts;
+  };
+  honesty = c.tell_all.ensures.honesty;
+  law = c.tell_all.ensures.law;
+}

@@ -1,0 +1,41 @@
+-- What a second line begins with: the option that a fault is about, and of a file beside another its path.
+use Rattle.std.specs.Prelude.{ℕ, List, [], ◌++◌, Option, None, Some, codes, decimal}
+use Rattle.std.specs.Net.Text.{socket_text}
+use Rattle.fw_disk.specs.declared.name.Name.{Name}
+use Rattle.fw_disk.specs.declared.name.Name.TheVariants.{Main, New, Journal}
+use Rattle.dlmsfw.specs.declared.cause.NamedFile.{NamedFile}
+use Rattle.dlmsfw.specs.declared.cause.Place.{Place}
+use Rattle.dlmsfw.specs.declared.cause.Place.TheVariants as place
+use Rattle.dlmsfw.specs.declared.cause.BookPlace.{BookPlace}
+use Rattle.dlmsfw.specs.declared.cause.BookPlace.TheVariants as book
+
+-- what stands behind FILE in the name of one of several meters
+abbrev pub number_text : Option ℕ → List ℕ
+number_text None = []
+number_text (Some number) = codes "." ++ decimal number
+
+-- the path of a file, and that of the one beside it, if that is meant
+abbrev pub beside_text : Name → List ℕ → List ℕ
+beside_text Main path = path
+beside_text New path = path ++ (codes ": " ++ (path ++ codes ".new"))
+beside_text Journal path = path ++ (codes ": " ++ (path ++ codes ".journal"))
+
+abbrev pub file_text : NamedFile → List ℕ
+file_text file = beside_text file.name (file.path.now ++ number_text file.number)
+
+abbrev pub place_text : Place → List ℕ
+place_text (place.Listen address) = codes "--listen " ++ socket_text address
+place_text (place.ListenOf address number) = codes "--listen " ++ (socket_text address ++ (codes ", meter " ++ decimal number))
+place_text (place.Store file) = codes "--store " ++ file_text file
+place_text (place.FactoryFile file) = codes "--factory-file " ++ file.now
+place_text (place.Capacity capacity) = codes "--capacity " ++ decimal capacity
+place_text (place.Capture file) = codes "--capture " ++ file_text file
+
+abbrev pub book_place_text : BookPlace → List ℕ
+book_place_text (book.Book file) = codes "--book " ++ file_text file
+book_place_text (book.HeadListen address) = codes "--listen " ++ socket_text address
+book_place_text (book.Meters file) = codes "--meters " ++ file.now
+book_place_text (book.Image file) = codes "--image " ++ file.now
+book_place_text (book.Open serial) = codes "--open " ++ decimal serial
+book_place_text (book.Cancel serial) = codes "--cancel " ++ decimal serial
+book_place_text (book.HeadCapture file) = codes "--capture " ++ file_text file
