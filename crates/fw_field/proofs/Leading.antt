@@ -8,7 +8,7 @@ use Rattle.fw_rollout.specs.Leading.{Leader, Leading, Step, hears, idles, ticks,
 use Rattle.fw_rollout.specs.declared.link.Listed.{Listed}
 use Rattle.fw_world.specs.World.{Datagram}
 use Rattle.fw_field.specs.Field.{Field, with_leader}
-use Rattle.fw_field.specs.Moves.{Move, step, Comes, MovesLead, GoesOut, WasAnswered, to_head, to_meter, told_by}
+use Rattle.fw_field.specs.Moves.{step, Comes, MovesLead, GoesOut, WasAnswered, to_head, to_meter, told_by}
 use Rattle.fw_rollout.specs.declared.ended.Ended.{Ended}
 use Rattle.fw_field.specs.Laws.{CameToHead, DoesAll, LeadingIsMoves, moves_of}
 use Rattle.fw_field.proofs.Maps.{itself}

@@ -1,4 +1,4 @@
-use Rattle.std.proofs.Common.{rules, ◌≡◌, ◌∷◌, List, take, refl, ap}
+use Rattle.std.proofs.Common.{rules, ◌≡◌, ◌∷◌, Bool, IsTrue, List, take, refl, sym, ap, subst}
 use Rattle.fw_port.specs.Acts.{came, quiet}
 use Rattle.fw_rollout.specs.Acts.{Act}
 use Rattle.fw_rollout.specs.Counting.{told_in}
@@ -55,3 +55,11 @@ returns-clause-leads g c = record {
   honesty = c.receive.ensures.honesty;
   law = c.receive.ensures.law;
 }
+
+-- ---- the time is that of the receive
+
+pub returns-in_default-clause-time : goal.returns-in_default-clause-time
+returns-in_default-clause-time g c = λ honest. c.now.ensures (subst (λ (b : Bool). IsTrue b) (sym c.receive.ensures.honesty) honest)
+
+pub returns-clause-time : goal.returns-clause-time
+returns-clause-time g c = λ honest. c.now-2.ensures (subst (λ (b : Bool). IsTrue b) (sym c.receive.ensures.honesty) honest)

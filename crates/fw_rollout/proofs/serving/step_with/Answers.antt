@@ -1,7 +1,8 @@
-use Rattle.std.proofs.Common.{rules, Bool, IsTrue, sym, subst, ◌∙◌}
+use Rattle.std.proofs.Common.{rules, ◌≡◌, ℕ, Bool, IsTrue, sym, subst, ◌∙◌}
 use Rattle.std.proofs.lemmas.Result.{on_ok_weaker, on_err_weaker}
 use Rattle.fw_rollout.proofs.Counted.{told_on}
-use Rattle.fw_rollout.proofs.Rounds.{at_err, begins_on, has_led_on, joined}
+use Rattle.fw_rollout.specs.Daemon.{NoneDue}
+use Rattle.fw_rollout.proofs.Rounds.{at_err, begins_on, both_ok, has_led_on, joined}
 use Rattle.fw_rollout.proofs.serving.step_with.Goals as goal
 
 pub receive-requires : goal.receive-requires
@@ -22,6 +23,9 @@ tell_saved-requires g c = record {
       begins_on _ _ _ c.send_due.new.daemon c.receive.new.daemon _ _ _ _ second.law
       (begins_on _ _ _ c.args.daemon.now c.send_due.new.daemon _ _ _ _ first.law (c.requires.begins honest) (first.leads honest))
       (second.leads then);
+  time = λ h.
+      let then : IsTrue (g.P.Port.honest c.send_due.new.port) = subst (λ (b : Bool). IsTrue b) c.in_ok-receive.ensures.leads.honesty h in
+      c.in_ok-receive.ensures.time then;
 }
 
 pub returns-in_err-patience-clause-leads : goal.returns-in_err-patience-clause-leads
@@ -79,3 +83,12 @@ returns-clause-leads g c =
       honesty = third.honesty ∙ (second.honesty ∙ first.honesty);
       law = λ done legal. third.law done (second.law done (first.law done legal));
     }
+
+-- ---- what is due is saved
+
+pub returns-clause-saves : goal.returns-clause-saves
+returns-clause-saves g c = λ honest.
+    let then : IsTrue (g.P.Port.honest c.send_due.new.port) = subst (λ (b : Bool). IsTrue b) (sym c.in_ok-patience.ensures.leads.honesty) honest in
+    let last : IsTrue (g.P.Port.honest c.receive.new.port) = subst (λ (b : Bool). IsTrue b) (sym c.in_ok-receive.ensures.leads.honesty) then in
+    both_ok c.tell_saved.result (λ (same : c.tell_saved.new.now ≡ g.P.HeadPort.time c.tell_saved.new.port) saves.
+    subst (λ (now : ℕ). NoneDue g.D.JournalDevice now c.tell_saved.new.daemon) same saves) (c.tell_saved.ensures.time last) c.tell_saved.ensures.saves

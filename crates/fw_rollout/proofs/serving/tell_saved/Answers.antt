@@ -1,4 +1,5 @@
-use Rattle.std.proofs.Common.{rules, List, sym, subst, refl}
+use Rattle.std.proofs.Common.{rules, Bool, IsTrue, List, sym, subst, refl, ◌∙◌}
+use Rattle.std.proofs.lemmas.Bool.{false≢true}
 use Rattle.fw_rollout.specs.declared.ended.Ended.{Ended}
 use Rattle.fw_rollout.specs.Counting.{CountsRows}
 use Rattle.fw_rollout.specs.Leading.{IsAboutToTell}
@@ -49,3 +50,17 @@ returns-clause-leads g c = record {
   honesty = c.tell_all.ensures.honesty;
   law = c.tell_all.ensures.law;
 }
+
+-- ---- what is due is saved
+
+pub returns-then-not-is_save_due-clause-saves : goal.returns-then-not-is_save_due-clause-saves
+returns-then-not-is_save_due-clause-saves g c = λ leader led due. false≢true (sym c.if-is_save_due.false ∙ (c.is_save_due.ensures leader led).1 due)
+
+pub returns-then-not-is_save_due-clause-time : goal.returns-then-not-is_save_due-clause-time
+returns-then-not-is_save_due-clause-time g c = c.requires.time
+
+pub returns-clause-saves : goal.returns-clause-saves
+returns-clause-saves g c = λ leader led due. due.some (led.unsaved ∙ c.in_ok-saved.ensures.emptied)
+
+pub returns-clause-time : goal.returns-clause-time
+returns-clause-time g c = λ honest. c.now.ensures (subst (λ (b : Bool). IsTrue b) (sym c.tell_all.ensures.honesty) honest)
