@@ -2,3 +2,5 @@ pub mod Goings
 mod Steps
 mod Fillings
 mod Reserving
+mod Events
+mod Cutting
