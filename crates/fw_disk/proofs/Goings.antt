@@ -1,5 +1,5 @@
 -- How calls of a folder follow on each other.
-use Rattle.std.proofs.Common.{◌≡◌, inl, inr, ⊎_elim, arith, IsTrue, sym, subst, Ok, Err, Result, OnOk}
+use Rattle.std.proofs.Common.{◌≡◌, inl, inr, ⊎_elim, arith, IsTrue, sym, subst, Ok, Err, Result, OnOk, OnErr}
 use Rattle.fw_disk.specs.Disk.{Disk, Seen, Goes}
 use Rattle.fw_disk.specs.Calls.{Stays}
 
@@ -85,3 +85,7 @@ widen_from R T Q a b goes now lefts wide = λ honest.
 pub on_ok : {T E : Type 0} (result : Result T E) (P Q : Type 0) → (P → Q) → OnOk result P → OnOk result Q
 on_ok (Ok v) P Q follows holds = follows holds
 on_ok (Err e) P Q follows holds = holds
+
+pub on_err : {T E : Type 0} (result : Result T E) (P Q : Type 0) → (P → Q) → OnErr result P → OnErr result Q
+on_err (Ok v) P Q follows holds = holds
+on_err (Err e) P Q follows holds = follows holds

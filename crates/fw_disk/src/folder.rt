@@ -51,7 +51,7 @@ use crate::name::{Found, Name};
 /// - A rename and a removal may leave each name that they touch as before or as after, independently of each other and of all writes,
 ///   until the folder is synced. So what is proved holds in whatever order a disk keeps a rename and the writes before it.
 ///
-/// What other processes do to the folder is not in it. No call takes memory.
+/// What other processes do to the folder is not in it. Only a folder in memory takes memory, and answers `Full` if it is refused.
 pub trait Folder {
     /// An open file, under an exclusive lock, which ends when it is let go.
     type File: Drop;
