@@ -11,7 +11,7 @@ use crate::device::JournalDevice;
 use crate::error::{DeviceError, JournalError, ReplaceError};
 use crate::journal::Journal;
 use crate::replacing::Replacer;
-use fw_disk::{Because, Cause, Name, SystemFolder, begin, finish, open, replace};
+use fw_disk::{Because, Cause, Name, NamingError, SystemFolder, begin, finish, open, replace};
 use std::fs::File;
 use std::io;
 use std::os::unix::fs::FileExt;
@@ -94,6 +94,26 @@ impl FileDevice {
         ensures { result ≡ cause_of self.now }
     {
         self.cause
+    }
+
+    /// Puts another file with these bytes in the place of FILE, which this is. If that is refused, this is the old file.
+    fn replace_in<R: Files<File = File>>(
+        &mut self,
+        folder: &mut SystemFolder<'_, R>,
+        bytes: &[u8],
+    ) -> Result<(), NamingError>
+        ensures cause { OnErr result (IsSome (cause_of self.new)) }
+    {
+        match replace(folder, &self.file, &BegunJournal, bytes) {
+            Ok(file) => {
+                self.file = file;
+                Ok(())
+            }
+            Err(error) => {
+                self.cause = Some(error.cause());
+                Err(error)
+            }
+        }
     }
 
     /// An open file.
@@ -183,19 +203,9 @@ impl<'a, R: Files<File = File>> FileReplacer<'a, R> {
 }
 
 impl<'a, R: Files<File = File>> Replacer<FileDevice> for FileReplacer<'a, R> {
-    fn replace(&mut self, device: &mut FileDevice, bytes: &[u8]) -> Result<(), ReplaceError>
-        ensures cause { OnErr result (IsSome (cause_of device.new)) }
-    {
-        match replace(&mut self.folder, &device.file, &BegunJournal, bytes) {
-            Ok(file) => {
-                device.file = file;
-                Ok(())
-            }
-            Err(error) => {
-                device.cause = Some(error.cause());
-                Err(ReplaceError::from(error))
-            }
-        }
+    fn replace(&mut self, device: &mut FileDevice, bytes: &[u8]) -> Result<(), ReplaceError> {
+        device.replace_in(&mut self.folder, bytes)?;
+        Ok(())
     }
 }
 

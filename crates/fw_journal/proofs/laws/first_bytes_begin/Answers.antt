@@ -1,17 +1,8 @@
-use Rattle.std.proofs.Common.{◌≡◌, ℕ, List, take, refl, sym, ap, ◌∙◌, inr, lit≤}
+use Rattle.std.proofs.Common.{take, sym, ap, ◌∙◌, inr, lit≤}
 use Rattle.std.proofs.lemmas.List.{take-take}
-use Rattle.fw_journal.specs.Book.{mark, book_bytes}
+use Rattle.fw_journal.specs.Book.{book_bytes}
 use Rattle.fw_journal.proofs.laws.first_bytes_begin.Goals as goal
-
--- the mark stands in the first five bytes
-marked : (records : List (List ℕ)) → take 4 (book_bytes records) ≡ mark
-marked records = refl
 
 pub returns : goal.returns
 returns c records left same =
-    inr (
-      sym (take-take 4 5 left (lit≤ tt))
-      ∙ ap (take 4) same
-      ∙ take-take 4 5 (book_bytes records) (lit≤ tt)
-      ∙ marked records
-    )
+    inr (sym (take-take 4 5 left (lit≤ tt)) ∙ ap (take 4) same ∙ take-take 4 5 (book_bytes records) (lit≤ tt))
