@@ -1,10 +1,11 @@
 -- What the making of a store makes of the disk, up to its room.
-use Rattle.std.proofs.Common.{◌≡◌, ℕ, ◌+◌, ◌-◌, ◌≤◌, min, List, [], length, take, refl, sym, ap, ◌∙◌, subst, inr, arith}
+use Rattle.std.proofs.Common.{◌≡◌, ℕ, ◌-◌, ◌≤◌, min, List, [], length, take, refl, sym, ap, ◌∙◌, subst, inr, arith}
 use Rattle.std.proofs.lemmas.List.{take_all}
+use Rattle.std.proofs.lemmas.Grind.{common_steps}
 use Rattle.std.specs.Int.{w32, to_be_bytes}
 use Rattle.fw_disk.specs.declared.name.Name.TheVariants.{New}
 use Rattle.fw_disk.specs.Disk.{Disk}
-use Rattle.fw_disk.specs.Calls.{NoName, IsTorn, Tears}
+use Rattle.fw_disk.specs.Calls.{NoName, splice, IsTorn, Writes, Tears}
 use Rattle.fw_disk.specs.Ours.{Takes}
 use Rattle.fw_disk.proofs.Steps.{only_trans, only_more, left_over_keeps}
 use Rattle.fw_store.specs.Setup.{IsCapacity}
@@ -20,10 +21,17 @@ torn_capacity capacity n count four x y empty t = record {
   left_over = λ room. few_are_begun (y.bytes n) (omega (arith, t.torn.no_longer, ap length empty, four));
 }
 
+pub length_capacity : (capacity : ℕ) → length (to_be_bytes w32 capacity) ≡ 4
+length_capacity capacity = refl
+
+-- what is written whole in an empty file
+pub written_capacity : (n : ℕ) (bytes : List ℕ) (x y : Disk) → x.bytes n ≡ [] → Writes n 0 bytes x y → y.bytes n ≡ bytes
+written_capacity n bytes x y empty w = w.written ∙ ap (λ (l : List ℕ). splice l 0 bytes) empty ∙ grind (arith, common_steps)
+
 -- the capacity stands in front, and no more than the room of a store behind it
 module _ (capacity size : ℕ) (size_is : size ≡ store_size Two capacity) where
   four : length (to_be_bytes w32 capacity) ≡ 4
-  four = refl
+  four = length_capacity capacity
 
   begins : (s : List ℕ) → IsTorn 4 (size - 4) (to_be_bytes w32 capacity) s → take 4 s ≡ to_be_bytes w32 capacity
   begins s torn =

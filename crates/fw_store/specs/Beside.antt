@@ -1,9 +1,9 @@
 -- Public vocabulary: which files beside a store are its own.
-use Rattle.std.specs.Prelude.{◌≡◌, ◌⊎◌, ℕ, ◌≤◌, List, length, take, min, replicate}
+use Rattle.std.specs.Prelude.{◌≡◌, ◌⊎◌, ℕ, ◌≤◌, List, length, take, replicate}
 use Rattle.std.specs.Int.{w32, to_be_bytes}
 use Rattle.std.proofs.Common.{refl, sym, ap, ◌∙◌, inl, inr, arith}
 use Rattle.std.proofs.lemmas.Bool.{cases_lt}
-use Rattle.std.proofs.lemmas.List.{length-take, length-replicate, take-take, take_all}
+use Rattle.std.proofs.lemmas.List.{length-take, take-take, take_all}
 use Rattle.fw_undo.specs.Write.{mark}
 use Rattle.fw_store.specs.Setup.{IsCapacity}
 use Rattle.fw_store.specs.StoreBytes.{store_size}

@@ -1,12 +1,12 @@
 -- Public vocabulary: what the making of a store finds in its way, and what it leaves when it is cut.
-use Rattle.std.specs.Prelude.{◌≡◌, ◌≢◌, ◌⊎◌, ℕ, ◌-◌, List, ◌++◌, replicate}
+use Rattle.std.specs.Prelude.{◌≡◌, ◌⊎◌, ℕ, ◌-◌, List, ◌++◌, replicate}
 use Rattle.std.specs.Int.{w32, to_be_bytes}
 use Rattle.fw_disk.specs.declared.cause.Cause.{Cause}
-use Rattle.fw_disk.specs.declared.cause.Cause.TheVariants.{Exists, NotAlone, Foreign}
+use Rattle.fw_disk.specs.declared.cause.Cause.TheVariants.{NotAlone, Foreign}
 use Rattle.fw_disk.specs.declared.name.Name.{Name}
-use Rattle.fw_disk.specs.declared.name.Name.TheVariants.{Main, New, Journal}
+use Rattle.fw_disk.specs.declared.name.Name.TheVariants.{New, Journal}
 use Rattle.fw_disk.specs.declared.reason.Reason.{Reason}
-use Rattle.fw_disk.specs.Disk.{absent, Disk, ChangesOnly}
+use Rattle.fw_disk.specs.Disk.{Disk, ChangesOnly}
 use Rattle.fw_disk.specs.Calls.{NoName}
 use Rattle.fw_disk.specs.Ours.{IsOurs}
 use Rattle.fw_store.specs.Setup.{IsCapacity}
@@ -18,10 +18,9 @@ use Rattle.fw_store.specs.declared.version.HeaderVersion.TheVariants.{Two}
 abbrev pub IsNotOurs : (List ℕ → Type 0) → Disk → Name → Cause → Type 0
 IsNotOurs ours disk name cause = (cause ≡ NotAlone) ⊎ (cause ≡ Foreign) → (n : ℕ) → ¬ IsOurs ours disk name n
 
--- A reason tells the truth of what is in the way of a making: FILE exists if it says so, and what it calls another's is no FILE.new of a
--- store, or no FILE.journal, by its name.
+-- the reason why a store can't be made tells the truth, if it says that a file isn't ours: no FILE.new of a store has that name, or no
+-- FILE.journal
 pub record IsInTheWay (disk : Disk) (r : Reason) : Type 0 where
-  pub main : r.name ≡ Main → r.cause ≡ Exists → disk.entry Main ≢ absent
   pub store : r.name ≡ New → IsNotOurs IsBegunStore disk New r.cause
   pub undo : r.name ≡ Journal → IsNotOurs IsUndoFile disk Journal r.cause
 

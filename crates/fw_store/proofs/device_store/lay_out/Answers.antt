@@ -1,9 +1,9 @@
-use Rattle.std.proofs.Common.{◌≡◌, ℕ, ◌+◌, ◌++◌, ◌≤◌, ◌∙◌, ap, refl, sym, arith, IsTrue, length, take, drop, List, replicate}
+use Rattle.std.proofs.Common.{◌≡◌, ℕ, ◌++◌, ◌≤◌, ◌∙◌, ap, refl, sym, arith, IsTrue, length, take, drop, List, replicate}
 use Rattle.std.proofs.Common.{append_assoc}
 use Rattle.std.proofs.lemmas.List.{length-take, length-replicate}
 use Rattle.std.specs.Int.{w32, to_be_bytes}
 use Rattle.fw_store.specs.Device.{splice, padded}
-use Rattle.fw_store.specs.StoreBytes.{store_bytes, store_size}
+use Rattle.fw_store.specs.StoreBytes.{store_size}
 use Rattle.fw_store.specs.Versions.{bytes_of, version_of}
 use Rattle.fw_store.specs.declared.version.HeaderVersion.{HeaderVersion}
 use Rattle.fw_store.proofs.Outcomes.{on_ok, on_ok_too}

@@ -2,7 +2,7 @@ use Rattle.std.proofs.Common.{◌≡◌, ℕ, ◌+◌, ◌++◌, ◌≤◌, ◌�
 use Rattle.std.specs.Int.{w32, to_be_bytes}
 use Rattle.fw_store.specs.Device.{splice, padded}
 use Rattle.fw_store.specs.StoreBytes.{store_size, old_store_size}
-use Rattle.fw_store.specs.Versions.{bytes_of, version_of, header_size}
+use Rattle.fw_store.specs.Versions.{bytes_of, version_of}
 use Rattle.fw_store.proofs.Outcomes.{on_ok_too}
 use Rattle.fw_store.proofs.SliceLemmas.{length-splice}
 use Rattle.fw_store.proofs.Laying.{behind_number, laid_behind, slots_size}
