@@ -59,7 +59,7 @@ struct Member {
     daemon: MeterDaemon<FileStore>,
 }
 
-/// A meter of which nothing is refused any more, with its port, before its file is made.
+/// A meter that was judged, with its port, before its file is made.
 #[derive(Drop)]
 struct Site {
     port: Listening,

@@ -101,8 +101,8 @@ pub struct HeadOptions<'a> {
 /// - `Output`: the first line can't be written.
 /// - `OutOfMemory`.
 ///
-/// Up to `ForeignCapture` nothing was sent, the book is as before, and no new one is made. So it is at `CancelRefused`, and at `OpenRefused`
-/// where nothing is cancelled first. Up to `OpenRefused` nothing was sent.
+/// Up to `ForeignCapture` nothing was sent, the book has the records of before, and no new one is made. So it is at `CancelRefused`, and at
+/// `OpenRefused` if nothing is cancelled first. Up to `OpenRefused` nothing was sent.
 pub fn run_head<R: Files<File = File> + Clock + Eprint + Net + Wait, W: Write, E: Eprint>(
     rt: &R,
     alloc: Global,

@@ -1,4 +1,4 @@
-//! Meters before their files are made. Each is judged first, so that what refuses one leaves no file of another.
+//! Meters before their files are made. Each is judged first, so that inputs that refuse one leave no file of another.
 
 ghost use Rattle.std.specs.Prelude.{◌≡◌, None, Err, IfErr};
 ghost use Rattle.fw_store.specs.Setup.{IsSetup};
@@ -15,7 +15,7 @@ use std::fs::File;
 use std::rc::Rc;
 use std::rt::Files;
 
-/// A meter of which nothing is refused any more.
+/// A meter that was judged.
 #[derive(Drop)]
 pub(crate) enum Judged {
     /// Its file is there, and has it.

@@ -7,7 +7,7 @@ pub fn one_reading()
     ensures { OneReading }
 {}
 
-/// Bytes with a bad record, or that don't begin as a journal does, stand for none, so no power cut in a call leaves such.
+/// Bytes with a bad record, or that don't begin as a journal does, stand for none, so no power cut in a call leaves such, but one in `create`.
 pub fn bad_is_none()
     ensures { BadIsNone }
 {}
