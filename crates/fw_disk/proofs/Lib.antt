@@ -2,5 +2,3 @@ pub mod Goings
 pub mod Steps
 mod Fillings
 mod Reserving
-mod Events
-mod Cutting

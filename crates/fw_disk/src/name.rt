@@ -27,7 +27,7 @@ impl Name {
     }
 
     /// Whether it is this name.
-    pub(crate) fn is(self, name: Name) -> bool
+    pub fn is(self, name: Name) -> bool
         ensures { result ≡ same_name self name }
     {
         match self {
