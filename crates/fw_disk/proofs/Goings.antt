@@ -1,7 +1,18 @@
 -- How calls of a folder follow on each other.
-use Rattle.std.proofs.Common.{◌≡◌, inl, inr, ⊎_elim, arith, IsTrue, sym, subst, Ok, Err, Result, OnOk}
+use Rattle.std.proofs.Common.{◌≡◌, inl, inr, ⊎_elim, arith, IsTrue, sym, subst, Ok, Err, Result, OnOk, OnErr}
 use Rattle.fw_disk.specs.Disk.{Disk, Seen, Goes}
 use Rattle.fw_disk.specs.Calls.{Stays}
+
+-- no call yet
+pub unmoved : (T : Disk → Disk → Type 0) → ((x : Disk) → T x x) → (a : Seen) → Goes T a a
+unmoved T same a = λ honest. record {
+  honest = honest;
+  reads = same a.disk;
+  leaves = λ left may. (left, may, same left);
+  later = omega arith;
+  meanwhile = λ since left le had. inl had;
+  keeps = λ since left le had. had;
+}
 
 -- a call, and then one of which it is known what is read and what a power cut may leave as it begins
 pub follow : (R S T : Disk → Disk → Type 0) (Q : Disk → Type 0) (a b c : Seen) → Goes R a b
@@ -74,3 +85,7 @@ widen_from R T Q a b goes now lefts wide = λ honest.
 pub on_ok : {T E : Type 0} (result : Result T E) (P Q : Type 0) → (P → Q) → OnOk result P → OnOk result Q
 on_ok (Ok v) P Q follows holds = follows holds
 on_ok (Err e) P Q follows holds = holds
+
+pub on_err : {T E : Type 0} (result : Result T E) (P Q : Type 0) → (P → Q) → OnErr result P → OnErr result Q
+on_err (Ok v) P Q follows holds = holds
+on_err (Err e) P Q follows holds = follows holds

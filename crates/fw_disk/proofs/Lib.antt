@@ -1,4 +1,6 @@
-mod Goings
+pub mod Goings
 mod Steps
 mod Fillings
 mod Reserving
+mod Events
+mod Cutting

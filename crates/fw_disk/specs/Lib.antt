@@ -4,3 +4,7 @@ pub mod Calls
 pub mod Ours
 pub mod Causes
 pub mod Endings
+pub mod Past
+pub mod Memory
+-- For the laws of a folder in memory alone: no public clause cites it.
+pub mod PastLaws

@@ -4,6 +4,7 @@ ghost use Rattle.std.specs.Prelude.{◌≡◌};
 ghost use Rattle.fw_disk.specs.Causes.{IsOfSystem};
 ghost use Rattle.fw_disk.specs.declared.cause.NamingError.TheVariants.{NotNamed};
 
+use std::alloc::AllocError;
 use std::fs::TryLockError;
 use std::io::ErrorKind;
 use std::{fmt, io};
@@ -79,6 +80,15 @@ impl From<io::Error> for Cause {
             _ if TOO_MANY_OPEN.contains(&code) => Cause::TooManyOpen,
             _ => Cause::Other { code },
         }
+    }
+}
+
+// A folder in memory that gets no memory is a device without room.
+impl From<AllocError> for Cause {
+    ghost from_gives = { λ _ cause. IsOfSystem cause };
+
+    fn from(_error: AllocError) -> Cause {
+        Cause::Full
     }
 }
 

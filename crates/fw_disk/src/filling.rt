@@ -1,8 +1,8 @@
 //! The bytes of a file that is made.
 
 ghost use Rattle.std.specs.Prelude.{◌≡◌, ◌≤◌, ◌+◌, ◌-◌, ◌++◌, [], IsTrue, OnOk, length, replicate};
-ghost use Rattle.fw_disk.specs.Disk.{Goes, IsSynced, ChangesOnly};
-ghost use Rattle.fw_disk.specs.Calls.{NoName, Writes, Tears};
+ghost use Rattle.fw_disk.specs.Disk.{Goes, IsSynced};
+ghost use Rattle.fw_disk.specs.Calls.{Writes, Tears};
 ghost use Rattle.fw_disk.specs.Ours.{Fills};
 
 use crate::cause::Cause;
@@ -53,7 +53,8 @@ fn write_synced<F: Folder>(
 const PIECE_SIZE: usize = 4096;
 
 /// Reserves room: writes zeros from the position `from`, which is the file's end, up to the position `to`. So a full disk is seen here, and
-/// the file has no holes. It isn't synced.
+/// the file has no holes. It isn't synced. A power cut leaves what it may leave of one write: before `from` the file is as it was, and it is
+/// no longer than `to`.
 ///
 /// # Errors
 ///
@@ -62,7 +63,7 @@ pub fn reserve<F: Folder>(folder: &mut F, file: &F::File, from: u64, to: u64) ->
     ensures done { IsTrue (F.seen folder.old).honest → length ((F.seen folder.old).disk.bytes (F.number file.now)) ≡ from
         → OnOk result ((F.seen folder.new).disk.bytes (F.number file.now)
         ≡ (F.seen folder.old).disk.bytes (F.number file.now) ++ replicate (to - from) 0) }
-    ensures goes { Goes (ChangesOnly NoName (λ m. m ≡ F.number file.now)) (F.seen folder.old) (F.seen folder.new) }
+    ensures goes { Goes (Tears (F.number file.now) from (to - from)) (F.seen folder.old) (F.seen folder.new) }
 {
     let zeros = [0; PIECE_SIZE];
     let mut at = from;

@@ -24,6 +24,7 @@ ghost use Rattle.fw_disk.specs.Disk.{
   found_of,
   IsNameless,
   IsAlone,
+  IsTwice,
   Goes,
   IsSynced,
   AreNamesSynced,
@@ -51,7 +52,7 @@ use crate::name::{Found, Name};
 /// - A rename and a removal may leave each name that they touch as before or as after, independently of each other and of all writes,
 ///   until the folder is synced. So what is proved holds in whatever order a disk keeps a rename and the writes before it.
 ///
-/// What other processes do to the folder is not in it. No call takes memory.
+/// What other processes do to the folder is not in it. Only a folder in memory takes memory, and answers `Full` if it is refused.
 pub trait Folder {
     /// An open file, under an exclusive lock, which ends when it is let go.
     type File: Drop;
@@ -87,6 +88,13 @@ pub trait Folder {
     fn is_alone(&mut self, name: Name, file: &Self::File) -> Result<bool, Cause>
         ensures done { IsTrue (seen self.old).honest
             → IfOk result (λ alone. IsTrue alone ↔ IsAlone (seen self.old).disk name (number file.now)) }
+        ensures goes { Goes Stays (seen self.old) (seen self.new) }
+        ensures cause { IfErr result IsOfSystem };
+
+    /// Whether FILE and FILE.new are the file's names, no links to it, and its only ones.
+    fn is_twice(&mut self, file: &Self::File) -> Result<bool, Cause>
+        ensures done { IsTrue (seen self.old).honest
+            → IfOk result (λ twice. IsTrue twice ↔ IsTwice (seen self.old).disk (number file.now)) }
         ensures goes { Goes Stays (seen self.old) (seen self.new) }
         ensures cause { IfErr result IsOfSystem };
 

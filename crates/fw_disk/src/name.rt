@@ -1,7 +1,7 @@
 //! The names of a file and of those beside it.
 
 ghost use Rattle.std.specs.Prelude.{◌≡◌};
-ghost use Rattle.fw_disk.specs.Endings.{ending_of};
+ghost use Rattle.fw_disk.specs.Endings.{ending_of, same_name};
 
 /// A name in the folder of a file. A program can name no other file of it.
 #[derive(Clone, Copy, Debug, PartialEq, Eq)]
@@ -23,6 +23,17 @@ impl Name {
             Name::Main => "",
             Name::New => ".new",
             Name::Journal => ".journal",
+        }
+    }
+
+    /// Whether it is this name.
+    pub(crate) fn is(self, name: Name) -> bool
+        ensures { result ≡ same_name self name }
+    {
+        match self {
+            Name::Main => matches!(name, Name::Main),
+            Name::New => matches!(name, Name::New),
+            Name::Journal => matches!(name, Name::Journal),
         }
     }
 }
