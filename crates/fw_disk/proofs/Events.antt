@@ -386,9 +386,6 @@ write_same file at count x = record {
 pub rename_same : (from to : Name) (renamed : Entry) (x : Disk) → MayRename from to renamed x x
 rename_same from to renamed x = record { named = inl refl; gone = inl refl; rest = only_refl (λ m. (m ≡ from) ⊎ (m ≡ to)) NoFile x }
 
-pub remove_same : (name : Name) (x : Disk) → MayRemove name x x
-remove_same name x = record { gone = inl refl; rest = only_refl (λ m. m ≡ name) NoFile x }
-
 -- ---- what a call that succeeds makes of what is read
 
 module _ (start : Start) (past : List Event) (next : ℕ) where

@@ -90,6 +90,9 @@ module _ (ours : List ℕ → Type 0) (fits : Type 0) (name : Name) (may : ℕ �
         r.gone;
   }
 
+pub remove_same : (name : Name) (x : Disk) → MayRemove name x x
+remove_same name x = record { gone = inl refl; rest = only_refl (λ m. m ≡ name) NoFile x }
+
 main_kept : (y z : Disk) → MayRemove New y z → z.entry Main ≡ y.entry Main
 main_kept y z r = r.rest.entries Main (λ is. not_new is)
 

@@ -1,6 +1,7 @@
 -- Public vocabulary: the disk, as the folder of a file shows it, and what a power cut may leave of it.
 use Rattle.std.specs.Prelude.{◌≡◌, ◌≢◌, ◌⊎◌, ℕ, ◌≤◌, List, [], Bool, IsTrue, false}
 use Rattle.fw_disk.specs.declared.name.Name.{Name}
+use Rattle.fw_disk.specs.declared.name.Name.TheVariants.{Main, New, Journal}
 use Rattle.fw_disk.specs.declared.name.Found.{Found}
 use Rattle.fw_disk.specs.declared.name.Found.TheVariants.{Absent, Plain, Other}
 
@@ -42,6 +43,13 @@ pub record IsNameless (disk : Disk) (n : ℕ) : Type 0 where
 pub record IsAlone (disk : Disk) (name : Name) (n : ℕ) : Type 0 where
   pub named : disk.entry name ≡ plain n
   pub here : (another : Name) → disk.entry another ≡ plain n → another ≡ name
+  pub elsewhere : disk.elsewhere n ≡ false
+
+-- FILE and FILE.new stand for the file, and no other name does: a cut renaming may leave that
+pub record IsTwice (disk : Disk) (n : ℕ) : Type 0 where
+  pub main : disk.entry Main ≡ plain n
+  pub beside : disk.entry New ≡ plain n
+  pub journal : disk.entry Journal ≢ plain n
   pub elsewhere : disk.elsewhere n ≡ false
 
 -- Each entry, except of these names, and each byte of each file, except of these, is as before.

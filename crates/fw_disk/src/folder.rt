@@ -24,6 +24,7 @@ ghost use Rattle.fw_disk.specs.Disk.{
   found_of,
   IsNameless,
   IsAlone,
+  IsTwice,
   Goes,
   IsSynced,
   AreNamesSynced,
@@ -87,6 +88,13 @@ pub trait Folder {
     fn is_alone(&mut self, name: Name, file: &Self::File) -> Result<bool, Cause>
         ensures done { IsTrue (seen self.old).honest
             → IfOk result (λ alone. IsTrue alone ↔ IsAlone (seen self.old).disk name (number file.now)) }
+        ensures goes { Goes Stays (seen self.old) (seen self.new) }
+        ensures cause { IfErr result IsOfSystem };
+
+    /// Whether FILE and FILE.new are the file's names, no links to it, and its only ones.
+    fn is_twice(&mut self, file: &Self::File) -> Result<bool, Cause>
+        ensures done { IsTrue (seen self.old).honest
+            → IfOk result (λ twice. IsTrue twice ↔ IsTwice (seen self.old).disk (number file.now)) }
         ensures goes { Goes Stays (seen self.old) (seen self.new) }
         ensures cause { IfErr result IsOfSystem };
 

@@ -243,6 +243,17 @@ impl Folder for MemoryFolder {
         Ok(self.names(name, number) && !another && !elsewhere)
     }
 
+    fn is_twice(&mut self, file: &MemoryFile) -> Result<bool, Cause> {
+        let number = file.number;
+        let (_, elsewhere) = self.start.file(number);
+        Ok(
+            self.names(Name::Main, number)
+                && self.names(Name::New, number)
+                && !self.names(Name::Journal, number)
+                && !elsewhere,
+        )
+    }
+
     fn len(&mut self, file: &MemoryFile) -> Result<u64, Cause> {
         Ok(self.bytes(file)?.len() as u64)
     }

@@ -8,7 +8,7 @@ use crate::folder::Folder;
 use crate::name::{Found, Name};
 use crate::place::Place;
 use std::fs;
-use std::fs::{File, OpenOptions};
+use std::fs::{File, Metadata, OpenOptions};
 use std::os::unix::fs::{FileExt, MetadataExt};
 use std::rt::Files;
 
@@ -39,6 +39,19 @@ impl<'a, R: Files<File = File>> SystemFolder<'a, R> {
         let file = options.open(self.rt, self.place.path(name)?)?;
         file.try_lock()?;
         Ok(file)
+    }
+
+    /// Whether a name is that of this file.
+    fn has_name(&self, name: Name, own: &Metadata) -> Result<bool, Cause>
+        ensures { IfErr result IsOfSystem }
+    {
+        match fs::symlink_metadata(self.rt, self.place.path(name)?) {
+            Ok(named) => Ok(own.dev() == named.dev() && own.ino() == named.ino()),
+            Err(error) => match Cause::from(error) {
+                Cause::Missing => Ok(false),
+                cause => Err(cause),
+            },
+        }
     }
 
     /// Gives what has the first name the second one.
@@ -93,12 +106,16 @@ impl<'a, R: Files<File = File>> Folder for SystemFolder<'a, R> {
 
     fn is_alone(&mut self, name: Name, file: &File) -> Result<bool, Cause> {
         let own = file.metadata()?;
-        let named = fs::symlink_metadata(self.rt, self.place.path(name)?)?;
+        Ok(own.is_file() && own.nlink() == 1 && self.has_name(name, &own)?)
+    }
+
+    fn is_twice(&mut self, file: &File) -> Result<bool, Cause> {
+        let own = file.metadata()?;
         Ok(
             own.is_file()
-                && own.nlink() == 1
-                && own.dev() == named.dev()
-                && own.ino() == named.ino(),
+                && own.nlink() == 2
+                && self.has_name(Name::Main, &own)?
+                && self.has_name(Name::New, &own)?,
         )
     }
 

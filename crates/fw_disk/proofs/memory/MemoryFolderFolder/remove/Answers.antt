@@ -5,7 +5,8 @@ use Rattle.fw_disk.specs.declared.past.Standing.TheVariants as standing
 use Rattle.fw_disk.specs.Calls.{Removes, MayRemove}
 use Rattle.fw_disk.specs.Past.{disk_after}
 use Rattle.fw_disk.proofs.Goings.{on_ok}
-use Rattle.fw_disk.proofs.Events.{is_past, add_steps, remove_steps, remove_same, removes}
+use Rattle.fw_disk.proofs.Steps.{remove_same}
+use Rattle.fw_disk.proofs.Events.{is_past, add_steps, remove_steps, removes}
 use Rattle.fw_disk.proofs.memory.MemoryFolderFolder.remove.Goals as goal
 
 pub returns : goal.returns
