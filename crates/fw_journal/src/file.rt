@@ -30,12 +30,13 @@ pub struct FileDevice {
 pub type FileJournal = Journal<FileDevice>;
 
 impl FileDevice {
-    /// Opens FILE, if it has no other name. Its name is where a power cut leaves it then.
+    /// Opens FILE, if it has no other name. Its name is where a power cut leaves it then. If a power cut in its renaming has left it the
+    /// name FILE.new as well, it loses that.
     ///
     /// # Errors
     ///
     /// `Locked` if another journal has it open, and otherwise `BookFault`, each with the cause: `Missing` if there is no file, `NotAlone`
-    /// if it is a link or no regular file, or has another name as well. Nothing is changed.
+    /// if it is a link or no regular file, or has another name as well. Nothing else is changed.
     pub fn open<R: Files<File = File>>(
         folder: &mut SystemFolder<'_, R>,
     ) -> Result<FileDevice, Because<JournalError>>
