@@ -1,5 +1,7 @@
--- What the making of a capture makes of the disk.
-use Rattle.std.proofs.Common.{◌≡◌, ◌⊎◌, inl, inr, ⊎_elim, ℕ, List, sym, ◌∙◌, subst}
+-- What the making of a capture makes of the disk, and how its files are told.
+use Rattle.std.proofs.Common.{◌≡◌, ◌⊎◌, inl, inr, ⊎_elim, ℕ, ◌≤◌, min, List, length, take, sym, ◌∙◌, ap, subst, arith}
+use Rattle.std.proofs.lemmas.Bool.{cases_lt}
+use Rattle.std.proofs.lemmas.List.{take_all, length-take}
 use Rattle.std.specs.Prelude.{⊤}
 use Rattle.fw_disk.specs.declared.name.Name.TheVariants.{Main, New}
 use Rattle.fw_disk.specs.Disk.{Disk}
@@ -7,6 +9,20 @@ use Rattle.fw_disk.specs.Calls.{NoName, NoFile, MayRemove}
 use Rattle.fw_disk.specs.Ours.{Takes, Fills, Names}
 use Rattle.fw_disk.proofs.Steps.{only_more, only_trans, not_new}
 use Rattle.fw_host.specs.BegunCapture.{MakesFile}
+
+-- the front of a file and a form of its length, compared as far as the front goes
+module _ (all front form : List ℕ) (count : ℕ) (front_is : front ≡ take 16 all) (sixteen : length form ≡ 16) (count_is : count ≡ min (length front) 16) where
+  count-front : count ≡ min 16 (length all)
+  count-front = omega (arith, count_is, ap length front_is, length-take 16 all)
+
+  pub front_part : take count front ≡ take 16 all
+  front_part = take_all count front (omega (arith, count_is, ap length front_is, length-take 16 all)) ∙ front_is
+
+  pub form_part : take count form ≡ take (length all) form
+  form_part = elim (cases_lt (length all) 16) [
+    | inl less ↦ ap (λ (k : ℕ). take k form) (omega (arith, count-front))
+    | inr more ↦ take_all count form (omega (arith, count-front, sixteen)) ∙ sym (take_all (length all) form (omega (arith, sixteen)))
+  ]
 
 module _ (bytes : List ℕ) (may : ℕ → Type 0) where
   -- FILE.new is begun

@@ -77,10 +77,13 @@ pub(crate) fn new_capture<F: Folder>(folder: &mut F, header: &[u8]) -> Result<F:
 
 /// Gives FILE.new, which was begun, its bytes, and then the name FILE.
 fn fill_and_name<F: Folder>(folder: &mut F, file: &F::File, header: &[u8]) -> Result<(), Reason>
-    ensures absent { IsTrue (F.seen folder.old).honest → OnOk result ((F.seen folder.old).disk.entry Main ≡ absent) }
+    ensures absent { IsTrue (F.seen folder.old).honest → IsNamed New (F.number file.now) [] (F.seen folder.old).disk
+        → IsSynced (F.number file.now) (F.seen folder.old) → OnOk result ((F.seen folder.old).disk.entry Main ≡ absent) }
     ensures named { IsTrue (F.seen folder.old).honest → IsNamed New (F.number file.now) [] (F.seen folder.old).disk
+        → IsSynced (F.number file.now) (F.seen folder.old)
         → OnOk result (IsNamed Main (F.number file.now) header.now (F.seen folder.new).disk) }
     ensures kept { IsTrue (F.seen folder.old).honest → IsNamed New (F.number file.now) [] (F.seen folder.old).disk
+        → IsSynced (F.number file.now) (F.seen folder.old)
         → OnOk result (IsKept Main (F.number file.now) header.now (F.seen folder.new)) }
     ensures goes { IsNamed New (F.number file.now) [] (F.seen folder.old).disk → IsSynced (F.number file.now) (F.seen folder.old)
         → Goes (MakesFile header.now (λ m. m ≡ F.number file.now)) (F.seen folder.old) (F.seen folder.new) }
