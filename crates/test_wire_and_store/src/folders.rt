@@ -3,10 +3,8 @@
 ghost use Rattle.std.specs.Prelude.{◌≤◌, length};
 
 use crate::support::{shown, text};
-use fw_disk::{
-    Before, Folder, Found, Kind, MemoryFolder, Name, NamingError, begin, fill, finish, open,
-    replace,
-};
+use fw_disk::{Folder, Found, Kind, Name, NamingError, begin, fill, finish, open, replace};
+use fw_ramdisk::{Before, MemoryFolder};
 use std::alloc::{AllocError, Global};
 use std::test::Fail;
 use test_tables::{Reads, Words, each_part};
