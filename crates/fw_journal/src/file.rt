@@ -50,8 +50,8 @@ impl FileDevice {
         }
     }
 
-    /// Begins a journal that gets the name FILE once it is whole: FILE.new, without bytes. It is made, or it is what a power cut or a killed
-    /// process left of such a making: a file of five bytes at most, or one that begins as a journal does.
+    /// Begins a journal that gets the name FILE once it is whole: FILE.new, without bytes. It is made, or it is what a power cut or a
+    /// killed process left of such a making: a file of five bytes at most, or one that begins as a journal does.
     ///
     /// # Errors
     ///
@@ -178,12 +178,12 @@ fn naming_error(cause: Cause) -> JournalError
 }
 
 /// Puts other bytes in the place of those of FILE, by a new file beside it: FILE.new, which is under a lock of its own before it gets the
-/// name FILE. So whoever opens FILE finds it locked, before and after. A power cut leaves the old file or the new one. What a cut making left
-/// as FILE.new is written over ([`FileDevice::begin`]); if any other file is there, it stays, and nothing is replaced. Nor is a file that
-/// has another name as well, under which it would be left.
+/// name FILE. So whoever opens FILE finds it locked, before and after. A power cut leaves the old file or the new one. What a cut making
+/// left as FILE.new is written over ([`FileDevice::begin`]); if any other file is there, it stays, and nothing is replaced. Nor is a file
+/// that has another name as well, under which it would be left.
 ///
-/// If the folder can't be synced once the new file has the name, the answer is `Fault`. The device keeps the old file, which has no name any
-/// more, and its journal is broken.
+/// If the folder can't be synced once the new file has the name, the answer is `Fault`. The device keeps the old file, which has no name
+/// any more, and its journal is broken.
 #[derive(Drop)]
 pub struct FileReplacer<'a, R> {
     folder: SystemFolder<'a, R>,

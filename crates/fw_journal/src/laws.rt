@@ -22,8 +22,8 @@ pub fn one_count()
     ensures { OneCount }
 {}
 
-/// A file that has the first five bytes of a journal counts as left of a journal that is made, whatever follows them. These are synced before
-/// any other is written, so what a cut making leaves is taken by the next one.
+/// A file that has the first five bytes of a journal counts as left of a journal that is made, whatever follows them. These are synced
+/// before any other is written, so what a cut making leaves is taken by the next one.
 pub fn first_bytes_begin()
     ensures { FirstBytesBegin }
 {}
