@@ -2,6 +2,7 @@
 use Rattle.std.proofs.Common.{◌≡◌, ℕ, ◌≤◌, List, Bool, true, false, Option, Some, None, Result, Ok, Err, IfErr, All, inl, inr, refl, sym, subst, ap}
 use Rattle.std.specs.Prelude.{IsTrue, OnOk, is_some, ◌⊎◌}
 use Rattle.fw_book.specs.declared.error.BookError.{BookError}
+use Rattle.fw_disk.specs.declared.reason.Because.{Because}
 use Rattle.fw_rollout.specs.declared.error.Stop.{Stop}
 use Rattle.fw_rollout.specs.declared.error.Stop.TheVariants as stop
 use Rattle.fw_faults.specs.declared.fault.Fault.{Fault}
@@ -247,12 +248,6 @@ parts_are_opening book image parts f refuses = let (e, is, why) = refuses.refuse
 pub passed_on : {A : Type 0} (r : Result A Fault) (P : Fault → Type 0) (e f : Fault) → r ≡ Err e → e ≡ f → P f → IfErr r P
 passed_on {A} r P e f was same is = subst (λ (x : Result A Fault). IfErr x P) (sym was) (subst P (sym same) is)
 
--- what follows of each fault follows where there is one
-pub on_err : {A : Type 0} (r : Result A Fault) (P Q : Fault → Type 0) → ((f : Fault) → P f → Q f) → IfErr r P → IfErr r Q
-on_err (Ok x) P Q follows is = tt
-on_err (Err f) P Q follows is = follows f is
-
--- what follows of two things of each fault follows where there is one
-pub on_err_both : {A : Type 0} (r : Result A Fault) (P Q R : Fault → Type 0) → ((f : Fault) → P f → Q f → R f) → IfErr r P → IfErr r Q → IfErr r R
-on_err_both (Ok x) P Q R follows one two = tt
-on_err_both (Err f) P Q R follows one two = follows f one two
+-- so it is of a fault that is passed on with its reason, or without one
+pub passed_because : {A : Type 0} (r : Result A (Because Fault)) (P : Fault → Type 0) (b : Because Fault) (f : Fault) → r ≡ Err b → b.error ≡ f → P f → IfErr r (λ (b : Because Fault). P b.error)
+passed_because {A} r P b f was same is = subst (λ (x : Result A (Because Fault)). IfErr x (λ (b : Because Fault). P b.error)) (sym was) (subst P (sym same) is)

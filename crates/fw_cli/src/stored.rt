@@ -110,6 +110,7 @@ fn made<F: Files<File = File>>(
     ensures begins { IfOk result (λ meter. restarted meter.meter ≡ meter.meter) }
     ensures faultless { IfOk result (λ meter. meter.faults ≡ 0) }
     ensures bad_setup { IfErr result (λ b. b.error ≡ Fault.BadSetup → DescribesNone options.now.fresh) }
+    ensures made { OnOk result (DescribesOne options.now.fresh) }
     ensures described { IfErr result (λ b. b.error ≢ Fault.BadSetup → DescribesOne options.now.fresh) }
     ensures faults { IfErr result (λ b. ComesBeforeInput b.error ⊎ (b.error ≡ Fault.OutOfMemory)) }
 {

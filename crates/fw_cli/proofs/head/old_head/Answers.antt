@@ -3,53 +3,53 @@ use Rattle.std.proofs.lemmas.Result.{err_from_is_err_and}
 use Rattle.fw_cli.specs.Heads.{IsAskedFor}
 use Rattle.fw_host.specs.Heads.{IsOfHeadSetup}
 use Rattle.fw_cli.proofs.Captured.{capture_in_setup, capture_is_asked}
-use Rattle.fw_cli.proofs.HeadLeading.{address_in_setup, address_is_asked, book_in_setup, book_is_asked, passed_on}
+use Rattle.fw_cli.proofs.HeadLeading.{address_in_setup, address_is_asked, book_in_setup, book_is_asked, passed_because}
 use Rattle.fw_cli.proofs.head.old_head.Goals as goal
 
 pub returns-in_err-kept-clause-asked : goal.returns-in_err-kept-clause-asked
 returns-in_err-kept-clause-asked g c =
     let passed = err_from_is_err_and c.from_residual.result c.from_residual.ensures.1 in
-    let same : passed.0 ≡ c.in_err-kept.field-0.0 = cc passed.2 in
-    passed_on c.from_residual.result (IsAskedFor c.args.options.now) passed.0 _ passed.1 same (book_is_asked c.args.options.now _ c.in_err-kept.ensures.faults)
+    let same : passed.0.error ≡ c.in_err-kept.field-0.0.error = cc passed.2 in
+    passed_because c.from_residual.result (IsAskedFor c.args.options.now) passed.0 _ passed.1 same (book_is_asked c.args.options.now _ c.in_err-kept.ensures.faults)
 
 pub returns-in_err-kept-clause-faults : goal.returns-in_err-kept-clause-faults
 returns-in_err-kept-clause-faults g c =
     let passed = err_from_is_err_and c.from_residual.result c.from_residual.ensures.1 in
-    let same : passed.0 ≡ c.in_err-kept.field-0.0 = cc passed.2 in
-    passed_on c.from_residual.result IsOfHeadSetup passed.0 _ passed.1 same (book_in_setup c.args.options.now.book.is_new _ c.in_err-kept.ensures.faults)
+    let same : passed.0.error ≡ c.in_err-kept.field-0.0.error = cc passed.2 in
+    passed_because c.from_residual.result IsOfHeadSetup passed.0 _ passed.1 same (book_in_setup c.args.options.now.book.is_new _ c.in_err-kept.ensures.faults)
 
 pub returns-in_err-check_addresses-clause-asked : goal.returns-in_err-check_addresses-clause-asked
 returns-in_err-check_addresses-clause-asked g c =
     let passed = err_from_is_err_and c.from_residual-in_err-check_addresses.result c.from_residual-in_err-check_addresses.ensures.1 in
-    let same : passed.0 ≡ c.in_err-check_addresses.field-0.0 = cc passed.2 in
-    passed_on c.from_residual-in_err-check_addresses.result (IsAskedFor c.args.options.now) passed.0 _ passed.1 same (address_is_asked c.args.options.now _ c.in_err-check_addresses.ensures.faults)
+    let same : passed.0.error ≡ c.in_err-check_addresses.field-0.0 = passed.2.0 in
+    passed_because c.from_residual-in_err-check_addresses.result (IsAskedFor c.args.options.now) passed.0 _ passed.1 same (address_is_asked c.args.options.now _ c.in_err-check_addresses.ensures.faults)
 
 pub returns-in_err-check_addresses-clause-faults : goal.returns-in_err-check_addresses-clause-faults
 returns-in_err-check_addresses-clause-faults g c =
     let passed = err_from_is_err_and c.from_residual-in_err-check_addresses.result c.from_residual-in_err-check_addresses.ensures.1 in
-    let same : passed.0 ≡ c.in_err-check_addresses.field-0.0 = cc passed.2 in
-    passed_on c.from_residual-in_err-check_addresses.result IsOfHeadSetup passed.0 _ passed.1 same (address_in_setup _ c.in_err-check_addresses.ensures.faults)
+    let same : passed.0.error ≡ c.in_err-check_addresses.field-0.0 = passed.2.0 in
+    passed_because c.from_residual-in_err-check_addresses.result IsOfHeadSetup passed.0 _ passed.1 same (address_in_setup _ c.in_err-check_addresses.ensures.faults)
 
 pub returns-in_err-judge-clause-asked : goal.returns-in_err-judge-clause-asked
 returns-in_err-judge-clause-asked g c =
     let passed = err_from_is_err_and c.from_residual-in_err-judge.result c.from_residual-in_err-judge.ensures.1 in
-    let same : passed.0 ≡ c.in_err-judge.field-0.0 = cc passed.2 in
-    passed_on c.from_residual-in_err-judge.result (IsAskedFor c.args.options.now) passed.0 _ passed.1 same (c.in_err-judge.ensures.asked c.requires.opened)
+    let same : passed.0.error ≡ c.in_err-judge.field-0.0 = passed.2.0 in
+    passed_because c.from_residual-in_err-judge.result (IsAskedFor c.args.options.now) passed.0 _ passed.1 same (c.in_err-judge.ensures.asked c.requires.opened)
 
 pub returns-in_err-judge-clause-faults : goal.returns-in_err-judge-clause-faults
 returns-in_err-judge-clause-faults g c =
     let passed = err_from_is_err_and c.from_residual-in_err-judge.result c.from_residual-in_err-judge.ensures.1 in
-    let same : passed.0 ≡ c.in_err-judge.field-0.0 = cc passed.2 in
-    passed_on c.from_residual-in_err-judge.result IsOfHeadSetup passed.0 _ passed.1 same (c.in_err-judge.ensures.faults)
+    let same : passed.0.error ≡ c.in_err-judge.field-0.0 = passed.2.0 in
+    passed_because c.from_residual-in_err-judge.result IsOfHeadSetup passed.0 _ passed.1 same (c.in_err-judge.ensures.faults)
 
 pub returns-in_err-file-clause-asked : goal.returns-in_err-file-clause-asked
 returns-in_err-file-clause-asked g c =
     let passed = err_from_is_err_and c.from_residual-in_err-file.result c.from_residual-in_err-file.ensures.1 in
-    let same : passed.0 ≡ c.in_err-file.field-0.0 = cc passed.2 in
-    passed_on c.from_residual-in_err-file.result (IsAskedFor c.args.options.now) passed.0 _ passed.1 same (capture_is_asked c.args.options.now _ c.in_err-file.ensures.asked c.in_err-file.ensures.faults)
+    let same : passed.0.error ≡ c.in_err-file.field-0.0.error = cc passed.2 in
+    passed_because c.from_residual-in_err-file.result (IsAskedFor c.args.options.now) passed.0 _ passed.1 same (capture_is_asked c.args.options.now _ c.in_err-file.ensures.asked c.in_err-file.ensures.faults)
 
 pub returns-in_err-file-clause-faults : goal.returns-in_err-file-clause-faults
 returns-in_err-file-clause-faults g c =
     let passed = err_from_is_err_and c.from_residual-in_err-file.result c.from_residual-in_err-file.ensures.1 in
-    let same : passed.0 ≡ c.in_err-file.field-0.0 = cc passed.2 in
-    passed_on c.from_residual-in_err-file.result IsOfHeadSetup passed.0 _ passed.1 same (capture_in_setup _ c.in_err-file.ensures.faults)
+    let same : passed.0.error ≡ c.in_err-file.field-0.0.error = cc passed.2 in
+    passed_because c.from_residual-in_err-file.result IsOfHeadSetup passed.0 _ passed.1 same (capture_in_setup _ c.in_err-file.ensures.faults)

@@ -1,60 +1,55 @@
-use Rattle.std.proofs.Common.{◌≡◌}
-use Rattle.std.specs.Prelude.{IsTrue, is_some}
+use Rattle.std.proofs.Common.{◌≡◌, subst, sym}
 use Rattle.std.proofs.lemmas.Result.{err_from_is_err_and}
-use Rattle.fw_cli.specs.Heads.{IsAskedFor, IsOfStop}
-use Rattle.fw_host.specs.Captures.{IsOfCapture}
-use Rattle.fw_host.specs.Heads.{IsOfHead}
-use Rattle.fw_cli.proofs.HeadLeading.{line_lost, on_err_both, passed_on, stopped}
+use Rattle.fw_cli.specs.Heads.{IsAskedFor}
+use Rattle.fw_host.specs.Heads.{ComesBeforeLines, IsOfHead}
+use Rattle.fw_cli.proofs.HeadLeading.{line_lost, passed_because, stopped}
 use Rattle.fw_cli.proofs.head.run_head.Goals as goal
 
-pub returns-clause-silent : goal.returns-clause-silent
-returns-clause-silent g c =
-    on_err_both c.lead.result IsOfStop (λ f. IsOfCapture f → IsTrue (is_some c.args.options.now.capture)) _
-    (λ f is asked before. absurd ((stopped c.args.options.now f asked is).later before)) c.lead.ensures.faults c.lead.ensures.asked
+pub returns-in-Err-clause-silent : goal.returns-in-Err-clause-silent
+returns-in-Err-clause-silent g c = λ before.
+    absurd ((stopped c.args.options.now _ c.in-Err.ensures.asked c.in-Err.ensures.faults).later (subst ComesBeforeLines c.of_book.ensures.fault before))
 
-pub returns-clause-asked : goal.returns-clause-asked
-returns-clause-asked g c =
-    on_err_both c.lead.result IsOfStop (λ f. IsOfCapture f → IsTrue (is_some c.args.options.now.capture)) (IsAskedFor c.args.options.now)
-    (λ f is asked. (stopped c.args.options.now f asked is).asked) c.lead.ensures.faults c.lead.ensures.asked
+pub returns-in-Err-clause-asked : goal.returns-in-Err-clause-asked
+returns-in-Err-clause-asked g c =
+    subst (IsAskedFor c.args.options.now) (sym c.of_book.ensures.fault) (stopped c.args.options.now _ c.in-Err.ensures.asked c.in-Err.ensures.faults).asked
 
-pub returns-clause-faults : goal.returns-clause-faults
-returns-clause-faults g c =
-    on_err_both c.lead.result IsOfStop (λ f. IsOfCapture f → IsTrue (is_some c.args.options.now.capture)) IsOfHead
-    (λ f is asked. (stopped c.args.options.now f asked is).of_head) c.lead.ensures.faults c.lead.ensures.asked
+pub returns-in-Err-clause-faults : goal.returns-in-Err-clause-faults
+returns-in-Err-clause-faults g c =
+    subst IsOfHead (sym c.of_book.ensures.fault) (stopped c.args.options.now _ c.in-Err.ensures.asked c.in-Err.ensures.faults).of_head
 
 pub returns-in_err-tell_listening-clause-silent : goal.returns-in_err-tell_listening-clause-silent
 returns-in_err-tell_listening-clause-silent g c =
     let passed = err_from_is_err_and c.from_residual-in_err-tell_listening.result c.from_residual-in_err-tell_listening.ensures.1 in
-    let same : passed.0 ≡ c.in_err-tell_listening.field-0.0 = passed.2 in
-    passed_on c.from_residual-in_err-tell_listening.result _ passed.0 _ passed.1 same (λ before. absurd ((line_lost c.args.options.now _ c.in_err-tell_listening.ensures.faults).later before))
+    let same : passed.0.error ≡ c.in_err-tell_listening.field-0.0 = passed.2.0 in
+    passed_because c.from_residual-in_err-tell_listening.result _ passed.0 _ passed.1 same (λ before. absurd ((line_lost c.args.options.now _ c.in_err-tell_listening.ensures.faults).later before))
 
 pub returns-in_err-tell_listening-clause-asked : goal.returns-in_err-tell_listening-clause-asked
 returns-in_err-tell_listening-clause-asked g c =
     let passed = err_from_is_err_and c.from_residual-in_err-tell_listening.result c.from_residual-in_err-tell_listening.ensures.1 in
-    let same : passed.0 ≡ c.in_err-tell_listening.field-0.0 = passed.2 in
-    passed_on c.from_residual-in_err-tell_listening.result (IsAskedFor c.args.options.now) passed.0 _ passed.1 same (line_lost c.args.options.now _ c.in_err-tell_listening.ensures.faults).asked
+    let same : passed.0.error ≡ c.in_err-tell_listening.field-0.0 = passed.2.0 in
+    passed_because c.from_residual-in_err-tell_listening.result (IsAskedFor c.args.options.now) passed.0 _ passed.1 same (line_lost c.args.options.now _ c.in_err-tell_listening.ensures.faults).asked
 
 pub returns-in_err-tell_listening-clause-faults : goal.returns-in_err-tell_listening-clause-faults
 returns-in_err-tell_listening-clause-faults g c =
     let passed = err_from_is_err_and c.from_residual-in_err-tell_listening.result c.from_residual-in_err-tell_listening.ensures.1 in
-    let same : passed.0 ≡ c.in_err-tell_listening.field-0.0 = passed.2 in
-    passed_on c.from_residual-in_err-tell_listening.result IsOfHead passed.0 _ passed.1 same (line_lost c.args.options.now _ c.in_err-tell_listening.ensures.faults).of_head
+    let same : passed.0.error ≡ c.in_err-tell_listening.field-0.0 = passed.2.0 in
+    passed_because c.from_residual-in_err-tell_listening.result IsOfHead passed.0 _ passed.1 same (line_lost c.args.options.now _ c.in_err-tell_listening.ensures.faults).of_head
 
 pub returns-in_err-begin-clause-silent : goal.returns-in_err-begin-clause-silent
 returns-in_err-begin-clause-silent g c =
     let passed = err_from_is_err_and c.from_residual-in_err-begin.result c.from_residual-in_err-begin.ensures.1 in
-    let same : passed.0 ≡ c.in_err-begin.field-0.0 = passed.2 in
-    passed_on c.from_residual-in_err-begin.result _ passed.0 _ passed.1 same (λ before. absurd (c.in_err-begin.ensures.faults.1 before))
+    let same : passed.0.error ≡ c.in_err-begin.field-0.0.error = cc passed.2 in
+    passed_because c.from_residual-in_err-begin.result _ passed.0 _ passed.1 same (λ before. absurd (c.in_err-begin.ensures.faults.1 before))
 
 pub returns-in_err-begin-clause-asked : goal.returns-in_err-begin-clause-asked
 returns-in_err-begin-clause-asked g c =
     let passed = err_from_is_err_and c.from_residual-in_err-begin.result c.from_residual-in_err-begin.ensures.1 in
-    let same : passed.0 ≡ c.in_err-begin.field-0.0 = passed.2 in
-    passed_on c.from_residual-in_err-begin.result (IsAskedFor c.args.options.now) passed.0 _ passed.1 same
+    let same : passed.0.error ≡ c.in_err-begin.field-0.0.error = cc passed.2 in
+    passed_because c.from_residual-in_err-begin.result (IsAskedFor c.args.options.now) passed.0 _ passed.1 same
     (c.in_err-begin.ensures.asked (λ some. c.in_ok-port.ensures.opened (rw c.take.ensures.value at some)))
 
 pub returns-in_err-begin-clause-faults : goal.returns-in_err-begin-clause-faults
 returns-in_err-begin-clause-faults g c =
     let passed = err_from_is_err_and c.from_residual-in_err-begin.result c.from_residual-in_err-begin.ensures.1 in
-    let same : passed.0 ≡ c.in_err-begin.field-0.0 = passed.2 in
-    passed_on c.from_residual-in_err-begin.result IsOfHead passed.0 _ passed.1 same c.in_err-begin.ensures.faults.0
+    let same : passed.0.error ≡ c.in_err-begin.field-0.0.error = cc passed.2 in
+    passed_because c.from_residual-in_err-begin.result IsOfHead passed.0 _ passed.1 same c.in_err-begin.ensures.faults.0

@@ -2,44 +2,44 @@ use Rattle.std.proofs.Common.{◌≡◌, subst, sym}
 use Rattle.std.proofs.lemmas.Result.{err_from_is_err_and}
 use Rattle.fw_cli.specs.Heads.{IsAskedFor}
 use Rattle.fw_host.specs.Heads.{IsOfHeadSetup}
-use Rattle.fw_cli.proofs.HeadLeading.{passed_on}
+use Rattle.fw_cli.proofs.HeadLeading.{passed_because}
 use Rattle.fw_cli.proofs.head.set_up.Goals as goal
 
 pub returns-in_err-asked-clause-asked : goal.returns-in_err-asked-clause-asked
 returns-in_err-asked-clause-asked g c =
     let passed = err_from_is_err_and c.from_residual.result c.from_residual.ensures.1 in
-    let same : passed.0 ≡ c.in_err-asked.field-0.0 = cc passed.2 in
-    passed_on c.from_residual.result (IsAskedFor c.args.options.now) passed.0 _ passed.1 same c.in_err-asked.ensures.asked
+    let same : passed.0.error ≡ c.in_err-asked.field-0.0 = passed.2.0 in
+    passed_because c.from_residual.result (IsAskedFor c.args.options.now) passed.0 _ passed.1 same c.in_err-asked.ensures.asked
 
 pub returns-in_err-asked-clause-faults : goal.returns-in_err-asked-clause-faults
 returns-in_err-asked-clause-faults g c =
     let passed = err_from_is_err_and c.from_residual.result c.from_residual.ensures.1 in
-    let same : passed.0 ≡ c.in_err-asked.field-0.0 = cc passed.2 in
-    passed_on c.from_residual.result IsOfHeadSetup passed.0 _ passed.1 same c.in_err-asked.ensures.faults
+    let same : passed.0.error ≡ c.in_err-asked.field-0.0 = passed.2.0 in
+    passed_because c.from_residual.result IsOfHeadSetup passed.0 _ passed.1 same c.in_err-asked.ensures.faults
 
 pub returns-in_err-port-clause-asked : goal.returns-in_err-port-clause-asked
 returns-in_err-port-clause-asked g c =
     let passed = err_from_is_err_and c.from_residual-in_err-port.result c.from_residual-in_err-port.ensures.1 in
-    let same : passed.0 ≡ c.in_err-port.field-0.0 = cc passed.2 in
-    passed_on c.from_residual-in_err-port.result (IsAskedFor c.args.options.now) passed.0 _ passed.1 same (subst (IsAskedFor c.args.options.now) (sym c.in_err-port.ensures.faults) tt)
+    let same : passed.0.error ≡ c.in_err-port.field-0.0 = passed.2.0 in
+    passed_because c.from_residual-in_err-port.result (IsAskedFor c.args.options.now) passed.0 _ passed.1 same (subst (IsAskedFor c.args.options.now) (sym c.in_err-port.ensures.faults) tt)
 
 pub returns-in_err-port-clause-faults : goal.returns-in_err-port-clause-faults
 returns-in_err-port-clause-faults g c =
     let passed = err_from_is_err_and c.from_residual-in_err-port.result c.from_residual-in_err-port.ensures.1 in
-    let same : passed.0 ≡ c.in_err-port.field-0.0 = cc passed.2 in
-    passed_on c.from_residual-in_err-port.result IsOfHeadSetup passed.0 _ passed.1 same (subst IsOfHeadSetup (sym c.in_err-port.ensures.faults) tt)
+    let same : passed.0.error ≡ c.in_err-port.field-0.0 = passed.2.0 in
+    passed_because c.from_residual-in_err-port.result IsOfHeadSetup passed.0 _ passed.1 same (subst IsOfHeadSetup (sym c.in_err-port.ensures.faults) tt)
 
 pub returns-in_err-kept-clause-asked : goal.returns-in_err-kept-clause-asked
 returns-in_err-kept-clause-asked g c =
     let passed = err_from_is_err_and c.from_residual-in_err-kept.result c.from_residual-in_err-kept.ensures.1 in
-    let same : passed.0 ≡ c.in_err-kept.field-0.0 = cc passed.2 in
-    passed_on c.from_residual-in_err-kept.result (IsAskedFor c.args.options.now) passed.0 _ passed.1 same c.in_err-kept.ensures.asked
+    let same : passed.0.error ≡ c.in_err-kept.field-0.0.error = cc passed.2 in
+    passed_because c.from_residual-in_err-kept.result (IsAskedFor c.args.options.now) passed.0 _ passed.1 same c.in_err-kept.ensures.asked
 
 pub returns-in_err-kept-clause-faults : goal.returns-in_err-kept-clause-faults
 returns-in_err-kept-clause-faults g c =
     let passed = err_from_is_err_and c.from_residual-in_err-kept.result c.from_residual-in_err-kept.ensures.1 in
-    let same : passed.0 ≡ c.in_err-kept.field-0.0 = cc passed.2 in
-    passed_on c.from_residual-in_err-kept.result IsOfHeadSetup passed.0 _ passed.1 same c.in_err-kept.ensures.faults
+    let same : passed.0.error ≡ c.in_err-kept.field-0.0.error = cc passed.2 in
+    passed_because c.from_residual-in_err-kept.result IsOfHeadSetup passed.0 _ passed.1 same c.in_err-kept.ensures.faults
 
 pub returns-clause-opened : goal.returns-clause-opened
 returns-clause-opened g c = c.in_ok-asked.ensures.opened
