@@ -1,7 +1,8 @@
 -- What a daemon does after what it did.
 use Rattle.std.proofs.Common.{◌≡◌, List, [], ◌∷◌, inl, inr, refl, sym, ap, subst, ◌∙◌}
 use Rattle.std.specs.declared.net.socket_addr.SocketAddr.{SocketAddr}
-use Rattle.std.specs.Prelude.{ℕ, Bool, OnErr, Result, Ok, Err}
+use Rattle.std.specs.Prelude.{ℕ, Bool, OnErr, OnOk, Option, None, Some, Result, Ok, Err}
+use Rattle.std.specs.Result.{result_err}
 use Rattle.fw_rollout.specs.declared.daemon.HeadDaemon.{HeadDaemon}
 use Rattle.fw_rollout.specs.declared.daemon.Heard.{Heard}
 use Rattle.fw_port.specs.Acts.{came, quiet}
@@ -41,6 +42,14 @@ pub at_err : {A E X : Type 0} (r : Result A E) → X → OnErr r X
 at_err (Ok a) x = tt
 at_err (Err e) x = x
 
+some_none : {X : Type 0} (x : X) → Some x ≡ None → ⊥
+some_none x e = cc
+
+-- a result that has no error
+pub without_err : {A E X : Type 0} (r : Result A E) (error : Option E) → error ≡ result_err r → error ≡ None → OnOk r X → X
+without_err (Ok a) error is none x = x
+without_err (Err e) error is none x = absurd (some_none e (sym is ∙ none))
+
 -- from each head end that rests and of which the first daemon is, the head end did this, and the second is its own then
 abbrev pub Follows : {D : Type 0} → (D → Bool) → (D → List ℕ) → (D → List ℕ → Type 0) → HeadDaemon D → List Act → List Act → HeadDaemon D → Type 0
 Follows honest contents may_leave old before after new =
@@ -79,6 +88,12 @@ pub has_led_on : {D : Type 0} (honest : D → Bool) (contents : D → List ℕ) 
     (first : GoesOn honest contents may_leave start before acts old) → HasLed first.now acts after → HasLed start before after
 has_led_on honest contents may_leave old start before acts after first second =
     (second.0, leads_on start first.now second.0 before acts after first.leads second.1)
+
+-- whatever the result is
+pub led_either : {D T E : Type 0} (honest : D → Bool) (contents : D → List ℕ) (may_leave : D → List ℕ → Type 0) (new : HeadDaemon D) (r : Result T E) (start : Leader) (before after : List Act)
+    → OnOk r (GoesOn honest contents may_leave start before after new) → OnErr r (HasLed start before after) → HasLed start before after
+led_either honest contents may_leave new (Ok value) start before after goes err = (goes.now, goes.leads)
+led_either honest contents may_leave new (Err e) start before after goes err = err
 
 -- a daemon that begins, and went on, begins from there
 pub begins_on : {D : Type 0} (honest : D → Bool) (contents : D → List ℕ) (may_leave : D → List ℕ → Type 0) (old new : HeadDaemon D) (legal later : List Act → Type 0)

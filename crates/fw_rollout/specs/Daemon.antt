@@ -1,7 +1,8 @@
 -- Public vocabulary: the daemon of a head end as a value.
-use Rattle.std.specs.Prelude.{◌≡◌, ◌≢◌, ℕ, Bool, List, [], ◌∷◌, map, All, Contains, Some, None, is_some, slice_get, sum_by, count_by, ◌⊎◌, ◌+◌, ◌≤◌}
+use Rattle.std.specs.Prelude.{◌≡◌, ◌≢◌, ℕ, Bool, List, [], ◌∷◌, map, All, Contains, Some, None, is_some, slice_get, sum_by, count_by, ◌⊎◌, ◌+◌, ◌≤◌, Result, OnOk, OnErr, IsTrue}
 use Rattle.fw_book.specs.Contents.{Contents}
 use Rattle.fw_head.specs.Head.{Head, row_of}
+use Rattle.fw_journal.specs.declared.device.JournalDevice
 use Rattle.fw_kept.specs.Head.{Holds, head_of}
 use Rattle.fw_kept.specs.declared.head.KeptHead.{KeptHead}
 use Rattle.fw_rollout.specs.declared.daemon.Counts.{Counts}
@@ -10,10 +11,11 @@ use Rattle.fw_rollout.specs.declared.ended.Ended.{Ended}
 use Rattle.fw_rollout.specs.declared.link.Listed.{Listed}
 use Rattle.fw_rollout.specs.declared.link.Link.{Link}
 use Rattle.std.specs.declared.net.socket_addr.SocketAddr.{SocketAddr}
+use Rattle.fw_port.specs.declared.port.Port
 use Rattle.fw_rollout.specs.Acts.{Act}
 use Rattle.fw_rollout.specs.declared.link.Answer.{Answer}
 use Rattle.fw_rollout.specs.Early.{IsAnswerOf}
-use Rattle.fw_rollout.specs.Leading.{IsNotedIn, Leader, Leads, MayLead}
+use Rattle.fw_rollout.specs.Leading.{HasLed, IsNotedIn, Leader, Leads, MayLead}
 use Rattle.fw_rollout.specs.Link.{IsReadyBy, out_by}
 use Rattle.fw_rollout.specs.Schedule.{Answers, IsDueAt, IsSchedule, links_of, listed_of, lives_of}
 
@@ -140,3 +142,18 @@ pub record GoesOn {D : Type 0} (honest : D → Bool) (contents : D → List ℕ)
   pub leads : Leads start before after now
   pub led : IsLed honest contents may_leave daemon now
   pub rests : Rests now
+
+-- ---- over a port
+
+-- An honest port is had only over a device of which it is known what it keeps, and what a head end does that is as this one may be done.
+abbrev pub MayLeadOver : {P D : Type 0} → Port.Ghosts P Ended → JournalDevice.Ghosts D → P → HeadDaemon D → Type 0
+MayLeadOver N J port daemon = IsTrue (N.honest port) → Begins J.honest J.contents J.may_leave daemon (N.legal port) (N.acts port)
+
+-- A call of the loop over a port, or of a part of it. What was done over an honest port a head end did, and after an `Ok` the daemon is its
+-- own then. The port stays as honest as it was, and lets through what it would have.
+pub record LeadsOver {P D T E : Type 0} (N : Port.Ghosts P Ended) (J : JournalDevice.Ghosts D) (old : P) (before : HeadDaemon D) (result : Result T E) (new : P) (after : HeadDaemon D) : Type 0 where
+  pub leads : IsTrue (N.honest old) → (start : Leader) → IsLed J.honest J.contents J.may_leave before start → Rests start
+      → OnOk result (GoesOn J.honest J.contents J.may_leave start (N.acts old) (N.acts new) after)
+  pub leads_err : IsTrue (N.honest old) → (start : Leader) → IsLed J.honest J.contents J.may_leave before start → Rests start → OnErr result (HasLed start (N.acts old) (N.acts new))
+  pub honesty : N.honest new ≡ N.honest old
+  pub law : (done : List Act) → N.legal old done → N.legal new done

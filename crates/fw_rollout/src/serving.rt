@@ -1,11 +1,11 @@
 //! The loop of a head end over a port. A port asks at each send and each report whether it may be, so a loop that never ends is held to it
 //! too.
 
-ghost use Rattle.std.specs.Prelude.{◌≡◌, [], List, IsTrue, OnErr, OnOk, false};
+ghost use Rattle.std.specs.Prelude.{◌≡◌, [], List, IsTrue, OnOk, false};
 ghost use Rattle.fw_head.specs.Row.{bytes_of};
 ghost use Rattle.fw_rollout.specs.Acts.{Act};
-ghost use Rattle.fw_rollout.specs.Leading.{HasLed, IsAboutToSend, IsAboutToTell, Leader, Leads, MayLead};
-ghost use Rattle.fw_rollout.specs.Daemon.{Begins, GoesOn, IsLed, IsOver, Rests};
+ghost use Rattle.fw_rollout.specs.Leading.{IsAboutToSend, IsAboutToTell, Leader, Leads, MayLead};
+ghost use Rattle.fw_rollout.specs.Daemon.{IsLed, IsOver, LeadsOver, MayLeadOver};
 
 use crate::daemon::{Counts, HeadDaemon};
 use crate::ended::Ended;
@@ -36,14 +36,8 @@ pub fn step_head<P: HeadPort, D: JournalDevice + Drop>(
     port: &mut P,
     daemon: &mut HeadDaemon<D>,
 ) -> Result<(), Stop>
-    // An honest port is had only over a device of which it is known what it keeps, and what a head end does that is as this one may be done.
-    requires begins { IsTrue (P.honest port.old) → Begins D.honest D.contents D.may_leave daemon.old (P.legal port.old) (P.acts port.old) }
-    ensures leads { IsTrue (P.honest port.old) → (start : Leader) → IsLed D.honest D.contents D.may_leave daemon.old start → Rests start
-        → OnOk result (GoesOn D.honest D.contents D.may_leave start (P.acts port.old) (P.acts port.new) daemon.new) }
-    ensures leads_err { IsTrue (P.honest port.old) → (start : Leader) → IsLed D.honest D.contents D.may_leave daemon.old start → Rests start
-        → OnErr result (HasLed start (P.acts port.old) (P.acts port.new)) }
-    ensures honesty { P.honest port.new ≡ P.honest port.old }
-    ensures law { (done : List Act) → P.legal port.old done → P.legal port.new done }
+    requires begins { MayLeadOver P.Port D.JournalDevice port.old daemon.old }
+    ensures leads { LeadsOver P.Port D.JournalDevice port.old daemon.old result port.new daemon.new }
 {
     let mut now = port.now();
     let mut buffer = [0u8; MAX_RECEIVED];
@@ -58,14 +52,8 @@ fn step_with<P: HeadPort, D: JournalDevice + Drop>(
     now: &mut u64,
     buffer: &mut [u8],
 ) -> Result<(), Stop>
-    // An honest port is had only over a device of which it is known what it keeps, and what a head end does that is as this one may be done.
-    requires begins { IsTrue (P.honest port.old) → Begins D.honest D.contents D.may_leave daemon.old (P.legal port.old) (P.acts port.old) }
-    ensures leads { IsTrue (P.honest port.old) → (start : Leader) → IsLed D.honest D.contents D.may_leave daemon.old start → Rests start
-        → OnOk result (GoesOn D.honest D.contents D.may_leave start (P.acts port.old) (P.acts port.new) daemon.new) }
-    ensures leads_err { IsTrue (P.honest port.old) → (start : Leader) → IsLed D.honest D.contents D.may_leave daemon.old start → Rests start
-        → OnErr result (HasLed start (P.acts port.old) (P.acts port.new)) }
-    ensures honesty { P.honest port.new ≡ P.honest port.old }
-    ensures law { (done : List Act) → P.legal port.old done → P.legal port.new done }
+    requires begins { MayLeadOver P.Port D.JournalDevice port.old daemon.old }
+    ensures leads { LeadsOver P.Port D.JournalDevice port.old daemon.old result port.new daemon.new }
 {
     let patience = send_due(port, daemon, *now)?;
     receive(port, daemon, patience, now, buffer)?;
@@ -78,14 +66,8 @@ fn send_due<P: HeadPort, D: JournalDevice + Drop>(
     daemon: &mut HeadDaemon<D>,
     now: u64,
 ) -> Result<Patience, Stop>
-    // An honest port is had only over a device of which it is known what it keeps, and what a head end does that is as this one may be done.
-    requires begins { IsTrue (P.honest port.old) → Begins D.honest D.contents D.may_leave daemon.old (P.legal port.old) (P.acts port.old) }
-    ensures leads { IsTrue (P.honest port.old) → (start : Leader) → IsLed D.honest D.contents D.may_leave daemon.old start → Rests start
-        → OnOk result (GoesOn D.honest D.contents D.may_leave start (P.acts port.old) (P.acts port.new) daemon.new) }
-    ensures leads_err { IsTrue (P.honest port.old) → (start : Leader) → IsLed D.honest D.contents D.may_leave daemon.old start → Rests start
-        → OnErr result (HasLed start (P.acts port.old) (P.acts port.new)) }
-    ensures honesty { P.honest port.new ≡ P.honest port.old }
-    ensures law { (done : List Act) → P.legal port.old done → P.legal port.new done }
+    requires begins { MayLeadOver P.Port D.JournalDevice port.old daemon.old }
+    ensures leads { LeadsOver P.Port D.JournalDevice port.old daemon.old result port.new daemon.new }
 {
     for _ in 0..MAX_TICKS {
         match daemon.due(now)? {
@@ -118,14 +100,8 @@ fn receive<P: HeadPort, D: JournalDevice + Drop>(
     now: &mut u64,
     buffer: &mut [u8],
 ) -> Result<(), Stop>
-    // An honest port is had only over a device of which it is known what it keeps, and what a head end does that is as this one may be done.
-    requires begins { IsTrue (P.honest port.old) → Begins D.honest D.contents D.may_leave daemon.old (P.legal port.old) (P.acts port.old) }
-    ensures leads { IsTrue (P.honest port.old) → (start : Leader) → IsLed D.honest D.contents D.may_leave daemon.old start → Rests start
-        → OnOk result (GoesOn D.honest D.contents D.may_leave start (P.acts port.old) (P.acts port.new) daemon.new) }
-    ensures leads_err { IsTrue (P.honest port.old) → (start : Leader) → IsLed D.honest D.contents D.may_leave daemon.old start → Rests start
-        → OnErr result (HasLed start (P.acts port.old) (P.acts port.new)) }
-    ensures honesty { P.honest port.new ≡ P.honest port.old }
-    ensures law { (done : List Act) → P.legal port.old done → P.legal port.new done }
+    requires begins { MayLeadOver P.Port D.JournalDevice port.old daemon.old }
+    ensures leads { LeadsOver P.Port D.JournalDevice port.old daemon.old result port.new daemon.new }
 {
     let Some(arrival) = port.receive(patience, buffer)? else {
         *now = port.now();
@@ -143,14 +119,8 @@ fn tell_saved<P: HeadPort, D: JournalDevice + Drop>(
     daemon: &mut HeadDaemon<D>,
     now: &mut u64,
 ) -> Result<(), Stop>
-    // An honest port is had only over a device of which it is known what it keeps, and what a head end does that is as this one may be done.
-    requires begins { IsTrue (P.honest port.old) → Begins D.honest D.contents D.may_leave daemon.old (P.legal port.old) (P.acts port.old) }
-    ensures leads { IsTrue (P.honest port.old) → (start : Leader) → IsLed D.honest D.contents D.may_leave daemon.old start → Rests start
-        → OnOk result (GoesOn D.honest D.contents D.may_leave start (P.acts port.old) (P.acts port.new) daemon.new) }
-    ensures leads_err { IsTrue (P.honest port.old) → (start : Leader) → IsLed D.honest D.contents D.may_leave daemon.old start → Rests start
-        → OnErr result (HasLed start (P.acts port.old) (P.acts port.new)) }
-    ensures honesty { P.honest port.new ≡ P.honest port.old }
-    ensures law { (done : List Act) → P.legal port.old done → P.legal port.new done }
+    requires begins { MayLeadOver P.Port D.JournalDevice port.old daemon.old }
+    ensures leads { LeadsOver P.Port D.JournalDevice port.old daemon.old result port.new daemon.new }
 {
     if !daemon.is_save_due(*now) {
         return Ok(());
@@ -187,17 +157,12 @@ pub fn serve_head<R: Wait, P: HeadPort, D: JournalDevice + Drop, W: HeadWatch>(
     stays: bool,
     watch: &mut W,
 ) -> Result<(), Stop>
-    // An honest port is had only over a device of which it is known what it keeps, and what a head end does that is as this one may be done.
-    requires begins { IsTrue (P.honest port.old) → Begins D.honest D.contents D.may_leave daemon.old (P.legal port.old) (P.acts port.old) }
-    ensures leads { IsTrue (P.honest port.old) → (start : Leader) → IsLed D.honest D.contents D.may_leave daemon.old start → Rests start
-        → HasLed start (P.acts port.old) (P.acts port.new) }
-    ensures goes_on { IsTrue (P.honest port.old) → (start : Leader) → IsLed D.honest D.contents D.may_leave daemon.old start → Rests start
-        → OnOk result (GoesOn D.honest D.contents D.may_leave start (P.acts port.old) (P.acts port.new) daemon.new) }
+    requires begins { MayLeadOver P.Port D.JournalDevice port.old daemon.old }
+    ensures leads { LeadsOver P.Port D.JournalDevice port.old daemon.old result port.new daemon.new }
 
     // It returns by itself only once no row is live and all that ended is on the device, and never where it stays.
     ensures over { (now : Leader) → IsLed D.honest D.contents D.may_leave daemon.new now → OnOk result (IsOver now) }
     ensures stays { OnOk result (stays ≡ false) }
-    ensures honesty { P.honest port.new ≡ P.honest port.old }
 {
     let mut now = port.now();
     let mut buffer = [0u8; MAX_RECEIVED];

@@ -1,12 +1,19 @@
-use Rattle.std.proofs.Common.{Bool, IsTrue, sym, subst, ◌∙◌}
+use Rattle.std.proofs.Common.{rules, Bool, IsTrue, sym, subst, ◌∙◌}
 use Rattle.fw_rollout.proofs.Steps.{may_tick}
 use Rattle.fw_rollout.proofs.Rounds.{at_err, begins_on, joined, ticked}
 use Rattle.fw_rollout.proofs.serving.send_due.Goals as goal
 
-pub returns-in_err-due-clause-leads_err : goal.returns-in_err-due-clause-leads_err
-returns-in_err-due-clause-leads_err g c = λ honest start led rests.
-    let one = c.loop.invariant.0 honest start led rests in
-    at_err c.from_residual.result (one.now, one.leads)
+pub returns-in_err-due : goal.returns-in_err-due
+returns-in_err-due g c = record {
+  leads = record {
+    leads = λ honest start led rests. search rules;
+    leads_err = λ honest start led rests.
+        let one = c.loop.invariant.0 honest start led rests in
+        at_err c.from_residual.result (one.now, one.leads);
+    honesty = c.loop.invariant.1;
+    law = c.loop.invariant.2;
+  };
+}
 
 pub send_all-requires : goal.send_all-requires
 send_all-requires g c = λ h.
@@ -17,11 +24,21 @@ send_all-requires g c = λ h.
     let made = rw c.in-Some.is at (c.in_ok-due.ensures.ticks begins.leader begins.led begins.rests.sent_all) in
     (made.0, rw c.deref.ensures.value made.3, may_tick (g.P.Port.legal c.loop.port) begins.leader made.0 c.in-Some.due.meter _ begins.may made.1)
 
-pub returns-in-None-clause-leads : goal.returns-in-None-clause-leads
-returns-in-None-clause-leads g c = λ honest start led rests.
-    let one = c.loop.invariant.0 honest start led rests in
-    let same = rw c.in-None.is at (c.in_ok-due.ensures.ticks one.now one.led one.rests.sent_all) in
-    record { now = one.now; leads = one.leads; led = same; rests = one.rests }
+pub returns-in-None : goal.returns-in-None
+returns-in-None g c = record {
+  leads = record {
+    leads = λ honest start led rests.
+        let one = c.loop.invariant.0 honest start led rests in
+        let same = rw c.in-None.is at (c.in_ok-due.ensures.ticks one.now one.led one.rests.sent_all) in
+        record { now = one.now; leads = one.leads; led = same; rests = one.rests };
+    leads_err = λ honest start led rests. tt;
+    honesty = c.loop.invariant.1;
+    law = c.loop.invariant.2;
+  };
+}
+
+pub returns : goal.returns
+returns g c = record { leads = record { leads = c.loop.invariant.0; leads_err = λ honest start led rests. tt; honesty = c.loop.invariant.1; law = c.loop.invariant.2 } }
 
 pub loop-preserved : goal.loop-preserved
 loop-preserved g c =

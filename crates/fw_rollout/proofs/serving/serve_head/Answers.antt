@@ -1,5 +1,5 @@
 use Rattle.std.proofs.Common.{rules, Bool, IsTrue, sym, subst, ◌∙◌}
-use Rattle.fw_rollout.proofs.Rounds.{begins_on, goes_on, has_led_on}
+use Rattle.fw_rollout.proofs.Rounds.{at_err, begins_on, goes_on, has_led_on}
 use Rattle.fw_rollout.proofs.serving.serve_head.Goals as goal
 
 pub step_with-requires : goal.step_with-requires
@@ -12,27 +12,32 @@ step_with-requires g c = record {
 
 pub loop-preserved : goal.loop-preserved
 loop-preserved g c =
-    let was = c.loop.invariant in (
+    let was = c.loop.invariant in
+    let made = c.in_ok-step_with.ensures.leads in (
       search rules,
       search rules,
       λ honest start led rests.
           let then : IsTrue (g.P.Port.honest c.loop.port) = subst (λ (b : Bool). IsTrue b) (sym was.3) honest in
-          goes_on _ _ _ c.loop.daemon c.step_with.new.daemon start _ _ _ (was.2 honest start led rests) (c.in_ok-step_with.ensures.leads then),
-      c.step_with.ensures.honesty ∙ was.3,
-      λ done legal. c.step_with.ensures.law done (was.4 done legal),
+          goes_on _ _ _ c.loop.daemon c.step_with.new.daemon start _ _ _ (was.2 honest start led rests) (made.leads then),
+      made.honesty ∙ was.3,
+      λ done legal. made.law done (was.4 done legal),
     )
 
 pub returns-in_err-step_with-clause-leads : goal.returns-in_err-step_with-clause-leads
-returns-in_err-step_with-clause-leads g c = λ honest start led rests.
+returns-in_err-step_with-clause-leads g c =
     let was = c.loop.invariant in
-    let then : IsTrue (g.P.Port.honest c.loop.port) = subst (λ (b : Bool). IsTrue b) (sym was.3) honest in
-    let one = was.2 honest start led rests in
-    has_led_on _ _ _ c.loop.daemon start _ _ _ one (c.in_err-step_with.ensures.leads_err then one.now one.led one.rests)
+    let made = c.in_err-step_with.ensures.leads in
+    record {
+      leads = λ honest start led rests. search rules;
+      leads_err = λ honest start led rests.
+          let then : IsTrue (g.P.Port.honest c.loop.port) = subst (λ (b : Bool). IsTrue b) (sym was.3) honest in
+          let one = was.2 honest start led rests in
+          at_err c.from_residual.result (has_led_on _ _ _ c.loop.daemon start _ _ _ one (made.leads_err then one.now one.led one.rests));
+      honesty = made.honesty ∙ was.3;
+      law = λ done legal. made.law done (was.4 done legal);
+    }
 
 pub returns-then-not-stays-clause-leads : goal.returns-then-not-stays-clause-leads
-returns-then-not-stays-clause-leads g c = λ honest start led rests.
-    let one = c.loop.invariant.2 honest start led rests in
-    (one.now, one.leads)
-
-pub returns-then-not-stays-clause-goes_on : goal.returns-then-not-stays-clause-goes_on
-returns-then-not-stays-clause-goes_on g c = c.loop.invariant.2
+returns-then-not-stays-clause-leads g c =
+    let was = c.loop.invariant in
+    record { leads = was.2; leads_err = λ honest start led rests. tt; honesty = was.3; law = was.4 }

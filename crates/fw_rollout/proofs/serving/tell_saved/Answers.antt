@@ -1,8 +1,8 @@
-use Rattle.std.proofs.Common.{List, sym, subst, refl}
+use Rattle.std.proofs.Common.{rules, List, sym, subst, refl}
 use Rattle.fw_rollout.specs.declared.ended.Ended.{Ended}
 use Rattle.fw_rollout.specs.Leading.{IsAboutToTell}
 use Rattle.fw_rollout.proofs.Steps.{may_save}
-use Rattle.fw_rollout.proofs.Rounds.{at_err, has_led_same, saved}
+use Rattle.fw_rollout.proofs.Rounds.{at_err, follows_none, has_led_same, saved}
 use Rattle.fw_rollout.proofs.serving.tell_saved.Goals as goal
 
 pub tell_all-requires : goal.tell_all-requires
@@ -14,11 +14,35 @@ tell_all-requires g c = λ honest.
       may_save (g.P.Port.legal c.args.port.now) begins.leader made.0 (g.P.Port.acts c.args.port.now) begins.may made.1,
     )
 
-pub returns-clause-leads : goal.returns-clause-leads
-returns-clause-leads g c = λ honest start led rests.
-    let made = c.in_ok-saved.ensures.saves start led rests.told_all in
-    saved _ _ _ c.saved.new.self start made.0 _ _ rests made.1 made.2
-    (c.tell_all.ensures.tells honest made.0 (subst (λ (saved : List Ended). IsAboutToTell made.0 saved) (sym c.deref.ensures.value) made.3))
+pub returns-then-not-is_save_due : goal.returns-then-not-is_save_due
+returns-then-not-is_save_due g c = record {
+  leads = record {
+    leads = λ honest. follows_none _ _ _ c.args.daemon.now _;
+    leads_err = λ honest start led rests. tt;
+    honesty = refl;
+    law = λ done legal. legal;
+  };
+}
 
-pub returns-in_err-saved-clause-leads_err : goal.returns-in_err-saved-clause-leads_err
-returns-in_err-saved-clause-leads_err g c = λ honest start led rests. at_err c.from_residual.result (has_led_same start _ _ refl)
+pub returns-in_err-saved : goal.returns-in_err-saved
+returns-in_err-saved g c = record {
+  leads = record {
+    leads = λ honest start led rests. search rules;
+    leads_err = λ honest start led rests. at_err c.from_residual.result (has_led_same start _ _ refl);
+    honesty = refl;
+    law = λ done legal. legal;
+  };
+}
+
+pub returns : goal.returns
+returns g c = record {
+  leads = record {
+    leads = λ honest start led rests.
+        let made = c.in_ok-saved.ensures.saves start led rests.told_all in
+        saved _ _ _ c.saved.new.self start made.0 _ _ rests made.1 made.2
+        (c.tell_all.ensures.tells honest made.0 (subst (λ (saved : List Ended). IsAboutToTell made.0 saved) (sym c.deref.ensures.value) made.3));
+    leads_err = λ honest start led rests. tt;
+    honesty = c.tell_all.ensures.honesty;
+    law = c.tell_all.ensures.law;
+  };
+}
