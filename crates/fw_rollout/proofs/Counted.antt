@@ -4,6 +4,8 @@ use Rattle.std.proofs.lemmas.List.{take_more}
 use Rattle.std.proofs.lemmas.List.Sums.{sum_by-append, sum_by_push}
 use Rattle.fw_ledger.specs.declared.record.Ending.{Ending}
 use Rattle.fw_ledger.specs.declared.record.Ending.TheVariants as ends
+use Rattle.std.specs.declared.net.socket_addr.SocketAddr.{SocketAddr}
+use Rattle.fw_port.specs.Acts.{sent, told}
 use Rattle.fw_rollout.specs.Acts.{Act}
 use Rattle.fw_rollout.specs.Counting.{CountsJust, CountsRows, CountsTold, IsMore, done_of, failed_of, greatest, is_done_end, is_failed_end, one_more, told_in, with_heard, with_row}
 use Rattle.fw_rollout.specs.declared.daemon.Counts.{Counts}
@@ -125,6 +127,13 @@ told_none before after a b same done failed = record {
 pub told_same : (before after : List Act) (a b : Counts) → told_in after ≡ told_in before → b ≡ a → CountsTold before after a b
 told_same before after a b same is = told_none before after a b same (ap (λ (c : Counts). c.done) is) (ap (λ (c : Counts). c.failed) is)
 
+-- datagrams are counted alone
+pub told_sent : (before after : List Act) (a b : Counts) (n : ℕ) → told_in after ≡ told_in before → b ≡ record a { sent = n } → CountsTold before after a b
+told_sent before after a b n same is = told_none before after a b same (ap (λ (c : Counts). c.done) is) (ap (λ (c : Counts). c.failed) is)
+
+pub told_received : (before after : List Act) (a b : Counts) (n : ℕ) → told_in after ≡ told_in before → b ≡ record a { received = n } → CountsTold before after a b
+told_received before after a b n same is = told_none before after a b same (ap (λ (c : Counts). c.done) is) (ap (λ (c : Counts). c.failed) is)
+
 heard_done : (what : Heard) (c : Counts) → (with_heard what c).done ≡ c.done
 heard_done returned.Stranger c = refl
 heard_done returned.Nothing c = refl
@@ -141,10 +150,15 @@ pub told_heard : (before after : List Act) (what : Heard) (a b : Counts) → tol
 told_heard before after what a b same is =
     told_none before after a b same (ap (λ (c : Counts). c.done) is ∙ heard_done what a) (ap (λ (c : Counts). c.failed) is ∙ heard_failed what a)
 
+-- a datagram is sent
+pub sends_next : (to : SocketAddr) (bytes : List ℕ) (acts start later : List Act) → later ≡ sent to bytes ∷ acts → told_in acts ≡ told_in start → told_in later ≡ told_in start
+sends_next to bytes acts start later is was = ap (λ (l : List Act). told_in l) is ∙ was
+
 -- the next row is reported
-pub tells_next : (acts start : List Act) (after : List Ended) (row : Ended) (left : List Ended) (saved : List Ended) → told_in acts ++ left ≡ told_in start ++ saved → left ≡ row ∷ after
-    → (told_in acts ++ row ∷ []) ++ after ≡ told_in start ++ saved
-tells_next acts start after row left saved was next = append_assoc (told_in acts) (row ∷ []) after ∙ ap (λ (l : List Ended). told_in acts ++ l) (sym next) ∙ was
+pub tells_next : (acts start later : List Act) (row : Ended) (left others saved : List Ended) → later ≡ told row ∷ acts → told_in acts ++ left ≡ told_in start ++ saved → left ≡ row ∷ others
+    → told_in later ++ others ≡ told_in start ++ saved
+tells_next acts start later row left others saved is was next =
+    ap (λ (l : List Act). told_in l ++ others) is ∙ append_assoc (told_in acts) (row ∷ []) others ∙ ap (λ (l : List Ended). told_in acts ++ l) (sym next) ∙ was
 
 pub tells_all : (acts start : List Act) (left saved : List Ended) → left ≡ [] → told_in acts ++ left ≡ told_in start ++ saved → told_in acts ≡ told_in start ++ saved
 tells_all acts start left saved none was = sym (append-nil (told_in acts)) ∙ ap (λ (l : List Ended). told_in acts ++ l) (sym none) ∙ was

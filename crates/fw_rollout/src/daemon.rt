@@ -225,6 +225,7 @@ impl<D: JournalDevice + Drop> HeadDaemon<D> {
         ensures counts { IfOk result (λ r. MatchOption r (counted_of self.new ≡ counted_of self.old) (λ due. counted_of self.new
             ≡ record (counted_of self.old) { sent = min ((counted_of self.old).sent + length due.datagrams.items) greatest })) }
         ensures counts_err { OnErr result (counted_of self.new ≡ counted_of self.old) }
+        ensures since { since_of self.new ≡ since_of self.old }
 
         // Nothing is sent only where no meter may be asked at this time, or too much is out.
         ensures none { (leader : Leader) → IsLed D.honest D.contents D.may_leave self.old leader
@@ -385,6 +386,7 @@ impl<D: JournalDevice + Drop> HeadDaemon<D> {
         ensures emptied { OnOk result (ended_of self.new ≡ []) }
         ensures counts { IfOk result (λ ended. CountsJust ended.items (counted_of self.old) (counted_of self.new)) }
         ensures counts_err { OnErr result (counted_of self.new ≡ counted_of self.old) }
+        ensures since { since_of self.new ≡ since_of self.old }
         ensures stops { IfErr result IsSaveStop }
 
         // The causes of a commit that is refused.

@@ -4,9 +4,8 @@ use Rattle.std.proofs.lemmas.List.Elements.{All-drop}
 use Rattle.std.specs.Global.{Vec}
 use Rattle.fw_head.specs.Head.{IsOfferedIn}
 use Rattle.fw_head.specs.Row.{bytes_of}
-use Rattle.fw_rollout.specs.Acts.{Act}
-use Rattle.fw_rollout.specs.Counting.{told_in}
 use Rattle.fw_rollout.specs.Leading.{Leads}
+use Rattle.fw_rollout.proofs.Counted.{sends_next}
 use Rattle.fw_rollout.proofs.Steps.{may_send, sending, sends_on}
 use Rattle.fw_rollout.proofs.serving.send_all.Goals as goal
 
@@ -43,7 +42,8 @@ loop-datagram-preserved g c =
       λ done legal. c.send.ensures.law done (c.loop-datagram.invariant.2 done legal),
       λ honest.
           let is = subst (λ (b : Bool). IsTrue b) (sym c.loop-datagram.invariant.1) honest in
-          ap (λ (acts : List Act). told_in acts) (c.send.ensures.sent is) ∙ c.loop-datagram.invariant.3 honest,
+          sends_next c.args.to c.deref.result.now (g.P.Port.acts c.loop-datagram.port) (g.P.Port.acts c.args.port.now) (g.P.Port.acts c.send.new.self) (c.send.ensures.sent is)
+          (c.loop-datagram.invariant.3 honest),
     )
 
 pub returns-clause-told : goal.returns-clause-told

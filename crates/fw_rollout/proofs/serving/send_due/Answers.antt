@@ -1,19 +1,20 @@
-use Rattle.std.proofs.Common.{rules, Bool, IsTrue, refl, sym, ap, subst, ◌∙◌}
-use Rattle.fw_rollout.specs.declared.daemon.Counts.{Counts}
-use Rattle.fw_rollout.proofs.Counted.{told_none, told_on, told_same}
+use Rattle.std.proofs.Common.{rules, Bool, IsTrue, refl, sym, subst, ◌∙◌}
+use Rattle.fw_rollout.proofs.Counted.{told_on, told_same, told_sent}
 use Rattle.fw_rollout.proofs.Steps.{may_tick}
 use Rattle.fw_rollout.proofs.Rounds.{at_err, begins_on, follows_none, joined, ticked}
 use Rattle.fw_rollout.proofs.serving.send_due.Goals as goal
 
-pub returns-in_err-due-clause-leads : goal.returns-in_err-due-clause-leads
-returns-in_err-due-clause-leads g c = record {
-  leads = λ honest start led rests. search rules;
-  leads_err = λ honest start led rests.
-      let one = c.loop.invariant.0 honest start led rests in
-      at_err c.from_residual.result (one.now, one.leads);
-  counts = λ honest. told_on _ _ _ _ _ _ (c.loop.invariant.3 honest) (told_same _ _ _ _ refl c.in_err-due.ensures.counts_err);
-  honesty = c.loop.invariant.1;
-  law = c.loop.invariant.2;
+pub returns-in_err-due : goal.returns-in_err-due
+returns-in_err-due g c = record {
+  leads = record {
+    leads = λ honest start led rests. search rules;
+    leads_err = λ honest start led rests.
+        let one = c.loop.invariant.0 honest start led rests in
+        at_err c.from_residual.result (one.now, one.leads);
+    counts = λ honest. told_on _ _ _ _ _ _ (c.loop.invariant.3 honest) (told_same _ _ _ _ refl c.in_err-due.ensures.counts_err);
+    honesty = c.loop.invariant.1;
+    law = c.loop.invariant.2;
+  };
 }
 
 pub send_all-requires : goal.send_all-requires
@@ -25,27 +26,31 @@ send_all-requires g c = λ h.
     let made = rw c.in-Some.is at (c.in_ok-due.ensures.ticks begins.leader begins.led begins.rests.sent_all) in
     (made.0, rw c.deref.ensures.value made.3, may_tick (g.P.Port.legal c.loop.port) begins.leader made.0 c.in-Some.due.meter _ begins.may made.1)
 
-pub returns-in-None-clause-leads : goal.returns-in-None-clause-leads
-returns-in-None-clause-leads g c = record {
-  leads = λ honest start led rests.
-      let one = c.loop.invariant.0 honest start led rests in
-      let same = rw c.in-None.is at (c.in_ok-due.ensures.ticks one.now one.led one.rests.sent_all) in
-      record { now = one.now; leads = one.leads; led = same; rests = one.rests };
-  leads_err = λ honest start led rests. tt;
-  counts = λ honest.
-      let same = rw c.in-None.is at c.in_ok-due.ensures.counts in
-      told_on _ _ _ _ _ _ (c.loop.invariant.3 honest) (told_same _ _ _ _ refl same);
-  honesty = c.loop.invariant.1;
-  law = c.loop.invariant.2;
+pub returns-in-None : goal.returns-in-None
+returns-in-None g c = record {
+  leads = record {
+    leads = λ honest start led rests.
+        let one = c.loop.invariant.0 honest start led rests in
+        let same = rw c.in-None.is at (c.in_ok-due.ensures.ticks one.now one.led one.rests.sent_all) in
+        record { now = one.now; leads = one.leads; led = same; rests = one.rests };
+    leads_err = λ honest start led rests. tt;
+    counts = λ honest.
+        let same = rw c.in-None.is at c.in_ok-due.ensures.counts in
+        told_on _ _ _ _ _ _ (c.loop.invariant.3 honest) (told_same _ _ _ _ refl same);
+    honesty = c.loop.invariant.1;
+    law = c.loop.invariant.2;
+  };
 }
 
-pub returns-clause-leads : goal.returns-clause-leads
-returns-clause-leads g c = record {
-  leads = c.loop.invariant.0;
-  leads_err = λ honest start led rests. tt;
-  counts = c.loop.invariant.3;
-  honesty = c.loop.invariant.1;
-  law = c.loop.invariant.2;
+pub returns : goal.returns
+returns g c = record {
+  leads = record {
+    leads = c.loop.invariant.0;
+    leads_err = λ honest start led rests. tt;
+    counts = c.loop.invariant.3;
+    honesty = c.loop.invariant.1;
+    law = c.loop.invariant.2;
+  };
 }
 
 pub loop-init : goal.loop-init
@@ -65,5 +70,5 @@ loop-preserved g c =
       λ honest.
           let then : IsTrue (g.P.Port.honest c.loop.port) = subst (λ (b : Bool). IsTrue b) (sym was.1) honest in
           let made = rw c.in-Some.is at c.in_ok-due.ensures.counts in
-          told_on _ _ _ _ _ _ (was.3 honest) (told_none _ _ _ _ (c.send_all.ensures.told then) (ap (λ (x : Counts). x.done) made) (ap (λ (x : Counts). x.failed) made)),
+          told_on _ _ _ _ _ _ (was.3 honest) (told_sent _ _ _ _ _ (c.send_all.ensures.told then) made),
     )

@@ -1,9 +1,7 @@
-use Rattle.std.proofs.Common.{◌≡◌, ◌∷◌, ◌++◌, ◌+◌, ◌<◌, List, [], IsTrue, Bool, ℕ, length, drop, get_or, sym, subst, ap, ◌∙◌, arith}
+use Rattle.std.proofs.Common.{◌≡◌, ◌∷◌, ◌+◌, ◌<◌, List, [], IsTrue, Bool, ℕ, length, drop, get_or, sym, subst, ap, ◌∙◌, arith}
 use Rattle.std.proofs.lemmas.List.{drop_all, drop_more}
 use Rattle.std.proofs.lemmas.List.Elements.{All-drop}
 use Rattle.fw_rollout.specs.declared.ended.Ended.{Ended}
-use Rattle.fw_rollout.specs.Acts.{Act}
-use Rattle.fw_rollout.specs.Counting.{told_in}
 use Rattle.fw_rollout.specs.Leading.{IsNotedIn, Leads}
 use Rattle.fw_rollout.proofs.Counted.{tells_all, tells_next}
 use Rattle.fw_rollout.proofs.Steps.{may_tell, telling, tells_on}
@@ -38,8 +36,8 @@ loop-ended-preserved g c =
       λ done legal. c.tell.ensures.law done (c.loop-ended.invariant.2 done legal),
       λ honest.
           let is = subst (λ (b : Bool). IsTrue b) (sym c.loop-ended.invariant.1) honest in
-          ap (λ (acts : List Act). told_in acts ++ drop (i + 1) all) (c.tell.ensures.told is)
-          ∙ tells_next (g.P.Port.acts c.loop-ended.port) (g.P.Port.acts c.args.port.now) (drop (i + 1) all) c.ended-item.result (drop i all) all (c.loop-ended.invariant.3 honest) left,
+          tells_next (g.P.Port.acts c.loop-ended.port) (g.P.Port.acts c.args.port.now) (g.P.Port.acts c.tell.new.self) c.ended-item.result (drop i all) (drop (i + 1) all) all
+          (c.tell.ensures.told is) (c.loop-ended.invariant.3 honest) left,
     )
 
 pub returns-clause-told : goal.returns-clause-told
