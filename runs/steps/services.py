@@ -5,7 +5,7 @@ import hashlib
 import resource
 import signal
 
-from common import HOST, Failed, Head, Members, bound, comes_in, listed, name_of, received, stays_silent, wants
+from common import HOST, PATIENCE, Failed, Head, Members, bound, comes_in, listed, name_of, received, stays_silent, wants
 from ends import ANSWERS_FAULT, GET_STATUS, SET_ENABLED, STATUS, Fleet, HeadEnd, opening, status_of
 from ports import PATIENT
 
@@ -66,7 +66,7 @@ def a_campaign_is_cancelled(place):
         stays_silent(first, seconds=0)
     rows = [f"7,1,{number},cancelled" for number in range(1, 257)]
     wants(status_of(place.folder, "csv").splitlines()[1:] == [*rows, "7,2,257,live"], "status has other rows once a campaign is cancelled")
-    lines = HeadEnd(place.folder, "--cancel", "2").over(patience=5)
+    lines = HeadEnd(place.folder, "--cancel", "2").over(patience=PATIENCE)
     wants(lines[1:] == ["cancelled 7 2", "over done 0 failed 0"], f"it prints {lines}")
     wants(status_of(place.folder, "csv").splitlines()[1:] == [*rows, "7,2,257,cancelled"], "status has other rows once both are cancelled")
     refused(place, "NotLive", "--cancel 1", "--cancel", "1")
@@ -81,7 +81,7 @@ def refused(place, fault, about, *words, head="7", **how):
     """Fails where a head end isn't refused for this fault with a second line about this, or changes its book."""
     path = place.folder / "head.book"
     before = path.read_bytes() if path.exists() else None
-    status, lines, said = HeadEnd(place.folder, *words, head=head, **how).end(patience=5)
+    status, lines, said = HeadEnd(place.folder, *words, head=head, **how).end(patience=PATIENCE)
     wants(status == 1 and not lines and said[:1] == [f"dlmsfw: {fault}"], f"in place of {fault} it ends with {status}, {lines} and {said}")
     wants(len(said) == 2 and begins(said[1], about), f"of {fault} the second line is {said[1:]}")
     wants((path.read_bytes() if path.exists() else None) == before, f"at {fault} the book is changed")
@@ -125,7 +125,8 @@ def full_disk(process):
     limit = resource.prlimit(process.pid, resource.RLIMIT_FSIZE)
     resource.prlimit(process.pid, resource.RLIMIT_FSIZE, (0, limit[1]))
     yield
-    resource.prlimit(process.pid, resource.RLIMIT_FSIZE, limit)
+    if process.poll() is None:
+        resource.prlimit(process.pid, resource.RLIMIT_FSIZE, limit)
 
 
 # To be seen: a store that takes what isn't written for written; a meter that ends, or doesn't answer; one that goes on with what a failed
@@ -152,6 +153,26 @@ def a_meter_on_a_full_disk(place):
         with full_disk(process):
             wants(head.ask(fleet.meters[1], SET_ENABLED) == ANSWERS_FAULT, "later a SET that can't be written is done")
         wants(head.ask(fleet.meters[1], SET_ENABLED) == SET_DONE, "with room again a SET isn't done")
+
+
+# To be seen: a head end that tells a row which the disk doesn't have, or goes on; a book that takes what isn't written for written.
+def a_head_end_on_a_full_disk(place):
+    """A head end whose disk gets full ends with BookFault, and told nothing that the disk hasn't. With room it goes on."""
+    signal.pthread_sigmask(signal.SIG_BLOCK, [signal.SIGXFSZ])
+    book = place.folder / "head.book"
+    with Fleet(place.folder, 1).killed() as fleet:
+        # The meter is heard once the disk is full.
+        fleet.meters[1].process.send_signal(signal.SIGSTOP)
+        with HeadEnd(place.folder, "--new", *opening(place.folder, b"image")).running() as head:
+            lines_until(head, "opened ")
+            with full_disk(head.process):
+                fleet.meters[1].process.send_signal(signal.SIGCONT)
+                status, lines, said = head.end()
+        wants((status, lines, said[:1]) == (1, [], ["dlmsfw: BookFault"]), f"it ends with {status}, {lines} and {said}")
+        wants(begins(said[1], f"--book {book}"), f"it says {said}")
+        wants(status_of(place.folder, "csv").splitlines()[1:] == ["7,1,1,live"], "the row isn't live")
+        lines = HeadEnd(place.folder).over()
+        wants(lines[1:] == ["row 7 1 1 done", "over done 1 failed 0"], f"with room it prints {lines}")
 
 
 # To be seen: a making that takes a full disk for done, or leaves a part of a store or of a book.
@@ -192,6 +213,7 @@ STEPS = [
     a_campaign_is_cancelled,
     a_head_end_is_refused,
     a_meter_on_a_full_disk,
+    a_head_end_on_a_full_disk,
     makings_on_a_full_disk,
     each_of_a_fleet_has_its_own,
 ]
