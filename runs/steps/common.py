@@ -15,7 +15,7 @@ ROOT = pathlib.Path(__file__).resolve().parents[2]
 HOSTILE = ROOT / "hostile"
 sys.path[:0] = [str(HOSTILE), str(ROOT / "bench")]
 
-from ends import Failed, Head, Meter, preloaded, wants  # noqa: E402
+from ends import Failed, Head, Meter, preloaded, wants  # noqa: E402, F401
 
 HOST = "127.0.0.1"
 # How long it is looked whether something comes that must not, in seconds; and how long it may take that something comes which must.

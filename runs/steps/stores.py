@@ -135,9 +135,9 @@ def cuts_of_openings(place, cuts):
     return found
 
 
-def made(place, folder, run, **settings):
-    """A run of the session, recorded: its status, what it answers, and its calls."""
-    text = lines([RUNS[run]]) if RUNS[run] else ""
+def made(place, folder, run, more=(), **settings):
+    """A run of the session, recorded, which asks for more then: its status, what it answers, and its calls."""
+    text = lines([*RUNS[run : run + bool(RUNS[run])], *more])
     return recorded_run(place, folder, "answer", "--store", STORE, text=text, **settings)
 
 
@@ -161,16 +161,16 @@ def stores_outlive_cuts(place):
 # To be seen: a call that was refused and is taken for done; a header write that was refused and leaves a part of it; a block that is
 # marked and not written.
 def refused_calls_change_nothing(place):
-    """On a disk that refuses each call from one on a run answers hardware-fault or doesn't open the store, and the meter is as before it, or as after
-    it where the last call alone was refused. With room the campaign goes on."""
+    """On a disk that refuses each call from one on a run doesn't open the store, or answers hardware-fault, and its meter is as before. The
+    store has it as before or as after, and with room the campaign goes on."""
     folder, cuts = place.sub("session").folder, set()
     for run, handed in enumerate(RUNS):
         before = [(it.name, it.read_bytes()) for it in folder.iterdir()]
         _, _, calls = made(place, folder, run)
         for fail in range(1, 1 + sum(word in CHANGES for word, *_ in calls)):
             with folder_of(place.folder, before) as at:
-                status, out, _ = made(place, at, run, FAIL=fail)
-                fault = (0, lines([answer(handed, 1)])) if handed else None
+                status, out, _ = made(place, at, run, READS, FAIL=fail)
+                fault = (0, lines([answer(handed, 1), *SHOWN[run - 1]])) if handed else None
                 wants((status, out) in (fault, (1, "")), f"where call {fail} of run {run} is refused it ends with {status} and {out!r}")
                 state = key({it.name: it.read_bytes() for it in pathlib.Path(at).iterdir()})
             # (a file without bytes stays where its first sync is refused)
