@@ -1,8 +1,9 @@
 /* Records the calls by which a program changes files: preloaded, it writes a line for each that was done into the file RECORD, with the
  * bytes in hexadecimal. So it does for what is to be written to standard output. Where FAIL is a number, the call with that number and
  * all later ones are refused, as on a full disk, except those to standard output. Where KILL is a number, the program is killed before
- * the call with that number, and datagrams, lines and what is taken away count as calls too. hostile/power, hostile/book and
- * hostile/daemons compile and use it; nothing of the product does. */
+ * the call with that number, and datagrams, lines and what is taken away count as calls too. Where SENDS is set, a datagram that was sent
+ * has a line too, and so has the address that a socket was bound to. hostile/power, hostile/book, hostile/daemons and runs/sessions compile
+ * and use it; nothing of the product does. */
 #define _GNU_SOURCE
 #include <errno.h>
 #include <fcntl.h>
@@ -18,11 +19,13 @@
 
 static int record = -1;
 static unsigned long calls, fails, acts, kills;
+static int sends;
 
 __attribute__((constructor)) static void begin(void) {
     const char *path = getenv("RECORD"), *at = getenv("FAIL"), *last = getenv("KILL");
     fails = at ? strtoul(at, NULL, 10) : 0;
     kills = last ? strtoul(last, NULL, 10) : 0;
+    sends = getenv("SENDS") != NULL;
     if (!path) return;
     int file = syscall(SYS_openat, AT_FDCWD, path, O_WRONLY | O_CREAT | O_TRUNC, 0600);
     record = fcntl(file, F_DUPFD_CLOEXEC, 100);
@@ -133,5 +136,13 @@ ssize_t write(int file, const void *bytes, size_t size) {
 
 ssize_t sendto(int file, const void *bytes, size_t size, int flags, const struct sockaddr *to, socklen_t length) {
     act();
-    return syscall(SYS_sendto, file, bytes, size, flags, to, length);
+    ssize_t done = syscall(SYS_sendto, file, bytes, size, flags, to, length);
+    if (sends && done >= 0) tell("send", file, 0, bytes, done);
+    return done;
+}
+
+int bind(int file, const struct sockaddr *at, socklen_t length) {
+    int done = syscall(SYS_bind, file, at, length);
+    if (sends && !done) tell("bind", file, 0, at, length);
+    return done;
 }

@@ -3,8 +3,9 @@ import os
 import subprocess
 
 ROOT = os.path.dirname(os.path.dirname(os.path.realpath(__file__)))
-# The folder in mutants/ whose edits tests see; each other one has the edits of a crate, which the prover refuses.
+# The folders in mutants/ whose edits tests see, and runs of the program; each other one has the edits of a crate, which the prover refuses.
 TRIED_BY_TESTS = "by_tests"
+TRIED_BY_RUNS = "by_runs"
 
 
 class Unfit(Exception):
@@ -16,11 +17,11 @@ REFUSED_BY = "refused-by"
 
 
 class Edit:
-    """One edit: its name, its file, its text without the line of what refused it, that line, the test that it names, if it
-    names one, and the pairs of it by file."""
+    """One edit: its name, its file, its text without the line of what refused it, that line, the test or the step of a run that it
+    names, if it names one, and the pairs of it by file."""
 
     def __init__(self, name, path):
-        self.name, self.path, self.test, self.refused_by, self.pairs = name, path, None, None, []
+        self.name, self.path, self.test, self.seen_by, self.refused_by, self.pairs = name, path, None, None, None, []
         with open(path, encoding="utf-8") as it:
             lines = it.read().split("\n")
         self.text = "\n".join(line for line in lines if not line.startswith(f"{REFUSED_BY}:"))
@@ -30,6 +31,8 @@ class Edit:
             rest = rest[1:] if rest.startswith(" ") else rest
             if word == "test":
                 self.test = rest.strip()
+            elif word == "seen-by":
+                self.seen_by = rest.strip()
             elif word == REFUSED_BY:
                 self.refused_by = rest.strip()
             elif word == "file":

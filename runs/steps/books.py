@@ -1,0 +1,114 @@
+"""Head ends over books in files, with the power cut at each call of two runs.
+
+Which books may be there at a moment follows from what was asked for, from how the meters answer that are played here, and from the lines
+that were told. What a file holds is read here, as docs/BOOK.md and docs/FORMATS.md spell it. hostile/book does both.
+"""
+
+import random
+import signal
+
+from common import bound, comes_in, listed, PATIENCE, script, wait_for, wants
+from cuts import last_sync, lefts, number_of_call, power, recording
+from disk import Disk
+
+book = script("book")
+# How many lengths, places and values of one change are tried, and how long a run may take.
+book.CHOICES, book.LONGEST = 8, 20
+BOOK, HEAD = book.BOOK, str(book.HEAD)
+
+# A new book, and a campaign for a meter that takes the image, eleven that refuse it, and one that never answers. Then it is cancelled, and
+# another one is opened for the first meter. Rows that ended are more than half of the book by then, so that it is written anew first.
+FIRST = book.Run((1, *range(61, 72), 101), new=True, open=(1, 5, b"the first image"))
+NEXT = book.Run((1,), cancel=1, open=(2, 0, b"another image"))
+
+
+def place_of(place):
+    """The folder, the program and the meters of hostile/book."""
+    library = place.library("record")
+    book.PROGRAM, book.recorder = place.program, lambda _: library
+    return book.Place(place.folder)
+
+
+def wrong(state, may_be):
+    """Why a state may not be left, if so."""
+    files = dict(state)
+    try:
+        held = book.read(files[BOOK]) if BOOK in files else None
+    except book.NoBook as why:
+        return str(why)
+    return None if may_be(held) else f"it has {held}"
+
+
+def judged(run, cuts):
+    """Fails where a cut of a run leaves what it must not."""
+    faults = [fault for fault in (wrong(*cut) for cut in cuts) if fault]
+    wants(not faults, f"of {len(cuts)} cuts of {run.words()} {len(faults)} leave what they must not; of one {faults[:1]}")
+
+
+# To be seen: a new book that isn't synced before its rename; a folder that isn't synced after that, or after the rename of a book that is
+# written anew; a book written anew that isn't synced before its rename; a record that isn't synced before its gate, or a gate before its
+# line is told; a file that is cut off before what is cut off is kept and synced, or before its folder is.
+def books_outlive_cuts(place):
+    """A book that is cut at a call is that of a moment since the last line, also where it is made or written anew. What an opening cuts off
+    is kept."""
+    played, chance = place_of(place), random.Random(70)
+    disk, known, anew = Disk(), None, 0
+    for run in (FIRST, NEXT):
+        calls, ending = played.record(book.files_of(disk), run, known or ())
+        disk.open.clear()
+        cuts, told = book.cut(disk, run, known, calls, chance)
+        wants(not ending and told == run.ends(known or ()), f"{run.words()} ends with {ending}, and tells of {told}")
+        judged(run, cuts)
+        anew += sum(word == "rename" for word, *_ in calls)
+        known = told
+    wants(anew == 2, f"a book was made or written anew {anew} times")
+    kept = list(book.kept_first(played, book.files_of(disk)[BOOK], chance))
+    wants(all(kept), f"of {len(kept)} cuts {kept.count(False)} lack what an opening cut off")
+
+
+def words_of(*more):
+    """The words of a head end with a book in its folder."""
+    return ["head", "--head", HEAD, "--book", BOOK, "--meters", "meters.csv", "--listen", "127.0.0.1:0", *more]
+
+
+# To be seen: an opening that doesn't sync what it reads.
+def a_book_is_synced_before_it_is_led(place):
+    """A head end that is killed before the last sync of an opening is started again: nothing is sent until a cut leaves what it reads."""
+    meter = bound()
+    new = words_of("--new", "--open", "1", "--release", "5", "--image", "image")
+    opened = (book.Campaign(1, 5, b"image", ((1, book.LIVE),)),)
+    for name in ("whole", "killed"):
+        (place.sub(name).folder / "image").write_bytes(b"image")
+        listed(place.folder / name, [meter.getsockname()])
+    with recording(place, place.folder / "whole", *new) as (process, calls_of):
+        for _ in range(2):
+            process.stdout.readline()
+        calls = calls_of()
+    told = [at for at, (word, *_, given) in enumerate(calls) if word == "print" and given.startswith(b"opened ")]
+    wants(told, f"it is not told that it is opened, in {calls}")
+    call = number_of_call(calls, last_sync(calls, told[0]))
+    disk = power.Sectors()
+    with recording(place, place.folder / "killed", *new, KILL=call) as (process, calls_of):
+        wait_for(lambda: process.poll() is not None, "it isn't killed")
+        wants(process.returncode == -signal.SIGKILL, f"before call {call} it ends with {process.returncode}")
+        for one in calls_of():
+            disk.take(*one)
+    wants({held(left) for left in lefts(disk)} == {(), opened}, "the opening is synced before it can be")
+    disk.open.clear()
+    while comes_in(meter, 0):
+        meter.recv(65535)
+    with recording(place, place.folder / "killed", *words_of()) as (process, calls_of):
+        wants(comes_in(meter, PATIENCE), "nothing is sent")
+        for one in calls_of():
+            if one[0] == "send":
+                break
+            disk.take(*one)
+    wants({held(left) for left in lefts(disk)} == {opened}, "what is sent is of a campaign that a cut may take away")
+
+
+def held(state):
+    """The book in a state."""
+    return book.read(dict(state)[BOOK])
+
+
+STEPS = [books_outlive_cuts, a_book_is_synced_before_it_is_led]

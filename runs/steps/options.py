@@ -1,0 +1,106 @@
+"""Options of head ends and meters, each of which does what the help says. The datagrams are spelled by hand from docs/FORMATS.md."""
+
+import hashlib
+import socket
+import struct
+
+from common import PATIENCE, SILENCE, Head, Members, Meter, bound, comes_in, listed, received, stays_silent, wants
+from ends import GET_NAME, HeadEnd
+from ports import PATIENT, listens_at, opening
+
+GET_BLOCK_SIZE = "000100010001000dc001c1001200002c0000ff0200"
+
+
+def replied(meter, at, tail):
+    """Answers the next datagram of a head end, with its invoke byte. What it asked for."""
+    asked, _ = received(meter)
+    apdu = bytes.fromhex(asked)[8:]
+    reply = bytes([apdu[0] + 4, 1, apdu[2]]) + bytes.fromhex(tail)
+    meter.sendto(bytes.fromhex("000100010001") + len(reply).to_bytes(2, "big") + reply, at)
+    return apdu
+
+
+def blocks_at_once(folder, *words):
+    """How many blocks come to a meter before it answers one, of an image of ten blocks of a byte."""
+    meter = bound()
+    listed(folder, [meter.getsockname()])
+    with HeadEnd(folder, *opening(folder, image=b"ten blocks"), *PATIENT, *words).running() as head:
+        at = listens_at(head)
+        # The block size, the enable and the initiate: a GET answers with 00 and a Data, a SET with a code, an ACTION with a code and 00.
+        asked = [replied(meter, at, tail)[:2] for tail in ("000600000001", "00", "0000")]
+        wants(asked == [b"\xc0\x01", b"\xc1\x01", b"\xc3\x01"], f"it asks {asked}")
+        count = 0
+        while comes_in(meter, SILENCE):
+            apdu = bytes.fromhex(received(meter)[0])[8:]
+            # Method 2 of Image transfer, and in its parameter the number of the block.
+            wants(apdu[11:14] == b"\x02\x01\x02" and apdu[16:20] == count.to_bytes(4, "big"), f"block {count} is {apdu.hex()}")
+            count += 1
+    return count
+
+
+# To be seen: a head end that ignores --width, or sends its blocks in another order.
+def the_width_is_kept(place):
+    """So many blocks are sent to a meter at a time: 4, or those of --width."""
+    for words, want in (((), 4), (("--width", "1"), 1), (("--width", "7"), 7)):
+        count = blocks_at_once(place.sub(f"{want}").folder, *words)
+        wants(count == want, f"with {words} it sends {count} blocks at a time")
+
+
+# Linux: the system tells when a datagram came, in seconds and nanoseconds.
+SO_TIMESTAMPNS = 35
+
+
+def arrival(sock):
+    """When the next datagram came, in seconds."""
+    wants(comes_in(sock, PATIENCE), "nothing comes")
+    _, [(_, _, stamp), *_], _, _ = sock.recvmsg(65535, 64)
+    seconds, nanoseconds = struct.unpack("=qq", stamp[:16])
+    return seconds + nanoseconds / 1e9
+
+
+# To be seen: a head end that ignores --resend, or doesn't ask again; one that ends though it is to stay, or stays though it isn't.
+def a_head_end_waits_and_stays(place):
+    """A meter that doesn't answer is asked again after --resend, and not before; and with --stay a head end without live rows goes on."""
+    meter = bound()
+    meter.setsockopt(socket.SOL_SOCKET, SO_TIMESTAMPNS, 1)
+    listed(place.folder, [meter.getsockname()])
+    with HeadEnd(place.folder, *opening(place.folder), "--resend", "300").running():
+        first, second = arrival(meter), arrival(meter)
+    wants(second - first > 0.29, f"it is asked again after {second - first:.3f} s")
+    folder = place.sub("staying").folder
+    listed(folder, [])
+    with HeadEnd(folder, "--new", "--stay").running() as head:
+        listens_at(head)
+        stays_silent(meter)
+        wants(head.process.poll() is None, "with --stay it ends")
+    lines = HeadEnd(folder).over(patience=PATIENCE)
+    wants(lines[1:] == ["over done 0 failed 0"], f"without it it prints {lines}")
+
+
+# To be seen: a meter, or a fleet, that ignores --block-size, --capacity or --factory-file.
+def a_new_meter_is_as_asked_for(place):
+    """A new meter has the block size, the capacity and the image that its options say, alone and in a fleet, and keeps them."""
+    factory = place.folder / "factory"
+    factory.write_bytes(b"factory image")
+    words = ["--block-size", "7", "--capacity", "100", "--factory-file", factory]
+    name = "000100010001002fc401c1000929010000000000000000" + hashlib.sha256(b"factory image").hexdigest()
+    head = Head()
+
+    def asked(meter):
+        wants(head.ask(meter, GET_BLOCK_SIZE) == "0001000100010009c401c1000600000007", "the block size isn't 7")
+        wants(head.ask(meter, GET_NAME) == name, "another image runs")
+
+    with Meter(place.folder / "meter.fw", *words).killed() as meter:
+        asked(meter)
+    fleet = Members(place.folder, 2, *words)
+    with fleet.meter.killed():
+        for meter in fleet.at:
+            asked(meter)
+    # A header of version 2 has 2,158 bytes; before it stand four, and in it two slots (docs/STORE.md).
+    sizes = [(place.folder / it).stat().st_size for it in ("meter.fw", "fleet.fw.1", "fleet.fw.2")]
+    wants(sizes == [2162 + 2 * 100] * 3, f"the stores have {sizes} bytes")
+    with Meter(place.folder / "meter.fw", "--block-size", "9").killed() as meter:
+        asked(meter)
+
+
+STEPS = [the_width_is_kept, a_head_end_waits_and_stays, a_new_meter_is_as_asked_for]

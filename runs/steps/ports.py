@@ -1,0 +1,322 @@
+"""What sockets send, where to and from where, and whom they hear. The datagrams are spelled by hand from docs/FORMATS.md."""
+
+import contextlib
+import hashlib
+import os
+import pathlib
+import re
+import subprocess
+import time
+
+from common import HOST, SILENCE, Head, Members, Meter, bound, comes_in, listed, name_of, received, stays_silent, wait_for, wants
+from cuts import recording
+from ends import GET_NAME, GET_STATUS, STATUS, Failed, HeadEnd, action, transfer
+
+# The name of the image that a new meter of `meter` runs.
+RUNS_ABC = "000100010001002fc401c1000929010000000000000000" + hashlib.sha256(b"abc").hexdigest()
+# What a head end asks a new meter first, with the invoke-id 0, and then, with 1; and the answers to the first: 64 bytes a block, and none
+# that fits.
+ASKS_SIZE = "000100010001000dc001c0001200002c0000ff0200"
+ASKS_ENABLE = "000100010001000fc101c1001200002c0000ff05000301"
+HAS_64, HAS_0 = "0001000100010009c401c0000600000040", "0001000100010009c401c0000600000000"
+# How long a head end waits that is to ask once alone.
+PATIENT = ("--resend", "60000")
+
+
+def opening(folder, serial=1, image=b"an image"):
+    """The words that open a campaign of a new head end."""
+    (folder / "image").write_bytes(image)
+    return ["--new", "--open", str(serial), "--image", folder / "image"]
+
+
+def listens_at(head):
+    """Where a head end listens, by its first line."""
+    found = re.fullmatch(r"listening 127\.0\.0\.1:(\d+)\n", head.process.stdout.readline())
+    wants(found, "a head end doesn't tell where it listens")
+    return HOST, int(found[1])
+
+
+def at_a_free_port(start):
+    """What is started with the address of a port that was free before. Another process may take it meanwhile."""
+    for _ in range(5):
+        with bound() as free:
+            at = free.getsockname()
+        with contextlib.suppress(Failed):
+            return at, start(name_of(at))
+    raise Failed("no port stays free")
+
+
+# To be seen: a socket that sends a datagram twice, cut, to another address than that of who asked, or from another port than the line
+# says; one that is bound to another port than it was asked for; a meter that answers what asks for no answer.
+def a_meter_replies_once(place):
+    """A meter listens at the port that it is asked for, and answers each datagram once, from that port, to who sent it alone."""
+    at, meter = at_a_free_port(lambda listen: Meter(place.folder / "meter.fw", listen=listen))
+    with meter.killed():
+        wants(meter.address == at, f"it listens at {meter.address} in place of {at}")
+        first, second, third = bound(), bound(), bound()
+        for asker, line, want in ((first, GET_STATUS, STATUS % 0), (second, GET_NAME, RUNS_ABC)):
+            asker.sendto(bytes.fromhex(line), at)
+            got = received(asker)
+            wants(got == (want, at), f"the reply to {line} is {got}")
+        # A GET for which no answer is wanted.
+        third.sendto(bytes.fromhex(GET_STATUS.replace("c001c1", "c00181")), at)
+        stays_silent(first, second, third)
+
+
+# To be seen: a head end that sends from another port than its line says, twice, or to another meter; one that hears an answer from an
+# address that isn't in its list, or takes it for that of a meter which has not sent it.
+def a_head_end_asks_once(place):
+    """A head end asks each meter once, from the port that it is asked for, and hears the answer from the meter's own address alone."""
+    meter, other, stranger = bound(), bound(), bound()
+    listed(place.folder, [meter.getsockname(), other.getsockname()])
+
+    def start(listen):
+        head = HeadEnd(place.folder, *opening(place.folder), *PATIENT, listen=listen)
+        wants(head.process.stdout.readline() == f"listening {listen}\n", "it listens elsewhere, or not at all")
+        return head
+
+    at, head = at_a_free_port(start)
+    with head.running():
+        for sock in (meter, other):
+            got = received(sock)
+            wants(got == (ASKS_SIZE, at), f"the first datagram is {got}, and not {ASKS_SIZE} from {at}")
+        # These would make the row fail, and lead it on.
+        stranger.sendto(bytes.fromhex(HAS_0), at)
+        stranger.sendto(bytes.fromhex(HAS_64), at)
+        stays_silent(meter, other, stranger)
+        meter.sendto(bytes.fromhex(HAS_64), at)
+        got = received(meter)
+        wants(got == (ASKS_ENABLE, at), f"the next datagram is {got}, and not {ASKS_ENABLE} from {at}")
+        stays_silent(meter, other, stranger)
+        wants(head.process.poll() is None, "the head end ended")
+
+
+def status_of_all(heads, stranger, meters):
+    """Whether each meter answers each of these, and the stranger never. What the stranger sent comes before."""
+    for meter in meters:
+        for _ in range(3):
+            stranger.socket.sendto(bytes.fromhex(GET_STATUS), meter.address)
+        for head in heads:
+            got = head.ask(meter, GET_STATUS)
+            wants(got == STATUS % 0, f"{head.address()} gets {got}")
+        wants(not comes_in(stranger.socket, 0), "a stranger gets a reply")
+
+
+# To be seen: a meter that ignores --head, takes the first address alone, or compares the host alone; a fleet that does, or whose first
+# meter alone has the addresses; a capture that has a stranger's datagram, or doesn't count it.
+def strangers_are_dropped(place):
+    """Just the addresses of --head are answered, by a meter and by each of a fleet; what comes from others is counted in the capture."""
+    heads, stranger = [Head(), Head()], Head()
+    words = [word for head in heads for word in ("--head", head.address())]
+    for name, count in (("alone", 1), ("fleet", 2)):
+        folder = place.sub(name).folder
+        capture = folder / "meter.pcap"
+        options = [*words, "--capture", capture]
+        if count == 1:
+            meter = Meter(folder / "meter.fw", *options)
+            meters = [meter]
+        else:
+            fleet = Members(folder, count, *options)
+            meter, meters = fleet.meter, fleet.at
+        with meter.killed():
+            status_of_all(heads, stranger, meters)
+        content = capture.read_bytes()
+        notes = re.findall(rb"dlmsfw strangers (.{8})", content, re.DOTALL)
+        wants(notes == [(3).to_bytes(8, "big")] * count, f"the capture of {count} meters counts {notes}")
+        wants(content.count(bytes.fromhex(GET_STATUS)) == 2 * count, f"the capture of {count} meters has another number of requests")
+
+
+def asked_at_once(folder, count, least, *words):
+    """How many of these meters, none of which answers, are asked while the first of them is waited for, once these are."""
+    meters = [bound() for _ in range(count)]
+    listed(folder, [meter.getsockname() for meter in meters])
+    with HeadEnd(folder, *opening(folder), *PATIENT, *words).running() as head:
+        listens_at(head)
+        asked = set()
+        until = time.monotonic() + 10
+        while time.monotonic() < until:
+            now = {meter for meter in meters if comes_in(meter, 0)}
+            if now != asked:
+                asked, until = now, time.monotonic() + (SILENCE if len(now) >= least else 10)
+            time.sleep(0.01)
+    for meter in meters:
+        meter.close()
+    return len(asked)
+
+
+# To be seen: a head end that ignores --flight, or --resend.
+def the_flight_is_kept(place):
+    """No more datagrams are out than --flight, or those of one tick. By default that lets each of 60 meters be asked."""
+    for flight, least, most in ((1, 1, 1), (40, 2, 40), (None, 60, 60)):
+        words = ["--flight", str(flight)] if flight else []
+        asked = asked_at_once(place.sub(str(flight)).folder, 60, least, *words)
+        wants(least <= asked <= most, f"with a flight of {flight} it asks {asked} of 60 meters at once")
+
+
+# ---- the wires of `live`
+
+SCRIPT = "head 7 width 15\nmeter 1 block 2 capacity 64 factory 78\nmeter 2 block 2 capacity 64 factory 78\nopen 7 1 {} 1 2\n"
+
+
+def inet(text):
+    """An address as /proc has it: the bytes of the host the other way round."""
+    host, port = text.split(":")
+    return ".".join(str(byte) for byte in reversed(bytes.fromhex(host))), int(port, 16)
+
+
+def sockets_of(number):
+    """The UDP sockets of a process: of each its own address and that which it is joined to."""
+    with contextlib.suppress(OSError):
+        files = [os.readlink(it) for it in pathlib.Path(f"/proc/{number}/fd").iterdir()]
+        inodes = {found[1] for file in files if (found := re.fullmatch(r"socket:\[(\d+)\]", file))}
+        rows = [line.split() for line in pathlib.Path("/proc/net/udp").read_text().splitlines()[1:]]
+        return [(inet(row[1]), inet(row[2])) for row in rows if row[9] in inodes]
+    return []
+
+
+# To be seen: sockets that are bound to all addresses of the machine, or joined to none, so that others are heard.
+def wires_stay_on_this_machine(place):
+    """The sockets of `live` are bound to 127.0.0.1, and each is joined to its other end."""
+    words = ["live", "--rounds", "100000", "--workers", "2"]
+    process = subprocess.Popen([place.program, *words], stdin=subprocess.PIPE, stdout=subprocess.DEVNULL, stderr=subprocess.DEVNULL)
+    try:
+        process.stdin.write(SCRIPT.format("616263").encode())
+        process.stdin.close()
+        wait_for(lambda: sum(to[1] > 0 for _, to in sockets_of(process.pid)) == 4, "there aren't four sockets that are joined", seconds=5)
+        found = sockets_of(process.pid)
+    finally:
+        process.kill()
+        process.wait()
+    wants(len(found) == 4 and all(own[0] == to[0] == HOST for own, to in found), f"the sockets are {found}")
+    wants({(to, own) for own, to in found} == set(found), f"an end isn't joined to its other end: {found}")
+
+
+# To be seen: sockets that are bound to all addresses of the machine before they are joined.
+def wires_are_bound_to_this_machine(place):
+    """Each socket of `live` is bound to 127.0.0.1 at once."""
+    with recording(place, place.folder, "live", "--rounds", "1", "--workers", "1") as (process, calls_of):
+        out, said = process.communicate(SCRIPT.format("616263"), timeout=10)
+        wants((process.returncode, said) == (0, ""), f"it ends with {process.returncode} and {said}, and prints {out}")
+        found = [given for word, *_, given in calls_of() if word == "bind"]
+    # AF_INET is 2. A port is picked by the system.
+    want = (2).to_bytes(2, "little") + bytes(2) + bytes([127, 0, 0, 1])
+    wants([it[:8] for it in found] == 4 * [want], f"the sockets are bound to {[it.hex() for it in found]}")
+
+
+# To be seen: workers that make four passes, or any fewer than a window needs; passes that end with a wire that brought something.
+def slow_wires_are_waited_for(place):
+    """If each wire brings one datagram a pass, a window of 15 blocks takes 17 passes of its round, and the campaign its nine rounds."""
+    image = "61" * 30
+    status, out, said = place.run("live", "--rounds", "9", "--workers", "1", text=SCRIPT.format(image), env=place.preloaded("slow"))
+    rows = ["row 7 1 1 done", "row 7 1 2 done"]
+    meters = [f"meter {number} status 6 active 7 1 size 30" for number in (1, 2)]
+    want = [*rows, *meters, "activations 2", "board 2"]
+    wants((status, out.splitlines(), said) == (0, want, []), f"it ends with {status} and {said}, and prints {out}")
+
+
+# ---- captures
+
+
+def packets_before(calls, path):
+    """What is sent and what is written to files in the order of a record: of the capture and of a datagram the bytes, of any other file
+    nothing."""
+    names, acts = {}, []
+    for word, file, _, given in calls:
+        if word in ("open", "make"):
+            names[file] = given.decode()
+        elif word == "send":
+            acts.append(("send", given))
+        elif word == "write":
+            acts.append(("record", given) if names.get(file) == path else ("change", b""))
+    return acts
+
+
+def is_record_of(record, data):
+    """Whether bytes are one whole record of a capture, of a packet that ends with these bytes."""
+    size = int.from_bytes(record[8:12], "little")
+    return len(record) == 16 + size and record[12:16] == record[8:12] and record.endswith(data)
+
+
+# To be seen: a capture that records after the send, or after the store was changed; one that writes a record in parts.
+def records_come_first(place):
+    """A meter records what comes before it is handled, and its reply before it is sent, each by one write; a head end what it sends."""
+    asker, silent = bound(), bound()
+    enable = bytes.fromhex(ASKS_ENABLE)
+    words = ["meter", "--listen", f"{HOST}:0", "--store", "meter.fw", "--capture", "meter.pcap"]
+    with recording(place, place.folder, *words) as (process, calls_of):
+        port = int(process.stdout.readline().split(":")[1])
+        begun = len(calls_of())
+        asker.sendto(enable, (HOST, port))
+        reply = bytes.fromhex(received(asker)[0])
+        wait_for(lambda: calls_of()[-1][0] == "send", "what is sent has no line")
+        names = [call for call in calls_of()[:begun] if call[0] in ("open", "make")]
+        acts = packets_before([*names, *calls_of()[begun:]], "meter.pcap")
+    kinds = [kind for kind, _ in acts]
+    wants(kinds[0] == "record" and kinds[-2:] == ["record", "send"] and set(kinds[1:-2]) == {"change"}, f"the calls of a SET are {kinds}")
+    wants(is_record_of(acts[0][1], enable), f"the record of a SET is {acts[0]}")
+    wants(is_record_of(acts[-2][1], reply) and acts[-1][1] == reply, f"the record of its reply is {acts[-2:]}")
+    listed(place.folder, [silent.getsockname()])
+    words = ["head", "--head", "7", "--book", "head.book", "--meters", "meters.csv", "--listen", f"{HOST}:0", "--capture", "head.pcap"]
+    with recording(place, place.folder, *words, *PATIENT, *opening(place.folder)) as (process, calls_of):
+        asked = bytes.fromhex(received(silent)[0])
+        wait_for(lambda: calls_of()[-1][0] == "send", "what is sent has no line")
+        acts = packets_before(calls_of(), "head.pcap")
+    wants(acts[-1] == ("send", asked) and acts[-2][0] == "record" and is_record_of(acts[-2][1], asked), f"the last calls are {acts[-2:]}")
+
+
+# ---- verifications
+
+
+def answered(head, meter, line, code):
+    """Fails where the answer to an ACTION or a SET has another code."""
+    got = head.ask_until(meter, line)
+    wants(got[22:24] == f"{code:02x}", f"the answer to {line[:60]} is {got}")
+
+
+def brought(head, meter, image, noise=None):
+    """Brings an image of more than a slice to a meter, which then verifies it in turns, and has it activated."""
+    for line in transfer(image):
+        answered(head, meter, line, 0)
+    # 2, temporary-failure: the result isn't known yet.
+    answered(head, meter, action(3, "0f00"), 2)
+    end, status = time.monotonic() + 5, STATUS % 2
+    while status == STATUS % 2:
+        wants(time.monotonic() < end, "it verifies for seconds")
+        for _ in range(25):
+            if noise:
+                noise.sendto(b"noise", meter.address)
+            time.sleep(0.002)
+        status = head.ask_until(meter, GET_STATUS)
+    wants(status == STATUS % 3, f"the status is {status}")
+    answered(head, meter, action(4, "0f00"), 0)
+
+
+# To be seen: a port that waits in place of a turn; a fleet whose meters take no turns, or of which one does alone; a switch that isn't
+# told.
+def verifies_in_turns(place):
+    """An image of 40 slices is verified where nothing comes, and by the second meter of a fleet among what strangers send."""
+    image = bytes(range(256)) * 640
+    digest = hashlib.sha256(image).hexdigest()
+    told, head = [f"activated 7 1 0 {digest}\n"], Head()
+    with Meter(place.folder / "meter.fw", "--head", head.address()).killed() as meter:
+        brought(head, meter, image)
+        wait_for(lambda: meter.lines == told, f"the meter doesn't print {told}")
+    fleet = Members(place.folder, 2, "--head", head.address())
+    with fleet.meter.killed():
+        brought(head, fleet.at[1], image, noise=bound())
+        names = [head.ask_until(meter, GET_NAME) for meter in fleet.at]
+    wants(names[0] == RUNS_ABC and names[1].endswith(digest), f"the meters of the fleet run {names}")
+    wants(fleet.meter.lines[1:] == told, f"the fleet prints {fleet.meter.lines}")
+
+
+STEPS = [
+    a_meter_replies_once,
+    a_head_end_asks_once,
+    strangers_are_dropped,
+    the_flight_is_kept,
+    wires_stay_on_this_machine,
+    wires_are_bound_to_this_machine,
+    slow_wires_are_waited_for,
+    records_come_first,
+    verifies_in_turns,
+]

@@ -1,0 +1,219 @@
+"""Head ends and meters as services: started again, cancelled, refused, on a full disk, and several in one process."""
+
+import contextlib
+import hashlib
+import resource
+import signal
+
+from common import HOST, PATIENCE, Failed, Head, Members, bound, comes_in, listed, name_of, received, stays_silent, wants
+from ends import ANSWERS_FAULT, GET_STATUS, SET_ENABLED, STATUS, Fleet, HeadEnd, opening, status_of
+from ports import PATIENT
+
+# What a SET gets that was done, and a GET of image_transfer_enabled that gets false.
+SET_DONE = "0001000100010004c501c100"
+GET_ENABLED, IS_DISABLED = "000100010001000dc001c1001200002c0000ff0500", "0001000100010006c401c1000300"
+
+
+def lines_until(head, word):
+    """The lines of a head end up to the first that begins with this word."""
+    lines = []
+    for line in head.process.stdout:
+        lines.append(line.rstrip("\n"))
+        if line.startswith(word):
+            return lines
+    raise Failed(f"it prints {lines}")
+
+
+def drained(sock):
+    """Takes what came to a socket."""
+    while comes_in(sock, 0):
+        sock.recv(65535)
+
+
+# To be seen: an opening that the book has and that is opened again, or refused as used, or not led on; a line that is told again.
+def a_second_start_goes_on(place):
+    """A head end is started again with the same --open, amid its campaign and after it. It goes on, opens nothing, and then has nothing
+    to do."""
+    image, silent = bytes(range(256)) * 16, bound()
+    with Fleet(place.folder, 2).killed() as fleet:
+        fleet.list({1: fleet.addresses[1], 2: name_of(silent.getsockname())})
+        words = opening(place.folder, image)
+        with HeadEnd(place.folder, "--new", *words).running() as head:
+            lines = lines_until(head, "row ")
+        wants(lines[1:] == [f"opened 7 1 2 {hashlib.sha256(image).hexdigest()}", "row 7 1 1 done"], f"at first it prints {lines}")
+        fleet.list(fleet.addresses)
+        lines = HeadEnd(place.folder, *words).over()
+        wants(lines[1:] == ["row 7 1 2 done", "over done 1 failed 0"], f"at its second start it prints {lines}")
+        lines = HeadEnd(place.folder, *words).over()
+        wants(lines[1:] == ["over done 0 failed 0"], f"at its third start it prints {lines}")
+        fleet.run(image)
+
+
+# To be seen: a cancel that cancels nothing, or in memory alone; one that cancels another campaign, or all; one that is told and not done; a
+# cancelled row that is led on.
+def a_campaign_is_cancelled(place):
+    """The live rows of a cancelled campaign are cancelled, that of another isn't, and nothing is asked of its meters any more."""
+    # Campaigns have 256 meters at most. Of these the ones between the first and the last are addresses at which nobody listens.
+    first, last = bound(), bound()
+    listed(place.folder, [first.getsockname(), *((HOST, number) for number in range(2, 257)), last.getsockname()])
+    with HeadEnd(place.folder, "--new", *opening(place.folder, b"image"), *PATIENT).running() as head:
+        lines_until(head, "opened 7 2 ")
+        received(first)
+    drained(last)
+    with HeadEnd(place.folder, "--cancel", "1", *PATIENT).running() as head:
+        lines_until(head, "cancelled 7 1")
+        received(last)
+        stays_silent(first, seconds=0)
+    rows = [f"7,1,{number},cancelled" for number in range(1, 257)]
+    wants(status_of(place.folder, "csv").splitlines()[1:] == [*rows, "7,2,257,live"], "status has other rows once a campaign is cancelled")
+    lines = HeadEnd(place.folder, "--cancel", "2").over(patience=PATIENCE)
+    wants(lines[1:] == ["cancelled 7 2", "over done 0 failed 0"], f"it prints {lines}")
+    wants(status_of(place.folder, "csv").splitlines()[1:] == [*rows, "7,2,257,cancelled"], "status has other rows once both are cancelled")
+    refused(place, "NotLive", "--cancel 1", "--cancel", "1")
+
+
+def begins(text, wanted):
+    """Whether a line is this one, or goes on behind it with a cause."""
+    return text == wanted or text.startswith(f"{wanted}: ")
+
+
+def refused(place, fault, about, *words, head="7", **how):
+    """Fails where a head end isn't refused for this fault with a second line about this, or changes its book."""
+    path = place.folder / "head.book"
+    before = path.read_bytes() if path.exists() else None
+    status, lines, said = HeadEnd(place.folder, *words, head=head, **how).end(patience=PATIENCE)
+    wants(status == 1 and not lines and said[:1] == [f"dlmsfw: {fault}"], f"in place of {fault} it ends with {status}, {lines} and {said}")
+    wants(len(said) == 2 and begins(said[1], about), f"of {fault} the second line is {said[1:]}")
+    wants((path.read_bytes() if path.exists() else None) == before, f"at {fault} the book is changed")
+
+
+# To be seen: a head end that leads another one's book, or one that another process has; that begins without an address; that opens under a
+# serial number that is used, or for a meter that is busy; that takes damaged bytes for a book; a fault with another name, or a status of 0.
+def a_head_end_is_refused(place):
+    """Each fault of a head end whose book is there has its name, and the option that it is about, and leaves the book as it is."""
+    folder, silent = place.folder, bound()
+    book, meters, image = (folder / name for name in ("head.book", "meters.csv", "image"))
+    listed(folder, [silent.getsockname()])
+    refused(place, "NoBook", f"--book {book}")
+    with HeadEnd(folder, "--new", *opening(folder, b"one"), *PATIENT).running() as head:
+        lines_until(head, "opened ")
+        received(silent)
+        refused(place, "Locked", f"--book {book}")
+        refused(place, "BookExists", f"--book {book}", "--new")
+    refused(place, "ForeignHead", f"--book {book}", head="8")
+    refused(place, "SerialUsed", "--open 1", *opening(folder, b"two"))
+    refused(place, "SerialUsed", "--open 1", "--open", "1", "--release", "3", "--image", image)
+    refused(place, "MeterBusy", "--open 2", *opening(folder, b"two", 2))
+    refused(place, "NoSuchCampaign", "--cancel 3", "--cancel", "3")
+    meters.write_text("2,127.0.0.1:9\n")
+    refused(place, "NoAddress 1", f"--meters {meters}")
+    meters.write_text("".join(f"{number},127.0.0.1:{number}\n" for number in range(1, 258)))
+    refused(place, "BadSetup", "--open 4294967295", *opening(folder, b"two", 4294967295))
+    content = book.read_bytes()
+    # The first record begins at 9, after the mark, a gate and its length.
+    book.write_bytes(content[:9] + bytes([content[9] ^ 4]) + content[10:])
+    refused(place, "BadBook 4", f"--book {book}")
+    # A mark without its campaign.
+    mark = bytes.fromhex("0200000007000000010000000101")
+    book.write_bytes(b"FWJ1\x01" + len(mark).to_bytes(4, "big") + mark + hashlib.sha256(mark).digest() + b"\x00")
+    refused(place, "BadRecord 0", f"--book {book}")
+
+
+@contextlib.contextmanager
+def full_disk(process):
+    """A process that can write to no file, as on a full disk."""
+    limit = resource.prlimit(process.pid, resource.RLIMIT_FSIZE)
+    resource.prlimit(process.pid, resource.RLIMIT_FSIZE, (0, limit[1]))
+    yield
+    if process.poll() is None:
+        resource.prlimit(process.pid, resource.RLIMIT_FSIZE, limit)
+
+
+# To be seen: a store that takes what isn't written for written; a meter that ends, or doesn't answer; one that goes on with what a failed
+# write left.
+def a_meter_on_a_full_disk(place):
+    """A meter that can't write answers hardware-fault and goes on, and its row fails. With room it takes the next campaign."""
+    # Such a write would else end the process.
+    signal.pthread_sigmask(signal.SIG_BLOCK, [signal.SIGXFSZ])
+    image = bytes(range(250)) * 10
+    with Fleet(place.folder, 1).killed() as fleet:
+        process, head = fleet.meters[1].process, Head()
+        with full_disk(process):
+            wants(head.ask(fleet.meters[1], SET_ENABLED) == ANSWERS_FAULT, "a SET that can't be written is done")
+            wants(head.ask(fleet.meters[1], GET_STATUS) == STATUS % 0, "the meter doesn't go on")
+            lines = HeadEnd(place.folder, "--new", *opening(place.folder, image)).over()
+            wants(lines[2:] == ["row 7 1 1 failed", "over done 0 failed 1"], f"on the full disk it prints {lines}")
+        fleet.restart(1)
+        process = fleet.meters[1].process
+        # The SET left nothing: transfer isn't enabled.
+        wants(head.ask(fleet.meters[1], GET_ENABLED) == IS_DISABLED, "transfer is enabled")
+        lines = HeadEnd(place.folder, *opening(place.folder, image, 2)).over()
+        wants(lines[2:] == ["row 7 2 1 done", "over done 1 failed 0"], f"with room it prints {lines}")
+        fleet.run(image)
+        with full_disk(process):
+            wants(head.ask(fleet.meters[1], SET_ENABLED) == ANSWERS_FAULT, "later a SET that can't be written is done")
+        wants(head.ask(fleet.meters[1], SET_ENABLED) == SET_DONE, "with room again a SET isn't done")
+
+
+# To be seen: a head end that tells a row which the disk doesn't have, or goes on; a book that takes what isn't written for written.
+def a_head_end_on_a_full_disk(place):
+    """A head end whose disk gets full ends with BookFault, and told nothing that the disk hasn't. With room it goes on."""
+    signal.pthread_sigmask(signal.SIG_BLOCK, [signal.SIGXFSZ])
+    book = place.folder / "head.book"
+    with Fleet(place.folder, 1).killed() as fleet:
+        # The meter is heard once the disk is full.
+        fleet.meters[1].process.send_signal(signal.SIGSTOP)
+        with HeadEnd(place.folder, "--new", *opening(place.folder, b"image")).running() as head:
+            lines_until(head, "opened ")
+            with full_disk(head.process):
+                fleet.meters[1].process.send_signal(signal.SIGCONT)
+                status, lines, said = head.end()
+        wants((status, lines, said[:1]) == (1, [], ["dlmsfw: BookFault"]), f"it ends with {status}, {lines} and {said}")
+        wants(begins(said[1], f"--book {book}"), f"it says {said}")
+        wants(status_of(place.folder, "csv").splitlines()[1:] == ["7,1,1,live"], "the row isn't live")
+        lines = HeadEnd(place.folder).over()
+        wants(lines[1:] == ["row 7 1 1 done", "over done 1 failed 0"], f"with room it prints {lines}")
+
+
+# To be seen: a making that takes a full disk for done, or leaves a part of a store or of a book.
+def makings_on_a_full_disk(place):
+    """A store and a book that can't be made are refused by name, and nothing is left of them."""
+    def limited(size):
+        def limit():
+            resource.setrlimit(resource.RLIMIT_FSIZE, (size, size))
+        return {"preexec_fn": limit, "restore_signals": False}
+
+    listed(place.folder, [(HOST, 9)])
+    before = sorted(it.name for it in place.folder.iterdir())
+    meter = ["meter", "--listen", f"{HOST}:0", "--store", "meter.fw"]
+    head = ["head", "--head", "7", "--book", "head.book", "--new", "--meters", "meters.csv", "--listen", f"{HOST}:0"]
+    for words, fault, about, size in ((meter, "StoreFault", "--store meter.fw", 4096), (head, "BookFault", "--book head.book", 3)):
+        status, out, said = place.run(*words, **limited(size))
+        wants((status, out, said[:1]) == (1, "", [f"dlmsfw: {fault}"]), f"{words} ends with {status}, {out} and {said}")
+        wants(begins(said[1], about), f"{words} says {said}")
+        left = {it.name: it.stat().st_size for it in place.folder.iterdir() if it.name not in before}
+        # What a making of a book left is taken by the next one.
+        wants(not left or set(left) == {"head.book.new"} and left["head.book.new"] <= 5, f"{words} leaves {left}")
+
+
+# To be seen: a fleet whose meter 2 has the file, or the port, of meter 1, or whose meters have one file.
+def each_of_a_fleet_has_its_own(place):
+    """Meter K of a fleet has FILE.K. Byte 8 of a store, byte 4 of its header, says whether transfer is enabled."""
+    fleet, head = Members(place.folder, 3), Head()
+    with fleet.meter.killed():
+        for number in (2, 3, 1):
+            wants(fleet.file(number)[8] == 0, f"meter {number} is enabled before it is asked to")
+            got = head.ask(fleet.at[number - 1], SET_ENABLED)
+            wants(got == SET_DONE, f"meter {number} answers {got}")
+            wants(fleet.file(number)[8] == 1, f"the file of meter {number} has another meter")
+
+
+STEPS = [
+    a_second_start_goes_on,
+    a_campaign_is_cancelled,
+    a_head_end_is_refused,
+    a_meter_on_a_full_disk,
+    a_head_end_on_a_full_disk,
+    makings_on_a_full_disk,
+    each_of_a_fleet_has_its_own,
+]
