@@ -1,13 +1,12 @@
 //! The files of a command.
 
-ghost use Rattle.std.specs.Prelude.{◌≡◌, ◌↔◌, IsTrue, IfErr, IfSome, Some, false};
+ghost use Rattle.std.specs.Prelude.{◌≡◌, ◌↔◌, IsTrue, IfErr, IfSome, Some};
 ghost use Rattle.fw_disk.specs.declared.cause.Cause.TheVariants.{Missing};
 ghost use Rattle.fw_disk.specs.declared.name.Name.TheVariants.{Main};
 
 use fw_disk::{Because, Cause, Name, Reason, SystemFolder};
 use fw_faults::Fault;
 use std::fs::File;
-use std::io;
 use std::rt::Files;
 
 /// The folder of the file at this path.
@@ -38,11 +37,4 @@ pub(crate) fn is_missing(reason: Option<Reason>) -> bool
         cause: Cause::Missing,
     };
     reason == Some(missing)
-}
-
-/// Whether it is known that no file is there, by what `fs::exists` says. Where it can't be looked for, one may be there.
-pub fn is_absent(found: io::Result<bool>) -> bool
-    ensures { IsTrue result ↔ (found ≡ Ok false) }
-{
-    matches!(found, Ok(false))
 }

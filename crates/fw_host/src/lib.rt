@@ -21,7 +21,6 @@ mod strangers;
 
 pub use capture_file::open_capture;
 pub use capture_port::CapturePort;
-pub use files::is_absent;
 pub use head_addresses::check_addresses;
 pub use head_book::{BookOptions, kept_head};
 pub use head_lines::{cancelled_line, opened_line, over_line, untaken_line};
@@ -33,5 +32,5 @@ pub use head_port::UdpHeadPort;
 pub use head_progress::HeadProgress;
 pub use meter_lines::{activated_line, dropped_line, listening_line};
 pub use meter_list::read_list;
-pub use meter_store::{NewMeter, NewStore, found_meter, opened};
+pub use meter_store::{NewMeter, NewStore, found_meter};
 pub use strangers::Strangers;

@@ -173,7 +173,7 @@ fn refused(because: Because<FileStoreError>) -> Because<Fault>
 ///
 /// - `Device`: the store failed.
 /// - `BadHeader` or `BadImage`: it holds no meter.
-pub fn opened<S: ImageStore + Drop>(store: S) -> Result<MeterCore<S>, Fault>
+fn opened<S: ImageStore + Drop>(store: S) -> Result<MeterCore<S>, Fault>
     ensures opened { IfOk result (λ meter. Opens (S.known store) meter) }
     ensures begins { IfOk result (λ meter. restarted meter.meter ≡ meter.meter) }
     ensures faultless { IfOk result (λ meter. meter.faults ≡ (S.known store).faults) }

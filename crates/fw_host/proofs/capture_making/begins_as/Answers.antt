@@ -15,9 +15,9 @@ returns c = λ all is.
     let right : take count form ≡ take (length all) form = form_part all front form count is sixteen count_is in
     let decides = slice_eq-Decides Decides-eqb (take count front) (take count form) _ c.eq.ensures in (
       λ told.
-      let yes : c.eq.result ≡ true = search rules in
-      sym left ∙ decides.0 yes ∙ right,
+          let yes : c.eq.result ≡ true = search rules in
+          sym left ∙ decides.0 yes ∙ right,
       λ same.
-      let yes : c.eq.result ≡ true = decides.1 (left ∙ same ∙ sym right) in
-      search rules,
+          let yes : c.eq.result ≡ true = decides.1 (left ∙ same ∙ sym right) in
+          search rules,
     )

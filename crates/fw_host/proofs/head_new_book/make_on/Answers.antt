@@ -14,5 +14,5 @@ finish-requires g c = λ honest.
     let own = ap (λ (h : Head). h.book.head) c.in-Ok.ensures.head in (
       head,
       λ left may. subst (λ (k : ℕ). HasBook k left (empty_book head)) own
-      (c.device.ensures.each_cut (empty_book head) (c.in-Ok.ensures.made was) left (subst (λ d. D.may_leave d left) same may)),
+          (c.device.ensures.each_cut (empty_book head) (c.in-Ok.ensures.made was) left (subst (λ d. D.may_leave d left) same may)),
     )
