@@ -6,3 +6,4 @@ mod Heads
 mod Runs
 mod Serving
 mod Leading
+mod Coming

@@ -6,7 +6,7 @@ use Rattle.fw_store.specs.Setup.{IsSetup}
 use Rattle.fw_store.specs.declared.version.HeaderVersion.{HeaderVersion}
 use Rattle.fw_image.specs.Fresh.{fresh_meter}
 use Rattle.fw_image.specs.Meter.{Meter}
-use Rattle.fw_meter.specs.Laws.{Faultless, StopAfterIsStop, TurnFaultIsStop}
+use Rattle.fw_meter.specs.Laws.{Faultless, TurnFaultIsStop}
 use Rattle.fw_book.specs.Rows.{state_of}
 use Rattle.fw_book.specs.Contents.{Contents, Offered, image_in, state_in}
 use Rattle.fw_book.specs.Changes.{empty_book}
@@ -104,22 +104,22 @@ itself_simulates f = record { offered = λ c. refl; sent = refl; meters = λ n. 
 
 -- ---- moves
 
-module _ (faultless : Faultless) (turn_law : TurnFaultIsStop) (stop_law : StopAfterIsStop) (done_law : ReportedByClaim) (stay_law : HeadsStay) (steps : StateStepsAsWorld) where
-  move_goes : (address : ℕ → SocketAddr) (old new : Field) (move : Move) (w : World) → Simulates old w → IsSound old → Move_goes address old move new → Goes w new
-  move_goes address old new (round number) w s sound m = meters.round_goes faultless turn_law stop_law address old new w number s sound m
-  move_goes address old new (kill_meter number) w s sound m = meters.kill_goes faultless turn_law stop_law address old new w number s sound m
-  move_goes address old new (step number made) w s sound m = heads.made_goes stay_law steps old new w s sound done_law number made m
-  move_goes address old new (open_campaign campaign release image meters) w s sound m = heads.open_goes stay_law steps old new w s sound campaign release image meters m
-  move_goes address old new (cancel_campaign campaign) w s sound m = heads.cancel_goes stay_law steps old new w s sound campaign m
-  move_goes address old new (kill_head number) w s sound m = heads.kill_goes stay_law steps old new w s sound number m
+module _ (faultless : Faultless) (turn_law : TurnFaultIsStop) (done_law : ReportedByClaim) (stay_law : HeadsStay) (steps : StateStepsAsWorld) where
+  move_goes : (addresses : ℕ → List SocketAddr) (old new : Field) (move : Move) (w : World) → Simulates old w → IsSound old → Move_goes addresses old move new → Goes w new
+  move_goes addresses old new (round number) w s sound m = meters.round_goes faultless turn_law addresses old new w number s sound m
+  move_goes addresses old new (kill_meter number) w s sound m = meters.kill_goes faultless turn_law addresses old new w number s sound m
+  move_goes addresses old new (step number made) w s sound m = heads.made_goes stay_law steps old new w s sound done_law number made m
+  move_goes addresses old new (open_campaign campaign release image meters) w s sound m = heads.open_goes stay_law steps old new w s sound campaign release image meters m
+  move_goes addresses old new (cancel_campaign campaign) w s sound m = heads.cancel_goes stay_law steps old new w s sound campaign m
+  move_goes addresses old new (kill_head number) w s sound m = heads.kill_goes stay_law steps old new w s sound number m
 
-  moves_go : (address : ℕ → SocketAddr) (old new : Field) (moves : List Move) (w : World) → Simulates old w → IsSound old → MovesLead address old moves new → Goes w new
-  moves_go address old new [] w s sound same =
+  moves_go : (addresses : ℕ → List SocketAddr) (old new : Field) (moves : List Move) (w : World) → Simulates old w → IsSound old → MovesLead addresses old moves new → Goes w new
+  moves_go addresses old new [] w s sound same =
       let G : Field → Type 0 = λ f. Goes w f in
       subst G (sym same) (record { follows = record { events = []; world = w; run = refl; simulates = s }; sound = sound })
-  moves_go address old new (move ∷ moves) w s sound (next, m, more) =
-      let one = move_goes address old next move w s sound m in
-      let rest = moves_go address next new moves one.follows.world one.follows.simulates one.sound more in
+  moves_go addresses old new (move ∷ moves) w s sound (next, m, more) =
+      let one = move_goes addresses old next move w s sound m in
+      let rest = moves_go addresses next new moves one.follows.world one.follows.simulates one.sound more in
       record {
         follows = record {
           events = one.follows.events ++ rest.follows.events;
@@ -130,24 +130,24 @@ module _ (faultless : Faultless) (turn_law : TurnFaultIsStop) (stop_law : StopAf
         sound = rest.sound;
       }
 
-  after_moves : (address : ℕ → SocketAddr) (beginning now : Field) (moves : List Move) → IsBeginning beginning → MovesLead address beginning moves now → Goes (world_of beginning) now
-  after_moves address beginning now moves is made = moves_go address beginning now moves (world_of beginning) (itself_simulates beginning) (is_sound beginning is stay_law) made
+  after_moves : (addresses : ℕ → List SocketAddr) (beginning now : Field) (moves : List Move) → IsBeginning beginning → MovesLead addresses beginning moves now → Goes (world_of beginning) now
+  after_moves addresses beginning now moves is made = moves_go addresses beginning now moves (world_of beginning) (itself_simulates beginning) (is_sound beginning is stay_law) made
 
   -- without the marks that the books in memory lack
   pub moves_are_runs : MarksMayBeMissing → AfterMoves IsRun
-  moves_are_runs law address beginning now moves is made = (is_opening beginning is, less.0, subst R same less.3)
+  moves_are_runs law addresses beginning now moves is made = (is_opening beginning is, less.0, subst R same less.3)
     where
       w : World
-      w = (after_moves address beginning now moves is made).follows.world
+      w = (after_moves addresses beginning now moves is made).follows.world
 
       s : Simulates now w
-      s = (after_moves address beginning now moves is made).follows.simulates
+      s = (after_moves addresses beginning now moves is made).follows.simulates
 
       missing : Campaign → ℕ → Bool
       missing c m = not ((world_of now).done c m)
 
-      less : (kept : List Event) × AreLess w.sent (after_moves address beginning now moves is made).follows.events kept × (less : World) × Run (world_of beginning) kept less × LacksMarks missing w less
-      less = law (world_of beginning) w (after_moves address beginning now moves is made).follows.events missing (is_opening beginning is) (after_moves address beginning now moves is made).follows.run
+      less : (kept : List Event) × AreLess w.sent (after_moves addresses beginning now moves is made).follows.events kept × (less : World) × Run (world_of beginning) kept less × LacksMarks missing w less
+      less = law (world_of beginning) w (after_moves addresses beginning now moves is made).follows.events missing (is_opening beginning is) (after_moves addresses beginning now moves is made).follows.run
 
       R : World → Type 0
       R x = Run (world_of beginning) less.0 x
@@ -170,10 +170,10 @@ module _ (faultless : Faultless) (turn_law : TurnFaultIsStop) (stop_law : StopAf
           (λ m. less.4.done c m ∙ keeps (w.done c m) ((world_of now).done c m) (s.done c m))))
 
   pub reports_are_kept : AfterMoves (λ beginning now. ReportsAreKept now)
-  reports_are_kept address beginning now moves is made ended has done = record { saved = saved; done = in_memory (now.heads ended.campaign.head) refl saved }
+  reports_are_kept addresses beginning now moves is made ended has done = record { saved = saved; done = in_memory (now.heads ended.campaign.head) refl saved }
     where
       sound : IsSound now
-      sound = (after_moves address beginning now moves is made).sound
+      sound = (after_moves addresses beginning now moves is made).sound
 
       saved : is_saved now ended.campaign ended.meter ≡ true
       saved = sound.told ended has done
@@ -186,11 +186,11 @@ module _ (faultless : Faultless) (turn_law : TurnFaultIsStop) (stop_law : StopAf
 
 module _ (runs : AfterMoves IsRun) where
   pub after_each : (P : World → World → Type 0) → AfterEachRun P → AfterMoves (λ beginning now. P (world_of beginning) (world_of now))
-  after_each P holds address beginning now moves is made =
-      let run = runs address beginning now moves is made in
+  after_each P holds addresses beginning now moves is made =
+      let run = runs addresses beginning now moves is made in
       holds (world_of beginning) (world_of now) run.1 run.0 run.2
 
   pub reports_are_true : AfterMoves (λ beginning now. ReportsAreKept now) → AfterEachRun (λ opening w. ActivationsAreSafe w) → AfterMoves (λ beginning now. ReportsAreTrue now)
-  reports_are_true kept holds address beginning now moves is made ended has done =
-      let run = runs address beginning now moves is made in
-      (holds (world_of beginning) (world_of now) run.1 run.0 run.2).done ended.campaign ended.meter (kept address beginning now moves is made ended has done).done
+  reports_are_true kept holds addresses beginning now moves is made ended has done =
+      let run = runs addresses beginning now moves is made in
+      (holds (world_of beginning) (world_of now) run.1 run.0 run.2).done ended.campaign ended.meter (kept addresses beginning now moves is made ended has done).done

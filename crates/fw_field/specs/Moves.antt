@@ -5,7 +5,7 @@ use Rattle.std.specs.declared.net.socket_addr.SocketAddr.{SocketAddr}
 use Rattle.fw_names.specs.Name.{Campaign, Name, IsOpened}
 use Rattle.fw_image.specs.Meter.{Meter, restarted}
 use Rattle.fw_image.specs.Step.{Turn}
-use Rattle.fw_meter.specs.Stopping.{StopsAfter}
+use Rattle.fw_meter.specs.Laws.{Stops, TearsBlock}
 use Rattle.fw_book.specs.Changes.{opening_refusal, cancel_refusal}
 use Rattle.fw_book.specs.Contents.{Contents}
 use Rattle.fw_head.specs.Head.{BeginsWith, Head, opened_head, cancelled_head}
@@ -41,9 +41,10 @@ to_meter head meter bytes = record { head = head; meter = meter; direction = ToM
 abbrev pub to_head : ℕ → ℕ → List ℕ → Datagram
 to_head head meter bytes = record { head = head; meter = meter; direction = ToHead; bytes = bytes }
 
--- a datagram from the address of a head end was sent by that head end to the meter
-pub record WasSent (address : ℕ → SocketAddr) (f : Field) (meter head : ℕ) (from : SocketAddr) (datagram : List ℕ) : Type 0 where
-  pub at : from ≡ address head
+-- A datagram from an address of a head end was sent by that head end to the meter. A head end may have had several: where it starts again,
+-- it may have another.
+pub record WasSent (addresses : ℕ → List SocketAddr) (f : Field) (meter head : ℕ) (from : SocketAddr) (datagram : List ℕ) : Type 0 where
+  pub at : Contains (addresses head) from
   pub sent : Contains f.sent (to_meter head meter datagram)
 
 -- a datagram from the address that a head end has of a meter was sent by that meter to the head end
@@ -67,7 +68,7 @@ TakesAs old from datagram reply activates new =
     ⊎ ((activates ≡ None) × (IsUnserved old from datagram reply new ⊎ IsStrange old from reply new))
 
 -- A datagram came. Where it came from an address that may ask, it is of the head end `head`, and the reply is sent on that link.
-pub record HearsAt (address : ℕ → SocketAddr) (old : Field) (number : ℕ) (new : Field) : Type 0 where
+pub record HearsAt (addresses : ℕ → List SocketAddr) (old : Field) (number : ℕ) (new : Field) : Type 0 where
   pub before : Daemon
   pub after : Daemon
   pub from : SocketAddr
@@ -77,40 +78,55 @@ pub record HearsAt (address : ℕ → SocketAddr) (old : Field) (number : ℕ) (
   pub head : ℕ
   pub there : old.meters number ≡ Some before
   pub takes : TakesAs before from datagram reply activates after
-  pub came : MayAsk before.heads from → WasSent address old number head from datagram
+  pub came : MayAsk before.heads from → WasSent addresses old number head from datagram
   pub new_is : new ≡ record (with_daemon old number after) {
     sent = old.sent ++ replies (to_meter head number datagram) reply;
     activations = old.activations ++ activated number activates after.state.meter;
   }
 
--- A daemon is killed while it takes a turn, or before or after one. Then it is started again. That start may be killed too, before it
--- changed the store or after: the next one leads to the same meter.
+-- a datagram was sent to a meter, by whichever head end
+abbrev pub WasSentTo : Field → ℕ → List ℕ → Type 0
+WasSentTo f meter datagram = (head : ℕ) × Contains f.sent (to_meter head meter datagram)
+
+-- What a power cut leaves of blocks that were sent again since the last header write: of each any bytes of its length. They came in these
+-- datagrams.
+abbrev pub Tears : Field → ℕ → Meter → List (List ℕ) → Meter → Type 0
+Tears f number old [] new = new ≡ old
+Tears f number old (datagram ∷ others) new =
+    WasSentTo f number datagram × (next : Meter) × TearsBlock old datagram next × Tears f number next others new
+
+-- What is started again after a kill, which left this meter. By a kill of the process no block is torn, by a power cut any of those that
+-- were sent again. The start may be killed too, before it changed the store or after: the next one leads to the same meter.
+pub record StartsAgain (f : Field) (number : ℕ) (left : Meter) (after : Daemon) : Type 0 where
+  pub datagrams : List (List ℕ)
+  pub cut : Meter
+  pub torn : Tears f number (restarted left) datagrams cut
+  pub again : Has after cut
+
+-- a daemon is killed while it takes a turn, or before or after one, and starts again
 pub record IsKilledAt (old : Field) (number : ℕ) (new : Field) : Type 0 where
   pub before : Daemon
   pub left : Meter
   pub after : Daemon
   pub there : old.meters number ≡ Some before
   pub leaves : (left ≡ before.state.meter) ⊎ ((faultless : Bool) × Turn true before.state.meter faultless left)
-  pub again : Has after (restarted left)
+  pub starts : StartsAgain old number left after
   pub new_is : new ≡ with_daemon old number after
 
--- A daemon is killed while its meter handles a datagram, after some calls of its store, with a byte in what was being written. No reply is
--- sent. Then it is started again.
-pub record IsKilledIn (address : ℕ → SocketAddr) (old : Field) (number : ℕ) (new : Field) : Type 0 where
+-- a daemon is killed while its meter handles a datagram, at whatever call of its store, and starts again. No reply is sent.
+pub record IsKilledIn (addresses : ℕ → List SocketAddr) (old : Field) (number : ℕ) (new : Field) : Type 0 where
   pub before : Daemon
   pub from : SocketAddr
   pub datagram : List ℕ
   pub head : ℕ
-  pub calls : ℕ
-  pub torn : ℕ
   pub left : Meter
   pub activates : Option Name
   pub after : Daemon
   pub there : old.meters number ≡ Some before
   pub may_ask : MayAsk before.heads from
-  pub came : WasSent address old number head from datagram
-  pub stops : StopsAfter calls torn before.state.meter datagram activates left
-  pub again : Has after (restarted left)
+  pub came : WasSent addresses old number head from datagram
+  pub stops : Stops before.state.meter datagram activates left
+  pub starts : StartsAgain old number left after
   pub new_is : new ≡ record (with_daemon old number after) { activations = old.activations ++ activated number activates left }
 
 -- ---- head ends
@@ -180,15 +196,16 @@ pub record HeadIsKilledAt (old : Field) (number : ℕ) (new : Field) : Type 0 wh
 
 -- ---- moves
 
-abbrev pub Goes : (ℕ → SocketAddr) → Field → Move → Field → Type 0
-Goes address old (round number) new = TurnsAt old number new ⊎ HearsAt address old number new
-Goes address old (kill_meter number) new = IsKilledAt old number new ⊎ IsKilledIn address old number new
-Goes address old (step number made) new = StepsAt old number made new
-Goes address old (open_campaign campaign release image meters) new = OpensAt old campaign release image meters new
-Goes address old (cancel_campaign campaign) new = CancelsAt old campaign new
-Goes address old (kill_head number) new = HeadIsKilledAt old number new
+abbrev pub Goes : (ℕ → List SocketAddr) → Field → Move → Field → Type 0
+Goes addresses old (round number) new = TurnsAt old number new ⊎ HearsAt addresses old number new
+Goes addresses old (kill_meter number) new = IsKilledAt old number new ⊎ IsKilledIn addresses old number new
+Goes addresses old (step number made) new = StepsAt old number made new
+Goes addresses old (open_campaign campaign release image meters) new = OpensAt old campaign release image meters new
+Goes addresses old (cancel_campaign campaign) new = CancelsAt old campaign new
+Goes addresses old (kill_head number) new = HeadIsKilledAt old number new
 
--- These moves lead from a field to another one, each from the field that the one before it led to. Head ends have these addresses.
-abbrev pub MovesLead : (ℕ → SocketAddr) → Field → List Move → Field → Type 0
-MovesLead address old [] new = new ≡ old
-MovesLead address old (move ∷ moves) new = (next : Field) × Goes address old move next × MovesLead address next moves new
+-- These moves lead from a field to another one, each from the field that the one before it led to. Head ends have
+-- these addresses, each one after the other.
+abbrev pub MovesLead : (ℕ → List SocketAddr) → Field → List Move → Field → Type 0
+MovesLead addresses old [] new = new ≡ old
+MovesLead addresses old (move ∷ moves) new = (next : Field) × Goes addresses old move next × MovesLead addresses next moves new

@@ -18,6 +18,10 @@ ghost use Rattle.fw_field.specs.Laws.{
   RoundsAreTaken,
   ServingIsMoves,
   LeadingIsMoves,
+  ToldIsTrue,
+  SentStays,
+  SentComes,
+  AnswersCome,
 };
 
 /// Whatever daemons did, and however often they were killed, is a run of the world, which leads to the world that the field is: with the
@@ -28,7 +32,6 @@ pub fn moves_are_runs()
 {
     fw_meter::laws::faultless();
     fw_meter::laws::turn_fault_is_stop();
-    fw_meter::laws::stop_after_is_stop();
     fw_head::laws::reported_by_claim();
     fw_head::laws::heads_stay();
     fw_world::laws::state_steps_as_world();
@@ -42,7 +45,6 @@ pub fn reports_are_kept()
 {
     fw_meter::laws::faultless();
     fw_meter::laws::turn_fault_is_stop();
-    fw_meter::laws::stop_after_is_stop();
     fw_head::laws::reported_by_claim();
     fw_head::laws::heads_stay();
     fw_world::laws::state_steps_as_world();
@@ -69,13 +71,42 @@ pub fn rounds_are_taken()
     ensures { RoundsAreTaken }
 {}
 
-/// Whatever the daemon of a meter does that is in a field is moves of it, where each datagram that it heeded was sent to it there.
+/// Whatever the daemon of a meter does that is in a field is rounds of it, where each datagram that it heeded was sent to it there. In the
+/// field that they lead to, each reply was sent.
 pub fn serving_is_moves()
     ensures { ServingIsMoves }
 {}
 
-/// Whatever a head end does that is in a field is moves of it, where each datagram that it heard as that of a meter was sent to it by that
-/// meter there.
+/// Whatever a head end does that is in a field is its steps as moves, where each datagram that it heard as that of a meter was sent to it
+/// by that meter there. In the field that they lead to, all that it sent was sent on the link of a meter with that address, and all that
+/// it reported was reported.
 pub fn leading_is_moves()
     ensures { LeadingIsMoves }
 {}
+
+/// What a head end reports as done while it leads is done safely in the field that its steps lead to.
+pub fn told_is_true()
+    ensures { ToldIsTrue }
+{
+    leading_is_moves();
+    moves_are_safe();
+}
+
+/// What was sent in a field was sent in each field that moves lead to.
+pub fn sent_stays()
+    ensures { SentStays }
+{}
+
+/// What a head end sent is what may come to the meter's daemon: the premise of `serving_is_moves` in any later field.
+pub fn sent_comes()
+    ensures { SentComes }
+{
+    sent_stays();
+}
+
+/// What the daemon of a meter sent is what may come to the head end: the premise of `leading_is_moves` in any later field.
+pub fn answers_come()
+    ensures { AnswersCome }
+{
+    sent_stays();
+}
