@@ -1,12 +1,14 @@
 -- What may be ticked at a time, before and after what was waited for until then is given up.
 use Rattle.std.proofs.Common.{◌≡◌, ◌⊎◌, ℕ, suc, ◌+◌, ◌≤◌, true, false, List, [], ◌∷◌, Option, Some, None, inl, inr, ⊎_elim, refl, sym, ap, subst, ◌∙◌, arith}
-use Rattle.std.specs.Prelude.{if◌then◌else◌, slice_get, sum_by}
+use Rattle.std.specs.Prelude.{MatchOption, if◌then◌else◌, slice_get, slice_set, sum_by}
 use Rattle.std.specs.Option.{option_map}
 use Rattle.std.proofs.lemmas.Bool.{false≢true}
 use Rattle.std.proofs.lemmas.List.Sums.{sum_by-cons}
 use Rattle.std.proofs.lemmas.Option.{none-some, same_Some}
-use Rattle.fw_rollout.specs.Link.{IsGivenUp, IsReady, IsReadyBy, after, has_passed, is_expired, out_by, until_of}
-use Rattle.fw_rollout.specs.Schedule.{IsDueAt, IsLiveAt, IsSchedule, Settles, SettlesLink, links_of}
+use Rattle.fw_rollout.specs.Daemon.{IsOutSince}
+use Rattle.fw_rollout.specs.Link.{IsGivenUp, IsReady, IsReadyBy, IsSent, after, has_passed, is_expired, out_by, until_of}
+use Rattle.fw_rollout.specs.Schedule.{IsDueAt, IsLiveAt, IsSchedule, Sends, Settles, SettlesLink, links_of}
+use Rattle.fw_rollout.specs.declared.daemon.HeadDaemon.{HeadDaemon}
 use Rattle.fw_rollout.specs.declared.link.Link.{Link}
 use Rattle.fw_rollout.specs.declared.link.Listed.{Listed}
 use Rattle.fw_rollout.specs.declared.link.Turn.{Turn}
@@ -15,6 +17,7 @@ use Rattle.fw_rollout.specs.declared.schedule.Schedule.{Schedule}
 use Rattle.fw_rollout.specs.Timing.{HasRoom}
 use Rattle.fw_rollout.proofs.Moving.{given_up_kept}
 use Rattle.fw_rollout.proofs.Queueing.{none_due}
+use Rattle.fw_rollout.proofs.Turning.{at_place}
 
 silent_waits : (turn : Turn) (until : ℕ) → turn ≡ turns.Silent until → turn ≡ turns.Ready → ⊥
 silent_waits turn until e f = cc
@@ -136,3 +139,40 @@ none_asked now old new i st timing either = ⊎_elim
 -- what may be ticked is there
 pub due_there : (s : Schedule) (place : ℕ) (o : Option Listed) → IsDueAt s place → o ≡ option_map (λ (link : Link). link.at) (slice_get (links_of s) place) → o ≡ None → ⊥
 due_there s place o due e none = none-some due.0.at (sym none ∙ e ∙ ap (λ (l : Option Link). option_map (λ (link : Link). link.at) l) due.1)
+
+-- ---- a link that was ticked
+
+-- the link at a place, before and after
+record WasSent (now count place : ℕ) (old new : Schedule) : Type 0 where
+  pub link : Link
+  pub next : Link
+  pub was : slice_get (links_of old) place ≡ Some link
+  pub sent : IsSent now count link next
+  pub is : slice_get (links_of new) place ≡ Some next
+
+was_sent : (now count place : ℕ) (old new : Schedule) → IsDueAt old place → Sends place now count old new → WasSent now count place old new
+was_sent now count place old new (link, was, ready) sends =
+    let M : Option Link → Type 0 = λ o. MatchOption o (links_of new ≡ links_of old) (λ l. (next : Link) × IsSent now count l next × (links_of new ≡ slice_set (links_of old) place next)) in
+    let goes : (next : Link) × IsSent now count link next × (links_of new ≡ slice_set (links_of old) place next) = subst M was sends.there in
+    record {
+      link = link;
+      next = goes.0;
+      was = was;
+      sent = goes.1;
+      is = ap (λ (ls : List Link). slice_get ls place) goes.2 ∙ at_place (links_of old) place link goes.0 was;
+    }
+
+pub out_since : {D : Type 0} (now sent count place : ℕ) (at : Listed) (old : Schedule) (new : HeadDaemon D) → IsDueAt old place
+    → option_map (λ (link : Link). link.at) (slice_get (links_of old) place) ≡ Some at → Sends place now sent old new.schedule → sent ≡ count → IsOutSince now count new at
+out_since now sent count place at old new due named sends same =
+    let s = was_sent now sent place old new.schedule due sends in
+    record {
+      place = place;
+      link = s.next;
+      there = s.is;
+      is = ap (λ (l : Link). l.at) s.sent ∙ same_Some s.link.at at (sym (ap (λ (o : Option Link). option_map (λ (l : Link). l.at) o) s.was) ∙ named);
+      sent = ap (λ (l : Link). l.sent_at) s.sent;
+      out = ap (λ (l : Link). l.out) s.sent ∙ same;
+      waits = ap (λ (l : Link). l.turn) s.sent ∙ ap (λ (wait : ℕ). turns.Awaited (after now wait)) (sym (ap (λ (l : Link). l.wait) s.sent));
+      unheard = ap (λ (l : Link). l.is_heard) s.sent;
+    }

@@ -1,5 +1,5 @@
 -- What a datagram of one meter makes of a head end: of its book, and of which meters have a live row.
-use Rattle.std.proofs.Common.{◌≡◌, ◌≢◌, ℕ, true, false, List, [], ◌∷◌, Option, Some, is_some, inl, inr, refl, sym, ap, subst, ◌∙◌}
+use Rattle.std.proofs.Common.{◌≡◌, ◌≢◌, ◌⊎◌, ℕ, true, false, List, [], ◌∷◌, Option, Some, is_some, inl, inr, refl, sym, ap, subst, ◌∙◌}
 use Rattle.fw_names.specs.Name.{Name, Campaign}
 use Rattle.fw_book.specs.declared.row.RowState.TheVariants as state
 use Rattle.fw_book.specs.Contents.{state_in}
@@ -10,8 +10,10 @@ use Rattle.fw_head.specs.declared.news.News.TheVariants as news
 use Rattle.fw_head.specs.declared.news.RowNews.{RowNews}
 use Rattle.fw_head.specs.declared.news.RowNews.TheVariants as by
 use Rattle.fw_head.specs.Row.{Row}
-use Rattle.fw_head.specs.Head.{Head, IsHead, HeadHears, row_of, without_meter, went_on, news_of}
+use Rattle.fw_head.specs.Head.{Head, IsHead, HeadHears, RowsMayWant, row_of, without_meter, went_on, news_of}
 use Rattle.fw_head.specs.Laws.{RowKeepsGoal}
+use Rattle.fw_kept.specs.Head.{IsEnd, LosesMark, head_of}
+use Rattle.fw_kept.specs.declared.head.KeptHead.{KeptHead}
 use Rattle.fw_ledger.specs.declared.record.Ending.{Ending}
 use Rattle.fw_ledger.specs.declared.record.Ending.TheVariants as ends
 use Rattle.fw_rollout.specs.declared.ended.Ended.{Ended}
@@ -110,3 +112,31 @@ hears_end follow keeps old new meter datagram told ended head (inl takes) by =
     ends_took follow old new meter takes.row takes.next takes.heard told ended (keeps takes.row takes.next datagram takes.heard takes.hears).name
     (head.of_book meter takes.row takes.found).live takes.told_is takes.new_is by
 hears_end follow keeps old new meter datagram told ended head (inr ignores) by = absurd (none_ended ended (sym (ap ended_by ignores.1) ∙ by))
+
+-- ---- what a live row is there for
+
+-- a datagram that does something to a row is that of a meter which has one
+pub row_heard : (old new : Head) (meter : ℕ) (datagram : List ℕ) (told : News) → HeadHears old meter datagram told new → (told ≡ news.Nothing → ⊥) → is_some (row_of old.rows meter) ≡ true
+row_heard old new meter datagram told (inl takes) some = ap (λ (o : Option Row). is_some o) takes.found
+row_heard old new meter datagram told (inr ignores) some = absurd (some ignores.1)
+
+no_done : (c : Campaign) (m : ℕ) → news.Done c m ≡ news.Nothing → ⊥
+no_done c m e = cc
+
+no_failed : (c : Campaign) (m : ℕ) → news.Failed c m ≡ news.Nothing → ⊥
+no_failed c m e = cc
+
+pub row_moved : (old new : Head) (meter : ℕ) (datagram : List ℕ) (told : News) → HeadHears old meter datagram told new → told ≡ news.Moved → is_some (row_of old.rows meter) ≡ true
+row_moved old new meter datagram told hears is = row_heard old new meter datagram told hears (λ e. no_move (sym is ∙ e))
+
+pub row_done : (old new : Head) (meter : ℕ) (datagram : List ℕ) (told : News) (c : Campaign) (m : ℕ) → HeadHears old meter datagram told new → told ≡ news.Done c m → is_some (row_of old.rows meter) ≡ true
+row_done old new meter datagram told c m hears is = row_heard old new meter datagram told hears (λ e. no_done c m (sym is ∙ e))
+
+pub row_failed : (old new : Head) (meter : ℕ) (datagram : List ℕ) (told : News) (c : Campaign) (m : ℕ) → HeadHears old meter datagram told new → told ≡ news.Failed c m → is_some (row_of old.rows meter) ≡ true
+row_failed old new meter datagram told c m hears is = row_heard old new meter datagram told hears (λ e. no_failed c m (sym is ∙ e))
+
+-- and so is one for which memory is refused
+pub row_wanted : {D : Type 0} (old new : KeptHead D) (meter : ℕ) (datagram : List ℕ) → RowsMayWant (head_of old).rows meter datagram ⊎ LosesMark old meter datagram new
+    → is_some (row_of (head_of old).rows meter) ≡ true
+row_wanted old new meter datagram (inl wants) = ap (λ (o : Option Row). is_some o) wants.1
+row_wanted old new meter datagram (inr lost) = row_heard (head_of old) (head_of new) meter datagram lost.told lost.hears (λ e. subst (λ (n : News). IsEnd n) e lost.ends)

@@ -9,6 +9,7 @@ pub mod Placing
 pub mod Listings
 pub mod Adding
 pub mod Counting
+pub mod Counted
 pub mod Rows
 pub mod Marks
 pub mod Lives

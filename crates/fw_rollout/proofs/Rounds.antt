@@ -7,7 +7,7 @@ use Rattle.fw_rollout.specs.declared.daemon.HeadDaemon.{HeadDaemon}
 use Rattle.fw_rollout.specs.declared.daemon.Heard.{Heard}
 use Rattle.fw_port.specs.Acts.{came, quiet}
 use Rattle.fw_rollout.specs.Acts.{Act}
-use Rattle.fw_rollout.specs.Leading.{HasLed, HearsAs, IsListed, Leader, Leads, SavesAll, Steps, TicksMeter, hears, idles, saves, ticks}
+use Rattle.fw_rollout.specs.Leading.{HasLed, HasLiveRow, HearsAs, IsListed, Leader, Leads, SavesAll, Steps, TicksMeter, hears, idles, saves, ticks}
 use Rattle.fw_rollout.specs.Daemon.{Begins, GoesOn, IsLed, Rests}
 use Rattle.fw_rollout.proofs.Steps.{leads_by, leads_none, leads_on, may_on}
 
@@ -134,9 +134,9 @@ step_of old new from datagram what (inr strange) = inr (inr strange.1)
 
 -- there was no memory for it
 pub unheard : (start : Leader) (from : SocketAddr) (datagram : List ℕ) (before after : List Act) → after ≡ came from datagram ∷ before
-    → ((meter : ℕ) × IsListed start meter from) → HasLed start before after
-unheard start from datagram before after is listed =
-    (start, leads_by start start (hears from datagram) before after is (inr (inl (record { meter = listed.0; listed = listed.1; same = refl }))))
+    → ((meter : ℕ) × IsListed start meter from × HasLiveRow start meter) → HasLed start before after
+unheard start from datagram before after is wants =
+    (start, leads_by start start (hears from datagram) before after is (inr (inl (record { meter = wants.0; listed = wants.1; live = wants.2; same = refl }))))
 
 -- nothing was done
 pub has_led_same : (start : Leader) (before after : List Act) → after ≡ before → HasLed start before after

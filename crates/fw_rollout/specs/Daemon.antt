@@ -1,5 +1,5 @@
 -- Public vocabulary: the daemon of a head end as a value.
-use Rattle.std.specs.Prelude.{◌≡◌, ◌≢◌, ℕ, Bool, List, [], ◌∷◌, map, All, Contains, Some, None, is_some, slice_get, sum_by, count_by, ◌⊎◌, ◌+◌, ◌≤◌, Result, OnOk, OnErr, IsTrue}
+use Rattle.std.specs.Prelude.{◌≡◌, ◌≢◌, ℕ, Bool, false, List, [], ◌∷◌, map, All, Contains, Some, None, is_some, slice_get, sum_by, count_by, ◌⊎◌, ◌+◌, ◌≤◌, Result, OnOk, OnErr, IsTrue}
 use Rattle.fw_book.specs.Contents.{Contents}
 use Rattle.fw_head.specs.Head.{Head, row_of}
 use Rattle.fw_journal.specs.declared.device.JournalDevice
@@ -7,16 +7,20 @@ use Rattle.fw_kept.specs.Head.{Holds, head_of}
 use Rattle.fw_kept.specs.declared.head.KeptHead.{KeptHead}
 use Rattle.fw_rollout.specs.declared.daemon.Counts.{Counts}
 use Rattle.fw_rollout.specs.declared.daemon.HeadDaemon.{HeadDaemon}
+use Rattle.fw_rollout.specs.declared.daemon.Heard.{Heard}
+use Rattle.fw_rollout.specs.declared.daemon.Heard.TheVariants as returned
 use Rattle.fw_rollout.specs.declared.ended.Ended.{Ended}
 use Rattle.fw_rollout.specs.declared.link.Listed.{Listed}
 use Rattle.fw_rollout.specs.declared.link.Link.{Link}
+use Rattle.fw_rollout.specs.declared.link.Turn.TheVariants as turns
 use Rattle.std.specs.declared.net.socket_addr.SocketAddr.{SocketAddr}
 use Rattle.fw_port.specs.declared.port.Port
 use Rattle.fw_rollout.specs.Acts.{Act}
 use Rattle.fw_rollout.specs.declared.link.Answer.{Answer}
 use Rattle.fw_rollout.specs.Early.{IsAnswerOf}
+use Rattle.fw_rollout.specs.Counting.{CountsTold, counted_of}
 use Rattle.fw_rollout.specs.Leading.{HasLed, IsNotedIn, Leader, Leads, MayLead}
-use Rattle.fw_rollout.specs.Link.{IsReadyBy, out_by}
+use Rattle.fw_rollout.specs.Link.{IsReadyBy, after, out_by}
 use Rattle.fw_rollout.specs.Schedule.{Answers, IsDueAt, IsSchedule, links_of, listed_of, lives_of}
 
 -- no number and no address stands twice
@@ -59,6 +63,17 @@ pub record IsAskedBy {D : Type 0} (now : ℕ) (daemon : HeadDaemon D) (at : List
   pub there : slice_get (meters_of daemon) place ≡ Some at
   pub due : IsDueBy now daemon place
 
+-- What was sent to a meter of the list counts as out since this time, and nothing came since then.
+pub record IsOutSince {D : Type 0} (now count : ℕ) (daemon : HeadDaemon D) (at : Listed) : Type 0 where
+  pub place : ℕ
+  pub link : Link
+  pub there : slice_get (links_of daemon.schedule) place ≡ Some link
+  pub is : link.at ≡ at
+  pub sent : link.sent_at ≡ now
+  pub out : link.out ≡ count
+  pub waits : link.turn ≡ turns.Awaited (after now link.wait)
+  pub unheard : link.is_heard ≡ false
+
 -- The row of the meter with this address took a datagram as an answer. When the meter is asked again follows from what the datagram leaves
 -- of what was asked, and of the other meters nothing changed.
 pub record TakesAnswer {D : Type 0} (now : ℕ) (from : SocketAddr) (datagram : List ℕ) (old new : HeadDaemon D) : Type 0 where
@@ -76,6 +91,16 @@ out_at now daemon = sum_by (λ (link : Link). out_by now link) (links_of daemon.
 -- the rows that ended and are not on the device yet
 abbrev pub ended_of : {D : Type 0} → HeadDaemon D → List Ended
 ended_of daemon = daemon.ended.items
+
+-- since when they wait, once a row ended at this time besides these
+abbrev pub since_with : ℕ → List Ended → ℕ → ℕ
+since_with now [] since = now
+since_with now (ended ∷ others) since = since
+
+-- or once this came of a datagram
+abbrev pub since_after : Heard → ℕ → List Ended → ℕ → ℕ
+since_after returned.Ended now unsaved since = since_with now unsaved since
+since_after what now unsaved since = since
 
 -- when the oldest of them ended
 abbrev pub since_of : {D : Type 0} → HeadDaemon D → ℕ
@@ -155,5 +180,7 @@ pub record LeadsOver {P D T E : Type 0} (N : Port.Ghosts P Ended) (J : JournalDe
   pub leads : IsTrue (N.honest old) → (start : Leader) → IsLed J.honest J.contents J.may_leave before start → Rests start
       → OnOk result (GoesOn J.honest J.contents J.may_leave start (N.acts old) (N.acts new) after)
   pub leads_err : IsTrue (N.honest old) → (start : Leader) → IsLed J.honest J.contents J.may_leave before start → Rests start → OnErr result (HasLed start (N.acts old) (N.acts new))
+  -- what it counted as done and as given up is what was reported
+  pub counts : IsTrue (N.honest old) → CountsTold (N.acts old) (N.acts new) (counted_of before) (counted_of after)
   pub honesty : N.honest new ≡ N.honest old
   pub law : (done : List Act) → N.legal old done → N.legal new done

@@ -1,12 +1,12 @@
 -- Public vocabulary: what a head end does, over all that comes, with its book on a device.
-use Rattle.std.specs.Prelude.{◌≡◌, ◌⊎◌, ℕ, List, [], ◌∷◌, ◌++◌, map, All, Some, Contains}
+use Rattle.std.specs.Prelude.{◌≡◌, ◌⊎◌, ℕ, true, List, [], ◌∷◌, ◌++◌, map, All, Some, Contains, is_some}
 use Rattle.std.specs.declared.net.socket_addr.SocketAddr.{SocketAddr}
 use Rattle.fw_book.specs.declared.row.RowState.{RowState}
 use Rattle.fw_book.specs.declared.row.RowState.TheVariants as state
 use Rattle.fw_book.specs.Contents.{Contents, state_in}
 use Rattle.fw_head.specs.declared.news.News.{News}
 use Rattle.fw_head.specs.declared.news.News.TheVariants as news
-use Rattle.fw_head.specs.Head.{Head, HeadHears, IsOfferedIn, sends_to, ticked_head}
+use Rattle.fw_head.specs.Head.{Head, HeadHears, IsOfferedIn, row_of, sends_to, ticked_head}
 use Rattle.fw_ledger.specs.declared.record.Ending.{Ending}
 use Rattle.fw_ledger.specs.declared.record.Ending.TheVariants as ends
 use Rattle.fw_rollout.specs.declared.daemon.Heard.{Heard}
@@ -60,6 +60,9 @@ ended_by (news.Failed campaign meter) = record { campaign = campaign; meter = me
 abbrev pub IsListed : Leader → ℕ → SocketAddr → Type 0
 IsListed leader meter address = Contains leader.meters (record { meter = meter; address = address })
 
+abbrev pub HasLiveRow : Leader → ℕ → Type 0
+HasLiveRow leader meter = is_some (row_of leader.head.rows meter) ≡ true
+
 -- a datagram from the address of a meter is heard as that meter's, whatever number its bytes have
 pub record HearsMeter (old : Leader) (from : SocketAddr) (datagram : List ℕ) (new : Leader) : Type 0 where
   pub meter : ℕ
@@ -68,10 +71,11 @@ pub record HearsMeter (old : Leader) (from : SocketAddr) (datagram : List ℕ) (
   pub takes : HeadHears old.head meter datagram heard new.head
   pub others : new ≡ record old { head = new.head; unsaved = old.unsaved ++ ended_by heard }
 
--- there is no memory for it
+-- there is no memory for it, which is wanted only where the meter has a live row
 pub record HearsNot (old : Leader) (from : SocketAddr) (datagram : List ℕ) (new : Leader) : Type 0 where
   pub meter : ℕ
   pub listed : IsListed old meter from
+  pub live : HasLiveRow old meter
   pub same : new ≡ old
 
 -- one from another address changes nothing

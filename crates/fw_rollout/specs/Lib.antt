@@ -2,6 +2,7 @@
 pub mod Acts
 pub mod Timing
 pub mod Leading
+pub mod Counting
 pub mod Daemon
 pub mod Early
 pub mod Lists

@@ -3,6 +3,7 @@
 ghost use Rattle.std.specs.Prelude.{
   ◌≡◌,
   ◌≤◌,
+  ◌+◌,
   ◌↔◌,
   ℕ,
   [],
@@ -21,23 +22,36 @@ ghost use Rattle.std.specs.Prelude.{
   OnErr,
   OnOk,
   MatchOption,
+  is_some,
+  length,
+  min,
   slice_get,
 };
 ghost use Rattle.fw_head.specs.Row.{bytes_of};
-ghost use Rattle.fw_head.specs.Head.{IsOfferedIn};
+ghost use Rattle.fw_head.specs.Head.{IsOfferedIn, row_of};
 ghost use Rattle.fw_book.specs.Contents.{Contents};
 ghost use Rattle.fw_kept.specs.Head.{Holds, device_of, head_of, is_broken, journal_of};
 ghost use Rattle.fw_kept.specs.Kept.{IsFull};
 ghost use Rattle.fw_rollout.specs.Early.{IsAnswerOf};
 ghost use Rattle.fw_rollout.specs.Timing.{HasRoom, most_out};
 ghost use Rattle.fw_rollout.specs.Stopping.{IsSaveStop};
-ghost use Rattle.fw_rollout.specs.Leading.{HearsAs, IsAboutToSend, IsAboutToTell, IsListed, Leader, SavesAll, TicksMeter};
+ghost use Rattle.fw_rollout.specs.Counting.{
+  CountsJust,
+  counted_of,
+  greatest,
+  none_counted,
+  one_more,
+  with_heard,
+  with_row,
+};
+ghost use Rattle.fw_rollout.specs.Leading.{HasLiveRow, HearsAs, IsAboutToSend, IsAboutToTell, IsListed, Leader, SavesAll, TicksMeter};
 ghost use Rattle.fw_rollout.specs.Daemon.{
   IsAskedBy,
   IsDueBy,
   IsDueNow,
   IsLed,
   IsList,
+  IsOutSince,
   IsOver,
   IsSaveDue,
   TakesAnswer,
@@ -52,7 +66,9 @@ ghost use Rattle.fw_rollout.specs.Daemon.{
   out_at,
   out_of,
   queue_of,
+  since_after,
   since_of,
+  since_with,
 };
 ghost use Rattle.fw_rollout.specs.Schedule.{EndsMeter, IsSchedule, listed_of, lives_of, times};
 
@@ -158,6 +174,7 @@ impl<D: JournalDevice + Drop> HeadDaemon<D> {
     ) -> Result<HeadDaemon<D>, Stop>
         ensures kept { IfOk result (λ daemon. kept_of daemon ≡ kept) }
         ensures meters { IfOk result (λ daemon. meters_of daemon ≡ meters.now) }
+        ensures counts { IfOk result (λ daemon. counted_of daemon ≡ none_counted) }
         ensures led { (synced : Contents) → Holds D.honest D.contents D.may_leave kept synced
             → IfOk result (λ daemon. IsLed D.honest D.contents D.may_leave daemon (new_leader meters.now (head_of kept) synced)) }
         ensures memory { IfErr result (λ stop. stop ≡ Stop.OutOfMemory) }
@@ -202,6 +219,14 @@ impl<D: JournalDevice + Drop> HeadDaemon<D> {
         ensures asked { (leader : Leader) → IsLed D.honest D.contents D.may_leave self.old leader
             → IfOk result (λ r. IfSome r (λ due. IsAskedBy now self.old (record { meter = due.meter; address = due.to }))) }
 
+        // And it is waited for an answer since then.
+        ensures waits { (leader : Leader) → IsLed D.honest D.contents D.may_leave self.old leader → IfOk result (λ r. IfSome r (λ due.
+            IsOutSince now (length due.datagrams.items) self.new (record { meter = due.meter; address = due.to }))) }
+        ensures counts { IfOk result (λ r. MatchOption r (counted_of self.new ≡ counted_of self.old) (λ due. counted_of self.new
+            ≡ record (counted_of self.old) { sent = min ((counted_of self.old).sent + length due.datagrams.items) greatest })) }
+        ensures counts_err { OnErr result (counted_of self.new ≡ counted_of self.old) }
+        ensures since { since_of self.new ≡ since_of self.old }
+
         // Nothing is sent only where no meter may be asked at this time, or too much is out.
         ensures none { (leader : Leader) → IsLed D.honest D.contents D.may_leave self.old leader
             → IfOk result (λ r. IfNone r (((place : ℕ) → ¬ IsDueBy now self.old place) ⊎ ¬ HasRoom (out_at now self.old) (flight_of self.old))) }
@@ -224,7 +249,7 @@ impl<D: JournalDevice + Drop> HeadDaemon<D> {
         let datagrams = self.kept.tick(self.alloc, listed.meter)?;
         let count = datagrams.len() as u64;
         self.schedule.sent(place, now, count)?;
-        self.counts.sent = self.counts.sent.saturating_add(count);
+        add(&mut self.counts.sent, count);
         Ok(Some(Due {
             meter: listed.meter,
             to: listed.address,
@@ -246,9 +271,15 @@ impl<D: JournalDevice + Drop> HeadDaemon<D> {
         ensures takes { (leader : Leader) → IsLed D.honest D.contents D.may_leave self.old leader
             → IfOk result (λ heard. heard ≡ Heard.Moved → TakesAnswer now from datagram.now self.old self.new) }
 
-        // Memory is refused for a datagram of a listed meter alone.
+        // The rows that ended wait since the first of them did.
+        ensures since { IfOk result (λ what. since_of self.new ≡ since_after what now (ended_of self.old) (since_of self.old)) }
+        ensures counts { IfOk result (λ what. counted_of self.new ≡ with_heard what (counted_of self.old)) }
+        ensures counts_err { OnErr result (counted_of self.new
+            ≡ record (counted_of self.old) { received = one_more (counted_of self.old).received }) }
+
+        // Memory is refused for a datagram of a listed meter alone, which has a live row.
         ensures listed { (leader : Leader) → IsLed D.honest D.contents D.may_leave self.old leader
-            → OnErr result ((meter : ℕ) × IsListed leader meter from) }
+            → OnErr result ((meter : ℕ) × IsListed leader meter from × HasLiveRow leader meter) }
         ensures memory { IfErr result (λ stop. stop ≡ Stop.OutOfMemory) }
     {
         fw_book::laws::states_follow();
@@ -260,7 +291,8 @@ impl<D: JournalDevice + Drop> HeadDaemon<D> {
             return Ok(Heard::Stranger);
         };
         count(&mut self.counts.received);
-        self.ended.reserve(1)?;
+        let has_row = self.has_row(meter);
+        make_room(&mut self.ended, has_row)?;
         match self.kept.hear(self.alloc, meter, datagram)? {
             News::Nothing => Ok(Heard::Nothing),
             News::Moved => {
@@ -277,6 +309,13 @@ impl<D: JournalDevice + Drop> HeadDaemon<D> {
                 Ok(Heard::Ended)
             }
         }
+    }
+
+    /// Whether a meter has a live row.
+    fn has_row(&self, meter: MeterId) -> bool
+        ensures { result ≡ is_some (row_of (head_of (kept_of self.now)).rows meter) }
+    {
+        self.kept.head().has_row(meter)
     }
 
     /// What an answer of a meter leaves of what its row asked.
@@ -308,14 +347,14 @@ impl<D: JournalDevice + Drop> HeadDaemon<D> {
         ensures kept { kept_of self.new ≡ kept_of self.old }
         ensures ended { OnOk result (ended_of self.new
             ≡ ended_of self.old ++ record { campaign = campaign; meter = meter; ending = ending } ∷ []) }
+        ensures since { since_of self.new ≡ since_with now (ended_of self.old) (since_of self.old) }
+        ensures counts { counted_of self.new ≡ counted_of self.old }
         ensures meters { EndsMeter place self.old.schedule self.new.schedule }
         ensures schedule { IsSchedule self.old.schedule → IsSchedule self.new.schedule }
         ensures memory { IfErr result (λ stop. stop ≡ Stop.OutOfMemory) }
     {
         self.schedule.end(place);
-        if self.ended.is_empty() {
-            self.held_since = now;
-        }
+        self.held_since = since_first(&self.ended, now, self.held_since);
         self.ended.push(Ended {
             campaign,
             meter,
@@ -345,6 +384,10 @@ impl<D: JournalDevice + Drop> HeadDaemon<D> {
             → IfOk result (λ ended. (next : Leader) × SavesAll leader next × IsLed D.honest D.contents D.may_leave self.new next
             × IsAboutToTell next ended.items) }
         ensures returned { IfOk result (λ ended. ended.items ≡ ended_of self.old) }
+        ensures emptied { OnOk result (ended_of self.new ≡ []) }
+        ensures counts { IfOk result (λ ended. CountsJust ended.items (counted_of self.old) (counted_of self.new)) }
+        ensures counts_err { OnErr result (counted_of self.new ≡ counted_of self.old) }
+        ensures since { since_of self.new ≡ since_of self.old }
         ensures stops { IfErr result IsSaveStop }
 
         // The causes of a commit that is refused.
@@ -418,17 +461,57 @@ fn place_of(schedule: &Schedule, address: SocketAddr) -> Option<(usize, MeterId)
     Some((place, at.meter))
 }
 
+/// Takes memory for a row that may end, if there is one.
+///
+/// # Errors
+///
+/// `AllocError` where memory was refused.
+fn make_room(ended: &mut Vec<Ended>, has_row: bool) -> Result<(), AllocError>
+    ensures items { ended.new.items ≡ ended.old.items }
+    ensures row { OnErr result (IsTrue has_row) }
+{
+    if has_row {
+        return ended.reserve(1);
+    }
+    Ok(())
+}
+
+/// Since when rows wait, once one ended now besides these.
+fn since_first(ended: &[Ended], now: u64, since: u64) -> u64
+    ensures { result ≡ since_with now ended.now since }
+{
+    if ended.is_empty() { now } else { since }
+}
+
 /// Counts these rows, by how they ended.
-fn count_ended(counts: &mut Counts, ended: &[Ended]) {
+fn count_ended(counts: &mut Counts, ended: &[Ended])
+    ensures { CountsJust ended.now counts.old counts.new }
+{
     for one in ended {
-        match one.ending {
-            Ending::Done => count(&mut counts.done),
-            Ending::Failed => count(&mut counts.failed),
-        }
+        count_row(counts, one.ending);
     }
 }
 
+/// Counts a row that ended so.
+fn count_row(counts: &mut Counts, ending: Ending)
+    ensures { counts.new ≡ with_row ending counts.old }
+{
+    match ending {
+        Ending::Done => count(&mut counts.done),
+        Ending::Failed => count(&mut counts.failed),
+    }
+}
+
+/// Counts so many more.
+fn add(counter: &mut u64, more: u64)
+    ensures { counter.new ≡ min (counter.old + more) greatest }
+{
+    *counter = counter.saturating_add(more);
+}
+
 /// Counts one more.
-fn count(counter: &mut u64) {
+fn count(counter: &mut u64)
+    ensures { counter.new ≡ one_more counter.old }
+{
     *counter = counter.saturating_add(1);
 }

@@ -1,9 +1,10 @@
 //! The loop of a head end over a port. A port asks at each send and each report whether it may be, so a loop that never ends is held to it
 //! too.
 
-ghost use Rattle.std.specs.Prelude.{◌≡◌, [], List, IsTrue, OnOk, false};
+ghost use Rattle.std.specs.Prelude.{◌≡◌, ◌++◌, [], List, IsTrue, OnOk, false};
 ghost use Rattle.fw_head.specs.Row.{bytes_of};
 ghost use Rattle.fw_rollout.specs.Acts.{Act};
+ghost use Rattle.fw_rollout.specs.Counting.{told_in};
 ghost use Rattle.fw_rollout.specs.Leading.{IsAboutToSend, IsAboutToTell, Leader, Leads, MayLead};
 ghost use Rattle.fw_rollout.specs.Daemon.{IsLed, IsOver, LeadsOver, MayLeadOver};
 
@@ -84,6 +85,7 @@ fn send_all<P: HeadPort>(port: &mut P, to: SocketAddr, datagrams: &[Vec<u8>])
         × MayLead (P.legal port.old) start (P.acts port.old) }
     ensures sends { IsTrue (P.honest port.old) → (start : Leader) → IsAboutToSend start to (bytes_of datagrams.now)
         → Leads start (P.acts port.old) (P.acts port.new) (record start { going = [] }) }
+    ensures told { IsTrue (P.honest port.old) → told_in (P.acts port.new) ≡ told_in (P.acts port.old) }
     ensures honesty { P.honest port.new ≡ P.honest port.old }
     ensures law { (done : List Act) → P.legal port.old done → P.legal port.new done }
 {
@@ -137,6 +139,7 @@ fn tell_all<P: HeadPort>(port: &mut P, saved: &[Ended])
         × MayLead (P.legal port.old) start (P.acts port.old) }
     ensures tells { IsTrue (P.honest port.old) → (start : Leader) → IsAboutToTell start saved.now
         → Leads start (P.acts port.old) (P.acts port.new) (record start { untold = [] }) }
+    ensures told { IsTrue (P.honest port.old) → told_in (P.acts port.new) ≡ told_in (P.acts port.old) ++ saved.now }
     ensures honesty { P.honest port.new ≡ P.honest port.old }
     ensures law { (done : List Act) → P.legal port.old done → P.legal port.new done }
 {

@@ -1,5 +1,8 @@
-use Rattle.std.proofs.Common.{rules, ◌≡◌, ◌∷◌, take}
+use Rattle.std.proofs.Common.{rules, ◌≡◌, ◌∷◌, List, take, refl, ap}
 use Rattle.fw_port.specs.Acts.{came, quiet}
+use Rattle.fw_rollout.specs.Acts.{Act}
+use Rattle.fw_rollout.specs.Counting.{told_in}
+use Rattle.fw_rollout.proofs.Counted.{told_heard, told_received, told_same}
 use Rattle.fw_rollout.proofs.Rounds.{at_err, has_led_same, heard, idled, step_of, unheard}
 use Rattle.fw_rollout.proofs.serving.receive.Goals as goal
 
@@ -8,6 +11,7 @@ returns-in_err-arrival g c = record {
   leads = record {
     leads = λ honest start led rests. search rules;
     leads_err = λ honest start led rests. at_err c.from_residual.result (has_led_same start _ _ (c.in_err-arrival.ensures.closed honest));
+    counts = λ honest. told_same _ _ _ _ (ap (λ (acts : List Act). told_in acts) (c.in_err-arrival.ensures.closed honest)) refl;
     honesty = c.receive.ensures.honesty;
     law = c.receive.ensures.law;
   };
@@ -20,6 +24,9 @@ returns-in_default g c = record {
         let is : g.P.Port.acts c.receive.new.self ≡ quiet ∷ g.P.Port.acts c.args.port.now = search rules in
         idled _ _ _ c.args.daemon.now _ _ is start led rests;
     leads_err = λ honest start led rests. tt;
+    counts = λ honest.
+        let is : g.P.Port.acts c.receive.new.self ≡ quiet ∷ g.P.Port.acts c.args.port.now = search rules in
+        told_same _ _ _ _ (ap (λ (acts : List Act). told_in acts) is) refl;
     honesty = c.receive.ensures.honesty;
     law = c.receive.ensures.law;
   };
@@ -32,6 +39,9 @@ returns-in_err-heard g c = record {
     leads_err = λ honest start led rests.
         let is : g.P.Port.acts c.receive.new.self ≡ came c.in-Some.arrival.from (take c.in-Some.arrival.count c.receive.new.buffer) ∷ g.P.Port.acts c.args.port.now = search rules in
         at_err c.from_residual-in_err-heard.result (unheard start c.in-Some.arrival.from _ _ _ is (c.in_err-heard.ensures.listed start led));
+    counts = λ honest.
+        let is : g.P.Port.acts c.receive.new.self ≡ came c.in-Some.arrival.from (take c.in-Some.arrival.count c.receive.new.buffer) ∷ g.P.Port.acts c.args.port.now = search rules in
+        told_received _ _ _ _ _ (ap (λ (acts : List Act). told_in acts) is) c.in_err-heard.ensures.counts_err;
     honesty = c.receive.ensures.honesty;
     law = c.receive.ensures.law;
   };
@@ -45,6 +55,9 @@ returns g c = record {
         let next = c.in_ok-heard.ensures.hears start led in
         heard _ _ _ c.heard.new.self start next.0 c.in-Some.arrival.from _ _ _ is rests (step_of _ _ _ _ _ next.1) next.2;
     leads_err = λ honest start led rests. tt;
+    counts = λ honest.
+        let is : g.P.Port.acts c.receive.new.self ≡ came c.in-Some.arrival.from (take c.in-Some.arrival.count c.receive.new.buffer) ∷ g.P.Port.acts c.args.port.now = search rules in
+        told_heard _ _ _ _ _ (ap (λ (acts : List Act). told_in acts) is) c.in_ok-heard.ensures.counts;
     honesty = c.receive.ensures.honesty;
     law = c.receive.ensures.law;
   };

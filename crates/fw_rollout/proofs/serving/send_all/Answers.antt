@@ -5,6 +5,7 @@ use Rattle.std.specs.Global.{Vec}
 use Rattle.fw_head.specs.Head.{IsOfferedIn}
 use Rattle.fw_head.specs.Row.{bytes_of}
 use Rattle.fw_rollout.specs.Leading.{Leads}
+use Rattle.fw_rollout.proofs.Counted.{sends_next}
 use Rattle.fw_rollout.proofs.Steps.{may_send, sending, sends_on}
 use Rattle.fw_rollout.proofs.serving.send_all.Goals as goal
 
@@ -39,7 +40,14 @@ loop-datagram-preserved g c =
           (g.P.Port.acts c.send.new.self) left (All-drop (IsOfferedIn start.synced) i all about.offered) (c.loop-datagram.invariant.0 honest start about) (c.send.ensures.sent is),
       c.send.ensures.honesty ∙ c.loop-datagram.invariant.1,
       λ done legal. c.send.ensures.law done (c.loop-datagram.invariant.2 done legal),
+      λ honest.
+          let is = subst (λ (b : Bool). IsTrue b) (sym c.loop-datagram.invariant.1) honest in
+          sends_next c.args.to c.deref.result.now (g.P.Port.acts c.loop-datagram.port) (g.P.Port.acts c.args.port.now) (g.P.Port.acts c.send.new.self) (c.send.ensures.sent is)
+          (c.loop-datagram.invariant.3 honest),
     )
+
+pub returns-clause-told : goal.returns-clause-told
+returns-clause-told g c = c.loop-datagram.invariant.3
 
 pub returns-clause-sends : goal.returns-clause-sends
 returns-clause-sends g c = λ honest start about.

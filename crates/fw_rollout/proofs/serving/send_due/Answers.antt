@@ -1,6 +1,7 @@
-use Rattle.std.proofs.Common.{rules, Bool, IsTrue, sym, subst, ◌∙◌}
+use Rattle.std.proofs.Common.{rules, Bool, IsTrue, refl, sym, subst, ◌∙◌}
+use Rattle.fw_rollout.proofs.Counted.{told_on, told_same, told_sent}
 use Rattle.fw_rollout.proofs.Steps.{may_tick}
-use Rattle.fw_rollout.proofs.Rounds.{at_err, begins_on, joined, ticked}
+use Rattle.fw_rollout.proofs.Rounds.{at_err, begins_on, follows_none, joined, ticked}
 use Rattle.fw_rollout.proofs.serving.send_due.Goals as goal
 
 pub returns-in_err-due : goal.returns-in_err-due
@@ -10,6 +11,7 @@ returns-in_err-due g c = record {
     leads_err = λ honest start led rests.
         let one = c.loop.invariant.0 honest start led rests in
         at_err c.from_residual.result (one.now, one.leads);
+    counts = λ honest. told_on _ _ _ _ _ _ (c.loop.invariant.3 honest) (told_same _ _ _ _ refl c.in_err-due.ensures.counts_err);
     honesty = c.loop.invariant.1;
     law = c.loop.invariant.2;
   };
@@ -32,13 +34,27 @@ returns-in-None g c = record {
         let same = rw c.in-None.is at (c.in_ok-due.ensures.ticks one.now one.led one.rests.sent_all) in
         record { now = one.now; leads = one.leads; led = same; rests = one.rests };
     leads_err = λ honest start led rests. tt;
+    counts = λ honest.
+        let same = rw c.in-None.is at c.in_ok-due.ensures.counts in
+        told_on _ _ _ _ _ _ (c.loop.invariant.3 honest) (told_same _ _ _ _ refl same);
     honesty = c.loop.invariant.1;
     law = c.loop.invariant.2;
   };
 }
 
 pub returns : goal.returns
-returns g c = record { leads = record { leads = c.loop.invariant.0; leads_err = λ honest start led rests. tt; honesty = c.loop.invariant.1; law = c.loop.invariant.2 } }
+returns g c = record {
+  leads = record {
+    leads = c.loop.invariant.0;
+    leads_err = λ honest start led rests. tt;
+    counts = c.loop.invariant.3;
+    honesty = c.loop.invariant.1;
+    law = c.loop.invariant.2;
+  };
+}
+
+pub loop-init : goal.loop-init
+loop-init g c = (λ honest. follows_none _ _ _ c.args.daemon.now _, refl, λ done legal. legal, λ honest. told_same _ _ _ _ refl refl)
 
 pub loop-preserved : goal.loop-preserved
 loop-preserved g c =
@@ -51,4 +67,8 @@ loop-preserved g c =
           (ticked _ _ _ c.due.new.self one.now made.0 c.in-Some.due.meter _ _ one.rests made.1 made.2 (c.send_all.ensures.sends then made.0 (rw c.deref.ensures.value made.3))),
       c.send_all.ensures.honesty ∙ was.1,
       λ done legal. c.send_all.ensures.law done (was.2 done legal),
+      λ honest.
+          let then : IsTrue (g.P.Port.honest c.loop.port) = subst (λ (b : Bool). IsTrue b) (sym was.1) honest in
+          let made = rw c.in-Some.is at c.in_ok-due.ensures.counts in
+          told_on _ _ _ _ _ _ (was.3 honest) (told_sent _ _ _ _ _ (c.send_all.ensures.told then) made),
     )

@@ -1,5 +1,6 @@
-use Rattle.std.proofs.Common.{rules, Bool, IsTrue, sym, subst, ◌∙◌}
-use Rattle.fw_rollout.proofs.Rounds.{at_err, begins_on, goes_on, has_led_on}
+use Rattle.std.proofs.Common.{rules, Bool, IsTrue, refl, sym, subst, ◌∙◌}
+use Rattle.fw_rollout.proofs.Counted.{told_on, told_same}
+use Rattle.fw_rollout.proofs.Rounds.{at_err, begins_on, follows_none, goes_on, has_led_on}
 use Rattle.fw_rollout.proofs.serving.serve_head.Goals as goal
 
 pub step_with-requires : goal.step_with-requires
@@ -21,7 +22,13 @@ loop-preserved g c =
           goes_on _ _ _ c.loop.daemon c.step_with.new.daemon start _ _ _ (was.2 honest start led rests) (made.leads then),
       made.honesty ∙ was.3,
       λ done legal. made.law done (was.4 done legal),
+      λ honest.
+          let then : IsTrue (g.P.Port.honest c.loop.port) = subst (λ (b : Bool). IsTrue b) (sym was.3) honest in
+          told_on _ _ _ _ _ _ (was.5 honest) (made.counts then),
     )
+
+pub loop-init : goal.loop-init
+loop-init g c = (search rules, search rules, λ honest. follows_none _ _ _ c.args.daemon.now _, refl, λ done legal. legal, λ honest. told_same _ _ _ _ refl refl)
 
 pub returns-in_err-step_with-clause-leads : goal.returns-in_err-step_with-clause-leads
 returns-in_err-step_with-clause-leads g c =
@@ -33,6 +40,9 @@ returns-in_err-step_with-clause-leads g c =
           let then : IsTrue (g.P.Port.honest c.loop.port) = subst (λ (b : Bool). IsTrue b) (sym was.3) honest in
           let one = was.2 honest start led rests in
           at_err c.from_residual.result (has_led_on _ _ _ c.loop.daemon start _ _ _ one (made.leads_err then one.now one.led one.rests));
+      counts = λ honest.
+          let then : IsTrue (g.P.Port.honest c.loop.port) = subst (λ (b : Bool). IsTrue b) (sym was.3) honest in
+          told_on _ _ _ _ _ _ (was.5 honest) (made.counts then);
       honesty = made.honesty ∙ was.3;
       law = λ done legal. made.law done (was.4 done legal);
     }
@@ -40,4 +50,4 @@ returns-in_err-step_with-clause-leads g c =
 pub returns-then-not-stays-clause-leads : goal.returns-then-not-stays-clause-leads
 returns-then-not-stays-clause-leads g c =
     let was = c.loop.invariant in
-    record { leads = was.2; leads_err = λ honest start led rests. tt; honesty = was.3; law = was.4 }
+    record { leads = was.2; leads_err = λ honest start led rests. tt; counts = was.5; honesty = was.3; law = was.4 }

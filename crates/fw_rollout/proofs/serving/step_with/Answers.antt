@@ -1,5 +1,6 @@
 use Rattle.std.proofs.Common.{rules, Bool, IsTrue, sym, subst, ◌∙◌}
 use Rattle.std.proofs.lemmas.Result.{on_ok_weaker, on_err_weaker}
+use Rattle.fw_rollout.proofs.Counted.{told_on}
 use Rattle.fw_rollout.proofs.Rounds.{at_err, begins_on, has_led_on, joined}
 use Rattle.fw_rollout.proofs.serving.step_with.Goals as goal
 
@@ -30,6 +31,7 @@ returns-in_err-patience g c =
       leads = record {
         leads = λ honest start led rests. search rules;
         leads_err = λ honest start led rests. at_err c.from_residual.result (first.leads_err honest start led rests);
+        counts = first.counts;
         honesty = first.honesty;
         law = first.law;
       };
@@ -46,6 +48,9 @@ returns-in_err-receive g c =
             let then : IsTrue (g.P.Port.honest c.send_due.new.port) = subst (λ (b : Bool). IsTrue b) (sym first.honesty) honest in
             let one = first.leads honest start led rests in
             at_err c.from_residual-in_err-receive.result (has_led_on _ _ _ c.send_due.new.daemon start _ _ _ one (second.leads_err then one.now one.led one.rests));
+        counts = λ honest.
+            let then : IsTrue (g.P.Port.honest c.send_due.new.port) = subst (λ (b : Bool). IsTrue b) (sym first.honesty) honest in
+            told_on _ _ _ _ _ _ (first.counts honest) (second.counts then);
         honesty = second.honesty ∙ first.honesty;
         law = λ done legal. second.law done (first.law done legal);
       };
@@ -72,6 +77,10 @@ returns g c =
             let two = joined _ _ _ c.send_due.new.daemon c.receive.new.daemon start _ _ _ one (second.leads then one.now one.led one.rests) in
             on_err_weaker c.tell_saved.result (λ three. has_led_on _ _ _ c.receive.new.daemon start _ _ _ two three)
             (third.leads_err last two.now two.led two.rests);
+        counts = λ honest.
+            let then : IsTrue (g.P.Port.honest c.send_due.new.port) = subst (λ (b : Bool). IsTrue b) (sym first.honesty) honest in
+            let last : IsTrue (g.P.Port.honest c.receive.new.port) = subst (λ (b : Bool). IsTrue b) (sym second.honesty) then in
+            told_on _ _ _ _ _ _ (first.counts honest) (told_on _ _ _ _ _ _ (second.counts then) (third.counts last));
         honesty = third.honesty ∙ (second.honesty ∙ first.honesty);
         law = λ done legal. third.law done (second.law done (first.law done legal));
       };

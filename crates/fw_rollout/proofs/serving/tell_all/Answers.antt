@@ -3,6 +3,7 @@ use Rattle.std.proofs.lemmas.List.{drop_all, drop_more}
 use Rattle.std.proofs.lemmas.List.Elements.{All-drop}
 use Rattle.fw_rollout.specs.declared.ended.Ended.{Ended}
 use Rattle.fw_rollout.specs.Leading.{IsNotedIn, Leads}
+use Rattle.fw_rollout.proofs.Counted.{tells_all, tells_next}
 use Rattle.fw_rollout.proofs.Steps.{may_tell, telling, tells_on}
 use Rattle.fw_rollout.proofs.serving.tell_all.Goals as goal
 
@@ -33,7 +34,17 @@ loop-ended-preserved g c =
           (c.loop-ended.invariant.0 honest start about) (c.tell.ensures.told is),
       c.tell.ensures.honesty ∙ c.loop-ended.invariant.1,
       λ done legal. c.tell.ensures.law done (c.loop-ended.invariant.2 done legal),
+      λ honest.
+          let is = subst (λ (b : Bool). IsTrue b) (sym c.loop-ended.invariant.1) honest in
+          tells_next (g.P.Port.acts c.loop-ended.port) (g.P.Port.acts c.args.port.now) (g.P.Port.acts c.tell.new.self) c.ended-item.result (drop i all) (drop (i + 1) all) all
+          (c.tell.ensures.told is) (c.loop-ended.invariant.3 honest) left,
     )
+
+pub returns-clause-told : goal.returns-clause-told
+returns-clause-told g c = λ honest.
+    let all = c.args.saved.now in
+    let none : drop c.loop-ended.ended-index all ≡ [] = drop_all c.loop-ended.ended-index all (omega arith) in
+    tells_all (g.P.Port.acts c.loop-ended.port) (g.P.Port.acts c.args.port.now) (drop c.loop-ended.ended-index all) all none (c.loop-ended.invariant.3 honest)
 
 pub returns-clause-tells : goal.returns-clause-tells
 returns-clause-tells g c = λ honest start about.

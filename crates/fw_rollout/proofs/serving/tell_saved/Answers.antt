@@ -1,6 +1,8 @@
 use Rattle.std.proofs.Common.{rules, List, sym, subst, refl}
 use Rattle.fw_rollout.specs.declared.ended.Ended.{Ended}
+use Rattle.fw_rollout.specs.Counting.{CountsRows}
 use Rattle.fw_rollout.specs.Leading.{IsAboutToTell}
+use Rattle.fw_rollout.proofs.Counted.{told_same}
 use Rattle.fw_rollout.proofs.Steps.{may_save}
 use Rattle.fw_rollout.proofs.Rounds.{at_err, follows_none, has_led_same, saved}
 use Rattle.fw_rollout.proofs.serving.tell_saved.Goals as goal
@@ -19,6 +21,7 @@ returns-then-not-is_save_due g c = record {
   leads = record {
     leads = λ honest. follows_none _ _ _ c.args.daemon.now _;
     leads_err = λ honest start led rests. tt;
+    counts = λ honest. told_same _ _ _ _ refl refl;
     honesty = refl;
     law = λ done legal. legal;
   };
@@ -29,6 +32,7 @@ returns-in_err-saved g c = record {
   leads = record {
     leads = λ honest start led rests. search rules;
     leads_err = λ honest start led rests. at_err c.from_residual.result (has_led_same start _ _ refl);
+    counts = λ honest. told_same _ _ _ _ refl c.in_err-saved.ensures.counts_err;
     honesty = refl;
     law = λ done legal. legal;
   };
@@ -42,6 +46,11 @@ returns g c = record {
         saved _ _ _ c.saved.new.self start made.0 _ _ rests made.1 made.2
         (c.tell_all.ensures.tells honest made.0 (subst (λ (saved : List Ended). IsAboutToTell made.0 saved) (sym c.deref.ensures.value) made.3));
     leads_err = λ honest start led rests. tt;
+    counts = λ honest. record {
+      rows = c.deref.result.now;
+      adds = c.tell_all.ensures.told honest;
+      counts = subst (λ (rows : List Ended). CountsRows rows c.args.daemon.now.counts c.saved.new.self.counts) (sym c.deref.ensures.value) c.in_ok-saved.ensures.counts.counts;
+    };
     honesty = c.tell_all.ensures.honesty;
     law = c.tell_all.ensures.law;
   };

@@ -1,10 +1,11 @@
-use Rattle.std.proofs.Common.{◌≡◌, ◌≤◌, List, Some, slice_get, refl, sym, ap, ◌∙◌, arith}
+use Rattle.std.proofs.Common.{◌≡◌, ℕ, ◌+◌, ◌≤◌, List, Some, length, min, slice_get, refl, sym, ap, ◌∙◌, arith}
 use Rattle.fw_rollout.specs.Schedule.{links_of, listed_of}
 use Rattle.fw_rollout.specs.Timing.{max_tick}
 use Rattle.fw_rollout.specs.declared.link.Listed.{Listed}
 use Rattle.fw_rollout.proofs.Lives.{listed_at}
 use Rattle.fw_rollout.proofs.Daemons.{none_live, same_on, ticked_on}
-use Rattle.fw_rollout.proofs.Dues.{due_before, due_lives, none_asked}
+use Rattle.fw_rollout.specs.Counting.{greatest}
+use Rattle.fw_rollout.proofs.Dues.{due_before, due_lives, none_asked, out_since}
 use Rattle.fw_rollout.proofs.Queueing.{queued_once}
 use Rattle.fw_rollout.proofs.Rounds.{at_err}
 use Rattle.fw_rollout.proofs.Settling.{some_live_before}
@@ -81,3 +82,28 @@ returns-clause-ticks g c = λ leader led sent_all.
     (c.in_ok-datagrams.ensures.waits leader.synced led.holds) refl
     (c.in_ok-sent.ensures.schedule (c.in_ok-place.ensures.schedule led.schedule) due first room few)
     (same_on c.args.self.now.schedule schedule c.sent.new.self same (c.in_ok-sent.ensures.same due))
+
+-- ---- it is out since then
+
+pub returns-clause-waits : goal.returns-clause-waits
+returns-clause-waits g c = λ leader led.
+    let count : c.len-count.result ≡ length c.in_ok-datagrams.datagrams.items = omega (arith, c.len-count.ensures) in
+    out_since c.args.now c.len-count.result (length c.in_ok-datagrams.datagrams.items) c.in-Some.place c.in-Some-at.listed c.next.new.self
+    _
+    (rw c.in-Some.is at c.in_ok-place.ensures.due) (sym c.at.ensures ∙ c.in-Some-at.is) c.in_ok-sent.ensures.sent count
+
+-- ---- what is counted
+
+pub returns-clause-counts : goal.returns-clause-counts
+returns-clause-counts g c =
+    let count : c.len-count.result ≡ length c.in_ok-datagrams.datagrams.items = omega (arith, c.len-count.ensures) in
+    ap (λ (n : ℕ). record c.args.self.now.counts { sent = n }) (c.add.ensures ∙ ap (λ (n : ℕ). min (c.args.self.now.counts.sent + n) greatest) count)
+
+pub returns-in_err-place-clause-counts_err : goal.returns-in_err-place-clause-counts_err
+returns-in_err-place-clause-counts_err g c = at_err c.from_residual.result refl
+
+pub returns-in_err-datagrams-clause-counts_err : goal.returns-in_err-datagrams-clause-counts_err
+returns-in_err-datagrams-clause-counts_err g c = at_err c.from_residual-in_err-datagrams.result refl
+
+pub returns-in_err-sent-clause-counts_err : goal.returns-in_err-sent-clause-counts_err
+returns-in_err-sent-clause-counts_err g c = at_err c.from_residual-in_err-sent.result refl

@@ -1,62 +1,80 @@
-use Rattle.std.proofs.Common.{rules, ℕ, [], ◌∷◌, ◌++◌, List, refl, sym, ap, subst, ◌∙◌}
-use Rattle.fw_head.specs.Head.{Head, HeadHears, IsHead}
+use Rattle.std.proofs.Common.{rules, ◌≡◌, ℕ, true, is_some, [], ◌∷◌, ◌++◌, List, refl, sym, ap, subst, ◌∙◌}
+use Rattle.fw_head.specs.Head.{Head, HeadHears, IsHead, row_of}
 use Rattle.fw_kept.specs.Head.{Holds, head_of}
 use Rattle.fw_ledger.specs.declared.record.Ending.TheVariants as ends
 use Rattle.fw_rollout.specs.declared.ended.Ended.{Ended}
+use Rattle.fw_rollout.specs.Daemon.{since_with}
 use Rattle.fw_rollout.specs.Early.{IsAnswerOf}
 use Rattle.fw_rollout.specs.Leading.{ended_by, heard_of}
 use Rattle.fw_rollout.proofs.Daemons.{ended_on, is_listed, moved_live, moved_on, nothing_on, stranger_on}
+use Rattle.fw_rollout.proofs.Hearing.{row_done, row_failed, row_moved, row_wanted}
 use Rattle.fw_rollout.proofs.Rounds.{at_err}
 use Rattle.fw_rollout.proofs.daemon.HeadDaemon.heard.Goals as goal
 
 -- ---- refused memory is for a datagram of a meter of the list
 
-pub returns-in_err-reserve-clause-listed : goal.returns-in_err-reserve-clause-listed
-returns-in_err-reserve-clause-listed g c = λ leader led.
+pub returns-in_err-make_room-clause-listed : goal.returns-in_err-make_room-clause-listed
+returns-in_err-make_room-clause-listed g c = λ leader led.
+    let row : is_some (row_of (head_of c.args.self.now.kept).rows c.in-Some.meter) ≡ true = subst (λ (m : ℕ). is_some (row_of (head_of c.args.self.now.kept).rows m) ≡ true) (search rules) (sym c.has_row-has_row.ensures ∙ c.in_err-make_room.ensures.row) in
     at_err c.from_residual.result (
       c.in-Some.meter,
       is_listed g.D.JournalDevice.honest g.D.JournalDevice.contents g.D.JournalDevice.may_leave c.args.self.now leader c.in-Some.place (record { meter = c.in-Some.meter; address = c.args.from }) led
           (c.in-Some.ensures.found led.schedule),
+      ap (λ (h : Head). is_some (row_of h.rows c.in-Some.meter)) led.head ∙ row,
     )
 
 pub returns-in_err-hear-clause-listed : goal.returns-in_err-hear-clause-listed
 returns-in_err-hear-clause-listed g c = λ leader led.
+    let row : is_some (row_of (head_of c.args.self.now.kept).rows c.in-Some.meter) ≡ true = subst (λ (m : ℕ). is_some (row_of (head_of c.args.self.now.kept).rows m) ≡ true) (search rules) (row_wanted c.args.self.now.kept c.hear.new.self _ c.args.datagram.now c.in_err-hear.ensures.memory) in
     at_err c.from_residual-in_err-hear.result (
       c.in-Some.meter,
       is_listed g.D.JournalDevice.honest g.D.JournalDevice.contents g.D.JournalDevice.may_leave c.args.self.now leader c.in-Some.place (record { meter = c.in-Some.meter; address = c.args.from }) led
           (c.in-Some.ensures.found led.schedule),
+      ap (λ (h : Head). is_some (row_of h.rows c.in-Some.meter)) led.head ∙ row,
     )
 
 pub returns-in_err-answer-in-Moved-clause-listed : goal.returns-in_err-answer-in-Moved-clause-listed
 returns-in_err-answer-in-Moved-clause-listed g c = λ leader led.
+    let heard = subst (λ (m : ℕ). HeadHears (head_of c.args.self.now.kept) m c.args.datagram.now c.in_ok-hear.field-0 (head_of c.hear.new.self)) (search rules) c.in_ok-hear.ensures.heard in
+    let row : is_some (row_of (head_of c.args.self.now.kept).rows c.in-Some.meter) ≡ true = row_moved (head_of c.args.self.now.kept) (head_of c.hear.new.self) c.in-Some.meter c.args.datagram.now c.in_ok-hear.field-0 heard c.in-Moved.is in
     at_err c.from_residual-in_err-answer-in-Moved.result (
       c.in-Some.meter,
       is_listed g.D.JournalDevice.honest g.D.JournalDevice.contents g.D.JournalDevice.may_leave c.args.self.now leader c.in-Some.place (record { meter = c.in-Some.meter; address = c.args.from }) led
           (c.in-Some.ensures.found led.schedule),
+      ap (λ (h : Head). is_some (row_of h.rows c.in-Some.meter)) led.head ∙ row,
     )
 
 pub returns-in_err-answered-in-Moved-clause-listed : goal.returns-in_err-answered-in-Moved-clause-listed
 returns-in_err-answered-in-Moved-clause-listed g c = λ leader led.
+    let heard = subst (λ (m : ℕ). HeadHears (head_of c.args.self.now.kept) m c.args.datagram.now c.in_ok-hear.field-0 (head_of c.hear.new.self)) (search rules) c.in_ok-hear.ensures.heard in
+    let row : is_some (row_of (head_of c.args.self.now.kept).rows c.in-Some.meter) ≡ true = row_moved (head_of c.args.self.now.kept) (head_of c.hear.new.self) c.in-Some.meter c.args.datagram.now c.in_ok-hear.field-0 heard c.in-Moved.is in
     at_err c.from_residual-in_err-answered-in-Moved.result (
       c.in-Some.meter,
       is_listed g.D.JournalDevice.honest g.D.JournalDevice.contents g.D.JournalDevice.may_leave c.args.self.now leader c.in-Some.place (record { meter = c.in-Some.meter; address = c.args.from }) led
           (c.in-Some.ensures.found led.schedule),
+      ap (λ (h : Head). is_some (row_of h.rows c.in-Some.meter)) led.head ∙ row,
     )
 
 pub returns-in_err-end-in-Done-clause-listed : goal.returns-in_err-end-in-Done-clause-listed
 returns-in_err-end-in-Done-clause-listed g c = λ leader led.
+    let heard = subst (λ (m : ℕ). HeadHears (head_of c.args.self.now.kept) m c.args.datagram.now c.in_ok-hear.field-0 (head_of c.hear.new.self)) (search rules) c.in_ok-hear.ensures.heard in
+    let row : is_some (row_of (head_of c.args.self.now.kept).rows c.in-Some.meter) ≡ true = row_done (head_of c.args.self.now.kept) (head_of c.hear.new.self) c.in-Some.meter c.args.datagram.now c.in_ok-hear.field-0 c.in-Done.campaign c.in-Done.meter heard c.in-Done.is in
     at_err c.from_residual-in_err-end-in-Done.result (
       c.in-Some.meter,
       is_listed g.D.JournalDevice.honest g.D.JournalDevice.contents g.D.JournalDevice.may_leave c.args.self.now leader c.in-Some.place (record { meter = c.in-Some.meter; address = c.args.from }) led
           (c.in-Some.ensures.found led.schedule),
+      ap (λ (h : Head). is_some (row_of h.rows c.in-Some.meter)) led.head ∙ row,
     )
 
 pub returns-in_err-end-in-Failed-clause-listed : goal.returns-in_err-end-in-Failed-clause-listed
 returns-in_err-end-in-Failed-clause-listed g c = λ leader led.
+    let heard = subst (λ (m : ℕ). HeadHears (head_of c.args.self.now.kept) m c.args.datagram.now c.in_ok-hear.field-0 (head_of c.hear.new.self)) (search rules) c.in_ok-hear.ensures.heard in
+    let row : is_some (row_of (head_of c.args.self.now.kept).rows c.in-Some.meter) ≡ true = row_failed (head_of c.args.self.now.kept) (head_of c.hear.new.self) c.in-Some.meter c.args.datagram.now c.in_ok-hear.field-0 c.in-Failed.campaign c.in-Failed.meter heard c.in-Failed.is in
     at_err c.from_residual-in_err-end-in-Failed.result (
       c.in-Some.meter,
       is_listed g.D.JournalDevice.honest g.D.JournalDevice.contents g.D.JournalDevice.may_leave c.args.self.now leader c.in-Some.place (record { meter = c.in-Some.meter; address = c.args.from }) led
           (c.in-Some.ensures.found led.schedule),
+      ap (λ (h : Head). is_some (row_of h.rows c.in-Some.meter)) led.head ∙ row,
     )
 
 -- ---- what is heard: the number that is passed on is that of the pair that was found, which search sees
@@ -69,8 +87,8 @@ pub returns-in-Nothing-clause-hears : goal.returns-in-Nothing-clause-hears
 returns-in-Nothing-clause-hears g c = λ leader led.
     let heard = subst (λ (m : ℕ). HeadHears (head_of c.args.self.now.kept) m c.args.datagram.now c.in_ok-hear.field-0 (head_of c.hear.new.self)) (search rules) c.in_ok-hear.ensures.heard in
     nothing_on g.D.JournalDevice.honest g.D.JournalDevice.contents g.D.JournalDevice.may_leave c.args.self.now
-    (record c.args.self.now { kept = c.hear.new.self; ended = c.reserve.new.self; counts = record c.args.self.now.counts { received = c.count-2.new.counter } }) leader led c.in-Some.place c.in-Some.meter c.args.from
-    (c.in-Some.ensures.found led.schedule) c.args.datagram.now c.in_ok-hear.field-0 heard (c.in_ok-hear.ensures.waits leader.synced led.holds) c.in-Nothing.is c.reserve.ensures.items refl
+    (record c.args.self.now { kept = c.hear.new.self; ended = c.make_room.new.ended; counts = record c.args.self.now.counts { received = c.count-2.new.counter } }) leader led c.in-Some.place c.in-Some.meter c.args.from
+    (c.in-Some.ensures.found led.schedule) c.args.datagram.now c.in_ok-hear.field-0 heard (c.in_ok-hear.ensures.waits leader.synced led.holds) c.in-Nothing.is c.make_room.ensures.items refl
 
 pub returns-in_ok-answered-in-Moved-clause-hears : goal.returns-in_ok-answered-in-Moved-clause-hears
 returns-in_ok-answered-in-Moved-clause-hears g c = λ leader led.
@@ -80,8 +98,8 @@ returns-in_ok-answered-in-Moved-clause-hears g c = λ leader led.
     let live = moved_live g.D.JournalDevice.honest g.D.JournalDevice.contents g.D.JournalDevice.may_leave c.args.self.now (record c.args.self.now { kept = c.hear.new.self }) leader led c.in-Some.place c.in-Some.meter
     c.args.from there c.args.datagram.now c.in_ok-hear.field-0 heard holds c.in-Moved.is in
     moved_on g.D.JournalDevice.honest g.D.JournalDevice.contents g.D.JournalDevice.may_leave c.args.self.now
-    (record c.args.self.now { kept = c.hear.new.self; schedule = c.answered.new.self; ended = c.reserve.new.self; counts = record c.args.self.now.counts { received = c.count-2.new.counter } }) leader led c.in-Some.place
-    c.in-Some.meter c.args.from there c.args.datagram.now c.in_ok-hear.field-0 heard holds c.in-Moved.is c.reserve.ensures.items (c.in_ok-answered-in-Moved.ensures.schedule led.schedule live) (c.in_ok-answered-in-Moved.ensures.same live)
+    (record c.args.self.now { kept = c.hear.new.self; schedule = c.answered.new.self; ended = c.make_room.new.ended; counts = record c.args.self.now.counts { received = c.count-2.new.counter } }) leader led c.in-Some.place
+    c.in-Some.meter c.args.from there c.args.datagram.now c.in_ok-hear.field-0 heard holds c.in-Moved.is c.make_room.ensures.items (c.in_ok-answered-in-Moved.ensures.schedule led.schedule live) (c.in_ok-answered-in-Moved.ensures.same live)
 
 pub returns-in_ok-end-in-Done-clause-hears : goal.returns-in_ok-end-in-Done-clause-hears
 returns-in_ok-end-in-Done-clause-hears g c = λ leader led.
@@ -92,7 +110,7 @@ returns-in_ok-end-in-Done-clause-hears g c = λ leader led.
     ended_on g.D.JournalDevice.honest g.D.JournalDevice.contents g.D.JournalDevice.may_leave c.args.self.now c.end.new.self leader led c.in-Some.place c.in-Some.meter c.args.from
     (c.in-Some.ensures.found led.schedule) c.args.datagram.now c.in_ok-hear.field-0 hears holds c.states_follow.ensures c.row_keeps_goal.ensures
     (subst (λ (h : Head). IsHead h) c.head.ensures c.view-view.ensures.live) one (ap ended_by c.in-Done.is)
-    (c.in_ok-end-in-Done.ensures.ended ∙ ap (λ (xs : List Ended). xs ++ one ∷ []) c.reserve.ensures.items) (c.end.ensures.schedule led.schedule) c.end.ensures.meters
+    (c.in_ok-end-in-Done.ensures.ended ∙ ap (λ (xs : List Ended). xs ++ one ∷ []) c.make_room.ensures.items) (c.end.ensures.schedule led.schedule) c.end.ensures.meters
     (ap heard_of c.in-Done.is)
 
 pub returns-in_ok-end-in-Failed-clause-hears : goal.returns-in_ok-end-in-Failed-clause-hears
@@ -104,7 +122,7 @@ returns-in_ok-end-in-Failed-clause-hears g c = λ leader led.
     ended_on g.D.JournalDevice.honest g.D.JournalDevice.contents g.D.JournalDevice.may_leave c.args.self.now c.end-in-Failed.new.self leader led c.in-Some.place c.in-Some.meter c.args.from
     (c.in-Some.ensures.found led.schedule) c.args.datagram.now c.in_ok-hear.field-0 hears holds c.states_follow.ensures c.row_keeps_goal.ensures
     (subst (λ (h : Head). IsHead h) c.head.ensures c.view-view.ensures.live) one (ap ended_by c.in-Failed.is)
-    (c.in_ok-end-in-Failed.ensures.ended ∙ ap (λ (xs : List Ended). xs ++ one ∷ []) c.reserve.ensures.items) (c.end-in-Failed.ensures.schedule led.schedule) c.end-in-Failed.ensures.meters
+    (c.in_ok-end-in-Failed.ensures.ended ∙ ap (λ (xs : List Ended). xs ++ one ∷ []) c.make_room.ensures.items) (c.end-in-Failed.ensures.schedule led.schedule) c.end-in-Failed.ensures.meters
     (ap heard_of c.in-Failed.is)
 
 -- ---- when the meter is asked again
@@ -118,3 +136,50 @@ returns-in_ok-answered-in-Moved-clause-takes g c = λ leader led moved. record {
   leaves = subst (λ (m : ℕ). IsAnswerOf (head_of c.hear.new.self) m c.args.datagram.now c.in_ok-answer-in-Moved.answer) (search rules) c.in_ok-answer-in-Moved.ensures;
   goes_on = c.in_ok-answered-in-Moved.ensures.answered;
 }
+
+-- ---- since when rows wait
+
+pub returns-in_ok-end-in-Done-clause-since : goal.returns-in_ok-end-in-Done-clause-since
+returns-in_ok-end-in-Done-clause-since g c = c.end.ensures.since ∙ ap (λ (rows : List Ended). since_with c.args.now rows c.args.self.now.held_since) c.make_room.ensures.items
+
+pub returns-in_ok-end-in-Failed-clause-since : goal.returns-in_ok-end-in-Failed-clause-since
+returns-in_ok-end-in-Failed-clause-since g c = c.end-in-Failed.ensures.since ∙ ap (λ (rows : List Ended). since_with c.args.now rows c.args.self.now.held_since) c.make_room.ensures.items
+
+-- ---- what is counted
+
+pub returns-in_default-clause-counts : goal.returns-in_default-clause-counts
+returns-in_default-clause-counts g c = ap (λ (n : ℕ). record c.args.self.now.counts { strangers = n }) c.count.ensures
+
+pub returns-in-Nothing-clause-counts : goal.returns-in-Nothing-clause-counts
+returns-in-Nothing-clause-counts g c = ap (λ (n : ℕ). record c.args.self.now.counts { received = n }) c.count-2.ensures
+
+pub returns-in_ok-answered-in-Moved-clause-counts : goal.returns-in_ok-answered-in-Moved-clause-counts
+returns-in_ok-answered-in-Moved-clause-counts g c = ap (λ (n : ℕ). record c.args.self.now.counts { received = n }) c.count-2.ensures
+
+pub returns-in_ok-end-in-Done-clause-counts : goal.returns-in_ok-end-in-Done-clause-counts
+returns-in_ok-end-in-Done-clause-counts g c = c.end.ensures.counts ∙ ap (λ (n : ℕ). record c.args.self.now.counts { received = n }) c.count-2.ensures
+
+pub returns-in_ok-end-in-Failed-clause-counts : goal.returns-in_ok-end-in-Failed-clause-counts
+returns-in_ok-end-in-Failed-clause-counts g c = c.end-in-Failed.ensures.counts ∙ ap (λ (n : ℕ). record c.args.self.now.counts { received = n }) c.count-2.ensures
+
+pub returns-in_err-make_room-clause-counts_err : goal.returns-in_err-make_room-clause-counts_err
+returns-in_err-make_room-clause-counts_err g c = at_err c.from_residual.result (ap (λ (n : ℕ). record c.args.self.now.counts { received = n }) c.count-2.ensures)
+
+pub returns-in_err-hear-clause-counts_err : goal.returns-in_err-hear-clause-counts_err
+returns-in_err-hear-clause-counts_err g c = at_err c.from_residual-in_err-hear.result (ap (λ (n : ℕ). record c.args.self.now.counts { received = n }) c.count-2.ensures)
+
+pub returns-in_err-answer-in-Moved-clause-counts_err : goal.returns-in_err-answer-in-Moved-clause-counts_err
+returns-in_err-answer-in-Moved-clause-counts_err g c =
+    at_err c.from_residual-in_err-answer-in-Moved.result (ap (λ (n : ℕ). record c.args.self.now.counts { received = n }) c.count-2.ensures)
+
+pub returns-in_err-answered-in-Moved-clause-counts_err : goal.returns-in_err-answered-in-Moved-clause-counts_err
+returns-in_err-answered-in-Moved-clause-counts_err g c =
+    at_err c.from_residual-in_err-answered-in-Moved.result (ap (λ (n : ℕ). record c.args.self.now.counts { received = n }) c.count-2.ensures)
+
+pub returns-in_err-end-in-Done-clause-counts_err : goal.returns-in_err-end-in-Done-clause-counts_err
+returns-in_err-end-in-Done-clause-counts_err g c =
+    at_err c.from_residual-in_err-end-in-Done.result (c.end.ensures.counts ∙ ap (λ (n : ℕ). record c.args.self.now.counts { received = n }) c.count-2.ensures)
+
+pub returns-in_err-end-in-Failed-clause-counts_err : goal.returns-in_err-end-in-Failed-clause-counts_err
+returns-in_err-end-in-Failed-clause-counts_err g c =
+    at_err c.from_residual-in_err-end-in-Failed.result (c.end-in-Failed.ensures.counts ∙ ap (λ (n : ℕ). record c.args.self.now.counts { received = n }) c.count-2.ensures)
