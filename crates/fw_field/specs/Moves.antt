@@ -95,8 +95,8 @@ Tears f number old [] new = new ≡ old
 Tears f number old (datagram ∷ others) new =
     WasSentTo f number datagram × (next : Meter) × TearsBlock old datagram next × Tears f number next others new
 
--- What is started again after a kill, which left this meter. By a kill of the process no block is torn, by a power cut any of those that were
--- sent again. The start may be killed too, before it changed the store or after: the next one leads to the same meter.
+-- What is started again after a kill, which left this meter. By a kill of the process no block is torn, by a power cut any of those that
+-- were sent again. The start may be killed too, before it changed the store or after: the next one leads to the same meter.
 pub record StartsAgain (f : Field) (number : ℕ) (left : Meter) (after : Daemon) : Type 0 where
   pub datagrams : List (List ℕ)
   pub cut : Meter

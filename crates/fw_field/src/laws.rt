@@ -77,9 +77,9 @@ pub fn serving_is_moves()
     ensures { ServingIsMoves }
 {}
 
-/// Whatever a head end does that is in a field is its steps as moves, where each datagram that it heard as that of a meter was sent to it by
-/// that meter there. In the field that they lead to, all that it sent was sent on the link of a meter with that address, and all that it
-/// reported was reported.
+/// Whatever a head end does that is in a field is its steps as moves, where each datagram that it heard as that of a meter was sent to it
+/// by that meter there. In the field that they lead to, all that it sent was sent on the link of a meter with that address, and all that
+/// it reported was reported.
 pub fn leading_is_moves()
     ensures { LeadingIsMoves }
 {}

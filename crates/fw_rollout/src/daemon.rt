@@ -274,7 +274,8 @@ impl<D: JournalDevice + Drop> HeadDaemon<D> {
         // The rows that ended wait since the first of them did.
         ensures since { IfOk result (λ what. since_of self.new ≡ since_after what now (ended_of self.old) (since_of self.old)) }
         ensures counts { IfOk result (λ what. counted_of self.new ≡ with_heard what (counted_of self.old)) }
-        ensures counts_err { OnErr result (counted_of self.new ≡ record (counted_of self.old) { received = one_more (counted_of self.old).received }) }
+        ensures counts_err { OnErr result (counted_of self.new
+            ≡ record (counted_of self.old) { received = one_more (counted_of self.old).received }) }
 
         // Memory is refused for a datagram of a listed meter alone, which has a live row.
         ensures listed { (leader : Leader) → IsLed D.honest D.contents D.may_leave self.old leader
