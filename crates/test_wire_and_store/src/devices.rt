@@ -36,7 +36,8 @@ impl Reads for Stored {
             "within" => old_device(alloc, 642)?.limited(words.number()? as usize),
             "over" => {
                 let used = vec![in alloc; 255; words.number()? as usize]?;
-                DeviceStore::create_on(TestDevice::of(used), 8, 2, b"abc")?.into_device()
+                let over = DeviceStore::create_on(TestDevice::of(used), 8, 2, b"abc")?;
+                return stored_text(alloc, over.into_device().bytes.as_slice());
             }
             "failing" => {
                 let mut device = fresh(alloc)?;
@@ -45,7 +46,7 @@ impl Reads for Stored {
             }
             way => return failing_text(alloc, way, words),
         };
-        while let Some(name) = words.next() {
+        for name in words.rest().split(' ') {
             let mut store = Kept(DeviceStore::reopen_on(device)?);
             calls(alloc, &mut store.0, table_of(name)?)?;
             device = store.into_inner().into_device();
