@@ -11,7 +11,7 @@ use test_tables::{Reads, Words, each_table};
 enum Told {
     /// Of a short spelling the value, as `Debug` gives it, if that is written so too.
     Value,
-    /// Of any spelling the short one of the same value, or the fault.
+    /// Of any spelling the short one of the same value, with the bytes that are left after it, or the fault.
     Short,
     /// Of a tag with N zero bytes, zero bits or null-data after the shortest form of N, which stands beside it, and after the longest:
     /// whether both are written with the shortest.
@@ -35,7 +35,7 @@ impl Reads for Told {
 
 fn value_text(alloc: Global, bytes: &[u8], digits: &str) -> Result<String, Fail> {
     let (value, _) = read(alloc, bytes)?;
-    if written(alloc, &value)?.as_str() == digits {
+    if short_text(alloc, bytes)?.as_str() == digits {
         shown(alloc, &value)
     } else {
         Err("it is written otherwise".into())
@@ -44,17 +44,14 @@ fn value_text(alloc: Global, bytes: &[u8], digits: &str) -> Result<String, Fail>
 
 fn short_text(alloc: Global, bytes: &[u8]) -> Result<String, Fail> {
     match read(alloc, bytes) {
-        Ok((value, used)) if used == bytes.len() => written(alloc, &value),
-        Ok(_) => Err("bytes are left".into()),
+        Ok((value, used)) => {
+            let mut out = Vec::new(alloc);
+            write_to(&value, &mut out)?;
+            out.extend_from_slice(bytes.get(used..).unwrap_or(&[]))?;
+            digits(alloc, out.as_slice())
+        }
         Err(fault) => Ok(fault.to_string(alloc)?),
     }
-}
-
-/// The short spelling of a value, in hexadecimal.
-fn written(alloc: Global, value: &Data) -> Result<String, Fail> {
-    let mut out = Vec::new(alloc);
-    write_to(value, &mut out)?;
-    digits(alloc, out.as_slice())
 }
 
 /// The short spellings of values of each type, and the values.
@@ -175,6 +172,408 @@ const FAULTS: &str = "
     0201020102010201020102010201020100 => TooDeep
 ";
 
+/// Each first byte alone. The tags are 0, 1 to 6, 9, 10, 15 to 18, and 20 to 22.
+const TAGS: &str = "
+    00 => 00
+    01 => Truncated
+    02 => Truncated
+    03 => Truncated
+    04 => Truncated
+    05 => Truncated
+    06 => Truncated
+    07 => UnknownTag
+    08 => UnknownTag
+    09 => Truncated
+    0a => Truncated
+    0b => UnknownTag
+    0c => UnknownTag
+    0d => UnknownTag
+    0e => UnknownTag
+    0f => Truncated
+    10 => Truncated
+    11 => Truncated
+    12 => Truncated
+    13 => UnknownTag
+    14 => Truncated
+    15 => Truncated
+    16 => Truncated
+    17 => UnknownTag
+    18 => UnknownTag
+    19 => UnknownTag
+    1a => UnknownTag
+    1b => UnknownTag
+    1c => UnknownTag
+    1d => UnknownTag
+    1e => UnknownTag
+    1f => UnknownTag
+    20 => UnknownTag
+    21 => UnknownTag
+    22 => UnknownTag
+    23 => UnknownTag
+    24 => UnknownTag
+    25 => UnknownTag
+    26 => UnknownTag
+    27 => UnknownTag
+    28 => UnknownTag
+    29 => UnknownTag
+    2a => UnknownTag
+    2b => UnknownTag
+    2c => UnknownTag
+    2d => UnknownTag
+    2e => UnknownTag
+    2f => UnknownTag
+    30 => UnknownTag
+    31 => UnknownTag
+    32 => UnknownTag
+    33 => UnknownTag
+    34 => UnknownTag
+    35 => UnknownTag
+    36 => UnknownTag
+    37 => UnknownTag
+    38 => UnknownTag
+    39 => UnknownTag
+    3a => UnknownTag
+    3b => UnknownTag
+    3c => UnknownTag
+    3d => UnknownTag
+    3e => UnknownTag
+    3f => UnknownTag
+    40 => UnknownTag
+    41 => UnknownTag
+    42 => UnknownTag
+    43 => UnknownTag
+    44 => UnknownTag
+    45 => UnknownTag
+    46 => UnknownTag
+    47 => UnknownTag
+    48 => UnknownTag
+    49 => UnknownTag
+    4a => UnknownTag
+    4b => UnknownTag
+    4c => UnknownTag
+    4d => UnknownTag
+    4e => UnknownTag
+    4f => UnknownTag
+    50 => UnknownTag
+    51 => UnknownTag
+    52 => UnknownTag
+    53 => UnknownTag
+    54 => UnknownTag
+    55 => UnknownTag
+    56 => UnknownTag
+    57 => UnknownTag
+    58 => UnknownTag
+    59 => UnknownTag
+    5a => UnknownTag
+    5b => UnknownTag
+    5c => UnknownTag
+    5d => UnknownTag
+    5e => UnknownTag
+    5f => UnknownTag
+    60 => UnknownTag
+    61 => UnknownTag
+    62 => UnknownTag
+    63 => UnknownTag
+    64 => UnknownTag
+    65 => UnknownTag
+    66 => UnknownTag
+    67 => UnknownTag
+    68 => UnknownTag
+    69 => UnknownTag
+    6a => UnknownTag
+    6b => UnknownTag
+    6c => UnknownTag
+    6d => UnknownTag
+    6e => UnknownTag
+    6f => UnknownTag
+    70 => UnknownTag
+    71 => UnknownTag
+    72 => UnknownTag
+    73 => UnknownTag
+    74 => UnknownTag
+    75 => UnknownTag
+    76 => UnknownTag
+    77 => UnknownTag
+    78 => UnknownTag
+    79 => UnknownTag
+    7a => UnknownTag
+    7b => UnknownTag
+    7c => UnknownTag
+    7d => UnknownTag
+    7e => UnknownTag
+    7f => UnknownTag
+    80 => UnknownTag
+    81 => UnknownTag
+    82 => UnknownTag
+    83 => UnknownTag
+    84 => UnknownTag
+    85 => UnknownTag
+    86 => UnknownTag
+    87 => UnknownTag
+    88 => UnknownTag
+    89 => UnknownTag
+    8a => UnknownTag
+    8b => UnknownTag
+    8c => UnknownTag
+    8d => UnknownTag
+    8e => UnknownTag
+    8f => UnknownTag
+    90 => UnknownTag
+    91 => UnknownTag
+    92 => UnknownTag
+    93 => UnknownTag
+    94 => UnknownTag
+    95 => UnknownTag
+    96 => UnknownTag
+    97 => UnknownTag
+    98 => UnknownTag
+    99 => UnknownTag
+    9a => UnknownTag
+    9b => UnknownTag
+    9c => UnknownTag
+    9d => UnknownTag
+    9e => UnknownTag
+    9f => UnknownTag
+    a0 => UnknownTag
+    a1 => UnknownTag
+    a2 => UnknownTag
+    a3 => UnknownTag
+    a4 => UnknownTag
+    a5 => UnknownTag
+    a6 => UnknownTag
+    a7 => UnknownTag
+    a8 => UnknownTag
+    a9 => UnknownTag
+    aa => UnknownTag
+    ab => UnknownTag
+    ac => UnknownTag
+    ad => UnknownTag
+    ae => UnknownTag
+    af => UnknownTag
+    b0 => UnknownTag
+    b1 => UnknownTag
+    b2 => UnknownTag
+    b3 => UnknownTag
+    b4 => UnknownTag
+    b5 => UnknownTag
+    b6 => UnknownTag
+    b7 => UnknownTag
+    b8 => UnknownTag
+    b9 => UnknownTag
+    ba => UnknownTag
+    bb => UnknownTag
+    bc => UnknownTag
+    bd => UnknownTag
+    be => UnknownTag
+    bf => UnknownTag
+    c0 => UnknownTag
+    c1 => UnknownTag
+    c2 => UnknownTag
+    c3 => UnknownTag
+    c4 => UnknownTag
+    c5 => UnknownTag
+    c6 => UnknownTag
+    c7 => UnknownTag
+    c8 => UnknownTag
+    c9 => UnknownTag
+    ca => UnknownTag
+    cb => UnknownTag
+    cc => UnknownTag
+    cd => UnknownTag
+    ce => UnknownTag
+    cf => UnknownTag
+    d0 => UnknownTag
+    d1 => UnknownTag
+    d2 => UnknownTag
+    d3 => UnknownTag
+    d4 => UnknownTag
+    d5 => UnknownTag
+    d6 => UnknownTag
+    d7 => UnknownTag
+    d8 => UnknownTag
+    d9 => UnknownTag
+    da => UnknownTag
+    db => UnknownTag
+    dc => UnknownTag
+    dd => UnknownTag
+    de => UnknownTag
+    df => UnknownTag
+    e0 => UnknownTag
+    e1 => UnknownTag
+    e2 => UnknownTag
+    e3 => UnknownTag
+    e4 => UnknownTag
+    e5 => UnknownTag
+    e6 => UnknownTag
+    e7 => UnknownTag
+    e8 => UnknownTag
+    e9 => UnknownTag
+    ea => UnknownTag
+    eb => UnknownTag
+    ec => UnknownTag
+    ed => UnknownTag
+    ee => UnknownTag
+    ef => UnknownTag
+    f0 => UnknownTag
+    f1 => UnknownTag
+    f2 => UnknownTag
+    f3 => UnknownTag
+    f4 => UnknownTag
+    f5 => UnknownTag
+    f6 => UnknownTag
+    f7 => UnknownTag
+    f8 => UnknownTag
+    f9 => UnknownTag
+    fa => UnknownTag
+    fb => UnknownTag
+    fc => UnknownTag
+    fd => UnknownTag
+    fe => UnknownTag
+    ff => UnknownTag
+";
+
+/// The types of a fixed size, which is 1, 2, 4 or 8 bytes, with none to eight bytes after the tag.
+const FIXED: &str = "
+    03                 => Truncated
+    03ff               => 0301
+    03ffff             => 0301ff
+    03ffffff           => 0301ffff
+    03ffffffff         => 0301ffffff
+    03ffffffffff       => 0301ffffffff
+    03ffffffffffff     => 0301ffffffffff
+    03ffffffffffffff   => 0301ffffffffffff
+    03ffffffffffffffff => 0301ffffffffffffff
+    05                 => Truncated
+    05ff               => Truncated
+    05ffff             => Truncated
+    05ffffff           => Truncated
+    05ffffffff         => 05ffffffff
+    05ffffffffff       => 05ffffffffff
+    05ffffffffffff     => 05ffffffffffff
+    05ffffffffffffff   => 05ffffffffffffff
+    05ffffffffffffffff => 05ffffffffffffffff
+    06                 => Truncated
+    06ff               => Truncated
+    06ffff             => Truncated
+    06ffffff           => Truncated
+    06ffffffff         => 06ffffffff
+    06ffffffffff       => 06ffffffffff
+    06ffffffffffff     => 06ffffffffffff
+    06ffffffffffffff   => 06ffffffffffffff
+    06ffffffffffffffff => 06ffffffffffffffff
+    0f                 => Truncated
+    0fff               => 0fff
+    0fffff             => 0fffff
+    0fffffff           => 0fffffff
+    0fffffffff         => 0fffffffff
+    0fffffffffff       => 0fffffffffff
+    0fffffffffffff     => 0fffffffffffff
+    0fffffffffffffff   => 0fffffffffffffff
+    0fffffffffffffffff => 0fffffffffffffffff
+    10                 => Truncated
+    10ff               => Truncated
+    10ffff             => 10ffff
+    10ffffff           => 10ffffff
+    10ffffffff         => 10ffffffff
+    10ffffffffff       => 10ffffffffff
+    10ffffffffffff     => 10ffffffffffff
+    10ffffffffffffff   => 10ffffffffffffff
+    10ffffffffffffffff => 10ffffffffffffffff
+    11                 => Truncated
+    11ff               => 11ff
+    11ffff             => 11ffff
+    11ffffff           => 11ffffff
+    11ffffffff         => 11ffffffff
+    11ffffffffff       => 11ffffffffff
+    11ffffffffffff     => 11ffffffffffff
+    11ffffffffffffff   => 11ffffffffffffff
+    11ffffffffffffffff => 11ffffffffffffffff
+    12                 => Truncated
+    12ff               => Truncated
+    12ffff             => 12ffff
+    12ffffff           => 12ffffff
+    12ffffffff         => 12ffffffff
+    12ffffffffff       => 12ffffffffff
+    12ffffffffffff     => 12ffffffffffff
+    12ffffffffffffff   => 12ffffffffffffff
+    12ffffffffffffffff => 12ffffffffffffffff
+    14                 => Truncated
+    14ff               => Truncated
+    14ffff             => Truncated
+    14ffffff           => Truncated
+    14ffffffff         => Truncated
+    14ffffffffff       => Truncated
+    14ffffffffffff     => Truncated
+    14ffffffffffffff   => Truncated
+    14ffffffffffffffff => 14ffffffffffffffff
+    15                 => Truncated
+    15ff               => Truncated
+    15ffff             => Truncated
+    15ffffff           => Truncated
+    15ffffffff         => Truncated
+    15ffffffffff       => Truncated
+    15ffffffffffff     => Truncated
+    15ffffffffffffff   => Truncated
+    15ffffffffffffffff => 15ffffffffffffffff
+    16                 => Truncated
+    16ff               => 16ff
+    16ffff             => 16ffff
+    16ffffff           => 16ffffff
+    16ffffffff         => 16ffffffff
+    16ffffffffff       => 16ffffffffff
+    16ffffffffffff     => 16ffffffffffff
+    16ffffffffffffff   => 16ffffffffffffff
+    16ffffffffffffffff => 16ffffffffffffffff
+";
+
+/// Arrays, structures, and both in turn, of one element each and one in another, and in the innermost at depth 8 and at depth 9 each of
+/// these: nothing, null-data, an unknown tag, a bad length, an empty array, an array of an element that is lacking, and a structure of
+/// two, of which one is.
+const INNERMOST: &str = "
+    0101010101010101010101010101           => Truncated
+    01010101010101010101010101010101       => Truncated
+    0201020102010201020102010201           => Truncated
+    02010201020102010201020102010201       => Truncated
+    0101020101010201010102010101           => Truncated
+    01010201010102010101020101010201       => Truncated
+    010101010101010101010101010100         => 010101010101010101010101010100
+    0101010101010101010101010101010100     => TooDeep
+    020102010201020102010201020100         => 020102010201020102010201020100
+    0201020102010201020102010201020100     => TooDeep
+    010102010101020101010201010100         => 010102010101020101010201010100
+    0101020101010201010102010101020100     => TooDeep
+    010101010101010101010101010107         => UnknownTag
+    0101010101010101010101010101010107     => TooDeep
+    020102010201020102010201020107         => UnknownTag
+    0201020102010201020102010201020107     => TooDeep
+    010102010101020101010201010107         => UnknownTag
+    0101020101010201010102010101020107     => TooDeep
+    01010101010101010101010101010980       => BadLength
+    010101010101010101010101010101010980   => TooDeep
+    02010201020102010201020102010980       => BadLength
+    020102010201020102010201020102010980   => TooDeep
+    01010201010102010101020101010980       => BadLength
+    010102010101020101010201010102010980   => TooDeep
+    01010101010101010101010101010100       => 01010101010101010101010101010100
+    010101010101010101010101010101010100   => TooDeep
+    02010201020102010201020102010100       => 02010201020102010201020102010100
+    020102010201020102010201020102010100   => TooDeep
+    01010201010102010101020101010100       => 01010201010102010101020101010100
+    010102010101020101010201010102010100   => TooDeep
+    01010101010101010101010101010101       => Truncated
+    010101010101010101010101010101010101   => TooDeep
+    02010201020102010201020102010101       => Truncated
+    020102010201020102010201020102010101   => TooDeep
+    01010201010102010101020101010101       => Truncated
+    010102010101020101010201010102010101   => TooDeep
+    0101010101010101010101010101020200     => TooDeep
+    01010101010101010101010101010101020200 => TooDeep
+    0201020102010201020102010201020200     => TooDeep
+    02010201020102010201020102010201020200 => TooDeep
+    0101020101010201010102010101020200     => TooDeep
+    01010201010102010101020101010201020200 => TooDeep
+";
+
 fn lengths_text(alloc: Global, tag: &[u8], mut words: Words<'_>) -> Result<String, Fail> {
     let (len, shortest): (u32, &str) = words.read()?;
     let shortest = hex::decode(alloc, shortest)?;
@@ -186,14 +585,9 @@ fn lengths_text(alloc: Global, tag: &[u8], mut words: Words<'_>) -> Result<Strin
     let contents = vec![in alloc; 0x00; size as usize]?;
     let short = joined(alloc, &[tag, &shortest, &contents])?;
     let longest = joined(alloc, &[tag, &[0x84], &len.to_be_bytes(), &contents])?;
-    are_short_text(alloc, &short, &longest)
-}
-
-/// Whether both are spellings of the value whose short one is the first.
-fn are_short_text(alloc: Global, short: &[u8], longest: &[u8]) -> Result<String, Fail> {
-    let digits = hex::encode(alloc, short)?;
-    let one = short_text(alloc, short)?;
-    let other = short_text(alloc, longest)?;
+    let digits = hex::encode(alloc, &short)?;
+    let one = short_text(alloc, &short)?;
+    let other = short_text(alloc, &longest)?;
     let both = one.as_str() == digits.as_str() && other.as_str() == digits.as_str();
     shown(alloc, &both)
 }
@@ -257,6 +651,9 @@ fn spellings(rt: HostRuntime) -> Result<(), Fail> {
             (Told::Value, SHORT),
             (Told::Short, LENIENT),
             (Told::Short, FAULTS),
+            (Told::Short, TAGS),
+            (Told::Short, FIXED),
+            (Told::Short, INNERMOST),
             (Told::Lengths, LENGTHS),
             (Told::Deepened, SECONDS),
         ],

@@ -1,12 +1,11 @@
 //! The blocks of an image, sets of their numbers, marks and windows.
 
 use crate::support::{bits_of, marked, numbers_of, shown, text};
-use fw_blocks::{BlockSet, Geometry, MARKS_SIZE, MAX_BLOCKS, Pages, Width, Window};
+use fw_blocks::{BlockSet, Geometry, MAX_BLOCKS, Pages, Width, Window};
 use std::alloc::{AllocError, Global};
 use std::test::Fail;
-use test_tables::{Reads, Words, each_table, present};
+use test_tables::{Reads, Words, each_table};
 
-/// What is reported of numbers, lists of which have commas, or `-` where they are empty.
 #[derive(Clone, Copy)]
 enum Told {
     /// Of a block size, the size of an image, and the number of a block: both sizes, how many blocks there are, and where that one lies.
@@ -15,36 +14,18 @@ enum Told {
     Set,
     /// The same of the set below a count that N bits of these bytes show: N, the count, and the bytes.
     Shown,
-    /// Of a set below N with every other number, from 0 on, the bits: how many, of how many bytes, and whether each is aa; the first
-    /// number that is missing, a window of three, and how many runs there are.
-    EveryOther,
-    /// Of the set below a count with these numbers its runs.
-    Runs,
-    /// Of pages of a count, of which these are marked in this order: the count, the first number that is missing, those of the numbers
-    /// below that are there, and the same of the count when they are cleared.
+    /// Of pages of a count, of which these are marked in this order, and which get another count then, if there is one: what `pages_text`
+    /// says.
     Pages,
-    /// Of pages of N numbers, of which all are marked, from the highest down: the first that is missing before the last of them is
-    /// marked, and after it.
-    AllPages,
-    /// Of marks with these numbers, marked in this order and as they are read again: the first number that is missing, those of the
-    /// numbers below that are there, and the bytes.
-    Marks,
-    /// Where all are marked, and then a number again: the first that is missing, whether 16,383 and 16,384 are there, and whether each
-    /// byte is ff.
-    AllMarks,
     /// Of the marks with these numbers the bytes of two pages, from a page on.
     TwoPages,
-    /// Of the marks with these numbers those below a count: the first that is missing, and the bits that are shown.
+    /// Of pages of a count with these marked those below another: the first that is missing, and the bits that are shown.
     Below,
-    /// Of pages of a count with these marked those below another: the first that is missing, and the bits that are shown; then the
-    /// bytes, and how many numbers the pages count that are read from them.
-    PagesBelow,
-    /// Of pages of a count with these marked those with another count: that count, the first number that is missing, and the bytes.
-    Resized,
     /// Of the set below a count with these numbers the lowest that aren't there, as many as a window of a width has.
     Window,
 }
 
+/// Lists of numbers have commas, or `-` where they are empty.
 impl Reads for Told {
     fn told(&mut self, alloc: Global, what: &str) -> Result<String, Fail> {
         let mut words = Words::new(what);
@@ -52,32 +33,17 @@ impl Reads for Told {
             Told::Geometry => geometry_text(alloc, words),
             Told::Set => set_text(alloc, &set_of(alloc, &mut words)?),
             Told::Shown => shown_text(alloc, words),
-            Told::EveryOther => every_other_text(alloc, words.number()?),
-            Told::Runs => runs_text(alloc, &set_of(alloc, &mut words)?),
-            Told::AllPages => all_pages_text(alloc, words.number()?),
-            Told::Marks => marks_text(alloc, marks_of(alloc, what)?),
-            Told::AllMarks => all_marks_text(alloc, words.number()?),
             Told::TwoPages => two_pages_text(alloc, words),
-            Told::Below => below_text(alloc, words),
             Told::Window => window_text(alloc, &set_of(alloc, &mut words)?, words),
-            way => match pages_of(alloc, &mut words)? {
-                Some(pages) => pages_told(alloc, *way, pages, words),
-                None => text(alloc, "none"),
+            way => match (pages_of(alloc, &mut words)?, way) {
+                (None, _) => text(alloc, "none"),
+                (Some(pages), Told::Below) => below_text(alloc, &pages, words.number()?),
+                (Some(pages), _) => match words.next() {
+                    None => pages_text(alloc, pages),
+                    Some(count) => resized_text(alloc, pages, count.parse::<u32>()?),
+                },
             },
         }
-    }
-}
-
-fn pages_told(
-    alloc: Global,
-    way: Told,
-    pages: Pages,
-    mut words: Words<'_>,
-) -> Result<String, Fail> {
-    match way {
-        Told::PagesBelow => pages_below_text(alloc, pages, words.number()?),
-        Told::Resized => resized_text(alloc, pages, words.number()?),
-        _ => pages_text(alloc, pages),
     }
 }
 
@@ -136,7 +102,7 @@ fn set_of(alloc: Global, words: &mut Words<'_>) -> Result<BlockSet, Fail> {
     Ok(set)
 }
 
-/// The count, the first number that is missing, those below eight that are there, how many bits show them, and which bytes.
+/// The count, the first number that is missing, those below eight that are there, how many bits show them, and which bytes, and the runs.
 fn set_text(alloc: Global, set: &BlockSet) -> Result<String, Fail> {
     let bits = set.to_bits(alloc)?;
     let mut there = String::new(alloc);
@@ -144,22 +110,25 @@ fn set_text(alloc: Global, set: &BlockSet) -> Result<String, Fail> {
         there.push_str(if set.has(number) { "x" } else { "." })?;
     }
     let bytes = nonzero(alloc, bits.as_bytes())?;
-    let (count, first) = (set.count(), set.first_missing());
-    shown(
-        alloc,
-        &(count, first, there.as_str(), bits.len(), bytes.as_slice()),
-    )
+    let mut runs = Vec::new(alloc);
+    for run in set.runs() {
+        runs.push((run.start, run.end))?;
+    }
+    let (count, first, there) = (set.count(), set.first_missing(), there.as_str());
+    let (bytes, runs) = (bytes.as_slice(), runs.as_slice());
+    shown(alloc, &(count, first, there, bits.len(), bytes, runs))
 }
 
 /// Number i is bit i, and the first bit is the top bit of the first byte.
 const SETS: &str = r#"
-    6 -           => (6, 0, "........", 6, [])
-    6 1,2         => (6, 0, ".xx.....", 6, [(0, 96)])
-    6 0,2         => (6, 1, "x.x.....", 6, [(0, 160)])
-    6 0,2,1       => (6, 3, "xxx.....", 6, [(0, 224)])
-    6 0,0,0       => (6, 1, "x.......", 6, [(0, 128)])
-    6 5,4,3,2,1,0 => (6, 6, "xxxxxx..", 6, [(0, 252)])
-    0 -           => (0, 0, "........", 0, [])
+    6 -           => (6, 0, "........", 6, [], [])
+    6 1,2         => (6, 0, ".xx.....", 6, [(0, 96)], [(1, 3)])
+    6 0,2         => (6, 1, "x.x.....", 6, [(0, 160)], [(0, 1), (2, 3)])
+    6 0,2,1       => (6, 3, "xxx.....", 6, [(0, 224)], [(0, 3)])
+    6 0,0,0       => (6, 1, "x.......", 6, [(0, 128)], [(0, 1)])
+    6 5,4,3,2,1,0 => (6, 6, "xxxxxx..", 6, [(0, 252)], [(0, 6)])
+    0 -           => (0, 0, "........", 0, [], [])
+    6 5,3,4,0     => (6, 1, "x..xxx..", 6, [(0, 156)], [(0, 1), (3, 6)])
 "#;
 
 fn shown_text(alloc: Global, mut words: Words<'_>) -> Result<String, Fail> {
@@ -172,73 +141,22 @@ fn shown_text(alloc: Global, mut words: Words<'_>) -> Result<String, Fail> {
 }
 
 const SHOWN: &str = r#"
-    6 6 a0 => (6, 1, "x.x.....", 6, [(0, 160)])
+    6 6 a0 => (6, 1, "x.x.....", 6, [(0, 160)], [(0, 1), (2, 3)])
     // of another length
     6 0 a0 => none
     6 5 a0 => none
     6 7 a0 => none
     6 8 a0 => none
     // no blocks
-    0 0    => (0, 0, "........", 0, [])
+    0 0    => (0, 0, "........", 0, [], [])
     0 1    => none
 "#;
-
-fn every_other_text(alloc: Global, count: u32) -> Result<String, Fail> {
-    let mut set = BlockSet::empty(alloc, count)?;
-    for half in 0..8192u32 {
-        if 2 * half < set.count() {
-            set.mark(2 * half);
-        }
-    }
-    every_other_told(alloc, &set)
-}
-
-fn every_other_told(alloc: Global, set: &BlockSet) -> Result<String, Fail> {
-    let width = present(Width::new(3), "a width")?;
-    let next = Window::next(set, width);
-    let bits = set.to_bits(alloc)?;
-    let (len, bytes) = (bits.len(), bits.as_bytes());
-    let all = bytes.iter().all(|byte| *byte == 0xaa);
-    let (first, runs) = (set.first_missing(), set.runs().len());
-    shown(
-        alloc,
-        &(len, bytes.len(), all, first, next.as_slice(), runs),
-    )
-}
-
-const EVERY_OTHER: &str = "
-    4096  => (4096, 512, true, 1, [1, 3, 5], 2048)
-    16384 => (16384, 2048, true, 1, [1, 3, 5], 8192)
-";
-
-fn runs_text(alloc: Global, set: &BlockSet) -> Result<String, Fail> {
-    let mut runs = Vec::new(alloc);
-    for run in set.runs() {
-        runs.push((run.start, run.end))?;
-    }
-    shown(alloc, &runs)
-}
-
-const RUNS: &str = "
-    6 -       => []
-    6 0,2,1   => [(0, 3)]
-    6 0,2     => [(0, 1), (2, 3)]
-    6 5,3,4,0 => [(0, 1), (3, 6)]
-";
 
 /// Pages of a count of which these are marked, and `None` for too many.
 fn pages_of(alloc: Global, words: &mut Words<'_>) -> Result<Option<Pages>, Fail> {
     let (count, list): (u32, &str) = words.read()?;
     let numbers = numbers_of(alloc, list)?;
     Ok(Pages::new(count).map(|pages| marked(pages, &numbers)))
-}
-
-fn pages_text(alloc: Global, mut pages: Pages) -> Result<String, Fail> {
-    let (count, first) = (pages.count(), pages.first_missing());
-    let there = there_text(alloc, &pages)?;
-    pages.clear();
-    let cleared = (pages.count(), pages.first_missing(), pages.has(0));
-    shown(alloc, &(count, first, there.as_str(), cleared))
 }
 
 /// Numbers around the ends of bytes and of all marks.
@@ -258,95 +176,76 @@ const ASKED: &[u32] = &[
     4_294_967_295,
 ];
 
-/// Those of these numbers that are there.
-fn there_text(alloc: Global, pages: &Pages) -> Result<String, AllocError> {
+/// The count, the first number that is missing, those of the numbers above that are there, the bytes, and whether they are read as the same
+/// pages; and, once they are cleared, the count, the first number that is missing, and whether 0 is there.
+fn pages_text(alloc: Global, mut pages: Pages) -> Result<String, Fail> {
     let mut there = String::new(alloc);
     for number in ASKED {
         there.push_str(if pages.has(*number) { "x" } else { "." })?;
     }
-    Ok(there)
-}
-
-const PAGED: &str = r#"
-    6 -             => (6, 0, ".............", (6, 0, false))
-    6 0,2           => (6, 1, "x.x..........", (6, 0, false))
-    6 0,2,1         => (6, 3, "xxx..........", (6, 0, false))
-    6 5,4,3,2,1,0,0 => (6, 6, "xxxx.........", (6, 0, false))
-    0 -             => (0, 0, ".............", (0, 0, false))
-    16384 16383,0   => (16384, 1, "x.........x..", (16384, 0, false))
-    16385 -         => none
-"#;
-
-fn all_pages_text(alloc: Global, count: u32) -> Result<String, Fail> {
-    let Some(mut pages) = Pages::new(count) else {
-        return text(alloc, "none");
-    };
-    for number in (1..count).rev() {
-        if number < pages.count() {
-            pages.mark(number);
-        }
-    }
-    let before = pages.first_missing();
-    if 0 < pages.count() {
-        pages.mark(0);
-    }
-    shown(alloc, &(before, pages.first_missing()))
-}
-
-const ALL_PAGED: &str = "
-    63    => (0, 63)
-    64    => (0, 64)
-    65    => (0, 65)
-    16384 => (0, 16384)
-";
-
-/// Marks with the numbers of a list.
-fn marks_of(alloc: Global, list: &str) -> Result<Pages, Fail> {
-    let numbers = numbers_of(alloc, list)?;
-    Ok(marked(Pages::none(), &numbers))
-}
-
-fn marks_text(alloc: Global, marks: Pages) -> Result<String, Fail> {
-    if Pages::from_bytes(&marks.to_bytes()) != marks {
-        return Err("they are read otherwise".into());
-    }
-    let there = there_text(alloc, &marks)?;
-    let bytes = nonzero(alloc, marks.to_bytes().as_slice())?;
+    let (count, first, there) = (pages.count(), pages.first_missing(), there.as_str());
+    let bytes = pages.to_bytes();
+    let again = Pages::from_bytes(&bytes) == pages;
+    let bytes = nonzero(alloc, bytes.as_slice())?;
+    pages.clear();
+    let cleared = (pages.count(), pages.first_missing(), pages.has(0));
     shown(
         alloc,
-        &(marks.first_missing(), there.as_str(), bytes.as_slice()),
+        &(count, first, there, bytes.as_slice(), again, cleared),
     )
 }
 
-const MARKED: &str = r#"
-    -                 => (0, ".............", [])
-    1,2               => (0, ".xx..........", [(0, 96)])
-    0,2               => (1, "x.x..........", [(0, 160)])
-    0,2,1             => (3, "xxx..........", [(0, 224)])
-    0,0,0             => (1, "x............", [(0, 128)])
-    8,7,6,5,4,3,2,1,0 => (9, "xxxxxx.......", [(0, 255), (1, 128)])
-    4095,4096         => (0, ".............", [(511, 1), (512, 128)])
-    16383             => (0, "..........x..", [(2047, 1)])
-    16383,8,7,1,1     => (0, ".x..xx....x..", [(0, 65), (1, 128), (2047, 1)])
+/// Pages that are read have 16,384 numbers.
+const PAGED: &str = r#"
+    6 -             => (6, 0, ".............", [], false, (6, 0, false))
+    6 0,2           => (6, 1, "x.x..........", [(0, 160)], false, (6, 0, false))
+    6 0,2,1         => (6, 3, "xxx..........", [(0, 224)], false, (6, 0, false))
+    6 5,4,3,2,1,0,0 => (6, 6, "xxxx.........", [(0, 252)], false, (6, 0, false))
+    0 -             => (0, 0, ".............", [], false, (0, 0, false))
+    16384 16383,0   => (16384, 1, "x.........x..", [(0, 128), (2047, 1)], true, (16384, 0, false))
+    16385 -         => none
+    6 0,1,2,3,4,5   => (6, 6, "xxxx.........", [(0, 252)], false, (6, 0, false))
+    100 64,99       => (100, 0, ".............", [(8, 128), (12, 16)], false, (100, 0, false))
 "#;
 
-fn all_marks_text(alloc: Global, again: u32) -> Result<String, Fail> {
-    let mut marks = Pages::from_bytes(&[0xff; MARKS_SIZE]);
-    let told = (marks.first_missing(), marks.has(16383), marks.has(16384));
-    if again < marks.count() {
-        marks.mark(again);
+/// All marks.
+const MARKED: &str = r#"
+    16384 -                 => (16384, 0, ".............", [], true, (16384, 0, false))
+    16384 1,2               => (16384, 0, ".xx..........", [(0, 96)], true, (16384, 0, false))
+    16384 0,2               => (16384, 1, "x.x..........", [(0, 160)], true, (16384, 0, false))
+    16384 0,2,1             => (16384, 3, "xxx..........", [(0, 224)], true, (16384, 0, false))
+    16384 0,0,0             => (16384, 1, "x............", [(0, 128)], true, (16384, 0, false))
+    16384 8,7,6,5,4,3,2,1,0 => (16384, 9, "xxxxxx.......", [(0, 255), (1, 128)], true, (16384, 0, false))
+    16384 4095,4096         => (16384, 0, ".............", [(511, 1), (512, 128)], true, (16384, 0, false))
+    16384 16383             => (16384, 0, "..........x..", [(2047, 1)], true, (16384, 0, false))
+    16384 16383,8,7,1,1     => (16384, 0, ".x..xx....x..", [(0, 65), (1, 128), (2047, 1)], true, (16384, 0, false))
+"#;
+
+fn resized_text(alloc: Global, pages: Pages, count: u32) -> Result<String, Fail> {
+    if MAX_BLOCKS < count {
+        return Err("too great a count".into());
     }
-    let all = marks.to_bytes() == [0xff; MARKS_SIZE];
-    shown(alloc, &(told, all))
+    pages_text(alloc, pages.resized(count))
 }
 
-const ALL_MARKED: &str = "
-    17 => ((16384, true, false), true)
-";
+const RESIZED: &str = r#"
+    // the same count
+    6 0,2 6                      => (6, 1, "x.x..........", [(0, 160)], false, (6, 0, false))
+    0 - 0                        => (0, 0, ".............", [], false, (0, 0, false))
+    // a greater one: no number is there that wasn't before
+    3 0,1,2 6                    => (6, 3, "xxx..........", [(0, 224)], false, (6, 0, false))
+    4096 0,4095 16384            => (16384, 1, "x............", [(0, 128), (511, 1)], true, (16384, 0, false))
+    // a lower one, and what is above it is lost
+    6 0,1,3,5 4                  => (4, 2, "xx.x.........", [(0, 208)], false, (4, 0, false))
+    6 0,1,2,5 3                  => (3, 3, "xxx..........", [(0, 224)], false, (3, 0, false))
+    16384 0,4095,4096,16383 4096 => (4096, 1, "x............", [(0, 128), (511, 1)], false, (4096, 0, false))
+    6 0,5 0                      => (0, 0, ".............", [], false, (0, 0, false))
+"#;
 
 fn two_pages_text(alloc: Global, mut words: Words<'_>) -> Result<String, Fail> {
     let (page, list): (u32, &str) = words.read()?;
-    let (page, marks) = (page as usize, marks_of(alloc, list)?);
+    let numbers = numbers_of(alloc, list)?;
+    let (page, marks) = (page as usize, marked(Pages::none(), &numbers));
     let mut bytes = [0xff; 16];
     if page <= 254 {
         marks.put_bytes(page, &mut bytes);
@@ -360,76 +259,33 @@ const TWO_PAGES: &str = "
     254 16255,16256,16383 => [(0, 128), (15, 1)]
 ";
 
-fn below_text(alloc: Global, mut words: Words<'_>) -> Result<String, Fail> {
-    let (list, count): (&str, u32) = words.read()?;
-    let marks = marks_of(alloc, list)?;
-    let bits = marks.to_bits(alloc, count)?;
+fn below_text(alloc: Global, pages: &Pages, count: u32) -> Result<String, Fail> {
+    let bits = pages.to_bits(alloc, count)?;
     let bytes = nonzero(alloc, bits.as_bytes())?;
-    let (first, size) = (marks.first_missing_below(count), bits.as_bytes().len());
+    let (first, size) = (pages.first_missing_below(count), bits.as_bytes().len());
     shown(alloc, &(first, bits.len(), size, bytes.as_slice()))
 }
 
 const BELOW: &str = "
-    0,2 6         => (1, 6, 1, [(0, 160)])
-    0,2 0         => (0, 0, 0, [])
-    - 6           => (0, 6, 1, [])
+    16384 0,2 6          => (1, 6, 1, [(0, 160)])
+    16384 0,2 0          => (0, 0, 0, [])
+    16384 - 6            => (0, 6, 1, [])
     // all below the count are marked, and others above it, which aren't shown
-    0,1,2 3       => (3, 3, 1, [(0, 224)])
-    0,1,2,3,4,5 3 => (3, 3, 1, [(0, 224)])
-    0,1,2,5 4     => (3, 4, 1, [(0, 224)])
+    16384 0,1,2 3        => (3, 3, 1, [(0, 224)])
+    16384 0,1,2,3,4,5 3  => (3, 3, 1, [(0, 224)])
+    16384 0,1,2,5 4      => (3, 4, 1, [(0, 224)])
     // around the end of a byte
-    7,8 7         => (0, 7, 1, [])
-    7,8 8         => (0, 8, 1, [(0, 1)])
-    0,7,8 9       => (1, 9, 2, [(0, 129), (1, 128)])
+    16384 7,8 7          => (0, 7, 1, [])
+    16384 7,8 8          => (0, 8, 1, [(0, 1)])
+    16384 0,7,8 9        => (1, 9, 2, [(0, 129), (1, 128)])
     // the highest number of all, below the greatest count and below the one before it
-    0,16383 16384 => (1, 16384, 2048, [(0, 128), (2047, 1)])
-    0,16383 16383 => (1, 16383, 2048, [(0, 128)])
-";
-
-fn pages_below_text(alloc: Global, pages: Pages, count: u32) -> Result<String, Fail> {
-    let bits = pages.to_bits(alloc, count)?;
-    let below = nonzero(alloc, bits.as_bytes())?;
-    let all = nonzero(alloc, pages.to_bytes().as_slice())?;
-    let again = Pages::from_bytes(&pages.to_bytes()).count();
-    let (first, len) = (pages.first_missing_below(count), bits.len());
-    shown(
-        alloc,
-        &(first, len, below.as_slice(), all.as_slice(), again),
-    )
-}
-
-const PAGED_BELOW: &str = "
-    6 0,2 4              => (1, 4, [(0, 160)], [(0, 160)], 16384)
+    16384 0,16383 16384  => (1, 16384, 2048, [(0, 128), (2047, 1)])
+    16384 0,16383 16383  => (1, 16383, 2048, [(0, 128)])
+    6 0,2 4              => (1, 4, 1, [(0, 160)])
     // no number at or above the pages' own count is shown
-    6 0,1,2,3,4,5 10     => (6, 6, [(0, 252)], [(0, 252)], 16384)
-    100 64,99 4294967295 => (0, 100, [(8, 128), (12, 16)], [(8, 128), (12, 16)], 16384)
-    0 - 8                => (0, 0, [], [], 16384)
-";
-
-fn resized_text(alloc: Global, pages: Pages, count: u32) -> Result<String, Fail> {
-    if MAX_BLOCKS < count {
-        return Err("too great a count".into());
-    }
-    let resized = pages.resized(count);
-    let bytes = nonzero(alloc, resized.to_bytes().as_slice())?;
-    shown(
-        alloc,
-        &(resized.count(), resized.first_missing(), bytes.as_slice()),
-    )
-}
-
-const RESIZED: &str = "
-    // the same count
-    6 0,2 6                      => (6, 1, [(0, 160)])
-    0 - 0                        => (0, 0, [])
-    // a greater one: no number is there that wasn't before
-    3 0,1,2 6                    => (6, 3, [(0, 224)])
-    4096 0,4095 16384            => (16384, 1, [(0, 128), (511, 1)])
-    // a lower one, and what is above it is lost
-    6 0,1,3,5 4                  => (4, 2, [(0, 208)])
-    6 0,1,2,5 3                  => (3, 3, [(0, 224)])
-    16384 0,4095,4096,16383 4096 => (4096, 1, [(0, 128), (511, 1)])
-    6 0,5 0                      => (0, 0, [])
+    6 0,1,2,3,4,5 10     => (6, 6, 1, [(0, 252)])
+    100 64,99 4294967295 => (0, 100, 13, [(8, 128), (12, 16)])
+    0 - 8                => (0, 0, 0, [])
 ";
 
 fn window_text(alloc: Global, set: &BlockSet, mut words: Words<'_>) -> Result<String, Fail> {
@@ -461,16 +317,11 @@ fn blocks_sets_and_marks(rt: HostRuntime) -> Result<(), Fail> {
             (Told::Geometry, GEOMETRIES),
             (Told::Set, SETS),
             (Told::Shown, SHOWN),
-            (Told::EveryOther, EVERY_OTHER),
-            (Told::Runs, RUNS),
             (Told::Pages, PAGED),
-            (Told::AllPages, ALL_PAGED),
-            (Told::Marks, MARKED),
-            (Told::AllMarks, ALL_MARKED),
+            (Told::Pages, MARKED),
+            (Told::Pages, RESIZED),
             (Told::TwoPages, TWO_PAGES),
             (Told::Below, BELOW),
-            (Told::PagesBelow, PAGED_BELOW),
-            (Told::Resized, RESIZED),
             (Told::Window, WINDOWS),
         ],
     )

@@ -60,29 +60,24 @@ fn head_text<S: ImageStore>(
     done_text(alloc, store.write_header(&bytes))
 }
 
-/// The bytes of a header, and of which version they are where that isn't 2.
+/// The bytes of a header as far as they aren't zeros, the releases and the marks after them where they aren't zeros alone, and of which
+/// version they are where that isn't 2.
 fn header_text(alloc: Global, header: Result<HeaderBytes, StoreFault>) -> Result<String, Fail> {
-    let bytes = match header {
+    let header = match header {
         Ok(bytes) => bytes,
         Err(fault) => return shown(alloc, &fault),
     };
-    let mut text = bytes_text(alloc, &bytes)?;
-    if bytes.version() == HeaderVersion::One {
+    let bytes = header.as_slice();
+    let mut text = trimmed_text(alloc, bytes.get(..RELEASES_AT).unwrap_or(bytes))?;
+    let tail = bytes.get(RELEASES_AT..).unwrap_or(&[]);
+    if tail.iter().any(|byte| *byte != 0) {
+        text.push_str(" ")?;
+        text.push_str(tail_text(alloc, tail)?.as_str())?;
+    }
+    if header.version() == HeaderVersion::One {
         text.push_str(" (version 1)")?;
     }
     Ok(text)
-}
-
-/// The bytes of a header as far as they aren't zeros, and the releases and the marks after them where they aren't zeros alone.
-pub(crate) fn bytes_text(alloc: Global, bytes: &HeaderBytes) -> Result<String, AllocError> {
-    let bytes = bytes.as_slice();
-    let front = trimmed_text(alloc, bytes.get(..RELEASES_AT).unwrap_or(bytes))?;
-    let tail = bytes.get(RELEASES_AT..).unwrap_or(&[]);
-    if tail.iter().all(|byte| *byte == 0) {
-        return Ok(front);
-    }
-    let tail = tail_text(alloc, tail)?;
-    format!(in alloc; "{front} {tail}")
 }
 
 /// The releases, and the marks after them as far as they aren't zeros, where there are some.
@@ -96,7 +91,7 @@ fn tail_text(alloc: Global, tail: &[u8]) -> Result<String, AllocError> {
 }
 
 /// Bytes in hexadecimal, without the zeros at their end.
-pub(crate) fn trimmed_text(alloc: Global, bytes: &[u8]) -> Result<String, AllocError> {
+fn trimmed_text(alloc: Global, bytes: &[u8]) -> Result<String, AllocError> {
     let mut len = 0;
     for (at, byte) in bytes.iter().enumerate() {
         if *byte != 0 {
@@ -144,6 +139,24 @@ fn write_text<S: ImageStore>(
     done_text(alloc, store.write(slot, at, bytes))
 }
 
+/// A table by its name.
+pub(crate) fn table_of(name: &str) -> Result<&'static str, Fail> {
+    Ok(match name {
+        "fresh" => FRESH,
+        "writes" => WRITES,
+        "kept" => KEPT,
+        "old-front" => OLD_FRONT,
+        "old-fresh" => OLD_FRESH,
+        "tail" => TAIL,
+        "old-tail" => OLD_TAIL,
+        "both" => BOTH,
+        "last" => LAST,
+        "no-room" => NO_ROOM,
+        "faults" => FAULTS,
+        _ => return Err("no table has this name".into()),
+    })
+}
+
 /// Of a new store with blocks of 2 bytes, the factory image `abc`, and 8 bytes a slot.
 pub(crate) const FRESH: &str = "
     capacity        => 8
@@ -180,6 +193,44 @@ pub(crate) const OLD_FRESH: &str = "
     header          => 46574831000000000000000200000003010000000000000000ba7816bf8f01cfea414140de5dae2223b00361a396177a9cb410ff61f20015ad (version 1)
     read first 0 8  => 6162630000000000
     read second 0 8 => 0000000000000000
+";
+
+/// The last bytes of a header stand after the second slot: two releases, and a mark of block 4,096.
+const TAIL: &str = "
+    write-header 07 000000050000000680 => done
+    header                             => 07 0000000500000006 80
+";
+
+/// And so they do in version 1.
+const OLD_TAIL: &str = "
+    write-old-header 08 0000000300000004 => done
+    header                               => 08 0000000300000004 (version 1)
+";
+
+/// An old header makes it shorter, and a new one longer again, with nothing left of what stood there.
+const BOTH: &str = "
+    write-header 07 000000050000000680 => done
+    write-old-header 08                => done
+    write-header 09                    => done
+    header                             => 09
+";
+
+const LAST: &str = "
+    write second 5 pqr => done
+";
+
+const NO_ROOM: &str = "
+    write-header 07 => StoreFault
+    faults          => 1
+";
+
+/// Calls of a store whose device fails as soon as it is opened. Each failure is counted.
+const FAULTS: &str = "
+    header             => StoreFault
+    write-header 07    => StoreFault
+    write first 0 pqrs => StoreFault
+    read first 0 1     => StoreFault
+    faults             => 4
 ";
 
 /// The bytes of a store with 8 bytes a slot: how many there are, the capacity, the header as far as it isn't zeros, both slots, and what

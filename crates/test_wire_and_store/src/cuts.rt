@@ -24,6 +24,7 @@ fn write() -> HeaderWrite<'static> {
 const JOURNAL: &str =
     "4657553100000000000001ff00000000000002010000000261620000000263640000000000000001653996e207b05b9abd15c24a618c7298c6e6f2497505983279be4c937e5cf4e514";
 
+/// And what a cut of its write leaves.
 #[test]
 fn the_bytes_of_a_journal(rt: HostRuntime) -> Result<(), Fail> {
     let alloc = rt.alloc();
@@ -35,7 +36,8 @@ fn the_bytes_of_a_journal(rt: HostRuntime) -> Result<(), Fail> {
         1,
         present(read.to_bytes(), "a journal")?.as_slice(),
         JOURNAL,
-    )
+    )?;
+    each_line(alloc, &mut Found, FOUND)
 }
 
 /// These bytes have this spelling in hexadecimal.
@@ -53,20 +55,13 @@ impl Reads for Found {
         let mut words = Words::new(what);
         let first = hex::decode(alloc, words.word()?)?;
         let last = hex::decode(alloc, words.rest())?;
-        text(alloc, torn_text(&first, &last)?)
+        let write = write();
+        if !write.fits() || first.len() != write.before.len() || last.len() > MAX_PART_SIZE {
+            return Err("no such write".into());
+        }
+        let torn = write.is_torn(&first, &last);
+        text(alloc, if torn { "torn" } else { "-" })
     }
-}
-
-fn torn_text(first: &[u8], last: &[u8]) -> Result<&'static str, Fail> {
-    let write = write();
-    if !write.fits() || first.len() != write.before.len() || last.len() > MAX_PART_SIZE {
-        return Err("no such write".into());
-    }
-    Ok(if write.is_torn(first, last) {
-        "torn"
-    } else {
-        "-"
-    })
 }
 
 /// Either byte of the first part is in a sector of its own. Where the file has its new length already, a zero stands for what isn't written.
@@ -83,24 +78,11 @@ const FOUND: &str = "
     6162 6500 => -
 ";
 
-#[test]
-fn what_a_cut_leaves(rt: HostRuntime) -> Result<(), Fail> {
-    each_line(rt.alloc(), &mut Found, FOUND)
-}
-
 /// A device with 511 zeros and these bytes.
 fn device_of(alloc: Global, last: &[u8]) -> Result<TestDevice, Fail> {
     let mut bytes = vec![in alloc; 0; 511]?;
     bytes.extend_from_slice(last)?;
     Ok(TestDevice::of(bytes))
-}
-
-/// The bytes after the first 511.
-fn last_of(alloc: Global, device: &TestDevice) -> Result<String, Fail> {
-    if device.bytes.len() < 511 {
-        return Err("too few bytes".into());
-    }
-    Ok(hex::encode(alloc, &device.bytes[511..])?)
 }
 
 /// Makes the journal ready for a write of these bytes at place 511, and of others from place 513 on.
@@ -144,5 +126,5 @@ fn recovers(
 ) -> Result<(), Fail> {
     let mut device = Kept(device_of(alloc, last)?);
     recover(&mut device.0, journal)?;
-    expect(alloc, row, last_of(alloc, &device.0)?.as_str(), want)
+    spells(alloc, row, device.0.bytes.get(511..).unwrap_or(&[]), want)
 }

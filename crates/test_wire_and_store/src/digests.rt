@@ -1,140 +1,101 @@
-//! Digests of slots (FIPS 180-4).
+//! Digests of slots (FIPS 180-4). The slots have bytes that count from 0 to 250 and again; their digests are those of `sha256sum`.
 
-use crate::support::{digits, shown, slot_of};
+use crate::support::{digits, shown, slot_of, text};
 use fw_store::{ImageStore, MemoryStore, Slot};
 use fw_verify::{Digesting, digest};
-use sha2::{Digest, Sha256};
 use std::alloc::Global;
 use std::test::Fail;
-use test_tables::{Kept, Reads, Words, each_table, present};
+use test_tables::{Kept, Reads, Words, each_part};
 
-#[derive(Clone, Copy)]
-enum Told {
-    /// Of a slot with the bytes `abcd` the digest of the first N.
-    Published,
-    /// Of N bytes of a slot that count from 0 to 250 and again: whether the digest is that of these bytes as one message.
-    Whole,
-    /// Of N bytes of a store that fails after M calls: whether there is a digest.
-    Failing,
-    /// Of N bytes in steps, of which the third is tried before over a store that fails, and the last has nothing to take: how many are
-    /// taken and whether that is all, and whether the digest is that of the bytes as one message.
-    Steps,
+/// A store with both slots `counting`, or with other bytes at the front of each.
+fn store_of(alloc: Global, front: &str) -> Result<MemoryStore, Fail> {
+    let mut bytes = vec![in alloc; 0; 8_200]?;
+    for (at, byte) in bytes.iter_mut().enumerate() {
+        *byte = (at % 251) as u8;
+    }
+    if front != "counting" {
+        for (byte, is) in bytes.iter_mut().zip(front.as_bytes()) {
+            *byte = *is;
+        }
+    }
+    let mut store = Kept(MemoryStore::new(alloc, 8_200, 2, b"xyz")?);
+    if bytes.len() > store.0.capacity() as usize {
+        return Err("the bytes don't fit".into());
+    }
+    store.0.write(Slot::First, 0, &bytes)?;
+    store.0.write(Slot::Second, 0, &bytes)?;
+    Ok(store.into_inner())
 }
 
-impl Reads for Told {
+/// `FRONT SLOT N M`: the digest of a slot's first N bytes, in a store that counts, or begins with these bytes, and fails after M calls. A
+/// failure is one fault. `steps N`: what `steps_text` says.
+#[derive(Drop)]
+struct Slots;
+
+impl Reads for Slots {
     fn told(&mut self, alloc: Global, what: &str) -> Result<String, Fail> {
         let mut words = Words::new(what);
-        match self {
-            Told::Published => published_text(alloc, words),
-            Told::Whole => whole_text(alloc, words.number()?),
-            Told::Failing => failing_text(alloc, words),
-            Told::Steps => steps_text(alloc, words.number()?),
+        let front = words.word()?;
+        if front == "steps" {
+            return steps_text(alloc, words.number()?);
+        }
+        let (slot, size, calls): (&str, u32, u64) = words.read()?;
+        let slot = slot_of(slot)?;
+        let mut store = Kept(store_of(alloc, front)?);
+        if size > store.0.capacity() {
+            return Err("the slot has fewer bytes".into());
+        }
+        store.0.fuse(calls, 0);
+        match digest(&mut store.0, slot, size) {
+            Ok(digest) if store.0.faults() == 0 => digits(alloc, &digest),
+            Err(_) if store.0.faults() == 1 => text(alloc, "Fault"),
+            _ => Err("the store was asked again".into()),
         }
     }
 }
 
-/// The digest of the first bytes of a slot that has these bytes and others after them, over a store that fails after `calls` calls. A
-/// failure is one fault.
-fn digest_in(
-    alloc: Global,
-    slot: Slot,
-    bytes: &[u8],
-    size: u32,
-    calls: u64,
-) -> Result<Option<[u8; 32]>, Fail> {
-    let mut store = MemoryStore::new(alloc, 8_200, 2, b"xyz")?;
-    if bytes.len() > store.capacity() as usize || size > store.capacity() {
-        return Err("the bytes don't fit".into());
-    }
-    store.write(slot, 0, bytes)?;
-    store.fuse(calls, 0);
-    let found = digest(&mut store, slot, size).ok();
-    if store.faults() == u64::from(found.is_none()) {
-        Ok(found)
-    } else {
-        Err("the store was asked again".into())
-    }
-}
-
-fn published_text(alloc: Global, mut words: Words<'_>) -> Result<String, Fail> {
-    let (slot, size): (&str, u32) = words.read()?;
-    let found = digest_in(alloc, slot_of(slot)?, b"abcd", size, 9)?;
-    let digest = present(found, "a fault")?;
-    digits(alloc, &digest)
-}
-
 /// The SHA-256 of no bytes, and of `abc`.
 const PUBLISHED: &str = "
-    first 0  => e3b0c44298fc1c149afbf4c8996fb92427ae41e4649b934ca495991b7852b855
-    second 0 => e3b0c44298fc1c149afbf4c8996fb92427ae41e4649b934ca495991b7852b855
-    first 3  => ba7816bf8f01cfea414140de5dae2223b00361a396177a9cb410ff61f20015ad
-    second 3 => ba7816bf8f01cfea414140de5dae2223b00361a396177a9cb410ff61f20015ad
+    abcd first 0 9  => e3b0c44298fc1c149afbf4c8996fb92427ae41e4649b934ca495991b7852b855
+    abcd second 0 9 => e3b0c44298fc1c149afbf4c8996fb92427ae41e4649b934ca495991b7852b855
+    abcd first 3 9  => ba7816bf8f01cfea414140de5dae2223b00361a396177a9cb410ff61f20015ad
+    abcd second 3 9 => ba7816bf8f01cfea414140de5dae2223b00361a396177a9cb410ff61f20015ad
 ";
-
-fn whole_text(alloc: Global, size: u32) -> Result<String, Fail> {
-    let whole = Sha256::digest(counted(alloc, size)?.as_slice());
-    let found = digest_in(alloc, Slot::Second, &counted(alloc, 8_200)?, size, 9)?;
-    shown(alloc, &(found == Some(whole)))
-}
-
-fn counted(alloc: Global, size: u32) -> Result<Vec<u8>, Fail> {
-    let mut bytes = vec![in alloc; 0; size as usize]?;
-    for (at, byte) in bytes.iter_mut().enumerate() {
-        *byte = (at % 251) as u8;
-    }
-    Ok(bytes)
-}
 
 /// Sizes around the number of bytes that are read at once.
 const WHOLE: &str = "
-    0    => true
-    1    => true
-    63   => true
-    64   => true
-    4095 => true
-    4096 => true
-    4097 => true
-    8191 => true
-    8192 => true
-    8193 => true
-    8200 => true
+    counting second 0 9    => e3b0c44298fc1c149afbf4c8996fb92427ae41e4649b934ca495991b7852b855
+    counting second 1 9    => 6e340b9cffb37a989ca544e6bb780a2c78901d3fb33738768511a30617afa01d
+    counting second 63 9   => 29af2686fd53374a36b0846694cc342177e428d1647515f078784d69cdb9e488
+    counting second 64 9   => fdeab9acf3710362bd2658cdc9a29e8f9c757fcf9811603a8c447cd1d9151108
+    counting second 4095 9 => 45de2924756389e3ccab98bdaacbef8a81cdeb651b59f916a6d6385b4f7b999d
+    counting second 4096 9 => d67c656e01756650d77717b0839985a056ec28ffe174601d690fc407a2ceffca
+    counting second 4097 9 => a16560d668b843fb3be99ace41dbd18471f342bd3255a1d21204b35e43f74436
+    counting second 8191 9 => a7ff4cc384f150c0763c051418a0084ded32bfa5863717ab5f35d3f43a5ffe1c
+    counting second 8192 9 => 25df2449b2e5a35fea14e02a7158e283801a1069c9f84631b9a9dacb2f809a7f
+    counting second 8193 9 => 7e3691790cd64b19d4edb1a80e988214515abeb53aa0f34ffbfe4b4bf405d120
+    counting second 8200 9 => cff40e361c3c0e0c60178f84bec82e9f86429575dbd52e6b322f28156d53896d
 ";
-
-fn failing_text(alloc: Global, mut words: Words<'_>) -> Result<String, Fail> {
-    let (size, calls): (u32, u64) = words.read()?;
-    let found = digest_in(alloc, Slot::First, b"abc", size, calls)?;
-    shown(alloc, &found.is_some())
-}
 
 /// 4,096 bytes are read at once, and after a fault the store isn't asked again.
 const FAILING: &str = "
-    0 0    => true
-    1 0    => false
-    4096 0 => false
-    4096 1 => true
-    4097 0 => false
-    4097 1 => false
-    4097 2 => true
+    counting first 0 0    => e3b0c44298fc1c149afbf4c8996fb92427ae41e4649b934ca495991b7852b855
+    counting first 1 0    => Fault
+    counting first 4096 0 => Fault
+    counting first 4096 1 => d67c656e01756650d77717b0839985a056ec28ffe174601d690fc407a2ceffca
+    counting first 4097 0 => Fault
+    counting first 4097 1 => Fault
+    counting first 4097 2 => a16560d668b843fb3be99ace41dbd18471f342bd3255a1d21204b35e43f74436
 ";
 
+/// Of N bytes in steps, of which the third is tried before over a store that fails, and the last has nothing to take: how many are taken
+/// and whether that is all, and the digest.
 fn steps_text(alloc: Global, size: u32) -> Result<String, Fail> {
-    let whole = Sha256::digest(counted(alloc, size)?.as_slice());
-    let bytes = counted(alloc, 8_200)?;
-    let mut store = Kept(MemoryStore::new(alloc, 8_200, 2, b"xyz")?);
-    steps_told(alloc, &mut store.0, &bytes, size, &whole)
-}
-
-fn steps_told(
-    alloc: Global,
-    store: &mut MemoryStore,
-    bytes: &[u8],
-    size: u32,
-    whole: &[u8; 32],
-) -> Result<String, Fail> {
-    if bytes.len() > store.capacity() as usize || size > store.capacity() {
-        return Err("the bytes don't fit".into());
+    let mut store = Kept(store_of(alloc, "counting")?);
+    if size > store.0.capacity() {
+        return Err("the slot has fewer bytes".into());
     }
-    store.write(Slot::Second, 0, bytes)?;
+    let store = &mut store.0;
     let mut digesting = Digesting::begin(Slot::Second, size);
     let first = (digesting.step(store)?, digesting.taken());
     let second = (digesting.step(store)?, digesting.taken());
@@ -146,28 +107,18 @@ fn steps_told(
     if !digesting.step(store)? {
         return Err("some bytes are left".into());
     }
-    shown(
-        alloc,
-        &(first, second, fails, third, digesting.finish() == *whole),
-    )
+    let digest = hex::encode(alloc, &digesting.finish())?;
+    shown(alloc, &(first, second, fails, third, digest.as_str()))
 }
 
-const STEPS: &str = "
-    0    => ((true, 0), (true, 0), false, (true, 0), true)
-    4096 => ((true, 4096), (true, 4096), false, (true, 4096), true)
-    4097 => ((false, 4096), (true, 4097), false, (true, 4097), true)
-    8193 => ((false, 4096), (false, 8192), true, (true, 8193), true)
-";
+const STEPS: &str = r#"
+    steps 0    => ((true, 0), (true, 0), false, (true, 0), "e3b0c44298fc1c149afbf4c8996fb92427ae41e4649b934ca495991b7852b855")
+    steps 4096 => ((true, 4096), (true, 4096), false, (true, 4096), "d67c656e01756650d77717b0839985a056ec28ffe174601d690fc407a2ceffca")
+    steps 4097 => ((false, 4096), (true, 4097), false, (true, 4097), "a16560d668b843fb3be99ace41dbd18471f342bd3255a1d21204b35e43f74436")
+    steps 8193 => ((false, 4096), (false, 8192), true, (true, 8193), "7e3691790cd64b19d4edb1a80e988214515abeb53aa0f34ffbfe4b4bf405d120")
+"#;
 
 #[test]
 fn digests(rt: HostRuntime) -> Result<(), Fail> {
-    each_table(
-        rt.alloc(),
-        &[
-            (Told::Published, PUBLISHED),
-            (Told::Whole, WHOLE),
-            (Told::Failing, FAILING),
-            (Told::Steps, STEPS),
-        ],
-    )
+    each_part(rt.alloc(), &mut Slots, &[PUBLISHED, WHOLE, FAILING, STEPS])
 }

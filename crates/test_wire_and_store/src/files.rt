@@ -1,6 +1,6 @@
 //! Stores in files.
 
-use crate::calls::{FRESH, KEPT, OLD_FRESH, OLD_FRONT, WRITES, called, calls, stored_text};
+use crate::calls::{called, calls, stored_text, table_of};
 use crate::support::{digits, shown};
 use fw_store::{FileStore, FileStoreError};
 use std::alloc::Global;
@@ -45,33 +45,34 @@ impl Reads for Place<'_> {
         let mut words = Words::new(what);
         match words.word()? {
             "stored" => stored_text(alloc, &fs::read(self.rt, self.path.as_path())?),
-            "bytes" => digits(alloc, &fs::read(self.rt, self.path.as_path())?),
-            "exists" => shown(alloc, &fs::exists(self.rt, self.path.as_path())?),
             "beside" => self.beside(alloc, words),
             "create" => {
                 let [capacity, block_size]: [u32; 2] = words.read()?;
-                shown(alloc, &self.create(capacity, block_size))
+                let path = self.path.as_path();
+                let made = FileStore::create(self.rt, path, capacity, block_size, b"abc");
+                shown(alloc, &self.hold(made))
             }
             "reopen" => shown(alloc, &self.reopen()),
             "look" => shown(alloc, &self.look()?),
             "header" | "read" | "write" | "write-header" | "write-old-header" | "faults" => {
-                self.called(alloc, what)
+                match &mut self.store {
+                    Some(store) => called(alloc, store, what),
+                    None => Err("no store is held".into()),
+                }
             }
-            word => {
-                self.change(alloc, word, words)?;
+            "calls" => {
+                match &mut self.store {
+                    Some(store) => calls(alloc, store, table_of(words.rest())?)?,
+                    None => return Err("no store is held".into()),
+                }
                 Ok(String::new(alloc))
             }
+            word => self.change(alloc, word, words),
         }
     }
 }
 
 impl Place<'_> {
-    fn create(&mut self, capacity: u32, block_size: u32) -> Option<FileStoreError> {
-        let path = self.path.as_path();
-        let made = FileStore::create(self.rt, path, capacity, block_size, b"abc");
-        self.hold(made)
-    }
-
     fn reopen(&mut self) -> Option<FileStoreError> {
         let opened = FileStore::reopen(self.rt, self.path.as_path());
         self.hold(opened)
@@ -98,116 +99,87 @@ impl Place<'_> {
         }
     }
 
-    fn called(&mut self, alloc: Global, call: &str) -> Result<String, Fail> {
-        match &mut self.store {
-            Some(store) => called(alloc, store, call),
-            None => Err("no store is held".into()),
-        }
-    }
-
-    fn calls(&mut self, alloc: Global, name: &str) -> Result<(), Fail> {
-        match &mut self.store {
-            Some(store) => calls(alloc, store, table_of(name)?),
-            None => Err("no store is held".into()),
-        }
-    }
-
-    /// A step that answers nothing.
-    fn change(&mut self, alloc: Global, word: &str, mut words: Words<'_>) -> Result<(), Fail> {
+    /// A step with the place of the store, or with its file.
+    fn change(&mut self, alloc: Global, word: &str, words: Words<'_>) -> Result<String, Fail> {
         match word {
-            "calls" => self.calls(alloc, words.rest()),
             "drop" => {
                 self.store = None;
-                Ok(())
+                return Ok(String::new(alloc));
             }
-            "absent" => Ok(self.path.push("store")?),
-            "set-len" => set_len(self.rt, self.path.as_path(), words.read()?),
-            word => self.change_file(alloc, word, words.rest()),
+            "absent" => {
+                self.path.push("store")?;
+                return Ok(String::new(alloc));
+            }
+            _ => {}
         }
-    }
-
-    fn change_file(&self, alloc: Global, word: &str, rest: &str) -> Result<(), Fail> {
         let path = self.path.as_path();
+        let path = path.path_text();
         match word {
-            "put" => fs::write(self.rt, path, &hex::decode(alloc, rest)?)?,
-            "remove" => fs::remove_file(self.rt, path)?,
             "create-dir" => fs::create_dir(self.rt, path)?,
             "remove-dir" => fs::remove_dir(self.rt, path)?,
             "link" => {
-                let kept = self.with_ending(alloc, ".kept")?;
+                let kept = beside(alloc, path, ".kept")?;
                 fs::rename(self.rt, path, kept.as_str())?;
                 symlink(self.rt, kept.as_str(), path)?
             }
             "unlink" => {
-                let kept = self.with_ending(alloc, ".kept")?;
+                let kept = beside(alloc, path, ".kept")?;
                 fs::rename(self.rt, kept.as_str(), path)?
             }
-            _ => return Err("no step has this name".into()),
+            word => return changed(alloc, self.rt, path, word, words),
         }
-        Ok(())
-    }
-
-    fn with_ending(&self, alloc: Global, ending: &str) -> Result<String, Fail> {
-        Ok(format!(in alloc; "{}{ending}", self.path.as_path().path_text())?)
+        Ok(String::new(alloc))
     }
 
     /// A step with a file beside the store.
     fn beside(&self, alloc: Global, mut words: Words<'_>) -> Result<String, Fail> {
-        let path = self.with_ending(alloc, words.word()?)?;
-        let path = path.as_str();
-        match words.word()? {
-            "bytes" => return digits(alloc, &fs::read(self.rt, path)?),
-            "exists" => return shown(alloc, &fs::exists(self.rt, path)?),
-            "put" => fs::write(self.rt, path, &hex::decode(alloc, words.rest())?)?,
-            "set-len" => set_len(self.rt, path, words.read()?)?,
-            "remove" => fs::remove_file(self.rt, path)?,
-            _ => return Err("no step has this name".into()),
-        }
-        Ok(String::new(alloc))
+        let path = beside(alloc, self.path.as_path().path_text(), words.word()?)?;
+        let word = words.word()?;
+        changed(alloc, self.rt, path.as_str(), word, words)
     }
 }
 
-fn set_len<P: AsPath>(rt: &HostRuntime, path: P, len: u64) -> Result<(), Fail> {
-    let file = fs::OpenOptions::new().write(true).open(rt, path)?;
-    Ok(file.set_len(len)?)
+/// The path of the file whose name is that of another with an ending.
+fn beside(alloc: Global, path: &str, ending: &str) -> Result<String, Fail> {
+    Ok(format!(in alloc; "{path}{ending}")?)
 }
 
-fn table_of(name: &str) -> Result<&'static str, Fail> {
-    Ok(match name {
-        "fresh" => FRESH,
-        "writes" => WRITES,
-        "kept" => KEPT,
-        "old-front" => OLD_FRONT,
-        "old-fresh" => OLD_FRESH,
-        _ => return Err("no table has this name".into()),
-    })
+/// A step with a file.
+fn changed(
+    alloc: Global,
+    rt: &HostRuntime,
+    path: &str,
+    word: &str,
+    mut words: Words<'_>,
+) -> Result<String, Fail> {
+    match word {
+        "bytes" => return digits(alloc, &fs::read(rt, path)?),
+        "exists" => return shown(alloc, &fs::exists(rt, path)?),
+        "put" => fs::write(rt, path, &hex::decode(alloc, words.rest())?)?,
+        "set-len" => {
+            let file = fs::OpenOptions::new().write(true).open(rt, path)?;
+            file.set_len(words.read()?)?
+        }
+        "remove" => fs::remove_file(rt, path)?,
+        _ => return Err("no step has this name".into()),
+    }
+    Ok(String::new(alloc))
 }
 
 /// Takes the steps at a path in the folder of temporary files, where there is no file before each table.
 fn steps(rt: &HostRuntime, name: &str, tables: &[&str]) -> Result<(), Fail> {
+    let mut path = env::temp_dir(rt)?;
+    path.push(name)?;
+    for ending in ["", ".journal", ".new", ".kept"] {
+        let file = beside(rt.alloc(), path.as_path().path_text(), ending)?;
+        let _ = fs::remove_file(rt, file.as_str());
+    }
     let mut place = Place {
         rt,
-        path: path_of(rt, name)?,
+        path,
         store: None,
     };
     each_part(rt.alloc(), &mut place, tables)
-}
-
-fn path_of(rt: &HostRuntime, name: &str) -> Result<PathBuf, Fail> {
-    let mut path = env::temp_dir(rt)?;
-    path.push(name)?;
-    remove_beside(rt, &path, "")?;
-    remove_beside(rt, &path, ".journal")?;
-    remove_beside(rt, &path, ".new")?;
-    remove_beside(rt, &path, ".kept")?;
-    Ok(path)
-}
-
-/// Removes a file whose name is that of another with an ending, if it is there.
-fn remove_beside(rt: &HostRuntime, path: &PathBuf, ending: &str) -> Result<(), Fail> {
-    let file = format!(in rt.alloc(); "{}{ending}", path.as_path().path_text())?;
-    let _ = fs::remove_file(rt, file.as_str());
-    Ok(())
 }
 
 /// The bytes of the file of a new store, and after calls.
@@ -302,12 +274,6 @@ const WITHOUT_RELEASES: &str = r#"
     drop                                 =>
     remove                               =>
 "#;
-
-#[test]
-fn the_bytes_of_the_file(rt: HostRuntime) -> Result<(), Fail> {
-    let tables = &[STORED, REOPENED, OLD, WITHOUT_RELEASES];
-    steps(&rt, "fw_store_bytes", tables)
-}
 
 /// A file that is there is never overwritten.
 const THERE: &str = "
@@ -507,13 +473,21 @@ const MAKINGS: &str = "
 ";
 
 #[test]
-fn refuses_the_files_of_others(rt: HostRuntime) -> Result<(), Fail> {
-    let tables = &[LINKED, JOURNALS, MAKINGS];
-    steps(&rt, "fw_store_others", tables)
-}
-
-#[test]
-fn refuses_what_is_there_and_what_is_no_store(rt: HostRuntime) -> Result<(), Fail> {
-    let tables = &[THERE, BAD_SETUP, HELD, NO_STORES, CUT, NONE];
-    steps(&rt, "fw_store_refused", tables)
+fn the_bytes_of_the_file(rt: HostRuntime) -> Result<(), Fail> {
+    let tables: &[&str] = &[
+        STORED,
+        REOPENED,
+        OLD,
+        WITHOUT_RELEASES,
+        LINKED,
+        JOURNALS,
+        MAKINGS,
+        THERE,
+        BAD_SETUP,
+        HELD,
+        NO_STORES,
+        CUT,
+        NONE,
+    ];
+    steps(&rt, "fw_store_files", tables)
 }

@@ -1,7 +1,7 @@
-//! The bytes of a store's header, which are worked out by hand from the format: how headers are written, and which bytes are one's,
-//! each condition once, met and not met.
+//! The bytes of a store's header, which are worked out by hand from the format: how headers are written, and read again. Which bytes are
+//! one's the rows of runs/headers.table tell.
 
-use crate::support::{campaign_name, header_digits, marked, numbers_of, shown, slot_of, text};
+use crate::support::{campaign_name, header_digits, marked, numbers_of, shown, slot_of};
 use fw_blocks::Pages;
 use fw_names::factory_name;
 use fw_store::{
@@ -12,30 +12,6 @@ use std::alloc::Global;
 use std::test::Fail;
 use test_tables::{Reads, Words, each_table, present};
 
-/// The bytes of this version with these parts, each from an offset on, and zeros elsewhere.
-fn with_parts(version: HeaderVersion, parts: &[(usize, &[u8])]) -> Option<HeaderBytes> {
-    match version {
-        HeaderVersion::One => {
-            let mut bytes = [0; VERSION_ONE_SIZE];
-            put(&mut bytes, parts)?;
-            Some(HeaderBytes::One(bytes))
-        }
-        HeaderVersion::Two => {
-            let mut bytes = [0; VERSION_TWO_SIZE];
-            put(&mut bytes, parts)?;
-            Some(HeaderBytes::Two(bytes))
-        }
-    }
-}
-
-fn put(bytes: &mut [u8], parts: &[(usize, &[u8])]) -> Option<()> {
-    for (at, part) in parts {
-        let place = bytes.get_mut(*at..)?.get_mut(..part.len())?;
-        place.copy_from_slice(part);
-    }
-    Some(())
-}
-
 /// The bytes of this version that begin with these, have others from an offset on, and zeros elsewhere.
 pub(crate) fn header_bytes(
     version: HeaderVersion,
@@ -43,10 +19,25 @@ pub(crate) fn header_bytes(
     at: usize,
     patch: &[u8],
 ) -> Result<HeaderBytes, Fail> {
-    present(
-        with_parts(version, &[(0, front), (at, patch)]),
-        "it is too long",
-    )
+    match version {
+        HeaderVersion::One => {
+            let mut bytes = [0; VERSION_ONE_SIZE];
+            put(&mut bytes, front, at, patch)?;
+            Ok(HeaderBytes::One(bytes))
+        }
+        HeaderVersion::Two => {
+            let mut bytes = [0; VERSION_TWO_SIZE];
+            put(&mut bytes, front, at, patch)?;
+            Ok(HeaderBytes::Two(bytes))
+        }
+    }
+}
+
+fn put(bytes: &mut [u8], front: &[u8], at: usize, patch: &[u8]) -> Result<(), Fail> {
+    present(bytes.get_mut(..front.len()), "it is too long")?.copy_from_slice(front);
+    let behind = present(bytes.get_mut(at..), "it is too long")?;
+    present(behind.get_mut(..patch.len()), "it is too long")?.copy_from_slice(patch);
+    Ok(())
 }
 
 /// The fronts of headers, of version 2: the form, whether transfer is enabled, the slot that runs, the status, whether there is a goal,
@@ -54,8 +45,6 @@ pub(crate) fn header_bytes(
 const FRONTS: &str = "
     new       = 46574832 00 00 00 00 00000002 00000003 010000000000000000 abc
     receiving = 46574832 01 00 01 01 00000002 00000003 010000000000000000 abc 00000003 010000000700000001 abc 40
-    verified  = 46574832 01 00 03 01 00000002 00000003 010000000000000000 abc 00000003 010000000700000001 abc c0
-    running   = 46574832 01 00 06 00 00000002 00000003 010000000700000001 abc
     renewed   = 46574832 01 00 01 01 00000002 00000003 010000000700000001 abc 00000003 010000000700000002 abc
 ";
 
@@ -65,227 +54,8 @@ fn front_of(alloc: Global, name: &str) -> Result<Vec<u8>, Fail> {
     Ok(hex::decode(alloc, &digits)?)
 }
 
-fn version_of(name: &str) -> Result<HeaderVersion, Fail> {
-    match name {
-        "one" => Ok(HeaderVersion::One),
-        "two" => Ok(HeaderVersion::Two),
-        _ => Err("no version has this name".into()),
-    }
-}
-
-/// Bytes of a header: whether they are one's, and then written so. They are named by the version, the capacity of the store, the front, and
-/// then one change or two of the bytes, each an offset and the digits from there on.
-#[derive(Clone, Copy)]
-struct Taken;
-
-impl Reads for Taken {
-    fn told(&mut self, alloc: Global, what: &str) -> Result<String, Fail> {
-        let mut words = Words::new(what);
-        let (version, capacity, front): (&str, u32, &str) = words.read()?;
-        let front = front_of(alloc, front)?;
-        let front = header_bytes(version_of(version)?, &front, 0, &[])?;
-        let once = patched(alloc, front, &mut words)?;
-        let bytes = patched(alloc, once, &mut words)?;
-        text(alloc, read_text(capacity, &bytes))
-    }
-}
-
-/// The bytes with the next change, if there is one.
-fn patched(alloc: Global, bytes: HeaderBytes, words: &mut Words<'_>) -> Result<HeaderBytes, Fail> {
-    let Some(at) = words.next() else {
-        return Ok(bytes);
-    };
-    let patch = hex::decode(alloc, words.word()?)?;
-    header_bytes(
-        bytes.version(),
-        bytes.as_slice(),
-        at.parse::<usize>()?,
-        &patch,
-    )
-}
-
-fn read_text(capacity: u32, bytes: &HeaderBytes) -> &'static str {
-    match Header::from_bytes(capacity, bytes) {
-        None => "none",
-        Some(header) if header.to_bytes() == *bytes => "read",
-        Some(_) => "written otherwise",
-    }
-}
-
-/// Of version 1, whose form ends with 31.
-const OLD: &str = "
-    one 64 new 3 31 4 00                 => read
-    one 64 receiving 3 31 4 00           => read
-    one 64 verified 3 31 6 04            => read
-    one 64 running 3 31 614 00000005     => read
-    // the form of version 2, and another
-    one 64 new 3 32 4 00                 => none
-    one 64 new 3 30 4 00                 => none
-    // a goal of 4,096 blocks, and of one more
-    one 65536 receiving 3 31 57 00002000 => read
-    one 65536 receiving 3 31 57 00002001 => none
-";
-
-/// Goals of N bytes in blocks of two. The marks of the blocks from 4,096 on stand after the releases.
-const LARGE: &str = "
-    // 4,097 blocks: block 4,095, block 4,096 and the one after the last
-    two 65536 receiving 57 00002001 613 01  => read
-    two 65536 receiving 57 00002001 622 80  => read
-    two 65536 receiving 57 00002001 622 40  => none
-    // 4,096 blocks
-    two 65536 receiving 57 00002000 613 01  => read
-    two 65536 receiving 57 00002000 622 80  => none
-    // 16,384 blocks, and one more
-    two 65536 receiving 57 00008000 2157 01 => read
-    two 65536 receiving 57 00008001 2157 00 => none
-";
-
-/// A store can have each of these.
-const HEADERS: &str = "
-    // the greatest and the least block size
-    two 64 new 8 00000400           => read
-    two 64 new 8 00000001           => read
-    // the running image fills its slot
-    two 3 new 12 00000003           => read
-    // the second slot runs
-    two 64 new 5 01                 => read
-    // a campaign's image runs
-    two 64 new 17 0000000700000001  => read
-    // an image was activated
-    two 64 new 6 06                 => read
-    // not enabled any more
-    two 64 receiving 4 00           => read
-    // no block came, or all came
-    two 64 receiving 102 00         => read
-    two 64 receiving 102 c0         => read
-    // the goal fills its slot
-    two 3 receiving 57 00000003     => read
-    two 64 receiving 57 00000040    => read
-    // a goal of 4,096 blocks, of one more, and of 16,384
-    two 8192 receiving 57 00002000  => read
-    two 8193 receiving 57 00002001  => read
-    two 32768 receiving 57 00008000 => read
-    // verified, with either result
-    two 64 verified 6 03            => read
-    two 64 verified 6 04            => read
-    // the same goal again, before its verification
-    two 64 verified 6 01            => read
-";
-
-/// No store can have one of these.
-const REFUSED: &str = "
-    // another form, and those of version 1 and of no version
-    two 64 new 0 47                      => none
-    two 64 new 3 31                      => none
-    two 64 new 3 33                      => none
-    // flags that are no flags
-    two 64 new 4 02                      => none
-    two 64 new 5 02                      => none
-    two 64 new 7 02                      => none
-    two 64 receiving 7 02                => none
-    // statuses that a header doesn't keep
-    two 64 new 6 02                      => none
-    two 64 receiving 6 02                => none
-    two 64 new 6 05                      => none
-    two 64 receiving 6 05                => none
-    two 64 new 6 07                      => none
-    // block size
-    two 64 new 8 00000000                => none
-    two 64 new 8 00000401                => none
-    two 64 new 8 01000001                => none
-    // running size
-    two 64 new 12 00000000               => none
-    two 64 new 12 00000041               => none
-    two 2 new 12 00000003                => none
-    two 0 new 12 00000003                => none
-    // running name
-    two 64 new 16 00                     => none
-    two 64 new 16 02                     => none
-    two 64 new 17 0000000100000000       => none
-    two 64 new 17 0000000000000001       => none
-    // a goal that isn't there in statuses 1, 3 and 4
-    two 64 new 6 01                      => none
-    two 64 new 6 03                      => none
-    two 64 new 6 04                      => none
-    two 64 receiving 7 00                => none
-    // a goal in statuses 0 and 6
-    two 64 receiving 6 00                => none
-    two 64 receiving 6 06                => none
-    // bytes of a goal that isn't there
-    two 64 new 60 01                     => none
-    two 64 new 61 01                     => none
-    two 64 new 102 80                    => none
-    two 64 new 613 01                    => none
-    two 64 new 622 80                    => none
-    two 64 new 2157 01                   => none
-    // the goal's name is none, or the factory's
-    two 64 receiving 61 00               => none
-    two 64 receiving 62 0000000700000000 => none
-    two 64 receiving 62 0000000000000000 => none
-    // the goal's size: 0, above the capacity, too many blocks
-    two 64 receiving 57 00000000         => none
-    two 64 receiving 57 00000041         => none
-    two 32769 receiving 57 00008001      => none
-    // marks at the count, and at the end, as a header whose marks are torn may have
-    two 64 receiving 102 60              => none
-    two 64 receiving 613 01              => none
-    two 64 receiving 2157 01             => none
-    // a block is missing, and the image was verified
-    two 64 receiving 6 03                => none
-    two 64 receiving 6 04                => none
-";
-
-/// After the marks stand the releases of the running image and of the goal, at 614.
-const RELEASES: &str = "
-    // without a goal, the least release and the greatest
-    two 64 running 614 0000000100000000   => read
-    two 64 running 614 ffffffff00000000   => read
-    // the goal's release is the running one's, or above it
-    two 64 renewed 614 0000000000000000   => read
-    two 64 renewed 614 0000000000000001   => read
-    two 64 renewed 614 0000000500000005   => read
-    two 64 renewed 614 0000000500000006   => read
-    two 64 renewed 614 000000ff00000100   => read
-    two 64 renewed 614 ffffffffffffffff   => read
-    // it is below
-    two 64 renewed 614 0000000100000000   => none
-    two 64 renewed 614 0000000500000004   => none
-    two 64 renewed 614 00000100000000ff   => none
-    two 64 renewed 614 ffffffff00000000   => none
-    // a goal that isn't there has none
-    two 64 running 614 0000000000000001   => none
-    two 64 running 614 0000000500000005   => none
-    two 64 new 614 0000000000000001       => none
-    // the image that the meter was made with has none, and a goal after it may have one
-    two 64 new 614 0000000100000000       => none
-    two 64 receiving 614 0000000100000001 => none
-    two 64 receiving 614 0000000000000005 => read
-    two 64 verified 614 00000000ffffffff  => read
-";
-
-/// The 41 bytes of a name in a header begin with 01, whatever its release.
-const NAMES: &str = "
-    two 64 running 16 02 => none
-    two 64 renewed 61 02 => none
-";
-
 /// Where the releases stand.
 pub(crate) const RELEASES_AT: usize = 614;
-
-#[test]
-fn headers_are_read_and_others_refused(rt: HostRuntime) -> Result<(), Fail> {
-    each_table(
-        rt.alloc(),
-        &[
-            (Taken, HEADERS),
-            (Taken, REFUSED),
-            (Taken, RELEASES),
-            (Taken, NAMES),
-            (Taken, OLD),
-            (Taken, LARGE),
-        ],
-    )
-}
 
 #[derive(Clone, Copy)]
 enum Told {
@@ -307,7 +77,10 @@ impl Reads for Told {
             Told::Written => written_text(alloc, Words::new(what)),
             Told::WrittenOld => written_old_text(alloc, Words::new(what)),
             Told::Version => {
-                let version = version_of(what)?;
+                let version = match what {
+                    "one" => HeaderVersion::One,
+                    _ => HeaderVersion::Two,
+                };
                 let marks = version.no_marks().count();
                 shown(alloc, &(version.block_limit(), version.size(), marks))
             }

@@ -5,7 +5,7 @@ use crate::support::shown;
 use fw_store::{ImageStore, MemoryStore, SetupError, StoreFault};
 use std::alloc::Global;
 use std::test::Fail;
-use test_tables::{Kept, Reads, Words, each_part, each_prints, each_table};
+use test_tables::{Kept, Reads, Words, each_part, each_prints};
 
 /// A store that can be made to fail. Its drop is written out, so that each place that drops it calls that.
 struct Tried(MemoryStore);
@@ -16,14 +16,10 @@ impl Drop for Tried {
     }
 }
 
-/// A new one of 8 bytes a slot.
-fn fresh(alloc: Global) -> Result<Tried, Fail> {
-    Ok(Tried(MemoryStore::new(alloc, 8, 2, b"abc")?))
-}
-
 /// A step is a call, or
 ///
-/// - `new CAPACITY`: another new store takes its place
+/// - `new CAPACITY`: another new store takes its place; `old CAPACITY`: an old one
+/// - `made CAPACITY BLOCK-SIZE FACTORY`, `made-old ..`: the capacity of such a store, or the refusal
 /// - `fuse CALLS TORN`: CALLS more calls succeed, and a write that then fails leaves this byte
 /// - `unfuse`
 /// - `same CAPACITY CALL`: whether it is the same as a store with this capacity, which is new except for the call, if there is one
@@ -32,6 +28,9 @@ impl Reads for Tried {
         let mut words = Words::new(what);
         match words.word()? {
             "new" => self.0 = MemoryStore::new(alloc, words.number()?, 2, b"abc")?,
+            "old" => self.0 = MemoryStore::new_old(alloc, words.number()?, 2, b"abc")?,
+            "made" => return made_text(alloc, words, false),
+            "made-old" => return made_text(alloc, words, true),
             "fuse" => {
                 let (calls, torn): (u64, u8) = words.read()?;
                 self.0.fuse(calls, torn);
@@ -53,15 +52,9 @@ fn same_text(alloc: Global, store: &MemoryStore, mut words: Words<'_>) -> Result
 }
 
 /// An old store has a header of version 1, and takes one of either version.
-#[test]
-fn keeps_what_is_written_into_an_old_one(rt: HostRuntime) -> Result<(), Fail> {
-    let mut store = Tried(MemoryStore::new_old(rt.alloc(), 8, 2, b"abc")?);
-    each_part(
-        rt.alloc(),
-        &mut store,
-        &[OLD_FRESH, WRITES, KEPT, OLD_AGAIN],
-    )
-}
+const MADE_OLD: &str = "
+    old 8 =>
+";
 
 const OLD_AGAIN: &str = "
     write-old-header 07 0000000500000006 => done
@@ -69,34 +62,14 @@ const OLD_AGAIN: &str = "
     read first 0 8                       => 6178790000000000
 ";
 
-/// The capacity, block size and factory image of a store, or of an old one: the capacity that it has, or the refusal.
-#[derive(Clone, Copy)]
-enum Made {
-    New,
-    Old,
-}
-
-impl Reads for Made {
-    fn told(&mut self, alloc: Global, what: &str) -> Result<String, Fail> {
-        let mut words = Words::new(what);
-        let [capacity, block_size]: [u32; 2] = words.read()?;
-        let factory = words.rest().as_bytes();
-        match self {
-            Made::New => made_text(
-                alloc,
-                MemoryStore::new(alloc, capacity, block_size, factory),
-            ),
-            Made::Old => {
-                made_text(
-                    alloc,
-                    MemoryStore::new_old(alloc, capacity, block_size, factory),
-                )
-            }
-        }
-    }
-}
-
-fn made_text(alloc: Global, made: Result<MemoryStore, SetupError>) -> Result<String, Fail> {
+fn made_text(alloc: Global, mut words: Words<'_>, old: bool) -> Result<String, Fail> {
+    let [capacity, block_size]: [u32; 2] = words.read()?;
+    let factory = words.rest().as_bytes();
+    let made = if old {
+        MemoryStore::new_old(alloc, capacity, block_size, factory)
+    } else {
+        MemoryStore::new(alloc, capacity, block_size, factory)
+    };
     match made {
         Ok(store) => shown(alloc, &store.capacity()),
         Err(refusal) => shown(alloc, &refusal),
@@ -106,46 +79,33 @@ fn made_text(alloc: Global, made: Result<MemoryStore, SetupError>) -> Result<Str
 /// The fourth has one byte above the limit of an old one, and the fifth as many as a store may have. Without a word at its end a row has no
 /// factory image.
 const SETUPS: &str = "
-    64 1 abc       => 64
-    64 1024 abc    => 64
-    1 2 a          => 1
-    4194305 2 abc  => 4194305
-    16777216 2 abc => 16777216
-    3 2 abc        => 3
-    64 0 abc       => BadSetup
-    64 1025 abc    => BadSetup
-    0 2 abc        => BadSetup
-    16777217 2 abc => BadSetup
-    64 2           => BadSetup
-    2 2 abc        => BadSetup
+    made 64 1 abc       => 64
+    made 64 1024 abc    => 64
+    made 1 2 a          => 1
+    made 4194305 2 abc  => 4194305
+    made 16777216 2 abc => 16777216
+    made 3 2 abc        => 3
+    made 64 0 abc       => BadSetup
+    made 64 1025 abc    => BadSetup
+    made 0 2 abc        => BadSetup
+    made 16777217 2 abc => BadSetup
+    made 64 2           => BadSetup
+    made 2 2 abc        => BadSetup
 ";
 
 /// The limit of the capacity is that of 4,096 blocks.
 const OLD_SETUPS: &str = "
-    64 1 abc       => 64
-    1 1024 a       => 1
-    4194304 2 abc  => 4194304
-    4194305 2 abc  => BadSetup
-    16777216 2 abc => BadSetup
-    64 0 abc       => BadSetup
-    64 1025 abc    => BadSetup
-    0 2 abc        => BadSetup
-    64 2           => BadSetup
-    2 2 abc        => BadSetup
+    made-old 64 1 abc       => 64
+    made-old 1 1024 a       => 1
+    made-old 4194304 2 abc  => 4194304
+    made-old 4194305 2 abc  => BadSetup
+    made-old 16777216 2 abc => BadSetup
+    made-old 64 0 abc       => BadSetup
+    made-old 64 1025 abc    => BadSetup
+    made-old 0 2 abc        => BadSetup
+    made-old 64 2           => BadSetup
+    made-old 2 2 abc        => BadSetup
 ";
-
-#[test]
-fn setups(rt: HostRuntime) -> Result<(), Fail> {
-    each_table(rt.alloc(), &[(Made::New, SETUPS), (Made::Old, OLD_SETUPS)])?;
-    each_prints(
-        rt.alloc(),
-        &[
-            (SetupError::BadSetup, "BadSetup"),
-            (SetupError::OutOfMemory, "OutOfMemory"),
-        ],
-    )?;
-    each_prints(rt.alloc(), &[(StoreFault, "StoreFault")])
-}
 
 /// A fuse fails after N of four calls, one of each kind, and stays until it is taken away.
 const FUSES: &str = "
@@ -301,9 +261,26 @@ const SAME: &str = "
 
 #[test]
 fn keeps_what_is_written(rt: HostRuntime) -> Result<(), Fail> {
+    let alloc = rt.alloc();
+    let mut store = Tried(MemoryStore::new(alloc, 8, 2, b"abc")?);
     each_part(
-        rt.alloc(),
-        &mut fresh(rt.alloc())?,
+        alloc,
+        &mut store,
         &[FRESH, WRITES, KEPT, FUSES, FUSES_AGAIN, TEARS, SAME],
-    )
+    )?;
+    each_part(
+        alloc,
+        &mut store,
+        &[
+            MADE_OLD, OLD_FRESH, WRITES, KEPT, OLD_AGAIN, SETUPS, OLD_SETUPS,
+        ],
+    )?;
+    each_prints(
+        alloc,
+        &[
+            (SetupError::BadSetup, "BadSetup"),
+            (SetupError::OutOfMemory, "OutOfMemory"),
+        ],
+    )?;
+    each_prints(alloc, &[(StoreFault, "StoreFault")])
 }

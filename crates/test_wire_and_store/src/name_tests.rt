@@ -22,7 +22,14 @@ enum Told {
 impl Reads for Told {
     fn told(&mut self, alloc: Global, what: &str) -> Result<String, Fail> {
         match self {
-            Told::Spelling => spelling_text(alloc, &hex::decode(alloc, what)?),
+            Told::Spelling => {
+                let bytes = hex::decode(alloc, what)?;
+                let same = match ImageName::from_bytes(&bytes) {
+                    Some(name) => name.to_bytes().as_slice() == bytes.as_slice(),
+                    None => false,
+                };
+                shown(alloc, &same)
+            }
             Told::Name => name_text(alloc, Words::new(what)),
             Told::Number => number_text(alloc, Words::new(what)),
             Told::Order => {
@@ -31,14 +38,6 @@ impl Reads for Told {
             }
         }
     }
-}
-
-fn spelling_text(alloc: Global, bytes: &[u8]) -> Result<String, Fail> {
-    let same = match ImageName::from_bytes(bytes) {
-        Some(name) => name.to_bytes().as_slice() == bytes,
-        None => false,
-    };
-    shown(alloc, &same)
 }
 
 /// After the first bytes stands the SHA-256 of `abc`, from the examples of FIPS 180-4.

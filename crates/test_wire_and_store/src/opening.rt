@@ -4,77 +4,41 @@ use crate::headers::status_of;
 use crate::session::image_name;
 use crate::support::{marked, shown};
 use fw_image::{OpenError, Phase, open_kept, open_store};
-use fw_names::{ImageName, factory_name};
+use fw_names::factory_name;
 use fw_store::{
-    Goal, Header, HeaderBytes, HeaderVersion, ImageStore, MemoryStore, Slot, StoredStatus,
-    VERSION_TWO_SIZE,
+    Goal, Header, HeaderBytes, HeaderVersion, ImageStore, MemoryStore, Slot, VERSION_TWO_SIZE,
 };
 use std::alloc::Global;
 use std::test::Fail;
 use test_tables::{Kept, Reads, Words, each_prints, each_table};
 
-/// The header of a meter that has both blocks of a goal under the name of `bbbb`:
-///
-/// - `verified`, `spoilt` or `initiated`: it runs `abc`, in this status; after `old` in version 1
-/// - `runs BYTES`: it runs `abc` under the name of these bytes
-/// - `aims RELEASE`: it runs `abc` of release 5, and the goal has this release
-/// - `other-form`: the form's first byte is another
-/// - `zeros`: it has zeros alone
-fn bytes_of(mut words: Words<'_>) -> Result<HeaderBytes, Fail> {
-    let (abc, bbbb) = (factory_name(b"abc"), image_name(b"bbbb", 0)?);
-    let (one, two) = (HeaderVersion::One, HeaderVersion::Two);
-    match words.word()? {
-        "old" => Ok(stored(one, status_of(words.word()?)?, abc, bbbb)),
-        "runs" => {
-            let running = factory_name(words.rest().as_bytes());
-            Ok(stored(two, StoredStatus::Initiated, running, bbbb))
-        }
-        "aims" => {
-            let goal = image_name(b"bbbb", words.number()?)?;
-            Ok(stored(two, StoredStatus::Initiated, image_name(b"abc", 5)?, goal))
-        }
-        "other-form" => { other_form(stored(two, StoredStatus::VerificationSuccessful, abc, bbbb)) }
-        "zeros" => Ok(HeaderBytes::Two([0; VERSION_TWO_SIZE])),
-        status => Ok(stored(two, status_of(status)?, abc, bbbb)),
-    }
-}
-
-/// The bytes of a header of version 2 with another first byte.
-fn other_form(bytes: HeaderBytes) -> Result<HeaderBytes, Fail> {
-    match bytes {
-        HeaderBytes::Two(mut bytes) => {
-            bytes[0] = 0x47;
-            Ok(HeaderBytes::Two(bytes))
-        }
-        HeaderBytes::One(_) => Err("it has version 1".into()),
-    }
-}
-
-fn stored(
-    version: HeaderVersion,
-    status: StoredStatus,
-    running: ImageName,
-    goal: ImageName,
-) -> HeaderBytes {
+/// The header of a meter that runs `abc` and has both blocks of a goal under the name of `bbbb`, in this status: `verified`, `spoilt` or
+/// `initiated`; after `old` in version 1. `zeros` has zeros alone.
+fn header_of(mut words: Words<'_>) -> Result<HeaderBytes, Fail> {
+    let (version, status) = match words.word()? {
+        "zeros" => return Ok(HeaderBytes::Two([0; VERSION_TWO_SIZE])),
+        "old" => (HeaderVersion::One, words.word()?),
+        status => (HeaderVersion::Two, status),
+    };
     let header = Header {
         version,
         enabled: true,
         running_slot: Slot::First,
-        status,
+        status: status_of(status)?,
         block_size: 2,
         running_size: 3,
-        running_name: running,
+        running_name: factory_name(b"abc"),
         goal: Some(Goal {
-            name: goal,
+            name: image_name(b"bbbb", 0)?,
             size: 4,
         }),
         marks: marked(version.no_marks(), &[0, 1]),
     };
-    header.to_bytes()
+    Ok(header.to_bytes())
 }
 
-/// Of a store by the bytes in its second slot, after how many calls it fails, or `-`, and its header: why it isn't opened. It is returned as it
-/// was.
+/// Of a store by the bytes in its second slot, after how many calls it fails, or `-`, and its header: why it isn't opened. It is returned
+/// as it was.
 #[derive(Clone, Copy)]
 enum Opened {
     Anew,
@@ -84,7 +48,7 @@ enum Opened {
 
 impl Reads for Opened {
     fn told(&mut self, alloc: Global, what: &str) -> Result<String, Fail> {
-        let store = fused(alloc, what)?;
+        let store = made(alloc, what)?;
         let other = made(alloc, what)?;
         let refusal = match self {
             Opened::Anew => refusal(open_store(store), &other)?,
@@ -106,31 +70,22 @@ fn refusal(
     }
 }
 
-/// The store, and the same once its fuse is set.
+/// The store, whose fuse doesn't count where it is compared.
 fn made(alloc: Global, what: &str) -> Result<MemoryStore, Fail> {
     let mut words = Words::new(what);
-    let [spare, _calls]: [&str; 2] = words.read()?;
+    let [spare, calls]: [&str; 2] = words.read()?;
     let spare = spare.as_bytes();
-    let header = bytes_of(words)?;
+    let header = header_of(words)?;
     let mut store = Kept(MemoryStore::new(alloc, 64, 2, b"abc")?);
     if spare.len() > store.0.capacity() as usize {
         return Err("the bytes don't fit".into());
     }
     store.0.write_header(&header)?;
     store.0.write(Slot::Second, 0, spare)?;
-    Ok(store.into_inner())
-}
-
-fn fused(alloc: Global, what: &str) -> Result<MemoryStore, Fail> {
-    let mut words = Words::new(what);
-    let [_spare, calls]: [&str; 2] = words.read()?;
-    if calls == "-" {
-        return made(alloc, what);
+    if calls != "-" {
+        store.0.fuse(calls.parse::<u64>()?, 238);
     }
-    let calls = calls.parse::<u64>()?;
-    let mut store = made(alloc, what)?;
-    store.fuse(calls, 238);
-    Ok(store)
+    Ok(store.into_inner())
 }
 
 const STORED: &str = "
@@ -141,15 +96,8 @@ const STORED: &str = "
     bbbb - spoilt        => None
     bbaa - initiated     => None
     bbbb - initiated     => None
-    // the image that runs
-    bbbb - runs abc      => None
-    bbbb - runs abd      => Some(BadImage)
-    // a goal of a release below that of the image that runs, and of an equal one
-    bbbb - aims 4        => Some(BadHeader)
-    bbbb - aims 5        => None
-    // zeros, and a header of another form over an image that isn't genuine either
+    // zeros
     bbbb - zeros         => Some(BadHeader)
-    bbaa - other-form    => Some(BadHeader)
     // the header, the image that runs and the goal are read, each in one call; of a goal that wasn't verified nothing is read
     bbbb 0 verified      => Some(Fault)
     bbbb 1 verified      => Some(Fault)

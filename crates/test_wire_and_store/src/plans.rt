@@ -20,16 +20,14 @@ enum Told {
 impl Reads for Told {
     fn told(&mut self, alloc: Global, what: &str) -> Result<String, Fail> {
         match self {
-            Told::Asked => asked_text(alloc, &hex::decode(alloc, what)?),
+            Told::Asked => {
+                let request = read_request(alloc, &hex::decode(alloc, what)?)?;
+                shown(alloc, &plan(&request))
+            }
             Told::Code => shown(alloc, &code_of(what)?.number()),
             Told::Object => shown(alloc, &object_of(what)?.logical_name()),
         }
     }
-}
-
-fn asked_text(alloc: Global, bytes: &[u8]) -> Result<String, Fail> {
-    let request = read_request(alloc, bytes)?;
-    shown(alloc, &plan(&request))
 }
 
 /// GET of each attribute of each object, with its class: 18 for Image transfer, 0-0:44.0.0.255, and 1 for the active firmware

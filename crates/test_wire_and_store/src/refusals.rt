@@ -6,71 +6,22 @@ use crate::support::shown;
 use fw_image::Refusal;
 use std::alloc::Global;
 use std::test::Fail;
-use test_tables::{Reads, each_prints, each_table, named, present};
+use test_tables::{Reads, each_line, each_prints, named, present};
 
-/// Of calls by their name, a colon and what comes after them:
-#[derive(Clone, Copy)]
-enum Told {
-    /// Of a call in vain why it is refused, if it leaves the store and what can be seen.
-    Vain,
-    /// Of calls of another meter whether both are the same then.
-    Same,
-    /// Of one more call whether that is done too.
-    Done,
-}
+/// Of calls by their name, a colon and one more call: why that is refused, if it is; and whether the meter is the same then as one
+/// without that call, and looks the same.
+#[derive(Drop)]
+struct Called;
 
-impl Reads for Told {
+impl Reads for Called {
     fn told(&mut self, alloc: Global, what: &str) -> Result<String, Fail> {
         let (calls, last) = present(what.split_once(':'), "no colon")?;
-        let mut trial = Trial::of(None);
-        after(alloc, &mut trial, calls)?;
-        match self {
-            Told::Vain => vain_text(alloc, &trial, calls, last),
-            Told::Same => same_text(alloc, &trial, last.trim()),
-            Told::Done => shown(alloc, &trial.make(alloc, last)?),
-        }
+        let mut trial = after(alloc, calls)?;
+        let before = after(alloc, calls)?;
+        let refusal = trial.make(alloc, last)?;
+        shown(alloc, &(refusal, trial.compared(&before)))
     }
 }
-
-/// Why the call is refused, if the meter that makes it is still like the other.
-fn vain_text(alloc: Global, before: &Trial, calls: &str, last: &str) -> Result<String, Fail> {
-    let mut trial = Trial::of(None);
-    after(alloc, &mut trial, calls)?;
-    let refusal = trial.make(alloc, last)?;
-    if trial.compared(before) == (true, true) {
-        shown(alloc, &refusal)
-    } else {
-        Err("it has changed".into())
-    }
-}
-
-const VAIN: &str = "
-    // before it was ever enabled, and an offer that wouldn't do either
-    new: initiate 4                           => Some(Disabled)
-    new: initiate-factory 0                   => Some(Disabled)
-    // an offer of the factory's, of no bytes, above the capacity, of 16,385 blocks
-    enabled: initiate-factory 4               => Some(BadInitiate)
-    enabled: initiate 0                       => Some(BadInitiate)
-    enabled: initiate 40001                   => Some(BadInitiate)
-    enabled: initiate 32769                   => Some(BadInitiate)
-    // a release below that of the image that runs, also where another one is received; and transfer is disabled
-    release-5: initiate 4                     => Some(BadInitiate)
-    release-5: initiate-release 4 4           => Some(BadInitiate)
-    release-5-receiving: initiate-release 4 4 => Some(BadInitiate)
-    release-5-disabled: initiate-release 4 4  => Some(Disabled)
-    // a block after the last, one that is too short, too long, empty, and a last one that is too long
-    receiving: block 3 bb                     => Some(BadBlock)
-    receiving: block 0 b                      => Some(BadBlock)
-    receiving: block 1 bbb                    => Some(BadBlock)
-    receiving: block 1                        => Some(BadBlock)
-    receiving: block 2 bb                     => Some(BadBlock)
-    // a block is missing
-    receiving: verify                         => Some(Missing)
-    // disabled meanwhile, and a block that wouldn't do either
-    disabled: block 9 bb                      => Some(Disabled)
-    disabled: verify                          => Some(Disabled)
-    disabled-verified: activate               => Some(Disabled)
-";
 
 /// Calls of a new meter: `bbbb` of release 5 runs, and then release 7 is received or transfer is disabled; block 1 of three came, of which
 /// the last has one byte, and then transfer is disabled; transfer is disabled after an image was verified.
@@ -84,38 +35,54 @@ const CALLS: &str = "
     disabled-verified   = enable true; initiate 4; block 0 bb; block 1 bb; verify; enable false
 ";
 
-/// Tries a new meter with room for 40,000 bytes, up to after these calls, or none.
-fn after(alloc: Global, trial: &mut Trial, calls: &str) -> Result<(), Fail> {
-    *trial = Trial::of(new_meter(alloc, 40_000, 2, b"abc"));
-    match named(CALLS, calls) {
-        Some(calls) => trial.make_all(alloc, calls),
-        None if calls == "new" => Ok(()),
-        None => Err("no calls have this name".into()),
+/// A new meter with room for 40,000 bytes, after these calls, or none.
+fn after(alloc: Global, calls: &str) -> Result<Trial, Fail> {
+    let mut trial = Trial::of(new_meter(alloc, 40_000, 2, b"abc"));
+    if calls != "new" {
+        trial.make_all(
+            alloc,
+            present(named(CALLS, calls), "no calls have this name")?,
+        )?;
     }
+    Ok(trial)
 }
 
-fn same_text(alloc: Global, one: &Trial, calls: &str) -> Result<String, Fail> {
-    let mut other = Trial::of(None);
-    after(alloc, &mut other, calls)?;
-    shown(alloc, &one.compared(&other))
-}
-
-/// A change of the store is no refusal in vain.
-const SAME: &str = "
-    enabled: enabled     => (true, true)
-    enabled: receiving   => (false, false)
-    receiving: receiving => (true, true)
-    receiving: disabled  => (false, false)
-";
-
-/// 32,768 bytes in 16,384 blocks are no refusal, nor is an equal release or a higher one. What is received and doesn't run yet keeps
-/// no release away.
-const DONE: &str = "
-    enabled: initiate 32768                   => None
-    release-5: initiate-release 5 4           => None
-    release-5: initiate-release 6 4           => None
-    release-5: initiate-release 4294967295 4  => None
-    release-5-receiving: initiate-release 5 4 => None
+const CALLED: &str = "
+    // before it was ever enabled, and an offer that wouldn't do either
+    new: initiate 4                           => (Some(Disabled), (true, true))
+    new: initiate-factory 0                   => (Some(Disabled), (true, true))
+    // an offer of the factory's, of no bytes, above the capacity, of 16,385 blocks
+    enabled: initiate-factory 4               => (Some(BadInitiate), (true, true))
+    enabled: initiate 0                       => (Some(BadInitiate), (true, true))
+    enabled: initiate 40001                   => (Some(BadInitiate), (true, true))
+    enabled: initiate 32769                   => (Some(BadInitiate), (true, true))
+    // a release below that of the image that runs, also where another one is received; and transfer is disabled
+    release-5: initiate 4                     => (Some(BadInitiate), (true, true))
+    release-5: initiate-release 4 4           => (Some(BadInitiate), (true, true))
+    release-5-receiving: initiate-release 4 4 => (Some(BadInitiate), (true, true))
+    release-5-disabled: initiate-release 4 4  => (Some(Disabled), (true, true))
+    // a block after the last, one that is too short, too long, empty, and a last one that is too long
+    receiving: block 3 bb                     => (Some(BadBlock), (true, true))
+    receiving: block 0 b                      => (Some(BadBlock), (true, true))
+    receiving: block 1 bbb                    => (Some(BadBlock), (true, true))
+    receiving: block 1                        => (Some(BadBlock), (true, true))
+    receiving: block 2 bb                     => (Some(BadBlock), (true, true))
+    // a block is missing
+    receiving: verify                         => (Some(Missing), (true, true))
+    // disabled meanwhile, and a block that wouldn't do either
+    disabled: block 9 bb                      => (Some(Disabled), (true, true))
+    disabled: verify                          => (Some(Disabled), (true, true))
+    disabled-verified: activate               => (Some(Disabled), (true, true))
+    // a change of the store is no refusal in vain
+    enabled: initiate 5                       => (None, (false, false))
+    receiving: enable false                   => (None, (false, false))
+    // 32,768 bytes in 16,384 blocks are no refusal, nor is an equal release or a higher one. What is received and doesn't run yet keeps
+    // no release away.
+    enabled: initiate 32768                   => (None, (false, false))
+    release-5: initiate-release 5 4           => (None, (false, false))
+    release-5: initiate-release 6 4           => (None, (false, false))
+    release-5: initiate-release 4294967295 4  => (None, (false, false))
+    release-5-receiving: initiate-release 5 4 => (None, (false, false))
 ";
 
 const REFUSALS: &[(Refusal, &str)] = &[
@@ -148,10 +115,7 @@ const DISABLED_MEANWHILE: &str = r#"
 
 #[test]
 fn leave_all_as_it_was(rt: HostRuntime) -> Result<(), Fail> {
-    each_table(
-        rt.alloc(),
-        &[(Told::Vain, VAIN), (Told::Same, SAME), (Told::Done, DONE)],
-    )?;
+    each_line(rt.alloc(), &mut Called, CALLED)?;
     each_prints(rt.alloc(), REFUSALS)?;
     sessions(rt.alloc(), false, &[&[DISABLED_MEANWHILE]])
 }

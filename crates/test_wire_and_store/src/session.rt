@@ -1,8 +1,7 @@
 //! Sessions with a meter over a store in memory.
 
-use crate::calls::bytes_text;
-use crate::fresh::{new_meter, old_meter};
-use crate::support::{campaign_name, header_digits, shown, slot_of};
+use crate::fresh::new_meter;
+use crate::support::{campaign_name, digits, shown, slot_of};
 use fw_image::{
     MeterView, NotVerified, Phase, Receiving, Refusal, TransferStatus, open_kept, open_store,
 };
@@ -10,7 +9,7 @@ use fw_names::{HeadId, ImageName, factory_name};
 use fw_store::{ImageStore, MemoryStore};
 use std::alloc::{AllocError, Global};
 use std::test::Fail;
-use test_tables::{Reads, Words, each_part, present};
+use test_tables::{Reads, Words, each_part, expect, present};
 
 /// A meter in one of its statuses.
 pub(crate) type Meter = Phase<MemoryStore>;
@@ -24,17 +23,6 @@ pub(crate) const TO_VERIFIED: &str = r#"
     verify      => (None, true, VerificationSuccessful, Some((4, Some(2), 1, 0, "bbbb")), [0, 1], (3, None, 0, 0, "abc"))
 "#;
 
-/// Fronts of headers: the form, the flags and the status, the block size, the size and the name of what runs, the goal's, and its marks,
-/// and then the releases.
-const HEADERS: &str = "
-    verified       = 46574832 01 00 03 01 00000002 00000003 010000000000000000 abc 00000004 010000000200000001 bbbb c0
-    switched       = 46574832 01 01 06 00 00000002 00000004 010000000200000001 bbbb
-    release-5      = 46574832 01 00 01 01 00000002 00000003 010000000000000000 abc 00000004 010000000200000001 bbbb / 0000000000000005
-    release-5-runs = 46574832 01 01 06 00 00000002 00000004 010000000200000001 bbbb / 0000000500000000
-    release-6      = 46574832 01 01 01 01 00000002 00000004 010000000200000001 bbbb 00000004 010000000200000001 bbbb / 0000000500000006
-    old            = 46574831 01 00 00 00 00000002 00000003 010000000000000000 abc
-";
-
 /// Sessions with new meters that have room for 64 bytes. Their stores are taken and opened again after each call, or aren't.
 pub(crate) fn sessions(alloc: Global, reopens: bool, sessions: &[&[&str]]) -> Result<(), Fail> {
     for parts in sessions {
@@ -43,12 +31,6 @@ pub(crate) fn sessions(alloc: Global, reopens: bool, sessions: &[&[&str]]) -> Re
         each_part(alloc, &mut trial, parts)?;
     }
     Ok(())
-}
-
-/// A session with a new old meter that has room for 10,000 bytes.
-pub(crate) fn old_session(alloc: Global, parts: &[&str]) -> Result<(), Fail> {
-    let mut trial = Trial::of(old_meter(alloc, 10_000, 2, b"abc"));
-    each_part(alloc, &mut trial, parts)
 }
 
 /// A meter that is tried. Each call takes it, and puts the one in its place that it leads to. Its drop is written out, so that each
@@ -252,16 +234,37 @@ impl Trial {
     ///   isn't opened then, it is with the header that is there
     /// - `holds SLOT BYTES`: the slot begins with these bytes
     /// - `headed HEADER`: the header begins with the digits of this name, and has zeros after them, up to the releases where one isn't 0
-    /// - and what `looked` does
+    /// A look, or a change of its store:
+    ///
+    /// - `reopen`: its store is opened again
+    /// - `holds SLOT BYTES`: the slot begins with these
+    /// - `fuse CALLS TORN`: CALLS more calls of the store succeed, and a write that then fails leaves this byte; `unfuse`
+    /// - `runs BYTES`: these are the bytes of the image that runs; `verified SIZE`: so many bytes has the one that was verified
     fn looked(&mut self, alloc: Global, look: &str, mut words: Words<'_>) -> Result<(), Fail> {
         match look {
-            "reopen" => self.reopen(),
-            "stop-in-reopen" => self.stop_in_reopen(u64::from(words.number()?)),
-            "holds" | "headed" => self.looked_into(alloc, look, words),
-            look => match &mut self.meter {
-                Some(meter) => looked(alloc, meter, look, words),
-                None => Err("there is no meter".into()),
-            },
+            "reopen" => return self.reopen(),
+            "holds" => return self.holds(alloc, words),
+            _ => {}
+        }
+        let Some(meter) = &mut self.meter else {
+            return Err("there is no meter".into());
+        };
+        match look {
+            "fuse" => {
+                let (calls, torn): (u64, u8) = words.read()?;
+                meter.fuse(calls, torn);
+                Ok(())
+            }
+            "unfuse" => {
+                meter.unfuse();
+                Ok(())
+            }
+            "runs" => runs(alloc, meter, words.rest()),
+            "verified" => {
+                let size = shown(alloc, &meter.verified_size())?;
+                expect(alloc, 0, size.as_str(), words.rest())
+            }
+            _ => Err("no look has this name".into()),
         }
     }
 
@@ -279,103 +282,24 @@ impl Trial {
         }
     }
 
-    /// Opens a store, whose header stays as it is.
-    fn open_kept(&mut self, store: MemoryStore) -> Result<(), Fail> {
+    /// The store is opened then as it is.
+    fn holds(&mut self, alloc: Global, mut words: Words<'_>) -> Result<(), Fail> {
+        let slot = slot_of(words.word()?)?;
+        let mut bytes = vec![in alloc; 0; words.rest().len() / 2]?;
+        let Some(meter) = self.meter.take() else {
+            return Err("there is no meter".into());
+        };
+        let mut store = meter.into_store();
+        if bytes.len() > store.capacity() as usize {
+            return Err("the slot has fewer bytes".into());
+        }
+        let read = store.read(slot, 0, &mut bytes);
         match open_kept(store) {
-            Ok(meter) => {
-                self.meter = Some(meter);
-                Ok(())
-            }
-            Err((error, _store)) => Err(error.into()),
+            Ok(meter) => self.meter = Some(meter),
+            Err((error, _store)) => return Err(error.into()),
         }
-    }
-
-    fn stop_in_reopen(&mut self, calls: u64) -> Result<(), Fail> {
-        let Some(meter) = self.meter.take() else {
-            return Err("there is no meter".into());
-        };
-        let mut store = meter.into_store();
-        store.fuse(calls, 0);
-        match open_store(store) {
-            Ok(mut meter) => {
-                meter.unfuse();
-                self.meter = Some(meter);
-                Ok(())
-            }
-            Err((_error, mut store)) => {
-                store.unfuse();
-                self.open_kept(store)
-            }
-        }
-    }
-
-    /// A look at its store, which is opened then as it is.
-    fn looked_into(&mut self, alloc: Global, look: &str, words: Words<'_>) -> Result<(), Fail> {
-        let Some(meter) = self.meter.take() else {
-            return Err("there is no meter".into());
-        };
-        let mut store = meter.into_store();
-        let looked = match look {
-            "holds" => has_bytes(alloc, &mut store, words),
-            _ => has_header(alloc, &mut store, words.rest()),
-        };
-        looked?;
-        self.open_kept(store)
-    }
-}
-
-fn has_bytes(alloc: Global, store: &mut MemoryStore, mut words: Words<'_>) -> Result<(), Fail> {
-    let slot = slot_of(words.word()?)?;
-    let size = words.rest().len() / 2;
-    if size > store.capacity() as usize {
-        return Err("the slot has fewer bytes".into());
-    }
-    let mut bytes = vec![in alloc; 0; size]?;
-    store.read(slot, 0, &mut bytes)?;
-    if hex::encode(alloc, bytes.as_slice())?.as_str() == words.rest() {
-        Ok(())
-    } else {
-        Err("the slot has other bytes".into())
-    }
-}
-
-fn has_header(alloc: Global, store: &mut MemoryStore, name: &str) -> Result<(), Fail> {
-    let header = bytes_text(alloc, &store.header()?)?;
-    if header == header_digits(alloc, HEADERS, name)? {
-        Ok(())
-    } else {
-        Err("the header has other bytes".into())
-    }
-}
-
-/// A look at a meter that keeps its store.
-///
-/// - `fuse CALLS TORN`: CALLS more calls of the store succeed, and a write that then fails leaves this byte; `unfuse`
-/// - `runs BYTES`: these are the bytes of the image that runs
-/// - `blocks SIZE COUNT FIRST BITS`: the size of its blocks, how many the goal has, the first that isn't there, and the bits of all
-/// - `verified SIZE`: how many bytes the image has that was verified
-/// - `limited LIMIT`: how many blocks an image may have at most
-fn looked(alloc: Global, meter: &mut Meter, look: &str, mut words: Words<'_>) -> Result<(), Fail> {
-    let holds = match look {
-        "fuse" => {
-            let (calls, torn): (u64, u8) = words.read()?;
-            meter.fuse(calls, torn);
-            true
-        }
-        "unfuse" => {
-            meter.unfuse();
-            true
-        }
-        "runs" => runs(alloc, meter, words.rest())?,
-        "blocks" => has_blocks(alloc, meter, words)?,
-        "verified" => meter.verified_size() == words.number()?,
-        "limited" => meter.view().limit == words.number()?,
-        _ => return Err("no look has this name".into()),
-    };
-    if holds {
-        Ok(())
-    } else {
-        Err("it looks otherwise".into())
+        read?;
+        expect(alloc, 0, digits(alloc, &bytes)?.as_str(), words.rest())
     }
 }
 
@@ -384,19 +308,14 @@ pub(crate) fn image_name(image: &[u8], release: u32) -> Result<ImageName, Fail> 
     present(campaign_name(2, 1, release, image), "no name")
 }
 
-fn runs(alloc: Global, meter: &mut Meter, wanted: &str) -> Result<bool, Fail> {
+fn runs(alloc: Global, meter: &mut Meter, wanted: &str) -> Result<(), Fail> {
     let mut image = vec![in alloc; 0; meter.view().active_size as usize]?;
     meter.read_running(&mut image)?;
-    Ok(image.as_slice() == wanted.as_bytes())
-}
-
-fn has_blocks(alloc: Global, meter: &Meter, mut words: Words<'_>) -> Result<bool, Fail> {
-    let wanted: (u32, u32, u32) = words.read()?;
-    let count = meter.block_count();
-    let first = meter.marks().first_missing_below(count);
-    let bits = meter.marks().to_bits(alloc, count)?;
-    let digits = hex::encode(alloc, bits.as_bytes())?;
-    Ok((meter.block_size(), count, first) == wanted && digits.as_str() == words.rest())
+    if image.as_slice() == wanted.as_bytes() {
+        Ok(())
+    } else {
+        Err("it runs another image".into())
+    }
 }
 
 /// A refusal, if there is one, and what can be seen: whether transfer is enabled, the status, the goal, the numbers of the blocks that are

@@ -2,21 +2,20 @@
 
 use crate::split_back;
 use crate::support::{digits, joined, shown};
-use fw_wrapper::{Frame, join, join_in, split};
+use fw_wrapper::{Frame, join_in, split};
 use std::alloc::Global;
 use std::test::Fail;
 use test_tables::{Reads, Words, each_table};
 
 #[derive(Clone, Copy)]
 enum Told {
-    /// Of a datagram in hexadecimal its two wPorts, its APDU, and the datagram that they are joined to, or the refusal.
+    /// Of a datagram in hexadecimal its two wPorts, its APDU, and the datagram that they are joined to after a byte ff that is there, or
+    /// the refusal.
     Datagram,
     /// Of a length field and the number of bytes that are there the refusal of the datagram.
     Field,
     /// Of an APDU of N bytes what `split_back` returns, and whether it gives the same back.
     Carried,
-    /// The datagram of the APDU c001c1 from wPort 0102 to wPort 0304, after a byte that is there.
-    Later,
 }
 
 impl Reads for Told {
@@ -25,7 +24,6 @@ impl Reads for Told {
             Told::Datagram => datagram_text(alloc, &hex::decode(alloc, what)?),
             Told::Field => field_text(alloc, Words::new(what)),
             Told::Carried => carried_text(alloc, what.parse::<usize>()?),
-            Told::Later => later_text(alloc, what.parse::<u8>()?),
         }
     }
 }
@@ -33,16 +31,20 @@ impl Reads for Told {
 fn datagram_text(alloc: Global, bytes: &[u8]) -> Result<String, Fail> {
     match split(bytes) {
         Ok(Frame { source, dest, apdu }) => {
-            let again = digits(alloc, &join(alloc, source, dest, apdu)?)?;
+            let mut room = Vec::with_capacity(alloc, 9 + apdu.len())?;
+            room.push_reserved(0xff);
+            join_in(&mut room, source, dest, apdu);
+            let again = digits(alloc, &room)?;
             shown(alloc, &(source, dest, apdu, again.as_str()))
         }
         Err(refusal) => shown(alloc, &refusal),
     }
 }
 
-/// From wPort 0102 (258) to wPort 0304 (772), the APDU c001c1, and then datagrams with the first refusal that applies. The second has no byte.
+/// From wPort 0102 (258) to wPort 0304 (772), the APDU c001c1, and then datagrams with the first refusal that applies. The second has no
+/// byte.
 const DATAGRAMS: &str = r#"
-    0001010203040003c001c1 => (258, 772, [192, 1, 193], "0001010203040003c001c1")
+    0001010203040003c001c1 => (258, 772, [192, 1, 193], "ff0001010203040003c001c1")
                            => Short
     00010001000100         => Short
     00020001000100         => Short
@@ -86,17 +88,6 @@ const CARRIED: &str = "
     2305 => TooLong
 ";
 
-fn later_text(alloc: Global, before: u8) -> Result<String, Fail> {
-    let mut room = Vec::with_capacity(alloc, 12)?;
-    room.push_reserved(before);
-    join_in(&mut room, 0x0102, 0x0304, &[0xc0, 0x01, 0xc1]);
-    digits(alloc, &room)
-}
-
-const LATER: &str = "
-    255 => ff0001010203040003c001c1
-";
-
 #[test]
 fn splits_and_joins(rt: HostRuntime) -> Result<(), Fail> {
     each_table(
@@ -105,7 +96,6 @@ fn splits_and_joins(rt: HostRuntime) -> Result<(), Fail> {
             (Told::Datagram, DATAGRAMS),
             (Told::Field, LENGTHS),
             (Told::Carried, CARRIED),
-            (Told::Later, LATER),
         ],
     )
 }
