@@ -20,7 +20,7 @@ from ends import Failed, Head, Meter, preloaded, wants  # noqa: E402, F401
 HOST = "127.0.0.1"
 # How long it is looked whether something comes that must not, in seconds; and how long it may take that something comes which must.
 SILENCE, PATIENCE = 0.15, 20
-# A limit on what a run may take.
+# How many seconds a run may take, and a step: runs/sessions sets this.
 LONGEST = 60
 
 

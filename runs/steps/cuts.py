@@ -4,7 +4,8 @@ import contextlib
 import subprocess
 import tempfile
 
-from common import LONGEST, script
+import common
+from common import script
 from disk import key, recorded
 
 power = script("power")
@@ -38,7 +39,7 @@ def recording(place, folder, *words, **settings):
 def recorded_run(place, folder, *words, text="", **settings):
     """A run to its end: its status, what it printed, and its calls."""
     with recording(place, folder, *words, **settings) as (process, calls):
-        out, _ = process.communicate(text, timeout=LONGEST)
+        out, _ = process.communicate(text, timeout=common.LONGEST)
         return process.returncode, out, calls()
 
 

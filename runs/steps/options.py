@@ -64,9 +64,10 @@ def a_head_end_waits_and_stays(place):
     meter = bound()
     meter.setsockopt(socket.SOL_SOCKET, SO_TIMESTAMPNS, 1)
     listed(place.folder, [meter.getsockname()])
-    with HeadEnd(place.folder, *opening(place.folder), "--resend", "300").running():
+    with HeadEnd(place.folder, *opening(place.folder), "--resend", "800").running():
         first, second = arrival(meter), arrival(meter)
-    wants(second - first > 0.29, f"it is asked again after {second - first:.3f} s")
+    # It is waited for from when the head end was about to send.
+    wants(second - first > 0.5, f"it is asked again after {second - first:.3f} s")
     folder = place.sub("staying").folder
     listed(folder, [])
     with HeadEnd(folder, "--new", "--stay").running() as head:

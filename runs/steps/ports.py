@@ -37,12 +37,12 @@ def listens_at(head):
 
 
 def at_a_free_port(start):
-    """What is started with the address of a port that was free before. Another process may take it meanwhile."""
+    """What is started with the address of a port that was free before. Nothing is where another process took it meanwhile."""
     for _ in range(5):
         with bound() as free:
             at = free.getsockname()
-        with contextlib.suppress(Failed):
-            return at, start(name_of(at))
+        if started := start(name_of(at)):
+            return at, started
     raise Failed("no port stays free")
 
 
@@ -50,7 +50,11 @@ def at_a_free_port(start):
 # says; one that is bound to another port than it was asked for; a meter that answers what asks for no answer.
 def a_meter_replies_once(place):
     """A meter listens at the port that it is asked for, and answers each datagram once, from that port, to who sent it alone."""
-    at, meter = at_a_free_port(lambda listen: Meter(place.folder / "meter.fw", listen=listen))
+    def start(listen):
+        with contextlib.suppress(Failed):
+            return Meter(place.folder / "meter.fw", listen=listen)
+
+    at, meter = at_a_free_port(start)
     with meter.killed():
         wants(meter.address == at, f"it listens at {meter.address} in place of {at}")
         first, second, third = bound(), bound(), bound()
@@ -72,8 +76,9 @@ def a_head_end_asks_once(place):
 
     def start(listen):
         head = HeadEnd(place.folder, *opening(place.folder), *PATIENT, listen=listen)
-        wants(head.process.stdout.readline() == f"listening {listen}\n", "it listens elsewhere, or not at all")
-        return head
+        first = head.process.stdout.readline()
+        wants(first in ("", f"listening {listen}\n"), f"it is to listen at {listen}, and prints {first}")
+        return head if first else None
 
     at, head = at_a_free_port(start)
     with head.running():
@@ -231,6 +236,11 @@ def packets_before(calls, path):
     return acts
 
 
+def has_sent(calls):
+    """Whether a datagram was sent."""
+    return any(word == "send" for word, *_ in calls)
+
+
 def is_record_of(record, data):
     """Whether bytes are one whole record of a capture, of a packet that ends with these bytes."""
     size = int.from_bytes(record[8:12], "little")
@@ -248,7 +258,7 @@ def records_come_first(place):
         begun = len(calls_of())
         asker.sendto(enable, (HOST, port))
         reply = bytes.fromhex(received(asker)[0])
-        wait_for(lambda: calls_of()[-1][0] == "send", "what is sent has no line")
+        wait_for(lambda: has_sent(calls_of()), "what is sent has no line")
         names = [call for call in calls_of()[:begun] if call[0] in ("open", "make")]
         acts = packets_before([*names, *calls_of()[begun:]], "meter.pcap")
     kinds = [kind for kind, _ in acts]
@@ -259,7 +269,7 @@ def records_come_first(place):
     words = ["head", "--head", "7", "--book", "head.book", "--meters", "meters.csv", "--listen", f"{HOST}:0", "--capture", "head.pcap"]
     with recording(place, place.folder, *words, *PATIENT, *opening(place.folder)) as (process, calls_of):
         asked = bytes.fromhex(received(silent)[0])
-        wait_for(lambda: calls_of()[-1][0] == "send", "what is sent has no line")
+        wait_for(lambda: has_sent(calls_of()), "what is sent has no line")
         acts = packets_before(calls_of(), "head.pcap")
     wants(acts[-1] == ("send", asked) and acts[-2][0] == "record" and is_record_of(acts[-2][1], asked), f"the last calls are {acts[-2:]}")
 
