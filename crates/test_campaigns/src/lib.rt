@@ -24,6 +24,8 @@ mod kept;
 #[cfg(test)]
 mod openings;
 #[cfg(test)]
+mod outlives;
+#[cfg(test)]
 mod outstanding;
 #[cfg(test)]
 mod parts;

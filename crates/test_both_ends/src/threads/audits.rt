@@ -39,9 +39,23 @@ impl Made {
         }
         Ok(())
     }
+
+    /// The report of the world that an audit returns, or its refusal.
+    fn audited(&self, alloc: Global) -> Result<String, Fail> {
+        let Parts {
+            heads,
+            meters,
+            sent,
+            ..
+        } = &self.parts;
+        match audit(alloc, &self.setup, &self.events, heads, meters, sent) {
+            Ok(world) => report(alloc, &self.setup, &world),
+            Err(refusal) => Ok(refusal.to_string(alloc)?),
+        }
+    }
 }
 
-/// Audits of the parts of runs, of rows `SETUP SCRIPT CHANGE`: the report of the world that an audit returns, or its refusal.
+/// Audits of the parts of runs, of rows `SETUP SCRIPT CHANGE`.
 #[derive(Clone, Copy)]
 struct Audited;
 
@@ -58,16 +72,7 @@ impl Reads for Audited {
             parts,
         };
         made.change(alloc, change)?;
-        let Parts {
-            heads,
-            meters,
-            sent,
-            ..
-        } = &made.parts;
-        match audit(alloc, &made.setup, &made.events, heads, meters, sent) {
-            Ok(world) => report(alloc, &made.setup, &world),
-            Err(refusal) => Ok(refusal.to_string(alloc)?),
-        }
+        made.audited(alloc)
     }
 }
 
