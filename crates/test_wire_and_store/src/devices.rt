@@ -14,11 +14,12 @@ fn fresh(alloc: Global) -> Result<TestDevice, Fail> {
     Ok(store.into_device())
 }
 
-/// The bytes of a device, after calls of tables, each of the store that is opened on it anew:
+/// The bytes of a device, after calls of a table of the store that is opened on it:
 ///
-/// - `new TABLES`: of a new store
-/// - `old LEN TABLES`: of an old one of LEN bytes, with releases or without
-/// - `within ROOM TABLES`: of an old one of 642 bytes on a device that has room for ROOM bytes
+/// - `new TABLE`: of a new store
+/// - `again TABLE`: of one that was written and opened again
+/// - `old LEN TABLE`: of an old one of LEN bytes, with releases or without
+/// - `within ROOM TABLE`: of an old one of 642 bytes on a device that has room for ROOM bytes
 /// - `over LEN`: of a new store on a device that had other bytes, which are no part of it
 /// - `failing TABLE`: of a store whose device fails as soon as it is opened
 ///
@@ -30,8 +31,12 @@ struct Stored;
 impl Reads for Stored {
     fn told(&mut self, alloc: Global, what: &str) -> Result<String, Fail> {
         let mut words = Words::new(what);
-        let mut device = match words.word()? {
+        let device = match words.word()? {
             "new" => fresh(alloc)?,
+            "again" => {
+                let written = used(alloc, used(alloc, fresh(alloc)?, "fresh")?, "writes")?;
+                used(alloc, written, "kept")?
+            }
             "old" => old_device(alloc, words.number()? as usize)?,
             "within" => old_device(alloc, 642)?.limited(words.number()? as usize),
             "over" => {
@@ -46,13 +51,16 @@ impl Reads for Stored {
             }
             way => return failing_text(alloc, way, words),
         };
-        for name in words.rest().split(' ') {
-            let mut store = Kept(DeviceStore::reopen_on(device)?);
-            calls(alloc, &mut store.0, table_of(name)?)?;
-            device = store.into_inner().into_device();
-        }
+        let device = used(alloc, device, words.rest())?;
         stored_text(alloc, device.bytes.as_slice())
     }
+}
+
+/// A device after the calls of a table, of the store that is opened on it.
+fn used(alloc: Global, device: TestDevice, table: &str) -> Result<TestDevice, Fail> {
+    let mut store = Kept(DeviceStore::reopen_on(device)?);
+    calls(alloc, &mut store.0, table_of(table)?)?;
+    Ok(store.into_inner().into_device())
 }
 
 fn old_device(alloc: Global, len: usize) -> Result<TestDevice, Fail> {
@@ -66,7 +74,7 @@ fn old_device(alloc: Global, len: usize) -> Result<TestDevice, Fail> {
 const STORED: &str = r#"
     new fresh => (2178, [0, 0, 0, 8], "46574832000000000000000200000003010000000000000000ba7816bf8f01cfea414140de5dae2223b00361a396177a9cb410ff61f20015ad", "61626300000000000000000000000000", "0000000000000000")
     // what was written is there in a store that is opened again
-    new fresh writes kept kept => (2178, [0, 0, 0, 8], "0102030405", "61787900000000000000000000707172", "0000000000000000")
+    again kept   => (2178, [0, 0, 0, 8], "0102030405", "61787900000000000000000000707172", "0000000000000000")
     new tail     => (2178, [0, 0, 0, 8], "07", "61626300000000000000000000000000", "0000000500000006 80")
     // an old header makes it shorter, and a new one longer again, with nothing left of what stood there
     new old-tail => (642, [0, 0, 0, 8], "08", "61626300000000000000000000000000", "0000000300000004")
