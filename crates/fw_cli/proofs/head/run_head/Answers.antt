@@ -1,21 +1,9 @@
-use Rattle.std.proofs.Common.{◌≡◌, subst, sym}
+use Rattle.std.proofs.Common.{◌≡◌}
 use Rattle.std.proofs.lemmas.Result.{err_from_is_err_and}
 use Rattle.fw_cli.specs.Heads.{IsAskedFor}
-use Rattle.fw_host.specs.Heads.{ComesBeforeLines, IsOfHead}
-use Rattle.fw_cli.proofs.HeadLeading.{line_lost, passed_because, stopped}
+use Rattle.fw_host.specs.Heads.{IsOfHead}
+use Rattle.fw_cli.proofs.HeadLeading.{line_lost, passed_because}
 use Rattle.fw_cli.proofs.head.run_head.Goals as goal
-
-pub returns-in-Err-clause-silent : goal.returns-in-Err-clause-silent
-returns-in-Err-clause-silent g c = λ before.
-    absurd ((stopped c.args.options.now _ c.in-Err.ensures.asked c.in-Err.ensures.faults).later (subst ComesBeforeLines c.of_book.ensures.fault before))
-
-pub returns-in-Err-clause-asked : goal.returns-in-Err-clause-asked
-returns-in-Err-clause-asked g c =
-    subst (IsAskedFor c.args.options.now) (sym c.of_book.ensures.fault) (stopped c.args.options.now _ c.in-Err.ensures.asked c.in-Err.ensures.faults).asked
-
-pub returns-in-Err-clause-faults : goal.returns-in-Err-clause-faults
-returns-in-Err-clause-faults g c =
-    subst IsOfHead (sym c.of_book.ensures.fault) (stopped c.args.options.now _ c.in-Err.ensures.asked c.in-Err.ensures.faults).of_head
 
 pub returns-in_err-tell_listening-clause-silent : goal.returns-in_err-tell_listening-clause-silent
 returns-in_err-tell_listening-clause-silent g c =
