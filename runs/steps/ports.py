@@ -232,7 +232,8 @@ def packets_before(calls, path):
         elif word == "send":
             acts.append(("send", given))
         elif word == "write":
-            acts.append(("record", given) if names.get(file) == path else ("change", b""))
+            # A new capture was opened under the name that it has while it is made.
+            acts.append(("record", given) if names.get(file) in (path, f"{path}.new") else ("change", b""))
     return acts
 
 
