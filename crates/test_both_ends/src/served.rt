@@ -88,15 +88,18 @@ fn deeds_text(alloc: Global, deeds: &[Deed<NoReport>]) -> Result<String, Fail> {
     Ok(text)
 }
 
-/// The daemon of a meter that runs `abc`, which the address of number 1 may ask.
-fn daemon(alloc: Global) -> Result<MeterDaemon<MemoryStore>, Fail> {
+/// The daemon of a meter that runs `abc`, which this address may ask.
+pub(crate) fn daemon_for(
+    alloc: Global,
+    head: SocketAddr,
+) -> Result<MeterDaemon<MemoryStore>, Fail> {
     let store = MemoryStore::new(alloc, 64, 2, b"abc")?;
     let meter = match MeterCore::open_store(store) {
         Ok(meter) => meter,
         Err((error, _store)) => return Err(error.into()),
     };
     let mut heads = Vec::new(alloc);
-    heads.push(address(1))?;
+    heads.push(head)?;
     Ok(MeterDaemon::new(meter, heads))
 }
 
@@ -107,7 +110,7 @@ fn a_meter_replies_to_its_head_end_alone(rt: HostRuntime) -> Result<(), Fail> {
         rounds: 0,
         last: None,
     };
-    let mut daemon = daemon(alloc)?;
+    let mut daemon = daemon_for(alloc, address(1))?;
     let deeds = serve_list(&rt, alloc, coming(alloc)?, &mut daemon, &mut watch);
     let mut text = deeds_text(alloc, &deeds)?;
     write!(text, "\n    rounds {}, {:?}", watch.rounds, watch.last)?;

@@ -3,5 +3,5 @@
 mod script;
 mod telling;
 
-pub use script::{DONE, OLD_SMALL, SMALL, events_of, fates_of, head, meter, setup_of, world_of};
+pub use script::{events_of, fates_of, head, meter, setup_of, world_of};
 pub use telling::{done_rows, in_numbers, push, report};

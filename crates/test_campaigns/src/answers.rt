@@ -1,8 +1,5 @@
 //! Which responses answer each ask, and what is heard by them.
 
-use crate::client::steps;
-use std::test::Fail;
-
 /// Values of the types of what is asked, each after one of another type or of another service.
 const NUMBERS: &str = "
     ask block-size                          => 000100010001000dc001c0001200002c0000ff0200
@@ -126,15 +123,12 @@ const CHANGED: &str = "
     hear 0001000100010006c401c4001600     => Status(0)
 ";
 
-#[test]
-fn what_is_heard(rt: HostRuntime) -> Result<(), Fail> {
-    let sessions: &[&[&str]] = &[
-        &[NUMBERS],
-        &[BLOCKS],
-        &[STATUS],
-        &[INFOS, NAMES],
-        &[CODES],
-        &[CHANGED],
-    ];
-    steps(rt.alloc(), sessions)
-}
+/// Each session by the tables of its steps.
+pub(crate) const HEARD: &[&[&str]] = &[
+    &[NUMBERS],
+    &[BLOCKS],
+    &[STATUS],
+    &[INFOS, NAMES],
+    &[CODES],
+    &[CHANGED],
+];

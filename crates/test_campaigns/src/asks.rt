@@ -1,9 +1,6 @@
 //! The datagram of each ask: the wrapper's header with both wPorts 1, the service in its normal form, the invoke byte, the class,
 //! the logical name, and the number of the attribute or the method (IEC 62056-4-7, IEC 62056-5-3, IEC 62056-6-2).
 
-use crate::client::steps;
-use std::test::Fail;
-
 /// GET of attributes 2, 4, 3, 6 and 7 of class 18, 0-0:44.0.0.255, and of attribute 2 of class 1, 1-0:0.2.0.255.
 const READS: &str = "
     ask block-size    => 000100010001000dc001c0001200002c0000ff0200
@@ -38,7 +35,5 @@ const LARGEST: &str = "
     largest 7 => 0001000100010418c301c0001200002c0000ff020102020600000007098204005a (1056, 90)
 ";
 
-#[test]
-fn the_datagram_of_each_ask(rt: HostRuntime) -> Result<(), Fail> {
-    steps(rt.alloc(), &[&[READS], &[CHANGES], &[INITIATE], &[LARGEST]])
-}
+/// Each session by the tables of its steps.
+pub(crate) const ASKED: &[&[&str]] = &[&[READS], &[CHANGES], &[INITIATE], &[LARGEST]];

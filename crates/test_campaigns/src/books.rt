@@ -1,10 +1,11 @@
 //! The bytes of a book, as written and as read.
 
 use crate::book::{Calls, bytes_of, campaign, first_meters, fresh};
+use crate::{ends, openings, views};
 use fw_book::{Book, BookError};
 use std::alloc::{AllocError, Global};
 use std::test::Fail;
-use test_tables::{Kept, Reads, Words, each_line, each_part};
+use test_tables::{Kept, Reads, Words, each_part};
 
 /// Campaigns stand in the order in which they were opened, each with its release, and only live rows are cancelled.
 const WRITTEN: &str = "
@@ -15,8 +16,21 @@ const WRITTEN: &str = "
 ";
 
 #[test]
-fn books_are_written(rt: HostRuntime) -> Result<(), Fail> {
-    each_line(rt.alloc(), &mut Calls, WRITTEN)
+fn what_becomes_of_a_book(rt: HostRuntime) -> Result<(), Fail> {
+    let alloc = rt.alloc();
+    let (calls, ends) = (
+        &mut Calls,
+        [ends::REFUSED, ends::CLAIMED, ends::MARKED, ends::STATES],
+    );
+    each_part(alloc, calls, &[WRITTEN, views::SHOWN])?;
+    each_part(alloc, calls, &ends)?;
+    let opened = [
+        openings::REFUSED,
+        openings::TAKEN,
+        openings::LIMITS,
+        openings::NAMES,
+    ];
+    each_part(alloc, calls, &opened)
 }
 
 /// What is made of bytes:

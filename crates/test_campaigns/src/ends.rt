@@ -1,11 +1,7 @@
 //! How rows end, and what is left of a campaign.
 
-use crate::book::Calls;
-use std::test::Fail;
-use test_tables::each_part;
-
 /// What is no row, and what ended, is refused.
-const REFUSED: &str = "
+pub(crate) const REFUSED: &str = "
     last cancel 7 1                                 => NoSuchCampaign
     last fail 7 1 1                                 => NoSuchCampaign
     last open 7 1 0 abc 1; cancel 7 2               => NoSuchCampaign
@@ -22,7 +18,7 @@ const REFUSED: &str = "
 
 /// A claim of `abc` in campaign (7, 1) marks its row done once, under its release. What it claims is judged after whether there is
 /// such a row, and before whether that is live.
-const CLAIMED: &str = "
+pub(crate) const CLAIMED: &str = "
     last open 7 1 0 abc 1; done 7 2 1                                           => NoSuchCampaign
     last open 7 1 0 abc 1; done 8 1 1                                           => NoSuchCampaign
     last open 7 1 0 abc 1; done 7 1 2                                           => NoSuchCampaign
@@ -46,22 +42,17 @@ const CLAIMED: &str = "
 ";
 
 /// The book once the row is live, and once it is done.
-const MARKED: &str = "
+pub(crate) const MARKED: &str = "
     bytes open 7 1 0 abd 1                     => 465742320000000700000001000000000000000361626400010000000100
     bytes open 7 1 0 abc 1; done 7 1 1         => 465742320000000700000001000000000000000361626300010000000101
     bytes open 7 1 5 abc 1; done-release 7 1 1 => 465742320000000700000001000000050000000361626300010000000101
 ";
 
 /// Meter 1 of the first campaign was cancelled, and meter 2 failed before. That is live in the second campaign, and there is no third one.
-const STATES: &str = "
+pub(crate) const STATES: &str = "
     meter 1 1 open 7 1 0 abc 1 2; fail 7 1 2; cancel 7 1; open 7 2 0 abd 2 => (Some(Cancelled), Some((Some(Cancelled), false, false)), false)
     meter 1 2 open 7 1 0 abc 1 2; fail 7 1 2; cancel 7 1; open 7 2 0 abd 2 => (Some(Failed), Some((Some(Failed), false, false)), true)
     meter 2 2 open 7 1 0 abc 1 2; fail 7 1 2; cancel 7 1; open 7 2 0 abd 2 => (Some(Live), Some((Some(Live), true, true)), true)
     meter 2 1 open 7 1 0 abc 1 2; fail 7 1 2; cancel 7 1; open 7 2 0 abd 2 => (None, Some((None, false, true)), false)
     meter 3 1 open 7 1 0 abc 1 2; fail 7 1 2; cancel 7 1; open 7 2 0 abd 2 => (None, None, false)
 ";
-
-#[test]
-fn rows_end_once(rt: HostRuntime) -> Result<(), Fail> {
-    each_part(rt.alloc(), &mut Calls, &[REFUSED, CLAIMED, MARKED, STATES])
-}

@@ -24,8 +24,6 @@ mod kept;
 #[cfg(test)]
 mod openings;
 #[cfg(test)]
-mod outlives;
-#[cfg(test)]
 mod outstanding;
 #[cfg(test)]
 mod parts;

@@ -1,10 +1,9 @@
 //! Openings: what they are refused for, in order, and what they return.
 
-use crate::book::{Calls, answer_text, campaign, first_meters, meter};
+use crate::book::{answer_text, campaign, first_meters, meter};
 use fw_book::Book;
 use std::alloc::Global;
 use std::test::Fail;
-use test_tables::each_part;
 
 /// What comes of an opening of campaign 1 with an image of this size, for so many meters, whose numbers begin again from 0 after a round.
 pub(crate) fn sized_text(
@@ -36,7 +35,7 @@ pub(crate) fn named_text(
 }
 
 /// Each refusal by itself, and before all that come after it.
-const REFUSED: &str = "
+pub(crate) const REFUSED: &str = "
     last open 8 1 0 abc 1                                                     => ForeignHead
     last open 7 1 0 abc 1; open 8 1 0 -                                       => ForeignHead
     last open 7 1 0 abc 1; open 7 1 0 abc 2                                   => SerialUsed
@@ -53,13 +52,13 @@ const REFUSED: &str = "
 ";
 
 /// A meter is free again once its row has ended.
-const TAKEN: &str = "
+pub(crate) const TAKEN: &str = "
     last open 7 1 0 abc 1; fail 7 1 1; open 7 2 0 abc 1 => done
     last open 7 1 0 abc 1; cancel 7 1; open 7 2 0 abc 1 => done
     last open 7 2 0 abc 1; open 7 1 0 abc 2             => done
 ";
 
-const LIMITS: &str = "
+pub(crate) const LIMITS: &str = "
     sized 4194305 256 256  => done
     // the longest image isn't too long
     sized 16777216 257 257 => TooManyMeters
@@ -71,15 +70,10 @@ const LIMITS: &str = "
     sized 1 256 255        => MeterTwice
 ";
 
-const NAMES: &str = "
+pub(crate) const NAMES: &str = "
     named 0 7 1          => 010000000700000001ba7816bf8f01cfea414140de5dae2223b00361a396177a9cb410ff61f20015ad, 010000000700000001ba7816bf8f01cfea414140de5dae2223b00361a396177a9cb410ff61f20015ad
     named 0 7 2          => 010000000700000001ba7816bf8f01cfea414140de5dae2223b00361a396177a9cb410ff61f20015ad, none
     named 0 8 1          => 010000000700000001ba7816bf8f01cfea414140de5dae2223b00361a396177a9cb410ff61f20015ad, none
     named 5 7 1          => 02000000070000000100000005ba7816bf8f01cfea414140de5dae2223b00361a396177a9cb410ff61f20015ad, 02000000070000000100000005ba7816bf8f01cfea414140de5dae2223b00361a396177a9cb410ff61f20015ad
     named 4294967295 7 2 => 020000000700000001ffffffffba7816bf8f01cfea414140de5dae2223b00361a396177a9cb410ff61f20015ad, none
 ";
-
-#[test]
-fn openings(rt: HostRuntime) -> Result<(), Fail> {
-    each_part(rt.alloc(), &mut Calls, &[REFUSED, TAKEN, LIMITS, NAMES])
-}

@@ -1,5 +1,7 @@
 //! Which asks are outstanding, and which datagrams are strangers'.
 
+use crate::answers::HEARD;
+use crate::asks::ASKED;
 use crate::client::steps;
 use fw_book::BookError;
 use fw_client::{AskError, OutOfMemory};
@@ -131,7 +133,7 @@ const ONE_LEFT: &str = "
 ";
 
 #[test]
-fn which_asks_are_outstanding(rt: HostRuntime) -> Result<(), Fail> {
+fn what_a_client_asks_and_hears(rt: HostRuntime) -> Result<(), Fail> {
     let sessions: &[&[&str]] = &[
         &[ANSWERED_ONCE],
         &[ANSWERED_BY_A_CODE],
@@ -140,7 +142,10 @@ fn which_asks_are_outstanding(rt: HostRuntime) -> Result<(), Fail> {
         &[THREE, THIRTEEN, SEVENTEENTH],
         &[OUT_OF_ORDER, THIRTEEN, ONE_LEFT],
     ];
-    steps(rt.alloc(), sessions)
+    for sessions in [ASKED, HEARD, sessions] {
+        steps(rt.alloc(), sessions)?;
+    }
+    Ok(())
 }
 
 /// The other refusals are printed in tables.

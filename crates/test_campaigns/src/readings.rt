@@ -13,8 +13,8 @@ use test_tables::{Kept, Reads, Words, each_part, named};
 ///
 /// - `list`: how many bytes there are up to the end of the records, and these, or what the bytes are refused for
 /// - `make`: the bytes of the book of head end 7 that the records make, or what they are refused for
-/// - `hold`: the bytes of the book that a journal holds, or what it is refused for
-/// - `lack`: how many whole records stand behind its shut gate, or what it is refused for
+/// - `hold`: the bytes of the book that a journal holds, or `none` and how many whole records stand behind its shut gate, or what it is
+///   refused for
 /// - `open`: the bytes of the book that head end 7 opens, or what they are refused for
 /// - `record`: the bytes of the record that they are read as, or what they are refused for
 #[derive(Clone, Copy)]
@@ -32,7 +32,6 @@ impl Reads for Readings {
             "list" => records_text(alloc, &bytes),
             "make" => made_text(alloc, &bytes),
             "hold" => held_text(alloc, &bytes),
-            "lack" => lacked_text(alloc, &bytes),
             "open" => read_text(alloc, &bytes),
             "record" => record_text(alloc, &bytes),
             _ => Err("nothing of this name is made of bytes".into()),
@@ -57,15 +56,12 @@ fn journal_bytes(alloc: Global, records: &str) -> Result<Vec<u8>, Fail> {
 }
 
 pub(crate) fn records_text(alloc: Global, bytes: &[u8]) -> Result<String, Fail> {
-    match read_book(alloc, bytes) {
-        Ok((records, end)) => listed_text(alloc, &records, end),
-        Err(refusal) => Ok(refusal.to_string(alloc)?),
-    }
-}
-
-fn listed_text(alloc: Global, records: &[Vec<u8>], end: u64) -> Result<String, Fail> {
+    let (records, end) = match read_book(alloc, bytes) {
+        Ok(read) => read,
+        Err(refusal) => return Ok(refusal.to_string(alloc)?),
+    };
     let mut text = format!(in alloc; "{end}")?;
-    for record in records {
+    for record in &records {
         text.push(' ')?;
         text.push_str(hex::encode(alloc, record.as_slice())?.as_str())?;
     }
@@ -83,14 +79,7 @@ fn made_text(alloc: Global, bytes: &[u8]) -> Result<String, Fail> {
 fn held_text(alloc: Global, bytes: &[u8]) -> Result<String, Fail> {
     match read_kept(alloc, bytes) {
         Ok((Some(book), _)) => bytes_of(alloc, &book),
-        Ok((None, _)) => Ok(String::from_str(alloc, "none")?),
-        Err(refusal) => Ok(refusal.to_string(alloc)?),
-    }
-}
-
-fn lacked_text(alloc: Global, bytes: &[u8]) -> Result<String, Fail> {
-    match read_kept(alloc, bytes) {
-        Ok((_, records)) => Ok(format!(in alloc; "{records}")?),
+        Ok((None, records)) => Ok(format!(in alloc; "none {records}")?),
         Err(refusal) => Ok(refusal.to_string(alloc)?),
     }
 }
@@ -111,7 +100,7 @@ const LISTED: &str = "
 
 /// The first record is an opening of campaign 1 of head end 7 or 8, of release 5 and image `abc`, for meters 1 to 3.
 const HELD: &str = "
-    hold journal => none
+    hold journal => none 0
     hold journal 010000000700000001000000050100000003616263000000010000000200000003 0200000007000000010000000202 => 46574232000000070000000100000005000000036162630003000000010000000002020000000300
     hold journal 010000000800000001000000050100000003616263000000010000000200000003 => 46574232000000080000000100000005000000036162630003000000010000000002000000000300
     hold journal 030000000800000001 => BadRecord 0
@@ -122,12 +111,11 @@ const HELD: &str = "
 
 /// Records of one byte, 04, behind a shut gate, whatever gate they have. Of the last one a byte is lacking, or its digest is another.
 const LACKED: &str = "
-    lack journal => 0
-    lack bytes 46574a31000000000104e52d9c508c502347344d8c07ad91cbd6068afc75ff6292f062a09ca381c89e7100 => 1
-    lack bytes 46574a31030000000104e52d9c508c502347344d8c07ad91cbd6068afc75ff6292f062a09ca381c89e71010000000104e52d9c508c502347344d8c07ad91cbd6068afc75ff6292f062a09ca381c89e71ff0000000104e52d9c508c502347344d8c07ad91cbd6068afc75ff6292f062a09ca381c89e71 => 3
-    lack bytes 46574a31000000000104e52d9c508c502347344d8c07ad91cbd6068afc75ff6292f062a09ca381c89e71010000000104e52d9c508c502347344d8c07ad91cbd6068afc75ff6292f062a09ca381c89e => 1
-    lack bytes 46574a31000000000104e52d9c508c502347344d8c07ad91cbd6068afc75ff6292f062a09ca381c89e00 => 0
-    lack bytes 46574a31010000000104e52d9c508c502347344d8c07ad91cbd6068afc75ff6292f062a09ca381c89e71000000000104e52d9c508c502347344d8c07ad91cbd6068afc75ff6292f062a09ca381c89e71 => BadRecord 0
+    hold bytes 46574a31000000000104e52d9c508c502347344d8c07ad91cbd6068afc75ff6292f062a09ca381c89e7100 => none 1
+    hold bytes 46574a31030000000104e52d9c508c502347344d8c07ad91cbd6068afc75ff6292f062a09ca381c89e71010000000104e52d9c508c502347344d8c07ad91cbd6068afc75ff6292f062a09ca381c89e71ff0000000104e52d9c508c502347344d8c07ad91cbd6068afc75ff6292f062a09ca381c89e71 => none 3
+    hold bytes 46574a31000000000104e52d9c508c502347344d8c07ad91cbd6068afc75ff6292f062a09ca381c89e71010000000104e52d9c508c502347344d8c07ad91cbd6068afc75ff6292f062a09ca381c89e => none 1
+    hold bytes 46574a31000000000104e52d9c508c502347344d8c07ad91cbd6068afc75ff6292f062a09ca381c89e00 => none 0
+    hold bytes 46574a31010000000104e52d9c508c502347344d8c07ad91cbd6068afc75ff6292f062a09ca381c89e71000000000104e52d9c508c502347344d8c07ad91cbd6068afc75ff6292f062a09ca381c89e71 => BadRecord 0
 ";
 
 /// Records in a journal: what comes of it where head end 7 opens it.
@@ -141,11 +129,6 @@ const OPENED: &str = "
     open journal 010000000700000001000000050100000003616263000000010000000200000003 030000000800000001 => BadRecord 1
     open bytes 46574a32 => BadBook 0
 ";
-
-#[test]
-fn journals_are_read_as_the_book_that_they_hold(rt: HostRuntime) -> Result<(), Fail> {
-    each_part(rt.alloc(), &mut Readings, &[LISTED, HELD, LACKED, OPENED])
-}
 
 /// An opening with an image and two meters, one with the image of an earlier campaign, both marks, a cancelling and endings.
 const GOOD: &str = "
@@ -204,5 +187,6 @@ const MADE: &str = "
 
 #[test]
 fn records_are_read_and_make_a_book(rt: HostRuntime) -> Result<(), Fail> {
-    each_part(rt.alloc(), &mut Readings, &[GOOD, BAD, MADE])
+    let tables = [LISTED, HELD, LACKED, OPENED, GOOD, BAD, MADE];
+    each_part(rt.alloc(), &mut Readings, &tables)
 }

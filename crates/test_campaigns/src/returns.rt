@@ -1,8 +1,5 @@
 //! What leads a row back to `Start`, and the return that ends it.
 
-use crate::head::head_sessions;
-use std::test::Fail;
-
 /// Image `abc` of campaign (7, 1) for a meter with blocks of 3 bytes, up to the initiate.
 const TO_START: &str = "
     open 1 0 abc            => 010000000700000001ba7816bf8f01cfea414140de5dae2223b00361a396177a9cb410ff61f20015ad
@@ -29,12 +26,13 @@ macro_rules! round {
 }
 
 /// The verify is answered by 250. Every fourth round has the same invoke bytes.
-const ROUNDS: [&str; 4] = [
-    round!("c2", "c3", "c4", "c5", "fa00", "Moved, Some(Start)"),
-    round!("c6", "c7", "c8", "c9", "fa00", "Moved, Some(Start)"),
-    round!("ca", "cb", "cc", "cd", "fa00", "Moved, Some(Start)"),
-    round!("ce", "cf", "c0", "c1", "fa00", "Moved, Some(Start)"),
-];
+const FIRST: &str = round!("c2", "c3", "c4", "c5", "fa00", "Moved, Some(Start)");
+
+const SECOND: &str = round!("c6", "c7", "c8", "c9", "fa00", "Moved, Some(Start)");
+
+const THIRD: &str = round!("ca", "cb", "cc", "cd", "fa00", "Moved, Some(Start)");
+
+const FOURTH: &str = round!("ce", "cf", "c0", "c1", "fa00", "Moved, Some(Start)");
 
 const SEVEN: &str = "
     row => Some((Start, 7))
@@ -71,25 +69,21 @@ const POLLED_IN_VAIN: &str = "
     row               => Some((Start, 1))
 ";
 
-#[test]
-fn what_leads_a_row_back(rt: HostRuntime) -> Result<(), Fail> {
-    let [first, second, third, fourth] = ROUNDS;
-    let sessions: &[&[&str]] = &[
-        &[
-            TO_START,
-            first,
-            second,
-            third,
-            fourth,
-            first,
-            second,
-            third,
-            SEVEN,
-            EIGHTH,
-            NOTHING_MORE,
-        ],
-        &[TO_START, TO_POLL, POLLED],
-        &[TO_START, TO_POLL, POLLED_IN_VAIN],
-    ];
-    head_sessions(rt.alloc(), 4, sessions)
-}
+/// Seven rounds end in `Start`, and the eighth ends the row.
+pub(crate) const SESSIONS: &[&[&str]] = &[
+    &[
+        TO_START,
+        FIRST,
+        SECOND,
+        THIRD,
+        FOURTH,
+        FIRST,
+        SECOND,
+        THIRD,
+        SEVEN,
+        EIGHTH,
+        NOTHING_MORE,
+    ],
+    &[TO_START, TO_POLL, POLLED],
+    &[TO_START, TO_POLL, POLLED_IN_VAIN],
+];

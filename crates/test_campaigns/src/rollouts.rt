@@ -27,13 +27,13 @@ const FAILS: &str = "
     due 0                           =>
     comes 1000 9 c401c0000600000002 => Stranger
     comes 1000 2 c401c1000600000000 => Nothing
-    save-due 200000                 => no
+    save-due 200000                 => false
     comes 2000 2 c401c0000600000000 => Ended
-    save-due 101999                 => no
-    save-due 102000                 => yes
+    save-due 101999                 => false
+    save-due 102000                 => true
     saved                           => 2 Failed;
-    save-due 300000                 => no
-    over                            => no
+    save-due 300000                 => false
+    over                            => false
 ";
 
 /// Meter 1 takes the image in two blocks.
@@ -65,10 +65,10 @@ const RUNS: &str = "
 
 /// No row is live, so this is put on the device at once, and all is over.
 const IS_OVER: &str = "
-    over            => no
-    save-due 112000 => yes
+    over            => false
+    save-due 112000 => true
     saved           => 1 Done;
-    over            => yes
+    over            => true
     due 60000000    =>
     counts          => Counts { live: 0, done: 1, failed: 1, sent: 11, received: 12, resends: 0, strangers: 1 }
 ";

@@ -4,6 +4,7 @@
 use crate::book::meter;
 use crate::client::abc_name;
 use crate::head::{apdus_text, carried, width};
+use crate::reopened;
 use crate::subject::Subject;
 use fw_head::{RowCore, RowNews};
 use std::alloc::Global;
@@ -46,17 +47,28 @@ fn row_text(alloc: Global, news: &RowNews, row: &RowCore) -> Result<String, Fail
     })
 }
 
-/// A new row of an image of this release takes the steps of these tables, and so does another one in each session.
-fn row_sessions(alloc: Global, release: u32, sessions: &[&[&str]]) -> Result<(), Fail> {
+/// A row of an image of this release, which is new or of a book that was opened again, takes the steps of these tables, and so does another one in
+/// each session.
+fn row_sessions(
+    alloc: Global,
+    release: u32,
+    is_reopened: bool,
+    sessions: &[&[&str]],
+) -> Result<(), Fail> {
     let (meter, name) = (meter(1)?, abc_name(1, release)?);
     for tables in sessions {
-        each_part(alloc, &mut Subject(RowCore::new(meter, name, 3)), tables)?;
+        let mut row = Subject(if is_reopened {
+            RowCore::reopened(meter, name, 3)
+        } else {
+            RowCore::new(meter, name, 3)
+        });
+        each_part(alloc, &mut row, tables)?;
     }
     Ok(())
 }
 
 /// Up to the ask that enables the meter.
-pub(crate) const TO_ENABLE: &str = "
+const TO_ENABLE: &str = "
     tick                    => c001c0001200002c0000ff0200
     hear c401c0000600000002 => (Moved, Enable, 0)
     tick                    => c101c1001200002c0000ff05000301
@@ -97,12 +109,6 @@ const TO_DONE: &str = "
     tick =>
     hear c701ca0200 => (Nothing, Done, 0)
 ";
-
-#[test]
-fn a_row_is_done(rt: HostRuntime) -> Result<(), Fail> {
-    let tables: &[&str] = &[TO_ENABLE, TO_BLOCKS, TO_CHECK, TO_VERIFY, TO_DONE];
-    row_sessions(rt.alloc(), 0, &[tables])
-}
 
 /// A block size of which the image would have no blocks.
 const NO_SIZE: &str = "
@@ -198,6 +204,7 @@ const OTHER_CLAIM: &str = "
 #[test]
 fn a_row_ends_or_is_led_back(rt: HostRuntime) -> Result<(), Fail> {
     let sessions: &[&[&str]] = &[
+        &[TO_ENABLE, TO_BLOCKS, TO_CHECK, TO_VERIFY, TO_DONE],
         &[NO_SIZE],
         &[TO_ENABLE, NOT_ENABLED],
         &[TO_ENABLE, MADE_NEW],
@@ -206,12 +213,24 @@ fn a_row_ends_or_is_led_back(rt: HostRuntime) -> Result<(), Fail> {
         &[TO_ENABLE, TO_BLOCKS, TO_CHECK, OTHER_BITS],
         &[TO_ENABLE, TO_BLOCKS, TO_CHECK, TO_VERIFY, POLLED],
     ];
-    row_sessions(rt.alloc(), 0, sessions)?;
+    row_sessions(rt.alloc(), 0, false, sessions)?;
     let sessions: &[&[&str]] = &[
         &[TO_ENABLE, TO_START, TOO_LOW],
         &[TO_ENABLE, TO_START, TO_INFO, OTHER_INFO],
         &[TO_ENABLE, TO_START, TO_INFO, TO_CLAIM, OWN_CLAIM],
         &[TO_ENABLE, TO_START, TO_INFO, TO_CLAIM, OTHER_CLAIM],
     ];
-    row_sessions(rt.alloc(), 5, sessions)
+    row_sessions(rt.alloc(), 5, false, sessions)?;
+    let (enable, runs, another) = (TO_ENABLE, reopened::TO_RUNS, reopened::RUNS_ANOTHER);
+    let (one, claim) = (reopened::HAS_ONE, reopened::TO_CLAIM);
+    let sessions: &[&[&str]] = &[
+        &[enable, runs, reopened::RUNS_IT],
+        &[enable, runs, another, reopened::HAS_ALL],
+        &[enable, runs, reopened::RUNS_UNKNOWN, reopened::HAS_OTHERS],
+        &[enable, runs, reopened::RUNS_UNNAMED, reopened::HAS_ALL],
+        &[enable, runs, reopened::MADE_NEW, enable, reopened::STARTS],
+        &[enable, runs, another, one, claim, reopened::CLAIMS_IT],
+        &[enable, runs, another, one, claim, reopened::CLAIMS_ANOTHER],
+    ];
+    row_sessions(rt.alloc(), 0, true, sessions)
 }

@@ -35,17 +35,16 @@ impl Reads for Subject<HeadDaemon<MemoryDevice>> {
         match words.word()? {
             "due" => due_text(alloc, daemon, u64::from(words.number()?)),
             "comes" => heard_text(alloc, daemon, words),
-            "save-due" => answer_text(alloc, daemon.is_save_due(u64::from(words.number()?))),
+            "save-due" => {
+                let is_due = daemon.is_save_due(u64::from(words.number()?));
+                Ok(format!(in alloc; "{is_due}")?)
+            }
             "saved" => saved_text(alloc, daemon),
-            "over" => answer_text(alloc, daemon.is_over()),
+            "over" => Ok(format!(in alloc; "{}", daemon.is_over())?),
             "counts" => Ok(format!(in alloc; "{:?}", daemon.counts())?),
             _ => Err("a daemon takes no such step".into()),
         }
     }
-}
-
-fn answer_text(alloc: Global, answer: bool) -> Result<String, Fail> {
-    Ok(String::from_str(alloc, if answer { "yes" } else { "no" })?)
 }
 
 fn due_text(

@@ -1,6 +1,7 @@
 //! A campaign from its opening to a done row, and what ends a row otherwise.
 
 use crate::head::head_sessions;
+use crate::returns;
 use std::test::Fail;
 
 /// Image `abc` of campaign (7, 1) for a meter with blocks of 2 bytes, up to the ask of what the meter runs then.
@@ -175,6 +176,7 @@ fn what_becomes_of_a_row(rt: HostRuntime) -> Result<(), Fail> {
         &[WAITS],
     ];
     head_sessions(rt.alloc(), 4, sessions)?;
+    head_sessions(rt.alloc(), 4, returns::SESSIONS)?;
     let sessions: &[&[&str]] = &[
         &[TO_GAPS, MISSING],
         &[TO_GAPS, ANOTHER_COUNT],

@@ -1,11 +1,9 @@
 //! What a book shows of itself.
 
-use crate::book::Calls;
 use fw_book::Book;
 use fw_names::{CampaignId, MeterId};
 use std::alloc::Global;
 use std::test::Fail;
-use test_tables::each_line;
 
 pub(crate) fn rows_text(alloc: Global, book: &Book) -> Result<String, Fail> {
     let mut rows = Vec::new(alloc);
@@ -41,7 +39,7 @@ pub(crate) fn meter_text(
 }
 
 /// Two campaigns, the second of release 5: in the first, meter 1 failed, and meter 2 is live. Once that is cancelled none is.
-const SHOWN: &str = "
+pub(crate) const SHOWN: &str = "
     rows open 7 5 0 abc 2 1; fail 7 5 1; open 7 3 5 abd 1                => 7 [(5, 2, Live), (5, 1, Failed), (3, 1, Live)]
     offer 7 5 open 7 5 0 abc 2 1; fail 7 5 1; open 7 3 5 abd 1           => 616263 0 010000000700000005ba7816bf8f01cfea414140de5dae2223b00361a396177a9cb410ff61f20015ad
     offer 7 3 open 7 5 0 abc 2 1; fail 7 5 1; open 7 3 5 abd 1           => 616264 5 02000000070000000300000005a52d159f262b2c6ddb724a61840befc36eb30c88877a4030b65cbe86298449c9
@@ -52,8 +50,3 @@ const SHOWN: &str = "
     meter 5 3 open 7 5 0 abc 2 1; fail 7 5 1; open 7 3 5 abd 1           => (None, Some((None, false, true)), false)
     meter 5 2 open 7 5 0 abc 2 1; fail 7 5 1; open 7 3 5 abd 1; cancel 7 5 => (Some(Cancelled), Some((Some(Cancelled), false, false)), false)
 ";
-
-#[test]
-fn what_is_shown(rt: HostRuntime) -> Result<(), Fail> {
-    each_line(rt.alloc(), &mut Calls, SHOWN)
-}

@@ -35,33 +35,6 @@ impl File {
         Ok(())
     }
 
-    fn get(&self, at: u64, out: &mut [u8]) -> Result<(), DeviceFault> {
-        let start = at as usize;
-        let bytes = self
-            .bytes
-            .get(start..start.saturating_add(out.len()))
-            .ok_or(DeviceFault)?;
-        out.copy_from_slice(bytes);
-        Ok(())
-    }
-
-    /// Writes bytes over those from `at` on, and others in place of all from `last_at` on, with which the file ends then: all of them or
-    /// none.
-    fn put_both(
-        &mut self,
-        at: u64,
-        bytes: &[u8],
-        last_at: u64,
-        last: &[u8],
-    ) -> Result<(), DeviceFault> {
-        if !self.has_room(bytes.len().saturating_add(last.len())) {
-            return Err(DeviceFault);
-        }
-        self.set_len(last_at.saturating_add(last.len() as u64))?;
-        self.put(at, bytes)?;
-        self.put(last_at, last)
-    }
-
     /// Writes as many of these bytes over those from `at` on as the disk takes, and fails where they aren't all.
     fn put(&mut self, at: u64, bytes: &[u8]) -> Result<(), DeviceFault> {
         let start = at as usize;
@@ -117,14 +90,6 @@ impl Disk {
             Err(_) => Err("the file is being written".into()),
         }
     }
-
-    /// Whether these are the bytes of the file.
-    pub(crate) fn holds(&self, bytes: &[u8]) -> bool {
-        match self.file.try_borrow() {
-            Ok(file) => file.bytes.as_slice() == bytes,
-            Err(_) => false,
-        }
-    }
 }
 
 // What it holds is known by tests alone.
@@ -152,10 +117,13 @@ impl ByteDevice for Disk {
     }
 
     fn read_at(&mut self, at: u64, out: &mut [u8]) -> Result<(), DeviceFault> {
-        match self.file.try_borrow() {
-            Ok(file) => file.get(at, out),
-            Err(_) => Err(DeviceFault),
-        }
+        let Ok(file) = self.file.try_borrow() else {
+            return Err(DeviceFault);
+        };
+        let start = at as usize;
+        let end = start.saturating_add(out.len());
+        out.copy_from_slice(file.bytes.get(start..end).ok_or(DeviceFault)?);
+        Ok(())
     }
 
     fn write_at(&mut self, at: u64, bytes: &[u8]) -> Result<(), DeviceFault> {
@@ -172,6 +140,8 @@ impl ByteDevice for Disk {
         }
     }
 
+    /// Writes bytes over those from `at` on, and others in place of all from `last_at` on, with which the file ends then: all of them or
+    /// none.
     fn replace_both(
         &mut self,
         at: u64,
@@ -180,8 +150,12 @@ impl ByteDevice for Disk {
         last: &[u8],
     ) -> Result<(), DeviceFault> {
         match self.file.try_borrow_mut() {
-            Ok(mut file) => file.put_both(at, bytes, last_at, last),
-            Err(_) => Err(DeviceFault),
+            Ok(mut file) if file.has_room(bytes.len().saturating_add(last.len())) => {
+                file.set_len(last_at.saturating_add(last.len() as u64))?;
+                file.put(at, bytes)?;
+                file.put(last_at, last)
+            }
+            _ => Err(DeviceFault),
         }
     }
 }

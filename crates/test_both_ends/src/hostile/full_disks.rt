@@ -76,99 +76,61 @@ fn reads_of(alloc: Global, reads: &[Vec<u8>], file: &[u8]) -> Result<Vec<u8>, Fa
     replies(alloc, &disk, reads)
 }
 
-/// What is known of an operation: the names of its request and its two replies, and the files before it and after it.
-#[derive(Clone, Copy)]
-struct Operation<'a> {
-    names: &'a str,
-    before: &'a [u8],
-    after: &'a [u8],
-}
-
-/// The operation of this line with room for each number of bytes up to those that it writes, and on a disk that is only read.
-fn on_disks(
-    alloc: Global,
-    line: &str,
-    before: &[u8],
-    after: &[u8],
-) -> Result<(usize, usize), Fail> {
+/// The operation of this line, between these files, with room for each number of bytes up to those that it writes. The meter is as before where
+/// that doesn't suffice, and else as after it.
+fn on_full_disks(alloc: Global, line: &str, before: &[u8], after: &[u8]) -> Result<usize, Fail> {
     let (names, numbers) = present(line.split_once(':'), "names and numbers")?;
-    let mut words = Words::new(numbers);
-    let [start, end, writes]: [u32; 3] = words.read()?;
-    let operation = Operation {
-        names,
-        before,
-        after,
-    };
+    let [start, end, writes]: [u32; 3] = Words::new(numbers).read()?;
     let reads = datagrams(alloc, READS)?;
-    let block = (start as usize, end as usize);
-    let full = on_full_disks(alloc, operation, &reads, block, writes as usize)?;
-    let only_read = on_read_only_disk(alloc, operation, &reads)?;
-    Ok((full, only_read))
-}
-
-fn on_full_disks(
-    alloc: Global,
-    operation: Operation<'_>,
-    reads: &[Vec<u8>],
-    block: (usize, usize),
-    writes: usize,
-) -> Result<usize, Fail> {
-    let old = reads_of(alloc, reads, operation.before)?;
-    let new = reads_of(alloc, reads, operation.after)?;
-    for room in 0..=writes {
-        let found = left_by(alloc, operation, block, room, room == writes)?;
-        let want = if room == writes { &new } else { &old };
-        if reads_of(alloc, reads, &found)? != *want {
-            return failed(alloc, "another meter", room);
+    let old = reads_of(alloc, &reads, before)?;
+    let new = reads_of(alloc, &reads, after)?;
+    let mut tried = 0usize;
+    for room in 0..=writes as usize {
+        let suffices = room == writes as usize;
+        let found = left_by(alloc, names, before, room, suffices)?;
+        let (want, is_right) = if suffices {
+            (&new, found.as_slice() == after)
+        } else {
+            (
+                &old,
+                is_between(&found, before, after, start as usize, end as usize),
+            )
+        };
+        if !is_right || reads_of(alloc, &reads, &found)? != *want {
+            return failed(alloc, "another file or another meter", room);
         }
+        tried = tried.saturating_add(1);
     }
-    Ok(writes.saturating_add(1))
+    Ok(tried)
 }
 
-/// The file after an operation with so much room, which suffices or not. Where it doesn't, it has the reply of a fault, and the file is as before,
-/// except in the block that it writes.
+/// The file after an operation with so much room. It is done where that suffices, and else has the reply of a fault.
 fn left_by(
     alloc: Global,
-    operation: Operation<'_>,
-    (start, end): (usize, usize),
+    names: &str,
+    before: &[u8],
     room: usize,
     suffices: bool,
 ) -> Result<Vec<u8>, Fail> {
-    let Operation {
-        names,
-        before,
-        after,
-    } = operation;
     let disk = Disk::with(alloc, before)?;
     disk.set_room(Some(room));
     if is_done(alloc, &disk, names)? != suffices {
         return failed(alloc, "another reply", room);
     }
-    let found = disk.bytes(alloc)?;
-    let is_right = if suffices {
-        found.as_slice() == after
-    } else {
-        is_between(&found, before, after, start, end)
-    };
-    if !is_right {
-        return failed(alloc, "another file", room);
-    }
-    Ok(found)
+    disk.bytes(alloc)
 }
 
 /// An operation on a disk that is only read, and then the reads: these are answered as on any other disk.
-fn on_read_only_disk(
-    alloc: Global,
-    operation: Operation<'_>,
-    reads: &[Vec<u8>],
-) -> Result<usize, Fail> {
-    let disk = Disk::with(alloc, operation.before)?;
-    let want = replies(alloc, &disk, reads)?;
+fn on_read_only_disk(alloc: Global, line: &str, before: &[u8]) -> Result<usize, Fail> {
+    let (names, _) = present(line.split_once(':'), "names and numbers")?;
+    let reads = datagrams(alloc, READS)?;
+    let disk = Disk::with(alloc, before)?;
+    let want = replies(alloc, &disk, &reads)?;
     disk.set_room(None);
-    if is_done(alloc, &disk, operation.names)? {
+    if is_done(alloc, &disk, names)? {
         return failed(alloc, "the operation is done", 0);
     }
-    if replies(alloc, &disk, reads)? != want || !disk.holds(operation.before) {
+    if replies(alloc, &disk, &reads)? != want || disk.bytes(alloc)?.as_slice() != before {
         return failed(alloc, "it isn't as before", 0);
     }
     Ok(reads.len().saturating_add(1))
@@ -182,9 +144,8 @@ fn operations_on_a_disk_that_is_full_or_only_read(rt: HostRuntime) -> Result<(),
     let files = files(alloc)?;
     let (mut full, mut only_read) = (0usize, 0usize);
     for (line, (before, after)) in CAMPAIGN.lines().zip(files.iter().zip(files.iter().skip(1))) {
-        let tried = on_disks(alloc, line, before, after)?;
-        full = full.saturating_add(tried.0);
-        only_read = only_read.saturating_add(tried.1);
+        full = full.saturating_add(on_full_disks(alloc, line, before, after)?);
+        only_read = only_read.saturating_add(on_read_only_disk(alloc, line, before)?);
     }
     expect_tried(alloc, full, 12_953 + 7)?;
     expect_tried(alloc, only_read, 7 * (1 + 7))
@@ -221,7 +182,7 @@ fn opened_on_full_disks(alloc: Global, old: &[u8], new: &[u8]) -> Result<usize, 
         let disk = Disk::with(alloc, old)?;
         let is_opened = is_opened(&disk, Some(room))?;
         let want = if room == 2_158 { new } else { old };
-        if is_opened != (room == 2_158) || !disk.holds(want) {
+        if is_opened != (room == 2_158) || disk.bytes(alloc)?.as_slice() != want {
             return failed(alloc, "another file", room);
         }
         tried = tried.saturating_add(1);
@@ -233,12 +194,15 @@ fn opened_on_full_disks(alloc: Global, old: &[u8], new: &[u8]) -> Result<usize, 
 /// answers the reads as the one in the new file.
 fn on_read_only_disk_as_old(alloc: Global, old: &[u8], new: &[u8]) -> Result<(), Fail> {
     let reads = datagrams(alloc, READS)?;
-    let want = reads_of(alloc, &reads, new)?;
     let disk = Disk::with(alloc, old)?;
     if is_opened(&disk, None)? {
         return failed(alloc, "it is opened", old.len());
     }
-    if kept_reads(alloc, &disk, &reads)? != want || !disk.holds(old) {
+    let replies = match MeterCore::open_kept(DeviceStore::reopen_on(disk.open()?)?) {
+        Ok(mut meter) => support::replies(alloc, &mut meter, &reads)?,
+        Err((error, _store)) => return Err(error.into()),
+    };
+    if replies != reads_of(alloc, &reads, new)? || disk.bytes(alloc)?.as_slice() != old {
         return failed(alloc, "another meter", old.len());
     }
     Ok(())
@@ -262,24 +226,16 @@ fn an_old_store_on_a_disk_that_is_full_or_only_read(rt: HostRuntime) -> Result<(
     expect_tried(alloc, only_read, 8 * 2)
 }
 
-/// The replies to the reads of the meter in the file on a disk, whose header is kept.
-fn kept_reads(alloc: Global, disk: &Disk, reads: &[Vec<u8>]) -> Result<Vec<u8>, Fail> {
-    match MeterCore::open_kept(DeviceStore::reopen_on(disk.open()?)?) {
-        Ok(mut meter) => support::replies(alloc, &mut meter, reads),
-        Err((error, _store)) => Err(error.into()),
-    }
-}
-
-/// Whether a store is made, over the file of another one, on a disk with this room.
+/// Whether a store is made on a disk with this room, over the file of another one.
 fn is_made(disk: &Disk, room: Room) -> Result<bool, Fail> {
     disk.set_room(room);
-    let made = match DeviceStore::create_on(disk.open()?, 8, 2, b"x") {
-        Ok(_store) => true,
-        Err(FileStoreError::StoreFault) => false,
-        Err(refusal) => return Err(refusal.into()),
-    };
+    let made = DeviceStore::create_on(disk.open()?, 8, 2, b"x").err();
     disk.set_room(Some(usize::MAX));
-    Ok(made)
+    match made {
+        None => Ok(true),
+        Some(FileStoreError::StoreFault) => Ok(false),
+        Some(refusal) => Err(refusal.into()),
+    }
 }
 
 /// Whether there is a store on the disk.
@@ -291,16 +247,6 @@ fn holds_a_store(disk: &Disk) -> Result<bool, Fail> {
     }
 }
 
-/// A store is made with so much room over this file: it is there where it was made, which it is with room for all.
-fn made_with_room(alloc: Global, file: &[u8], room: usize) -> Result<(), Fail> {
-    let disk = Disk::with(alloc, file)?;
-    let made = is_made(&disk, Some(room))?;
-    if made != (room == 2_163) || holds_a_store(&disk)? != made {
-        return failed(alloc, "a store that isn't whole", room);
-    }
-    Ok(())
-}
-
 /// What is made in part is no store: the capacity, which is written last, isn't there. The image has one byte, the header 2,158 and the
 /// capacity 4. On a disk that is only read the file stays.
 #[test]
@@ -310,12 +256,16 @@ fn a_store_on_a_disk_that_is_full_or_only_read(rt: HostRuntime) -> Result<(), Fa
     let file = present(files.last(), "a file")?;
     let mut tried = 0usize;
     for room in 0..=2_163 {
-        made_with_room(alloc, file, room)?;
+        let disk = Disk::with(alloc, file)?;
+        let made = is_made(&disk, Some(room))?;
+        if made != (room == 2_163) || holds_a_store(&disk)? != made {
+            return failed(alloc, "a store that isn't whole", room);
+        }
         tried = tried.saturating_add(1);
     }
     expect_tried(alloc, tried, 2_164)?;
     let disk = Disk::with(alloc, file)?;
-    if is_made(&disk, None)? || !disk.holds(file) {
+    if is_made(&disk, None)? || disk.bytes(alloc)?.as_slice() != file.as_slice() {
         return failed(alloc, "a store is made", 0);
     }
     Ok(())

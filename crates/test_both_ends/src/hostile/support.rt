@@ -49,20 +49,10 @@ pub(crate) fn replies<S: ImageStore + Drop>(
 ) -> Result<Vec<u8>, Fail> {
     let mut replies = Vec::new(alloc);
     for ask in asks {
-        push_reply(alloc, meter, ask, &mut replies)?;
+        let reply = present(meter.handle(alloc, ask)?.reply, "a reply")?;
+        replies.extend_from_slice(&reply)?;
     }
     Ok(replies)
-}
-
-fn push_reply<S: ImageStore + Drop>(
-    alloc: Global,
-    meter: &mut MeterCore<S>,
-    ask: &[u8],
-    replies: &mut Vec<u8>,
-) -> Result<(), Fail> {
-    let reply = present(meter.handle(alloc, ask)?.reply, "a reply")?;
-    replies.extend_from_slice(&reply)?;
-    Ok(())
 }
 
 /// The meter in a store.

@@ -39,23 +39,9 @@ impl Made {
         }
         Ok(())
     }
-
-    /// The report of the world that an audit returns, or its refusal.
-    fn audited(&self, alloc: Global) -> Result<String, Fail> {
-        let Parts {
-            heads,
-            meters,
-            sent,
-            ..
-        } = &self.parts;
-        match audit(alloc, &self.setup, &self.events, heads, meters, sent) {
-            Ok(world) => report(alloc, &self.setup, &world),
-            Err(refusal) => Ok(refusal.to_string(alloc)?),
-        }
-    }
 }
 
-/// Audits of the parts of runs, of rows `SETUP SCRIPT CHANGE`.
+/// Audits of the parts of runs, of rows `SETUP SCRIPT CHANGE`: the report of the world that an audit returns, or its refusal.
 #[derive(Clone, Copy)]
 struct Audited;
 
@@ -72,7 +58,16 @@ impl Reads for Audited {
             parts,
         };
         made.change(alloc, change)?;
-        made.audited(alloc)
+        let Parts {
+            heads,
+            meters,
+            sent,
+            ..
+        } = &made.parts;
+        match audit(alloc, &made.setup, &made.events, heads, meters, sent) {
+            Ok(world) => report(alloc, &made.setup, &world),
+            Err(refusal) => Ok(refusal.to_string(alloc)?),
+        }
     }
 }
 

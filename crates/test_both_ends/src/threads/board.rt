@@ -59,27 +59,17 @@ fn mark_is_seen(rt: HostRuntime) -> Result<(), Fail> {
     Ok(())
 }
 
-#[test]
-fn own_mark(rt: HostRuntime) -> Result<(), Fail> {
-    let (board, mut seat) = Board::new(rt.alloc(), 0)?;
-    board.add(&mut seat);
-    let seen = board.seen(&mut seat);
-    let (count, _) = board.close(seat);
-    assert!(rt; seen >= 1);
-    assert_eq!(rt; count, 1);
-    Ok(())
-}
-
 /// Three seats at a board that counted 7, each split from the one before, of which the second and the third add a mark. The marks that are left:
 /// to the first at first, after the split, and after the third joins it; to the second after its mark, and after its split. Then what the first
-/// sees after the second's mark, the count at the end, and how many receipts there are.
-fn moved(alloc: Global) -> Result<[u64; 8], Fail> {
+/// and the second see after the second's mark, the count at the end, and how many receipts there are.
+fn moved(alloc: Global) -> Result<[u64; 9], Fail> {
     let (board, mut first) = Board::new(alloc, 7)?;
     let all = first.allowance();
     let mut second = board.split(alloc, &mut first, 3)?;
     let kept = first.allowance();
     board.add(&mut second);
     let (marked, seen) = (second.allowance(), board.seen(&mut first));
+    let own = board.seen(&mut second);
     let mut third = board.split(alloc, &mut second, 2)?;
     board.add(&mut third);
     let split = second.allowance();
@@ -87,7 +77,7 @@ fn moved(alloc: Global) -> Result<[u64; 8], Fail> {
     let joined = first.allowance();
     let (count, last) = board.close(first);
     let told = receipts.len().saturating_add(last.len()) as u64;
-    Ok([all, kept, joined, marked, split, seen, count, told])
+    Ok([all, kept, joined, marked, split, seen, own, count, told])
 }
 
 #[test]
@@ -95,7 +85,7 @@ fn marks_move_between_seats(rt: HostRuntime) -> Result<(), Fail> {
     let moved = moved(rt.alloc())?;
     assert_eq!(rt;
         moved,
-        [1 << 63, (1 << 63) - 3, (1 << 63) - 2, 2, 0, 8, 9, 0]
+        [1 << 63, (1 << 63) - 3, (1 << 63) - 2, 2, 0, 8, 8, 9, 0]
     );
     Ok(())
 }

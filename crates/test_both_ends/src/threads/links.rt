@@ -14,15 +14,6 @@ fn all_links(alloc: Global) -> Result<Vec<LinkQueue>, Fail> {
     Ok(links_of(alloc, &setup, &world)?)
 }
 
-/// The numbers of their ends.
-fn ends(alloc: Global, links: &[LinkQueue]) -> Result<String, Fail> {
-    let mut ends = Vec::new(alloc);
-    for link in links {
-        ends.push((link.head().number(), link.meter().number()))?;
-    }
-    Ok(format!(in alloc; "{:?}", ends.as_slice())?)
-}
-
 /// A link and the fates of its datagrams. A row has the numbers of datagrams, from the first to after the last: it tells those of them that
 /// come, and those that are late.
 #[derive(Drop)]
@@ -57,7 +48,11 @@ fn links(rt: HostRuntime) -> Result<(), Fail> {
     let alloc = rt.alloc();
     let mut links = all_links(alloc)?;
     // By head ends and then by meters, in the order of the setup.
-    let told = ends(alloc, &links)?;
+    let mut ends = Vec::new(alloc);
+    for link in &links {
+        ends.push((link.head().number(), link.meter().number()))?;
+    }
+    let told = format!(in alloc; "{:?}", ends.as_slice())?;
     expect_at(
         alloc,
         "links",

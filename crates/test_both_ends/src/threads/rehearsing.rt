@@ -23,22 +23,9 @@ pub(crate) fn rehearsed<R: Threads + Wait + Sync>(
     mut words: Words<'_>,
 ) -> Result<String, Fail> {
     let task = Task::of(alloc, &mut words)?;
-    let air = words.word()?;
-    let gate = Rules::of(&mut words)?;
-    ended(rt, alloc, &task, air, &gate, words.next())
-}
-
-/// How a rehearsal ends.
-fn ended<R: Threads + Wait + Sync>(
-    rt: &R,
-    alloc: Global,
-    task: &Task,
-    air: &str,
-    gate: &Rules,
-    asked: Option<&str>,
-) -> Result<String, Fail> {
-    let fates = fates_of(alloc, air)?;
+    let fates = fates_of(alloc, words.word()?)?;
     let fates = present(Fates::new(&fates), "1 to 4,096 fates")?;
+    let gate = Rules::of(&mut words)?;
     let made = rehearse(
         rt,
         alloc,
@@ -47,10 +34,10 @@ fn ended<R: Threads + Wait + Sync>(
         task.rounds,
         task.workers,
         &fates,
-        gate,
+        &gate,
     );
-    let holds = match asked {
-        Some("scheduled") => return scheduled(alloc, task, &fates, &made?),
+    let holds = match words.next() {
+        Some("scheduled") => return scheduled(alloc, &task, &fates, &made?),
         Some("releases_rise") => never_falls(made?.world.activations()),
         Some("each_event_passed") => are_within(&made?.receipts, gate.passes()),
         asked => return outcome(alloc, &task.setup, made, asked),
@@ -110,64 +97,22 @@ fn told_as(
     Ok(format!(in alloc; "{:?}", (receipts.len(), turns))?)
 }
 
-/// What two workers do together over bad air. Each link is done in its sixteenth round, when thirty datagrams were sent on it.
-const MET: &str = "
+/// What two workers do together over bad air, also where one of them is held. Each link is done in its sixteenth round, when thirty datagrams were
+/// sent on it. Each worker's passes are counted from 0 on, and there is one before each event.
+const GATED: &str = "
     rehearse four opened_for_four 40 2 bad meet => four_done_over_bad_air
-";
-
-#[test]
-fn two_workers_meet(rt: HostRuntime) -> Result<(), Fail> {
-    each_row(&rt, rt.alloc(), MET)
-}
-
-const HELD: &str = "
     rehearse four opened_for_four 40 2 bad held 0 => four_done_over_bad_air
     rehearse four opened_for_four 40 2 bad held 1 => four_done_over_bad_air
-";
-
-#[test]
-fn one_held(rt: HostRuntime) -> Result<(), Fail> {
-    each_row(&rt, rt.alloc(), HELD)
-}
-
-const SHUT: &str = "
     rehearse four opened_for_four 40 2 bad below 4 => GateShut
-";
-
-#[test]
-fn count_gate(rt: HostRuntime) -> Result<(), Fail> {
-    each_row(&rt, rt.alloc(), SHUT)
-}
-
-/// Each worker's passes are counted from 0 on, and there is one before each event.
-const COUNTED: &str = "
     rehearse four opened_for_four 40 2 bad counted each_event_passed => true
 ";
 
-#[test]
-fn each_event_passes(rt: HostRuntime) -> Result<(), Fail> {
-    each_row(&rt, rt.alloc(), COUNTED)
-}
-
-/// Both links of each meter have different workers. Which image a meter has at the end isn't fixed, nor how many rows are done.
+/// Both links of each meter have different workers. Which image a meter has at the end isn't fixed, nor how many rows are done. With a release
+/// of each head end no meter goes back to a lower one.
 const BY_THREE: &str = "
     rehearse two_heads opened_by_two 40 3 good open board_counts_rows => true
-";
-
-#[test]
-fn two_heads(rt: HostRuntime) -> Result<(), Fail> {
-    each_row(&rt, rt.alloc(), BY_THREE)
-}
-
-/// The same with a release of each head end: no meter goes back to a lower one.
-const RELEASES_BY_THREE: &str = "
     rehearse two_heads released_by_two 40 3 good open releases_rise => true
 ";
-
-#[test]
-fn releases_of_two_heads(rt: HostRuntime) -> Result<(), Fail> {
-    each_row(&rt, rt.alloc(), RELEASES_BY_THREE)
-}
 
 const REHEARSALS: &str = "
     rehearse four opened_for_four 40 1 bad open => four_done_over_bad_air
@@ -175,6 +120,11 @@ const REHEARSALS: &str = "
     // some workers have no link
     rehearse four opened_for_four 40 8 bad open => four_done_over_bad_air
     rehearse small opened 9 1 good open         => one_done
+
+    // each worker has two links of four, or one of two whose meters take two turns
+    rehearse four opened_for_four 9 2 good open => four_done
+    rehearse two_large opened_two_large 13 2 good open => \
+        ([(7, 1, 1, Done), (7, 1, 2, Done)], [(1, 6, 7, 1, 8193), (2, 6, 7, 1, 8193)], 2, 76); board 2
 
     // without rounds, and after a campaign that has ended: its row is on the board from the start
     rehearse small opened 0 2 good open         => ([(7, 1, 1, Live)], [(1, 0, 0, 0, 1)], 0, 0); board 0
@@ -188,6 +138,11 @@ const REHEARSALS: &str = "
     rehearse large opened_large 12 1 good open  => ([(7, 1, 1, Live)], [(1, 6, 7, 1, 8193)], 1, 36); board 0
     rehearse large opened_large 13 1 good open  => ([(7, 1, 1, Done)], [(1, 6, 7, 1, 8193)], 1, 38); board 1
 
+    // 65 blocks of 1,024 bytes at most, in windows of 15, and 17 slices, of which the verify digests the first. The rounds are three for the
+    // meter's attributes and the initiate, five for the blocks, a check, a verify, one for each poll of the status, until the sixteenth finds
+    // it verified, and three up to the end: 3 + 5 + 1 + 1 + 16 + 3
+    rehearse largest opened_largest 29 1 good open => ([(7, 1, 1, Done)], [(1, 6, 7, 1, 65537)], 1, 178); board 1
+
     // the setup comes first: no workers and nine workers, where there are 1 to 8, and what no world is made with
     rehearse small   opened       9 0 good open => BadSetup
     rehearse small   opened       9 9 good open => BadSetup
@@ -200,17 +155,13 @@ const REHEARSALS: &str = "
     rehearse small   not_sent_yet 9 2 good open => Event(3)
 ";
 
-#[test]
-fn rehearsals(rt: HostRuntime) -> Result<(), Fail> {
-    each_row(&rt, rt.alloc(), REHEARSALS)
-}
-
 /// Each round has a tick of each link. Of the datagrams of a link over bad air, thirty up to the end of its campaign, ten of each twelve
 /// come.
 const SCHEDULED: &str = "
     rehearse small opened          9  1 good open scheduled            => (29, 0)
     rehearse four  opened_for_four 40 1 bad open scheduled             => (260, 0)
     rehearse large opened_large    13 1 good open scheduled            => (53, 2)
+    rehearse largest opened_largest 29 1 good open scheduled           => (223, 16)
     // what is late
     rehearse small opened          3  1 late,deliver open scheduled    => (7, 0)
     rehearse small opened          11 1 deliver,late open scheduled    => (33, 0)
@@ -218,6 +169,9 @@ const SCHEDULED: &str = "
 ";
 
 #[test]
-fn one_worker_makes_the_schedule(rt: HostRuntime) -> Result<(), Fail> {
-    each_row(&rt, rt.alloc(), SCHEDULED)
+fn rehearsals(rt: HostRuntime) -> Result<(), Fail> {
+    for table in [GATED, BY_THREE, REHEARSALS, SCHEDULED] {
+        each_row(&rt, rt.alloc(), table)?;
+    }
+    Ok(())
 }

@@ -1,18 +1,18 @@
 //! Rows of what threads make. They are read by functions and not by `Reads`, whose method can't ask that a handle of threads is shared.
 
-use crate::threads::live::rolled_out;
+use crate::threads::live::{over_sockets, rolled_out};
 use crate::threads::rehearsing::rehearsed;
 use crate::threads::shares::{both_refused, dealt_to, linked};
-use crate::threads::sharing::joined;
 use crate::threads::support::REPORTS;
 use std::alloc::Global;
+use std::net::Net;
 use std::sync::Wait;
 use std::test::Fail;
 use std::thread::Threads;
 use test_tables::{Words, expect_at, named, present};
 
 /// Each row tells what stands after its arrow, or what that is the name of.
-pub(crate) fn each_row<R: Threads + Wait + Sync>(
+pub(crate) fn each_row<R: Threads + Wait + Net + Sync>(
     rt: &R,
     alloc: Global,
     table: &str,
@@ -35,12 +35,12 @@ pub(crate) fn each_row<R: Threads + Wait + Sync>(
 }
 
 /// What a row tells, by its first word.
-fn told<R: Threads + Wait + Sync>(rt: &R, alloc: Global, what: &str) -> Result<String, Fail> {
+fn told<R: Threads + Wait + Net + Sync>(rt: &R, alloc: Global, what: &str) -> Result<String, Fail> {
     let mut words = Words::new(what);
     match words.word()? {
         "rehearse" => rehearsed(rt, alloc, words),
         "live" => rolled_out(rt, alloc, words),
-        "join" => joined(rt, alloc, words),
+        "sockets" => over_sockets(rt, alloc, words),
         "link" => linked(rt, alloc, words),
         "refused" => both_refused(rt, alloc, words),
         "dealt" => dealt_to(alloc, words),

@@ -7,7 +7,6 @@ use crate::threads::gates::Rules;
 use crate::threads::rows::each_row;
 use crate::threads::support::{events_in, outcome, setup_in};
 use crate::worlds::{head, meter};
-use fw_air::Sent;
 use fw_names::{HeadId, MeterId};
 use fw_workers::{
     Gate, RehearseError, RoundsError, Share, SharedWorld, Task, Worker, begin, dealt, work,
@@ -25,30 +24,6 @@ struct GoodLink {
     meter: MeterId,
 }
 
-impl GoodLink {
-    /// What the head end sent comes to the meter, and each reply to the head end.
-    fn deliver<R: Wait, G: Gate>(
-        &self,
-        rt: &R,
-        alloc: Global,
-        shared: &SharedWorld,
-        worker: &mut Worker<'_, G>,
-        asked: Sent,
-    ) -> Result<(), RoundsError>
-        requires { worker.old.board ≡ shared.now.board.id }
-        ensures { worker.new.board ≡ worker.old.board }
-    {
-        let end = asked.first.saturating_add(asked.count);
-        'datagrams: for number in asked.first..end {
-            let reply = shared.serve(rt, alloc, worker, self.meter, number)?;
-            if reply.count == 1 {
-                shared.hear(rt, alloc, worker, self.head, reply.first)?;
-            }
-        }
-        Ok(())
-    }
-}
-
 impl Share for GoodLink {
     ghost may_end = { λ _ _ _. Unit {0} };
 
@@ -62,7 +37,13 @@ impl Share for GoodLink {
     ) -> Result<(), RoundsError> {
         'rounds: for _ in 0..rounds {
             let asked = shared.tick(rt, alloc, worker, self.head, self.meter)?;
-            self.deliver(rt, alloc, shared, worker, asked)?;
+            let end = asked.first.saturating_add(asked.count);
+            'datagrams: for number in asked.first..end {
+                let reply = shared.serve(rt, alloc, worker, self.meter, number)?;
+                if reply.count == 1 {
+                    shared.hear(rt, alloc, worker, self.head, reply.first)?;
+                }
+            }
             shared.turn(rt, alloc, worker, self.meter)?;
         }
         Ok(())
@@ -167,34 +148,19 @@ pub(crate) fn dealt_to(alloc: Global, mut words: Words<'_>) -> Result<String, Fa
     Ok(format!(in alloc; "{:?}", shares.as_slice())?)
 }
 
-/// The campaign's own link, and two of which one end isn't there.
+/// The campaign's own link, and two of which one end isn't there. Then the refusals of two workers: the lowest one's is returned, and where none
+/// is refused, the rounds that they didn't make are missed. Then the number of workers and links, and what each worker is dealt.
 const SHARES: &str = "
     link 7 1 => one_done
     link 8 1 => Mismatch
     link 7 2 => Mismatch
-";
 
-#[test]
-fn shares_of_its_own(rt: HostRuntime) -> Result<(), Fail> {
-    each_row(&rt, rt.alloc(), SHARES)
-}
-
-/// The lowest worker's refusal is returned. Where none is refused, the rounds that they didn't make are missed.
-const REFUSALS: &str = "
     refused gate_shut     out_of_memory => GateShut
     refused out_of_memory gate_shut     => OutOfMemory
     refused none          gate_shut     => GateShut
     refused out_of_memory none          => OutOfMemory
     refused none          none          => Mismatch
-";
 
-#[test]
-fn the_lowest_workers_refusal_is_told(rt: HostRuntime) -> Result<(), Fail> {
-    each_row(&rt, rt.alloc(), REFUSALS)
-}
-
-/// The number of workers and links, and what each worker is dealt.
-const DEALT: &str = "
     dealt 2 7 8 9 7 6 => [[7, 9, 6], [8, 7]]
     dealt 3 7 8       => [[7], [8], []]
     dealt 1 7 8       => [[7, 8]]
@@ -202,6 +168,6 @@ const DEALT: &str = "
 ";
 
 #[test]
-fn links_are_dealt_in_turn(rt: HostRuntime) -> Result<(), Fail> {
-    each_row(&rt, rt.alloc(), DEALT)
+fn shares(rt: HostRuntime) -> Result<(), Fail> {
+    each_row(&rt, rt.alloc(), SHARES)
 }

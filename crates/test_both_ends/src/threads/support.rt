@@ -3,18 +3,19 @@
 use crate::worlds::{done_rows, events_of, report, setup_of};
 use fw_accounts::Report;
 use fw_workers::RehearseError;
-use fw_world::{Event, Setup, World};
+use fw_world::{Event, Setup};
 use std::alloc::Global;
 use std::test::Fail;
 use test_tables::{Words, named};
 
-/// What worlds are made with: one meter, four, four of two head ends that compete for them, one with blocks of 1,024 bytes, two such ones,
-/// one without a head end, and an old one.
+/// What worlds are made with: one meter, four, four of two head ends that compete for them, one with blocks of 1,024 bytes, one with more bytes
+/// than two bytes can count, two, one without a head end, and an old one.
 const SETUPS: &str = "
     small     = head 7 4; meter 1 2 64 x
     four      = head 7 4; meter 1 2 64 x; meter 2 2 64 x; meter 3 2 64 x; meter 4 2 64 x
     two_heads = head 7 4; head 8 4; meter 1 2 64 x; meter 2 2 64 x; meter 3 2 64 x; meter 4 2 64 x
     large     = head 7 4; meter 1 1024 8193 x
+    largest   = head 7 15; meter 1 1024 65537 x
     two_large = head 7 4; meter 1 1024 8193 x; meter 2 1024 8193 x
     no_head   = meter 1 2 64 x
     old_small = head 7 4; old 1 2 64 x
@@ -37,6 +38,7 @@ const SCRIPTS: &str = "
     opened_by_two    = open 7 1 abc 1 2 3 4; open 8 1 def 1 2 3 4
     released_by_two  = open-release 7 1 5 abc 1 2 3 4; open-release 8 1 4 def 1 2 3 4
     opened_large     = open 7 1 a*8193 1
+    opened_largest   = open-release 7 1 65536 a*65537 1
     opened_two_large = open 7 1 a*8193 1 2
     turned           = open 7 1 a*4097 1; tick 7 1; deliver 0 1; tick 7 1; deliver 2 3; tick 7 1; deliver 4 5; tick 7 1; \
                        deliver 6 7 8 9 10 11 12 13; tick 7 1; deliver 14 15; tick 7 1; deliver 16 17; tick 7 1; deliver 18; turn 1
@@ -89,31 +91,22 @@ impl Task {
     }
 }
 
-/// The report of a world and the board's count. Where a word asks for it, it is whether that count is the number of rows that are done.
-pub(crate) fn told_of(
-    alloc: Global,
-    setup: &Setup,
-    world: &World,
-    board: u64,
-    asked: Option<&str>,
-) -> Result<String, Fail> {
-    if asked.is_some() {
-        let is_counted = board == done_rows(alloc, setup, world)?;
-        return Ok(format!(in alloc; "{is_counted}")?);
-    }
-    let report = report(alloc, setup, world)?;
-    Ok(format!(in alloc; "{report}; board {board}")?)
-}
-
-/// The same of what workers lead to, or the refusal.
+/// What workers lead to: the report of the world and the board's count, or the refusal. Where a word asks for it, it is whether that count is the
+/// number of rows that are done.
 pub(crate) fn outcome(
     alloc: Global,
     setup: &Setup,
     made: Result<Report, RehearseError>,
     asked: Option<&str>,
 ) -> Result<String, Fail> {
-    match made {
-        Ok(made) => told_of(alloc, setup, &made.world, made.board, asked),
-        Err(refusal) => Ok(refusal.to_string(alloc)?),
+    let (world, board) = match &made {
+        Ok(made) => (&made.world, made.board),
+        Err(refusal) => return Ok(refusal.to_string(alloc)?),
+    };
+    if asked.is_some() {
+        let is_counted = board == done_rows(alloc, setup, world)?;
+        return Ok(format!(in alloc; "{is_counted}")?);
     }
+    let report = report(alloc, setup, world)?;
+    Ok(format!(in alloc; "{report}; board {board}")?)
 }

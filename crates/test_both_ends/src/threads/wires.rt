@@ -6,7 +6,7 @@ use fw_air::{MAX_RECEIVED, Pass, UdpWire, Wire, WireFault};
 use std::alloc::Global;
 use std::str::from_utf8;
 use std::test::Fail;
-use test_tables::{Reads, Words, each_line};
+use test_tables::{Reads, Words, each_line, each_part};
 
 /// A wire on which `waiting` datagrams of one byte wait, and which may fail after them.
 #[derive(Drop)]
@@ -126,12 +126,6 @@ const SENT: &str = "
     head       => Ok(None)
 ";
 
-#[test]
-fn udp_wires(rt: HostRuntime) -> Result<(), Fail> {
-    let (head, meter) = UdpWire::pair(&rt, rt.alloc())?;
-    each_line(rt.alloc(), &mut Sockets { head, meter }, SENT)
-}
-
 /// A datagram that is longer than any of this profile is cut.
 const SIZES: &str = "
     size 1    => (Ok(1), Some(1))
@@ -143,7 +137,7 @@ const SIZES: &str = "
 ";
 
 #[test]
-fn long_datagrams(rt: HostRuntime) -> Result<(), Fail> {
+fn udp_wires(rt: HostRuntime) -> Result<(), Fail> {
     let (head, meter) = UdpWire::pair(&rt, rt.alloc())?;
-    each_line(rt.alloc(), &mut Sockets { head, meter }, SIZES)
+    each_part(rt.alloc(), &mut Sockets { head, meter }, &[SENT, SIZES])
 }

@@ -1,15 +1,14 @@
-//! The calls of a world one by one.
-
-ghost use Rattle.std.specs.Prelude.{◌≡◌};
+//! A world takes events one by one, also old meters', whose stores have a header of version 1 before they start again.
 
 use crate::world::script::script_of;
-use crate::worlds::{head, meter, push, report, world_of};
-use fw_world::{Activation, Actor, Datagram, Event, World};
+use crate::worlds::{meter, push, report};
+use fw_world::{Event, Setup, World};
 use std::alloc::Global;
 use std::test::Fail;
-use test_tables::{Reads, each_line, expect};
+use test_tables::{Reads, each_part, present};
 
-/// A world takes the events of a script one after another, also after one that is refused: each refusal, and then the report.
+/// A world takes the events of a script one after another, also after one that is refused: each refusal, then the most blocks that an image for
+/// meter 1 may have, and then the report.
 #[derive(Clone, Copy)]
 struct Steps;
 
@@ -18,7 +17,7 @@ impl Reads for Steps {
         let (setup, events) = script_of(alloc, what)?;
         let mut world = World::new(alloc, &setup)?;
         let mut text = refusals_text(alloc, &mut world, &events)?;
-        push(&mut text, report(alloc, &setup, &world)?.as_str())?;
+        push(&mut text, limited_text(alloc, &setup, &world)?.as_str())?;
         Ok(text)
     }
 }
@@ -34,83 +33,84 @@ fn refusals_text(alloc: Global, world: &mut World, events: &[Event]) -> Result<S
     Ok(text)
 }
 
+fn limited_text(alloc: Global, setup: &Setup, world: &World) -> Result<String, Fail> {
+    let core = present(world.meter(meter(1)?), "meter 1 of the setup")?;
+    let limit = core.view().limit;
+    let report = report(alloc, setup, world)?;
+    Ok(format!(in alloc; "limit {limit}; {report}")?)
+}
+
 const EVENTS: &str = "
-    small: to-blocks; to-verify; to-activate; to-done => ([(7, 1, 1, Done)], [(1, 6, 7, 1, 3)], 1, 20)
+    small: to-blocks; to-verify; to-activate; to-done => limit 16384; ([(7, 1, 1, Done)], [(1, 6, 7, 1, 3)], 1, 20)
     small: deliver 0; tick 8 1; tick 7 9; open 7 1 - 1; cancel 7 1; restart-head 8; restart-meter 9; stop-restart 9 0 0; turn 9; \
         to-blocks; stop 1 0 0; open 7 2 abd 1; to-verify; to-activate; to-done \
         => NoSuchDatagram; NoSuchActor; NoSuchActor; EmptyImage; NoSuchCampaign; NoSuchActor; NoSuchActor; NoSuchActor; NoSuchActor; \
-        NoSuchActor; MeterBusy; ([(7, 1, 1, Done)], [(1, 6, 7, 1, 3)], 1, 20)
+        NoSuchActor; MeterBusy; limit 16384; ([(7, 1, 1, Done)], [(1, 6, 7, 1, 3)], 1, 20)
     // the campaign of images which meters are made with is no head end's
-    small: open 0 0 abc 1; cancel 0 0 => NoSuchActor; NoSuchActor; ([], [(1, 0, 0, 0, 1)], 0, 0)
+    small: open 0 0 abc 1; cancel 0 0 => NoSuchActor; NoSuchActor; limit 16384; ([], [(1, 0, 0, 0, 1)], 0, 0)
+";
+
+/// In status 3 an opening has three calls: the header, the image that runs, and the one that is verified. The write of the header is the
+/// fourth.
+const OF_A_VERIFIED_IMAGE: &str = "
+    old-small: to-blocks; to-verify; to-verified                                           => limit 4096; ([(7, 1, 1, Live)], [(1, 3, 0, 0, 1)], 0, 14)
+    old-small: to-blocks; to-verify; to-verified; stop-restart 1 0 0                       => limit 4096; ([(7, 1, 1, Live)], [(1, 3, 0, 0, 1)], 0, 14)
+    old-small: to-blocks; to-verify; to-verified; stop-restart 1 1 0; stop-restart 1 2 255 => limit 4096; ([(7, 1, 1, Live)], [(1, 3, 0, 0, 1)], 0, 14)
+    old-small: to-blocks; to-verify; to-verified; stop-restart 1 3 0                       => limit 4096; ([(7, 1, 1, Live)], [(1, 3, 0, 0, 1)], 0, 14)
+    old-small: to-blocks; to-verify; to-verified; stop-restart 1 4 0                       => limit 16384; ([(7, 1, 1, Live)], [(1, 3, 0, 0, 1)], 0, 14)
+    // the campaign goes on either way
+    old-small: to-blocks; to-verify; to-verified; stop-restart 1 3 0; to-the-end           => limit 4096; ([(7, 1, 1, Done)], [(1, 6, 7, 1, 3)], 1, 20)
+    old-small: to-blocks; to-verify; to-verified; stop-restart 1 4 0; to-the-end           => limit 16384; ([(7, 1, 1, Done)], [(1, 6, 7, 1, 3)], 1, 20)
+    // the header is of version 2 once it was written, whatever stops after that
+    old-small: to-blocks; to-verify; to-verified; stop-restart 1 4 0; stop-restart 1 3 0   => limit 16384; ([(7, 1, 1, Live)], [(1, 3, 0, 0, 1)], 0, 14)
+";
+
+/// Where nothing is verified an opening has two calls, and the write is the third. A restart makes it, and so does the one after a stop.
+const WITHOUT_ONE: &str = "
+    old-small:                               => limit 4096; ([], [(1, 0, 0, 0, 1)], 0, 0)
+    old-small: stop-restart 1 2 0            => limit 4096; ([], [(1, 0, 0, 0, 1)], 0, 0)
+    old-small: stop-restart 1 3 0            => limit 16384; ([], [(1, 0, 0, 0, 1)], 0, 0)
+    old-small: restart-meter 1               => limit 16384; ([], [(1, 0, 0, 0, 1)], 0, 0)
+    old-small: to-blocks; stop-restart 1 2 0 => limit 4096; ([(7, 1, 1, Live)], [(1, 1, 0, 0, 1)], 0, 10)
+    old-small: to-blocks; restart-meter 1    => limit 16384; ([(7, 1, 1, Live)], [(1, 1, 0, 0, 1)], 0, 10)
+    old-small: to-blocks; stop 6 0 98        => limit 16384; ([(7, 1, 1, Live)], [(1, 1, 0, 0, 1)], 0, 10)
+";
+
+/// A new meter has the larger limit whatever happens. A restart of one has no write.
+const OF_A_NEW_METER: &str = "
+    small:                                                                                       => limit 16384; ([], [(1, 0, 0, 0, 1)], 0, 0)
+    small: stop-restart 1 0 0                                                                    => limit 16384; ([], [(1, 0, 0, 0, 1)], 0, 0)
+    small: to-blocks; to-verify; to-verified; stop-restart 1 2 0; stop-restart 1 3 0; to-the-end => limit 16384; ([(7, 1, 1, Done)], [(1, 6, 7, 1, 3)], 1, 20)
+";
+
+/// A verification that goes on is given up by a restart, wherever that stops.
+const IN_A_VERIFICATION: &str = "
+    old-large: nine; verifying; stop-restart 1 0 0                => limit 4096; ([(7, 1, 1, Live)], [(1, 1, 0, 0, 1)], 0, 28)
+    old-large: nine; verifying; stop-restart 1 2 0                => limit 4096; ([(7, 1, 1, Live)], [(1, 1, 0, 0, 1)], 0, 28)
+    old-large: nine; verifying; stop-restart 1 3 0                => limit 16384; ([(7, 1, 1, Live)], [(1, 1, 0, 0, 1)], 0, 28)
+    old-large: nine; verifying; stop-restart 1 2 0; verified-anew => limit 4096; ([(7, 1, 1, Done)], [(1, 6, 7, 1, 8193)], 1, 42)
+";
+
+/// An old meter refuses the longer one with 250, before it starts again.
+const OF_A_LONG_IMAGE: &str = "
+    old-narrow: fits; initiate                         => limit 4096; ([(7, 1, 1, Live)], [(1, 1, 0, 0, 1)], 0, 6)
+    old-narrow: too-long; initiate                     => limit 4096; ([(7, 1, 1, Failed)], [(1, 0, 0, 0, 1)], 0, 6)
+    old-narrow: too-long; stop-restart 1 2 0; initiate => limit 4096; ([(7, 1, 1, Failed)], [(1, 0, 0, 0, 1)], 0, 6)
+    old-narrow: too-long; stop-restart 1 3 0; initiate => limit 16384; ([(7, 1, 1, Live)], [(1, 1, 0, 0, 1)], 0, 6)
+    old-narrow: too-long; restart-meter 1; initiate    => limit 16384; ([(7, 1, 1, Live)], [(1, 1, 0, 0, 1)], 0, 6)
+    // it starts again after a stop in what it refuses
+    old-narrow: too-long; stop 4 0 0                   => limit 16384; ([(7, 1, 1, Live)], [(1, 0, 0, 0, 1)], 0, 5)
 ";
 
 #[test]
 fn events_made_one_by_one(rt: HostRuntime) -> Result<(), Fail> {
-    each_line(rt.alloc(), &mut Steps, EVENTS)
-}
-
-/// The campaign of one head end and one meter, with all its events.
-const DONE: &str = "small: to-blocks; to-verify; to-activate; to-done";
-
-/// The first request, a GET of image_block_size under the invoke byte c0, and its answer, 2.
-const ASKED: &str = "000100010001000dc001c0001200002c0000ff0200";
-
-const ANSWERED: &str = "0001000100010009c401c0000600000002";
-
-/// The name of the image of release 0 of campaign 1 of head end 7.
-const NAME: &str =
-    "010000000700000001ba7816bf8f01cfea414140de5dae2223b00361a396177a9cb410ff61f20015ad";
-
-/// These are the bytes of these digits.
-fn expect_bytes(alloc: Global, bytes: &[u8], digits: &str) -> Result<(), Fail> {
-    expect(alloc, 0, hex::encode(alloc, bytes)?.as_str(), digits)
-}
-
-/// The first two datagrams are the request and its answer.
-fn expect_sent(alloc: Global, sent: &[Datagram]) -> Result<(), Fail> {
-    let [asked, answered, ..] = sent else {
-        return Err("fewer datagrams".into());
-    };
-    let (head, meter) = (Actor::Head(head(7)?), Actor::Meter(meter(1)?));
-    let ends = (asked.from(), asked.to(), answered.from(), answered.to());
-    if ends != (head, meter, meter, head) {
-        return Err("another sender or addressee".into());
-    }
-    expect_bytes(alloc, &asked.bytes, ASKED)?;
-    expect_bytes(alloc, &answered.bytes, ANSWERED)
-}
-
-/// Meter 1 switched to `abc`, and none to anything else.
-fn expect_switched(alloc: Global, activations: &[Activation]) -> Result<(), Fail> {
-    let [switched] = activations else {
-        return Err("another number of activations".into());
-    };
-    if switched.meter != meter(1)? || switched.bytes.as_slice() != b"abc".as_slice() {
-        return Err("another meter or image".into());
-    }
-    expect_bytes(alloc, switched.name.to_bytes().as_slice(), NAME)
-}
-
-/// A world that is taken apart and joined is as it was.
-fn rejoined(world: World) -> World
-    ensures { result ≡ world }
-{
-    World::from_parts(world.into_parts())
-}
-
-#[test]
-fn what_is_shown_and_joined(rt: HostRuntime) -> Result<(), Fail> {
-    let alloc = rt.alloc();
-    let (setup, events) = script_of(alloc, DONE)?;
-    let world = world_of(alloc, &setup, &events)?;
-    expect_sent(alloc, world.sent())?;
-    expect_switched(alloc, world.activations())?;
-    assert!(rt; world.meter(meter(7)?).is_none() && world.book(head(1)?).is_none());
-    let told = report(alloc, &setup, &rejoined(world))?;
-    expect(
-        alloc,
-        0,
-        told.as_str(),
-        "([(7, 1, 1, Done)], [(1, 6, 7, 1, 3)], 1, 20)",
-    )
+    let tables = [
+        EVENTS,
+        OF_A_VERIFIED_IMAGE,
+        WITHOUT_ONE,
+        OF_A_NEW_METER,
+        IN_A_VERIFICATION,
+        OF_A_LONG_IMAGE,
+    ];
+    each_part(rt.alloc(), &mut Steps, &tables)
 }

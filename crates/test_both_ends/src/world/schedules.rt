@@ -1,46 +1,32 @@
-//! Link rounds: which events come of them, and what the world is then.
+//! Link rounds: which events come of them. `replay --rounds` tells what the world is then, in `runs/`.
 
 use crate::world::script::script_of;
-use crate::worlds::{events_of, fates_of, in_numbers, report, world_of};
+use crate::worlds::{events_of, fates_of, in_numbers};
 use fw_air::{Fates, schedule};
-use fw_world::{Event, Setup};
+use fw_world::Event;
 use std::alloc::Global;
 use std::test::Fail;
 use test_tables::{Reads, Words, each_line, present};
 
-/// A script, and N rounds after it, in which datagrams have some fates: `SETUP: EVENTS | N FATES` tells the report of the world after them, and how
-/// many turns there are, and `SETUP: EVENTS | N FATES | EVENTS` whether these are the events of the rounds.
+/// `SETUP: EVENTS | N FATES | EVENTS` tells whether these are the events of N rounds after a script, in which datagrams have these fates.
 #[derive(Clone, Copy)]
-pub(crate) struct Schedule;
+struct Schedule;
 
 impl Reads for Schedule {
     fn told(&mut self, alloc: Global, what: &str) -> Result<String, Fail> {
         let (script, rounds) = present(what.split_once('|'), "a script without rounds")?;
-        let (rounds, want) = rounds.split_once('|').unwrap_or((rounds, ""));
+        let (rounds, want) = present(rounds.split_once('|'), "rounds without events")?;
         let (setup, given) = script_of(alloc, script)?;
-        scheduled(alloc, &setup, &given, rounds, want)
-    }
-}
-
-fn scheduled(
-    alloc: Global,
-    setup: &Setup,
-    given: &[Event],
-    rounds: &str,
-    want: &str,
-) -> Result<String, Fail> {
-    let mut words = Words::new(rounds);
-    let (rounds, air): (u32, &str) = words.read()?;
-    let fates = fates_of(alloc, air)?;
-    let fates = present(Fates::new(&fates), "1 to 4,096 fates")?;
-    match schedule(alloc, setup, given, rounds, &fates) {
-        Ok(events) if want.is_empty() => told_of(alloc, setup, &events),
-        Ok(events) => {
-            let made = present(events.as_slice().get(given.len()..), "events of rounds")?;
-            let is_wanted = are_same(made, &events_of(alloc, "", want)?);
-            Ok(format!(in alloc; "{is_wanted}")?)
-        }
-        Err(error) => Ok(error.to_string(alloc)?),
+        let (rounds, air): (u32, &str) = Words::new(rounds).read()?;
+        let fates = fates_of(alloc, air)?;
+        let fates = present(Fates::new(&fates), "1 to 4,096 fates")?;
+        let events = match schedule(alloc, &setup, &given, rounds, &fates) {
+            Ok(events) => events,
+            Err(error) => return Ok(error.to_string(alloc)?),
+        };
+        let made = present(events.as_slice().get(given.len()..), "events of rounds")?;
+        let is_wanted = are_same(made, &events_of(alloc, "", want)?);
+        Ok(format!(in alloc; "{is_wanted}")?)
     }
 }
 
@@ -53,22 +39,8 @@ fn are_same(made: &[Event], want: &[Event]) -> bool {
     same
 }
 
-/// The report of the world after these events, and how many turns there are among them.
-fn told_of(alloc: Global, setup: &Setup, events: &[Event]) -> Result<String, Fail> {
-    let mut turns = 0u32;
-    for event in events {
-        if matches!(event, Event::Turn(_)) {
-            turns = turns.saturating_add(1);
-        }
-    }
-    let world = world_of(alloc, setup, events)?;
-    let report = report(alloc, setup, &world)?;
-    Ok(format!(in alloc; "{report}; turns {turns}")?)
-}
-
-/// Over bad air every third datagram of a link is lost, and every fourth comes twice.
 const SCHEDULES: &str = "
-    no-head: | 1 good => BadSetup
+    no-head: | 1 good | => BadSetup
     // the events of the printed campaign
     small: open 7 1 abc 1 | 9 good | \
         tick 7 1; deliver 0 1; tick 7 1; deliver 2 3; tick 7 1; deliver 4 5; tick 7 1; deliver 6 7 8 9; tick 7 1; deliver 10 11; tick 7 1; \
@@ -94,9 +66,6 @@ const SCHEDULES: &str = "
     // Each link has its own numbers from 0 on: on both the first request comes, its answer is late, and the second request is lost.
     two: open 7 1 abc 1 2 | 3 deliver,late,drop | \
         tick 7 1; deliver 0; tick 7 2; deliver 2 1; tick 7 1; deliver 3; tick 7 2; tick 7 1; deliver 6; tick 7 2; deliver 8 => true
-    four: open 7 1 abc 1 2 3 4 | 40 bad \
-        => ([(7, 1, 1, Done), (7, 1, 2, Done), (7, 1, 3, Done), (7, 1, 4, Done)], [(1, 6, 7, 1, 3), (2, 6, 7, 1, 3), (3, 6, 7, 1, 3), (4, 6, 7, 1, 3)], 4, 120); turns 0
-    large-narrow: open 7 1 a*8193 1 | 13 good => ([(7, 1, 1, Done)], [(1, 6, 7, 1, 8193)], 1, 38); turns 2
 ";
 
 #[test]

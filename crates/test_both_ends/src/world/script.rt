@@ -21,13 +21,10 @@ const SETUPS: &str = "
     old-small = head 7 4; old 1 2 64 x
     // One old meter with room for 5,000 blocks of one byte.
     old-narrow = head 7 4; old 1 1 5000 x
-    // One meter with the longest blocks, and one head end with the widest windows, or narrower ones.
-    old-large    = head 7 15; old 1 1024 8193 x
-    large-narrow = head 7 4; meter 1 1024 8193 x
-    largest      = head 7 15; meter 1 1024 65537 x
-    // Two and four meters of one head end, and a meter without one.
+    // One old meter with the longest blocks, and one head end with the widest windows.
+    old-large = head 7 15; old 1 1024 8193 x
+    // Two meters of one head end, and a meter without one.
     two     = head 7 4; meter 1 2 64 x; meter 2 2 64 x
-    four    = head 7 4; meter 1 2 64 x; meter 2 2 64 x; meter 3 2 64 x; meter 4 2 64 x
     no-head = meter 1 2 64 x
 ";
 

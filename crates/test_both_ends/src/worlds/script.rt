@@ -107,11 +107,17 @@ fn event(word: &str, mut words: Words<'_>) -> Result<Event, Fail> {
 
 fn opening(alloc: Global, mut words: Words<'_>, is_released: bool) -> Result<Event, Fail> {
     let [number, serial]: [u32; 2] = words.read()?;
+    let release = if is_released { words.number()? } else { 0 };
+    let image = image(alloc, words.word()?)?;
+    let mut meters = Vec::new(alloc);
+    for number in words.rest().split_whitespace() {
+        meters.push(meter(number.parse::<u32>()?)?)?;
+    }
     Ok(Event::OpenCampaign {
         campaign: campaign(number, serial)?,
-        release: if is_released { words.number()? } else { 0 },
-        image: image(alloc, words.word()?)?,
-        meters: meters(alloc, words.rest())?,
+        release,
+        image,
+        meters,
     })
 }
 
@@ -123,14 +129,6 @@ fn image(alloc: Global, word: &str) -> Result<Vec<u8>, Fail> {
         Some(size) => Ok(vec![in alloc; b'a'; size.parse::<usize>()?]?),
         None => Ok(word.as_bytes().to_vec(alloc)?),
     }
-}
-
-fn meters(alloc: Global, numbers: &str) -> Result<Vec<MeterId>, Fail> {
-    let mut meters = Vec::new(alloc);
-    for number in numbers.split_whitespace() {
-        meters.push(meter(number.parse::<u32>()?)?)?;
-    }
-    Ok(meters)
 }
 
 /// The head end of this number.
@@ -185,14 +183,3 @@ pub fn fates_of(alloc: Global, air: &str) -> Result<Vec<Fate>, Fail> {
     }
     Ok(fates)
 }
-
-/// One head end and one meter, and a campaign of two blocks.
-pub const SMALL: &str = "head 7 4; meter 1 2 64 x";
-
-/// The same with an old meter.
-pub const OLD_SMALL: &str = "head 7 4; old 1 2 64 x";
-
-/// That campaign up to its end, in which all is delivered.
-pub const DONE: &str =
-    "open 7 1 abc 1; tick 7 1; deliver 0 1; tick 7 1; deliver 2 3; tick 7 1; deliver 4 5; tick 7 1; deliver 6 7 8 9; \
-    tick 7 1; deliver 10 11; tick 7 1; deliver 12 13; tick 7 1; deliver 14 15; tick 7 1; deliver 16 17; tick 7 1; deliver 18 19";
