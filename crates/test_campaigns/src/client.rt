@@ -20,6 +20,7 @@ use test_tables::{Reads, Words, each_part, present};
 /// - `hear DATAGRAM`: what is heard
 /// - `hear-most BEGIN`, a datagram that begins so, and has 2,048 bytes 5a after that: the same, and of so many bits how many there are, and
 ///   whether they are in these bytes
+/// - `cut DATAGRAM`, each beginning of it, from no byte on up to all bytes except the last: how many of them are strangers'
 /// - `forget`, which drops what is outstanding
 /// - `meter`: the number of the meter whose client it is
 /// - `answer METER ASK DATAGRAM`, for which a new client of this meter asks, and hears a datagram: what is heard
@@ -32,6 +33,7 @@ impl Reads for Subject<Client> {
             "largest" => largest(alloc, client, words.number()?),
             "hear" => heard(alloc, client, words.rest(), &[]),
             "hear-most" => heard(alloc, client, words.rest(), &[0x5a; 2048]),
+            "cut" => cut_text(alloc, client, words.rest()),
             "forget" => {
                 client.forget();
                 Ok(String::new(alloc))
@@ -112,6 +114,17 @@ fn heard(alloc: Global, client: &mut Client, begin: &str, tail: &[u8]) -> Result
     let mut datagram = hex::decode(alloc, begin)?;
     datagram.extend_from_slice(tail)?;
     heard_text(alloc, &client.hear(alloc, &datagram)?)
+}
+
+fn cut_text(alloc: Global, client: &mut Client, datagram: &str) -> Result<String, Fail> {
+    let datagram = hex::decode(alloc, datagram)?;
+    let mut strangers = 0u32;
+    for size in 0..datagram.len() {
+        if matches!(client.hear(alloc, &datagram[..size])?, Heard::Stranger) {
+            strangers = strangers.saturating_add(1);
+        }
+    }
+    Ok(format!(in alloc; "{strangers}")?)
 }
 
 fn answered(alloc: Global, mut words: Words<'_>) -> Result<String, Fail> {
