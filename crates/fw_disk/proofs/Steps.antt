@@ -107,11 +107,12 @@ renamed_or_removed e x y z m r = record {
 
 -- a file that has its bytes, and the name FILE.new, gets the name FILE
 pub names_refl : (n : ℕ) (bytes : List ℕ) (x y : Disk) → y ≡ x → Names n bytes x y
-names_refl n bytes x y is = subst (λ (d : Disk). Names n bytes x d) (sym is) (record { main = inl refl; only = only_refl (λ k. (k ≡ Main) ⊎ (k ≡ New)) NoFile x })
+names_refl n bytes x y is = subst (λ (d : Disk). Names n bytes x d) (sym is) (record { main = inl refl; beside = inl refl; only = only_refl (λ k. (k ≡ Main) ⊎ (k ≡ New)) NoFile x })
 
 pub names_renamed : (n : ℕ) (bytes : List ℕ) (e : Entry) → e ≡ plain n → (x y z : Disk) → y ≡ x → y.bytes n ≡ bytes → MayRename New Main e y z → Names n bytes x z
 names_renamed n bytes e is_file x y z same has m = subst (λ (d : Disk). Names n bytes d z) same (record {
   main = ⊎_elim (λ was. inl was) (λ is. inr (record { named = is ∙ is_file; contents = m.rest.contents n (λ no. no) ∙ has })) m.named;
+  beside = m.gone;
   only = only_more (λ k. (k ≡ New) ⊎ (k ≡ Main)) (λ k. (k ≡ Main) ⊎ (k ≡ New)) NoFile NoFile y z (λ k is. ⊎_elim (λ a. inr a) (λ b. inl b) is) (λ k no. no) m.rest;
 })
 
