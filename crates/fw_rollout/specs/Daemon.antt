@@ -149,6 +149,10 @@ pub record IsSaveDue (now since : ℕ) (leader : Leader) : Type 0 where
   pub some : leader.unsaved ≢ []
   pub due : All (λ (at : Listed). row_of leader.head.rows at.meter ≡ None) leader.meters ⊎ (since + hold ≤ now)
 
+-- no marks wait that are due at this time
+abbrev pub NoneDue : {D : Type 0} → JournalDevice.Ghosts D → ℕ → HeadDaemon D → Type 0
+NoneDue J now daemon = (leader : Leader) → IsLed J.honest J.contents J.may_leave daemon leader → ¬ IsSaveDue now (since_of daemon) leader
+
 -- nothing is about to be sent or reported
 pub record Rests (leader : Leader) : Type 0 where
   pub sent_all : leader.going ≡ []
