@@ -16,9 +16,20 @@ use test_tables::{Reads, Words, each_part, present};
 /// releases, and in version 2 the marks of the blocks from 4,096 on, in 1,536 bytes.
 const SLOTS_AT: usize = 618;
 
+/// The header of version 2 in the bytes of a file.
+fn header_of(bytes: &[u8]) -> Result<[u8; VERSION_TWO_SIZE], Fail> {
+    let front = present(bytes.get(4..SLOTS_AT), "a header")?;
+    let last = present(bytes.get(bytes.len().saturating_sub(1_544)..), "two slots")?;
+    let mut header = [0; VERSION_TWO_SIZE];
+    for (to, byte) in header.iter_mut().zip(front.iter().chain(last)) {
+        *to = *byte;
+    }
+    Ok(header)
+}
+
 /// What a meter shows is what its header has in its fields, which is of version 2: the names, sizes and releases of the image that runs and of the
 /// goal, if there is one, and the marks among them.
-fn shows(view: &MeterView, file: &[u8]) -> bool {
+fn shows(view: &MeterView, header: &[u8; VERSION_TWO_SIZE]) -> bool {
     let marks = view.marked.as_slice();
     let Some(marked) = marks.get(..512) else {
         return false;
@@ -26,16 +37,6 @@ fn shows(view: &MeterView, file: &[u8]) -> bool {
     let Some(more_marked) = marks.get(512..) else {
         return false;
     };
-    let Some(front) = file.get(4..SLOTS_AT) else {
-        return false;
-    };
-    let Some(last) = file.get(file.len().saturating_sub(1_544)..) else {
-        return false;
-    };
-    let mut header = [0; VERSION_TWO_SIZE];
-    for (to, byte) in header.iter_mut().zip(front.iter().chain(last)) {
-        *to = *byte;
-    }
     let mut names = [0; 86];
     let mut releases = [0; 8];
     let head = view.active.campaign.head().map_or(0, |head| head.number());
@@ -76,7 +77,7 @@ fn judged(alloc: Global, disk: &Disk) -> Result<Outcome, Fail> {
         Ok(meter) => {
             let view = meter.view();
             drop(meter);
-            if shows(&view, &disk.bytes(alloc)?) {
+            if shows(&view, &header_of(&disk.bytes(alloc)?)?) {
                 Ok(Outcome::Opened)
             } else {
                 Err("a meter was opened as its header doesn't say".into())
