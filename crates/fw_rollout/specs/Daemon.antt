@@ -21,7 +21,7 @@ use Rattle.fw_rollout.specs.Early.{IsAnswerOf}
 use Rattle.fw_rollout.specs.Counting.{CountsTold, counted_of}
 use Rattle.fw_rollout.specs.Leading.{HasLed, IsNotedIn, Leader, Leads, MayLead}
 use Rattle.fw_rollout.specs.Link.{IsReadyBy, after, out_by}
-use Rattle.fw_rollout.specs.Schedule.{Answers, IsDueAt, IsSchedule, links_of, listed_of, lives_of}
+use Rattle.fw_rollout.specs.Schedule.{Answers, IsDueAt, IsSchedule, links_of, listed_of, lives_of, resent_in}
 
 -- no number and no address stands twice
 abbrev pub IsList : List Listed → Type 0
@@ -87,6 +87,10 @@ pub record TakesAnswer {D : Type 0} (now : ℕ) (from : SocketAddr) (datagram : 
 -- how many datagrams are out at this time
 abbrev pub out_at : {D : Type 0} → ℕ → HeadDaemon D → ℕ
 out_at now daemon = sum_by (λ (link : Link). out_by now link) (links_of daemon.schedule)
+
+-- the rows of how many meters are ticked again at this time since no answer came, or not all of them
+abbrev pub resent_at : {D : Type 0} → ℕ → HeadDaemon D → ℕ
+resent_at now daemon = resent_in now (links_of daemon.schedule)
 
 -- the rows that ended and are not on the device yet
 abbrev pub ended_of : {D : Type 0} → HeadDaemon D → List Ended
