@@ -7,6 +7,7 @@ use crate::hostile::support::{
 };
 use fw_image::{MeterView, OpenError};
 use fw_meter::MeterCore;
+use fw_names::ImageName;
 use fw_store::{DeviceStore, FileStoreError, VERSION_TWO_SIZE};
 use std::alloc::Global;
 use std::test::Fail;
@@ -27,9 +28,34 @@ fn header_of(bytes: &[u8]) -> Result<[u8; VERSION_TWO_SIZE], Fail> {
     Ok(header)
 }
 
-/// What a meter shows is what its header has in its fields, which is of version 2: the names, sizes and releases of the image that runs and of the
-/// goal, if there is one, and the marks among them.
+/// The 41 bytes of a name in a header, and its release there.
+fn name_bytes(name: ImageName) -> ([u8; 41], [u8; 4]) {
+    let mut bytes = [0; 41];
+    let head = name.campaign.head().map_or(0, |head| head.number());
+    bytes[0] = 1;
+    bytes[1..5].copy_from_slice(&head.to_be_bytes());
+    bytes[5..9].copy_from_slice(&name.campaign.serial().to_be_bytes());
+    bytes[9..].copy_from_slice(&name.digest);
+    (bytes, name.release.to_be_bytes())
+}
+
+/// The bytes of the goal of a header that shows this, and its release.
+fn goal_bytes(view: &MeterView) -> ([u8; 45], [u8; 4]) {
+    let mut bytes = [0; 45];
+    let mut release = [0; 4];
+    if let Some(goal) = view.goal {
+        let (name, number) = name_bytes(goal.name);
+        bytes[..4].copy_from_slice(&goal.size.to_be_bytes());
+        bytes[4..].copy_from_slice(&name);
+        release = number;
+    }
+    (bytes, release)
+}
+
+/// What a meter shows is what the header has in its fields.
 fn shows(view: &MeterView, header: &[u8; VERSION_TWO_SIZE]) -> bool {
+    let (active, active_release) = name_bytes(view.active);
+    let (goal, goal_release) = goal_bytes(view);
     let marks = view.marked.as_slice();
     let Some(marked) = marks.get(..512) else {
         return false;
@@ -37,32 +63,17 @@ fn shows(view: &MeterView, header: &[u8; VERSION_TWO_SIZE]) -> bool {
     let Some(more_marked) = marks.get(512..) else {
         return false;
     };
-    let mut names = [0; 86];
-    let mut releases = [0; 8];
-    let head = view.active.campaign.head().map_or(0, |head| head.number());
-    names[0] = 1;
-    names[1..5].copy_from_slice(&head.to_be_bytes());
-    names[5..9].copy_from_slice(&view.active.campaign.serial().to_be_bytes());
-    names[9..41].copy_from_slice(&view.active.digest);
-    releases[..4].copy_from_slice(&view.active.release.to_be_bytes());
-    if let Some(goal) = view.goal {
-        let head = goal.name.campaign.head().map_or(0, |head| head.number());
-        names[41..45].copy_from_slice(&goal.size.to_be_bytes());
-        names[45] = 1;
-        names[46..50].copy_from_slice(&head.to_be_bytes());
-        names[50..54].copy_from_slice(&goal.name.campaign.serial().to_be_bytes());
-        names[54..].copy_from_slice(&goal.name.digest);
-        releases[4..].copy_from_slice(&goal.name.release.to_be_bytes());
-    }
     &header[..4] == b"FWH2".as_slice()
         && view.limit == 16_384
         && u8::from(view.enabled) == header[4]
         && view.status.number() == header[6]
         && u8::from(view.goal.is_some()) == header[7]
         && view.active_size.to_be_bytes().as_slice() == &header[12..16]
-        && names.as_slice() == &header[16..102]
+        && active.as_slice() == &header[16..57]
+        && goal.as_slice() == &header[57..102]
         && marked == &header[102..614]
-        && releases.as_slice() == &header[614..622]
+        && active_release.as_slice() == &header[614..618]
+        && goal_release.as_slice() == &header[618..622]
         && more_marked == &header[622..]
 }
 

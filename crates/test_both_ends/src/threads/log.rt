@@ -34,7 +34,7 @@ impl<'a, R: Wait> Reads for Logged<'a, R> {
     fn told(&mut self, alloc: Global, what: &str) -> Result<String, Fail> {
         let mut words = Words::new(what);
         match words.word()? {
-            "tick" => self.tick(alloc, words.rest()),
+            "tick" => self.tick(alloc, &mut words),
             "deliver" => {
                 let room = self.log.reserve(alloc)?;
                 let event = CoreEvent::Deliver(words.number()? as usize);
@@ -52,10 +52,12 @@ impl<'a, R: Wait> Reads for Logged<'a, R> {
 }
 
 impl<'a, R: Wait> Logged<'a, R> {
-    fn tick(&self, alloc: Global, bytes: &str) -> Result<String, Fail> {
+    fn tick(&self, alloc: Global, words: &mut Words<'_>) -> Result<String, Fail> {
+        let first: u8 = words.read()?;
         let mut room = self.log.reserve(alloc)?;
-        for byte in bytes.split(' ') {
-            room.push(datagram(alloc, byte.parse::<u8>()?)?);
+        room.push(datagram(alloc, first)?);
+        if let Some(second) = words.next() {
+            room.push(datagram(alloc, second.parse::<u8>()?)?);
         }
         let event = CoreEvent::Tick(head(7)?, meter(1)?);
         let (sent, stub) = self.log.append(self.rt, room, event);
