@@ -431,10 +431,7 @@ fn anew_text(alloc: Global, opened: &mut Opened) -> Result<String, Fail> {
     let mut records = Vec::new(alloc);
     records.push(b"two".to_vec(alloc)?)?;
     records.push(b"three".to_vec(alloc)?)?;
-    let told = rewrite_text(
-        alloc,
-        journal.rewrite(alloc, &mut MemoryReplacer, &records),
-    )?;
+    let told = rewrite_text(alloc, journal.rewrite(alloc, &mut MemoryReplacer, &records))?;
     let left = left(alloc, journal.device(), "two|three|")?;
     let again = journal.commit();
     let later = read_text(alloc, journal.device().bytes())?;
