@@ -204,6 +204,10 @@ impl<'a, R: Files<File = File>> FileReplacer<'a, R> {
 }
 
 impl<'a, R: Files<File = File>> Replacer<FileDevice> for FileReplacer<'a, R> {
+    ghost use Rattle.std.specs.Prelude.{⊤};
+
+    ghost made = { λ _ _. ⊤ };
+
     fn replace(&mut self, device: &mut FileDevice, bytes: &[u8]) -> Result<(), ReplaceError> {
         device.replace_in(&mut self.folder, bytes)?;
         Ok(())
@@ -229,6 +233,8 @@ impl JournalDevice for FileDevice {
     ghost counts_now = { λ _ _ _ _ now. now };
 
     ghost only_now = { λ _ _ now. now };
+
+    ghost reads_may_be_left = { λ _ _. tt };
 
     fn len(&mut self) -> Result<u64, DeviceError>
         ensures fault { IfErr result (λ e. e ≡ DeviceError.Fault) }
