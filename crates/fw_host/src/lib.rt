@@ -17,6 +17,8 @@ mod head_progress;
 mod meter_lines;
 mod meter_list;
 mod meter_store;
+mod port_below;
+mod recorder;
 mod strangers;
 
 pub use capture_file::open_capture;
