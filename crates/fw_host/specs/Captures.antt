@@ -1,5 +1,5 @@
 -- Public vocabulary: the captures of daemons: what they get of a datagram, and the faults that end one.
-use Rattle.std.specs.Prelude.{◌≡◌, ◌⊎◌, ℕ, Bool, true, false, MatchBool, nat_lt, List, [], ◌∷◌, ◌++◌, take, Option, Some, None, Err, if◌then◌else◌}
+use Rattle.std.specs.Prelude.{◌≡◌, ◌⊎◌, ℕ, Bool, true, false, MatchBool, nat_lt, List, [], ◌∷◌, take, Option, Some, None, Err, if◌then◌else◌}
 use Rattle.fw_capture.specs.Spelling.{file_header, packet_bytes}
 use Rattle.std.specs.declared.net.socket_addr.SocketAddr.{SocketAddr}
 use Rattle.fw_capture.specs.declared.fault.CaptureFault.{CaptureFault}

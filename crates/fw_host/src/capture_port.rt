@@ -8,7 +8,7 @@ ghost use Rattle.fw_port.specs.Acts.{came, quiet, sent};
 use crate::port_below::PortBelow;
 use crate::recorder::Recorder;
 use crate::strangers::Strangers;
-use fw_port::{Arrival, Closed, NoReport, Patience, Port, UdpPort};
+use fw_port::{Arrival, Closed, Patience, Port, UdpPort};
 use fw_recording::Sink;
 use std::alloc::Global;
 use std::net::SocketAddr;
@@ -71,26 +71,25 @@ impl<'a, C: Clock, S: Sink + Drop, P: PortBelow> CapturePort<'a, C, S, P> {
     {
         self.recorder.has_failed()
     }
-}
 
-impl<'a, C: Clock, S: Sink + Drop, P: PortBelow> Port<NoReport> for CapturePort<'a, C, S, P> {
-    ghost use Rattle.std.specs.Prelude.{false, [], ⊤};
-
-    ghost honest = { λ _. false };
-
-    ghost acts = { λ _. [] };
-
-    ghost legal = { λ _ _. ⊤ };
+    /// How often the port below failed.
+    pub(crate) fn count_of_faults(&self) -> u64 {
+        self.port.faults()
+    }
 
     /// Receives the next datagram, and records it, or the turn that follows where none came. After a record that failed nothing is received.
-    fn receive(&mut self, patience: Patience, buffer: &mut [u8]) -> Result<Option<Arrival>, Closed>
+    pub(crate) fn receive_recorded(
+        &mut self,
+        patience: Patience,
+        buffer: &mut [u8],
+    ) -> Result<Option<Arrival>, Closed>
         ensures bound { IfOk result (λ came. IfSome came (λ a. a.count ≤ length buffer.new)) }
         ensures recorded { IfOk result (λ came. CapturesArrival S.takes self.old.recorder.strangers.now self.old.recorder.has_turns
             self.old.recorder.at patience came buffer.new self.old.recorder.sink self.new.recorder.sink) }
         ensures below { IsTrue (P.honest self.old.port.now) → IfOk result (λ r. MatchOption r
             (P.acts self.new.port.now ≡ quiet ∷ P.acts self.old.port.now)
             (λ a. P.acts self.new.port.now ≡ came a.from (take a.count buffer.new) ∷ P.acts self.old.port.now)) }
-        ensures fails { self.old.recorder.failed ≡ true → IsErr result }
+        ensures closed { self.old.recorder.failed ≡ true → IsErr result }
     {
         if self.recorder.has_failed() {
             return Err(Closed);
@@ -100,12 +99,8 @@ impl<'a, C: Clock, S: Sink + Drop, P: PortBelow> Port<NoReport> for CapturePort<
         Ok(came)
     }
 
-    fn faults(&self) -> u64 {
-        self.port.faults()
-    }
-
     /// Records a datagram, and sends it then.
-    fn send(&mut self, to: SocketAddr, bytes: &[u8])
+    pub(crate) fn send_recorded(&mut self, to: SocketAddr, bytes: &[u8])
         ensures recorded { self.new.recorder.failed ≡ false → CapturesNoted S.takes self.old.recorder.strangers.now.count
             self.old.recorder.sink self.new.recorder.sink (datagram (endpoint_of self.old.recorder.at) (endpoint_of to) bytes.now) }
         ensures below { IsTrue (P.honest self.old.port.now) → MatchBool self.new.recorder.failed

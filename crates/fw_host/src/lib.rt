@@ -5,6 +5,7 @@
 mod capture_file;
 mod capture_making;
 mod capture_port;
+mod capture_port_calls;
 mod files;
 mod head_addresses;
 mod head_book;

@@ -1,6 +1,6 @@
 //! What puts into a capture what a port receives and sends.
 
-ghost use Rattle.std.specs.Prelude.{◌≡◌, ◌≤◌, IfSome, IsTrue, OnErr, OnOk, false, true, length};
+ghost use Rattle.std.specs.Prelude.{◌≡◌, ◌≤◌, IfSome, IsTrue, OnErr, OnOk, false, length};
 ghost use Rattle.fw_capture.specs.View.{datagram, endpoint_of, told_of};
 ghost use Rattle.fw_host.specs.Captures.{Captures, CapturesAll, CapturesArrival, CapturesNoted, IsRecorded, count_after, stranger_count, stranger_told, turn_told};
 
